@@ -1,0 +1,68 @@
+-- A formed netlist: elements take rising terminals, wires and pins name terminals that are made, and each input has one driver
+-- (document 01, "The full netlist"; demand 3, first half). Assumes nothing.
+use Prim.Native.Nat.{ℕ, zero, suc, _+_, _≤_}
+use mathlib.Core.Path.{_≡_}
+use mathlib.Core.Bool.{Bool, true, false, _||_, cond}
+use mathlib.Core.List.{List, [], _∷_}
+use lib.Dec.{T, eqb}
+use Rattle.calculus.specs.Terms.{partAt}
+use Rattle.calculus.specs.Net.{Terminal, inp, out, Interface, Element, point, part, Wire, partSide, Net}
+use Rattle.calculus.specs.Record.{All}
+
+-- ---- how often input i stands ..
+
+abbrev pub is : ℕ → ℕ → ℕ
+is i j = cond (eqb j i) 1 0
+
+-- .. in an interface
+abbrev pub ins : Interface → ℕ → ℕ
+ins [] i = 0
+ins (inp j ∷ s) i = is i j + ins s i
+ins (out o ∷ s) i = ins s i
+
+-- .. among the inputs that elements have
+abbrev pub made : List Element → ℕ → ℕ
+made [] i = 0
+made (point j ∷ es) i = is i j + made es i
+made (part p j ∷ es) i = ins (partSide (partAt p .inputs) j) i + made es i
+
+-- .. as the target of a wire
+abbrev pub targets : List Wire → ℕ → ℕ
+targets [] i = 0
+targets (w ∷ ws) i = is i (w .to) + targets ws i
+
+-- ---- x is an output that an element has
+
+abbrev pub isOut : List Element → ℕ → Bool
+isOut [] x = false
+isOut (point i ∷ es) x = eqb (i + 1) x || isOut es x
+isOut (part p i ∷ es) x = eqb (i + partAt p .inputs) x || isOut es x
+
+abbrev pub Shown : List Element → Terminal → Type 0
+Shown es (inp i) = Unit {0}
+Shown es (out o) = T (isOut es o)
+
+-- ---- the numbering
+
+-- the elements take the terminals from n up to e, without gap
+abbrev pub Tiled : List Element → ℕ → ℕ → Type 0
+Tiled [] n e = n ≡ e
+Tiled (point i ∷ es) n e = (i ≡ n) × Tiled es (n + 2) e
+Tiled (part p i ∷ es) n e = (i ≡ n) × Tiled es (n + partAt p .inputs + 1) e
+
+-- each starts at n or above, and above the last terminal of the one before; all stay below e
+abbrev pub Rising : List Element → ℕ → ℕ → Type 0
+Rising [] n e = n ≤ e
+Rising (point i ∷ es) n e = (n ≤ i) × Rising es (i + 2) e
+Rising (part p i ∷ es) n e = (n ≤ i) × Rising es (i + partAt p .inputs + 1) e
+
+-- ---- the whole
+
+pub record Formed (m : Net) : Type 0 where
+  pub end : ℕ
+  pub rising : Rising (m .elements) 0 end
+  -- wires run from outputs that are made, and pins show such outputs
+  pub from : All (λ w. T (isOut (m .elements) (w .from))) (m .wires)
+  pub shown : All (Shown (m .elements)) (m .pins)
+  -- wires and pins reach each input that is made exactly once, and no other
+  pub once : (i : ℕ) → targets (m .wires) i + ins (m .pins) i ≡ made (m .elements) i

@@ -1,0 +1,131 @@
+-- The sheets with known results, P1 to P11 (document 01), in one table: a call's answers on each. Assumes nothing.
+use Prim.Native.Nat.{ℕ}
+use mathlib.Core.Bool.{Bool, true, false}
+use mathlib.Core.List.{List, [], _∷_}
+use lib.ListN.{length}
+use Rattle.calculus.specs.Answer.{Answer, good, refused, _>>=_}
+use Rattle.calculus.specs.Net.{Net, Interface, inp, out, Element, point, part, Wire}
+use Rattle.calculus.specs.Lean.{lean}
+use Rattle.calculus.specs.Translate.{full, answer}
+
+infix 80 _-_
+abbrev _-_ : ℕ → ℕ → Wire
+o - i = record { from = o; to = i }
+
+abbrev net : List Element → List Wire → Interface → Net
+net es ws ps = record { elements = es; wires = ws; pins = ps }
+
+-- both netlists, and their bytes
+pub record Both : Type 0 where
+  pub full : Net
+  pub fullBytes : List ℕ
+  pub lean : Net
+  pub leanBytes : List ℕ
+
+-- a sheet, with its two netlists or its refusal
+pub record Row : Type 0 where
+  pub sheet : List ℕ
+  pub result : Answer Both
+
+abbrev row : List ℕ → Net → List ℕ → Net → List ℕ → Row
+row s f fb l lb = record { sheet = s; result = good (record { full = f; fullBytes = fb; lean = l; leanBytes = lb }) }
+
+abbrev refusal : List ℕ → ℕ → ℕ → Row
+refusal s number place = record { sheet = s; result = refused number place }
+
+unfoldable pub table : List Row
+table =
+    -- P1
+    row (0x01 ∷ 0x1A ∷ 0x00 ∷ 0x00 ∷ [])
+    (net (part 0 0 ∷ []) [] (out 0 ∷ []))
+    (0x22 ∷ 0 ∷ 0 ∷ 0 ∷ 0x24 ∷ 0 ∷ 0 ∷ [])
+    (net (part 0 0 ∷ []) [] (out 0 ∷ []))
+    (0x22 ∷ 0 ∷ 0 ∷ 0 ∷ 0x24 ∷ 0 ∷ 0 ∷ [])
+    -- P2
+    ∷ row (0x01 ∷ 0x03 ∷ 0x00 ∷ 0x00 ∷ 0x13 ∷ 0x01 ∷ 0x11 ∷ 0x00 ∷ [])
+    (net (point 0 ∷ []) [] (inp 0 ∷ out 1 ∷ []))
+    (0x21 ∷ 0 ∷ 0 ∷ 0x24 ∷ 0 ∷ 0 ∷ 0x24 ∷ 1 ∷ 0 ∷ [])
+    (net (point 0 ∷ []) [] (inp 0 ∷ out 1 ∷ []))
+    (0x21 ∷ 0 ∷ 0 ∷ 0x24 ∷ 0 ∷ 0 ∷ 0x24 ∷ 1 ∷ 0 ∷ [])
+    -- P3
+    ∷ row (0x01 ∷ 0x03 ∷ 0x00 ∷ 0x00 ∷ 0x04 ∷ 0x01 ∷ 0x00 ∷ 0x16 ∷ 0x15 ∷ 0x02 ∷ 0x14 ∷ 0x12 ∷ 0x00 ∷ 0x1A ∷ 0x00 ∷ 0x00 ∷ 0x1A ∷ 0x01 ∷ 0x01 ∷ [])
+    (net (point 0 ∷ point 2 ∷ part 0 4 ∷ part 1 5 ∷ []) (4 - 0 ∷ 1 - 5 ∷ 6 - 2 ∷ []) (out 3 ∷ []))
+    (0x21 ∷ 0 ∷ 0 ∷ 0x21 ∷ 2 ∷ 0 ∷ 0x22 ∷ 0 ∷ 4 ∷ 0 ∷ 0x22 ∷ 1 ∷ 5 ∷ 0 ∷ 0x23 ∷ 4 ∷ 0 ∷ 0 ∷ 0 ∷ 0x23 ∷ 1 ∷ 0 ∷ 5 ∷ 0 ∷ 0x23 ∷ 6 ∷ 0 ∷ 2 ∷ 0 ∷ 0x24 ∷ 3 ∷ 0 ∷ [])
+    (net (part 0 4 ∷ part 1 5 ∷ []) (4 - 5 ∷ []) (out 6 ∷ []))
+    (0x22 ∷ 0 ∷ 4 ∷ 0 ∷ 0x22 ∷ 1 ∷ 5 ∷ 0 ∷ 0x23 ∷ 4 ∷ 0 ∷ 5 ∷ 0 ∷ 0x24 ∷ 6 ∷ 0 ∷ [])
+    -- P4
+    ∷ row (0x01 ∷ 0x19 ∷ 0x00 ∷ 0x11 ∷ 0x00 ∷ [])
+    (net (point 0 ∷ []) (1 - 0 ∷ []) (out 1 ∷ []))
+    (0x21 ∷ 0 ∷ 0 ∷ 0x23 ∷ 1 ∷ 0 ∷ 0 ∷ 0 ∷ 0x24 ∷ 1 ∷ 0 ∷ [])
+    (net (point 0 ∷ []) (1 - 0 ∷ []) (out 1 ∷ []))
+    (0x21 ∷ 0 ∷ 0 ∷ 0x23 ∷ 1 ∷ 0 ∷ 0 ∷ 0 ∷ 0x24 ∷ 1 ∷ 0 ∷ [])
+    -- P5
+    ∷ row (0x01 ∷ 0x03 ∷ 0x00 ∷ 0x00 ∷ 0x03 ∷ 0x00 ∷ 0x01 ∷ 0x13 ∷ 0x01 ∷ 0x14 ∷ 0x14 ∷ 0x1A ∷ 0x02 ∷ 0x02 ∷ 0x11 ∷ 0x00 ∷ 0x11 ∷ 0x00 ∷ [])
+    (net (point 0 ∷ part 2 2 ∷ []) (1 - 2 ∷ 1 - 3 ∷ []) (inp 0 ∷ out 4 ∷ []))
+    (0x21 ∷ 0 ∷ 0 ∷ 0x22 ∷ 2 ∷ 2 ∷ 0 ∷ 0x23 ∷ 1 ∷ 0 ∷ 2 ∷ 0 ∷ 0x23 ∷ 1 ∷ 0 ∷ 3 ∷ 0 ∷ 0x24 ∷ 0 ∷ 0 ∷ 0x24 ∷ 4 ∷ 0 ∷ [])
+    (net (point 0 ∷ part 2 2 ∷ []) (1 - 2 ∷ 1 - 3 ∷ []) (inp 0 ∷ out 4 ∷ []))
+    (0x21 ∷ 0 ∷ 0 ∷ 0x22 ∷ 2 ∷ 2 ∷ 0 ∷ 0x23 ∷ 1 ∷ 0 ∷ 2 ∷ 0 ∷ 0x23 ∷ 1 ∷ 0 ∷ 3 ∷ 0 ∷ 0x24 ∷ 0 ∷ 0 ∷ 0x24 ∷ 4 ∷ 0 ∷ [])
+    -- P6
+    ∷ row (0x01 ∷ 0x03 ∷ 0x00 ∷ 0x00 ∷ 0x03 ∷ 0x00 ∷ 0x01 ∷ 0x19 ∷ 0x00 ∷ 0x14 ∷ 0x14 ∷ 0x1A ∷ 0x02 ∷ 0x02 ∷ 0x1A ∷ 0x00 ∷ 0x00 ∷ 0x14 ∷ 0x1A ∷ 0x01 ∷ 0x01 ∷ 0x11 ∷ 0x00 ∷ [])
+    (net (point 0 ∷ part 2 2 ∷ part 0 5 ∷ part 1 6 ∷ []) (5 - 2 ∷ 1 - 6 ∷ 7 - 3 ∷ 4 - 0 ∷ []) (out 4 ∷ []))
+    (0x21 ∷ 0 ∷ 0 ∷ 0x22 ∷ 2 ∷ 2 ∷ 0 ∷ 0x22 ∷ 0 ∷ 5 ∷ 0 ∷ 0x22 ∷ 1 ∷ 6 ∷ 0 ∷ 0x23 ∷ 5 ∷ 0 ∷ 2 ∷ 0 ∷ 0x23 ∷ 1 ∷ 0 ∷ 6 ∷ 0 ∷ 0x23 ∷ 7 ∷ 0 ∷ 3 ∷ 0 ∷ 0x23 ∷ 4 ∷ 0 ∷ 0 ∷ 0 ∷ 0x24 ∷ 4 ∷ 0 ∷ [])
+    (net (part 2 2 ∷ part 0 5 ∷ part 1 6 ∷ []) (5 - 2 ∷ 7 - 3 ∷ 4 - 6 ∷ []) (out 4 ∷ []))
+    (0x22 ∷ 2 ∷ 2 ∷ 0 ∷ 0x22 ∷ 0 ∷ 5 ∷ 0 ∷ 0x22 ∷ 1 ∷ 6 ∷ 0 ∷ 0x23 ∷ 5 ∷ 0 ∷ 2 ∷ 0 ∷ 0x23 ∷ 7 ∷ 0 ∷ 3 ∷ 0 ∷ 0x23 ∷ 4 ∷ 0 ∷ 6 ∷ 0 ∷ 0x24 ∷ 4 ∷ 0 ∷ [])
+    -- P7
+    ∷ row (0x01 ∷ 0x02 ∷ 0x00 ∷ 0x00 ∷ 0x19 ∷ 0x01 ∷ 0x18 ∷ 0x11 ∷ 0x00 ∷ 0x17 ∷ 0x01 ∷ 0x11 ∷ 0x00 ∷ 0x11 ∷ 0x01 ∷ [])
+    (net (point 0 ∷ point 2 ∷ []) (3 - 0 ∷ 1 - 2 ∷ []) (out 3 ∷ out 1 ∷ []))
+    (0x21 ∷ 0 ∷ 0 ∷ 0x21 ∷ 2 ∷ 0 ∷ 0x23 ∷ 3 ∷ 0 ∷ 0 ∷ 0 ∷ 0x23 ∷ 1 ∷ 0 ∷ 2 ∷ 0 ∷ 0x24 ∷ 3 ∷ 0 ∷ 0x24 ∷ 1 ∷ 0 ∷ [])
+    (net (point 0 ∷ []) (1 - 0 ∷ []) (out 1 ∷ out 1 ∷ []))
+    (0x21 ∷ 0 ∷ 0 ∷ 0x23 ∷ 1 ∷ 0 ∷ 0 ∷ 0 ∷ 0x24 ∷ 1 ∷ 0 ∷ 0x24 ∷ 1 ∷ 0 ∷ [])
+    -- P8
+    ∷ refusal (0x01 ∷ 0x03 ∷ 0x00 ∷ 0x00 ∷ 0x04 ∷ 0x01 ∷ 0x00 ∷ 0x15 ∷ 0x02 ∷ 0x14 ∷ 0x12 ∷ 0x00 ∷ 0x14 ∷ 0x12 ∷ 0x00 ∷ 0x1A ∷ 0x00 ∷ 0x00 ∷ []) 13 4
+    -- P9
+    ∷ refusal (0x01 ∷ 0x03 ∷ 0x00 ∷ 0x00 ∷ 0x04 ∷ 0x01 ∷ 0x00 ∷ 0x15 ∷ 0x02 ∷ 0x1A ∷ 0x00 ∷ 0x00 ∷ []) 14 0
+    -- P10
+    ∷ refusal [] 3 0
+    -- P11
+    ∷ refusal (0x01 ∷ 0x14 ∷ 0x1A ∷ 0x00 ∷ 0x00 ∷ 0x1A ∷ 0x00 ∷ 0x00 ∷ []) 12 0
+    ∷ []
+
+-- ---- what the definitions answer
+
+-- a call with enough memory and room
+abbrev bytesOf : Bool → List ℕ → Answer (List ℕ)
+bytesOf wantLean s = answer 32768 wantLean s 41344
+
+unfoldable pub run : List ℕ → Answer Both
+run s = do
+  m ← full s
+  f ← bytesOf false s
+  l ← bytesOf true s
+  good (record { full = m; fullBytes = f; lean = lean m; leanBytes = l })
+
+-- the answers of calls that lack something: memory of 32,767 numbers (1), and room one byte short (17), full and lean
+pub record Lacking : Type 0 where
+  pub memory : Answer (List ℕ)
+  pub fullRoom : Answer (List ℕ)
+  pub leanRoom : Answer (List ℕ)
+
+abbrev short : List ℕ → ℕ
+short [] = 0
+short (b ∷ bs) = length bs
+
+unfoldable pub lacking : List ℕ → Answer Both → Lacking
+lacking s (good b) = record {
+  memory = answer 32767 false s 41344;
+  fullRoom = answer 32768 false s (short (b .fullBytes));
+  leanRoom = answer 32768 true s (short (b .leanBytes));
+}
+lacking s (refused number place) = record { memory = answer 32767 false s 0; fullRoom = answer 32768 false s 0; leanRoom = answer 32768 true s 0 }
+
+-- 1 before all else; 17 with the length needed, after all else
+unfoldable pub lacks : Answer Both → Lacking
+lacks (good b) = record { memory = refused 1 0; fullRoom = refused 17 (length (b .fullBytes)); leanRoom = refused 17 (length (b .leanBytes)) }
+lacks (refused number place) = record { memory = refused 1 0; fullRoom = refused number place; leanRoom = refused number place }
+
+-- a row, as the definitions answer and as document 01 has it
+abbrev pub answers : Row → Answer Both × Lacking
+answers r = (run (r .sheet), lacking (r .sheet) (r .result))
+
+abbrev pub expected : Row → Answer Both × Lacking
+expected r = (r .result, lacks (r .result))

@@ -1,0 +1,15 @@
+pub mod Answer
+pub mod Types
+pub mod Terms
+pub mod Read
+pub mod Write
+pub mod Walk
+pub mod Rules
+pub mod Net
+pub mod Lean
+pub mod Record
+pub mod Formed
+pub mod Translate
+pub mod Stretch
+pub mod Listing
+pub mod Known

@@ -1,0 +1,64 @@
+-- The whole translation, as a call has it (document 01, "Numbers of the refusals"). Assumes nothing.
+use Prim.Native.Nat.{ℕ}
+use mathlib.Core.Bool.{Bool, true, false, cond}
+use mathlib.Core.List.{List, [], _∷_, _++_}
+use lib.Dec.{leb}
+use lib.ListN.{length, drop, replicate}
+use Rattle.calculus.specs.Answer.{Answer, good, refused, _>>=_, need}
+use Rattle.calculus.specs.Read.{readSheet}
+use Rattle.calculus.specs.Walk.{walk}
+use Rattle.calculus.specs.Net.{Net, make, netOf, netBytes}
+use Rattle.calculus.specs.Lean.{lean}
+
+-- the full netlist of a sheet, or refusal 2 to 16
+unfoldable pub full : List ℕ → Answer Net
+full s = do
+  σ ← readSheet s
+  _ ← walk (σ .table) (σ .term) 0 []
+  let m = make (σ .table) (σ .term) [] 0 in do
+    _ ← need (leb (m .next) 8192) 16 0
+    good (netOf m)
+
+-- the netlist asked for: yes means lean
+abbrev pub asked : Bool → Net → Net
+asked wantLean m = cond wantLean (lean m) m
+
+-- the bytes that a call writes, or its refusal: 1, then 2 to 16, then 17
+unfoldable pub answer : ℕ → Bool → List ℕ → ℕ → Answer (List ℕ)
+answer memory wantLean s room = do
+  _ ← need (leb 32768 memory) 1 0
+  m ← full s
+  let out = netBytes (asked wantLean m) in do
+    _ ← need (leb (length out) room) 17 (length out)
+    good out
+
+-- ---- what a call leaves
+
+-- the first n numbers 0, the later ones as they were
+unfoldable pub zeroed : ℕ → List ℕ → List ℕ
+zeroed n w = replicate n 0 ++ drop n w
+
+-- a success gives the number of bytes written
+abbrev pub saidOf : Answer (List ℕ) → Answer ℕ
+saidOf (good bytes) = good (length bytes)
+saidOf (refused number place) = refused number place
+
+-- output bytes after those written stay; on a refusal all stay
+abbrev pub outOf : Answer (List ℕ) → List ℕ → List ℕ
+outOf (good bytes) out = bytes ++ drop (length bytes) out
+outOf (refused number place) out = out
+
+-- refusal 1 changes none of the working memory; every other call clears the first 32,768
+unfoldable pub workOf : List ℕ → List ℕ
+workOf work = cond (leb 32768 (length work)) (zeroed 32768 work) work
+
+pub record Call : Type 0 where
+  pub said : Answer ℕ
+  pub out : List ℕ
+  pub work : List ℕ
+
+-- a call: lent a sheet, an output and working memory, and told which netlist to write
+unfoldable pub call : Bool → List ℕ → List ℕ → List ℕ → Call
+call wantLean s out work =
+    let a = answer (length work) wantLean s (length out) in
+    record { said = saidOf a; out = outOf a out; work = workOf work }

@@ -1,0 +1,213 @@
+-- What has a derivation by the rules is accepted by the typing walk. Assumes nothing.
+use Prim.Native.Nat.{ℕ, zero, suc, _+_, _<_}
+use mathlib.Core.Path.{_≡_, refl, sym, ap, ap₂, subst, _∙_}
+use mathlib.Core.Bool.{Bool, true, false, _&&_}
+use mathlib.Core.List.{List, [], _∷_}
+use native.Mathlib.Omega.{arith}
+use lib.Dec.{T, eqb, ltb}
+use lib.ListN.{length}
+use borrow.Author.Tests.{lt-ltb, eq-eqb}
+use Rattle.calculus.specs.Answer.{Answer, good, refused, _>>=_, need}
+use Rattle.calculus.specs.Types.{Ty, bit, prod, arrow, lolli, sharable, isArrow, tyEq, TyRec, rec01, rec02, rec03, rec04, Table, recAt, tree}
+use Rattle.calculus.specs.Terms.{Term, var, lvar, fun, app, lfun, lapp, pair, proj, fix, con, nodes, parts, partAt}
+use Rattle.calculus.specs.Walk.{Binder, shared, linear, Stack, Sides, sides, product, sharableArrow, linearArrow, Found, found, under, useShared, useLinear, pop, topUsed, walk}
+use Rattle.calculus.specs.Rules.{Entry, many, once, away, Ctx, NoLinear, none-end, none-many, none-away, InΓ, in-here, in-many, in-away, IsΔ, is-here, is-many, is-away, Split, split-end, split-many, split-first, split-second, split-away, Typed, Var, LVar, →I, →E, ⊸I, ⊸E, ×I, ×E, Fix, Con}
+use Rattle.theorems.proofs.Sound.{Agrees, Formed, Step, step-end, step-shared, step-same, step-took}
+
+and-of : (a b : Bool) → T a → T b → T (a && b)
+and-of true b p q = q
+and-of false b p q = p
+
+abbrev pub known : Table → TyRec → Type 0
+known Θ rec01 = Unit {0}
+known Θ (rec02 a b) = (a < length Θ) × (b < length Θ)
+known Θ (rec03 a b) = (a < length Θ) × (b < length Θ)
+known Θ (rec04 a b) = (a < length Θ) × (b < length Θ)
+
+-- a table that the reader accepts
+pub record Sheetly (Θ : Table) : Type 0 where
+  pub formed : Formed Θ
+  pub range : (n : ℕ) → n < length Θ → known Θ (recAt Θ n)
+  pub once : (a b : ℕ) → a < length Θ → b < length Θ → tree Θ a ≡ tree Θ b → a ≡ b
+
+-- a term whose type numbers name types
+abbrev pub Ranged : Table → Term → Type 0
+Ranged Θ (var i) = Unit {0}
+Ranged Θ (lvar i) = Unit {0}
+Ranged Θ (fun t e) = (t < length Θ) × Ranged Θ e
+Ranged Θ (app f a) = Ranged Θ f × Ranged Θ a
+Ranged Θ (lfun t e) = (t < length Θ) × Ranged Θ e
+Ranged Θ (lapp f a) = Ranged Θ f × Ranged Θ a
+Ranged Θ (pair t a b) = (t < length Θ) × Ranged Θ a × Ranged Θ b
+Ranged Θ (proj a e) = Ranged Θ a × Ranged Θ e
+Ranged Θ (fix t e) = (t < length Θ) × Ranged Θ e
+Ranged Θ (con p t) = t < length Θ
+
+abbrev pub Numbers : Stack → ℕ → Type 0
+Numbers [] l = Unit {0}
+Numbers (shared t ∷ st) l = (t < l) × Numbers st l
+Numbers (linear t u ∷ st) l = (t < l) × Numbers st l
+
+-- ---- the two numbers of a record whose type has a form
+
+pub record Parts (Θ : Table) (q : TyRec) (of : ℕ → ℕ → TyRec) (σ τ : Ty) : Type 0 where
+  pub left : ℕ
+  pub right : ℕ
+  pub rec : q ≡ of left right
+  pub left-in : left < length Θ
+  pub right-in : right < length Θ
+  pub left-is : tree Θ left ≡ σ
+  pub right-is : tree Θ right ≡ τ
+
+module _ (Θ : Table) where
+  arrow-parts : (q : TyRec) (ρ σ τ : Ty) → Agrees Θ q ρ → known Θ q → ρ ≡ arrow σ τ → Parts Θ q rec03 σ τ
+  arrow-parts rec01 ρ σ τ a k e = absurd (let z : _≡_ {A = ℕ} 0 1 = cc in omega arith)
+  arrow-parts (rec02 x y) ρ σ τ a k e = let h = a .0 in absurd (let z : _≡_ {A = ℕ} 0 1 = cc in omega arith)
+  arrow-parts (rec03 x y) ρ σ τ a k e = let h = a .0 in record { left = x; right = y; rec = refl; left-in = k .0; right-in = k .1; left-is = cc; right-is = cc }
+  arrow-parts (rec04 x y) ρ σ τ a k e = let h = a .0 in absurd (let z : _≡_ {A = ℕ} 0 1 = cc in omega arith)
+
+  lolli-parts : (q : TyRec) (ρ σ τ : Ty) → Agrees Θ q ρ → known Θ q → ρ ≡ lolli σ τ → Parts Θ q rec04 σ τ
+  lolli-parts rec01 ρ σ τ a k e = absurd (let z : _≡_ {A = ℕ} 0 1 = cc in omega arith)
+  lolli-parts (rec02 x y) ρ σ τ a k e = let h = a .0 in absurd (let z : _≡_ {A = ℕ} 0 1 = cc in omega arith)
+  lolli-parts (rec03 x y) ρ σ τ a k e = let h = a .0 in absurd (let z : _≡_ {A = ℕ} 0 1 = cc in omega arith)
+  lolli-parts (rec04 x y) ρ σ τ a k e = let h = a .0 in record { left = x; right = y; rec = refl; left-in = k .0; right-in = k .1; left-is = cc; right-is = cc }
+
+  prod-parts : (q : TyRec) (ρ σ τ : Ty) → Agrees Θ q ρ → known Θ q → ρ ≡ prod σ τ → Parts Θ q rec02 σ τ
+  prod-parts rec01 ρ σ τ a k e = absurd (let z : _≡_ {A = ℕ} 0 1 = cc in omega arith)
+  prod-parts (rec02 x y) ρ σ τ a k e = let h = a .0 in record { left = x; right = y; rec = refl; left-in = k .0; right-in = k .1; left-is = cc; right-is = cc }
+  prod-parts (rec03 x y) ρ σ τ a k e = let h = a .0 in absurd (let z : _≡_ {A = ℕ} 0 1 = cc in omega arith)
+  prod-parts (rec04 x y) ρ σ τ a k e = let h = a .0 in absurd (let z : _≡_ {A = ℕ} 0 1 = cc in omega arith)
+
+-- ---- the stacks between two subterms
+
+between : {Θ : Table} {Γ Γ₁ Γ₂ : Ctx} {st st′ : Stack} → Split Γ Γ₁ Γ₂ → Step Θ st st′ Γ → (mid : Stack) × Step Θ st mid Γ₁ × Step Θ mid st′ Γ₂
+between split-end step-end = ([], step-end, step-end)
+between (split-many z) (step-shared s) = let (m, p, q) = between z s in (_, step-shared p, step-shared q)
+between (split-first z) (step-took s) = let (m, p, q) = between z s in (_, step-took p, step-same q)
+between (split-second z) (step-took s) = let (m, p, q) = between z s in (_, step-same p, step-took q)
+between (split-away z) (step-same s) = let (m, p, q) = between z s in (_, step-same p, step-same q)
+
+idle-same : {Θ : Table} {Γ : Ctx} {st st′ : Stack} → NoLinear Γ → Step Θ st st′ Γ → st′ ≡ st
+idle-same none-end step-end = refl
+idle-same (none-many z) (step-shared {t = t} s) = ap (λ (r : Stack). shared t ∷ r) (idle-same z s)
+idle-same (none-away z) (step-same {t = t} {u = u} s) = ap (λ (r : Stack). linear t u ∷ r) (idle-same z s)
+
+-- ---- variables
+
+pub record Accepted (Θ : Table) (τ : Ty) (st : Stack) (a : Answer Found) : Type 0 where
+  pub type : ℕ
+  pub type-in : type < length Θ
+  pub type-is : tree Θ type ≡ τ
+  pub answer : a ≡ found type st
+
+shares : {Θ : Table} {Γ : Ctx} {i : ℕ} {θ : Ty} {st st′ : Stack} (n : ℕ) → InΓ Γ i θ → Step Θ st st′ Γ → Numbers st (length Θ) → Accepted Θ θ st′ (useShared st i n)
+shares n (in-here z) (step-shared {t = t} s) k = record { type = t; type-in = k .0; type-is = refl; answer = rw (idle-same z s) }
+shares n (in-many x) (step-shared s) k = let r = shares n x s (k .1) in record { type = r .type; type-in = r .type-in; type-is = r .type-is; answer = rw (r .answer) }
+shares n (in-away x) (step-same s) k = let r = shares n x s (k .1) in record { type = r .type; type-in = r .type-in; type-is = r .type-is; answer = rw (r .answer) }
+
+takes : {Θ : Table} {Γ : Ctx} {i : ℕ} {κ : Ty} {st st′ : Stack} (n : ℕ) → IsΔ Γ i κ → Step Θ st st′ Γ → Numbers st (length Θ) → Accepted Θ κ st′ (useLinear st i n)
+takes n (is-here z) (step-took {t = t} s) k = record { type = t; type-in = k .0; type-is = refl; answer = rw (idle-same z s) }
+takes n (is-many x) (step-shared s) k = let r = takes n x s (k .1) in record { type = r .type; type-in = r .type-in; type-is = r .type-is; answer = rw (r .answer) }
+takes n (is-away x) (step-same s) k = let r = takes n x s (k .1) in record { type = r .type; type-in = r .type-in; type-is = r .type-is; answer = rw (r .answer) }
+
+numbers-step : {Θ : Table} {Γ : Ctx} {st st′ : Stack} (l : ℕ) → Step Θ st st′ Γ → Numbers st l → Numbers st′ l
+numbers-step l step-end k = k
+numbers-step l (step-shared s) k = (k .0, numbers-step l s (k .1))
+numbers-step l (step-same s) k = (k .0, numbers-step l s (k .1))
+numbers-step l (step-took s) k = (k .0, numbers-step l s (k .1))
+
+tyEq-refl : (τ : Ty) → T (tyEq τ τ)
+tyEq-refl bit = tt
+tyEq-refl (prod a b) = and-of (tyEq a a) (tyEq b b) (tyEq-refl a) (tyEq-refl b)
+tyEq-refl (arrow a b) = and-of (tyEq a a) (tyEq b b) (tyEq-refl a) (tyEq-refl b)
+tyEq-refl (lolli a b) = and-of (tyEq a a) (tyEq b b) (tyEq-refl a) (tyEq-refl b)
+
+T-true : (b : Bool) → T b → b ≡ true
+T-true true t = refl
+T-true false t = absurd t
+
+-- ---- each rule
+
+module _ (Θ : Table) (ok : Sheetly Θ) where
+  parts-arrow : (t : ℕ) {σ τ : Ty} → t < length Θ → tree Θ t ≡ arrow σ τ → Parts Θ (recAt Θ t) rec03 σ τ
+  parts-arrow t h e = arrow-parts Θ (recAt Θ t) (tree Θ t) _ _ (ok .formed t) (ok .range t h) e
+
+  parts-lolli : (t : ℕ) {σ τ : Ty} → t < length Θ → tree Θ t ≡ lolli σ τ → Parts Θ (recAt Θ t) rec04 σ τ
+  parts-lolli t h e = lolli-parts Θ (recAt Θ t) (tree Θ t) _ _ (ok .formed t) (ok .range t h) e
+
+  parts-prod : (t : ℕ) {σ τ : Ty} → t < length Θ → tree Θ t ≡ prod σ τ → Parts Θ (recAt Θ t) rec02 σ τ
+  parts-prod t h e = prod-parts Θ (recAt Θ t) (tree Θ t) _ _ (ok .formed t) (ok .range t h) e
+
+  -- two numbers of one type are one
+  same : {a b : ℕ} {τ : Ty} → a < length Θ → b < length Θ → tree Θ a ≡ τ → tree Θ b ≡ τ → eqb a b ≡ true
+  same {a} {b} ha hb ea eb = eq-eqb a b (ok .once a b ha hb (ea ∙ sym eb))
+
+  app-walk : (f a : Term) (n : ℕ) (st mid st′ : Stack) (θ τ : Ty) → Accepted Θ (arrow θ τ) mid (walk Θ f (n + 1) st)
+      → Accepted Θ θ st′ (walk Θ a (n + 1 + nodes f) mid) → Accepted Θ τ st′ (walk Θ (app f a) n st)
+  app-walk f a n st mid st′ θ τ x y =
+      let p = parts-arrow (x .type) (x .type-in) (x .type-is) in
+      record { type = p .right; type-in = p .right-in; type-is = p .right-is; answer = simp (x .answer, y .answer, p .rec, same (y .type-in) (p .left-in) (y .type-is) (p .left-is)) }
+
+  lapp-walk : (f a : Term) (n : ℕ) (st mid st′ : Stack) (θ τ : Ty) → Accepted Θ (lolli θ τ) mid (walk Θ f (n + 1) st)
+      → Accepted Θ θ st′ (walk Θ a (n + 1 + nodes f) mid) → Accepted Θ τ st′ (walk Θ (lapp f a) n st)
+  lapp-walk f a n st mid st′ θ τ x y =
+      let p = parts-lolli (x .type) (x .type-in) (x .type-is) in
+      record { type = p .right; type-in = p .right-in; type-is = p .right-is; answer = simp (x .answer, y .answer, p .rec, same (y .type-in) (p .left-in) (y .type-is) (p .left-is)) }
+
+  pair-walk : (t : ℕ) (a b : Term) (n : ℕ) (st mid st′ : Stack) (θ₁ θ₂ : Ty) → t < length Θ → tree Θ t ≡ prod θ₁ θ₂ → Accepted Θ θ₁ mid (walk Θ a (n + 1) st)
+      → Accepted Θ θ₂ st′ (walk Θ b (n + 1 + nodes a) mid) → Accepted Θ (prod θ₁ θ₂) st′ (walk Θ (pair t a b) n st)
+  pair-walk t a b n st mid st′ θ₁ θ₂ h e x y =
+      let p = parts-prod t h e in
+      record { type = t; type-in = h; type-is = e; answer = simp (p .rec, x .answer, y .answer, same (x .type-in) (p .left-in) (x .type-is) (p .left-is), same (y .type-in) (p .right-in) (y .type-is) (p .right-is)) }
+
+  fun-walk : (t : ℕ) (e : Term) (n : ℕ) (st st′ : Stack) (θ τ : Ty) (h : t < length Θ) (eτ : tree Θ t ≡ arrow θ τ) (p : Parts Θ (recAt Θ t) rec03 θ τ)
+      → Accepted Θ τ (shared (p .left) ∷ st′) (walk Θ e (n + 1) (shared (p .left) ∷ st)) → Accepted Θ (arrow θ τ) st′ (walk Θ (fun t e) n st)
+  fun-walk t e n st st′ θ τ h eτ p x =
+      record { type = t; type-in = h; type-is = eτ; answer = simp (p .rec, x .answer, same (x .type-in) (p .right-in) (x .type-is) (p .right-is)) }
+
+  lfun-walk : (t : ℕ) (e : Term) (n : ℕ) (st st′ : Stack) (θ τ : Ty) (h : t < length Θ) (eτ : tree Θ t ≡ lolli θ τ) (p : Parts Θ (recAt Θ t) rec04 θ τ)
+      → Accepted Θ τ (linear (p .left) true ∷ st′) (walk Θ e (n + 1) (linear (p .left) false ∷ st)) → Accepted Θ (lolli θ τ) st′ (walk Θ (lfun t e) n st)
+  lfun-walk t e n st st′ θ τ h eτ p x =
+      record { type = t; type-in = h; type-is = eτ; answer = simp (p .rec, x .answer, same (x .type-in) (p .right-in) (x .type-is) (p .right-is)) }
+
+  proj-walk : (a e : Term) (n : ℕ) (st mid st′ : Stack) (θ₁ θ₂ τ : Ty) (x : Accepted Θ (prod θ₁ θ₂) mid (walk Θ a (n + 1) st)) (p : Parts Θ (recAt Θ (x .type)) rec02 θ₁ θ₂)
+      → Accepted Θ τ (shared (p .right) ∷ shared (p .left) ∷ st′) (walk Θ e (n + 1 + nodes a) (shared (p .right) ∷ shared (p .left) ∷ mid)) → Accepted Θ τ st′ (walk Θ (proj a e) n st)
+  proj-walk a e n st mid st′ θ₁ θ₂ τ x p y =
+      record { type = y .type; type-in = y .type-in; type-is = y .type-is; answer = simp (x .answer, p .rec, y .answer) }
+
+  fix-walk : (t : ℕ) (e : Term) (n : ℕ) (st st′ : Stack) (θ : Ty) (h : t < length Θ) → tree Θ t ≡ θ → T (sharable θ)
+      → Accepted Θ θ (shared t ∷ st′) (walk Θ e (n + 1) (shared t ∷ st)) → Accepted Θ θ st′ (walk Θ (fix t e) n st)
+  fix-walk t e n st st′ θ h eτ sh x =
+      record { type = t; type-in = h; type-is = eτ; answer = simp (T-true (sharable (tree Θ t)) (rw eτ sh), x .answer, same (x .type-in) h (x .type-is) eτ) }
+
+  con-walk : (p t n : ℕ) (st : Stack) → t < length Θ → p < length parts → tree Θ t ≡ partAt p .type → Accepted Θ (partAt p .type) st (walk Θ (con p t) n st)
+  con-walk p t n st h hp e =
+      record { type = t; type-in = h; type-is = e; answer = simp (lt-ltb p (length parts) hp, T-true (tyEq (tree Θ t) (partAt p .type)) (rw e (tyEq-refl (partAt p .type)))) }
+
+  pub complete : {Γ : Ctx} {e : Term} {τ : Ty} → Typed Θ Γ e τ → Ranged Θ e → (n : ℕ) {st st′ : Stack} → Step Θ st st′ Γ → Numbers st (length Θ) → Accepted Θ τ st′ (walk Θ e n st)
+  complete (Var x) g n s k = shares n x s k
+  complete (LVar x) g n s k = takes n x s k
+  complete (→I {t = t} {e = e} {θ = θ} {τ = τ} eτ sh d) g n {st} {st′} s k =
+      let p = parts-arrow t (g .0) eτ in
+      fun-walk t e n st st′ θ τ (g .0) eτ p (complete d (g .1) (n + 1) (rw (p .left-is) at (step-shared {t = p .left} s)) (p .left-in, k))
+  complete (→E {f = f} {a = a} {θ = θ} {τ = τ} z d c) g n {st} {st′} s k =
+      let (m, p, q) = between z s in
+      app-walk f a n st m st′ θ τ (complete d (g .0) (n + 1) p k) (complete c (g .1) (n + 1 + nodes f) q (numbers-step (length Θ) p k))
+  complete (⊸I {t = t} {e = e} {κ = κ} {τ = τ} eτ ar d) g n {st} {st′} s k =
+      let p = parts-lolli t (g .0) eτ in
+      lfun-walk t e n st st′ κ τ (g .0) eτ p (complete d (g .1) (n + 1) (rw (p .left-is) at (step-took {t = p .left} s)) (p .left-in, k))
+  complete (⊸E {f = f} {a = a} {κ = κ} {τ = τ} z d c) g n {st} {st′} s k =
+      let (m, p, q) = between z s in
+      lapp-walk f a n st m st′ κ τ (complete d (g .0) (n + 1) p k) (complete c (g .1) (n + 1 + nodes f) q (numbers-step (length Θ) p k))
+  complete (×I {t = t} {a = a} {b = b} {θ₁ = θ₁} {θ₂ = θ₂} z eτ s₁ s₂ d c) g n {st} {st′} s k =
+      let (m, p, q) = between z s in
+      pair-walk t a b n st m st′ θ₁ θ₂ (g .0) eτ (complete d (g .1) (n + 1) p k) (complete c (g .2) (n + 1 + nodes a) q (numbers-step (length Θ) p k))
+  complete (×E {a = a} {e = e} {θ₁ = θ₁} {θ₂ = θ₂} {τ = τ} z s₁ s₂ d c) g n {st} {st′} s k =
+      let (m, p, q) = between z s in
+      let x = complete d (g .0) (n + 1) p k in
+      let o = parts-prod (x .type) (x .type-in) (x .type-is) in
+      proj-walk a e n st m st′ θ₁ θ₂ τ x o (complete c (g .1) (n + 1 + nodes a) (rw (o .left-is, o .right-is) at (step-shared {t = o .right} (step-shared {t = o .left} q))) (o .right-in, (o .left-in, numbers-step (length Θ) p k)))
+  complete (Fix {t = t} {e = e} {θ = θ} eτ sh d) g n {st} {st′} s k =
+      fix-walk t e n st st′ θ (g .0) eτ sh (complete d (g .1) (n + 1) (rw eτ at (step-shared {t = t} s)) (g .0, k))
+  complete (Con {p = p} {t = t} h e z) g n {st} {st′} s k =
+      rw (idle-same z s) (con-walk p t n st g h e)

@@ -1,0 +1,10 @@
+pub mod Tables
+pub mod Sound
+pub mod Complete
+pub mod Exact
+pub mod Drivers
+pub mod Rings
+pub mod Roots
+pub mod Same
+pub mod Wiring
+pub mod Main

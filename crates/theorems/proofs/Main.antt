@@ -1,0 +1,58 @@
+-- For every accepted sheet: its term has a derivation, each input has one driver, and the two netlists have the same possible records. Assumes nothing.
+use Prim.Native.Nat.{ℕ, _+_}
+use mathlib.Core.Path.{_≡_, refl, sym, ap, subst, _∙_}
+use mathlib.Core.Logic.{_↔_}
+use mathlib.Core.List.{List, [], _∷_}
+use lib.Dec.{T, leb, eqb}
+use lib.ListN.{length}
+use Rattle.calculus.specs.Answer.{Answer, good, refused, _>>=_, need}
+use Rattle.calculus.proofs.Answers.{good-inj, on-bind, on-need}
+use Rattle.calculus.specs.Types.{Ty, Table, tree}
+use Rattle.calculus.specs.Read.{Sheet, Got, readTypes, readTerm, readSheet}
+use Rattle.calculus.specs.Walk.{Found, walk}
+use Rattle.calculus.specs.Rules.{Typed}
+use Rattle.calculus.specs.Net.{Net, make, netOf}
+use Rattle.calculus.specs.Lean.{lean}
+use Rattle.calculus.specs.Record.{Bits, Law, Outside}
+use Rattle.calculus.specs.Translate.{full}
+use Rattle.theorems.proofs.Sound.{sound}
+use Rattle.theorems.proofs.Complete.{Sheetly}
+use Rattle.theorems.proofs.Tables.{table-read}
+use Rattle.theorems.proofs.Same.{Wired, same-records}
+use Rattle.theorems.proofs.Wiring.{wired}
+
+sheet-table : (s : List ℕ) (σ : Sheet) → readSheet s ≡ good σ → Sheetly (σ .table)
+unfolding readSheet
+sheet-table s σ e =
+    on-need (leb (length s) 16384) 2 0 _ σ e λ h₁ e₁.
+    on-bind (readTypes 256 s [] 0) _ σ e₁ λ r h₂ e₂.
+    on-bind (readTerm 64 s (length (r .0)) (r .1) 0) _ σ e₂ λ g h₃ e₃.
+    on-need (eqb (g .next) (length s)) 9 (g .next) _ σ e₃ λ h₄ e₄.
+    subst (λ (x : Sheet). Sheetly (x .table)) (good-inj e₄) (table-read s r h₂)
+
+-- an accepted sheet: what was read, its derivation, and its netlist
+pub record Accepts (s : List ℕ) (m : Net) : Type 0 where
+  pub sheet : Sheet
+  pub reads : readSheet s ≡ good sheet
+  pub type : Ty
+  pub typed : Typed (sheet .table) [] (sheet .term) type
+  pub is : netOf (make (sheet .table) (sheet .term) [] 0) ≡ m
+
+pub accepts : (s : List ℕ) (m : Net) → full s ≡ good m → Accepts s m
+unfolding full
+accepts s m e =
+    on-bind (readSheet s) _ m e λ σ h₁ e₁.
+    on-bind (walk (σ .table) (σ .term) 0 []) _ m e₁ λ r h₂ e₂.
+    on-need (leb (make (σ .table) (σ .term) [] 0 .next) 8192) 16 0 _ m e₂ λ h₃ e₃.
+    record {
+      sheet = σ;
+      reads = h₁;
+      type = tree (σ .table) (r .type);
+      typed = sound (σ .table) (sheet-table s σ h₁ .formed) (σ .term) r h₂;
+      is = good-inj e₃;
+    }
+
+pub same-circuit : (law : Law) (s : List ℕ) (m : Net) → full s ≡ good m → (n : ℕ) (γ π : Bits) → Outside law m n γ π ↔ Outside law (lean m) n γ π
+same-circuit law s m e =
+    let a = accepts s m e in
+    same-records law m (subst (λ (x : Net). Wired x) (a .is) (wired (a .typed)))

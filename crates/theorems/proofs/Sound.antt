@@ -1,0 +1,289 @@
+-- What the typing walk accepts has a derivation by the rules. Assumes nothing.
+use Prim.Native.Nat.{ℕ, zero, suc, _+_}
+use mathlib.Core.Path.{_≡_, refl, sym, ap, ap₂, subst}
+use mathlib.Core.Bool.{Bool, true, false, _&&_}
+use mathlib.Core.List.{List, [], _∷_}
+use lib.Dec.{T, eqb, ltb, eqb→eq, ltb→lt}
+use lib.ListN.{length}
+use Rattle.calculus.specs.Answer.{Answer, good, refused, _>>=_, need}
+use Rattle.calculus.proofs.Answers.{refused≢good, good-inj, on-bind, on-need}
+use Rattle.calculus.specs.Types.{Ty, bit, prod, arrow, lolli, sharable, isArrow, tyEq, TyRec, rec01, rec02, rec03, rec04, Table, recAt, tree}
+use Rattle.calculus.specs.Terms.{Term, var, lvar, fun, app, lfun, lapp, pair, proj, fix, con, nodes, parts, partAt}
+use Rattle.calculus.specs.Walk.{Binder, shared, linear, Stack, Sides, product, sharableArrow, linearArrow, Found, found, under, useShared, useLinear, pop, topUsed, walk}
+use Rattle.calculus.specs.Rules.{Entry, many, once, away, Ctx, NoLinear, none-end, none-many, none-away, InΓ, in-here, in-many, in-away, IsΔ, is-here, is-many, is-away, Split, split-end, split-many, split-first, split-second, split-away, Typed, Var, LVar, →I, →E, ⊸I, ⊸E, ×I, ×E, Fix, Con}
+
+-- ---- the table: each number's type is what its record says, and is well formed
+
+abbrev pub Agrees : Table → TyRec → Ty → Type 0
+Agrees Θ rec01 τ = τ ≡ bit
+Agrees Θ (rec02 a b) τ = (τ ≡ prod (tree Θ a) (tree Θ b)) × T (sharable (tree Θ a)) × T (sharable (tree Θ b))
+Agrees Θ (rec03 a b) τ = (τ ≡ arrow (tree Θ a) (tree Θ b)) × T (sharable (tree Θ a))
+Agrees Θ (rec04 a b) τ = (τ ≡ lolli (tree Θ a) (tree Θ b)) × T (isArrow (tree Θ a))
+
+abbrev pub Formed : Table → Type 0
+Formed Θ = (n : ℕ) → Agrees Θ (recAt Θ n) (tree Θ n)
+
+-- ---- forms of types
+
+product-good : (q : TyRec) (n : ℕ) (s : Sides) → product q n ≡ good s → q ≡ rec02 (s .left) (s .right)
+product-good rec01 n s e = absurd (refused≢good e)
+product-good (rec02 a b) n s e = ap (λ (s : Sides). rec02 (s .left) (s .right)) (good-inj e)
+product-good (rec03 a b) n s e = absurd (refused≢good e)
+product-good (rec04 a b) n s e = absurd (refused≢good e)
+
+sharable-good : (q : TyRec) (n : ℕ) (s : Sides) → sharableArrow q n ≡ good s → q ≡ rec03 (s .left) (s .right)
+sharable-good rec01 n s e = absurd (refused≢good e)
+sharable-good (rec02 a b) n s e = absurd (refused≢good e)
+sharable-good (rec03 a b) n s e = ap (λ (s : Sides). rec03 (s .left) (s .right)) (good-inj e)
+sharable-good (rec04 a b) n s e = absurd (refused≢good e)
+
+linear-good : (q : TyRec) (n : ℕ) (s : Sides) → linearArrow q n ≡ good s → q ≡ rec04 (s .left) (s .right)
+linear-good rec01 n s e = absurd (refused≢good e)
+linear-good (rec02 a b) n s e = absurd (refused≢good e)
+linear-good (rec03 a b) n s e = absurd (refused≢good e)
+linear-good (rec04 a b) n s e = ap (λ (s : Sides). rec04 (s .left) (s .right)) (good-inj e)
+
+-- ---- a stretch of the walk takes some linear binders: those are its Δ
+
+pub data Step (Θ : Table) : Stack → Stack → Ctx → Type 0 where
+  step-end : Step Θ [] [] []
+  step-shared : {t : ℕ} {st st′ : Stack} {Γ : Ctx} → Step Θ st st′ Γ → Step Θ (shared t ∷ st) (shared t ∷ st′) (many (tree Θ t) ∷ Γ)
+  step-same : {t : ℕ} {u : Bool} {st st′ : Stack} {Γ : Ctx} → Step Θ st st′ Γ → Step Θ (linear t u ∷ st) (linear t u ∷ st′) (away ∷ Γ)
+  step-took : {t : ℕ} {st st′ : Stack} {Γ : Ctx} → Step Θ st st′ Γ → Step Θ (linear t false ∷ st) (linear t true ∷ st′) (once (tree Θ t) ∷ Γ)
+
+-- nothing taken
+idle : (Θ : Table) (st : Stack) → (Γ : Ctx) × Step Θ st st Γ × NoLinear Γ
+idle Θ [] = ([], step-end, none-end)
+idle Θ (shared t ∷ st) = let (Γ, s, z) = idle Θ st in (many (tree Θ t) ∷ Γ, step-shared s, none-many z)
+idle Θ (linear t u ∷ st) = let (Γ, s, z) = idle Θ st in (away ∷ Γ, step-same s, none-away z)
+
+-- one stretch and then another
+both : {Θ : Table} {a b c : Stack} {Γ₁ Γ₂ : Ctx} → Step Θ a b Γ₁ → Step Θ b c Γ₂ → (Γ : Ctx) × Step Θ a c Γ × Split Γ Γ₁ Γ₂
+both step-end step-end = ([], step-end, split-end)
+both (step-shared p) (step-shared q) = let (Γ, s, z) = both p q in (_, step-shared s, split-many z)
+both (step-same p) (step-same q) = let (Γ, s, z) = both p q in (_, step-same s, split-away z)
+both (step-same p) (step-took q) = let (Γ, s, z) = both p q in (_, step-took s, split-second z)
+both (step-took p) (step-same q) = let (Γ, s, z) = both p q in (_, step-took s, split-first z)
+
+-- leaving a binder's scope
+pop-shared : {Θ : Table} {t : ℕ} {st st′ : Stack} {Γ′ : Ctx} → Step Θ (shared t ∷ st) st′ Γ′ → (Γ : Ctx) × (Γ′ ≡ many (tree Θ t) ∷ Γ) × Step Θ st (pop st′) Γ
+pop-shared (step-shared s) = (_, refl, s)
+
+pop-linear : {Θ : Table} {t : ℕ} {st st′ : Stack} {Γ′ : Ctx} → Step Θ (linear t false ∷ st) st′ Γ′ → T (topUsed st′) → (Γ : Ctx) × (Γ′ ≡ once (tree Θ t) ∷ Γ) × Step Θ st (pop st′) Γ
+pop-linear (step-same s) u = absurd u
+pop-linear (step-took s) u = (_, refl, s)
+
+-- ---- soundness
+
+pub record Derived (Θ : Table) (st : Stack) (e : Term) (r : Found) : Type 0 where
+  pub ctx : Ctx
+  pub step : Step Θ st (r .stack) ctx
+  pub typed : Typed Θ ctx e (tree Θ (r .type))
+
+-- an answer under one more binder
+under-good : (b : Binder) (m : Answer Found) (r : Found) → under b m ≡ good r → (q : Found) × (m ≡ good q) × (record { type = q .type; stack = b ∷ q .stack } ≡ r)
+under-good b (good q) r e = (q, refl, good-inj e)
+under-good b (refused n p) r e = absurd (refused≢good e)
+
+-- a sharable variable
+pub record Shares (Θ : Table) (st : Stack) (i : ℕ) (r : Found) : Type 0 where
+  pub ctx : Ctx
+  pub step : Step Θ st (r .stack) ctx
+  pub at : InΓ ctx i (tree Θ (r .type))
+
+shares : (Θ : Table) (st : Stack) (i n : ℕ) (r : Found) → useShared st i n ≡ good r → Shares Θ st i r
+shares Θ [] i n r e = absurd (refused≢good e)
+shares Θ (shared t ∷ st) zero n r e =
+    let (Γ, s, z) = idle Θ st in
+    subst (λ (r : Found). Shares Θ (shared t ∷ st) zero r) (good-inj e)
+    (record { ctx = many (tree Θ t) ∷ Γ; step = step-shared s; at = in-here z })
+shares Θ (linear t u ∷ st) zero n r e = absurd (refused≢good e)
+shares Θ (shared t ∷ st) (suc i) n r e =
+    let (q, e₁, e₂) = under-good (shared t) (useShared st i n) r e in
+    let h = shares Θ st i n q e₁ in
+    subst (λ (r : Found). Shares Θ (shared t ∷ st) (suc i) r) e₂
+    (record { ctx = many (tree Θ t) ∷ h .ctx; step = step-shared (h .step); at = in-many (h .at) })
+shares Θ (linear t u ∷ st) (suc i) n r e =
+    let (q, e₁, e₂) = under-good (linear t u) (useShared st i n) r e in
+    let h = shares Θ st i n q e₁ in
+    subst (λ (r : Found). Shares Θ (linear t u ∷ st) (suc i) r) e₂
+    (record { ctx = away ∷ h .ctx; step = step-same (h .step); at = in-away (h .at) })
+
+-- a linear variable
+pub record Takes (Θ : Table) (st : Stack) (i : ℕ) (r : Found) : Type 0 where
+  pub ctx : Ctx
+  pub step : Step Θ st (r .stack) ctx
+  pub at : IsΔ ctx i (tree Θ (r .type))
+
+takes : (Θ : Table) (st : Stack) (i n : ℕ) (r : Found) → useLinear st i n ≡ good r → Takes Θ st i r
+takes Θ [] i n r e = absurd (refused≢good e)
+takes Θ (shared t ∷ st) zero n r e = absurd (refused≢good e)
+takes Θ (linear t true ∷ st) zero n r e = absurd (refused≢good e)
+takes Θ (linear t false ∷ st) zero n r e =
+    let (Γ, s, z) = idle Θ st in
+    subst (λ (r : Found). Takes Θ (linear t false ∷ st) zero r) (good-inj e)
+    (record { ctx = once (tree Θ t) ∷ Γ; step = step-took s; at = is-here z })
+takes Θ (shared t ∷ st) (suc i) n r e =
+    let (q, e₁, e₂) = under-good (shared t) (useLinear st i n) r e in
+    let h = takes Θ st i n q e₁ in
+    subst (λ (r : Found). Takes Θ (shared t ∷ st) (suc i) r) e₂
+    (record { ctx = many (tree Θ t) ∷ h .ctx; step = step-shared (h .step); at = is-many (h .at) })
+takes Θ (linear t u ∷ st) (suc i) n r e =
+    let (q, e₁, e₂) = under-good (linear t u) (useLinear st i n) r e in
+    let h = takes Θ st i n q e₁ in
+    subst (λ (r : Found). Takes Θ (linear t u ∷ st) (suc i) r) e₂
+    (record { ctx = away ∷ h .ctx; step = step-same (h .step); at = is-away (h .at) })
+
+-- ---- the test of equal types
+
+and-both : (a b : Bool) → T (a && b) → T a × T b
+and-both true b t = (tt, t)
+and-both false b t = absurd t
+
+pub tyEq→eq : (σ τ : Ty) → T (tyEq σ τ) → σ ≡ τ
+tyEq→eq bit bit t = refl
+tyEq→eq bit (prod c d) t = absurd t
+tyEq→eq bit (arrow c d) t = absurd t
+tyEq→eq bit (lolli c d) t = absurd t
+tyEq→eq (prod a b) bit t = absurd t
+tyEq→eq (prod a b) (prod c d) t =
+    let (p, q) = and-both (tyEq a c) (tyEq b d) t in
+    ap₂ prod (tyEq→eq a c p) (tyEq→eq b d q)
+tyEq→eq (prod a b) (arrow c d) t = absurd t
+tyEq→eq (prod a b) (lolli c d) t = absurd t
+tyEq→eq (arrow a b) bit t = absurd t
+tyEq→eq (arrow a b) (prod c d) t = absurd t
+tyEq→eq (arrow a b) (arrow c d) t =
+    let (p, q) = and-both (tyEq a c) (tyEq b d) t in
+    ap₂ arrow (tyEq→eq a c p) (tyEq→eq b d q)
+tyEq→eq (arrow a b) (lolli c d) t = absurd t
+tyEq→eq (lolli a b) bit t = absurd t
+tyEq→eq (lolli a b) (prod c d) t = absurd t
+tyEq→eq (lolli a b) (arrow c d) t = absurd t
+tyEq→eq (lolli a b) (lolli c d) t =
+    let (p, q) = and-both (tyEq a c) (tyEq b d) t in
+    ap₂ lolli (tyEq→eq a c p) (tyEq→eq b d q)
+
+-- ---- each rule, from what the walk found
+
+abbrev at-type : ℕ → Stack → Found
+at-type t st = record { type = t; stack = st }
+
+module _ (Θ : Table) (st : Stack) where
+  fun-rule : (t a b : ℕ) (e : Term) (q : Found) → tree Θ t ≡ arrow (tree Θ a) (tree Θ b) → T (sharable (tree Θ a)) → q .type ≡ b
+      → Derived Θ (shared a ∷ st) e q → Derived Θ st (fun t e) (at-type t (pop (q .stack)))
+  fun-rule t a b e q eτ sh eb d =
+      let (Γ, eΓ, s) = pop-shared (d .step) in
+      record { ctx = Γ; step = s; typed = rw eτ (→I eτ sh (rw (eΓ, eb) at (d .typed))) }
+
+  lfun-rule : (t a b : ℕ) (e : Term) (q : Found) → tree Θ t ≡ lolli (tree Θ a) (tree Θ b) → T (isArrow (tree Θ a)) → T (topUsed (q .stack)) → q .type ≡ b
+      → Derived Θ (linear a false ∷ st) e q → Derived Θ st (lfun t e) (at-type t (pop (q .stack)))
+  lfun-rule t a b e q eτ ar u eb d =
+      let (Γ, eΓ, s) = pop-linear (d .step) u in
+      record { ctx = Γ; step = s; typed = rw eτ (⊸I eτ ar (rw (eΓ, eb) at (d .typed))) }
+
+  app-rule : (l r : ℕ) (f a : Term) (x y : Found) → tree Θ (x .type) ≡ arrow (tree Θ l) (tree Θ r) → y .type ≡ l
+      → Derived Θ st f x → Derived Θ (x .stack) a y → Derived Θ st (app f a) (at-type r (y .stack))
+  app-rule l r f a x y eτ el d c =
+      let (Γ, s, z) = both (d .step) (c .step) in
+      record { ctx = Γ; step = s; typed = →E z (rw eτ at (d .typed)) (rw el at (c .typed)) }
+
+  lapp-rule : (l r : ℕ) (f a : Term) (x y : Found) → tree Θ (x .type) ≡ lolli (tree Θ l) (tree Θ r) → y .type ≡ l
+      → Derived Θ st f x → Derived Θ (x .stack) a y → Derived Θ st (lapp f a) (at-type r (y .stack))
+  lapp-rule l r f a x y eτ el d c =
+      let (Γ, s, z) = both (d .step) (c .step) in
+      record { ctx = Γ; step = s; typed = ⊸E z (rw eτ at (d .typed)) (rw el at (c .typed)) }
+
+  pair-rule : (t l r : ℕ) (a b : Term) (x y : Found) → tree Θ t ≡ prod (tree Θ l) (tree Θ r) → T (sharable (tree Θ l)) → T (sharable (tree Θ r)) → x .type ≡ l → y .type ≡ r
+      → Derived Θ st a x → Derived Θ (x .stack) b y → Derived Θ st (pair t a b) (at-type t (y .stack))
+  pair-rule t l r a b x y eτ s₁ s₂ el er d c =
+      let (Γ, s, z) = both (d .step) (c .step) in
+      record { ctx = Γ; step = s; typed = rw eτ (×I z eτ s₁ s₂ (rw el at (d .typed)) (rw er at (c .typed))) }
+
+  proj-rule : (l r : ℕ) (a e : Term) (x y : Found) → tree Θ (x .type) ≡ prod (tree Θ l) (tree Θ r) → T (sharable (tree Θ l)) → T (sharable (tree Θ r))
+      → Derived Θ st a x → Derived Θ (shared r ∷ shared l ∷ x .stack) e y → Derived Θ st (proj a e) (at-type (y .type) (pop (pop (y .stack))))
+  proj-rule l r a e x y eτ p q d c =
+      let (Γ₁, e₁, s₁) = pop-shared (c .step) in
+      let (Γ₂, e₂, s₂) = pop-shared s₁ in
+      let (Γ, s, z) = both (d .step) s₂ in
+      record { ctx = Γ; step = s; typed = ×E z p q (rw eτ at (d .typed)) (rw (e₁, e₂) at (c .typed)) }
+
+  fix-rule : (t : ℕ) (e : Term) (q : Found) → T (sharable (tree Θ t)) → q .type ≡ t
+      → Derived Θ (shared t ∷ st) e q → Derived Θ st (fix t e) (at-type t (pop (q .stack)))
+  fix-rule t e q sh eb d =
+      let (Γ, eΓ, s) = pop-shared (d .step) in
+      record { ctx = Γ; step = s; typed = Fix refl sh (rw (eΓ, eb) at (d .typed)) }
+
+  con-rule : (p t : ℕ) → T (ltb p (length parts)) → T (tyEq (tree Θ t) (partAt p .type)) → Derived Θ st (con p t) (at-type t st)
+  con-rule p t h k =
+      let (Γ, s, z) = idle Θ st in
+      let e = tyEq→eq (tree Θ t) (partAt p .type) k in
+      record { ctx = Γ; step = s; typed = rw e (Con (ltb→lt p (length parts) h) e z) }
+
+-- the walk
+pub derived : (Θ : Table) → Formed Θ → (e : Term) (n : ℕ) (st : Stack) (r : Found) → walk Θ e n st ≡ good r → Derived Θ st e r
+derived Θ ok (var i) n st r h =
+    let s = shares Θ st i n r h in
+    record { ctx = s .ctx; step = s .step; typed = Var (s .at) }
+derived Θ ok (lvar i) n st r h =
+    let s = takes Θ st i n r h in
+    record { ctx = s .ctx; step = s .step; typed = LVar (s .at) }
+derived Θ ok (fun t e) n st r h =
+    on-bind (sharableArrow (recAt Θ t) n) _ r h λ τ h₁ k₁.
+    on-bind (walk Θ e (n + 1) (shared (τ .left) ∷ st)) _ r k₁ λ q h₂ k₂.
+    on-need (eqb (q .type) (τ .right)) 12 n _ r k₂ λ h₃ k₃.
+    let (eτ, sh) = subst (λ (q : TyRec). Agrees Θ q (tree Θ t)) (sharable-good (recAt Θ t) n τ h₁) (ok t) in
+    rw (← good-inj k₃) (fun-rule Θ st t (τ .left) (τ .right) e q eτ sh (eqb→eq _ _ h₃) (derived Θ ok e (n + 1) _ q h₂))
+derived Θ ok (app f a) n st r h =
+    on-bind (walk Θ f (n + 1) st) _ r h λ x h₁ k₁.
+    on-bind (walk Θ a (n + 1 + nodes f) (x .stack)) _ r k₁ λ y h₂ k₂.
+    on-bind (sharableArrow (recAt Θ (x .type)) n) _ r k₂ λ τ h₃ k₃.
+    on-need (eqb (y .type) (τ .left)) 12 n _ r k₃ λ h₄ k₄.
+    let (eτ, sh) = subst (λ (q : TyRec). Agrees Θ q (tree Θ (x .type))) (sharable-good (recAt Θ (x .type)) n τ h₃) (ok (x .type)) in
+    rw (← good-inj k₄) (app-rule Θ st (τ .left) (τ .right) f a x y eτ (eqb→eq _ _ h₄) (derived Θ ok f (n + 1) st x h₁) (derived Θ ok a _ (x .stack) y h₂))
+derived Θ ok (lfun t e) n st r h =
+    on-bind (linearArrow (recAt Θ t) n) _ r h λ τ h₁ k₁.
+    on-bind (walk Θ e (n + 1) (linear (τ .left) false ∷ st)) _ r k₁ λ q h₂ k₂.
+    on-need (topUsed (q .stack)) 14 n _ r k₂ λ h₃ k₃.
+    on-need (eqb (q .type) (τ .right)) 12 n _ r k₃ λ h₄ k₄.
+    let (eτ, ar) = subst (λ (q : TyRec). Agrees Θ q (tree Θ t)) (linear-good (recAt Θ t) n τ h₁) (ok t) in
+    rw (← good-inj k₄) (lfun-rule Θ st t (τ .left) (τ .right) e q eτ ar h₃ (eqb→eq _ _ h₄) (derived Θ ok e (n + 1) _ q h₂))
+derived Θ ok (lapp f a) n st r h =
+    on-bind (walk Θ f (n + 1) st) _ r h λ x h₁ k₁.
+    on-bind (walk Θ a (n + 1 + nodes f) (x .stack)) _ r k₁ λ y h₂ k₂.
+    on-bind (linearArrow (recAt Θ (x .type)) n) _ r k₂ λ τ h₃ k₃.
+    on-need (eqb (y .type) (τ .left)) 12 n _ r k₃ λ h₄ k₄.
+    let (eτ, ar) = subst (λ (q : TyRec). Agrees Θ q (tree Θ (x .type))) (linear-good (recAt Θ (x .type)) n τ h₃) (ok (x .type)) in
+    rw (← good-inj k₄) (lapp-rule Θ st (τ .left) (τ .right) f a x y eτ (eqb→eq _ _ h₄) (derived Θ ok f (n + 1) st x h₁) (derived Θ ok a _ (x .stack) y h₂))
+derived Θ ok (pair t a b) n st r h =
+    on-bind (product (recAt Θ t) n) _ r h λ τ h₁ k₁.
+    on-bind (walk Θ a (n + 1) st) _ r k₁ λ x h₂ k₂.
+    on-bind (walk Θ b (n + 1 + nodes a) (x .stack)) _ r k₂ λ y h₃ k₃.
+    on-need (eqb (x .type) (τ .left)) 12 n _ r k₃ λ h₄ k₄.
+    on-need (eqb (y .type) (τ .right)) 12 n _ r k₄ λ h₅ k₅.
+    let (eτ, s₁, s₂) = subst (λ (q : TyRec). Agrees Θ q (tree Θ t)) (product-good (recAt Θ t) n τ h₁) (ok t) in
+    rw (← good-inj k₅) (pair-rule Θ st t (τ .left) (τ .right) a b x y eτ s₁ s₂ (eqb→eq _ _ h₄) (eqb→eq _ _ h₅) (derived Θ ok a (n + 1) st x h₂) (derived Θ ok b _ (x .stack) y h₃))
+derived Θ ok (proj a e) n st r h =
+    on-bind (walk Θ a (n + 1) st) _ r h λ x h₁ k₁.
+    on-bind (product (recAt Θ (x .type)) n) _ r k₁ λ τ h₂ k₂.
+    on-bind (walk Θ e (n + 1 + nodes a) (shared (τ .right) ∷ shared (τ .left) ∷ x .stack)) _ r k₂ λ y h₃ k₃.
+    let (eτ, s₁, s₂) = subst (λ (q : TyRec). Agrees Θ q (tree Θ (x .type))) (product-good (recAt Θ (x .type)) n τ h₂) (ok (x .type)) in
+    rw (← good-inj k₃) (proj-rule Θ st (τ .left) (τ .right) a e x y eτ s₁ s₂ (derived Θ ok a (n + 1) st x h₁) (derived Θ ok e _ _ y h₃))
+derived Θ ok (fix t e) n st r h =
+    on-need (sharable (tree Θ t)) 12 n _ r h λ h₁ k₁.
+    on-bind (walk Θ e (n + 1) (shared t ∷ st)) _ r k₁ λ q h₂ k₂.
+    on-need (eqb (q .type) t) 12 n _ r k₂ λ h₃ k₃.
+    rw (← good-inj k₃) (fix-rule Θ st t e q h₁ (eqb→eq _ _ h₃) (derived Θ ok e (n + 1) _ q h₂))
+derived Θ ok (con p t) n st r h =
+    on-need (ltb p (length parts)) 15 n _ r h λ h₁ k₁.
+    on-need (tyEq (tree Θ t) (partAt p .type)) 12 n _ r k₁ λ h₂ k₂.
+    rw (← good-inj k₂) (con-rule Θ st p t h₁ h₂)
+
+-- from the empty stack: a derivation in the empty context
+closed : {Θ : Table} {st : Stack} {Γ : Ctx} → Step Θ [] st Γ → Γ ≡ []
+closed step-end = refl
+
+pub sound : (Θ : Table) → Formed Θ → (e : Term) (r : Found) → walk Θ e 0 [] ≡ good r → Typed Θ [] e (tree Θ (r .type))
+sound Θ ok e r h =
+    let d = derived Θ ok e 0 [] r h in
+    rw (closed (d .step)) at (d .typed)
