@@ -3,6 +3,7 @@ pub mod Types
 pub mod Terms
 pub mod Read
 pub mod Write
+pub mod Laid
 pub mod Walk
 pub mod Rules
 pub mod Net

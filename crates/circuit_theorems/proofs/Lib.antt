@@ -1,7 +1,3 @@
-pub mod Tables
-pub mod Sound
-pub mod Complete
-pub mod Exact
 pub mod Drivers
 pub mod Rings
 pub mod Roots

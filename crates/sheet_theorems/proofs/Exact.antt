@@ -13,9 +13,9 @@ use Rattle.calculus.specs.Terms.{Term}
 use Rattle.calculus.specs.Read.{Sheet, Got, got, Kind, kindOf, byte, NodeKind, k11, k12, k13, k14, k15, k16, k17, k18, k19, k1A, nodeKind, nodeBody, nodeTyped, headAt, nodeAt, readTypes, readTerm, readSheet}
 use Rattle.calculus.specs.Walk.{Found, walk}
 use Rattle.calculus.specs.Rules.{Typed}
-use Rattle.theorems.proofs.Sound.{sound, step-end}
-use Rattle.theorems.proofs.Complete.{Sheetly, Ranged, complete}
-use Rattle.theorems.proofs.Tables.{table-read}
+use Rattle.sheet_theorems.proofs.Sound.{sound, step-end}
+use Rattle.sheet_theorems.proofs.Complete.{Sheetly, Ranged, complete}
+use Rattle.sheet_theorems.proofs.Tables.{table-read}
 
 head-typed : (more : ℕ) (s : List ℕ) (types at n : ℕ) (k : NodeKind) → headAt more s types at n ≡ good k → T (eqb (nodeTyped k) 0 || ltb (byte s (at + nodeTyped k)) types)
 unfolding headAt

@@ -12,8 +12,8 @@ use Rattle.calculus.specs.Terms.{partAt}
 use Rattle.calculus.specs.Net.{Terminal, inp, out, number, Interface, Element, point, part, Wire, Net}
 use Rattle.calculus.specs.Lean.{driver, isPin, pointCount, backIn, back, backs, lowest, root, kept, keep, toInputs, toElement, leanWires, leanPin, lean}
 use Rattle.calculus.specs.Record.{Stream, Bits, Law, All, Same, streams, Works, Joined, Possible, PinsShow, PartShows, Outside}
-use Rattle.theorems.proofs.Rings.{by-eqb, or-cases, or-left, or-right, root-back, stay, lowest-is}
-use Rattle.theorems.proofs.Roots.{driver-like, root-like}
+use Rattle.circuit_theorems.proofs.Rings.{by-eqb, or-cases, or-left, or-right, root-back, stay, lowest-is}
+use Rattle.circuit_theorems.proofs.Roots.{driver-like, root-like}
 
 -- ---- All
 

@@ -15,9 +15,9 @@ use Rattle.calculus.specs.Lean.{driver, isPin, backIn, back, root}
 use Rattle.calculus.specs.Rules.{Typed}
 use Rattle.calculus.specs.Record.{All}
 use Rattle.calculus.specs.Formed.{is, ins, made, targets, isOut, Tiled}
-use Rattle.theorems.proofs.Drivers.{turns-size, drivers}
-use Rattle.theorems.proofs.Rings.{by-eqb, or-cases, or-left, or-right, has, outs, moves-in}
-use Rattle.theorems.proofs.Same.{pointIn, partIn, within, hasTo, standIn, Clear, PinOk, Wired, root-stays, all-map, all-zip}
+use Rattle.circuit_theorems.proofs.Drivers.{turns-size, drivers}
+use Rattle.circuit_theorems.proofs.Rings.{by-eqb, or-cases, or-left, or-right, has, outs, moves-in}
+use Rattle.circuit_theorems.proofs.Same.{pointIn, partIn, within, hasTo, standIn, Clear, PinOk, Wired, root-stays, all-map, all-zip}
 
 -- ---- the elements take the terminals from n up to e, without gap
 

@@ -14,8 +14,8 @@ use Rattle.calculus.specs.Answer.{Answer, good, refused, _>>=_, need}
 use Rattle.calculus.proofs.Answers.{refused≢good, good-inj, on-bind, on-need}
 use Rattle.calculus.specs.Types.{Ty, bit, prod, arrow, lolli, size, sharable, isArrow, TyRec, rec01, rec02, rec03, rec04, recEq, Table, recAt, tyOf, tysFrom, tree}
 use Rattle.calculus.specs.Read.{Kind, unknown, type, node, kindOf, byte, TypeKind, typeBody, typeRec, known as knownb, formed, repeated, checkType, typeAt, readTypes}
-use Rattle.theorems.proofs.Sound.{Agrees, Formed}
-use Rattle.theorems.proofs.Complete.{known, Sheetly}
+use Rattle.sheet_theorems.proofs.Sound.{Agrees, Formed}
+use Rattle.sheet_theorems.proofs.Complete.{known, Sheetly}
 
 tys-snoc : (acc : List Ty) (Θ : Table) (r : TyRec) → tysFrom acc (Θ ++ r ∷ []) ≡ tysFrom acc Θ ++ tyOf (tysFrom acc Θ) r ∷ []
 tys-snoc acc [] r = refl

@@ -12,7 +12,7 @@ use Rattle.calculus.specs.Types.{Ty, bit, prod, arrow, lolli, sharable, isArrow
 use Rattle.calculus.specs.Terms.{Term, var, lvar, fun, app, lfun, lapp, pair, proj, fix, con, nodes, parts, partAt}
 use Rattle.calculus.specs.Walk.{Binder, shared, linear, Stack, Sides, sides, product, sharableArrow, linearArrow, Found, found, under, useShared, useLinear, pop, topUsed, walk}
 use Rattle.calculus.specs.Rules.{Entry, many, once, away, Ctx, NoLinear, none-end, none-many, none-away, InΓ, in-here, in-many, in-away, IsΔ, is-here, is-many, is-away, Split, split-end, split-many, split-first, split-second, split-away, Typed, Var, LVar, →I, →E, ⊸I, ⊸E, ×I, ×E, Fix, Con}
-use Rattle.theorems.proofs.Sound.{Agrees, Formed, Step, step-end, step-shared, step-same, step-took}
+use Rattle.sheet_theorems.proofs.Sound.{Agrees, Formed, Step, step-end, step-shared, step-same, step-took}
 
 and-of : (a b : Bool) → T a → T b → T (a && b)
 and-of true b p q = q

@@ -15,11 +15,11 @@ use Rattle.calculus.specs.Net.{Net, make, netOf}
 use Rattle.calculus.specs.Lean.{lean}
 use Rattle.calculus.specs.Record.{Bits, Law, Outside}
 use Rattle.calculus.specs.Translate.{full}
-use Rattle.theorems.proofs.Sound.{sound}
-use Rattle.theorems.proofs.Complete.{Sheetly}
-use Rattle.theorems.proofs.Tables.{table-read}
-use Rattle.theorems.proofs.Same.{Wired, same-records}
-use Rattle.theorems.proofs.Wiring.{wired}
+use Rattle.sheet_theorems.proofs.Sound.{sound}
+use Rattle.sheet_theorems.proofs.Complete.{Sheetly}
+use Rattle.sheet_theorems.proofs.Tables.{table-read}
+use Rattle.circuit_theorems.proofs.Same.{Wired, same-records}
+use Rattle.circuit_theorems.proofs.Wiring.{wired}
 
 sheet-table : (s : List ℕ) (σ : Sheet) → readSheet s ≡ good σ → Sheetly (σ .table)
 unfolding readSheet

@@ -1,0 +1,4 @@
+pub mod Tests
+pub mod Below
+pub mod Regions
+pub mod Runs

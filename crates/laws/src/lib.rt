@@ -1,0 +1,1 @@
+// The laws stand in proofs/; there is no code here.
