@@ -1,0 +1,26 @@
+-- Laws of `zeroed`: the first numbers 0, the later ones as they were. Assumes nothing.
+use borrow.Author.Fill.{fill-none, fill-more}
+use mathlib.Core.Path.{_≡_, refl, ap, sym, _∙_}
+use mathlib.Core.List.{List, _++_}
+use Prim.Native.Nat.{ℕ, _+_, _-_, _≤_, _<_}
+use native.Mathlib.Omega.{arith}
+use lib.ListN.{length, set, drop, replicate, length-append, length-replicate, length-drop}
+use lib.Seq.{drop-at}
+use Rattle.calculus.specs.Translate.{zeroed}
+
+pub zeroed-none : (w : List ℕ) → w ≡ zeroed 0 w
+unfolding zeroed
+zeroed-none w = fill-none w 0
+
+pub zeroed-more : (n : ℕ) (w : List ℕ) → n < length w → set (zeroed n w) n 0 ≡ zeroed (n + 1) w
+unfolding zeroed
+zeroed-more n w h = fill-more n 0 w h
+
+pub zeroed-length : (n : ℕ) (w : List ℕ) → n ≤ length w → length (zeroed n w) ≡ length w
+unfolding zeroed
+zeroed-length n w h = rw (length-append, length-replicate, length-drop) (omega arith)
+
+-- what a caller changed before n does not matter
+pub zeroed-same : (n : ℕ) (v w : List ℕ) → drop n v ≡ drop n w → zeroed n v ≡ zeroed n w
+unfolding zeroed
+zeroed-same n v w e = ap (λ (x : List ℕ). replicate n 0 ++ x) e
