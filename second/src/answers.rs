@@ -98,9 +98,7 @@ pub fn cover(kind: Kind, cases: &[Case]) -> String {
                 Kind::Reading => read(&case.sheet).err(),
                 Kind::Typing => read(&case.sheet).and_then(|sheet| check(&sheet)).err(),
                 Kind::Making => netlist(&case.sheet, false).err(),
-                Kind::Whole => {
-                    crate::translate(&case.sheet, lean, case.room, case.memory).err()
-                }
+                Kind::Whole => crate::translate(&case.sheet, lean, case.room, case.memory).err(),
             }
             .map_or(0, |refusal| refusal.number);
             *outcomes.entry((lean, number)).or_default() += 1;

@@ -2,7 +2,7 @@
 //! A case is room, memory, sheet length (two bytes each, low byte first) and the sheet.
 
 use crate::check::check;
-use crate::damage::{damage, mistype, noise};
+use crate::damage::{damage, disorder, mistype, noise};
 use crate::edges_reading::Edge;
 use crate::grow::{grow, Wish};
 use crate::netlist::length;
@@ -10,7 +10,8 @@ use crate::random::Random;
 use crate::read::read;
 use crate::sheet::MEMORY;
 use crate::translate::netlist;
-use crate::write::Bytes;
+use crate::wide::terminals_and;
+use crate::write::{hex, Bytes};
 use crate::{edges_making, edges_reading, edges_typing};
 
 /// The room that always does.
@@ -72,7 +73,8 @@ pub fn unpack(bytes: &[u8]) -> Result<Vec<Case>, String> {
     let cut = |at: usize| format!("the packed corpus is cut short at byte {at}");
     while at < bytes.len() {
         let header = bytes.get(at..at + HEADER).ok_or_else(|| cut(at))?;
-        let number = |index: usize| usize::from(u16::from_le_bytes([header[index], header[index + 1]]));
+        let number =
+            |index: usize| usize::from(u16::from_le_bytes([header[index], header[index + 1]]));
         let start = at + HEADER;
         let sheet = bytes.get(start..start + number(4)).ok_or_else(|| cut(at))?;
         cases.push(Case { room: number(0), memory: number(2), sheet: sheet.to_vec() });
@@ -101,11 +103,30 @@ pub fn named(kind: Kind) -> Vec<Case> {
             for edge in edges_making::edges() {
                 cases.extend(calls(&edge.sheet));
             }
+            cases.extend(first_things_first());
             cases.extend(sheets(edges_typing::edges()));
             cases.extend(sheets(edges_reading::edges()));
             cases
         }
     }
+}
+
+/// The order 1; 2; records; 9; walk; 16; 17, where two of them apply.
+fn first_things_first() -> Vec<Case> {
+    let case = |room: usize, memory: usize, sheet: Bytes| Case { room, memory, sheet };
+    let mut cases = vec![
+        case(0, MEMORY - 1, vec![0x14; 16_385]),
+        case(0, MEMORY, vec![0x14; 16_385]),
+        case(0, MEMORY, terminals_and(1)),
+        case(ROOM, MEMORY - 1, terminals_and(1)),
+        case(1, MEMORY / 2, terminals_and(0)),
+        case(ROOM, 1, hex("01 1A 00 00")),
+    ];
+    for edge in edges_making::known() {
+        cases.push(case(0, MEMORY, edge.sheet.clone()));
+        cases.push(case(ROOM, MEMORY + 1, edge.sheet));
+    }
+    cases
 }
 
 /// A sheet with the rooms and memories at which its answer changes.
@@ -130,7 +151,10 @@ fn calls(sheet: &[u8]) -> Vec<Case> {
         if let Ok(netlist) = netlist(sheet, lean) {
             let needed = length(&netlist);
             for room in [needed, needed - 1, needed + 1] {
-                cases.push(case(room, MEMORY));
+                let call = case(room, MEMORY);
+                if !cases.contains(&call) {
+                    cases.push(call);
+                }
             }
         }
     }
@@ -156,6 +180,12 @@ pub fn pack(kind: Kind, seed: u64, count: usize, limit: usize) -> (Vec<Case>, us
     while cases.len() < count {
         let rest = count - cases.len();
         let most = (limit.saturating_sub(spent)) / rest;
+        if rest.is_multiple_of(400) && most > 80 && spent + 5_000 + 60 * rest < limit {
+            let case = Case::plain(some_large(kind, &mut random));
+            spent += case.packed_length();
+            cases.push(case);
+            continue;
+        }
         let Some(case) = generated(kind, &mut random, cases.len(), most) else { break };
         spent += case.packed_length();
         cases.push(case);
@@ -167,6 +197,7 @@ pub fn pack(kind: Kind, seed: u64, count: usize, limit: usize) -> (Vec<Case>, us
 fn generated(kind: Kind, random: &mut Random, index: usize, most: usize) -> Option<Case> {
     for _ in 0..200 {
         let large = if random.once_in(16) { 4 } else { 1 };
+        let good = if most > 100 && random.once_in(2) { grown_middle } else { grown };
         let sheet = match kind {
             Kind::Reading => match index % 4 {
                 0 | 1 => damaged(random),
@@ -174,15 +205,15 @@ fn generated(kind: Kind, random: &mut Random, index: usize, most: usize) -> Opti
                     let length = random.within(0, 40);
                     noise(random, length)
                 }
-                _ => grown(random),
+                _ => good(random),
             },
-            Kind::Typing if index % 2 == 0 => grown(random),
+            Kind::Typing if index.is_multiple_of(2) => good(random),
             Kind::Typing => faulty(random, 10 + index / 2 % 6),
-            Kind::Making => grown(random),
+            Kind::Making => good(random),
             Kind::Whole => match index % 8 {
                 0 => damaged(random),
                 1 => faulty(random, 10 + index / 8 % 6),
-                _ => grown(random),
+                _ => good(random),
             },
         };
         let mut case = Case::plain(sheet);
@@ -190,7 +221,9 @@ fn generated(kind: Kind, random: &mut Random, index: usize, most: usize) -> Opti
             continue;
         }
         if kind == Kind::Whole && !random.once_in(3) {
-            case = random.pick(&calls(&case.sheet)).clone();
+            let mut calls = calls(&case.sheet);
+            calls.retain(|call| call.memory >= MEMORY || index.is_multiple_of(4));
+            case = random.pick(&calls).clone();
             if random.once_in(4) {
                 case.room = random.below(case.room + 1);
             }
@@ -212,6 +245,33 @@ pub fn grown(random: &mut Random) -> Bytes {
     grow(random, wish)
 }
 
+/// A well-typed sheet of some hundred bytes.
+fn grown_middle(random: &mut Random) -> Bytes {
+    let wish = Wish {
+        nodes: random.within(20, 60),
+        size: random.within(3, 16),
+        depth: random.within(8, 30),
+        unused: random.below(4),
+    };
+    grow(random, wish)
+}
+
+/// A large sheet that suits the kind: with a fault, or accepted.
+fn some_large(kind: Kind, random: &mut Random) -> Bytes {
+    loop {
+        let sheet = grown_large(random);
+        let sheet = match kind {
+            Kind::Reading => damage(random, &sheet),
+            Kind::Typing if read(&sheet).is_ok() => mistype(random, &sheet),
+            _ => sheet,
+        };
+        let suits = kind == Kind::Reading || netlist(&sheet, false).is_ok();
+        if sheet.len() < 5_000 && (suits || kind == Kind::Typing) {
+            return sheet;
+        }
+    }
+}
+
 /// A large well-typed sheet.
 pub fn grown_large(random: &mut Random) -> Bytes {
     let wish = Wish {
@@ -225,14 +285,21 @@ pub fn grown_large(random: &mut Random) -> Bytes {
 
 pub fn damaged(random: &mut Random) -> Bytes {
     let sheet = grown(random);
-    damage(random, &sheet)
+    if random.once_in(2) && read(&sheet).is_ok() {
+        disorder(random, &sheet)
+    } else {
+        damage(random, &sheet)
+    }
 }
 
 /// A readable sheet with the wanted fault of typing, as far as a few tries find it.
 pub fn faulty(random: &mut Random, wanted: usize) -> Bytes {
     let mut last = Bytes::new();
-    for _ in 0..60 {
+    for _ in 0..200 {
         let mut sheet = grown(random);
+        if matches!(wanted, 13 | 14) && !sheet.contains(&0x15) {
+            continue;
+        }
         for _ in 0..4 {
             if read(&sheet).is_err() {
                 break;

@@ -34,6 +34,51 @@ pub fn damage(random: &mut Random, sheet: &[u8]) -> Bytes {
     bytes
 }
 
+/// Change, copy or add whole records of a readable sheet: types repeated, ill-formed, out of order
+/// or too large, terms too deep or left unfinished.
+pub fn disorder(random: &mut Random, sheet: &[u8]) -> Bytes {
+    let (types, nodes) = records(sheet);
+    let term = nodes[0];
+    let at = *random.pick(&types);
+    let record = &sheet[at..at + 1 + type_body(sheet[at]).expect("a type")];
+    let mut bytes = sheet.to_vec();
+    match random.below(8) {
+        0 => {
+            bytes.splice(term..term, record.iter().copied());
+        }
+        1 if record.len() == 3 => bytes[at] = *random.pick(&[0x02, 0x03, 0x04]),
+        2 if record.len() == 3 => {
+            let number = random.below(types.len() + 1) as u8;
+            bytes[at + random.within(1, 2)] = number;
+        }
+        3 => {
+            let forms = [random.within(2, 4) as u8, random.below(types.len()) as u8];
+            let right = random.below(types.len()) as u8;
+            bytes.splice(term..term, [forms[0], forms[1], right]);
+        }
+        4 => {
+            // each new product is twice as large as the one before
+            let doubled = (0..random.within(5, 9)).map(|step| match step {
+                0 => [0x02, 0, 0],
+                _ => [0x02, (types.len() + step - 1) as u8, (types.len() + step - 1) as u8],
+            });
+            let doubled: Bytes = doubled.flatten().collect();
+            bytes.splice(term..term, doubled);
+        }
+        5 => {
+            let record = *random.pick(&[&[0x19u8, 0x00] as &[u8], &[0x14], &[0x18, 0x11, 0x00]]);
+            let wrapped = record.repeat(random.within(50, 66));
+            bytes.splice(term..term, wrapped);
+        }
+        6 => {
+            let from = *random.pick(&nodes);
+            bytes.extend_from_slice(&sheet[from..]);
+        }
+        _ => bytes.truncate(*random.pick(&nodes)),
+    }
+    bytes
+}
+
 /// Bytes of no meaning, or of record kinds and small numbers only.
 pub fn noise(random: &mut Random, length: usize) -> Bytes {
     let wild = random.once_in(3);

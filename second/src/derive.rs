@@ -148,7 +148,7 @@ fn constant(part: u8) -> Option<Shape> {
     match part {
         0 | 6 => Some(Shape::One),
         1 | 5 => Some(reg()),
-        2 | 3 | 4 => Some(Shape::To(one(), Rc::new(reg()))),
+        2..=4 => Some(Shape::To(one(), Rc::new(reg()))),
         _ => None,
     }
 }

@@ -88,18 +88,19 @@ fn higher_order(add: &mut impl FnMut(&str, Bytes)) {
     let use_two = types.lolli(use_one, bit);
     let use_three = types.lolli(use_two, bit);
     let zero = constant(0, bit);
-    // f: (1 -> 1) -o 1, given a part, a function of its own, and the part applied once
-    add("f given inv", types.sheet(&linear_function(use_two, &linear_apply(&linear_variable(0), &constant(5, reg)))));
+    // f: (1 -> 1) -o 1, given a part, a function of its own, and a gate applied once
+    let given =
+        |argument: &[u8]| linear_function(use_two, &linear_apply(&linear_variable(0), argument));
+    add("f given inv", types.sheet(&given(&constant(5, reg))));
     let inner = function(reg, &apply(&constant(1, reg), &variable(0)));
-    add("f given a function", types.sheet(&linear_function(use_two, &linear_apply(&linear_variable(0), &inner))));
-    let half = apply(&constant(4, gate), &zero);
-    add("f given half a gate", types.sheet(&linear_function(use_two, &linear_apply(&linear_variable(0), &half))));
+    add("f given a function", types.sheet(&given(&inner)));
+    add("f given half a gate", types.sheet(&given(&apply(&constant(4, gate), &zero))));
     // g: ((1 -> 1) -o 1) -o 1 given the function that feeds its own variable a bit
     let feeder = linear_function(use_one, &apply(&linear_variable(0), &zero));
     let third = linear_function(use_three, &linear_apply(&linear_variable(0), &feeder));
     add("g given a feeder", types.sheet(&third));
-    let second = linear_function(use_two, &linear_apply(&linear_variable(0), &constant(5, reg)));
-    add("g given a feeder, closed", types.sheet(&linear_apply(&third, &second)));
+    let closed = linear_apply(&third, &given(&constant(5, reg)));
+    add("g given a feeder, closed", types.sheet(&closed));
     // a projection inside an argument, its halves crossed, and linear use inside the pair
     let two = types.product(bit, bit);
     let swap = types.to(two, two);
@@ -109,7 +110,8 @@ fn higher_order(add: &mut impl FnMut(&str, Bytes)) {
     add("a pair swapped", types.sheet(&linear_function(crossed, &apply(&swapped, &both))));
     let argument = project(&pair(two, &zero, &constant(6, bit)), &variable(1));
     add("a projection as argument", types.sheet(&apply(&constant(5, reg), &argument)));
-    add("fix through f", types.sheet(&linear_function(use_one, &fix(bit, &apply(&linear_variable(1), &variable(0))))));
+    let through = fix(bit, &apply(&linear_variable(1), &variable(0)));
+    add("fix through f", types.sheet(&linear_function(use_one, &through)));
     // nested products, projected twice, halves sent back round
     let four = types.product(two, two);
     let body = project(
@@ -117,10 +119,12 @@ fn higher_order(add: &mut impl FnMut(&str, Bytes)) {
         &project(&variable(1), &pair(four, &pair(two, &variable(0), &variable(1)), &variable(2))),
     );
     add("nested products in a ring", types.sheet(&fix(four, &body)));
-    let dropped = types.to(bit, bit);
-    add("a function that drops its bit", types.sheet(&apply(&function(dropped, &zero), &constant(6, bit))));
-    add("a ring that nobody reads", types.sheet(&apply(&function(dropped, &zero), &fix(bit, &variable(0)))));
-    add("a ring read twice", types.sheet(&project(&fix(two, &variable(0)), &pair(two, &variable(1), &variable(1)))));
+    let dropping = function(reg, &zero);
+    add("a function that drops its bit", types.sheet(&apply(&dropping, &constant(6, bit))));
+    let lone = fix(bit, &variable(0));
+    add("a ring that nobody reads", types.sheet(&apply(&dropping, &lone)));
+    let twice = project(&fix(two, &variable(0)), &pair(two, &variable(1), &variable(1)));
+    add("a ring read twice", types.sheet(&twice));
 }
 
 fn large() -> Vec<Edge> {

@@ -17,6 +17,7 @@ impl Edge {
 }
 
 /// Hex, refusal, place.
+#[rustfmt::skip]
 const SMALL: &[(&str, usize, usize)] = &[
     // 3: a record was due
     ("", 3, 0), ("01", 3, 1), ("01 02 00 00", 3, 4), ("14", 3, 1), ("14 11 00", 3, 3),
@@ -101,7 +102,11 @@ fn many_types(edges: &mut Vec<Edge>) {
     edges.push(Edge::new("256 types, accepted", joined(&types, "1A 00 00"), None));
     let fewer = table(255).sheet(&[]);
     edges.push(Edge::new("255 types, accepted", joined(&fewer, "1A 06 00"), None));
-    edges.push(Edge::new("255 types, 255 named", joined(&fewer, "1A 06 FF"), Some((5, fewer.len()))));
+    edges.push(Edge::new(
+        "255 types, 255 named",
+        joined(&fewer, "1A 06 FF"),
+        Some((5, fewer.len())),
+    ));
 }
 
 fn large_types(edges: &mut Vec<Edge>) {

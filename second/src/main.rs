@@ -78,8 +78,9 @@ fn hex() -> Result<(), String> {
     for line in text.lines() {
         let line = line.split('#').next().unwrap_or("");
         for word in line.split_whitespace() {
-            let byte = u8::from_str_radix(word, 16).map_err(|_| format!("{word} is no hex byte"))?;
-            bytes.push(byte);
+            let digits = word.bytes().all(|digit| digit.is_ascii_hexdigit());
+            let byte = u8::from_str_radix(word, 16).ok().filter(|_| digits);
+            bytes.push(byte.ok_or_else(|| format!("{word} is no hex byte"))?);
         }
     }
     write_out(&bytes)

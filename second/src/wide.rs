@@ -105,11 +105,8 @@ pub fn ring(bits: usize, level: usize) -> (Types, Bytes) {
     let mut types = Types::new();
     let bound = types.bits(bits);
     let turned = odometer(&mut types, bits, 0);
-    let relayed = if level == 0 {
-        turned
-    } else {
-        apply(&relay(&mut types, bound, level), &turned)
-    };
+    let relayed =
+        if level == 0 { turned } else { apply(&relay(&mut types, bound, level), &turned) };
     let term = fix(bound, &relayed);
     (types, term)
 }
@@ -157,9 +154,8 @@ pub fn deep_type() -> Bytes {
     let sizes = [127, 82, 32];
     let given = [45, 50, 31];
     let zero = constant(0, bit);
-    let spent = |count: usize| {
-        (0..count).fold(linear_variable(0), |function, _| apply(&function, &zero))
-    };
+    let spent =
+        |count: usize| (0..count).fold(linear_variable(0), |function, _| apply(&function, &zero));
     let mut term = spent(given[2]);
     for stage in [2, 1] {
         let bound = types.arrows(sizes[stage]);

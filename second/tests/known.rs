@@ -103,7 +103,8 @@ fn the_edges_of_room_and_memory() {
 fn lent_storage_is_left_as_the_text_says() {
     let lent = |sheet: &str, lean: bool, room: usize, memory: usize| {
         let (mut output, mut numbers) = (vec![7u8; room], vec![9u16; memory]);
-        let result = second::translate::translate_into(&hex(sheet), lean, &mut output, &mut numbers);
+        let result =
+            second::translate::translate_into(&hex(sheet), lean, &mut output, &mut numbers);
         (result, output, numbers)
     };
     let (result, output, numbers) = lent("01 1A 00 00", false, 9, 32_770);

@@ -10,7 +10,13 @@ pub fn written(text: &str) -> Vec<u8> {
         let low_first: Vec<[u8; 2]> = numbers.map(|n| [(n % 256) as u8, (n / 256) as u8]).collect();
         match word {
             "point" | "points" => low_first.iter().for_each(|n| bytes.extend([0x21, n[0], n[1]])),
-            "wire" => bytes.extend([0x23, low_first[0][0], low_first[0][1], low_first[1][0], low_first[1][1]]),
+            "wire" => bytes.extend([
+                0x23,
+                low_first[0][0],
+                low_first[0][1],
+                low_first[1][0],
+                low_first[1][1],
+            ]),
             "pin" | "pins" => low_first.iter().for_each(|n| bytes.extend([0x24, n[0], n[1]])),
             part => {
                 let number = NAMES.iter().position(|name| *name == part).expect("a part");
