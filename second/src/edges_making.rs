@@ -146,6 +146,10 @@ fn large() -> Vec<Edge> {
     ] {
         add(name, types.sheet(&term));
     }
+    for terminals in [7_941, 8_189, 8_190, 8_191, 8_192, 8_193, 8_194] {
+        let refused = (terminals > 8_192).then_some((16, 0));
+        edges.push(Edge::new(&format!("{terminals} terminals"), crowd(terminals), refused));
+    }
     for more in [1, 2] {
         edges.push(Edge::new("over 8,192 terminals", terminals_and(more), Some((16, 0))));
     }

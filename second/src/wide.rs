@@ -202,3 +202,26 @@ pub fn terminals_and(more: usize) -> Bytes {
     });
     types.sheet(&term.1)
 }
+
+/// A sheet of just so many terminals, from 7,941 to 8,194: 31 fixed points of 128 bits around each
+/// other, one of the two or more bits that are left over, and one part or two, which are its pins.
+pub fn crowd(terminals: usize) -> Bytes {
+    let (mut types, fixes) = nested_fixes(7, 31);
+    let bit = types.bit();
+    let rest = terminals - 31 * 256;
+    let parts = 2 - rest % 2;
+    let points = (rest - parts) / 2;
+    // the product of as many single bits as points are wanted, by halves
+    let mut bound = None;
+    for level in (0..=7).rev().filter(|level| points >> level & 1 == 1) {
+        let bits = types.bits(level);
+        bound = Some(bound.map_or(bits, |sum| types.product(sum, bits)));
+    }
+    let bound = bound.expect("some points are wanted");
+    let two = types.product(bit, bit);
+    let shown = match parts {
+        1 => constant(0, bit),
+        _ => pair(two, &constant(6, bit), &constant(0, bit)),
+    };
+    types.sheet(&project(&fixes, &project(&fix(bound, &variable(0)), &shown)))
+}
