@@ -1,4 +1,3 @@
 pub mod Tables
 pub mod Sound
 pub mod Complete
-pub mod Exact
