@@ -1,0 +1,21 @@
+-- Bytes in front of a list, one after the other. Assumes nothing.
+use Prim.Native.Nat.{ℕ, zero, suc, _+_, _≤_, _<_}
+use mathlib.Core.Path.{_≡_, refl, sym, ap, subst, _∙_}
+use mathlib.Core.List.{List, [], _∷_, _++_, append-assoc, append-nil}
+use native.Mathlib.Omega.{arith}
+use native.Mathlib.Numerals.{add-one}
+use lib.ListN.{length, drop, getD, length-append, length-drop}
+use lib.Seq.{drop-cons, drop-drop, getD-drop, drop-append-seam, getD-append-add}
+use Rattle.calculus.specs.Types.{TyRec, rec01, rec02, rec03, rec04, Table}
+use Rattle.calculus.specs.Read.{byte}
+use Rattle.calculus.specs.Write.{recBytes, tableBytes}
+
+-- the bytes from an offset on, the first of which is known, up to the next offset
+pub front-one : (s : List ℕ) (at n : ℕ) {b : ℕ} → byte s at ≡ b → n ≡ at + 1 → n ≤ length s → drop at s ≡ b ∷ drop n s
+front-one s at n k e h = rw (← k, e, add-one) (drop-cons s at 0 (omega arith))
+
+pub front-two : (s : List ℕ) (at n : ℕ) {b : ℕ} → byte s at ≡ b → n ≡ at + 2 → n ≤ length s → drop at s ≡ b ∷ byte s (at + 1) ∷ drop n s
+front-two s at n {b} k e h = front-one s at (at + 1) k refl (omega arith) ∙ ap (λ (l : List ℕ). b ∷ l) (front-one s (at + 1) n refl (omega arith) h)
+
+pub front-three : (s : List ℕ) (at n : ℕ) {b : ℕ} → byte s at ≡ b → n ≡ at + 3 → n ≤ length s → drop at s ≡ b ∷ byte s (at + 1) ∷ byte s (at + 2) ∷ drop n s
+front-three s at n {b} k e h = front-two s at (at + 2) k refl (omega arith) ∙ ap (λ (l : List ℕ). b ∷ byte s (at + 1) ∷ l) (front-one s (at + 2) n refl (omega arith) h)
