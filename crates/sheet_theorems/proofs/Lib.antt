@@ -4,6 +4,7 @@ pub mod Tables
 pub mod Laying
 pub mod Standing
 pub mod TypeOffsets
+pub mod SheetRead
 pub mod Sound
 pub mod Complete
 pub mod Exact
