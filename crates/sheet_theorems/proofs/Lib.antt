@@ -4,6 +4,8 @@ pub mod Tables
 pub mod Laying
 pub mod Standing
 pub mod TypeOffsets
+pub mod Going
+pub mod TableRead
 pub mod SheetRead
 pub mod Sound
 pub mod Complete

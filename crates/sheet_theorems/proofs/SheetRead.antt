@@ -15,17 +15,8 @@ use Rattle.calculus.specs.Terms.{Term, var, lvar, fun, app, lfun, lapp, pair, p
 use Rattle.calculus.specs.Read.{Kind, unknown, type, node, TypeKind, k01, k02, k03, k04, NodeKind, k11, k12, k13, k14, k15, k16, k17, k18, k19, k1A, kindOf, byte, typeBody, typeRec, checkType, typeAt, readTypes, Got, got, nodeBody, nodeTyped, nodeKind, headAt, nodeAt, readTerm, Sheet, readSheet}
 use Rattle.calculus.specs.Write.{recBytes, tableBytes, termBytes, sheetBytes}
 use Rattle.calculus.specs.Laid.{TableOk, Stands, depth, Ranged, Laid}
+use Rattle.sheet_theorems.proofs.Going.{passes, goes}
 use Rattle.sheet_theorems.proofs.Standing.{kindIn, stands-node, stands-end, stands-in, fun-type, fun-body, app-function, app-argument, lfun-type, lfun-body, lapp-function, lapp-argument, pair-type, pair-first, pair-second, proj-pair, proj-body, fix-type, fix-body, var-binder, lvar-binder, con-part, con-type}
-
--- ---- going on
-
-pub passes : {B : Type 0} {b : Answer B} (t : Bool) (n p : ℕ) (f : Unit {0} → Answer B) → T t → f tt ≡ b → (need t n p >>= f) ≡ b
-passes true n p f h e = e
-passes false n p f h e = absurd h
-
-pub goes : {A B : Type 0} {b : Answer B} (m : Answer A) (a : A) (f : A → Answer B) → m ≡ good a → f a ≡ b → (m >>= f) ≡ b
-goes (good x) a f h e = let z : x ≡ a = cc in rw z e
-goes (refused n p) a f h e = let z : refused n p ≡ good a = h in absurd (let z : _≡_ {A = ℕ} 0 1 = cc in omega arith)
 
 -- ---- the term
 

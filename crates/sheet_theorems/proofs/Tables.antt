@@ -17,7 +17,7 @@ use Rattle.calculus.specs.Read.{Kind, unknown, type, node, kindOf, byte, TypeKi
 use Rattle.calculus.specs.Laid.{Agrees, Below, TableOk}
 use Rattle.laws.proofs.Tests.{and-both, and-of, or-left, or-right}
 
-tys-snoc : (acc : List Ty) (Θ : Table) (r : TyRec) → tysFrom acc (Θ ++ r ∷ []) ≡ tysFrom acc Θ ++ tyOf (tysFrom acc Θ) r ∷ []
+pub tys-snoc : (acc : List Ty) (Θ : Table) (r : TyRec) → tysFrom acc (Θ ++ r ∷ []) ≡ tysFrom acc Θ ++ tyOf (tysFrom acc Θ) r ∷ []
 tys-snoc acc [] r = refl
 tys-snoc acc (q ∷ Θ) r = tys-snoc (acc ++ tyOf acc q ∷ []) Θ r
 
@@ -25,7 +25,7 @@ tys-length : (acc : List Ty) (Θ : Table) → length (tysFrom acc Θ) ≡ length
 tys-length acc [] = omega arith
 tys-length acc (q ∷ Θ) = omega (arith, tys-length (acc ++ tyOf acc q ∷ []) Θ, length-append acc (tyOf acc q ∷ []))
 
-tys-count : (Θ : Table) → length (tysFrom [] Θ) ≡ length Θ
+pub tys-count : (Θ : Table) → length (tysFrom [] Θ) ≡ length Θ
 tys-count Θ = omega (arith, tys-length [] Θ)
 
 seam : {A : Type 0} (l : List A) (x d : A) (n : ℕ) → length l ≡ n → getD (l ++ x ∷ []) n d ≡ x
@@ -41,7 +41,7 @@ module _ (Θ : Table) (r : TyRec) where
   tree-old : (n : ℕ) → n < length Θ → tree more n ≡ tree Θ n
   tree-old n h = rw (tys-snoc [] Θ r) (List·getD-append (tysFrom [] Θ) _ bit n (rw (tys-count Θ) h))
 
-  tree-new : tree more (length Θ) ≡ tyOf (tysFrom [] Θ) r
+  pub tree-new : tree more (length Θ) ≡ tyOf (tysFrom [] Θ) r
   tree-new = rw (tys-snoc [] Θ r) (seam (tysFrom [] Θ) (tyOf (tysFrom [] Θ) r) bit (length Θ) (tys-count Θ))
 
   rec-old : (n : ℕ) → n < length Θ → recAt more n ≡ recAt Θ n
