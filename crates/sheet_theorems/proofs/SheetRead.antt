@@ -16,6 +16,8 @@ use Rattle.calculus.specs.Read.{Kind, unknown, type, node, TypeKind, k01, k02, 
 use Rattle.calculus.specs.Write.{recBytes, tableBytes, termBytes, sheetBytes}
 use Rattle.calculus.specs.Laid.{TableOk, Stands, depth, Ranged, Laid}
 use Rattle.sheet_theorems.proofs.Going.{passes, goes}
+use Rattle.sheet_theorems.proofs.Laying.{laid}
+use Rattle.sheet_theorems.proofs.TableRead.{types-read}
 use Rattle.sheet_theorems.proofs.Standing.{kindIn, stands-node, stands-end, stands-in, fun-type, fun-body, app-function, app-argument, lfun-type, lfun-body, lapp-function, lapp-argument, pair-type, pair-first, pair-second, proj-pair, proj-body, fix-type, fix-body, var-binder, lvar-binder, con-part, con-type}
 
 -- ---- the term
@@ -142,3 +144,69 @@ module _ (Θ : Table) (s : List ℕ) where
   term-read (suc more) e at n next count h r d few en ec =
       goes (headAt (suc more) s (length Θ) at n) (kindIn e) _ (head-read e more at n h r few)
       (node-read more (λ at n. readTerm more s (length Θ) at n) (term-read more) e at n next count h r d few en ec)
+
+-- ---- the sheet
+
+rec-short : (r : TyRec) → length (recBytes r) ≤ 3
+rec-short rec01 = omega arith
+rec-short (rec02 a b) = omega arith
+rec-short (rec03 a b) = omega arith
+rec-short (rec04 a b) = omega arith
+
+table-short : (Θ : Table) → length (tableBytes Θ) ≤ 3 * length Θ
+table-short [] = omega arith
+table-short (r ∷ Θ) = omega (arith, rec-short r, table-short Θ, length-append (recBytes r) (tableBytes Θ))
+
+pub term-short : (e : Term) → length (termBytes e) ≤ 3 * nodes e
+term-short (var i) = omega arith
+term-short (lvar i) = omega arith
+term-short (fun t e) = omega (arith, term-short e)
+term-short (app f a) = omega (arith, term-short f, term-short a, length-append (termBytes f) (termBytes a))
+term-short (lfun t e) = omega (arith, term-short e)
+term-short (lapp f a) = omega (arith, term-short f, term-short a, length-append (termBytes f) (termBytes a))
+term-short (pair t a b) = omega (arith, term-short a, term-short b, length-append (termBytes a) (termBytes b))
+term-short (proj a e) = omega (arith, term-short a, term-short e, length-append (termBytes a) (termBytes e))
+term-short (fix t e) = omega (arith, term-short e)
+term-short (con p t) = omega arith
+
+written-bytes : (Θ : Table) (e : Term) → sheetBytes Θ e ≡ tableBytes Θ ++ termBytes e
+unfolding sheetBytes
+written-bytes Θ e = refl
+
+written : (Θ : Table) (e : Term) → Stands (sheetBytes Θ e) (length (tableBytes Θ)) e
+unfolding sheetBytes
+written Θ e = record { rest = []; here = rw (append-nil (termBytes e)) (drop-append-seam (tableBytes Θ) (termBytes e)) }
+
+written-length : (Θ : Table) (e : Term) → length (tableBytes Θ) + length (termBytes e) ≡ length (sheetBytes Θ e)
+unfolding sheetBytes
+written-length Θ e = sym (length-append (tableBytes Θ) (termBytes e))
+
+-- 256 types and 2,048 nodes take at most 6,912 bytes, so no sheet within the other limits is too long
+pub sheet-short : (Θ : Table) (e : Term) → length Θ ≤ 256 → nodes e ≤ 2048 → length (sheetBytes Θ e) ≤ 6912
+unfolding sheetBytes
+sheet-short Θ e h k = omega (arith, table-short Θ, term-short e, length-append (tableBytes Θ) (termBytes e))
+
+pub sheet-read : (Θ : Table) (e : Term) → TableOk Θ → Ranged Θ e → depth e ≤ 64 → nodes e ≤ 2048 → readSheet (sheetBytes Θ e) ≡ good (record { table = Θ; term = e })
+unfolding readSheet
+sheet-read Θ e ok ranged deep few =
+    let s = sheetBytes Θ e in
+    let at = length (tableBytes Θ) in
+    let st : Stands s at e = written Θ e in
+    let end : at + length (termBytes e) ≡ length s = written-length Θ e in
+    passes (leb (length s) 16384) 2 0 _ (le→leb (length s) 16384 (omega (arith, sheet-short Θ e (ok .few) few)))
+    (goes (readTypes 256 s [] 0) (Θ, at) _ (types-read s Θ [] (termBytes e) 256 0 at (kindIn e) ok (ok .few) (written-bytes Θ e) (omega arith) (stands-node st))
+    (goes (readTerm 64 s (length Θ) at 0) _ _ (term-read Θ s 64 e at 0 (length s) (nodes e) st ranged deep (omega arith) (omega arith) (omega arith))
+    (passes (eqb (length s) (length s)) 9 (length s) _ (eqb-refl (length s)) refl)))
+
+-- what is read is what is written out, within the limits
+pub record Within (Θ : Table) (e : Term) : Type 0 where
+  pub table : TableOk Θ
+  pub ranged : Ranged Θ e
+  pub deep : depth e ≤ 64
+  pub few : nodes e ≤ 2048
+
+pub read-written : (s : List ℕ) (σ : Sheet) → (readSheet s ≡ good σ) ↔ ((s ≡ sheetBytes (σ .table) (σ .term)) × Within (σ .table) (σ .term))
+read-written s σ = (
+  (λ e. let l = laid s σ e in (l .bytes, record { table = l .table; ranged = l .ranged; deep = l .deep; few = l .few })),
+  (λ w. rw (w .0) (sheet-read (σ .table) (σ .term) (w .1 .table) (w .1 .ranged) (w .1 .deep) (w .1 .few))),
+)
