@@ -10,3 +10,4 @@ pub mod SheetRead
 pub mod Sound
 pub mod Complete
 pub mod Exact
+pub mod OneType
