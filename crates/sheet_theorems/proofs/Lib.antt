@@ -11,3 +11,4 @@ pub mod Sound
 pub mod Complete
 pub mod Exact
 pub mod OneType
+pub mod StretchHolds
