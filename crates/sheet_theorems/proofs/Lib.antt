@@ -12,3 +12,4 @@ pub mod Complete
 pub mod Exact
 pub mod OneType
 pub mod StretchHolds
+pub mod WalkKeeps

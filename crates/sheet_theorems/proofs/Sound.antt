@@ -16,19 +16,19 @@ use Rattle.calculus.specs.Rules.{Entry, many, once, away, Ctx, NoLinear, none-e
 
 -- ---- forms of types
 
-product-good : (q : TyRec) (n : ℕ) (s : Sides) → product q n ≡ good s → q ≡ rec02 (s .left) (s .right)
+pub product-good : (q : TyRec) (n : ℕ) (s : Sides) → product q n ≡ good s → q ≡ rec02 (s .left) (s .right)
 product-good rec01 n s e = absurd (refused≢good e)
 product-good (rec02 a b) n s e = ap (λ (s : Sides). rec02 (s .left) (s .right)) (good-inj e)
 product-good (rec03 a b) n s e = absurd (refused≢good e)
 product-good (rec04 a b) n s e = absurd (refused≢good e)
 
-sharable-good : (q : TyRec) (n : ℕ) (s : Sides) → sharableArrow q n ≡ good s → q ≡ rec03 (s .left) (s .right)
+pub sharable-good : (q : TyRec) (n : ℕ) (s : Sides) → sharableArrow q n ≡ good s → q ≡ rec03 (s .left) (s .right)
 sharable-good rec01 n s e = absurd (refused≢good e)
 sharable-good (rec02 a b) n s e = absurd (refused≢good e)
 sharable-good (rec03 a b) n s e = ap (λ (s : Sides). rec03 (s .left) (s .right)) (good-inj e)
 sharable-good (rec04 a b) n s e = absurd (refused≢good e)
 
-linear-good : (q : TyRec) (n : ℕ) (s : Sides) → linearArrow q n ≡ good s → q ≡ rec04 (s .left) (s .right)
+pub linear-good : (q : TyRec) (n : ℕ) (s : Sides) → linearArrow q n ≡ good s → q ≡ rec04 (s .left) (s .right)
 linear-good rec01 n s e = absurd (refused≢good e)
 linear-good (rec02 a b) n s e = absurd (refused≢good e)
 linear-good (rec03 a b) n s e = absurd (refused≢good e)
@@ -72,7 +72,7 @@ pub record Derived (Θ : Table) (st : Stack) (e : Term) (r : Found) : Type 0 whe
   pub typed : Typed Θ ctx e (tree Θ (r .type))
 
 -- an answer under one more binder
-under-good : (b : Binder) (m : Answer Found) (r : Found) → under b m ≡ good r → (q : Found) × (m ≡ good q) × (record { type = q .type; stack = b ∷ q .stack } ≡ r)
+pub under-good : (b : Binder) (m : Answer Found) (r : Found) → under b m ≡ good r → (q : Found) × (m ≡ good q) × (record { type = q .type; stack = b ∷ q .stack } ≡ r)
 under-good b (good q) r e = (q, refl, good-inj e)
 under-good b (refused n p) r e = absurd (refused≢good e)
 
