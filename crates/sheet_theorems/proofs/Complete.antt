@@ -90,7 +90,7 @@ numbers-step l (step-shared s) k = (k .0, numbers-step l s (k .1))
 numbers-step l (step-same s) k = (k .0, numbers-step l s (k .1))
 numbers-step l (step-took s) k = (k .0, numbers-step l s (k .1))
 
-tyEq-refl : (τ : Ty) → T (tyEq τ τ)
+pub tyEq-refl : (τ : Ty) → T (tyEq τ τ)
 tyEq-refl bit = tt
 tyEq-refl (prod a b) = and-of (tyEq a a) (tyEq b b) (tyEq-refl a) (tyEq-refl b)
 tyEq-refl (arrow a b) = and-of (tyEq a a) (tyEq b b) (tyEq-refl a) (tyEq-refl b)

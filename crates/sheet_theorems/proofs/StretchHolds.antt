@@ -1,9 +1,11 @@
 -- The stretch of a node holds the bytes of the node's subterm, and is empty where there is no such node. Assumes nothing.
 use Prim.Native.Nat.{ℕ, zero, suc, _+_, _≤_, _<_}
 use mathlib.Core.Path.{_≡_, refl, sym, ap, subst, _∙_}
+use mathlib.Core.Logic.{_↔_}
 use mathlib.Core.List.{List, [], _∷_, _++_}
 use native.Mathlib.Omega.{arith}
 use native.Mathlib.Nat.{not-suc-le-zero, le-of-suc-le-suc}
+use native.Mathlib.Decide.{decLt}
 use lib.ListN.{length, getD, take, drop, length-append, List·getD-eq-default}
 use lib.Seq.{take-append-seam}
 use Rattle.calculus.specs.Answer.{Answer, good, refused}
@@ -145,3 +147,14 @@ stretch-past s σ k e h =
 pub stretch-refused : (s : List ℕ) (number place k : ℕ) → readSheet s ≡ refused number place → stretchOf s k ≡ nowhere
 unfolding stretchOf
 stretch-refused s number place k e = rw e
+
+-- empty exactly where refusals 2 to 9 apply or the number is too large
+pub stretch-empty : (s : List ℕ) (k : ℕ) → (stretchOf s k .size ≡ 0) ↔ ((σ : Sheet) → readSheet s ≡ good σ → nodes (σ .term) ≤ k)
+stretch-empty s k = (
+  (λ z σ e. elim (decLt k (nodes (σ .term))) [ yes h ↦ absurd (let p = stretch-holds s σ k e h .nonempty in omega arith) | no h ↦ omega arith ]),
+  (λ f. none (readSheet s) refl f),
+)
+  where
+    none : (a : Answer Sheet) → readSheet s ≡ a → ((σ : Sheet) → readSheet s ≡ good σ → nodes (σ .term) ≤ k) → stretchOf s k .size ≡ 0
+    none (good σ) e f = ap (λ (p : Stretch). p .size) (stretch-past s σ k e (f σ e))
+    none (refused number place) e f = ap (λ (p : Stretch). p .size) (stretch-refused s number place k e)
