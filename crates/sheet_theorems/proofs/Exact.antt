@@ -15,6 +15,7 @@ use Rattle.calculus.specs.Walk.{Found, walk}
 use Rattle.calculus.specs.Rules.{Typed}
 use Rattle.sheet_theorems.proofs.Laying.{laid}
 use Rattle.sheet_theorems.proofs.Sound.{sound, step-end, tyEq→eq}
+use Rattle.sheet_theorems.proofs.OneType.{one-type}
 use Rattle.sheet_theorems.proofs.Complete.{complete, tyEq-refl}
 
 -- the walk accepts exactly the terms that have a derivation from empty contexts
@@ -25,6 +26,10 @@ exact s σ e =
       (λ a. (tree (σ .table) (a .0 .type), sound (σ .table) (l .table) (σ .term) (a .0) (a .1))),
       (λ a. let c = complete (σ .table) (l .table) (a .1) (l .ranged) 0 step-end tt in (record { type = c .type; stack = [] }, c .answer)),
     )
+
+-- and the type that the walk finds is the derivation's
+pub exact-type : (s : List ℕ) (σ : Sheet) (r : Found) (τ : Ty) → readSheet s ≡ good σ → walk (σ .table) (σ .term) 0 [] ≡ good r → Typed (σ .table) [] (σ .term) τ → tree (σ .table) (r .type) ≡ τ
+exact-type s σ r τ e h d = one-type (sound (σ .table) (laid s σ e .table) (σ .term) r h) d
 
 -- document 01 compares types and the walk compares type numbers: in a table that the reader accepts it is the same
 pub type-numbers : (Θ : Table) → TableOk Θ → (a b : ℕ) → a < length Θ → b < length Θ → (a ≡ b) ↔ (tree Θ a ≡ tree Θ b)

@@ -61,3 +61,15 @@ node-kind k17 = refl
 node-kind k18 = refl
 node-kind k19 = refl
 node-kind k1A = refl
+
+pub node-range : (k : NodeKind) → (0x11 ≤ nodeByte k) × (nodeByte k ≤ 0x1A)
+node-range k11 = omega arith
+node-range k12 = omega arith
+node-range k13 = omega arith
+node-range k14 = omega arith
+node-range k15 = omega arith
+node-range k16 = omega arith
+node-range k17 = omega arith
+node-range k18 = omega arith
+node-range k19 = omega arith
+node-range k1A = omega arith

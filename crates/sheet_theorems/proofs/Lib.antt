@@ -3,6 +3,7 @@ pub mod Bytes
 pub mod Tables
 pub mod Laying
 pub mod Standing
+pub mod ByKind
 pub mod TypeOffsets
 pub mod Going
 pub mod TableRead
@@ -13,3 +14,4 @@ pub mod Exact
 pub mod OneType
 pub mod StretchHolds
 pub mod WalkKeeps
+pub mod SubtermRead

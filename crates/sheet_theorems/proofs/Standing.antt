@@ -9,7 +9,7 @@ use Rattle.calculus.specs.Terms.{Term, var, lvar, fun, app, lfun, lapp, pair, p
 use Rattle.calculus.specs.Read.{Kind, node, NodeKind, k11, k12, k13, k14, k15, k16, k17, k18, k19, k1A, kindOf, byte, Sheet}
 use Rattle.calculus.specs.Write.{tableBytes, termBytes, sheetBytes}
 use Rattle.calculus.specs.Laid.{Stands, Laid}
-use Rattle.sheet_theorems.proofs.KindBytes.{nodeByte, node-kind}
+use Rattle.sheet_theorems.proofs.KindBytes.{nodeByte, node-kind, node-range}
 use Rattle.sheet_theorems.proofs.Bytes.{first-byte, second-byte, third-byte, behind, within}
 
 -- ---- the kind, and the end
@@ -78,6 +78,9 @@ module _ {s : List ℕ} {at : ℕ} where
 
   pub stands-node : {e : Term} → Stands s at e → kindOf (byte s at) ≡ node (kindIn e)
   stands-node {e} h = rw (stands-kind h) (node-kind (kindIn e))
+
+  pub stands-range : {e : Term} → Stands s at e → (0x11 ≤ byte s at) × (byte s at ≤ 0x1A)
+  stands-range {e} h = rw (stands-kind h) (node-range (kindIn e))
 
   pub stands-end : {e : Term} → Stands s at e → at + length (termBytes e) ≤ length s
   stands-end {e} h = within s (termBytes e) (h .rest) at (h .here) (term-nonempty e)
