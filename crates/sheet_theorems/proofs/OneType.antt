@@ -1,10 +1,10 @@
 -- A term has at most one type. Assumes nothing.
-use Prim.Native.Nat.{ℕ, zero, suc}
-use mathlib.Core.Path.{_≡_, refl, sym, subst, _∙_}
-use mathlib.Core.List.{List, [], _∷_}
-use Rattle.calculus.specs.Types.{Ty, prod, arrow, lolli, Table, tree}
-use Rattle.calculus.specs.Terms.{Term, var, lvar, fun, app, lfun, lapp, pair, proj, fix, con}
-use Rattle.calculus.specs.Rules.{Entry, many, once, away, Ctx, NoLinear, InΓ, in-here, in-many, in-away, IsΔ, is-here, is-many, is-away, Split, split-end, split-many, split-first, split-second, split-away, Typed, Var, LVar, →I, →E, ⊸I, ⊸E, ×I, ×E, Fix, Con}
+use Prim.Native.Nat.{ℕ}
+use mathlib.Core.Path.{_≡_, refl, sym, _∙_}
+use mathlib.Core.List.{[], _∷_}
+use Rattle.calculus.specs.Types.{Ty, prod, arrow, lolli, Table}
+use Rattle.calculus.specs.Terms.{Term}
+use Rattle.calculus.specs.Rules.{many, once, away, Ctx, InΓ, in-here, in-many, in-away, IsΔ, is-here, is-many, is-away, Split, split-end, split-many, split-first, split-second, split-away, Typed, Var, LVar, →I, →E, ⊸I, ⊸E, ×I, ×E, Fix, Con}
 
 -- two contexts that do not differ where a binder is in both
 pub data Alike : Ctx → Ctx → Type 0 where

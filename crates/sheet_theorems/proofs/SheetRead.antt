@@ -1,24 +1,24 @@
 -- A table and a term within the limits, written out as records, are read back as themselves. Assumes nothing.
 use Prim.Native.Nat.{ℕ, zero, suc, _+_, _*_, _≤_, _<_, max}
-use mathlib.Core.Path.{_≡_, refl, sym, ap, subst, subst⁻¹, _∙_}
+use mathlib.Core.Path.{_≡_, refl, sym, ap}
 use mathlib.Core.Logic.{_↔_}
-use mathlib.Core.Bool.{Bool, true, false, _||_}
-use mathlib.Core.List.{List, [], _∷_, _++_, append-assoc, append-nil}
+use mathlib.Core.Bool.{_||_}
+use mathlib.Core.List.{List, [], _∷_, _++_, append-nil}
 use native.Mathlib.Omega.{arith}
-use native.Mathlib.Nat.{le-max-left, le-max-right, not-suc-le-zero}
+use native.Mathlib.Nat.{le-max-left, le-max-right}
 use lib.Dec.{T, leb, eqb, ltb, le→leb, lt→ltb, eqb-refl}
-use lib.ListN.{length, drop, length-append}
+use lib.ListN.{length, length-append}
 use lib.Seq.{drop-append-seam}
-use Rattle.calculus.specs.Answer.{Answer, good, refused, _>>=_, need}
+use Rattle.calculus.specs.Answer.{Answer, good, _>>=_}
 use Rattle.calculus.specs.Types.{TyRec, rec01, rec02, rec03, rec04, Table}
 use Rattle.calculus.specs.Terms.{Term, var, lvar, fun, app, lfun, lapp, pair, proj, fix, con, nodes}
-use Rattle.calculus.specs.Read.{Kind, unknown, type, node, TypeKind, k01, k02, k03, k04, NodeKind, k11, k12, k13, k14, k15, k16, k17, k18, k19, k1A, kindOf, byte, typeBody, typeRec, checkType, typeAt, readTypes, Got, got, nodeBody, nodeTyped, nodeKind, headAt, nodeAt, readTerm, Sheet, readSheet}
+use Rattle.calculus.specs.Read.{Kind, node, NodeKind, kindOf, byte, readTypes, Got, got, nodeBody, nodeTyped, nodeKind, headAt, nodeAt, readTerm, Sheet, readSheet}
 use Rattle.calculus.specs.Write.{recBytes, tableBytes, termBytes, sheetBytes}
-use Rattle.calculus.specs.Laid.{TableOk, Stands, depth, Ranged, Laid}
+use Rattle.calculus.specs.Laid.{TableOk, Stands, depth, Ranged}
 use Rattle.sheet_theorems.proofs.Going.{passes, goes}
 use Rattle.sheet_theorems.proofs.Laying.{laid}
 use Rattle.sheet_theorems.proofs.TableRead.{types-read}
-use Rattle.sheet_theorems.proofs.Standing.{kindIn, stands-node, stands-end, stands-in, fun-type, fun-body, app-function, app-argument, lfun-type, lfun-body, lapp-function, lapp-argument, pair-type, pair-first, pair-second, proj-pair, proj-body, fix-type, fix-body, var-binder, lvar-binder, con-part, con-type}
+use Rattle.sheet_theorems.proofs.Standing.{kindIn, stands-node, stands-end, fun-type, fun-body, app-function, app-argument, lfun-type, lfun-body, lapp-function, lapp-argument, pair-type, pair-first, pair-second, proj-pair, proj-body, fix-type, fix-body, var-binder, lvar-binder, con-part, con-type}
 
 -- ---- the term
 

@@ -1,12 +1,12 @@
 -- A term that stands at an offset: its bytes, where its subterms stand, and where it ends. Assumes nothing.
-use Prim.Native.Nat.{ℕ, zero, suc, _+_, _≤_, _<_}
+use Prim.Native.Nat.{ℕ, _+_, _≤_, _<_}
 use mathlib.Core.Path.{_≡_, refl, sym, ap, _∙_}
 use mathlib.Core.List.{List, [], _∷_, _++_, append-assoc, append-nil}
 use native.Mathlib.Omega.{arith}
 use lib.ListN.{length, drop, length-append}
 use lib.Seq.{drop-append-seam}
 use Rattle.calculus.specs.Terms.{Term, var, lvar, fun, app, lfun, lapp, pair, proj, fix, con}
-use Rattle.calculus.specs.Read.{Kind, node, NodeKind, k11, k12, k13, k14, k15, k16, k17, k18, k19, k1A, kindOf, byte, Sheet}
+use Rattle.calculus.specs.Read.{node, NodeKind, k11, k12, k13, k14, k15, k16, k17, k18, k19, k1A, kindOf, byte, Sheet}
 use Rattle.calculus.specs.Write.{tableBytes, termBytes, sheetBytes}
 use Rattle.calculus.specs.Laid.{Stands, Laid}
 use Rattle.sheet_theorems.proofs.KindBytes.{nodeByte, node-kind, node-range}

@@ -1,22 +1,22 @@
 -- The stretch of a node holds the bytes of the node's subterm, and is empty where there is no such node. Assumes nothing.
 use Prim.Native.Nat.{ℕ, zero, suc, _+_, _≤_, _<_}
-use mathlib.Core.Path.{_≡_, refl, sym, ap, subst, _∙_}
+use mathlib.Core.Path.{_≡_, refl, ap, _∙_}
 use mathlib.Core.Logic.{_↔_}
 use mathlib.Core.List.{List, [], _∷_, _++_}
 use native.Mathlib.Omega.{arith}
 use native.Mathlib.Nat.{not-suc-le-zero, le-of-suc-le-suc}
 use native.Mathlib.Decide.{decLt}
-use lib.ListN.{length, getD, take, drop, length-append, List·getD-eq-default}
+use lib.ListN.{length, getD, length-append, List·getD-eq-default}
 use lib.Seq.{take-append-seam}
 use Rattle.calculus.specs.Answer.{Answer, good, refused}
 use Rattle.calculus.specs.Terms.{Term, var, lvar, fun, app, lfun, lapp, pair, proj, fix, con, nodes}
-use Rattle.calculus.specs.Read.{Kind, kindOf, byte, nodeBody, Sheet, readSheet}
+use Rattle.calculus.specs.Read.{Kind, nodeBody, Sheet, readSheet}
 use Rattle.calculus.specs.Write.{tableBytes, termBytes}
-use Rattle.calculus.specs.Laid.{Stands, Laid}
-use Rattle.calculus.specs.Stretch.{Stretch, nowhere, whole, stretches, stretchIn, stretchOf, cut}
+use Rattle.calculus.specs.Laid.{Stands}
+use Rattle.calculus.specs.Stretch.{Stretch, nowhere, whole, stretches, stretchOf, cut}
 use Rattle.sheet_theorems.specs.Subterms.{subterms, bodyOf, after, skip}
 use Rattle.sheet_theorems.proofs.Laying.{laid}
-use Rattle.sheet_theorems.proofs.Standing.{kindIn, term-nonempty, stands-node, stands-end, fun-body, app-function, app-argument, lfun-body, lapp-function, lapp-argument, pair-first, pair-second, proj-pair, proj-body, fix-body, sheet-stands, sheet-ends}
+use Rattle.sheet_theorems.proofs.Standing.{kindIn, term-nonempty, stands-node, stands-end, fun-body, app-function, app-argument, lfun-body, lapp-function, lapp-argument, pair-first, pair-second, proj-pair, proj-body, fix-body, sheet-stands}
 
 -- ---- stretches one record after the other
 

@@ -1,15 +1,14 @@
 -- The subterms of a term within the limits are within them, so each node of a sheet that is read can be read by itself. Assumes nothing.
 use Prim.Native.Nat.{ℕ, zero, suc, _+_, _≤_, _<_, max}
-use mathlib.Core.Path.{_≡_, refl, sym}
+use mathlib.Core.Path.{_≡_}
 use mathlib.Core.List.{List, [], _∷_, _++_}
 use native.Mathlib.Omega.{arith}
 use native.Mathlib.Nat.{not-suc-le-zero, le-of-suc-le-suc, le-max-left, le-max-right}
 use lib.ListN.{length, getD}
-use Rattle.calculus.specs.Answer.{Answer, good}
+use Rattle.calculus.specs.Answer.{good}
 use Rattle.calculus.specs.Types.{Table}
 use Rattle.calculus.specs.Terms.{Term, var, lvar, fun, app, lfun, lapp, pair, proj, fix, con, nodes}
 use Rattle.calculus.specs.Read.{Sheet, got, readTerm, readSheet}
-use Rattle.calculus.specs.Write.{termBytes}
 use Rattle.calculus.specs.Laid.{depth, Ranged}
 use Rattle.calculus.specs.Stretch.{stretchOf}
 use Rattle.sheet_theorems.specs.Subterms.{subterms}

@@ -1,21 +1,20 @@
 -- A table within the limits, written out as records, is read back as itself. Assumes nothing.
-use Prim.Native.Nat.{ℕ, zero, suc, _+_, _*_, _≤_, _<_}
-use mathlib.Core.Path.{_≡_, refl, sym, ap, ap₂, subst, subst⁻¹, _∙_}
-use mathlib.Core.Bool.{Bool, true, false, not, _&&_, _||_}
+use Prim.Native.Nat.{ℕ, zero, suc, _+_, _≤_, _<_}
+use mathlib.Core.Path.{_≡_, refl, sym, ap, ap₂, subst, _∙_}
+use mathlib.Core.Bool.{not}
 use mathlib.Core.List.{List, [], _∷_, _++_, append-assoc, append-nil}
 use native.Mathlib.Omega.{arith}
 use native.Mathlib.Nat.{not-suc-le-zero}
 use lib.Dec.{T, leb, eqb, ltb, le→leb, lt→ltb, eqb→eq, not-T}
 use lib.ListN.{length, drop, getD, length-append, List·getD-append}
 use lib.Seq.{append-snoc, getD-append-seam}
-use Rattle.calculus.specs.Answer.{Answer, good, refused, _>>=_, need}
-use Rattle.calculus.specs.Types.{Ty, bit, prod, arrow, lolli, size, sharable, isArrow, TyRec, rec01, rec02, rec03, rec04, recEq, Table, recAt, tyOf, tysFrom, tree}
+use Rattle.calculus.specs.Answer.{Answer, good}
+use Rattle.calculus.specs.Types.{Ty, bit, size, sharable, TyRec, rec01, rec02, rec03, rec04, recEq, Table, recAt, tyOf, tysFrom, tree}
 use Rattle.calculus.specs.Read.{Kind, type, node, TypeKind, k01, k02, k03, k04, NodeKind, kindOf, byte, typeBody, typeRec, known, formed, repeated, checkType, typeAt, readTypes}
 use Rattle.calculus.specs.Write.{recBytes, tableBytes}
 use Rattle.calculus.specs.Laid.{Agrees, Below, TableOk}
 use Rattle.laws.proofs.Tests.{and-both, and-of, or-elim}
 use Rattle.sheet_theorems.proofs.Bytes.{behind}
-use Rattle.sheet_theorems.proofs.KindBytes.{typeByte, type-kind}
 use Rattle.sheet_theorems.proofs.Tables.{tys-count, tree-new}
 use Rattle.sheet_theorems.proofs.TypeOffsets.{Record, record-01, record-02, record-03, record-04, record-end}
 use Rattle.sheet_theorems.proofs.Going.{needed, passes, goes}

@@ -5,9 +5,9 @@ use mathlib.Core.List.{List, [], _∷_, _++_, append-assoc}
 use native.Mathlib.Omega.{arith}
 use native.Mathlib.Nat.{not-suc-le-zero, le-of-suc-le-suc}
 use lib.ListN.{length, drop, length-append}
-use lib.Seq.{drop-append-seam, drop-append-add}
-use Rattle.calculus.specs.Types.{Ty, bit, prod, arrow, lolli, TyRec, rec01, rec02, rec03, rec04, Table, recAt, tree}
-use Rattle.calculus.specs.Read.{Kind, type, TypeKind, k01, k02, k03, k04, kindOf, byte, typeRec, Sheet}
+use lib.Seq.{drop-append-add}
+use Rattle.calculus.specs.Types.{bit, TyRec, rec01, rec02, rec03, rec04, Table, recAt, tree}
+use Rattle.calculus.specs.Read.{type, TypeKind, k01, k02, k03, k04, kindOf, byte, typeRec, Sheet}
 use Rattle.calculus.specs.Write.{recBytes, tableBytes, termBytes, sheetBytes}
 use Rattle.calculus.specs.Laid.{Agrees, Below, TableOk, Laid}
 use Rattle.sheet_theorems.proofs.Bytes.{front-one, first-byte, second-byte, third-byte, within}

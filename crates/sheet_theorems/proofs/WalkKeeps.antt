@@ -1,16 +1,16 @@
 -- An accepted walk leaves the binders as they were, but for marks of use, and its type number names a type. Assumes nothing.
 use Prim.Native.Nat.{ℕ, zero, suc, _+_, _<_}
-use mathlib.Core.Path.{_≡_, refl, sym, ap, subst, _∙_}
+use mathlib.Core.Path.{_≡_, refl, ap, subst}
 use mathlib.Core.Bool.{Bool, true, false}
-use mathlib.Core.List.{List, [], _∷_}
+use mathlib.Core.List.{[], _∷_}
 use native.Mathlib.Omega.{arith}
-use lib.Dec.{T, eqb, ltb}
+use lib.Dec.{eqb, ltb}
 use lib.ListN.{length}
-use Rattle.calculus.specs.Answer.{Answer, good, refused, _>>=_, need}
+use Rattle.calculus.specs.Answer.{good}
 use Rattle.calculus.proofs.Answers.{refused≢good, good-inj, on-bind, on-need}
-use Rattle.calculus.specs.Types.{Ty, sharable, tyEq, TyRec, rec02, rec03, rec04, Table, recAt, tree}
+use Rattle.calculus.specs.Types.{sharable, tyEq, TyRec, rec02, rec03, rec04, Table, recAt, tree}
 use Rattle.calculus.specs.Terms.{Term, var, lvar, fun, app, lfun, lapp, pair, proj, fix, con, nodes, parts, partAt}
-use Rattle.calculus.specs.Walk.{Binder, shared, linear, Stack, Sides, product, sharableArrow, linearArrow, Found, found, under, useShared, useLinear, pop, topUsed, walk}
+use Rattle.calculus.specs.Walk.{Binder, shared, linear, Stack, Sides, product, sharableArrow, linearArrow, Found, useShared, useLinear, pop, topUsed, walk}
 use Rattle.calculus.specs.Laid.{Below, TableOk, Ranged}
 use Rattle.sheet_theorems.proofs.Sound.{product-good, sharable-good, linear-good, under-good}
 use Rattle.sheet_theorems.proofs.Complete.{Numbers}
