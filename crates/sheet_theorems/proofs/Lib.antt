@@ -15,3 +15,4 @@ pub mod OneType
 pub mod StretchHolds
 pub mod WalkKeeps
 pub mod SubtermRead
+pub mod TypeForms
