@@ -7,7 +7,7 @@ use Rattle.calculus.specs.Terms.{Term, var, lvar, fun, app, lfun, lapp, pair, p
 use Rattle.calculus.specs.Read.{node, NodeKind, k11, k12, k13, k14, k15, k16, k17, k18, k19, k1A, kindOf, byte}
 use Rattle.calculus.specs.Write.{termBytes}
 use Rattle.calculus.specs.Laid.{Stands}
-use Rattle.sheet_theorems.proofs.Standing.{kindIn, stands-node, var-binder, lvar-binder, fun-type, fun-body, app-function, app-argument, lfun-type, lfun-body, lapp-function, lapp-argument, pair-type, pair-first, pair-second, proj-pair, proj-body, fix-type, fix-body, con-part, con-type}
+use Rattle.sheet_theorems.proofs.Standing.{kindIn, stands-kind, stands-node, var-binder, lvar-binder, fun-type, fun-body, app-function, app-argument, lfun-type, lfun-body, lapp-function, lapp-argument, pair-type, pair-first, pair-second, proj-pair, proj-body, fix-type, fix-body, con-part, con-type}
 
 -- a node with one subterm, after a type number
 pub record One (mk : ℕ → Term → Term) (s : List ℕ) (at : ℕ) (e : Term) : Type 0 where
@@ -92,3 +92,35 @@ module _ {s : List ℕ} {at : ℕ} where
 
   pub at-1A : {e : Term} → Stands s at e → byte s at ≡ 0x1A → e ≡ con (byte s (at + 1)) (byte s (at + 2))
   at-1A h d = by-kind h k1A (ap kindOf d)
+
+-- ---- prefix order is unambiguous: one term stands at an offset
+
+module _ (s : List ℕ) where
+  same-one : (mk : ℕ → Term → Term) (t at : ℕ) (e u : Term) → byte s (at + 1) ≡ t → One mk s at u → ((b : Term) → Stands s (at + 2) b → e ≡ b) → mk t e ≡ u
+  same-one mk t at e u p f ih = let h = ih (f .body) (f .stands) in let z = f .is in rw (z, p, h)
+
+  same-two : (mk : Term → Term → Term) (at : ℕ) (a b u : Term) → Two mk s at u → ((c : Term) → Stands s (at + 1) c → a ≡ c) → ((c : Term) → Stands s (at + 1 + length (termBytes a)) c → b ≡ c) → mk a b ≡ u
+  same-two mk at a b u f ia ib =
+      let h = ia (f .first) (f .stands-first) in
+      let k = ib (f .second) (subst (λ (c : Term). Stands s (at + 1 + length (termBytes c)) (f .second)) (sym h) (f .stands-second)) in
+      let z = f .is in
+      rw (z, h, k)
+
+  same-both : (t at : ℕ) (a b u : Term) → byte s (at + 1) ≡ t → Both s at u → ((c : Term) → Stands s (at + 2) c → a ≡ c) → ((c : Term) → Stands s (at + 2 + length (termBytes a)) c → b ≡ c) → pair t a b ≡ u
+  same-both t at a b u p f ia ib =
+      let h = ia (f .first) (f .stands-first) in
+      let k = ib (f .second) (subst (λ (c : Term). Stands s (at + 2 + length (termBytes c)) (f .second)) (sym h) (f .stands-second)) in
+      let z = f .is in
+      rw (z, p, h, k)
+
+  pub stands-one : (e u : Term) (at : ℕ) → Stands s at e → Stands s at u → e ≡ u
+  stands-one (var i) u at h k = ap var (sym (var-binder h)) ∙ sym (at-11 k (stands-kind h))
+  stands-one (lvar i) u at h k = ap lvar (sym (lvar-binder h)) ∙ sym (at-12 k (stands-kind h))
+  stands-one (fun t e) u at h k = same-one fun t at e u (fun-type h) (at-13 k (stands-kind h)) (λ b l. stands-one e b (at + 2) (fun-body h) l)
+  stands-one (app f a) u at h k = same-two app at f a u (at-14 k (stands-kind h)) (λ b l. stands-one f b (at + 1) (app-function h) l) (λ b l. stands-one a b _ (app-argument h) l)
+  stands-one (lfun t e) u at h k = same-one lfun t at e u (lfun-type h) (at-15 k (stands-kind h)) (λ b l. stands-one e b (at + 2) (lfun-body h) l)
+  stands-one (lapp f a) u at h k = same-two lapp at f a u (at-16 k (stands-kind h)) (λ b l. stands-one f b (at + 1) (lapp-function h) l) (λ b l. stands-one a b _ (lapp-argument h) l)
+  stands-one (pair t a b) u at h k = same-both t at a b u (pair-type h) (at-17 k (stands-kind h)) (λ c l. stands-one a c (at + 2) (pair-first h) l) (λ c l. stands-one b c _ (pair-second h) l)
+  stands-one (proj a e) u at h k = same-two proj at a e u (at-18 k (stands-kind h)) (λ b l. stands-one a b (at + 1) (proj-pair h) l) (λ b l. stands-one e b _ (proj-body h) l)
+  stands-one (fix t e) u at h k = same-one fix t at e u (fix-type h) (at-19 k (stands-kind h)) (λ b l. stands-one e b (at + 2) (fix-body h) l)
+  stands-one (con p t) u at h k = ap₂ con (sym (con-part h)) (sym (con-type h)) ∙ sym (at-1A k (stands-kind h))

@@ -16,7 +16,7 @@ use Rattle.calculus.specs.Laid.{Agrees, Below, TableOk}
 use Rattle.laws.proofs.Tests.{and-both, and-of, or-elim}
 use Rattle.sheet_theorems.proofs.Bytes.{behind}
 use Rattle.sheet_theorems.proofs.Tables.{tys-count, tree-new}
-use Rattle.sheet_theorems.proofs.TypeOffsets.{Record, record-01, record-02, record-03, record-04, record-end}
+use Rattle.sheet_theorems.proofs.TypeOffsets.{StandsRec, record-01, record-02, record-03, record-04, record-end}
 use Rattle.sheet_theorems.proofs.Going.{needed, passes, goes}
 
 -- ---- a table and its beginning
@@ -126,13 +126,13 @@ rec-size (rec03 a b) = refl
 rec-size (rec04 a b) = refl
 
 module _ (s : List ℕ) (at : ℕ) where
-  rec-kind : (r : TyRec) → Record s at r → kindOf (byte s at) ≡ type (recKind r)
+  rec-kind : (r : TyRec) → StandsRec s at r → kindOf (byte s at) ≡ type (recKind r)
   rec-kind rec01 h = ap kindOf (record-01 h)
   rec-kind (rec02 a b) h = ap kindOf (record-02 h .0)
   rec-kind (rec03 a b) h = ap kindOf (record-03 h .0)
   rec-kind (rec04 a b) h = ap kindOf (record-04 h .0)
 
-  rec-same : (r : TyRec) → Record s at r → typeRec (recKind r) (byte s (at + 1)) (byte s (at + 2)) ≡ r
+  rec-same : (r : TyRec) → StandsRec s at r → typeRec (recKind r) (byte s (at + 1)) (byte s (at + 2)) ≡ r
   rec-same rec01 h = refl
   rec-same (rec02 a b) h = ap₂ rec02 (record-02 h .1) (record-02 h .2)
   rec-same (rec03 a b) h = ap₂ rec03 (record-03 h .1) (record-03 h .2)
@@ -161,7 +161,7 @@ types-read s [] Φ rest (suc more) at end k ok room e en stop =
     rw (append-nil Φ, z) (type-stops s at (kindOf (byte s at)) k (suc more) Φ _ (rw z at stop))
 types-read s (r ∷ Ψ) Φ rest zero at end k ok room e en stop = absurd (not-suc-le-zero room)
 types-read s (r ∷ Ψ) Φ rest (suc more) at end k ok room e en stop =
-    let h : Record s at r = record { rest = tableBytes Ψ ++ rest; here = e ∙ append-assoc (recBytes r) (tableBytes Ψ) rest } in
+    let h : StandsRec s at r = record { rest = tableBytes Ψ ++ rest; here = e ∙ append-assoc (recBytes r) (tableBytes Ψ) rest } in
     let l = rec-size r in
     let z : at + 1 + typeBody (recKind r) ≡ at + length (recBytes r) = omega arith in
     type-goes s at (kindOf (byte s at)) (recKind r) r more Φ _ _ (rec-kind s at r h) (rec-same s at r h) (omega (arith, record-end h)) (passed Φ Ψ r ok at)
