@@ -111,6 +111,12 @@ node-stretch s e at k h l = run-kth e k (runs s e at h) (rw (count-subterms e) l
 pub skip-term : (s : List ℕ) (e : Term) (at : ℕ) → Stands s at e → skip s (nodes e) at ≡ at + length (termBytes e)
 skip-term s e at h = rw (← count-subterms e) (run-all (runs s e at h))
 
+-- one record more, as a loop goes
+pub skip-next : (s : List ℕ) (k at : ℕ) → skip s (suc k) at ≡ after s (skip s k at)
+unfolding skip
+skip-next s zero at = refl
+skip-next s (suc k) at = skip-next s k (after s at)
+
 -- ---- the stretch of a node of a sheet
 
 -- the bytes of the node's subterm, k records on from the table's end, in the sheet
