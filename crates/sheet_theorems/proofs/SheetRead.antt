@@ -98,7 +98,7 @@ module _ (Θ : Table) (s : List ℕ) where
   moved a b e h = rw e h
 
   -- what reads a term that stands, of depth at most `more`: the offset behind it, and the number of nodes so far
-  abbrev Reads : ℕ → (ℕ → ℕ → Answer Got) → Type 0
+  abbrev pub Reads : ℕ → (ℕ → ℕ → Answer Got) → Type 0
   Reads more go = (e : Term) (at n next count : ℕ) → Stands s at e → Ranged Θ e → depth e ≤ more → n + nodes e ≤ 2048 → next ≡ at + length (termBytes e) → count ≡ n + nodes e
       → go at n ≡ got e next count
 
