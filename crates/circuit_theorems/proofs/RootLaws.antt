@@ -79,7 +79,7 @@ module _ (m : Net) where
   root-stays o e = subst (λ (y : ℕ). lowest (count m) m y y ≡ o) (sym (stay m (count m) o e)) (lowest-stays (count m) o e)
 
   -- a netlist without a point: every output stays
-  still : (o : ℕ) → (back m o ≡ o) ⊎ (1 ≤ count m)
+  pub still : (o : ℕ) → (back m o ≡ o) ⊎ (1 ≤ count m)
   still o = ⊎-elim (λ e. inl e) (λ t. inr (omega (arith, some-out (outs (m .elements)) o t, outs-length (m .elements)))) (moves-in m (m .elements) o)
 
   -- the root of the output that drives a point is the root of the point's output
