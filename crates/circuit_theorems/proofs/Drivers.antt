@@ -36,7 +36,7 @@ made-append [] t i = omega arith
 made-append (point j ∷ s) t i = omega (arith, made-append s t i)
 made-append (part p j ∷ s) t i = omega (arith, made-append s t i)
 
-targets-append : (s t : List Wire) (i : ℕ) → targets (s ++ t) i ≡ targets s i + targets t i
+pub targets-append : (s t : List Wire) (i : ℕ) → targets (s ++ t) i ≡ targets s i + targets t i
 targets-append [] t i = omega arith
 targets-append (w ∷ s) t i = omega (arith, targets-append s t i)
 

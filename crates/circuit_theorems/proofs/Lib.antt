@@ -1,10 +1,12 @@
-pub mod Drivers
 pub mod Lists
 pub mod Rings
-pub mod Terminals
 pub mod RootLaws
+pub mod Terminals
 pub mod BackLaws
 pub mod Roots
-pub mod Same
+pub mod Drivers
+pub mod Outputs
 pub mod Wiring
+pub mod Same
+pub mod Forming
 pub mod Main

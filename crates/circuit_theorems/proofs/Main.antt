@@ -14,12 +14,13 @@ use Rattle.calculus.specs.Rules.{Typed}
 use Rattle.calculus.specs.Net.{Net, make, netOf}
 use Rattle.calculus.specs.Lean.{lean}
 use Rattle.calculus.specs.Record.{Bits, Law, Outside}
+use Rattle.calculus.specs.Formed.{Formed}
 use Rattle.calculus.specs.Translate.{full}
 use Rattle.sheet_theorems.proofs.Sound.{sound}
 use Rattle.sheet_theorems.proofs.Complete.{Sheetly}
 use Rattle.sheet_theorems.proofs.Tables.{table-read}
-use Rattle.circuit_theorems.proofs.Same.{Wired, same-records}
-use Rattle.circuit_theorems.proofs.Wiring.{wired}
+use Rattle.circuit_theorems.proofs.Same.{same-records}
+use Rattle.circuit_theorems.proofs.Forming.{formed-net, lean-formed}
 
 sheet-table : (s : List ℕ) (σ : Sheet) → readSheet s ≡ good σ → Sheetly (σ .table)
 unfolding readSheet
@@ -55,4 +56,4 @@ accepts s m e =
 pub same-circuit : (law : Law) (s : List ℕ) (m : Net) → full s ≡ good m → (n : ℕ) (γ π : Bits) → Outside law m n γ π ↔ Outside law (lean m) n γ π
 same-circuit law s m e =
     let a = accepts s m e in
-    same-records law m (subst (λ (x : Net). Wired x) (a .is) (wired (a .typed)))
+    same-records law m (subst (λ (x : Net). Formed x) (a .is) (formed-net (a .typed)))
