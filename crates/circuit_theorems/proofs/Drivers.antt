@@ -31,7 +31,7 @@ ins-append [] t i = omega arith
 ins-append (inp j ∷ s) t i = omega (arith, ins-append s t i)
 ins-append (out o ∷ s) t i = ins-append s t i
 
-made-append : (s t : List Element) (i : ℕ) → made (s ++ t) i ≡ made s i + made t i
+pub made-append : (s t : List Element) (i : ℕ) → made (s ++ t) i ≡ made s i + made t i
 made-append [] t i = omega arith
 made-append (point j ∷ s) t i = omega (arith, made-append s t i)
 made-append (part p j ∷ s) t i = omega (arith, made-append s t i)

@@ -9,36 +9,45 @@ use lib.Dec.{T, eqb, eqb→eq, eqb-refl}
 use Rattle.laws.proofs.Tests.{by-eqb, or-elim, or-left, or-right, and-both, T-is, is-false, not-true, on-cond}
 use Rattle.calculus.specs.Types.{Ty, Table}
 use Rattle.calculus.specs.Terms.{Term, partAt}
-use Rattle.calculus.specs.Net.{inp, out, Interface, Element, point, part, Wire, Net, partSide, make, netOf}
+use Rattle.calculus.specs.Net.{Terminal, inp, out, Interface, Element, point, part, Wire, Net, partSide, make, netOf}
 use Rattle.calculus.specs.Lean.{driver, isPin, root, kept, keep, toInputs, toElement, leanWires, leanPin, lean, backs}
 use Rattle.calculus.specs.Rules.{Typed}
 use Rattle.calculus.specs.Record.{All}
-use Rattle.calculus.specs.Formed.{is, ins, made, targets, isOut, Shown, Rising, Formed}
+use Rattle.calculus.specs.Formed.{is, ins, made, targets, isOut, Shown, Tiled, Rising, Formed}
 use Rattle.circuit_theorems.proofs.RootLaws.{root-reached, root-root}
 use Rattle.circuit_theorems.proofs.BackLaws.{backs-out, pin-root}
 use Rattle.circuit_theorems.proofs.Drivers.{drivers, targets-append}
-use Rattle.circuit_theorems.proofs.Outputs.{Shows, Showing, tiled, outputs}
-use Rattle.circuit_theorems.proofs.Lists.{all-append, all-cond}
+use Rattle.circuit_theorems.proofs.Outputs.{Named, tiled, outputs}
+use Rattle.circuit_theorems.proofs.Lists.{all-map, all-append, all-cond}
 use Rattle.circuit_theorems.proofs.Terminals.{pointIn, partIn, within, tiled-rising, made-one, part-made, pin-ins, no-ins, driver-fed}
 
 -- ---- the full netlist
 
-shown : (es : List Element) (ps : Interface) → Shows (λ x. T (isOut es x)) ps → All (Shown es) ps
-shown es [] s = tt
-shown es (inp i ∷ ps) s = (tt, shown es ps s)
-shown es (out o ∷ ps) s = (s .0, shown es ps (s .1))
+shown : (es : List Element) (p : Terminal) → Named (λ x. 1 ≤ made es x) (λ x. T (isOut es x)) p → Shown es p
+shown es (inp i) s = tt
+shown es (out o) s = s
 
 pub formed-net : {Θ : Table} {e : Term} {τ : Ty} → Typed Θ [] e τ → Formed (netOf (make Θ e [] 0))
 formed-net {Θ} {e} d =
     let m = make Θ e [] 0 in
-    let r = outputs (λ x. T (isOut (m .elements) x)) Θ e [] 0 tt (λ x t. t) in
+    let r = outputs (λ x. 1 ≤ made (m .elements) x) (λ x. T (isOut (m .elements) x)) Θ e [] 0 tt (record { ins = λ x a. a; outs = λ x t. t }) in
     record {
       end = m .next;
       rising = tiled-rising (m .elements) 0 (m .next) (tiled Θ e [] 0);
-      from = r .from;
-      shown = shown (m .elements) (m .side) (r .side);
+      from = all-map _ (λ w. T (isOut (m .elements) (w .from))) (λ w a. a .0) (m .wires) (r .wires);
+      shown = all-map _ (Shown (m .elements)) (shown (m .elements)) (m .side) (r .side);
       once = λ i. sym (drivers d i);
     }
+
+-- the elements of a full netlist take all the terminals from 0 up to the end, at most 8,192
+pub record Whole (m : Net) : Type 0 where
+  pub net : Formed m
+  pub tiled : Tiled (m .elements) 0 (net .end)
+  pub few : net .end ≤ 8192
+
+pub whole-net : {Θ : Table} {e : Term} {τ : Ty} → Typed Θ [] e τ → make Θ e [] 0 .next ≤ 8192 → Whole (netOf (make Θ e [] 0))
+unfolding formed-net
+whole-net {Θ} {e} d h = record { net = formed-net d; tiled = tiled Θ e [] 0; few = h }
 
 -- ---- the lean netlist
 

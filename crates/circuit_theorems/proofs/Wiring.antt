@@ -15,7 +15,8 @@ use Rattle.calculus.specs.Formed.{made, targets, ins, isOut, Shown, Rising, For
 use Rattle.circuit_theorems.proofs.Rings.{has, outs}
 use Rattle.circuit_theorems.proofs.RootLaws.{root-stays}
 use Rattle.circuit_theorems.proofs.BackLaws.{back-other}
-use Rattle.circuit_theorems.proofs.Lists.{all-map}
+use Rattle.circuit_theorems.proofs.Lists.{all-map, all-zip}
+use Rattle.circuit_theorems.proofs.Outputs.{Named}
 use Rattle.circuit_theorems.proofs.Terminals.{pointIn, partIn, hasTo, in-low, out-low, out-not-in, outs-out, made-one, made-in, part-made, to-has, each-target, unique, pin-ins, no-ins}
 
 -- the output that stands for a terminal
@@ -72,26 +73,51 @@ module _ (m : Net) (ok : Formed m) where
   out-clear : (o : ℕ) → T (isOut (m .elements) o) → pointIn (m .elements) o ≡ false
   out-clear o t = is-false _ (λ u. out-not-in (m .elements) 0 (ok .end) o (ok .rising) t u)
 
-  pins-good : (ps : Interface) → All (Shown (m .elements)) ps → ((i : ℕ) → T (isPin ps i) → T (isPin (m .pins) i)) → All (PinOk m) ps
-  pins-good [] s k = tt
-  pins-good (inp i ∷ ps) s k =
-      (made-in (m .elements) i (omega (arith, ok .once i, pin-ins (m .pins) i (k i (or-left (eqb i i) (isPin ps i) (eqb-refl i))))), pins-good ps (s .1) (λ j u. k j (or-right (eqb i j) (isPin ps j) u)))
-  pins-good (out o ∷ ps) s k = (out-clear o (s .0), pins-good ps (s .1) k)
+  -- ---- demand 3, first half, for any formed netlist
 
-  -- a wire's target is made, and is no pin
-  pub target-made : (i : ℕ) → 1 ≤ targets (m .wires) i → made (m .elements) i ≡ 1
-  target-made i h = omega (arith, ok .once i, made-one (m .elements) 0 (ok .end) i (ok .rising))
+  pub input-once : (i : ℕ) → made (m .elements) i ≤ 1
+  input-once i = made-one (m .elements) 0 (ok .end) i (ok .rising)
 
   pub target-one : (i : ℕ) → targets (m .wires) i ≤ 1
-  target-one i = omega (arith, ok .once i, made-one (m .elements) 0 (ok .end) i (ok .rising))
+  target-one i = omega (arith, ok .once i, input-once i)
+
+  -- an input has one wire or one pin, and never both
+  pub one-driver : (i : ℕ) → made (m .elements) i ≡ 1 → targets (m .wires) i + ins (m .pins) i ≡ 1
+  one-driver i e = ok .once i ∙ e
+
+  -- what is no input has neither
+  pub no-driver : (i : ℕ) → made (m .elements) i ≡ 0 → (targets (m .wires) i ≡ 0) × (ins (m .pins) i ≡ 0)
+  no-driver i e = let q = ok .once i in (omega arith, omega arith)
+
+  -- wires run from outputs to inputs that are made
+  pub wires-run : All (λ w. T (isOut (m .elements) (w .from)) × (made (m .elements) (w .to) ≡ 1)) (m .wires)
+  wires-run =
+      all-zip (λ w. T (isOut (m .elements) (w .from))) (λ w. made (m .elements) (w .to) ≡ 1) (m .wires) (ok .from)
+      (all-map (λ w. 1 ≤ targets (m .wires) (w .to)) (λ w. made (m .elements) (w .to) ≡ 1) (λ w t. omega (arith, ok .once (w .to), input-once (w .to))) (m .wires) (each-target (m .wires)))
+
+  -- pins show outputs and inputs that are made
+  pub pins-show : All (Named (λ i. made (m .elements) i ≡ 1) (λ o. T (isOut (m .elements) o))) (m .pins)
+  pins-show = shows (m .pins) (ok .shown) (λ i u. u)
+    where
+      shows : (ps : Interface) → All (Shown (m .elements)) ps → ((i : ℕ) → T (isPin ps i) → T (isPin (m .pins) i)) → All (Named (λ i. made (m .elements) i ≡ 1) (λ o. T (isOut (m .elements) o))) ps
+      shows [] s k = tt
+      shows (inp i ∷ ps) s k =
+          (omega (arith, ok .once i, input-once i, pin-ins (m .pins) i (k i (or-left (eqb i i) (isPin ps i) (eqb-refl i)))), shows ps (s .1) (λ j u. k j (or-right (eqb i j) (isPin ps j) u)))
+      shows (out o ∷ ps) s k = (s .0, shows ps (s .1) k)
+
+  -- ---- the facts that the equivalence uses
+
+  pin-ok : (p : Terminal) → Named (λ i. made (m .elements) i ≡ 1) (λ o. T (isOut (m .elements) o)) p → PinOk m p
+  pin-ok (inp i) e = made-in (m .elements) i (omega arith)
+  pin-ok (out o) t = out-clear o t
 
   pub wired-net : Wired m
   wired-net = record {
     clear = clears (m .elements) 0 (ok .end) (ok .rising) (λ x t. t) (λ x l t. t) (λ x l t. t);
     from-out = all-map (λ w. T (isOut (m .elements) (w .from))) _ (λ w t. out-clear (w .from) t) (m .wires) (ok .from);
-    to-in = all-map (λ w. 1 ≤ targets (m .wires) (w .to)) _ (λ w t. made-in (m .elements) (w .to) (omega (arith, ok .once (w .to)))) (m .wires) (each-target (m .wires));
-    no-pin = all-map (λ w. 1 ≤ targets (m .wires) (w .to)) _ (λ w t. is-false _ (λ u. omega (arith, ok .once (w .to), target-made (w .to) t, pin-ins (m .pins) (w .to) u))) (m .wires) (each-target (m .wires));
+    to-in = all-map (λ w. T (isOut (m .elements) (w .from)) × (made (m .elements) (w .to) ≡ 1)) _ (λ w t. made-in (m .elements) (w .to) (let q = t .1 in omega arith)) (m .wires) wires-run;
+    no-pin = all-map (λ w. 1 ≤ targets (m .wires) (w .to)) _ (λ w t. is-false _ (λ u. omega (arith, ok .once (w .to), input-once (w .to), pin-ins (m .pins) (w .to) u))) (m .wires) (each-target (m .wires));
     one = unique (m .wires) target-one;
     fed = λ i h u. to-has (m .wires) i (omega (arith, ok .once i, no-ins (m .pins) i u, part-made (m .elements) i h));
-    pins-ok = pins-good (m .pins) (ok .shown) (λ i u. u);
+    pins-ok = all-map (Named (λ i. made (m .elements) i ≡ 1) (λ o. T (isOut (m .elements) o))) (PinOk m) pin-ok (m .pins) pins-show;
   }
