@@ -9,4 +9,5 @@ pub mod Outputs
 pub mod Wiring
 pub mod Same
 pub mod Forming
+pub mod Limits
 pub mod Main
