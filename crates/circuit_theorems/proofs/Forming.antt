@@ -163,7 +163,7 @@ module _ (m : Net) where
       targets-append (cond (isPin (m .pins) j) [] (record { from = root m (driver (m .wires) j 0); to = j } ∷ [])) (toInputs m k (j + 1)) i
       ∙ ap₂ _+_ (unless-free (isPin (m .pins) j) i (record { from = root m (driver (m .wires) j 0); to = j }) (λ q. ap (isPin (m .pins)) q ∙ u)) (free-inputs i k (j + 1) u)
 
-  free-targets : (i : ℕ) → isPin (m .pins) i ≡ false → (es : List Element) → targets (leanWires m es) i ≡ made (keep m es) i
+  pub free-targets : (i : ℕ) → isPin (m .pins) i ≡ false → (es : List Element) → targets (leanWires m es) i ≡ made (keep m es) i
   free-targets i u [] = refl
   free-targets i u (point j ∷ es) =
       targets-append (toElement m (point j)) (leanWires m es) i ∙ by-kept (free-targets i u es) (kept m (point j))
@@ -181,7 +181,7 @@ module _ (m : Net) where
       targets-append (cond (isPin (m .pins) j) [] (record { from = root m (driver (m .wires) j 0); to = j } ∷ [])) (toInputs m k (j + 1)) i
       ∙ omega (arith, unless-pin (isPin (m .pins) j) i (record { from = root m (driver (m .wires) j 0); to = j }) (λ q. ap (isPin (m .pins)) q ∙ u), pin-inputs i k (j + 1) u)
 
-  pin-targets : (i : ℕ) → isPin (m .pins) i ≡ true → (es : List Element) → targets (leanWires m es) i ≡ 0
+  pub pin-targets : (i : ℕ) → isPin (m .pins) i ≡ true → (es : List Element) → targets (leanWires m es) i ≡ 0
   pin-targets i u [] = refl
   pin-targets i u (point j ∷ es) =
       targets-append (toElement m (point j)) (leanWires m es) i
@@ -212,3 +212,7 @@ module _ (m : Net) where
       by-pin : (i : ℕ) (b : Bool) → isPin (m .pins) i ≡ b → targets (leanWires m (m .elements)) i + ins (m .pins) i ≡ made (keep m (m .elements)) i
       by-pin i true u = omega (arith, pin-targets i u (m .elements), pin-made i u (m .elements), ok .once i, made-one (m .elements) 0 (ok .end) i (ok .rising), pin-ins (m .pins) i (subst T (sym u) tt))
       by-pin i false u = omega (arith, free-targets i u (m .elements), no-ins (m .pins) i u)
+
+  pub lean-end : (ok : Formed m) → lean-formed ok .end ≡ ok .end
+  unfolding lean-formed
+  lean-end ok = refl

@@ -9,5 +9,6 @@ pub mod Outputs
 pub mod Wiring
 pub mod Same
 pub mod Forming
+pub mod Counts
 pub mod Limits
 pub mod Main
