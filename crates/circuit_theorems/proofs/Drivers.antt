@@ -53,7 +53,7 @@ map-append : {A B : Type 0} (f : A → B) (s t : List A) → map f (s ++ t) ≡ 
 map-append f [] t = refl
 map-append f (x ∷ s) t = ap {B = List _} (λ r. f x ∷ r) (map-append f s t)
 
-dirs-in : (ts : List Bool) (n : ℕ) → dirs (inSide ts n) ≡ map not ts
+pub dirs-in : (ts : List Bool) (n : ℕ) → dirs (inSide ts n) ≡ map not ts
 dirs-in [] n = refl
 dirs-in (false ∷ ts) n = ap (λ (r : List Bool). true ∷ r) (dirs-in ts (n + 2))
 dirs-in (true ∷ ts) n = ap (λ (r : List Bool). false ∷ r) (dirs-in ts (n + 2))
@@ -132,7 +132,7 @@ dirs-drop zero s = refl
 dirs-drop (suc k) [] = refl
 dirs-drop (suc k) (x ∷ s) = dirs-drop k s
 
-dirs-left : (o : Bool) (α : Ty) (rest : List Bool) (s : Interface) → dirs s ≡ turns o α ++ rest → dirs (take (size α) s) ≡ turns o α
+pub dirs-left : (o : Bool) (α : Ty) (rest : List Bool) (s : Interface) → dirs s ≡ turns o α ++ rest → dirs (take (size α) s) ≡ turns o α
 dirs-left o α rest s e = dirs-take (size α) s ∙ ap (take (size α)) e ∙ take-at (turns o α) rest (size α) (turns-size o α)
 
 dirs-right : (o : Bool) (α : Ty) (rest : List Bool) (s : Interface) → dirs s ≡ turns o α ++ rest → dirs (drop (size α) s) ≡ rest
@@ -212,7 +212,7 @@ in-dirs : (α τ : Ty) (n : ℕ) (s : Interface) → dirs s ≡ turns false τ �
 in-dirs α τ n s e =
     map-append dir (inSide (turns false α) n) s ∙ ap₂ _++_ (dirs-in (turns false α) n ∙ sym (turns-not false α)) e
 
-opposite : (α : Ty) (a f : Interface) → dirs a ≡ turns false α → dirs f ≡ turns true α → dirs f ≡ map not (dirs a)
+pub opposite : (α : Ty) (a f : Interface) → dirs a ≡ turns false α → dirs f ≡ turns true α → dirs f ≡ map not (dirs a)
 opposite α a f p q = q ∙ turns-not false α ∙ ap (map not) (sym p)
 
 part-dirs : (p n : ℕ) → dirs (partSide (partAt p .inputs) n) ≡ turns false (partAt p .type)

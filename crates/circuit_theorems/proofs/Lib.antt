@@ -12,3 +12,4 @@ pub mod Forming
 pub mod Counts
 pub mod Limits
 pub mod Main
+pub mod Bounds
