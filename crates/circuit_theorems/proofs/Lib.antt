@@ -13,3 +13,4 @@ pub mod Counts
 pub mod Limits
 pub mod Main
 pub mod Bounds
+pub mod Drive
