@@ -19,7 +19,7 @@ use Rattle.calculus.specs.Formed.{Tiled, Rising, Formed}
 use Rattle.calculus.specs.Translate.{full}
 use Rattle.circuit_theorems.proofs.Lists.{all-map}
 use Rattle.circuit_theorems.proofs.Terminals.{tiled-rising, rising-end}
-use Rattle.circuit_theorems.proofs.Drivers.{dirs, turns-size, Env, env-end, Driven, driven as driven-term, opposite, dirs-left, dirs-in}
+use Rattle.circuit_theorems.proofs.Drivers.{dirs, turns-size, Env, env-end, Driven, term-driven, opposite, dirs-left, dirs-in}
 use Rattle.circuit_theorems.proofs.Outputs.{tiled, Named, Runs, names-below}
 use Rattle.circuit_theorems.proofs.Forming.{Whole}
 use Rattle.circuit_theorems.proofs.Counts.{elements-few, wires-few, bytes-few, lean-bytes, lean-wires-few}
@@ -113,10 +113,10 @@ side-length s τ e = sym (length-map s _) ∙ ap length e ∙ turns-size false �
 module _ {Θ : Table} {Γ : Ctx} {e : Term} {τ : Ty} (d : Typed Θ Γ e τ) (env : List Bound) (v : Env Γ env) (n : ℕ) where
   -- the type made is the type derived, and the interface has a terminal for each of its bits
   pub made-type : make Θ e env n .type ≡ τ
-  made-type = driven-term d env v n .type
+  made-type = term-driven d env v n .type
 
   pub made-side : length (make Θ e env n .side) ≡ size (make Θ e env n .type)
-  made-side = side-length (make Θ e env n .side) τ (driven-term d env v n .dirs) ∙ ap size (sym made-type)
+  made-side = side-length (make Θ e env n .side) τ (term-driven d env v n .dirs) ∙ ap size (sym made-type)
 
 -- ---- wires
 

@@ -286,38 +286,38 @@ halves θ₁ θ₂ a et ed = (
   record { type = ap rightOf et; dirs = rw et (dirs-right false θ₁ (turns false θ₂) (a .side) ed) },
 )
 
-pub driven : {Θ : Table} {Γ : Ctx} {e : Term} {τ : Ty} → Typed Θ Γ e τ → (env : List Bound) → Env Γ env → (n : ℕ) → Driven Γ env τ (make Θ e env n)
-driven (Var x) env v n = var-driven n (shown-shared x v)
-driven (LVar x) env v n = var-driven n (shown-linear x v)
-driven {Θ} (→I {t = t} {e = e} {θ = θ} {τ = τ} eτ sh d) env v n =
-    rw eτ (fun-driven θ τ n (make Θ e (binder θ n ∷ env) (n + 2 * size θ)) sh (driven d (binder θ n ∷ env) (env-many sh (binder-fits θ n) v) (n + 2 * size θ)))
-driven {Θ} (→E {f = f} {a = a} {θ = θ} {τ = τ} z d c) env v n =
+pub term-driven : {Θ : Table} {Γ : Ctx} {e : Term} {τ : Ty} → Typed Θ Γ e τ → (env : List Bound) → Env Γ env → (n : ℕ) → Driven Γ env τ (make Θ e env n)
+term-driven (Var x) env v n = var-driven n (shown-shared x v)
+term-driven (LVar x) env v n = var-driven n (shown-linear x v)
+term-driven {Θ} (→I {t = t} {e = e} {θ = θ} {τ = τ} eτ sh d) env v n =
+    rw eτ (fun-driven θ τ n (make Θ e (binder θ n ∷ env) (n + 2 * size θ)) sh (term-driven d (binder θ n ∷ env) (env-many sh (binder-fits θ n) v) (n + 2 * size θ)))
+term-driven {Θ} (→E {f = f} {a = a} {θ = θ} {τ = τ} z d c) env v n =
     let (p, q) = split-env z v in
-    let x = driven d env p n in
+    let x = term-driven d env p n in
     let m = make Θ f env n in
-    app-driven z θ τ m (make Θ a env (m .next)) (ap leftOf (x .type)) (ap rightOf (x .type)) (x .dirs) (x .count) (driven c env q (m .next))
-driven {Θ} (⊸I {t = t} {e = e} {κ = κ} {τ = τ} eτ ar d) env v n =
-    rw eτ (lfun-driven κ τ n (make Θ e (binder κ n ∷ env) (n + 2 * size κ)) (driven d (binder κ n ∷ env) (env-once (binder-fits κ n) v) (n + 2 * size κ)))
-driven {Θ} (⊸E {f = f} {a = a} {κ = κ} {τ = τ} z d c) env v n =
+    app-driven z θ τ m (make Θ a env (m .next)) (ap leftOf (x .type)) (ap rightOf (x .type)) (x .dirs) (x .count) (term-driven c env q (m .next))
+term-driven {Θ} (⊸I {t = t} {e = e} {κ = κ} {τ = τ} eτ ar d) env v n =
+    rw eτ (lfun-driven κ τ n (make Θ e (binder κ n ∷ env) (n + 2 * size κ)) (term-driven d (binder κ n ∷ env) (env-once (binder-fits κ n) v) (n + 2 * size κ)))
+term-driven {Θ} (⊸E {f = f} {a = a} {κ = κ} {τ = τ} z d c) env v n =
     let (p, q) = split-env z v in
-    let x = driven d env p n in
+    let x = term-driven d env p n in
     let m = make Θ f env n in
-    app-driven z κ τ m (make Θ a env (m .next)) (ap leftOf (x .type)) (ap rightOf (x .type)) (x .dirs) (x .count) (driven c env q (m .next))
-driven {Θ} (×I {a = a} {b = b} {θ₁ = θ₁} {θ₂ = θ₂} z eτ s₁ s₂ d c) env v n =
+    app-driven z κ τ m (make Θ a env (m .next)) (ap leftOf (x .type)) (ap rightOf (x .type)) (x .dirs) (x .count) (term-driven c env q (m .next))
+term-driven {Θ} (×I {a = a} {b = b} {θ₁ = θ₁} {θ₂ = θ₂} z eτ s₁ s₂ d c) env v n =
     let (p, q) = split-env z v in
     let m = make Θ a env n in
-    rw eτ (pair-driven z θ₁ θ₂ m (make Θ b env (m .next)) (driven d env p n) (driven c env q (m .next)))
-driven {Θ} (×E {a = a} {e = e} {θ₁ = θ₁} {θ₂ = θ₂} {τ = τ} z s₁ s₂ d c) env v n =
+    rw eτ (pair-driven z θ₁ θ₂ m (make Θ b env (m .next)) (term-driven d env p n) (term-driven c env q (m .next)))
+term-driven {Θ} (×E {a = a} {e = e} {θ₁ = θ₁} {θ₂ = θ₂} {τ = τ} z s₁ s₂ d c) env v n =
     let (p, q) = split-env z v in
     let m = make Θ a env n in
-    let x = driven d env p n in
+    let x = term-driven d env p n in
     let (h₁, h₂) = halves θ₁ θ₂ m (x .type) (x .dirs) in
-    proj-driven z θ₁ θ₂ τ m (make Θ e (secondHalf m ∷ firstHalf m ∷ env) (m .next)) s₁ s₂ x (driven c _ (env-many s₂ h₂ (env-many s₁ h₁ q)) (m .next))
-driven {Θ} (Fix {t = t} {e = e} {θ = θ} eτ sh d) env v n =
-    rw eτ (fix-driven θ n (make Θ e (binder θ n ∷ env) (n + 2 * size θ)) sh (driven d (binder θ n ∷ env) (env-many sh (binder-fits θ n) v) (n + 2 * size θ)))
-driven (Con {p = p} h e z) env v n = con-driven p n z
+    proj-driven z θ₁ θ₂ τ m (make Θ e (secondHalf m ∷ firstHalf m ∷ env) (m .next)) s₁ s₂ x (term-driven c _ (env-many s₂ h₂ (env-many s₁ h₁ q)) (m .next))
+term-driven {Θ} (Fix {t = t} {e = e} {θ = θ} eτ sh d) env v n =
+    rw eτ (fix-driven θ n (make Θ e (binder θ n ∷ env) (n + 2 * size θ)) sh (term-driven d (binder θ n ∷ env) (env-many sh (binder-fits θ n) v) (n + 2 * size θ)))
+term-driven (Con {p = p} h e z) env v n = con-driven p n z
 
 -- a whole sheet: each input is the target of one wire or shown by one pin
 pub drivers : {Θ : Table} {e : Term} {τ : Ty} → Typed Θ [] e τ → (i : ℕ) →
     made (make Θ e [] 0 .elements) i ≡ targets (make Θ e [] 0 .wires) i + ins (make Θ e [] 0 .side) i
-drivers d i = omega (arith, driven d [] env-end 0 .count i)
+drivers d i = omega (arith, term-driven d [] env-end 0 .count i)

@@ -140,6 +140,19 @@ module _ (m : Net) where
           le-antisymm (ring-once (count m) k (backs (count m) m o) r s) (ring-once k (count m) (backs (count m) m o) s r)
           ∙ ring-turned k (count m) o (round k o one e)
 
+  -- so the root is on the ring, and at most every output of it
+  pub root-on-ring : (k o : ℕ) → 1 ≤ k → backs k m o ≡ o → (j : ℕ) × (j < k) × (root m o ≡ backs j m o)
+  root-on-ring k o one e = let (j, h, f) = lowest-of k o one in (j, h, root-lowest k o one e ∙ f)
+
+  pub root-le : (k o j : ℕ) → 1 ≤ k → backs k m o ≡ o → root m o ≤ backs j m o
+  root-le k o j one e = subst (λ (y : ℕ). y ≤ backs j m o) (sym (root-lowest k o one e)) (ring-le k j o (round k o one e))
+
+  -- an output of the ring that is at most every other one is the root
+  pub root-found : (k o j : ℕ) → 1 ≤ k → backs k m o ≡ o → ((i : ℕ) → i < k → backs j m o ≤ backs i m o) → root m o ≡ backs j m o
+  root-found k o j one e low =
+      let (i, h, f) = root-on-ring k o one e in
+      le-antisymm (root-le k o j one e) (subst (λ (y : ℕ). backs j m o ≤ y) (sym f) (low i h))
+
   -- ---- these determine it
 
   -- the document's sentences, on any netlist: an output that stays (a part's, or a point's whose input is a pin) is its own root;

@@ -11,11 +11,11 @@ use lib.ListN.{length}
 use Rattle.calculus.specs.Terms.{partAt}
 use Rattle.calculus.specs.Net.{Terminal, inp, out, number, Interface, Element, point, part, Wire, Net}
 use Rattle.calculus.specs.Lean.{driver, isPin, pointCount, backIn, back, backs, lowest, root, kept, keep, toInputs, toElement, leanWires, leanPin, lean}
-use Rattle.calculus.specs.Formed.{Formed}
+use Rattle.calculus.specs.Formed.{targets, Formed}
 use Rattle.calculus.specs.Record.{Stream, Bits, Law, All, Same, streams, Works, Joined, Possible, PinsShow, PartShows, Outside}
 use Rattle.laws.proofs.Tests.{by-eqb, or-cases, or-left, or-right, T-is, not-true, false-not}
 use Rattle.circuit_theorems.proofs.Lists.{all-map, all-zip, all-append, all-left, all-right, all-cond}
-use Rattle.circuit_theorems.proofs.Terminals.{pointIn, partIn, within, hasTo}
+use Rattle.circuit_theorems.proofs.Terminals.{pointIn, partIn, within}
 use Rattle.circuit_theorems.proofs.RootLaws.{root-back}
 use Rattle.circuit_theorems.proofs.BackLaws.{back-point, pin-root}
 use Rattle.circuit_theorems.proofs.Wiring.{standIn, Clear, Wired, PinOk, wired-net}
@@ -23,12 +23,12 @@ use Rattle.circuit_theorems.proofs.Roots.{driver-like, root-like}
 
 -- ---- from the full netlist to the lean one
 
-driver-fed : (n : ℕ) (β : Bits) (ws : List Wire) → All (Joined n β) ws → (i d : ℕ) → T (hasTo ws i) → Same n β (driver ws i d) i
-driver-fed n β [] a i d h = absurd h
-driver-fed n β (w ∷ ws) a i d h =
-    by-eqb (λ b. T (b || hasTo ws i) → Same n β (cond b (w .from) (driver ws i d)) i) (w .to) i
+driven-like : (n : ℕ) (β : Bits) (ws : List Wire) → All (Joined n β) ws → (i d : ℕ) → 1 ≤ targets ws i → Same n β (driver ws i d) i
+driven-like n β [] a i d h = absurd (omega arith)
+driven-like n β (w ∷ ws) a i d h =
+    by-eqb (λ b. 1 ≤ cond b 1 0 + targets ws i → Same n β (cond b (w .from) (driver ws i d)) i) (w .to) i
     (λ e _. subst (λ (j : ℕ). Same n β (w .from) j) e (a .0))
-    (λ _ t. driver-fed n β ws (a .1) i d t) h
+    (λ _ t. driven-like n β ws (a .1) i d (omega arith)) h
 
 keep-all : (F : Element → Type 0) (m : Net) (es : List Element) → All F es → All F (keep m es)
 keep-all F m [] a = tt
@@ -40,7 +40,7 @@ within-here k i = or-left (eqb i i) (within k (i + 1) i) (eqb-refl i)
 module _ (law : Law) (m : Net) (ok : Wired m) (n : ℕ) (β : Bits) (p : Possible law m n β) where
   fed-like : (i : ℕ) → T (partIn (m .elements) i) → T (not (isPin (m .pins) i)) → Same n β (root m (driver (m .wires) i 0)) i
   fed-like i h u t l =
-      root-like n β law m p (driver (m .wires) i 0) t l ∙ driver-fed n β (m .wires) (p .wires) i 0 (ok .fed i h (not-true (isPin (m .pins) i) u)) t l
+      root-like n β law m p (driver (m .wires) i 0) t l ∙ driven-like n β (m .wires) (p .wires) i 0 (ok .fed i h (not-true (isPin (m .pins) i) u)) t l
 
   inputs-like : (k i : ℕ) → ((x : ℕ) → T (within k i x) → T (partIn (m .elements) x)) → All (Joined n β) (toInputs m k i)
   inputs-like zero i h = tt

@@ -14,10 +14,10 @@ use Rattle.calculus.specs.Record.{All}
 use Rattle.calculus.specs.Formed.{made, targets, ins, isOut, Shown, Rising, Formed}
 use Rattle.circuit_theorems.proofs.Rings.{has, outs}
 use Rattle.circuit_theorems.proofs.RootLaws.{root-stays}
-use Rattle.circuit_theorems.proofs.BackLaws.{back-other}
+use Rattle.circuit_theorems.proofs.BackLaws.{back-other, point-root}
 use Rattle.circuit_theorems.proofs.Lists.{all-map, all-zip}
 use Rattle.circuit_theorems.proofs.Outputs.{Named}
-use Rattle.circuit_theorems.proofs.Terminals.{pointIn, partIn, hasTo, in-low, out-low, out-not-in, outs-out, made-one, made-in, part-made, to-has, each-target, unique, pin-ins, no-ins}
+use Rattle.circuit_theorems.proofs.Terminals.{pointIn, partIn, in-low, out-low, out-not-in, outs-out, made-one, made-in, part-made, each-target, unique, pin-ins, no-ins}
 
 -- the output that stands for a terminal
 abbrev pub standIn : Net → ℕ → ℕ
@@ -38,7 +38,7 @@ pub record Wired (m : Net) : Type 0 where
   pub to-in : All (λ w. T (pointIn (m .elements) (w .to)) ⊎ T (partIn (m .elements) (w .to))) (m .wires)
   pub no-pin : All (λ w. isPin (m .pins) (w .to) ≡ false) (m .wires)
   pub one : All (λ w. (d : ℕ) → driver (m .wires) (w .to) d ≡ w .from) (m .wires)
-  pub fed : (i : ℕ) → T (partIn (m .elements) i) → isPin (m .pins) i ≡ false → T (hasTo (m .wires) i)
+  pub fed : (i : ℕ) → T (partIn (m .elements) i) → isPin (m .pins) i ≡ false → 1 ≤ targets (m .wires) i
   pub pins-ok : All (PinOk m) (m .pins)
 
 module _ (m : Net) (ok : Formed m) where
@@ -89,6 +89,13 @@ module _ (m : Net) (ok : Formed m) where
   pub no-driver : (i : ℕ) → made (m .elements) i ≡ 0 → (targets (m .wires) i ≡ 0) × (ins (m .pins) i ≡ 0)
   no-driver i e = let q = ok .once i in (omega arith, omega arith)
 
+  -- an input that is no pin has a wire, and a pin has none
+  pub free-driven : (i : ℕ) → made (m .elements) i ≡ 1 → isPin (m .pins) i ≡ false → targets (m .wires) i ≡ 1
+  free-driven i e u = omega (arith, one-driver i e, no-ins (m .pins) i u)
+
+  pub pin-undriven : (i : ℕ) → T (isPin (m .pins) i) → targets (m .wires) i ≡ 0
+  pin-undriven i u = omega (arith, ok .once i, input-once i, pin-ins (m .pins) i u)
+
   -- wires run from outputs to inputs that are made
   pub wires-run : All (λ w. T (isOut (m .elements) (w .from)) × (made (m .elements) (w .to) ≡ 1)) (m .wires)
   wires-run =
@@ -116,8 +123,15 @@ module _ (m : Net) (ok : Formed m) where
     clear = clears (m .elements) 0 (ok .end) (ok .rising) (λ x t. t) (λ x l t. t) (λ x l t. t);
     from-out = all-map (λ w. T (isOut (m .elements) (w .from))) _ (λ w t. out-clear (w .from) t) (m .wires) (ok .from);
     to-in = all-map (λ w. T (isOut (m .elements) (w .from)) × (made (m .elements) (w .to) ≡ 1)) _ (λ w t. made-in (m .elements) (w .to) (let q = t .1 in omega arith)) (m .wires) wires-run;
-    no-pin = all-map (λ w. 1 ≤ targets (m .wires) (w .to)) _ (λ w t. is-false _ (λ u. omega (arith, ok .once (w .to), input-once (w .to), pin-ins (m .pins) (w .to) u))) (m .wires) (each-target (m .wires));
+    no-pin = all-map (λ w. 1 ≤ targets (m .wires) (w .to)) _ (λ w t. is-false _ (λ u. omega (arith, pin-undriven (w .to) u))) (m .wires) (each-target (m .wires));
     one = unique (m .wires) target-one;
-    fed = λ i h u. to-has (m .wires) i (omega (arith, ok .once i, no-ins (m .pins) i u, part-made (m .elements) i h));
+    fed = λ i h u. omega (arith, ok .once i, no-ins (m .pins) i u, part-made (m .elements) i h);
     pins-ok = all-map (Named (λ i. made (m .elements) i ≡ 1) (λ o. T (isOut (m .elements) o))) (PinOk m) pin-ok (m .pins) pins-show;
   }
+
+  -- the root of a point's output is the root of the output that drives the point's input
+  pub wire-root : All (λ w. T (pointIn (m .elements) (w .to)) → root m (w .to + 1) ≡ root m (w .from)) (m .wires)
+  wire-root =
+      all-map (λ w. (isPin (m .pins) (w .to) ≡ false) × ((d : ℕ) → driver (m .wires) (w .to) d ≡ w .from)) _
+      (λ w f h. point-root m (w .to) h (f .0) ∙ ap (root m) (f .1 (w .to + 1))) (m .wires)
+      (all-zip _ _ (m .wires) (wired-net .no-pin) (wired-net .one))
