@@ -9,7 +9,7 @@ use native.Mathlib.Nat.{le-refl}
 use lib.Dec.{T}
 use lib.ListN.{length, take, length-append, length-map}
 use Rattle.calculus.specs.Answer.{good}
-use Rattle.calculus.specs.Types.{Ty, size, Table, tree}
+use Rattle.calculus.specs.Types.{Ty, bit, prod, arrow, lolli, size, Table, tree}
 use Rattle.calculus.specs.Terms.{Term, var, lvar, fun, app, lfun, lapp, pair, proj, fix, con, nodes, partAt}
 use Rattle.calculus.specs.Rules.{Ctx, Typed}
 use Rattle.calculus.specs.Net.{Terminal, inp, out, number, Interface, turns, Element, point, part, Wire, Net, points, inSide, join, Bound, Made, leftOf, binder, firstHalf, secondHalf, madeApp, madeFix, make, netOf, netBytes}
@@ -17,12 +17,13 @@ use Rattle.calculus.specs.Lean.{pointCount, lean}
 use Rattle.calculus.specs.Record.{All}
 use Rattle.calculus.specs.Formed.{Tiled, Rising, Formed}
 use Rattle.calculus.specs.Translate.{full}
+use Rattle.circuit_theorems.specs.Terminals.{terminals}
 use Rattle.circuit_theorems.proofs.Lists.{all-map}
 use Rattle.circuit_theorems.proofs.Terminals.{tiled-rising, rising-end}
 use Rattle.circuit_theorems.proofs.Drivers.{dirs, turns-size, Env, env-end, Driven, term-driven, opposite, dirs-left, dirs-in}
 use Rattle.circuit_theorems.proofs.Outputs.{tiled, Named, Runs, names-below}
 use Rattle.circuit_theorems.proofs.Forming.{Whole}
-use Rattle.circuit_theorems.proofs.Counts.{elements-few, wires-few, bytes-few, lean-bytes, lean-wires-few}
+use Rattle.circuit_theorems.proofs.Counts.{part-inputs, elements-few, wires-few, bytes-few, lean-bytes, lean-wires-few}
 use Rattle.circuit_theorems.proofs.Limits.{sheet-limits}
 use Rattle.circuit_theorems.proofs.Main.{Accepts, accepts, formed}
 
@@ -104,6 +105,40 @@ pub elements-made : (Θ : Table) (e : Term) (env : List Bound) (n : ℕ) → n +
 elements-made Θ e env n =
     let m = make Θ e env n in
     omega (arith, elements-few (m .elements) n (m .next) (tiled-rising (m .elements) n (m .next) (tiled Θ e env n)), points-parts (m .elements), parts-made Θ e env n)
+
+-- ---- terminals
+
+-- the next free terminal, counted without making
+pub next-is : (Θ : Table) (e : Term) (env : List Bound) (n : ℕ) → make Θ e env n .next ≡ n + terminals Θ e
+next-is Θ (var i) env n = omega arith
+next-is Θ (lvar i) env n = omega arith
+next-is Θ (fun t e) env n = let θ = leftOf (tree Θ t) in omega (arith, next-is Θ e (binder θ n ∷ env) (n + 2 * size θ))
+next-is Θ (app f a) env n = let x = make Θ f env n in omega (arith, next-is Θ f env n, next-is Θ a env (x .next))
+next-is Θ (lfun t e) env n = let κ = leftOf (tree Θ t) in omega (arith, next-is Θ e (binder κ n ∷ env) (n + 2 * size κ))
+next-is Θ (lapp f a) env n = let x = make Θ f env n in omega (arith, next-is Θ f env n, next-is Θ a env (x .next))
+next-is Θ (pair t a b) env n = let x = make Θ a env n in omega (arith, next-is Θ a env n, next-is Θ b env (x .next))
+next-is Θ (proj a e) env n = let x = make Θ a env n in omega (arith, next-is Θ a env n, next-is Θ e (secondHalf x ∷ firstHalf x ∷ env) (x .next))
+next-is Θ (fix t e) env n = let θ = tree Θ t in omega (arith, next-is Θ e (binder θ n ∷ env) (n + 2 * size θ))
+next-is Θ (con p t) env n = omega arith
+
+pub left-size : (τ : Ty) → size (leftOf τ) ≤ size τ
+left-size bit = le-refl 1
+left-size (prod a b) = omega arith
+left-size (arrow a b) = omega arith
+left-size (lolli a b) = omega arith
+
+-- with types of at most 128 bits, a node makes at most 256 terminals: for a readable sheet at most 524,288
+pub terminals-few : (Θ : Table) (e : Term) → ((t : ℕ) → size (tree Θ t) ≤ 128) → terminals Θ e ≤ 256 * nodes e
+terminals-few Θ (var i) h = omega arith
+terminals-few Θ (lvar i) h = omega arith
+terminals-few Θ (fun t e) h = omega (arith, h t, left-size (tree Θ t), terminals-few Θ e h)
+terminals-few Θ (app f a) h = omega (arith, terminals-few Θ f h, terminals-few Θ a h)
+terminals-few Θ (lfun t e) h = omega (arith, h t, left-size (tree Θ t), terminals-few Θ e h)
+terminals-few Θ (lapp f a) h = omega (arith, terminals-few Θ f h, terminals-few Θ a h)
+terminals-few Θ (pair t a b) h = omega (arith, terminals-few Θ a h, terminals-few Θ b h)
+terminals-few Θ (proj a e) h = omega (arith, terminals-few Θ a h, terminals-few Θ e h)
+terminals-few Θ (fix t e) h = omega (arith, h t, terminals-few Θ e h)
+terminals-few Θ (con p t) h = omega (arith, part-inputs p)
 
 -- ---- interfaces
 
