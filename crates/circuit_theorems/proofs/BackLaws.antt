@@ -2,8 +2,8 @@
 -- pin, a point whose input is driven; on a formed netlist these determine the root of every output. Assumes nothing.
 use Prim.Native.Nat.{ℕ, zero, suc, _+_, _<_, _≤_}
 use mathlib.Core.Path.{_≡_, refl, sym, ap, _∙_, subst}
-use mathlib.Core.Logic.{_⊎_, inl, inr, ⊎-elim}
-use mathlib.Core.Bool.{Bool, true, false, cond, _||_}
+use mathlib.Core.Logic.{⊎-elim}
+use mathlib.Core.Bool.{Bool, true, false, cond}
 use mathlib.Core.List.{List, [], _∷_}
 use native.Mathlib.Omega.{arith}
 use native.Mathlib.Nat.{le-refl}
@@ -11,13 +11,13 @@ use lib.Dec.{T, eqb, eqb→eq, eqb-refl}
 use lib.ListN.{length, getD}
 use Rattle.laws.proofs.Tests.{by-eqb, or-cases, or-elim, or-left, or-right, T-is}
 use Rattle.calculus.specs.Terms.{partAt}
-use Rattle.calculus.specs.Net.{Interface, Element, point, part, Wire, Net}
+use Rattle.calculus.specs.Net.{Element, point, part, Net}
 use Rattle.calculus.specs.Lean.{driver, isPin, backIn, back, backs, lowest, root}
 use Rattle.calculus.specs.Record.{All}
-use Rattle.calculus.specs.Formed.{targets, isOut, Rising, Formed}
-use Rattle.circuit_theorems.proofs.Rings.{has, outs, moves-in, count, rounds, Round}
+use Rattle.calculus.specs.Formed.{isOut, Rising, Formed}
+use Rattle.circuit_theorems.proofs.Rings.{has, outs, moves-in, count, rounds}
 use Rattle.circuit_theorems.proofs.RootLaws.{still, root-stays, root-back, root-steps, root-lowest}
-use Rattle.circuit_theorems.proofs.Lists.{all-map, all-zip, all-at}
+use Rattle.circuit_theorems.proofs.Lists.{all-at}
 use Rattle.circuit_theorems.proofs.Terminals.{pointIn, out-low, outs-out, driver-is}
 
 -- ---- one step back

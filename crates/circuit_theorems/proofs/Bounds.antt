@@ -1,29 +1,27 @@
 -- How much a term makes: elements, wires, interfaces and terminals, for any term and, within document 01's limits, for every accepted
 -- sheet; and how long its netlists are. Assumes nothing.
-use Prim.Native.Nat.{ℕ, zero, suc, _+_, _*_, _<_, _≤_}
+use Prim.Native.Nat.{ℕ, suc, _+_, _*_, _<_, _≤_}
 use mathlib.Core.Path.{_≡_, refl, sym, ap, ap₂, _∙_, subst}
 use mathlib.Core.Bool.{Bool, true, false, not, false≢true, true≢false}
-use mathlib.Core.List.{List, [], _∷_, _++_, map, cons≢nil, nil≢cons, head-eq-of-cons-eq, tail-eq-of-cons-eq}
+use mathlib.Core.List.{List, [], _∷_, _++_, map, nil≢cons, head-eq-of-cons-eq, tail-eq-of-cons-eq}
 use native.Mathlib.Omega.{arith}
 use native.Mathlib.Nat.{le-refl}
-use lib.Dec.{T}
 use lib.ListN.{length, take, length-append, length-map}
 use Rattle.calculus.specs.Answer.{good}
 use Rattle.calculus.specs.Types.{Ty, bit, prod, arrow, lolli, size, Table, tree}
 use Rattle.calculus.specs.Terms.{Term, var, lvar, fun, app, lfun, lapp, pair, proj, fix, con, nodes, partAt}
 use Rattle.calculus.specs.Rules.{Ctx, Typed}
-use Rattle.calculus.specs.Net.{Terminal, inp, out, number, Interface, turns, Element, point, part, Wire, Net, points, inSide, join, Bound, Made, leftOf, binder, firstHalf, secondHalf, madeApp, madeFix, make, netOf, netBytes}
+use Rattle.calculus.specs.Net.{Terminal, inp, out, number, Interface, turns, Element, point, part, Net, points, inSide, join, Bound, Made, leftOf, binder, firstHalf, secondHalf, madeApp, madeFix, make, netOf, netBytes}
 use Rattle.calculus.specs.Lean.{pointCount, lean}
 use Rattle.calculus.specs.Record.{All}
-use Rattle.calculus.specs.Formed.{Tiled, Rising, Formed}
+use Rattle.calculus.specs.Formed.{Tiled, Rising}
 use Rattle.calculus.specs.Translate.{full}
 use Rattle.circuit_theorems.specs.Terminals.{terminals}
 use Rattle.circuit_theorems.proofs.Lists.{all-map}
 use Rattle.circuit_theorems.proofs.Terminals.{tiled-rising, rising-end}
 use Rattle.circuit_theorems.proofs.Drivers.{dirs, turns-size, Env, env-end, Driven, term-driven, opposite, dirs-left, dirs-in}
-use Rattle.circuit_theorems.proofs.Outputs.{tiled, Named, Runs, names-below}
-use Rattle.circuit_theorems.proofs.Forming.{Whole}
-use Rattle.circuit_theorems.proofs.Counts.{part-inputs, elements-few, wires-few, bytes-few, lean-bytes, lean-wires-few}
+use Rattle.circuit_theorems.proofs.Outputs.{tiled, Named, names-below}
+use Rattle.circuit_theorems.proofs.Counts.{part-inputs, elements-few, wires-few, bytes-few, lean-bytes}
 use Rattle.circuit_theorems.proofs.Limits.{sheet-limits}
 use Rattle.circuit_theorems.proofs.Main.{Accepts, accepts, formed}
 

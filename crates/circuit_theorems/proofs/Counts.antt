@@ -1,17 +1,15 @@
 -- How many wires a formed netlist has, and how many bytes: counted over its inputs. Assumes nothing.
 use Prim.Native.Nat.{ℕ, zero, suc, _+_, _*_, _<_, _≤_}
-use mathlib.Core.Path.{_≡_, refl, sym, ap, ap₂, _∙_, subst}
+use mathlib.Core.Path.{_≡_, refl, sym, ap, ap₂, _∙_}
 use mathlib.Core.Bool.{Bool, true, false, cond}
-use mathlib.Core.List.{List, [], _∷_, _++_, map}
-use mathlib.Core.Logic.{_⊎_, ⊎-elim}
+use mathlib.Core.List.{List, [], _∷_}
 use native.Mathlib.Omega.{arith}
 use native.Mathlib.Decide.{decLe}
-use native.Mathlib.Nat.{not-suc-le-zero, le-refl, le-trans, add-le-add, eq-or-lt-of-le, le-of-suc-le-suc}
-use lib.Dec.{T, eqb}
+use native.Mathlib.Nat.{not-suc-le-zero, le-refl}
 use lib.ListN.{length, length-append, length-map}
 use Rattle.laws.proofs.Tests.{by-eqb}
 use Rattle.calculus.specs.Terms.{partAt}
-use Rattle.calculus.specs.Net.{inp, out, Interface, Element, point, part, Wire, Net, partSide, elementBytes, wireBytes, pinBytes, netBytes}
+use Rattle.calculus.specs.Net.{Interface, Element, point, part, Wire, Net, partSide, elementBytes, wireBytes, pinBytes, netBytes}
 use Rattle.calculus.specs.Lean.{isPin, pointCount, kept, keep, leanWires, leanPin, lean}
 use Rattle.calculus.specs.Record.{All}
 use Rattle.calculus.specs.Formed.{is, ins, made, targets, Rising, Formed}

@@ -1,20 +1,19 @@
 -- Drivers: each input terminal that a term makes, or gets with a linear variable, is driven by one wire or shown once in the interface.
 -- By induction on the derivation. Assumes nothing.
 use Prim.Native.Nat.{ℕ, zero, suc, _+_, _*_}
-use mathlib.Core.Path.{_≡_, refl, sym, ap, ap₂, _∙_, subst}
-use mathlib.Core.Bool.{Bool, true, false, not, _&&_, cond, true≢false, false≢true}
+use mathlib.Core.Path.{_≡_, refl, sym, ap, ap₂, _∙_}
+use mathlib.Core.Bool.{Bool, true, false, not, true≢false, false≢true}
 use mathlib.Core.List.{List, [], _∷_, _++_, map, cons≢nil, nil≢cons, head-eq-of-cons-eq, tail-eq-of-cons-eq}
 use native.Mathlib.Omega.{arith}
-use native.Mathlib.Nat.{zero-add, add-zero}
-use lib.Dec.{T, eqb}
+use lib.Dec.{T}
 use lib.ListN.{length, take, drop, getD, length-append, take-append-drop}
 use lib.Seq.{take-at, drop-at}
 use Rattle.laws.proofs.Tests.{and-both, and-of}
-use Rattle.calculus.specs.Types.{Ty, bit, prod, arrow, lolli, size, sharable, Table, tree}
-use Rattle.calculus.specs.Terms.{Term, var, lvar, fun, app, lfun, lapp, pair, proj, fix, con, partAt}
-use Rattle.calculus.specs.Rules.{Entry, many, once, away, Ctx, NoLinear, none-end, none-many, none-away, InΓ, in-here, in-many, in-away, IsΔ, is-here, is-many, is-away, Split, split-end, split-many, split-first, split-second, split-away, Typed, Var, LVar, →I, →E, ⊸I, ⊸E, ×I, ×E, Fix, Con}
+use Rattle.calculus.specs.Types.{Ty, bit, prod, arrow, lolli, size, sharable, Table}
+use Rattle.calculus.specs.Terms.{Term, partAt}
+use Rattle.calculus.specs.Rules.{many, once, away, Ctx, NoLinear, none-end, none-many, none-away, InΓ, in-here, in-many, in-away, IsΔ, is-here, is-many, is-away, Split, split-end, split-many, split-first, split-second, split-away, Typed, Var, LVar, →I, →E, ⊸I, ⊸E, ×I, ×E, Fix, Con}
 use Rattle.calculus.specs.Net.{Terminal, inp, out, Interface, turns, Element, point, part, Wire, points, inSide, outSide, join, partSide, Bound, unbound, Made, leftOf, rightOf, binder, madeVar, madeFun, madeApp, madePair, firstHalf, secondHalf, madeProj, madeFix, madeCon, make}
-use Rattle.calculus.specs.Formed.{is, ins, made, targets}
+use Rattle.calculus.specs.Formed.{ins, made, targets}
 
 -- ---- counts of an input terminal
 

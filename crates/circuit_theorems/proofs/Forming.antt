@@ -1,16 +1,15 @@
 -- The full netlist of a typed term is formed, and so is the lean netlist of every formed one. Assumes nothing.
-use Prim.Native.Nat.{ℕ, zero, suc, _+_, _<_, _≤_}
+use Prim.Native.Nat.{ℕ, zero, suc, _+_, _≤_}
 use mathlib.Core.Path.{_≡_, refl, sym, ap, ap₂, _∙_, subst}
-use mathlib.Core.Logic.{_⊎_, inl, inr, ⊎-elim}
-use mathlib.Core.Bool.{Bool, true, false, cond, not, _&&_, _||_, true≢false, false≢true}
-use mathlib.Core.List.{List, [], _∷_, _++_, map}
+use mathlib.Core.Bool.{Bool, true, false, cond, not, _&&_, true≢false, false≢true}
+use mathlib.Core.List.{List, [], _∷_, map}
 use native.Mathlib.Omega.{arith}
 use lib.Dec.{T, eqb, eqb→eq, eqb-refl}
-use Rattle.laws.proofs.Tests.{by-eqb, or-elim, or-left, or-right, and-both, T-is, is-false, not-true, on-cond}
+use Rattle.laws.proofs.Tests.{by-eqb, or-elim, or-left, or-right, and-both, not-true, on-cond}
 use Rattle.calculus.specs.Types.{Ty, Table}
 use Rattle.calculus.specs.Terms.{Term, partAt}
 use Rattle.calculus.specs.Net.{Terminal, inp, out, Interface, Element, point, part, Wire, Net, partSide, make, netOf}
-use Rattle.calculus.specs.Lean.{driver, isPin, root, kept, keep, toInputs, toElement, leanWires, leanPin, lean, backs}
+use Rattle.calculus.specs.Lean.{driver, isPin, root, kept, keep, toInputs, toElement, leanWires, leanPin, lean}
 use Rattle.calculus.specs.Rules.{Typed}
 use Rattle.calculus.specs.Record.{All}
 use Rattle.calculus.specs.Formed.{is, ins, made, targets, isOut, Shown, Tiled, Rising, Formed}
@@ -19,7 +18,7 @@ use Rattle.circuit_theorems.proofs.BackLaws.{backs-out, pin-root}
 use Rattle.circuit_theorems.proofs.Drivers.{drivers, targets-append}
 use Rattle.circuit_theorems.proofs.Outputs.{Named, tiled, outputs}
 use Rattle.circuit_theorems.proofs.Lists.{all-map, all-append, all-cond}
-use Rattle.circuit_theorems.proofs.Terminals.{pointIn, partIn, within, tiled-rising, made-one, part-made, pin-ins, no-ins, driver-fed}
+use Rattle.circuit_theorems.proofs.Terminals.{partIn, within, tiled-rising, made-one, part-made, pin-ins, no-ins, driver-fed}
 
 -- ---- the full netlist
 

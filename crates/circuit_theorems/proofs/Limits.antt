@@ -1,16 +1,16 @@
 -- Limits that a readable sheet keeps: 2,048 nodes, and 128 single bits in each type. Assumes nothing.
 use Prim.Native.Nat.{ℕ, zero, suc, _+_, _<_, _≤_}
-use mathlib.Core.Path.{_≡_, refl, sym, ap, _∙_, subst}
-use mathlib.Core.Bool.{Bool, true, false, not, _||_}
+use mathlib.Core.Path.{_≡_, refl, subst}
+use mathlib.Core.Bool.{Bool, true, false, not}
 use mathlib.Core.List.{List, [], _∷_, _++_}
 use native.Mathlib.Omega.{arith}
 use lib.Dec.{T, eqb, ltb, leb, ltb→lt, leb→le}
-use lib.ListN.{length, getD}
-use Rattle.calculus.specs.Answer.{Answer, good, refused, _>>=_, need}
+use lib.ListN.{length}
+use Rattle.calculus.specs.Answer.{Answer, good, need}
 use Rattle.calculus.proofs.Answers.{refused≢good, good-inj, on-bind, on-need}
 use Rattle.calculus.specs.Types.{Ty, bit, size, TyRec, Table, tyOf, tysFrom, tree}
-use Rattle.calculus.specs.Terms.{Term, nodes}
-use Rattle.calculus.specs.Read.{Kind, unknown, type, node, kindOf, byte, TypeKind, typeBody, typeRec, known, formed, repeated, checkType, typeAt, readTypes, NodeKind, k11, k12, k13, k14, k15, k16, k17, k18, k19, k1A, nodeBody, nodeTyped, nodeKind, headAt, nodeAt, Got, readTerm, Sheet, readSheet}
+use Rattle.calculus.specs.Terms.{nodes}
+use Rattle.calculus.specs.Read.{Kind, unknown, type, node, kindOf, byte, typeBody, typeRec, known, formed, repeated, checkType, typeAt, readTypes, NodeKind, k11, k12, k13, k14, k15, k16, k17, k18, k19, k1A, nodeBody, nodeKind, headAt, nodeAt, Got, readTerm, Sheet, readSheet}
 use Rattle.calculus.specs.Record.{All}
 use Rattle.circuit_theorems.proofs.Lists.{all-append, all-getD}
 

@@ -1,16 +1,16 @@
 -- For every accepted sheet: its term has a derivation, both netlists are formed, each input has one driver, and the two netlists have the
 -- same possible records. Assumes nothing.
 use Prim.Native.Nat.{ℕ, _+_, _≤_}
-use mathlib.Core.Path.{_≡_, refl, sym, ap, subst, _∙_}
+use mathlib.Core.Path.{_≡_, subst}
 use mathlib.Core.Logic.{_↔_}
-use mathlib.Core.List.{List, [], _∷_}
+use mathlib.Core.List.{List, []}
 use lib.Dec.{T, leb, eqb, leb→le}
 use lib.ListN.{length}
-use Rattle.calculus.specs.Answer.{Answer, good, refused, _>>=_, need}
+use Rattle.calculus.specs.Answer.{good}
 use Rattle.calculus.proofs.Answers.{good-inj, on-bind, on-need}
-use Rattle.calculus.specs.Types.{Ty, Table, tree}
-use Rattle.calculus.specs.Read.{Sheet, Got, readTypes, readTerm, readSheet}
-use Rattle.calculus.specs.Walk.{Found, walk}
+use Rattle.calculus.specs.Types.{tree}
+use Rattle.calculus.specs.Read.{Sheet, readTypes, readTerm, readSheet}
+use Rattle.calculus.specs.Walk.{walk}
 use Rattle.calculus.specs.Rules.{Typed}
 use Rattle.calculus.specs.Net.{Net, make, netOf}
 use Rattle.calculus.specs.Lean.{lean}

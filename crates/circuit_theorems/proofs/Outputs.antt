@@ -2,22 +2,20 @@
 -- wires name only terminals of its elements and its binders. Assumes nothing.
 use Prim.Native.Nat.{ℕ, zero, suc, _+_, _*_, _≤_, _<_}
 use mathlib.Core.Path.{_≡_, refl, sym, subst}
-use mathlib.Core.Logic.{_⊎_, ⊎-elim}
-use mathlib.Core.Bool.{Bool, true, false, cond, _||_}
+use mathlib.Core.Bool.{Bool, true, false, cond}
 use mathlib.Core.List.{List, [], _∷_, _++_}
 use native.Mathlib.Omega.{arith}
 use native.Mathlib.Decide.{decLe}
-use native.Mathlib.Nat.{le-refl}
 use lib.Dec.{T, eqb, eqb-refl}
-use lib.ListN.{length, getD, take, drop}
+use lib.ListN.{length, take}
 use Rattle.laws.proofs.Tests.{by-eqb, or-elim, or-left, or-right}
 use Rattle.calculus.specs.Types.{Ty, size, Table, tree}
 use Rattle.calculus.specs.Terms.{Term, var, lvar, fun, app, lfun, lapp, pair, proj, fix, con, partAt}
-use Rattle.calculus.specs.Net.{Terminal, inp, out, number, Interface, turns, Element, point, part, Wire, points, inSide, outSide, join, partSide, Bound, unbound, Made, leftOf, binder, madeFun, madeApp, madePair, madeProj, madeFix, firstHalf, secondHalf, make}
+use Rattle.calculus.specs.Net.{Terminal, inp, out, Interface, turns, Element, point, part, Wire, points, inSide, outSide, join, partSide, Bound, unbound, Made, leftOf, binder, madeFun, madeApp, madePair, madeProj, madeFix, firstHalf, secondHalf, make}
 use Rattle.calculus.specs.Record.{All}
-use Rattle.calculus.specs.Formed.{is, ins, made, isOut, Tiled}
+use Rattle.calculus.specs.Formed.{ins, made, isOut, Tiled}
 use Rattle.circuit_theorems.proofs.Drivers.{turns-size, made-append}
-use Rattle.circuit_theorems.proofs.Lists.{all-append, all-take, all-drop, all-getD, all-map}
+use Rattle.circuit_theorems.proofs.Lists.{all-append, all-take, all-drop, all-getD}
 use Rattle.circuit_theorems.proofs.Terminals.{tiled-rising, rising-end, out-high, made-high}
 
 -- ---- the elements take the terminals from n up to e, without gap

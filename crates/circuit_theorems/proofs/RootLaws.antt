@@ -2,15 +2,14 @@
 use Prim.Native.Nat.{ℕ, zero, suc, _+_, _-_, _<_, _≤_, min}
 use mathlib.Core.Path.{_≡_, refl, sym, ap, _∙_, subst}
 use mathlib.Core.Logic.{_⊎_, inl, inr, ⊎-elim}
-use mathlib.Core.Bool.{Bool, true, false, cond, _||_}
 use mathlib.Core.List.{List, [], _∷_}
 use native.Mathlib.Nat.{min-eq-left, min-eq-right, min-le-left, min-le-right, le-of-lt, lt-of-not-le, le-trans, le-antisymm, eq-or-lt-of-le, not-suc-le-zero, le-of-suc-le-suc, le-refl}
 use native.Mathlib.Decide.{decLe}
 use native.Mathlib.Omega.{arith}
-use lib.Dec.{T, eqb}
+use lib.Dec.{T}
 use lib.ListN.{length}
-use Rattle.calculus.specs.Net.{Interface, Element, point, part, Wire, Net}
-use Rattle.calculus.specs.Lean.{driver, isPin, pointCount, backIn, back, backs, lowest, root}
+use Rattle.calculus.specs.Net.{Net}
+use Rattle.calculus.specs.Lean.{back, backs, lowest, root}
 use Rattle.circuit_theorems.proofs.Rings.{has, outs, outs-length, moves-in, backs-add, backs-sub, stay, Round, later, count, rounds}
 
 module _ (m : Net) where

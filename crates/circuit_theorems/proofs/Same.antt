@@ -1,16 +1,14 @@
 -- The lean netlist and the full one have the same possible records, seen from outside. Assumes nothing.
-use Prim.Native.Nat.{ℕ, zero, suc, _+_, _-_, _<_, _≤_, min}
-use mathlib.Core.Path.{_≡_, refl, sym, ap, ap₂, _∙_, subst, subst⁻¹}
-use mathlib.Core.Logic.{_⊎_, inl, inr, ⊎-elim, _↔_}
-use mathlib.Core.Bool.{Bool, true, false, cond, not, _&&_, _||_, xor}
-use mathlib.Core.List.{List, [], _∷_, _++_, map}
-use native.Mathlib.Nat.{add-zero}
+use Prim.Native.Nat.{ℕ, zero, suc, _+_, _<_, _≤_}
+use mathlib.Core.Path.{_≡_, refl, sym, ap, ap₂, _∙_, subst}
+use mathlib.Core.Logic.{_⊎_, ⊎-elim, _↔_}
+use mathlib.Core.Bool.{Bool, true, false, cond, not, _&&_}
+use mathlib.Core.List.{List, [], _∷_, map}
 use native.Mathlib.Omega.{arith}
 use lib.Dec.{T, eqb, eqb→eq, eqb-refl}
-use lib.ListN.{length}
 use Rattle.calculus.specs.Terms.{partAt}
-use Rattle.calculus.specs.Net.{Terminal, inp, out, number, Interface, Element, point, part, Wire, Net}
-use Rattle.calculus.specs.Lean.{driver, isPin, pointCount, backIn, back, backs, lowest, root, kept, keep, toInputs, toElement, leanWires, leanPin, lean}
+use Rattle.calculus.specs.Net.{inp, out, Interface, Element, point, part, Wire, Net}
+use Rattle.calculus.specs.Lean.{driver, isPin, back, root, kept, keep, toInputs, toElement, leanWires, leanPin, lean}
 use Rattle.calculus.specs.Formed.{targets, Formed}
 use Rattle.calculus.specs.Record.{Stream, Bits, Law, All, Same, streams, Works, Joined, Possible, PinsShow, PartShows, Outside}
 use Rattle.laws.proofs.Tests.{by-eqb, or-cases, or-left, or-right, T-is, not-true, false-not}
@@ -19,7 +17,7 @@ use Rattle.circuit_theorems.proofs.Terminals.{pointIn, partIn, within}
 use Rattle.circuit_theorems.proofs.RootLaws.{root-back}
 use Rattle.circuit_theorems.proofs.BackLaws.{back-point, pin-root}
 use Rattle.circuit_theorems.proofs.Wiring.{standIn, Clear, Wired, PinOk, wired-net}
-use Rattle.circuit_theorems.proofs.Roots.{driver-like, root-like}
+use Rattle.circuit_theorems.proofs.Roots.{root-like}
 
 -- ---- from the full netlist to the lean one
 

@@ -1,14 +1,14 @@
 -- What the equivalence of the two netlists stands on, from a formed netlist. Assumes nothing.
-use Prim.Native.Nat.{ℕ, zero, suc, _+_, _<_, _≤_}
-use mathlib.Core.Path.{_≡_, refl, sym, ap, _∙_, subst}
-use mathlib.Core.Logic.{_⊎_, inl, inr, ⊎-elim}
-use mathlib.Core.Bool.{Bool, true, false, cond, _||_}
+use Prim.Native.Nat.{ℕ, _+_, _≤_}
+use mathlib.Core.Path.{_≡_, sym, ap, _∙_, subst}
+use mathlib.Core.Logic.{_⊎_}
+use mathlib.Core.Bool.{Bool, true, false, cond}
 use mathlib.Core.List.{List, [], _∷_}
 use native.Mathlib.Omega.{arith}
 use lib.Dec.{T, eqb, eqb→eq, eqb-refl}
 use Rattle.laws.proofs.Tests.{or-elim, or-left, or-right, is-false, T-is}
 use Rattle.calculus.specs.Terms.{partAt}
-use Rattle.calculus.specs.Net.{Terminal, inp, out, Interface, Element, point, part, Wire, Net}
+use Rattle.calculus.specs.Net.{Terminal, inp, out, Interface, Element, point, part, Net}
 use Rattle.calculus.specs.Lean.{driver, isPin, root}
 use Rattle.calculus.specs.Record.{All}
 use Rattle.calculus.specs.Formed.{made, targets, ins, isOut, Shown, Rising, Formed}
