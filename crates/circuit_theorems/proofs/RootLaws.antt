@@ -164,14 +164,24 @@ module _ (m : Net) where
   pub root-is : IsRoot (root m)
   root-is = record { stays = root-stays; goes-on = λ o. sym (root-back o); rings = root-lowest }
 
-  goes-far : (r : ℕ → ℕ) → IsRoot r → (k o : ℕ) → r o ≡ r (backs k m o)
-  goes-far r i zero o = refl
-  goes-far r i (suc k) o = i .goes-on o ∙ goes-far r i k (back m o)
+  -- on outputs of which P holds, and holds on going back: what goes on to the next, and is the lowest on a ring, is the root
+  module _ (r : ℕ → ℕ) (P : ℕ → Type 0) (on : (o : ℕ) → P o → P (back m o)) (goes-on : (o : ℕ) → P o → r o ≡ r (back m o))
+      (rings : (k o : ℕ) → P o → 1 ≤ k → backs k m o ≡ o → r o ≡ lowest k m o o) where
+    far : (k o : ℕ) → P o → P (backs k m o)
+    far zero o h = h
+    far (suc k) o h = far k (back m o) (on o h)
+
+    goes-far : (k o : ℕ) → P o → r o ≡ r (backs k m o)
+    goes-far zero o h = refl
+    goes-far (suc k) o h = goes-on o h ∙ goes-far k (back m o) (on o h)
+
+    pub only-root : (o : ℕ) → P o → r o ≡ root m o
+    only-root o h = ⊎-elim (λ e. rings 1 o h (le-refl 1) e ∙ sym (root-lowest 1 o (le-refl 1) e)) moving (still o)
+      where
+        moving : 1 ≤ count m → r o ≡ root m o
+        moving c =
+            let q = rounds m o c in
+            goes-far (count m) o h ∙ rings (q .steps) _ (far (count m) o h) (q .some) (q .same) ∙ sym (root-lowest (q .steps) _ (q .some) (q .same)) ∙ root-steps (count m) o
 
   pub root-only : (r : ℕ → ℕ) → IsRoot r → (o : ℕ) → r o ≡ root m o
-  root-only r i o = ⊎-elim (λ s. i .stays o s ∙ sym (root-stays o s)) moving (still o)
-    where
-      moving : 1 ≤ count m → r o ≡ root m o
-      moving c =
-          let q = rounds m o c in
-          goes-far r i (count m) o ∙ i .rings (q .steps) _ (q .some) (q .same) ∙ sym (root-lowest (q .steps) _ (q .some) (q .same)) ∙ root-steps (count m) o
+  root-only r i o = only-root r (λ _. Unit {0}) (λ _ _. tt) (λ x _. i .goes-on x) (λ k x _. i .rings k x) o tt
