@@ -230,6 +230,11 @@ module _ (s : List ℕ) (m : Net) (ok : full s ≡ good m) where
       subst (λ (x : Net). length (x .pins) ≡ size (tree (a .sheet .table) (a .type))) (a .is)
       (made-side (a .typed) [] env-end 0 ∙ ap size (made-type (a .typed) [] env-end 0))
 
+  -- and a pin is an input exactly at a turned bit
+  pub pins-turned : (a : Accepts s m) → dirs (m .pins) ≡ turns false (tree (a .sheet .table) (a .type))
+  pins-turned a =
+      subst (λ (x : Net). dirs (x .pins) ≡ turns false (tree (a .sheet .table) (a .type))) (a .is) (term-driven (a .typed) [] env-end 0 .dirs)
+
   pub few-pins : length (m .pins) ≤ 128
   few-pins = let a = accepts s m ok in omega (arith, pins-size a, sheet-limits s (a .sheet) (a .reads) .small-types (a .type))
 

@@ -87,7 +87,7 @@ module _ (m : Net) where
   keep-rising (part p i ∷ es) n e a = (a .0, keep-rising es (i + partAt p .inputs + 1) e (a .1))
 
   -- an output that is its own root is kept
-  keep-out : (es : List Element) (x : ℕ) → root m x ≡ x → T (isOut es x) → T (isOut (keep m es) x)
+  pub keep-out : (es : List Element) (x : ℕ) → root m x ≡ x → T (isOut es x) → T (isOut (keep m es) x)
   keep-out [] x e h = h
   keep-out (point i ∷ es) x e h =
       or-elim (eqb (i + 1) x) (isOut es x) h
@@ -113,7 +113,7 @@ module _ (m : Net) where
     -- the root of an output is kept
     pub root-kept : (o : ℕ) → T (isOut (m .elements) o) → Kept (root m o)
     root-kept o h =
-        let (k, e) = root-reached m o in
+        let (k, h₁, e) = root-reached m o in
         keep-out (m .elements) (root m o) (root-root m o) (subst (λ (x : ℕ). T (isOut (m .elements) x)) (sym e) (backs-out m ok k o h))
 
     -- ---- where the wires come from

@@ -9,6 +9,7 @@ pub mod Outputs
 pub mod Wiring
 pub mod Same
 pub mod Forming
+pub mod LeanLaws
 pub mod Counts
 pub mod Limits
 pub mod Main

@@ -96,13 +96,13 @@ module _ (m : Net) where
   lowest-reached : (k p : ℕ) → (j : ℕ) × (lowest k m p p ≡ backs j m p)
   lowest-reached k p = ⊎-elim (λ e. (0, e)) (λ (x : (j : ℕ) × (j < k) × (lowest k m p p ≡ backs j m p)). (x .0, x .2)) (lowest-is k p p)
 
-  -- the root is some steps back
-  pub root-reached : (o : ℕ) → (k : ℕ) × (root m o ≡ backs k m o)
+  -- the root is some steps back, as many as there are points or more
+  pub root-reached : (o : ℕ) → (k : ℕ) × (count m ≤ k) × (root m o ≡ backs k m o)
   unfolding root
-  root-reached o = let (j, e) = lowest-reached (count m) (backs (count m) m o) in (count m + j, e ∙ sym (backs-add m (count m) j o))
+  root-reached o = let (j, e) = lowest-reached (count m) (backs (count m) m o) in (count m + j, omega arith, e ∙ sym (backs-add m (count m) j o))
 
   pub root-root : (o : ℕ) → root m (root m o) ≡ root m o
-  root-root o = let (k, e) = root-reached o in ap (root m) e ∙ root-steps k o
+  root-root o = let (k, h, e) = root-reached o in ap (root m) e ∙ root-steps k o
 
   -- ---- rings
 
@@ -151,6 +151,10 @@ module _ (m : Net) where
   root-found k o j one e low =
       let (i, h, f) = root-on-ring k o one e in
       le-antisymm (root-le k o j one e) (subst (λ (y : ℕ). backs j m o ≤ y) (sym f) (low i h))
+
+  -- an output that is its own root is on a ring, or stays
+  pub root-ring : (o : ℕ) → root m o ≡ o → (k : ℕ) × (1 ≤ k) × (backs k m o ≡ o)
+  root-ring o e = ⊎-elim (λ s. (1, le-refl 1, s)) (λ c. let (k, h, f) = root-reached o in (k, omega arith, sym f ∙ e)) (still o)
 
   -- ---- these determine it
 
