@@ -8,13 +8,17 @@ use native.Mathlib.Decide.{decLe}
 use native.Mathlib.Nat.{not-suc-le-zero, le-refl}
 use lib.ListN.{length, length-append, length-map}
 use Rattle.laws.proofs.Tests.{by-eqb}
-use Rattle.calculus.specs.Terms.{partAt}
-use Rattle.calculus.specs.Net.{Interface, Element, point, part, Wire, Net, partSide, elementBytes, wireBytes, pinBytes, netBytes}
+use Rattle.calculus.specs.Types.{Ty, Table}
+use Rattle.calculus.specs.Terms.{Term, partAt}
+use Rattle.calculus.specs.Rules.{many, once, away, Ctx, Typed}
+use Rattle.calculus.specs.Net.{inp, out, Interface, Element, point, part, Wire, Net, partSide, Bound, make, elementBytes, wireBytes, pinBytes, netBytes}
 use Rattle.calculus.specs.Lean.{isPin, pointCount, kept, keep, leanWires, leanPin, lean}
 use Rattle.calculus.specs.Record.{All}
 use Rattle.calculus.specs.Formed.{is, ins, made, targets, Rising, Formed}
 use Rattle.circuit_theorems.proofs.Lists.{all-map}
-use Rattle.circuit_theorems.proofs.Terminals.{made-high, no-ins, each-target}
+use Rattle.circuit_theorems.proofs.Terminals.{tiled-rising, rising-end, made-high, no-ins, each-target}
+use Rattle.circuit_theorems.proofs.Drivers.{linears, Env, term-driven}
+use Rattle.circuit_theorems.proofs.Outputs.{Shows, Runs, BoundShows, tiled, names-below}
 use Rattle.circuit_theorems.proofs.Forming.{free-targets, pin-targets, lean-formed, lean-end}
 
 -- ---- sums of a count over the terminals below n
@@ -176,3 +180,70 @@ module _ (m : Net) where
     unfolding lean
     lean-bytes =
         omega (arith, net-bytes (lean m), net-bytes m, keep-bytes (m .elements), lean-wires-few, length-map (m .pins) (leanPin m))
+
+-- ---- the wires that a typed term makes, over any binders
+
+-- the number of inputs that an interface shows
+abbrev pub inCount : Interface → ℕ
+inCount [] = 0
+inCount (inp i ∷ s) = suc (inCount s)
+inCount (out o ∷ s) = inCount s
+
+-- the number of inputs that the linear variables in Δ show
+abbrev pub linearCount : Ctx → List Bound → ℕ
+linearCount [] env = 0
+linearCount (x ∷ Γ) [] = 0
+linearCount (many θ ∷ Γ) (b ∷ env) = linearCount Γ env
+linearCount (once κ ∷ Γ) (b ∷ env) = inCount (b .side) + linearCount Γ env
+linearCount (away ∷ Γ) (b ∷ env) = linearCount Γ env
+
+sum-cong : (n : ℕ) (f g : ℕ → ℕ) → ((i : ℕ) → f i ≡ g i) → sumTo n f ≡ sumTo n g
+sum-cong zero f g h = refl
+sum-cong (suc n) f g h = ap₂ _+_ (h n) (sum-cong n f g h)
+
+module _ (N : ℕ) where
+  abbrev Low : ℕ → Type 0
+  Low x = x < N
+
+  ins-sum : (s : Interface) → Shows Low Low s → sumTo N (ins s) ≡ inCount s
+  ins-sum [] a = sum-none N
+  ins-sum (inp j ∷ s) a = omega (arith, sum-add N (λ i. is i j) (ins s), sum-one N j (a .0), ins-sum s (a .1))
+  ins-sum (out o ∷ s) a = ins-sum s (a .1)
+
+  part-all : (k j : ℕ) → j + k < N → sumTo N (ins (partSide k j)) ≡ k
+  part-all zero j h = sum-none N
+  part-all (suc k) j h = omega (arith, sum-add N (λ i. is i j) (ins (partSide k (j + 1))), sum-one N j (omega arith), part-all k (j + 1) (omega arith))
+
+  made-all : (es : List Element) (n e : ℕ) → Rising es n e → e ≤ N → sumTo N (made es) ≡ inputCount es
+  made-all [] n e a h = sum-none N
+  made-all (point j ∷ es) n e a h =
+      let q = rising-end es (j + 2) e (a .1) in
+      omega (arith, sum-add N (λ i. is i j) (made es), sum-one N j (omega arith), made-all es (j + 2) e (a .1) h)
+  made-all (part p j ∷ es) n e a h =
+      let q = rising-end es (j + partAt p .inputs + 1) e (a .1) in
+      omega (arith, sum-add N (ins (partSide (partAt p .inputs) j)) (made es), part-all (partAt p .inputs) j (omega arith), made-all es (j + partAt p .inputs + 1) e (a .1) h)
+
+  linears-all : (Γ : Ctx) (env : List Bound) → All (BoundShows Low Low) env → sumTo N (linears Γ env) ≡ linearCount Γ env
+  linears-all [] env a = sum-none N
+  linears-all (x ∷ Γ) [] a = sum-none N
+  linears-all (many θ ∷ Γ) (b ∷ env) a = linears-all Γ env (a .1)
+  linears-all (once κ ∷ Γ) (b ∷ env) a = omega (arith, sum-add N (ins (b .side)) (linears Γ env), ins-sum (b .side) (a .0), linears-all Γ env (a .1))
+  linears-all (away ∷ Γ) (b ∷ env) a = linears-all Γ env (a .1)
+
+  -- each input that is made, or comes with a linear variable, gets a wire or is shown
+  pub wires-made : {Θ : Table} {Γ : Ctx} {e : Term} {τ : Ty} → Typed Θ Γ e τ → (env : List Bound) → Env Γ env → (n : ℕ)
+      → All (BoundShows Low Low) env → make Θ e env n .next ≤ N
+      → length (make Θ e env n .wires) + inCount (make Θ e env n .side) ≡ inputCount (make Θ e env n .elements) + linearCount Γ env
+  wires-made {Θ} {Γ} {e} d env v n low h =
+      let m = make Θ e env n in
+      let r = names-below N Θ e env n low h in
+      omega (
+        arith,
+        wires-sum N (m .wires) (all-map (Runs Low Low) (λ w. w .to < N) (λ w a. a .1) (m .wires) (r .wires)),
+        ins-sum (m .side) (r .side),
+        made-all (m .elements) n (m .next) (tiled-rising (m .elements) n (m .next) (tiled Θ e env n)) h,
+        linears-all Γ env low,
+        sum-add N (made (m .elements)) (linears Γ env),
+        sum-add N (targets (m .wires)) (ins (m .side)),
+        sum-cong N (λ i. made (m .elements) i + linears Γ env i) (λ i. targets (m .wires) i + ins (m .side) i) (term-driven d env v n .count),
+      )
