@@ -55,6 +55,13 @@ kind-size k n = by (eqb k 7)
     by true = refl
     by false = refl
 
+pub size-small : (k : ℕ) → sizeOf k ≤ 4
+size-small k = by (eqb k 7)
+  where
+    by : (b : Bool) → cond b 3 4 ≤ 4
+    by true = omega arith
+    by false = omega arith
+
 -- elements from terminal n on take those up to the next free one
 pub kinds-tiled : (ks : List ℕ) (n : ℕ) → Tiled (elementsFrom ks n) n (afterAll ks n)
 kinds-tiled [] n = refl
@@ -86,6 +93,11 @@ module _ (ks : List ℕ) (i : ℕ) where
   pub bytes-more : i < length ks → firstBytes ks (i + 1) ≡ firstBytes ks i ++ elementBytes (elementsFrom (getD ks i 0 ∷ []) (firstAfter ks i))
   bytes-more h =
       rw (add-one i, take-suc ks i 0 h, kinds-append (take i ks) (getD ks i 0 ∷ []) 0, elements-append (elementsFrom (take i ks) 0) (elementsFrom (getD ks i 0 ∷ []) (firstAfter ks i)))
+
+  pub length-more : i < length ks → length (firstBytes ks (i + 1)) ≡ length (firstBytes ks i) + sizeOf (getD ks i 0)
+  length-more h =
+      ap length (bytes-more h) ∙ length-append (firstBytes ks i) (elementBytes (elementsFrom (getD ks i 0 ∷ []) (firstAfter ks i)))
+      ∙ ap (λ (x : ℕ). length (firstBytes ks i) + x) (kind-size (getD ks i 0) (firstAfter ks i))
 
   pub after-one : i < length ks → firstAfter ks (i + 1) ≡ after (getD ks i 0) (firstAfter ks i)
   after-one h = rw (add-one i, take-suc ks i 0 h, after-append (take i ks) (getD ks i 0 ∷ []) 0)

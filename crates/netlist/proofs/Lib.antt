@@ -1,2 +1,4 @@
 pub mod Records
 pub mod Elements
+pub mod PartInputs
+pub mod InMemory

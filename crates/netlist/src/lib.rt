@@ -1,12 +1,15 @@
-// Terminals, and the records of a netlist as bytes.
+// Terminals, the records of a netlist as bytes, and the full netlist.
+use parts::Named;
 ghost use mathlib.Core.Path.{_≡_};
 ghost use mathlib.Core.List.{_∷_, []};
-ghost use Prim.Native.Nat.{_+_, _≤_, _<_};
+ghost use Prim.Native.Nat.{ℕ, _+_, _≤_, _<_};
 ghost use lib.ListN.{length};
 ghost use lib.Seq.{sets};
-ghost use Rattle.calculus.specs.Net.{two, number, point, part, elementBytes, wireBytes, pinBytes};
-ghost use Rattle.memory.specs.Map.{code, terminalOf};
+ghost use Rattle.calculus.specs.Net.{two, number, point, part, elementBytes, wireBytes, pinBytes, netBytes};
+ghost use Rattle.calculus.specs.Terms.{partAt};
+ghost use Rattle.memory.specs.Map.{code, terminalOf, elementsFrom, netIn, Ready};
 ghost use Rattle.netlist.specs.Said.{saidTerminal, wire};
+ghost use Rattle.netlist.specs.Elements.{after, sizeOf};
 
 // An input terminal, and an output terminal, by its number.
 pub struct In(pub u16);
@@ -97,4 +100,60 @@ pub fn put_pin(out: &mut [u8], at: usize, t: Terminal) -> usize
     let n = number_of(t);
     out[at] = 0x24;
     put_two(out, at + 1, n)
+}
+
+// A part's number of inputs.
+fn inputs_of(kind: u8) -> u16
+    ensures { λ r. ⌜ r ≡ partAt kind .inputs ⌝ }
+{
+    match parts::part_at(kind) {
+        Named::Part(q) => q.inputs as u16,
+        Named::Unknown => 0,
+    }
+}
+
+// The next free terminal behind an element of a kind that starts at n.
+fn next_after(kind: u16, n: u16) -> u16
+    requires { ⌜ (kind < 8) × (n ≤ 8192) ⌝ }
+    ensures { λ r. ⌜ r ≡ after kind n ⌝ }
+{
+    if kind == memory::POINT {
+        n + 2
+    } else {
+        n + inputs_of(kind as u8) + 1
+    }
+}
+
+// The bytes of the record of an element of a kind.
+fn size_of(kind: u16) -> usize
+    ensures { λ r. ⌜ r ≡ sizeOf kind ⌝ }
+{
+    if kind == memory::POINT { 3 } else { 4 }
+}
+
+// The length of the full netlist that stands in the working memory.
+pub fn full_length(work: &[u16], elements: usize, wires: usize, pins: usize) -> usize
+    requires { ⌜ Ready (now work) elements wires pins ⌝ }
+    ensures { λ r. ⌜ r ≡ length (netBytes (netIn (now (work .entry)) elements wires pins)) ⌝ }
+{
+    let mut sum = 5 * wires + 3 * pins;
+    let mut i: usize = 0;
+    while i < elements {
+        sum = sum + size_of(work[memory::ELEMENTS + i]);
+        i = i + 1;
+    }
+    sum
+}
+
+// The record of an element of a kind that starts at terminal n.
+fn put_element(out: &mut [u8], at: usize, kind: u16, n: u16) -> usize
+    requires { ⌜ (kind < 8) × (at + sizeOf kind ≤ length (now out)) ⌝ }
+    ensures { λ r. ⌜ (r ≡ at + sizeOf kind)
+        × (now (out .exit) ≡ sets (now (out .entry)) at (elementBytes (elementsFrom (kind ∷ []) n))) ⌝ }
+{
+    if kind == memory::POINT {
+        put_point(out, at, In(n))
+    } else {
+        put_part(out, at, kind as u8, n)
+    }
 }
