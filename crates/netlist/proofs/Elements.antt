@@ -2,7 +2,7 @@
 use mathlib.Core.Path.{_≡_, refl, ap, sym, _∙_}
 use mathlib.Core.Bool.{Bool, true, false, cond}
 use mathlib.Core.List.{List, [], _∷_, _++_, append-assoc}
-use Prim.Native.Nat.{ℕ, suc, _+_, _*_, _≤_, _<_}
+use Prim.Native.Nat.{ℕ, zero, suc, _+_, _*_, _≤_, _<_}
 use native.Mathlib.Omega.{arith}
 use native.Mathlib.Numerals.{add-one}
 use lib.Dec.{eqb}
@@ -11,8 +11,10 @@ use lib.Seq.{take-suc, length-take-le, take-add}
 use Rattle.calculus.specs.Terms.{partAt}
 use Rattle.calculus.specs.Net.{Element, point, part, elementBytes}
 use Rattle.calculus.specs.Formed.{Tiled}
+use Rattle.calculus.specs.Record.{All}
+use Rattle.laws.proofs.Tests.{by-eqb}
 use Rattle.memory.specs.Map.{elementsFrom}
-use Rattle.netlist.specs.Elements.{after, afterAll, sizeOf}
+use Rattle.netlist.specs.Elements.{after, afterAll, sizeOf, Known}
 use Rattle.netlist.proofs.Records.{elements-append}
 
 -- the element of kind k at n, and what comes behind it
@@ -77,6 +79,16 @@ pub tiled-end : (es : List Element) (n d e : ℕ) → Tiled es n d → Tiled es 
 tiled-end [] n d e p q = sym p ∙ q
 tiled-end (point i ∷ es) n d e p q = tiled-end es (n + 2) d e (p .1) (q .1)
 tiled-end (part k i ∷ es) n d e p q = tiled-end es (n + partAt k .inputs + 1) d e (p .1) (q .1)
+
+-- kinds of known elements: a part's number, or 7
+pub kinds-known : (ks : List ℕ) (n i : ℕ) → All Known (elementsFrom ks n) → i < length ks → getD ks i 0 < 8
+kinds-known [] n i a h = absurd (omega arith)
+kinds-known (k ∷ ks) n zero a h =
+    by-eqb (λ b. All Known (cond b (point n ∷ elementsFrom ks (n + 2)) (part k n ∷ elementsFrom ks (n + partAt k .inputs + 1))) → k < 8) k 7
+    (λ e a. omega arith) (λ d a. omega (arith, a .0)) a
+kinds-known (k ∷ ks) n (suc i) a h =
+    by-eqb (λ b. All Known (cond b (point n ∷ elementsFrom ks (n + 2)) (part k n ∷ elementsFrom ks (n + partAt k .inputs + 1))) → getD ks i 0 < 8) k 7
+    (λ e a. kinds-known ks (n + 2) i (a .1) (omega arith)) (λ d a. kinds-known ks (n + partAt k .inputs + 1) i (a .1) (omega arith)) a
 
 -- ---- the first i of them
 

@@ -1,14 +1,19 @@
 -- What holds of a netlist that stands in the working memory. Assumes nothing.
 use mathlib.Core.Path.{_≡_, refl, ap, sym, _∙_}
-use mathlib.Core.List.{List, [], _∷_, _++_, map}
+use mathlib.Core.List.{List, [], _∷_, _++_, map, map-append}
 use Prim.Native.Nat.{ℕ, _+_, _*_, _≤_, _<_}
 use native.Mathlib.Omega.{arith}
+use native.Mathlib.Numerals.{add-one}
 use lib.ListN.{length, getD, take, drop, length-drop, length-map}
-use lib.Seq.{length-take-le}
-use Rattle.calculus.specs.Net.{netBytes}
-use Rattle.memory.specs.Map.{region, wiresFrom, terminalOf, netIn, Ready}
-use Rattle.netlist.proofs.Records.{net-length}
-use Rattle.netlist.proofs.Elements.{firstBytes}
+use lib.Seq.{length-take-le, take-suc, getD-take, getD-drop}
+use Rattle.calculus.specs.Net.{wireBytes, pinBytes, netBytes}
+use Rattle.calculus.specs.Record.{All}
+use Rattle.calculus.specs.Formed.{made, targets, ins}
+use Rattle.memory.specs.Map.{region, elementsFrom, wiresFrom, terminalOf, netIn, Ready}
+use Rattle.netlist.specs.Elements.{afterAll, Known}
+use Rattle.netlist.proofs.Records.{wires-append, pins-append, net-length}
+use Rattle.netlist.proofs.Elements.{firstBytes, firstAfter, kinds-tiled, tiled-end, kinds-known}
+use Rattle.netlist.proofs.Targets.{made-past, target-counted}
 
 pub region-length : (w : List ℕ) (a n : ℕ) → a + n ≤ length w → length (region w a n) ≡ n
 region-length w a n h = length-take-le n (drop a w) (rw length-drop (omega arith))
@@ -16,6 +21,29 @@ region-length w a n h = length-take-le n (drop a w) (rw length-drop (omega arith
 pub wires-count : (w is : List ℕ) → length (wiresFrom w is) ≡ length is
 wires-count w [] = refl
 wires-count w (i ∷ is) = let h = wires-count w is in omega arith
+
+pub region-at : (w : List ℕ) (a n j : ℕ) → j < n → getD (region w a n) j 0 ≡ getD w (a + j) 0
+region-at w a n j h = getD-take n (drop a w) j 0 h ∙ getD-drop a w j 0
+
+pub wiresFrom-append : (w is js : List ℕ) → wiresFrom w (is ++ js) ≡ wiresFrom w is ++ wiresFrom w js
+wiresFrom-append w [] js = refl
+wiresFrom-append w (i ∷ is) js = rw (wiresFrom-append w is js)
+
+-- ---- one more wire, one more pin
+
+pub wires-more : (w : List ℕ) (a i : ℕ) → a + i < length w
+    → wireBytes (wiresFrom w (region w a (i + 1))) ≡ wireBytes (wiresFrom w (region w a i)) ++ wireBytes (wiresFrom w (getD w (a + i) 0 ∷ []))
+wires-more w a i h =
+    let lt : i < length (drop a w) = rw length-drop (omega arith) in
+    rw (add-one i, take-suc (drop a w) i 0 lt, wiresFrom-append w (region w a i) (getD (drop a w) i 0 ∷ []), wires-append (wiresFrom w (region w a i)) (wiresFrom w (getD (drop a w) i 0 ∷ [])), getD-drop a w i 0)
+
+pub pins-more : (w : List ℕ) (a i : ℕ) → a + i < length w
+    → pinBytes (map terminalOf (region w a (i + 1))) ≡ pinBytes (map terminalOf (region w a i)) ++ pinBytes (terminalOf (getD w (a + i) 0) ∷ [])
+pins-more w a i h =
+    let lt : i < length (drop a w) = rw length-drop (omega arith) in
+    rw (add-one i, take-suc (drop a w) i 0 lt, map-append terminalOf (region w a i) (getD (drop a w) i 0 ∷ []), pins-append (map terminalOf (region w a i)) (terminalOf (getD (drop a w) i 0) ∷ []), getD-drop a w i 0)
+
+-- ---- a whole netlist
 
 module _ (w : List ℕ) (e k p : ℕ) (r : Ready w e k p) where
   pub wires-here : length (wiresFrom w (region w 8192 k)) ≡ k
@@ -31,3 +59,30 @@ module _ (w : List ℕ) (e k p : ℕ) (r : Ready w e k p) where
       let a = wires-here in
       let b = pins-here in
       omega arith
+
+  -- the elements' terminals end by 8,192
+  pub after-here : firstAfter (drop 13824 w) e ≤ 8192
+  unfolding netIn
+  after-here =
+      let ks = region w 13824 e in
+      let t = tiled-end (elementsFrom ks 0) 0 (afterAll ks 0) (r .end) (kinds-tiled ks 0) (r .tiled) in
+      let b = r .below in
+      omega arith
+
+  -- and each wire runs to one of them
+  pub target-here : (j : ℕ) → j < k → getD w (8192 + j) 0 < 8192
+  unfolding netIn
+  target-here j h =
+      let ts = region w 8192 k in
+      let t = getD w (8192 + j) 0 in
+      let l = region-length w 8192 k (omega arith) in
+      let counted : 1 ≤ targets (wiresFrom w ts) t = rw (← region-at w 8192 k j h) (target-counted w ts j (omega arith)) in
+      let once = r .formed .once t in
+      let past : 8192 ≤ t → ⊥ = λ g. omega (arith, made-past (elementsFrom (region w 13824 e) 0) 0 (r .end) t (r .tiled) (omega arith)) in
+      omega arith
+
+  pub kind-here : All Known (netIn w e k p .elements) → (i : ℕ) → i < e → getD w (13824 + i) 0 < 8
+  unfolding netIn
+  kind-here a i h =
+      let l = region-length w 13824 e (omega arith) in
+      rw (← region-at w 13824 e i h) (kinds-known (region w 13824 e) 0 i a (omega arith))

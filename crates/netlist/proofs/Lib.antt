@@ -1,4 +1,5 @@
 pub mod Records
 pub mod Elements
 pub mod PartInputs
+pub mod Targets
 pub mod InMemory

@@ -4,6 +4,8 @@ use mathlib.Core.List.{List, [], _∷_, _++_}
 use Prim.Native.Nat.{ℕ, _+_, _*_, _≤_}
 use native.Mathlib.Omega.{arith}
 use lib.ListN.{length, length-append}
+use lib.Seq.{sets}
+use Rattle.laws.proofs.Regions.{sets-append}
 use Rattle.calculus.specs.Net.{Interface, Element, point, part, Wire, Net, elementBytes, wireBytes, pinBytes, netBytes}
 
 -- ---- records in a row
@@ -35,3 +37,9 @@ pub net-length : (m : Net) → length (netBytes m) ≡ length (elementBytes (m .
 unfolding netBytes
 net-length m =
     rw (length-append (elementBytes (m .elements)) (wireBytes (m .wires) ++ pinBytes (m .pins)), length-append (wireBytes (m .wires)) (pinBytes (m .pins)), wires-length (m .wires), pins-length (m .pins))
+
+-- ---- written one after the other
+
+-- a record behind those that stand
+pub record-more : (out bs cs all : List ℕ) (from at : ℕ) → at ≡ from + length bs → all ≡ bs ++ cs → sets (sets out from bs) at cs ≡ sets out from all
+record-more out bs cs all from at h e = rw (h, e) (sets-append bs cs out from)

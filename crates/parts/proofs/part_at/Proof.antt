@@ -16,7 +16,7 @@ array-copy-out-t16 c = search needs
 
 -- src/lib.rt:58:1
 returns : tie.Need-returns
-returns c = named-part (c .before .before .args .p) (c .before .before .if1 .taken)
+returns c = named-part (c .before .before .args .p) (c .before .if1 .taken)
 
 -- src/lib.rt:58:1
 returns-2 : tie.Need-returns-2
