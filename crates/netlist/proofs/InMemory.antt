@@ -1,18 +1,18 @@
 -- What holds of a netlist that stands in the working memory. Assumes nothing.
 use mathlib.Core.Path.{_≡_, refl, ap, sym, _∙_}
 use mathlib.Core.List.{List, [], _∷_, _++_, map, map-append}
-use Prim.Native.Nat.{ℕ, _+_, _*_, _≤_, _<_}
+use Prim.Native.Nat.{ℕ, _+_, _-_, _*_, _≤_, _<_}
 use native.Mathlib.Omega.{arith}
 use native.Mathlib.Numerals.{add-one}
 use lib.ListN.{length, getD, take, drop, length-drop, length-map}
 use lib.Seq.{length-take-le, take-suc, getD-take, getD-drop}
-use Rattle.calculus.specs.Net.{wireBytes, pinBytes, netBytes}
+use Rattle.calculus.specs.Net.{elementBytes, wireBytes, pinBytes, netBytes}
 use Rattle.calculus.specs.Record.{All}
 use Rattle.calculus.specs.Formed.{made, targets, ins}
 use Rattle.memory.specs.Map.{region, elementsFrom, wiresFrom, terminalOf, netIn, Ready}
-use Rattle.netlist.specs.Elements.{afterAll, Known}
-use Rattle.netlist.proofs.Records.{wires-append, pins-append, net-length}
-use Rattle.netlist.proofs.Elements.{firstBytes, firstAfter, kinds-tiled, tiled-end, kinds-known}
+use Rattle.netlist.specs.Elements.{after, afterAll, sizeOf, Known}
+use Rattle.netlist.proofs.Records.{wires-append, pins-append, wires-length, pins-length, net-length}
+use Rattle.netlist.proofs.Elements.{firstBytes, firstAfter, bytes-more, length-more, after-one, bytes-within, after-within, kinds-tiled, tiled-end, kinds-known}
 use Rattle.netlist.proofs.Targets.{made-past, target-counted}
 
 pub region-length : (w : List ℕ) (a n : ℕ) → a + n ≤ length w → length (region w a n) ≡ n
@@ -29,7 +29,29 @@ pub wiresFrom-append : (w is js : List ℕ) → wiresFrom w (is ++ js) ≡ wires
 wiresFrom-append w [] js = refl
 wiresFrom-append w (i ∷ is) js = rw (wiresFrom-append w is js)
 
--- ---- one more wire, one more pin
+-- ---- one more element, wire or pin
+
+module _ (w : List ℕ) (a i : ℕ) (h : a + i < length w) where
+  here : i < length (drop a w)
+  here = rw length-drop (omega arith)
+
+  pub element-more : firstBytes (drop a w) (i + 1) ≡ firstBytes (drop a w) i ++ elementBytes (elementsFrom (getD w (a + i) 0 ∷ []) (firstAfter (drop a w) i))
+  element-more = rw (← getD-drop a w i 0) (bytes-more (drop a w) i here)
+
+  pub element-length : length (firstBytes (drop a w) (i + 1)) ≡ length (firstBytes (drop a w) i) + sizeOf (getD w (a + i) 0)
+  element-length = rw (← getD-drop a w i 0) (length-more (drop a w) i here)
+
+  pub element-after : firstAfter (drop a w) (i + 1) ≡ after (getD w (a + i) 0) (firstAfter (drop a w) i)
+  element-after = rw (← getD-drop a w i 0) (after-one (drop a w) i here)
+
+  pub element-fits : (n : ℕ) → i < n → length (firstBytes (drop a w) i) + sizeOf (getD w (a + i) 0) ≤ length (firstBytes (drop a w) n)
+  element-fits n lt =
+      let e : i + 1 + (n - (i + 1)) ≡ n = omega arith in
+      let within = rw e at (bytes-within (drop a w) (i + 1) (n - (i + 1))) in
+      omega (arith, element-length)
+
+pub after-fits : (ks : List ℕ) (i n : ℕ) → i ≤ n → firstAfter ks i ≤ firstAfter ks n
+after-fits ks i n h = let e : i + (n - i) ≡ n = omega arith in rw e at (after-within ks i (n - i))
 
 pub wires-more : (w : List ℕ) (a i : ℕ) → a + i < length w
     → wireBytes (wiresFrom w (region w a (i + 1))) ≡ wireBytes (wiresFrom w (region w a i)) ++ wireBytes (wiresFrom w (getD w (a + i) 0 ∷ []))
@@ -43,21 +65,23 @@ pins-more w a i h =
     let lt : i < length (drop a w) = rw length-drop (omega arith) in
     rw (add-one i, take-suc (drop a w) i 0 lt, map-append terminalOf (region w a i) (getD (drop a w) i 0 ∷ []), pins-append (map terminalOf (region w a i)) (terminalOf (getD (drop a w) i 0) ∷ []), getD-drop a w i 0)
 
+-- ---- the length of n of them
+
+pub wires-first : (w : List ℕ) (a n : ℕ) → a + n ≤ length w → length (wireBytes (wiresFrom w (region w a n))) ≡ 5 * n
+wires-first w a n h = rw (wires-length (wiresFrom w (region w a n)), wires-count w (region w a n), region-length w a n h)
+
+pub pins-first : (w : List ℕ) (a n : ℕ) → a + n ≤ length w → length (pinBytes (map terminalOf (region w a n))) ≡ 3 * n
+pins-first w a n h = rw (pins-length (map terminalOf (region w a n)), length-map (region w a n) terminalOf, region-length w a n h)
+
 -- ---- a whole netlist
 
 module _ (w : List ℕ) (e k p : ℕ) (r : Ready w e k p) where
-  pub wires-here : length (wiresFrom w (region w 8192 k)) ≡ k
-  wires-here = wires-count w (region w 8192 k) ∙ region-length w 8192 k (omega arith)
-
-  pub pins-here : length (map terminalOf (region w 18944 p)) ≡ p
-  pins-here = length-map (region w 18944 p) terminalOf ∙ region-length w 18944 p (omega arith)
-
   pub length-here : length (netBytes (netIn w e k p)) ≡ 5 * k + 3 * p + length (firstBytes (drop 13824 w) e)
   unfolding netIn
   length-here =
       let l = net-length (netIn w e k p) in
-      let a = wires-here in
-      let b = pins-here in
+      let a = wires-first w 8192 k (omega arith) in
+      let b = pins-first w 18944 p (omega arith) in
       omega arith
 
   -- the elements' terminals end by 8,192

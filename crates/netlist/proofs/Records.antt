@@ -33,10 +33,11 @@ pub pins-length : (xs : Interface) → length (pinBytes xs) ≡ 3 * length xs
 pins-length [] = refl
 pins-length (x ∷ xs) = let h = pins-length xs in omega arith
 
-pub net-length : (m : Net) → length (netBytes m) ≡ length (elementBytes (m .elements)) + (5 * length (m .wires) + 3 * length (m .pins))
+pub net-length : (m : Net) → length (netBytes m) ≡ length (elementBytes (m .elements)) + (length (wireBytes (m .wires)) + length (pinBytes (m .pins)))
 unfolding netBytes
 net-length m =
-    rw (length-append (elementBytes (m .elements)) (wireBytes (m .wires) ++ pinBytes (m .pins)), length-append (wireBytes (m .wires)) (pinBytes (m .pins)), wires-length (m .wires), pins-length (m .pins))
+    length-append (elementBytes (m .elements)) (wireBytes (m .wires) ++ pinBytes (m .pins))
+    ∙ ap (λ (x : ℕ). length (elementBytes (m .elements)) + x) (length-append (wireBytes (m .wires)) (pinBytes (m .pins)))
 
 -- ---- written one after the other
 

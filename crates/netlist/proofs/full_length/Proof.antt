@@ -2,12 +2,10 @@
 use borrow.Author.Needs.{needs}
 use native.Mathlib.Omega.{arith}
 use mathlib.Core.Path.{_≡_, sym, _∙_}
-use Prim.Native.Nat.{_≤_, _<_, _-_, _+_, _*_}
-use lib.ListN.{length, drop, getD, length-drop}
-use lib.Seq.{getD-drop}
-use Rattle.netlist.specs.Elements.{sizeOf}
-use Rattle.netlist.proofs.Elements.{firstBytes, length-more, size-small}
-use Rattle.netlist.proofs.InMemory.{length-here}
+use Prim.Native.Nat.{_≤_, _-_, _+_, _*_}
+use lib.ListN.{length, drop, getD}
+use Rattle.netlist.proofs.Elements.{firstBytes, size-small}
+use Rattle.netlist.proofs.InMemory.{element-length, length-here}
 use Rattle.netlist.proofs.full_length.Statement.{statement}
 use Rattle.netlist.proofs.full_length.Tie as tie
 
@@ -29,9 +27,7 @@ loop-again c =
     let w = c .before .before .before .before .before .args .work .now in
     let i = c .before .before .before .loop .i in
     let kind = getD w (13824 + i) 0 in
-    let lt : i < length (drop 13824 w) = rw length-drop (omega arith) in
-    let e : length (firstBytes (drop 13824 w) (i + 1)) ≡ length (firstBytes (drop 13824 w) i) + sizeOf kind =
-    rw (← getD-drop 13824 w i 0) (length-more (drop 13824 w) i lt) in
+    let e = element-length w 13824 i (omega arith) in
     let s = size-small kind in
     (omega arith, (omega arith, omega arith))
 
