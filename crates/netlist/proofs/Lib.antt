@@ -3,3 +3,4 @@ pub mod Elements
 pub mod PartInputs
 pub mod Targets
 pub mod InMemory
+pub mod Whole

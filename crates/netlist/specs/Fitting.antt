@@ -1,12 +1,19 @@
--- What stands in the working memory, and fits the output from an offset on. Assumes nothing.
+-- What stands in the working memory, and fits the room of the output. Assumes nothing.
 use Prim.Native.Nat.{ℕ, _+_, _*_, _≤_, _<_}
 use mathlib.Core.List.{List}
 use lib.ListN.{length, getD}
-use Rattle.calculus.specs.Net.{elementBytes}
-use Rattle.memory.specs.Map.{region, elementsFrom}
-use Rattle.netlist.specs.Elements.{afterAll}
+use Rattle.calculus.specs.Net.{elementBytes, netBytes}
+use Rattle.calculus.specs.Record.{All}
+use Rattle.memory.specs.Map.{region, elementsFrom, netIn, Ready}
+use Rattle.netlist.specs.Elements.{afterAll, Known}
 
--- n elements of known kinds, that take no terminal from 8,192 on
+-- a whole netlist
+pub record Writable (w : List ℕ) (elements wires pins room : ℕ) : Type 0 where
+  pub ready : Ready w elements wires pins
+  pub known : All Known (netIn w elements wires pins .elements)
+  pub target : length (netBytes (netIn w elements wires pins)) ≤ room
+
+-- from an offset on, n elements of known kinds, that take no terminal from 8,192 on
 pub record ElementsFit (w : List ℕ) (n room from : ℕ) : Type 0 where
   pub source : 13824 + n ≤ length w
   pub target : from + length (elementBytes (elementsFrom (region w 13824 n) 0)) ≤ room

@@ -7,11 +7,10 @@ ghost use lib.ListN.{length};
 ghost use lib.Seq.{sets};
 ghost use Rattle.calculus.specs.Net.{two, number, point, part, elementBytes, wireBytes, pinBytes, netBytes};
 ghost use Rattle.calculus.specs.Terms.{partAt};
-ghost use Rattle.calculus.specs.Record.{All};
 ghost use Rattle.memory.specs.Map.{code, terminalOf, region, elementsFrom, wiresFrom, netIn, Ready};
 ghost use Rattle.netlist.specs.Said.{saidTerminal, wire};
-ghost use Rattle.netlist.specs.Elements.{after, sizeOf, Known};
-ghost use Rattle.netlist.specs.Fitting.{ElementsFit, WiresFit, PinsFit};
+ghost use Rattle.netlist.specs.Elements.{after, sizeOf};
+ghost use Rattle.netlist.specs.Fitting.{ElementsFit, WiresFit, PinsFit, Writable};
 
 // An input terminal, and an output terminal, by its number.
 pub struct In(pub u16);
@@ -212,9 +211,7 @@ fn put_pins(work: &[u16], pins: usize, out: &mut [u8], from: usize) -> usize
 
 // The full netlist that stands in the working memory, written from the start of the output; its length.
 pub fn write_full(work: &[u16], out: &mut [u8], elements: usize, wires: usize, pins: usize) -> usize
-    requires { ⌜ Ready (now work) elements wires pins ⌝ }
-    requires { ⌜ All Known (netIn (now work) elements wires pins .elements) ⌝ }
-    requires { ⌜ length (netBytes (netIn (now work) elements wires pins)) ≤ length (now out) ⌝ }
+    requires { ⌜ Writable (now work) elements wires pins (length (now out)) ⌝ }
     ensures { λ r. ⌜ (r ≡ length (netBytes (netIn (now (work .entry)) elements wires pins)))
         × (now (out .exit) ≡ sets (now (out .entry)) 0 (netBytes (netIn (now (work .entry)) elements wires pins))) ⌝ }
 {

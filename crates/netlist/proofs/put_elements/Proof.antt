@@ -1,5 +1,4 @@
 -- The invariant: the output holds the records of the first i elements, and n is the next free terminal. Assumes nothing.
-use borrow.Author.Needs.{needs}
 use native.Mathlib.Omega.{arith}
 use mathlib.Core.Path.{_≡_, refl, sym, _∙_}
 use Prim.Native.Nat.{_≤_, _<_, _-_, _+_}
@@ -10,10 +9,6 @@ use Rattle.netlist.proofs.Elements.{firstBytes, firstAfter}
 use Rattle.netlist.proofs.InMemory.{element-more, element-length, element-after, element-fits, after-fits}
 use Rattle.netlist.proofs.put_elements.Statement.{statement}
 use Rattle.netlist.proofs.put_elements.Tie as tie
-use Rattle.netlist.proofs.put_elements.Reads as reads
-use Rattle.netlist.proofs.put_elements.Lts as lts
-use Rattle.netlist.proofs.next_after.Reads as next-after-reads
-use Rattle.netlist.proofs.put_element.Reads as put-element-reads
 
 abbrev Inv-loop : tie.InvT-loop
 Inv-loop work elements out₀ from at₀ n₀ i₀ out at n i =
@@ -24,23 +19,9 @@ Inv-loop work elements out₀ from at₀ n₀ i₀ out at n i =
 abbrev μ-loop : tie.MeasureT-loop
 μ-loop work elements out₀ from at₀ n₀ i₀ out at n i = elements - i
 
--- src/lib.rt:172:5
 loop-holds : tie.Need-loop-holds Inv-loop μ-loop
 loop-holds c = (omega arith, (omega arith, (refl, (refl, refl))))
 
--- src/lib.rt:173:25
-add-kind : tie.Need-add-kind Inv-loop μ-loop
-add-kind c = omega arith
-
--- src/lib.rt:173:20
-mul-kind : tie.Need-mul-kind Inv-loop μ-loop
-mul-kind c = omega arith
-
--- src/lib.rt:173:20
-shared-slice-read-kind : tie.Need-shared-slice-read-kind Inv-loop μ-loop
-shared-slice-read-kind c = omega arith
-
--- src/lib.rt:174:9
 put-element-requires : tie.Need-put-element-requires Inv-loop μ-loop
 put-element-requires c κs =
     let a = c .before .before .before .before .before .before .args in
@@ -48,7 +29,6 @@ put-element-requires c κs =
     let f = element-fits (a .work .now) 13824 (l .i) (omega arith) (a .elements) (omega arith) in
     (c .before .before .before .before .before .before .pre .known (l .i) (omega arith), omega arith)
 
--- src/lib.rt:175:9
 next-after-requires : tie.Need-next-after-requires Inv-loop μ-loop
 next-after-requires c κs =
     let a = c .before .before .before .before .before .before .before .before .before .args in
@@ -56,15 +36,6 @@ next-after-requires c κs =
     let f = after-fits (drop 13824 (a .work .now)) (l .i) (a .elements) (omega arith) in
     (c .before .before .before .before .before .before .before .before .before .pre .known (l .i) (omega arith), omega arith)
 
--- src/lib.rt:176:13
-add-i : tie.Need-add-i Inv-loop μ-loop
-add-i c = omega arith
-
--- src/lib.rt:172:5
-loop-less : tie.Need-loop-less Inv-loop μ-loop
-loop-less c = omega arith
-
--- src/lib.rt:172:5
 loop-again : tie.Need-loop-again Inv-loop μ-loop
 loop-again c =
     let a = c .before .before .before .before .before .before .before .before .before .before .args in
@@ -86,11 +57,6 @@ loop-again c =
       ),
     )
 
--- src/lib.rt:164:1
-same-length : tie.Need-same-length Inv-loop μ-loop
-same-length c = omega arith
-
--- src/lib.rt:164:1
 returns : tie.Need-returns Inv-loop μ-loop
 returns c =
     let l = c .before .loop in
@@ -98,19 +64,4 @@ returns c =
     rw (← n) (l .inv .1 .0, l .inv .1 .1 .1 .1)
 
 pub put-elements-spec : {M : Type 1} → statement M
-put-elements-spec =
-    tie.close
-    (tie.spec
-    Inv-loop
-    μ-loop
-    loop-holds
-    add-kind
-    mul-kind
-    shared-slice-read-kind
-    put-element-requires
-    next-after-requires
-    add-i
-    loop-less
-    loop-again
-    same-length
-    returns)
+put-elements-spec = tie.close (tie.spec Inv-loop μ-loop loop-holds (λ c. omega arith) (λ c. omega arith) (λ c. omega arith) put-element-requires next-after-requires (λ c. omega arith) (λ c. omega arith) loop-again (λ c. omega arith) returns)

@@ -1,7 +1,6 @@
 -- The invariant: the output holds the records of the first i wires. Assumes nothing.
-use borrow.Author.Needs.{needs}
 use native.Mathlib.Omega.{arith}
-use mathlib.Core.Path.{_≡_, refl, sym, _∙_}
+use mathlib.Core.Path.{_≡_, refl, _∙_}
 use Prim.Native.Nat.{_≤_, _-_, _+_, _*_}
 use native.Mathlib.Nat.{zero-add}
 use lib.ListN.{length}
@@ -12,9 +11,6 @@ use Rattle.netlist.proofs.Records.{record-more}
 use Rattle.netlist.proofs.InMemory.{wires-more, wires-first}
 use Rattle.netlist.proofs.put_wires.Statement.{statement}
 use Rattle.netlist.proofs.put_wires.Tie as tie
-use Rattle.netlist.proofs.put_wires.Reads as reads
-use Rattle.netlist.proofs.put_wires.Lts as lts
-use Rattle.netlist.proofs.put_wire.Reads as put-wire-reads
 
 abbrev Inv-loop : tie.InvT-loop
 Inv-loop work wires out₀ from at₀ i₀ out at i =
@@ -24,51 +20,21 @@ Inv-loop work wires out₀ from at₀ i₀ out at i =
 abbrev μ-loop : tie.MeasureT-loop
 μ-loop work wires out₀ from at₀ i₀ out at i = wires - i
 
--- src/lib.rt:189:5
 loop-holds : tie.Need-loop-holds Inv-loop μ-loop
 loop-holds c = (omega arith, (omega arith, (refl, refl)))
 
--- src/lib.rt:190:23
-add-to : tie.Need-add-to Inv-loop μ-loop
-add-to c = omega arith
-
--- src/lib.rt:190:18
-mul-to : tie.Need-mul-to Inv-loop μ-loop
-mul-to c = omega arith
-
--- src/lib.rt:190:18
-shared-slice-read-to : tie.Need-shared-slice-read-to Inv-loop μ-loop
-shared-slice-read-to c = omega arith
-
--- src/lib.rt:191:45
 cast-driver : tie.Need-cast-driver Inv-loop μ-loop
 cast-driver c = omega (arith, c .before .before .before .before .before .pre .low (c .before .before .loop .i) (omega arith))
 
--- src/lib.rt:191:27
 add-driver : tie.Need-add-driver Inv-loop μ-loop
 add-driver c = omega (arith, c .before .before .before .before .before .pre .low (c .before .before .loop .i) (omega arith))
 
--- src/lib.rt:191:22
 mul-driver : tie.Need-mul-driver Inv-loop μ-loop
 mul-driver c = omega (arith, c .before .before .before .before .before .pre .low (c .before .before .loop .i) (omega arith))
 
--- src/lib.rt:191:22
 shared-slice-read-driver : tie.Need-shared-slice-read-driver Inv-loop μ-loop
 shared-slice-read-driver c = omega (arith, c .before .before .before .before .before .before .pre .low (c .before .before .before .loop .i) (omega arith))
 
--- src/lib.rt:192:9
-put-wire-requires : tie.Need-put-wire-requires Inv-loop μ-loop
-put-wire-requires c κs = omega arith
-
--- src/lib.rt:193:13
-add-i : tie.Need-add-i Inv-loop μ-loop
-add-i c = omega arith
-
--- src/lib.rt:189:5
-loop-less : tie.Need-loop-less Inv-loop μ-loop
-loop-less c = omega arith
-
--- src/lib.rt:189:5
 loop-again : tie.Need-loop-again Inv-loop μ-loop
 loop-again c =
     let a = c .before .before .before .before .before .before .before .before .before .before .args in
@@ -86,11 +52,6 @@ loop-again c =
       ),
     )
 
--- src/lib.rt:182:1
-same-length : tie.Need-same-length Inv-loop μ-loop
-same-length c = omega arith
-
--- src/lib.rt:182:1
 returns : tie.Need-returns Inv-loop μ-loop
 returns c =
     let l = c .before .loop in
@@ -98,22 +59,4 @@ returns c =
     rw (← n) (l .inv .1 .0, l .inv .1 .1 .1)
 
 pub put-wires-spec : {M : Type 1} → statement M
-put-wires-spec =
-    tie.close
-    (tie.spec
-    Inv-loop
-    μ-loop
-    loop-holds
-    add-to
-    mul-to
-    shared-slice-read-to
-    cast-driver
-    add-driver
-    mul-driver
-    shared-slice-read-driver
-    put-wire-requires
-    add-i
-    loop-less
-    loop-again
-    same-length
-    returns)
+put-wires-spec = tie.close (tie.spec Inv-loop μ-loop loop-holds (λ c. omega arith) (λ c. omega arith) (λ c. omega arith) cast-driver add-driver mul-driver shared-slice-read-driver (λ c κs. omega arith) (λ c. omega arith) (λ c. omega arith) loop-again (λ c. omega arith) returns)
