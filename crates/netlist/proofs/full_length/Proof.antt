@@ -39,4 +39,8 @@ returns c =
     l .inv .1 .0 ∙ rw n (sym (length-here (a .work .now) (a .elements) (a .wires) (a .pins) (c .before .before .before .pre)))
 
 pub full-length-spec : {M : Type 1} → statement M
-full-length-spec = tie.close (tie.spec Inv-loop μ-loop (λ c. omega arith) (λ c. omega arith) (λ c. omega arith) loop-holds (λ c. omega arith) (λ c. omega arith) (λ c. omega arith) (λ c κs. search needs) add-sum-2 (λ c. omega arith) (λ c. omega arith) loop-again returns)
+full-length-spec =
+    tie.close
+    (tie.spec Inv-loop μ-loop (λ c. omega arith) (λ c. omega arith) (λ c. omega arith) loop-holds (λ c. omega arith)
+    (λ c. omega arith) (λ c. omega arith) (λ c κs. search needs) add-sum-2 (λ c. omega arith) (λ c. omega arith) loop-again
+    returns)

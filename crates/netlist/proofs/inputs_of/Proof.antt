@@ -17,4 +17,6 @@ returns-2 c =
     ap inputsIn (ap saidNamed (sym (c .enum-told .given .1)) ∙ p .ensures) ∙ inputs-named _
 
 pub inputs-of-spec : {M : Type 1} → statement M
-inputs-of-spec = tie.close (tie.spec (λ c κs. search needs) (λ c. search needs) (λ c. search needs) (λ c. search needs) returns returns-2)
+inputs-of-spec =
+    tie.close
+    (tie.spec (λ c κs. search needs) (λ c. search needs) (λ c. search needs) (λ c. search needs) returns returns-2)

@@ -19,4 +19,6 @@ returns-2 : tie.Need-returns-2
 returns-2 c = rw (ne-eqb _ _ (c .before .if1 .left), c .inputs-of .ensures)
 
 pub next-after-spec : {M : Type 1} → statement M
-next-after-spec = tie.close (tie.spec (λ c. search needs) (λ c. search needs) (λ c κs. search needs) add-result-2 add-result-3 returns returns-2)
+next-after-spec =
+    tie.close
+    (tie.spec (λ c. search needs) (λ c. search needs) (λ c κs. search needs) add-result-2 add-result-3 returns returns-2)

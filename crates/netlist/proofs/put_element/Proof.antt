@@ -30,4 +30,6 @@ returns-2 c =
     (e .0 ∙ rw k, e .1 ∙ rw k)
 
 pub put-element-spec : {M : Type 1} → statement M
-put-element-spec = tie.close (tie.spec put-point-requires (λ c. search needs) put-part-requires (λ c. search needs) returns (λ c. search needs) returns-2)
+put-element-spec =
+    tie.close
+    (tie.spec put-point-requires (λ c. search needs) put-part-requires (λ c. search needs) returns (λ c. search needs) returns-2)

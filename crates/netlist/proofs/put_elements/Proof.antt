@@ -64,4 +64,7 @@ returns c =
     rw (← n) (l .inv .1 .0, l .inv .1 .1 .1 .1)
 
 pub put-elements-spec : {M : Type 1} → statement M
-put-elements-spec = tie.close (tie.spec Inv-loop μ-loop loop-holds (λ c. omega arith) (λ c. omega arith) (λ c. omega arith) put-element-requires next-after-requires (λ c. omega arith) (λ c. omega arith) loop-again (λ c. omega arith) returns)
+put-elements-spec =
+    tie.close
+    (tie.spec Inv-loop μ-loop loop-holds (λ c. omega arith) (λ c. omega arith) (λ c. omega arith) put-element-requires
+    next-after-requires (λ c. omega arith) (λ c. omega arith) loop-again (λ c. omega arith) returns)

@@ -59,4 +59,8 @@ returns c =
     rw (← n) (l .inv .1 .0, l .inv .1 .1 .1)
 
 pub put-wires-spec : {M : Type 1} → statement M
-put-wires-spec = tie.close (tie.spec Inv-loop μ-loop loop-holds (λ c. omega arith) (λ c. omega arith) (λ c. omega arith) cast-driver add-driver mul-driver shared-slice-read-driver (λ c κs. omega arith) (λ c. omega arith) (λ c. omega arith) loop-again (λ c. omega arith) returns)
+put-wires-spec =
+    tie.close
+    (tie.spec Inv-loop μ-loop loop-holds (λ c. omega arith) (λ c. omega arith) (λ c. omega arith) cast-driver add-driver
+    mul-driver shared-slice-read-driver (λ c κs. omega arith) (λ c. omega arith) (λ c. omega arith) loop-again (λ c. omega arith)
+    returns)
