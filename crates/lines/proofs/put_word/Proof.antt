@@ -1,0 +1,81 @@
+-- The invariant: the output holds the word's first i bytes. Assumes nothing.
+use native.Mathlib.Omega.{arith}
+use mathlib.Core.Path.{_≡_, refl, _∙_}
+use Prim.Native.Nat.{_≤_, _-_}
+use lib.ListN.{length, take, length-set}
+use lib.Seq.{sets, take-all}
+use Rattle.lines.proofs.Stores.{word-more}
+use Rattle.lines.proofs.put_word.Statement.{statement}
+use Rattle.lines.proofs.put_word.Tie as tie
+use Rattle.lines.proofs.put_word.Reads as reads
+use Rattle.lines.proofs.put_word.Lts as lts
+
+abbrev Inv-loop : tie.InvT-loop
+Inv-loop out₀ at word i₀ out i = (i ≤ length word) × ((length out ≡ length out₀) × (out ≡ sets out₀ at (take i word)))
+
+abbrev μ-loop : tie.MeasureT-loop
+μ-loop out₀ at word i₀ out i = length word - i
+
+-- src/lib.rt:14:5
+loop-holds : tie.Need-loop-holds Inv-loop μ-loop
+loop-holds c = (omega arith, (refl, refl))
+
+-- src/lib.rt:15:23
+shared-slice-read-out : tie.Need-shared-slice-read-out Inv-loop μ-loop
+shared-slice-read-out c = omega arith
+
+-- src/lib.rt:15:13
+add-out : tie.Need-add-out Inv-loop μ-loop
+add-out c = omega arith
+
+-- src/lib.rt:15:9
+slice-write-out : tie.Need-slice-write-out Inv-loop μ-loop
+slice-write-out c = omega arith
+
+-- src/lib.rt:16:13
+add-i : tie.Need-add-i Inv-loop μ-loop
+add-i c = omega arith
+
+-- src/lib.rt:14:5
+loop-less : tie.Need-loop-less Inv-loop μ-loop
+loop-less c = omega arith
+
+-- src/lib.rt:14:5
+loop-again : tie.Need-loop-again Inv-loop μ-loop
+loop-again c =
+    let a = c .before .before .before .args in
+    let l = c .before .before .loop in
+    (omega arith, (simp length-set (omega arith), rw (l .inv .1 .1) (word-more (a .out .now) (a .word .now) (a .at) (l .i) (omega arith))))
+
+-- src/lib.rt:18:5
+add-result : tie.Need-add-result Inv-loop μ-loop
+add-result c = omega arith
+
+-- src/lib.rt:9:1
+same-length : tie.Need-same-length Inv-loop μ-loop
+same-length c = omega arith
+
+-- src/lib.rt:9:1
+returns : tie.Need-returns Inv-loop μ-loop
+returns c =
+    let w = c .before .before .args .word .now in
+    let l = c .before .loop in
+    let n : l .i ≡ length w = omega arith in
+    (rw n, l .inv .1 .1 ∙ rw (take-all (l .i) w (omega arith)))
+
+pub put-word-spec : {M : Type 1} → statement M
+put-word-spec =
+    tie.close
+    (tie.spec
+    Inv-loop
+    μ-loop
+    loop-holds
+    shared-slice-read-out
+    add-out
+    slice-write-out
+    add-i
+    loop-less
+    loop-again
+    add-result
+    same-length
+    returns)
