@@ -1,14 +1,14 @@
 -- Laws of a number in decimal: it ends with its last digit, and below 2 to the 64th it has at most 20. Assumes nothing.
 use mathlib.Core.Path.{_≡_, refl, ap, sym, _∙_}
 use mathlib.Core.Bool.{Bool, true, false, cond}
-use mathlib.Core.List.{List, [], _∷_, _++_}
+use mathlib.Core.List.{List, [], _∷_, _++_, append-nil, append-assoc}
 use Prim.Native.Nat.{ℕ, zero, suc, _+_, _*_, _/_, _%_, _^_, _≤_, _<_}
 use native.Mathlib.Omega.{arith}
 use borrow.Author.Tests.{lt-ltb, le-ltb}
 use lib.Dec.{ltb}
 use lib.ListN.{length, length-append}
-use Rattle.calculus.specs.Listing.{Text, digits, decimal}
-use Rattle.lines.specs.Figure.{figure}
+use Rattle.calculus.specs.Listing.{Text, digits, decimal, terminals}
+use Rattle.lines.specs.Figure.{figure, figures}
 
 abbrev tens : ℕ → ℕ
 tens zero = 1
@@ -52,3 +52,22 @@ figure-few n = digits-few 20 n
 pub figure-fewer : (n : ℕ) → n < 2 ^ 64 → length (figure (n / 10)) ≤ 19
 unfolding figure
 figure-fewer n h = omega (arith, ap length (one-less n h), digits-few 19 (n / 10))
+
+-- ---- numbers in a row
+
+pub figures-more : (k i : ℕ) → figures (k + 1) i ≡ figures k i ++ (32 ∷ figure (i + k))
+figures-more zero i = let e : i + 0 ≡ i = omega arith in rw (e, append-nil)
+figures-more (suc k) i =
+    let e : suc k + 1 ≡ suc (k + 1) = omega arith in
+    let f : i + suc k ≡ i + 1 + k = omega arith in
+    rw (e, f, figures-more k (i + 1), append-assoc (figure i) (figures k (i + 1)) (32 ∷ figure (i + 1 + k)))
+
+pub figures-few : (k i : ℕ) → length (figures k i) ≤ 21 * k
+figures-few zero i = omega arith
+figures-few (suc k) i = let h = figures-few k (i + 1) in rw length-append (omega (arith, figure-few i))
+
+-- as the definitions have them
+pub figures-are : (k i : ℕ) → figures k i ≡ terminals k i
+unfolding figure
+figures-are zero i = refl
+figures-are (suc k) i = rw (figures-are k (i + 1))

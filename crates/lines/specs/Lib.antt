@@ -1,1 +1,3 @@
 pub mod Figure
+pub mod Wrote
+pub mod OneLine

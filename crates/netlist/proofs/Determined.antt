@@ -26,6 +26,8 @@ use Rattle.netlist.proofs.put_wire.Kinds as put-wire
 use Rattle.netlist.proofs.put_wire.Reads as put-wire-reads
 use Rattle.netlist.proofs.put_pin.Kinds as put-pin
 use Rattle.netlist.proofs.put_pin.Reads as put-pin-reads
+use Rattle.netlist.proofs.inputs_of.Kinds as inputs-of
+use Rattle.netlist.proofs.inputs_of.Reads as inputs-of-reads
 use Rattle.netlist.proofs.full_length.Kinds as full-length
 use Rattle.netlist.proofs.full_length.Reads as full-length-reads
 use Rattle.netlist.proofs.write_full.Kinds as write-full
@@ -71,6 +73,9 @@ put-wire-determined κs a x y s t f g = (f .0 ∙ sym (g .0), f .1 ∙ sym (g .1
 
 pub put-pin-determined : Results put-pin.ps put-pin.r put-pin-reads.Post (λ κs s. s .0 .now)
 put-pin-determined κs a x y s t f g = (f .0 ∙ sym (g .0), f .1 ∙ sym (g .1))
+
+pub inputs-of-determined : Result inputs-of.ps inputs-of.r inputs-of-reads.Post
+inputs-of-determined κs a x y s t f g = f ∙ sym g
 
 pub full-length-determined : Result full-length.ps full-length.r full-length-reads.Post
 full-length-determined κs a x y s t f g = f ∙ sym g

@@ -27,25 +27,25 @@ put-decimal-below t =
     and 1 put-decimal-kinds.ps (falls 1 put-decimal-kinds.ps _<_ μ-put-decimal t) put-decimal.Pre
 
 -- src/lib.rt:27:24
-put-decimal-cast-out : (t : ℕ) → put-decimal-lts.Need-cast-out (
+put-decimal-cast-text : (t : ℕ) → put-decimal-lts.Need-cast-text (
   put-decimal-below t,
   put-decimal.Post,
 ) (put-decimal-at t) put-decimal.Post
-put-decimal-cast-out t c = omega arith
+put-decimal-cast-text t c = omega arith
 
 -- src/lib.rt:27:19
-put-decimal-add-out : (t : ℕ) → put-decimal-lts.Need-add-out (
+put-decimal-add-text : (t : ℕ) → put-decimal-lts.Need-add-text (
   put-decimal-below t,
   put-decimal.Post,
 ) (put-decimal-at t) put-decimal.Post
-put-decimal-add-out t c = omega arith
+put-decimal-add-text t c = omega arith
 
 -- src/lib.rt:27:9
-put-decimal-slice-write-out : (t : ℕ) → put-decimal-lts.Need-slice-write-out (
+put-decimal-slice-write-text : (t : ℕ) → put-decimal-lts.Need-slice-write-text (
   put-decimal-below t,
   put-decimal.Post,
 ) (put-decimal-at t) put-decimal.Post
-put-decimal-slice-write-out t c = omega arith
+put-decimal-slice-write-text t c = omega arith
 
 -- src/lib.rt:28:16
 put-decimal-add-result : (t : ℕ) → put-decimal-lts.Need-add-result (
@@ -68,7 +68,7 @@ put-decimal-returns : (t : ℕ) → put-decimal-lts.Need-returns (
 ) (put-decimal-at t) put-decimal.Post
 put-decimal-returns t c =
     let f = figure-one (c .before .before .args .n) (omega arith) in
-    rw (← f) (refl, refl)
+    rw (← f) record { offset = refl; bytes = refl }
 
 -- src/lib.rt:30:9
 put-decimal-put-decimal-requires : (t : ℕ) → put-decimal-lts.Need-put-decimal-requires (
@@ -78,26 +78,26 @@ put-decimal-put-decimal-requires : (t : ℕ) → put-decimal-lts.Need-put-decima
 put-decimal-put-decimal-requires t c κs = (omega arith, omega arith)
 
 -- src/lib.rt:31:21
-put-decimal-cast-out-2 : (t : ℕ) → put-decimal-lts.Need-cast-out-2 (
+put-decimal-cast-text-2 : (t : ℕ) → put-decimal-lts.Need-cast-text-2 (
   put-decimal-below t,
   put-decimal.Post,
 ) (put-decimal-at t) put-decimal.Post
-put-decimal-cast-out-2 t c = omega arith
+put-decimal-cast-text-2 t c = omega arith
 
 -- src/lib.rt:31:16
-put-decimal-add-out-2 : (t : ℕ) → put-decimal-lts.Need-add-out-2 (
+put-decimal-add-text-2 : (t : ℕ) → put-decimal-lts.Need-add-text-2 (
   put-decimal-below t,
   put-decimal.Post,
 ) (put-decimal-at t) put-decimal.Post
-put-decimal-add-out-2 t c = omega arith
+put-decimal-add-text-2 t c = omega arith
 
 -- src/lib.rt:31:5
-put-decimal-slice-write-out-2 : (t : ℕ) → put-decimal-lts.Need-slice-write-out-2 (
+put-decimal-slice-write-text-2 : (t : ℕ) → put-decimal-lts.Need-slice-write-text-2 (
   put-decimal-below t,
   put-decimal.Post,
 ) (put-decimal-at t) put-decimal.Post
-put-decimal-slice-write-out-2 t c =
-    omega (arith, c .before .before .put-decimal .kept .0, c .before .before .put-decimal .ensures .0, figure-fewer (c .before .before .before .before .before .before .args .n) (omega arith))
+put-decimal-slice-write-text-2 t c =
+    omega (arith, c .before .before .put-decimal .kept .0, c .before .before .put-decimal .ensures .offset, figure-fewer (c .before .before .before .before .before .before .args .n) (omega arith))
 
 -- src/lib.rt:32:5
 put-decimal-add-result-2 : (t : ℕ) → put-decimal-lts.Need-add-result-2 (
@@ -105,7 +105,7 @@ put-decimal-add-result-2 : (t : ℕ) → put-decimal-lts.Need-add-result-2 (
   put-decimal.Post,
 ) (put-decimal-at t) put-decimal.Post
 put-decimal-add-result-2 t c =
-    omega (arith, c .before .before .put-decimal .ensures .0, figure-fewer (c .before .before .before .before .before .before .args .n) (omega arith))
+    omega (arith, c .before .before .put-decimal .ensures .offset, figure-fewer (c .before .before .before .before .before .before .args .n) (omega arith))
 
 -- src/lib.rt:22:1
 put-decimal-same-length-2 : (t : ℕ) → put-decimal-lts.Need-same-length-2 (
@@ -124,7 +124,8 @@ put-decimal-returns-2 t c =
     let e = c .before .before .put-decimal .ensures in
     let f = figure-more (a .n) (omega arith) (omega arith) in
     let l = length-append (figure (a .n / 10)) ((48 + a .n % 10) ∷ []) in
-    rw (← f) (omega arith, rw (e .1) (store-more (a .out .now) (figure (a .n / 10)) (a .at) _ (48 + a .n % 10) (e .0)))
+    let o = e .offset in
+    rw (← f) record { offset = omega arith; bytes = rw (e .bytes) (store-more (a .text .now) (figure (a .n / 10)) (a .at) _ (48 + a .n % 10) (e .offset)) }
 
 pub +put-decimal-spec : {M : Type 1} → statement M
 +put-decimal-spec = close μ-put-decimal λ t. put-decimal-lts.spec (
@@ -133,16 +134,16 @@ pub +put-decimal-spec : {M : Type 1} → statement M
 )
     (put-decimal-at t)
     put-decimal.Post
-    (put-decimal-cast-out t)
-    (put-decimal-add-out t)
-    (put-decimal-slice-write-out t)
+    (put-decimal-cast-text t)
+    (put-decimal-add-text t)
+    (put-decimal-slice-write-text t)
     (put-decimal-add-result t)
     (put-decimal-same-length t)
     (put-decimal-returns t)
     (put-decimal-put-decimal-requires t)
-    (put-decimal-cast-out-2 t)
-    (put-decimal-add-out-2 t)
-    (put-decimal-slice-write-out-2 t)
+    (put-decimal-cast-text-2 t)
+    (put-decimal-add-text-2 t)
+    (put-decimal-slice-write-text-2 t)
     (put-decimal-add-result-2 t)
     (put-decimal-same-length-2 t)
     (put-decimal-returns-2 t)

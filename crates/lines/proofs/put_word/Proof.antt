@@ -11,26 +11,26 @@ use Rattle.lines.proofs.put_word.Reads as reads
 use Rattle.lines.proofs.put_word.Lts as lts
 
 abbrev Inv-loop : tie.InvT-loop
-Inv-loop out₀ at word i₀ out i = (i ≤ length word) × ((length out ≡ length out₀) × (out ≡ sets out₀ at (take i word)))
+Inv-loop text₀ at word i₀ text i = (i ≤ length word) × ((length text ≡ length text₀) × (text ≡ sets text₀ at (take i word)))
 
 abbrev μ-loop : tie.MeasureT-loop
-μ-loop out₀ at word i₀ out i = length word - i
+μ-loop text₀ at word i₀ text i = length word - i
 
 -- src/lib.rt:14:5
 loop-holds : tie.Need-loop-holds Inv-loop μ-loop
 loop-holds c = (omega arith, (refl, refl))
 
 -- src/lib.rt:15:23
-shared-slice-read-out : tie.Need-shared-slice-read-out Inv-loop μ-loop
-shared-slice-read-out c = omega arith
+shared-slice-read-text : tie.Need-shared-slice-read-text Inv-loop μ-loop
+shared-slice-read-text c = omega arith
 
 -- src/lib.rt:15:13
-add-out : tie.Need-add-out Inv-loop μ-loop
-add-out c = omega arith
+add-text : tie.Need-add-text Inv-loop μ-loop
+add-text c = omega arith
 
 -- src/lib.rt:15:9
-slice-write-out : tie.Need-slice-write-out Inv-loop μ-loop
-slice-write-out c = omega arith
+slice-write-text : tie.Need-slice-write-text Inv-loop μ-loop
+slice-write-text c = omega arith
 
 -- src/lib.rt:16:13
 add-i : tie.Need-add-i Inv-loop μ-loop
@@ -45,7 +45,7 @@ loop-again : tie.Need-loop-again Inv-loop μ-loop
 loop-again c =
     let a = c .before .before .before .args in
     let l = c .before .before .loop in
-    (omega arith, (simp length-set (omega arith), rw (l .inv .1 .1) (word-more (a .out .now) (a .word .now) (a .at) (l .i) (omega arith))))
+    (omega arith, (simp length-set (omega arith), rw (l .inv .1 .1) (word-more (a .text .now) (a .word .now) (a .at) (l .i) (omega arith))))
 
 -- src/lib.rt:18:5
 add-result : tie.Need-add-result Inv-loop μ-loop
@@ -61,7 +61,7 @@ returns c =
     let w = c .before .before .args .word .now in
     let l = c .before .loop in
     let n : l .i ≡ length w = omega arith in
-    (rw n, l .inv .1 .1 ∙ rw (take-all (l .i) w (omega arith)))
+    record { offset = rw n; bytes = l .inv .1 .1 ∙ rw (take-all (l .i) w (omega arith)) }
 
 pub put-word-spec : {M : Type 1} → statement M
 put-word-spec =
@@ -70,9 +70,9 @@ put-word-spec =
     Inv-loop
     μ-loop
     loop-holds
-    shared-slice-read-out
-    add-out
-    slice-write-out
+    shared-slice-read-text
+    add-text
+    slice-write-text
     add-i
     loop-less
     loop-again
