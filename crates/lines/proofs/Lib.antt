@@ -1,3 +1,4 @@
 pub mod Decimal
 pub mod Stores
 pub mod Texts
+pub mod Standing

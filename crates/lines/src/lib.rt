@@ -1,10 +1,12 @@
 // The text of a listing: words, numbers in decimal, and lines.
+ghost use mathlib.Core.Path.{_≡_};
 ghost use mathlib.Core.List.{_∷_, []};
 ghost use Prim.Native.Nat.{_+_, _*_, _≤_, _<_};
 ghost use lib.ListN.{length, getD};
 ghost use Rattle.calculus.specs.Listing.{line, names};
 ghost use Rattle.lines.specs.Figure.{figure, figures};
 ghost use Rattle.lines.specs.OneLine.{pointLine, partLine, wiredLine, pinLine};
+ghost use Rattle.lines.specs.InBytes.{numberAt, sizeOf, sizeAt, lineAt};
 ghost use Rattle.lines.specs.Wrote.{Wrote};
 
 // A word. As each function here, it answers the offset past what it wrote.
@@ -121,4 +123,53 @@ pub fn pin_line(text: &mut [u8], at: usize, terminal: usize) -> usize
 {
     let end = put_word(text, at, b"pin");
     end_line(text, end, 1, terminal)
+}
+
+// The length of a record of a kind; 0 where the kind is unknown.
+fn size_of(kind: u8) -> usize
+    ensures { λ r. ⌜ r ≡ sizeOf kind ⌝ }
+{
+    match kind {
+        0x21 => 3,
+        0x22 => 4,
+        0x23 => 5,
+        0x24 => 3,
+        _ => 0,
+    }
+}
+
+// The length of the record that stands at an offset of a netlist; 0 where none stands whole.
+pub fn size_at(net: &[u8], at: usize) -> usize
+    ensures { λ r. ⌜ r ≡ sizeAt (now (net .entry)) at ⌝ }
+{
+    if net.len() <= at {
+        return 0;
+    }
+    let size = size_of(net[at]);
+    if size <= net.len() - at { size } else { 0 }
+}
+
+// A number of two bytes, low byte first.
+fn number_at(net: &[u8], at: usize) -> usize
+    requires { ⌜ at + 2 ≤ length (now net) ⌝ }
+    ensures { λ r. ⌜ (r ≡ numberAt (now (net .entry)) at) × (r < 65536) ⌝ }
+{
+    net[at] as usize + 256 * net[at + 1] as usize
+}
+
+// The line of the record that stands at an offset of a netlist, written from the start of the text; nothing where none stands whole.
+pub fn line_of(net: &[u8], at: usize, text: &mut [u8]) -> usize
+    requires { ⌜ 80 ≤ length (now text) ⌝ }
+    ensures { λ r. ⌜ Wrote (now (text .entry)) 0 (lineAt (now (net .entry)) at) (now (text .exit)) r ⌝ }
+{
+    if size_at(net, at) == 0 {
+        return 0;
+    }
+    match net[at] {
+        0x21 => point_line(text, 0, number_at(net, at + 1)),
+        0x22 => part_line(text, 0, net[at + 1], number_at(net, at + 2)),
+        0x23 => wire_line(text, 0, number_at(net, at + 1), number_at(net, at + 3)),
+        0x24 => pin_line(text, 0, number_at(net, at + 1)),
+        _ => 0,
+    }
 }
