@@ -34,6 +34,7 @@ module _ (s : List ℕ) (at : ℕ) where
     where
       n : ℕ
       n = sizeOf (getD s at 0)
+
       by : (b : Bool) → leb (at + n) (length s) ≡ b → (cond b n 0 ≡ 0 → ⊥) → at + n ≤ length s
       by true e g = leb-true (at + n) (length s) e
       by false e g = absurd (g refl)

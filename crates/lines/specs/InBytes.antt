@@ -1,7 +1,7 @@
 -- What stands at an offset of a netlist's bytes: the length of its record, and its line. Assumes nothing.
-use Prim.Native.Nat.{ℕ, _+_, _*_}
+use Prim.Native.Nat.{ℕ, zero, suc, _+_, _*_}
 use mathlib.Core.Bool.{cond}
-use mathlib.Core.List.{List, []}
+use mathlib.Core.List.{List, [], _++_}
 use lib.Dec.{eqb, leb}
 use lib.ListN.{length, getD}
 use Rattle.calculus.specs.Listing.{Text}
@@ -28,3 +28,8 @@ textOf k s at =
 -- its line; nothing where none stands whole
 unfoldable pub lineAt : List ℕ → ℕ → Text
 lineAt s at = cond (eqb (sizeAt s at) 0) [] (textOf (getD s at 0) s at)
+
+-- the lines of k records, one behind the other
+abbrev pub linesFrom : ℕ → List ℕ → ℕ → Text
+linesFrom zero s at = []
+linesFrom (suc k) s at = lineAt s at ++ linesFrom k s (at + sizeAt s at)

@@ -1,15 +1,11 @@
 -- Each public function's contract determines its result, and the output where it writes to one: two results that it allows for one
 -- call are equal. Assumes nothing.
-use mathlib.Core.Path.{_≡_, refl, ap, sym, _∙_}
-use mathlib.Core.List.{List}
+use mathlib.Core.Path.{_≡_, ap, sym, _∙_}
 use Prim.Native.Nat.{ℕ}
-use contract.Lifetimes.{Lfts}
-use denote.Triple.Clauses.{AtExit}
-use borrow.Fn.Kind.{PK, RK}
-use borrow.Fn.Kinds.{Out, Dens, resT, endedOf}
 use Rattle.netlist.specs.declared.Terminal.{Terminal}
 use Rattle.netlist.specs.declared.Terminal.the-variants.{Input, Output}
 use Rattle.netlist.specs.Said.{saidTerminal}
+use Rattle.netlist.proofs.OneResult.{Result, Results}
 use Rattle.netlist.proofs.terminal_of.Kinds as terminal-of
 use Rattle.netlist.proofs.terminal_of.Reads as terminal-of-reads
 use Rattle.netlist.proofs.code_of.Kinds as code-of
@@ -32,17 +28,6 @@ use Rattle.netlist.proofs.full_length.Kinds as full-length
 use Rattle.netlist.proofs.full_length.Reads as full-length-reads
 use Rattle.netlist.proofs.write_full.Kinds as write-full
 use Rattle.netlist.proofs.write_full.Reads as write-full-reads
-
-module _ {n : ℕ} (ps : List (PK n)) (r : RK n) (Post : Out n ps r) where
-  -- the result
-  abbrev Result : Type 0
-  Result = (κs : Lfts n) (a : Dens κs ps) (x y : resT r κs .Denot) (s t : AtExit (endedOf n ps r) κs) → Post κs a x s → Post κs a y t → x ≡ y
-
-  -- the result, and the bytes of the output as the function returns
-  abbrev Results : ((κs : Lfts n) → AtExit (endedOf n ps r) κs → List ℕ) → Type 0
-  Results bytes =
-      (κs : Lfts n) (a : Dens κs ps) (x y : resT r κs .Denot) (s t : AtExit (endedOf n ps r) κs) → Post κs a x s → Post κs a y t
-      → (x ≡ y) × (bytes κs s ≡ bytes κs t)
 
 one-terminal : (x y : Terminal) → saidTerminal x ≡ saidTerminal y → x ≡ y
 one-terminal (Input i) (Input j) e = let h : i .0 ≡ j .0 = cc in ap (λ (x : ℕ). Input (record { 0 = x })) h

@@ -26,42 +26,36 @@ abbrev put-decimal-below : ℕ → In 1 put-decimal-kinds.ps
 put-decimal-below t =
     and 1 put-decimal-kinds.ps (falls 1 put-decimal-kinds.ps _<_ μ-put-decimal t) put-decimal.Pre
 
--- src/lib.rt:27:24
 put-decimal-cast-text : (t : ℕ) → put-decimal-lts.Need-cast-text (
   put-decimal-below t,
   put-decimal.Post,
 ) (put-decimal-at t) put-decimal.Post
 put-decimal-cast-text t c = omega arith
 
--- src/lib.rt:27:19
 put-decimal-add-text : (t : ℕ) → put-decimal-lts.Need-add-text (
   put-decimal-below t,
   put-decimal.Post,
 ) (put-decimal-at t) put-decimal.Post
 put-decimal-add-text t c = omega arith
 
--- src/lib.rt:27:9
 put-decimal-slice-write-text : (t : ℕ) → put-decimal-lts.Need-slice-write-text (
   put-decimal-below t,
   put-decimal.Post,
 ) (put-decimal-at t) put-decimal.Post
 put-decimal-slice-write-text t c = omega arith
 
--- src/lib.rt:28:16
 put-decimal-add-result : (t : ℕ) → put-decimal-lts.Need-add-result (
   put-decimal-below t,
   put-decimal.Post,
 ) (put-decimal-at t) put-decimal.Post
 put-decimal-add-result t c = omega arith
 
--- src/lib.rt:28:9
 put-decimal-same-length : (t : ℕ) → put-decimal-lts.Need-same-length (
   put-decimal-below t,
   put-decimal.Post,
 ) (put-decimal-at t) put-decimal.Post
 put-decimal-same-length t c = simp length-set
 
--- src/lib.rt:28:9
 put-decimal-returns : (t : ℕ) → put-decimal-lts.Need-returns (
   put-decimal-below t,
   put-decimal.Post,
@@ -70,28 +64,24 @@ put-decimal-returns t c =
     let f = figure-one (c .before .before .args .n) (omega arith) in
     rw (← f) record { offset = refl; bytes = refl }
 
--- src/lib.rt:30:9
 put-decimal-put-decimal-requires : (t : ℕ) → put-decimal-lts.Need-put-decimal-requires (
   put-decimal-below t,
   put-decimal.Post,
 ) (put-decimal-at t) put-decimal.Post
 put-decimal-put-decimal-requires t c κs = (omega arith, omega arith)
 
--- src/lib.rt:31:21
 put-decimal-cast-text-2 : (t : ℕ) → put-decimal-lts.Need-cast-text-2 (
   put-decimal-below t,
   put-decimal.Post,
 ) (put-decimal-at t) put-decimal.Post
 put-decimal-cast-text-2 t c = omega arith
 
--- src/lib.rt:31:16
 put-decimal-add-text-2 : (t : ℕ) → put-decimal-lts.Need-add-text-2 (
   put-decimal-below t,
   put-decimal.Post,
 ) (put-decimal-at t) put-decimal.Post
 put-decimal-add-text-2 t c = omega arith
 
--- src/lib.rt:31:5
 put-decimal-slice-write-text-2 : (t : ℕ) → put-decimal-lts.Need-slice-write-text-2 (
   put-decimal-below t,
   put-decimal.Post,
@@ -99,7 +89,6 @@ put-decimal-slice-write-text-2 : (t : ℕ) → put-decimal-lts.Need-slice-write-
 put-decimal-slice-write-text-2 t c =
     omega (arith, c .before .before .put-decimal .kept .0, c .before .before .put-decimal .ensures .offset, figure-fewer (c .before .before .before .before .before .before .args .n) (omega arith))
 
--- src/lib.rt:32:5
 put-decimal-add-result-2 : (t : ℕ) → put-decimal-lts.Need-add-result-2 (
   put-decimal-below t,
   put-decimal.Post,
@@ -107,14 +96,12 @@ put-decimal-add-result-2 : (t : ℕ) → put-decimal-lts.Need-add-result-2 (
 put-decimal-add-result-2 t c =
     omega (arith, c .before .before .put-decimal .ensures .offset, figure-fewer (c .before .before .before .before .before .before .args .n) (omega arith))
 
--- src/lib.rt:22:1
 put-decimal-same-length-2 : (t : ℕ) → put-decimal-lts.Need-same-length-2 (
   put-decimal-below t,
   put-decimal.Post,
 ) (put-decimal-at t) put-decimal.Post
 put-decimal-same-length-2 t c = simp length-set (c .before .before .put-decimal .kept .0)
 
--- src/lib.rt:22:1
 put-decimal-returns-2 : (t : ℕ) → put-decimal-lts.Need-returns-2 (
   put-decimal-below t,
   put-decimal.Post,

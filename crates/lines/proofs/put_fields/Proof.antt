@@ -9,9 +9,6 @@ use Rattle.lines.proofs.Decimal.{figure-few, figures-more}
 use Rattle.lines.proofs.Stores.{wrote-two}
 use Rattle.lines.proofs.put_fields.Statement.{statement}
 use Rattle.lines.proofs.put_fields.Tie as tie
-use Rattle.lines.proofs.put_fields.Reads as reads
-use Rattle.lines.proofs.put_fields.Lts as lts
-use Rattle.lines.proofs.put_field.Reads as put-field-reads
 
 abbrev Inv-loop : tie.InvT-loop
 Inv-loop text₀ from count first at₀ i₀ text at i =
@@ -20,27 +17,9 @@ Inv-loop text₀ from count first at₀ i₀ text at i =
 abbrev μ-loop : tie.MeasureT-loop
 μ-loop text₀ from count first at₀ i₀ text at i = count - i
 
--- src/lib.rt:56:5
 loop-holds : tie.Need-loop-holds Inv-loop μ-loop
 loop-holds c = (omega arith, (omega arith, (refl, record { offset = omega arith; bytes = refl })))
 
--- src/lib.rt:57:34
-add-put-field : tie.Need-add-put-field Inv-loop μ-loop
-add-put-field c = omega arith
-
--- src/lib.rt:57:9
-put-field-requires : tie.Need-put-field-requires Inv-loop μ-loop
-put-field-requires c κs = omega arith
-
--- src/lib.rt:58:13
-add-i : tie.Need-add-i Inv-loop μ-loop
-add-i c = omega arith
-
--- src/lib.rt:56:5
-loop-less : tie.Need-loop-less Inv-loop μ-loop
-loop-less c = omega arith
-
--- src/lib.rt:56:5
 loop-again : tie.Need-loop-again Inv-loop μ-loop
 loop-again c =
     let a = c .before .before .before .before .before .before .before .args in
@@ -52,11 +31,6 @@ loop-again c =
       (omega arith, (put .kept .0 ∙ l .inv .1 .1 .0, rw (figures-more (l .i) (a .first)) (wrote-two (l .inv .1 .1 .1) (put .ensures)))),
     )
 
--- src/lib.rt:50:1
-same-length : tie.Need-same-length Inv-loop μ-loop
-same-length c = omega arith
-
--- src/lib.rt:50:1
 returns : tie.Need-returns Inv-loop μ-loop
 returns c =
     let l = c .before .loop in
@@ -66,14 +40,5 @@ returns c =
 pub put-fields-spec : {M : Type 1} → statement M
 put-fields-spec =
     tie.close
-    (tie.spec
-    Inv-loop
-    μ-loop
-    loop-holds
-    add-put-field
-    put-field-requires
-    add-i
-    loop-less
-    loop-again
-    same-length
-    returns)
+    (tie.spec Inv-loop μ-loop loop-holds (λ c. omega arith) (λ c κs. omega arith) (λ c. omega arith) (λ c. omega arith) loop-again
+    (λ c. omega arith) returns)

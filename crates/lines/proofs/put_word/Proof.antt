@@ -7,8 +7,6 @@ use lib.Seq.{sets, take-all}
 use Rattle.lines.proofs.Stores.{word-more}
 use Rattle.lines.proofs.put_word.Statement.{statement}
 use Rattle.lines.proofs.put_word.Tie as tie
-use Rattle.lines.proofs.put_word.Reads as reads
-use Rattle.lines.proofs.put_word.Lts as lts
 
 abbrev Inv-loop : tie.InvT-loop
 Inv-loop text₀ at word i₀ text i = (i ≤ length word) × ((length text ≡ length text₀) × (text ≡ sets text₀ at (take i word)))
@@ -16,46 +14,15 @@ Inv-loop text₀ at word i₀ text i = (i ≤ length word) × ((length text ≡ 
 abbrev μ-loop : tie.MeasureT-loop
 μ-loop text₀ at word i₀ text i = length word - i
 
--- src/lib.rt:14:5
 loop-holds : tie.Need-loop-holds Inv-loop μ-loop
 loop-holds c = (omega arith, (refl, refl))
 
--- src/lib.rt:15:23
-shared-slice-read-text : tie.Need-shared-slice-read-text Inv-loop μ-loop
-shared-slice-read-text c = omega arith
-
--- src/lib.rt:15:13
-add-text : tie.Need-add-text Inv-loop μ-loop
-add-text c = omega arith
-
--- src/lib.rt:15:9
-slice-write-text : tie.Need-slice-write-text Inv-loop μ-loop
-slice-write-text c = omega arith
-
--- src/lib.rt:16:13
-add-i : tie.Need-add-i Inv-loop μ-loop
-add-i c = omega arith
-
--- src/lib.rt:14:5
-loop-less : tie.Need-loop-less Inv-loop μ-loop
-loop-less c = omega arith
-
--- src/lib.rt:14:5
 loop-again : tie.Need-loop-again Inv-loop μ-loop
 loop-again c =
     let a = c .before .before .before .args in
     let l = c .before .before .loop in
     (omega arith, (simp length-set (omega arith), rw (l .inv .1 .1) (word-more (a .text .now) (a .word .now) (a .at) (l .i) (omega arith))))
 
--- src/lib.rt:18:5
-add-result : tie.Need-add-result Inv-loop μ-loop
-add-result c = omega arith
-
--- src/lib.rt:9:1
-same-length : tie.Need-same-length Inv-loop μ-loop
-same-length c = omega arith
-
--- src/lib.rt:9:1
 returns : tie.Need-returns Inv-loop μ-loop
 returns c =
     let w = c .before .before .args .word .now in
@@ -66,16 +33,5 @@ returns c =
 pub put-word-spec : {M : Type 1} → statement M
 put-word-spec =
     tie.close
-    (tie.spec
-    Inv-loop
-    μ-loop
-    loop-holds
-    shared-slice-read-text
-    add-text
-    slice-write-text
-    add-i
-    loop-less
-    loop-again
-    add-result
-    same-length
-    returns)
+    (tie.spec Inv-loop μ-loop loop-holds (λ c. omega arith) (λ c. omega arith) (λ c. omega arith) (λ c. omega arith)
+    (λ c. omega arith) loop-again (λ c. omega arith) (λ c. omega arith) returns)
