@@ -10,11 +10,14 @@ use Rattle.lines.proofs.end_line.Tie as tie
 
 slice-write-text : tie.Need-slice-write-text
 slice-write-text c =
-    omega (arith, c .before .before .put-fields .kept .0, c .before .before .put-fields .ensures .offset, figures-few (c .before .before .before .before .before .args .count) (c .before .before .before .before .before .args .first))
+    let a = c .before .before .before .before .before .args in
+    let put = c .before .before .put-fields in
+    omega (arith, put .kept .0, put .ensures .offset, figures-few (a .count) (a .first))
 
 add-result : tie.Need-add-result
 add-result c =
-    omega (arith, c .before .before .put-fields .ensures .offset, figures-few (c .before .before .before .before .before .args .count) (c .before .before .before .before .before .args .first))
+    let a = c .before .before .before .before .before .args in
+    omega (arith, c .before .before .put-fields .ensures .offset, figures-few (a .count) (a .first))
 
 returns : tie.Need-returns
 returns c =

@@ -21,8 +21,10 @@ returns : tie.Need-returns
 returns c =
     let a = c .before .before .before .before .before .before .before .before .before .before .before .before .before .before .before .args in
     let e = c .before .before .before .before .inputs-of .ensures in
-    rw (← part-text (a .p) (a .first), ← e)
-    (wrote-two (c .before .before .before .before .before .before .before .before .before .before .before .put-word .ensures) (wrote-two (c .before .before .before .before .before .before .before .put-name .ensures) (c .before .before .end-line .ensures)))
+    let word = c .before .before .before .before .before .before .before .before .before .before .before .put-word .ensures in
+    let name = c .before .before .before .before .before .before .before .put-name .ensures in
+    let rest = c .before .before .end-line .ensures in
+    rw (← part-text (a .p) (a .first), ← e) (wrote-two word (wrote-two name rest))
 
 pub part-line-spec : {M : Type 1} → statement M
 part-line-spec =

@@ -6,7 +6,10 @@ use Rattle.lines.proofs.point_line.Statement.{statement}
 use Rattle.lines.proofs.point_line.Tie as tie
 
 returns : tie.Need-returns
-returns c = rw (← point-text (c .before .before .before .before .before .before .before .before .before .before .args .input)) (wrote-two (c .before .before .before .before .before .before .put-word .ensures) (c .before .before .end-line .ensures))
+returns c =
+    let word = c .before .before .before .before .before .before .put-word .ensures in
+    let rest = c .before .before .end-line .ensures in
+    rw (← point-text (c .before .before .before .before .before .before .before .before .before .before .args .input)) (wrote-two word rest)
 
 pub point-line-spec : {M : Type 1} → statement M
 point-line-spec =

@@ -17,7 +17,10 @@ end-line-requires c κs =
 returns : tie.Need-returns
 returns c =
     let a = c .before .before .before .before .before .before .before .before .before .before .before .before .before .before .args in
-    rw (← wire-text (a .from) (a .to)) (wrote-two (c .before .before .before .before .before .before .before .before .before .before .put-word .ensures) (wrote-two (c .before .before .before .before .before .before .put-field .ensures) (c .before .before .end-line .ensures)))
+    let word = c .before .before .before .before .before .before .before .before .before .before .put-word .ensures in
+    let from = c .before .before .before .before .before .before .put-field .ensures in
+    let rest = c .before .before .end-line .ensures in
+    rw (← wire-text (a .from) (a .to)) (wrote-two word (wrote-two from rest))
 
 pub wire-line-spec : {M : Type 1} → statement M
 wire-line-spec =
