@@ -25,6 +25,8 @@ use Rattle.lines.proofs.wire_line.Kinds as wire-line
 use Rattle.lines.proofs.wire_line.Reads as wire-line-reads
 use Rattle.lines.proofs.pin_line.Kinds as pin-line
 use Rattle.lines.proofs.pin_line.Reads as pin-line-reads
+use Rattle.lines.proofs.refused_line.Kinds as refused-line
+use Rattle.lines.proofs.refused_line.Reads as refused-line-reads
 use Rattle.lines.proofs.size_at.Kinds as size-at
 use Rattle.lines.proofs.size_at.Reads as size-at-reads
 use Rattle.lines.proofs.line_of.Kinds as line-of
@@ -63,6 +65,9 @@ wire-line-determined κs a x y s t f g = one-text f g
 
 pub pin-line-determined : Results pin-line.ps pin-line.r pin-line-reads.Post (λ κs s. s .0 .now)
 pin-line-determined κs a x y s t f g = one-text f g
+
+pub refused-line-determined : Results refused-line.ps refused-line.r refused-line-reads.Post (λ κs s. s .0 .now)
+refused-line-determined κs a x y s t f g = one-text f g
 
 pub size-at-determined : Result size-at.ps size-at.r size-at-reads.Post
 size-at-determined κs a x y s t f g = f ∙ sym g

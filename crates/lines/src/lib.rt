@@ -5,7 +5,7 @@ ghost use Prim.Native.Nat.{_+_, _*_, _≤_, _<_};
 ghost use lib.ListN.{length, getD};
 ghost use Rattle.calculus.specs.Listing.{line, names};
 ghost use Rattle.lines.specs.Figure.{figure, figures};
-ghost use Rattle.lines.specs.OneLine.{pointLine, partLine, wiredLine, pinLine};
+ghost use Rattle.lines.specs.OneLine.{pointLine, partLine, wiredLine, pinLine, refusedLine};
 ghost use Rattle.lines.specs.InBytes.{numberAt, sizeOf, sizeAt, lineAt};
 ghost use Rattle.lines.specs.Wrote.{Wrote};
 
@@ -123,6 +123,16 @@ pub fn pin_line(text: &mut [u8], at: usize, terminal: usize) -> usize
 {
     let end = put_word(text, at, b"pin");
     end_line(text, end, 1, terminal)
+}
+
+// The line of a refusal: its number and its place.
+pub fn refused_line(text: &mut [u8], at: usize, number: u8, place: usize) -> usize
+    requires { ⌜ (at + 80 ≤ length (now text)) × (place < 65536) ⌝ }
+    ensures { λ r. ⌜ Wrote (now (text .entry)) at (refusedLine number place) (now (text .exit)) r ⌝ }
+{
+    let mid = put_word(text, at, b"refused");
+    let end = put_field(text, mid, number as usize);
+    end_line(text, end, 1, place)
 }
 
 // The length of a record of a kind; 0 where the kind is unknown.
