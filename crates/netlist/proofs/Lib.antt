@@ -1,0 +1,10 @@
+pub mod Records
+pub mod Bytes
+pub mod Elements
+pub mod PartInputs
+pub mod Targets
+pub mod InMemory
+pub mod Whole
+pub mod KnownParts
+pub mod OneResult
+pub mod Determined
