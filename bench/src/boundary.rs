@@ -57,7 +57,9 @@ pub struct Host {
     from: ChildStdout,
 }
 
+#[cfg(not(linked))]
 const TRANSLATE: u64 = 0;
+#[cfg(not(linked))]
 const STRETCH: u64 = 1;
 const STACK: u64 = 2;
 
@@ -120,6 +122,7 @@ impl Host {
 pub enum Boundary {
     #[cfg(linked)]
     Linked,
+    #[cfg(not(linked))]
     Host(Host),
 }
 
@@ -149,6 +152,7 @@ impl Boundary {
                     call.lean,
                 )
             }),
+            #[cfg(not(linked))]
             Boundary::Host(host) => Ok(host.ask(Host::request(call, TRANSLATE))?.0),
         }
     }
@@ -160,6 +164,7 @@ impl Boundary {
             Boundary::Linked => Ok(unsafe {
                 linked::deltawobble_stretch(fences.address(sheet), sheet.length, node)
             }),
+            #[cfg(not(linked))]
             Boundary::Host(host) => {
                 let (offset, length) = (sheet.offset as u64, sheet.length as u64);
                 Ok(host.ask([STRETCH, offset, length, node as u64, 0, 0, 0, 0])?.0)

@@ -36,7 +36,7 @@ pub fn named_tries(random: &mut Random) -> Vec<Try> {
 
 /// A generated sheet, mostly small; now and then one near a limit, or one that is too long.
 pub fn generated_try(random: &mut Random, index: usize) -> Try {
-    let sheet = if index % 400 == 7 {
+    let sheet = if index % 100 == 7 {
         let limit = near_limit(random);
         if random.once_in(2) { damage(random, &limit) } else { limit }
     } else if index % 400 == 207 {

@@ -1,11 +1,20 @@
 //! The bench program. The scripts beside it build it and call it from the repository's root:
-//! `differential COUNT SEED`, `exact COUNT SEED` (for memcheck), `instructions`, `table`.
+//! `differential COUNT SEED`, `exact COUNT SEED` (for memcheck), `table`, `stack`, `sheets FOLDER`.
 
 mod boundary;
 mod cases;
+mod classes;
 mod differential;
+#[cfg(linked)]
+mod exact;
 mod fences;
+mod stack;
+#[cfg(linked)]
+mod table;
 mod tally;
+#[cfg(linked)]
+mod timing;
+mod worst;
 
 use std::process::exit;
 
@@ -17,15 +26,24 @@ fn main() {
     };
     match words.first().map(String::as_str) {
         Some("differential") => {
-            let (count, seed) = (number(1, 20_000) as usize, number(2, 1));
-            report(differential::differential(count, seed));
+            report(differential::differential(number(1, 20_000) as usize, number(2, 1)))
         }
+        #[cfg(linked)]
+        Some("exact") => report(exact::exact(number(1, 200) as usize, number(2, 1))),
+        #[cfg(linked)]
+        Some("table") => table::print(),
+        Some("stack") => stack::print().unwrap_or_else(|why| {
+            println!("{why}");
+            exit(1)
+        }),
+        Some("sheets") if words.len() == 2 => sheets(&words[1]),
         _ => usage(),
     }
 }
 
 fn usage() -> ! {
-    eprintln!("usage: bench differential [COUNT] [SEED] | exact [COUNT] [SEED] | instructions | table");
+    eprintln!("usage: bench differential [COUNT] [SEED] | stack | sheets FOLDER");
+    eprintln!("and where the archive is linked in: bench exact [COUNT] [SEED] | table");
     exit(2)
 }
 
@@ -45,6 +63,17 @@ fn report(result: Result<tally::Tally, String>) {
                 println!("refusals that never occurred: {missing:?}");
                 exit(1)
             }
+        }
+    }
+}
+
+/// The timed sheets as files CLASS-SHEET, and a line for each class: number, room, name.
+fn sheets(folder: &str) {
+    for (index, class) in classes::classes().iter().enumerate() {
+        println!("{index} {} {}", class.room, class.name);
+        for (at, sheet) in class.sheets.iter().enumerate() {
+            let path = format!("{folder}/{index}-{at}");
+            std::fs::write(&path, sheet).unwrap_or_else(|why| panic!("{path}: {why}"));
         }
     }
 }
