@@ -30,8 +30,11 @@ if [ "$for_processor" = "$(uname -m)" ]; then
 else
     native=no cc=$for_processor-linux-gnu-gcc emulator=qemu-$for_processor static=-static
     need "$cc" "gcc-$(echo "$for_processor" | tr _ -)-linux-gnu"
-    need "$emulator" qemu-user
-    echo "the archive is for $for_processor and this machine is $(uname -m): running it under $emulator" >&2
+    # the toolchain runs its own programs under an emulator that stands beside its compiler
+    kit=$(readlink -f "$(command -v rt)" || true)
+    beside=${kit%/bin/rt}/on/$(uname -m)/toolchain/bin/$emulator
+    if [ -x "$beside" ]; then emulator=$beside; else need "$emulator" qemu-user; fi
+    echo "the archive is for $for_processor and this machine is $(uname -m): running it under ${emulator##*/}" >&2
 fi
 
 # the host process and the bench program

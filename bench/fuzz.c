@@ -1,17 +1,21 @@
 /* The fuzz target on the C boundary: bytes choose netlist, room and memory, the rest is the sheet.
-   Each slice is an allocation of exactly its size. What document 01 says of any call is checked.
-   The archive has no instrumentation, so the answers themselves are the feedback (`seen`). */
+   What document 01 says of any call is checked. The archive has no instrumentation: so each slice
+   lies against a page that nobody may touch, with guard bytes at its other end (a sanitizer would
+   see nothing), and the answers themselves are the feedback (`seen`). */
 #include <stdbool.h>
+#include <stddef.h>
 #include <stdint.h>
 #include <stdio.h>
 #include <stdlib.h>
 #include <string.h>
+#include <sys/mman.h>
+#include <unistd.h>
 
 uint64_t deltawobble_translate(const uint8_t *sheet, size_t sheet_len, uint8_t *out, size_t out_len,
                                uint16_t *work, size_t work_len, bool lean);
 uint64_t deltawobble_stretch(const uint8_t *sheet, size_t sheet_len, size_t node);
 
-enum { CLEARED = 32768, ALWAYS_ENOUGH = 41344, SEEN = 1 << 14 };
+enum { CLEARED = 32768, ALWAYS_ENOUGH = 41344, SEEN = 1 << 14, STRETCH = 1 << 17, GUARD = 64 };
 
 /* libFuzzer reads this section as counters; fuzz_alone.c reads it by name */
 __attribute__((section("__libfuzzer_extra_counters"))) uint8_t seen[SEEN];
@@ -25,6 +29,33 @@ static const size_t memories[] = {32768, 32768, 32768, 32769, 32767, 0, 40000, 3
             abort(); \
         } \
     } while (0)
+
+/* A slice of so many bytes, filled with 0xA5 and so are its guards, in one of three stretches of
+   memory between two pages that nobody may touch: against the one or the other. */
+static uint8_t *slice(int which, size_t size, bool at_end) {
+    static uint8_t *stretches[3];
+    if (!stretches[which]) {
+        size_t page = sysconf(_SC_PAGESIZE);
+        uint8_t *base = mmap(0, STRETCH + 2 * page, PROT_READ | PROT_WRITE, MAP_PRIVATE | MAP_ANONYMOUS, -1, 0);
+        DEMAND(base != MAP_FAILED && mprotect(base, page, PROT_NONE) == 0);
+        DEMAND(mprotect(base + page + STRETCH, page, PROT_NONE) == 0);
+        stretches[which] = base + page;
+    }
+    DEMAND(size + GUARD <= STRETCH);
+    uint8_t *from = stretches[which] + (at_end ? STRETCH - size - GUARD : 0);
+    memset(from, 0xA5, size + GUARD);
+    return at_end ? from + GUARD : from;
+}
+
+/* Whether so many bytes all have one value. */
+static bool all(const void *from, uint8_t value, size_t size) {
+    const uint8_t *bytes = from;
+    return size == 0 || (bytes[0] == value && memcmp(bytes, bytes + 1, size - 1) == 0);
+}
+
+static bool guarded(const void *from, size_t size, bool at_end) {
+    return all((const uint8_t *)from + (at_end ? -(ptrdiff_t)GUARD : (ptrdiff_t)size), 0xA5, GUARD);
+}
 
 static void mark(uint32_t hash) { seen[hash * 2654435761u >> 18] = 1; }
 
@@ -57,20 +88,33 @@ static bool is_netlist(const uint8_t *out, size_t length) {
     return at == length;
 }
 
-/* Whether so many bytes all have one value. */
-static bool all(const void *from, uint8_t value, size_t size) {
-    const uint8_t *bytes = from;
-    return size == 0 || (bytes[0] == value && memcmp(bytes, bytes + 1, size - 1) == 0);
+/* Wires by rising target, and none into a point but from its own output. */
+static bool is_lean(const uint8_t *out, size_t length) {
+    static uint8_t point_at[1 << 16];
+    int last = -1;
+    bool good = true;
+    for (int pass = 0; pass < 2; pass++)
+        for (size_t at = 0; at < length;) {
+            int kind = out[at], number = out[at + 1] | out[at + 2] << 8;
+            if (kind == 0x21) point_at[number] = pass == 0;
+            if (kind == 0x23 && pass == 0) {
+                int to = out[at + 3] | out[at + 4] << 8;
+                if (to <= last || (point_at[to] && number != to + 1)) good = false;
+                last = to;
+            }
+            at += kind == 0x21 || kind == 0x24 ? 3 : kind == 0x22 ? 4 : 5;
+        }
+    return good;
 }
 
 /* One call with everything that holds of any call; a netlist's length, or 0. */
 static uint64_t call(const uint8_t *sheet, size_t length, size_t room, size_t numbers, bool lean) {
-    uint8_t *lent = malloc(length ? length : 1), *out = malloc(room ? room : 1);
-    uint16_t *work = malloc(numbers ? 2 * numbers : 2);
-    DEMAND(lent && out && work);
+    static unsigned calls;
+    bool end[3] = {calls & 1, calls >> 1 & 1, calls >> 2 & 1};
+    calls++;
+    uint8_t *lent = slice(0, length, end[0]), *out = slice(1, room, end[1]);
+    uint16_t *work = (uint16_t *)slice(2, 2 * numbers, end[2]);
     memcpy(lent, sheet, length);
-    memset(out, 0xA5, room);
-    memset(work, 0xA5, 2 * numbers);
     uint64_t answer = deltawobble_translate(lent, length, out, room, work, numbers, lean);
     uint32_t number = answer >> 32, value = (uint32_t)answer;
     DEMAND(number <= 17);
@@ -81,7 +125,9 @@ static uint64_t call(const uint8_t *sheet, size_t length, size_t room, size_t nu
     size_t written = number ? 0 : value;
     DEMAND(all(out + written, 0xA5, room - written));
     DEMAND(number || (value > 0 && is_netlist(out, value)));
+    DEMAND(number || !lean || is_lean(out, value));
     DEMAND(memcmp(lent, sheet, length) == 0);
+    DEMAND(guarded(lent, length, end[0]) && guarded(out, room, end[1]) && guarded(work, 2 * numbers, end[2]));
     DEMAND(number != 17 || (value > room && value <= ALWAYS_ENOUGH));
     DEMAND(number < 3 || number > 9 || value <= length);
     DEMAND((number != 1 && number != 2 && number != 16) || value == 0);
@@ -90,11 +136,9 @@ static uint64_t call(const uint8_t *sheet, size_t length, size_t room, size_t nu
         uint32_t start = stretch >> 32, size = (uint32_t)stretch;
         DEMAND((size == 0) == (number >= 2 && number <= 9));
         DEMAND(size == 0 ? start == 0 : (uint64_t)start + size <= length);
+        DEMAND(deltawobble_stretch(lent, length, 65536) == 0 && deltawobble_stretch(lent, length, SIZE_MAX) == 0);
     }
     mark_answer(number, value, lean, out);
-    free(lent);
-    free(out);
-    free(work);
     return answer;
 }
 

@@ -38,7 +38,11 @@ pub fn named_tries(random: &mut Random) -> Vec<Try> {
 pub fn generated_try(random: &mut Random, index: usize) -> Try {
     let sheet = if index % 100 == 7 {
         let limit = near_limit(random);
-        if random.once_in(2) { damage(random, &limit) } else { limit }
+        if random.once_in(2) {
+            damage(random, &limit)
+        } else {
+            limit
+        }
     } else if index % 400 == 207 {
         let sheet_length = random.within(16_300, 16_500);
         noise(random, sheet_length)
@@ -51,6 +55,7 @@ pub fn generated_try(random: &mut Random, index: usize) -> Try {
 }
 
 /// A generated sheet of at most so many bytes, for slow machines.
+#[cfg(linked)]
 pub fn small_try(random: &mut Random, index: usize, most: usize) -> Try {
     loop {
         let tried = generated_try(random, index);

@@ -3,6 +3,7 @@
 
 use crate::boundary::{Boundary, Call};
 use crate::cases::{generated_try, named_tries, Try};
+use crate::crash;
 use crate::fences::{Fences, MEMORY, OUTPUT, SHEET};
 use crate::tally::Tally;
 use second::random::Random;
@@ -36,14 +37,17 @@ impl Differential {
 
     pub fn run(&mut self, tried: &Try, random: &mut Random) -> Result<(), String> {
         self.tally.sheets += 1;
+        let sheet = &tried.sheet;
+        let told = |what: String, call: &str| format!("{what}\n{call}\nsheet {}", hex(sheet));
         for &(room, memory, lean) in &tried.calls {
-            self.call(&tried.sheet, room, memory, lean, random).map_err(|what| {
-                format!("{what}\nroom {room}, memory {memory}, lean {lean}\nsheet {}", hex(&tried.sheet))
-            })?;
+            let words = format!("room {room}, memory {memory}, lean {lean}");
+            crash::now(words.clone(), sheet);
+            self.call(sheet, room, memory, lean, random).map_err(|what| told(what, &words))?;
         }
         for &node in &tried.nodes {
-            self.stretch(&tried.sheet, node, random)
-                .map_err(|what| format!("{what}\nstretch of node {node}\nsheet {}", hex(&tried.sheet)))?;
+            let words = format!("stretch of node {node}");
+            crash::now(words.clone(), sheet);
+            self.stretch(sheet, node, random).map_err(|what| told(what, &words))?;
         }
         Ok(())
     }
@@ -124,6 +128,7 @@ impl Differential {
 pub fn differential(count: usize, seed: u64) -> Result<Tally, String> {
     let mut random = Random::new(seed);
     let mut differential = Differential::new();
+    crash::watch();
     for tried in named_tries(&mut random) {
         differential.run(&tried, &mut random)?;
     }

@@ -8,7 +8,7 @@ use crate::tally::Tally;
 use second::random::Random;
 use second::translate::translate_into;
 
-/// Every so manieth named edge of small size, all large ones but few.
+/// Sheets above this length are slow under valgrind: of the named ones every eighth is taken.
 const LARGE: usize = 600;
 
 pub fn exact(count: usize, seed: u64) -> Result<Tally, String> {
@@ -40,8 +40,15 @@ fn run(tried: &Try, tally: &mut Tally) -> Result<(), String> {
             Err(refusal) => (refusal.number as u64) << 32 | refusal.place as u64,
         };
         tally.answer((answer >> 32) as usize);
-        if answer != wanted || output != own_output || numbers != own_numbers || *sheet != tried.sheet {
-            return Err(format!("room {room}, memory {memory}, lean {lean}\nsheet {}", hex(&sheet)));
+        if answer != wanted
+            || output != own_output
+            || numbers != own_numbers
+            || *sheet != tried.sheet
+        {
+            return Err(format!(
+                "room {room}, memory {memory}, lean {lean}\nsheet {}",
+                hex(&sheet)
+            ));
         }
     }
     for &node in &tried.nodes {

@@ -5,7 +5,14 @@
 use std::ffi::{c_char, c_int, c_long, c_void, CStr};
 
 extern "C" {
-    fn mmap(at: *mut c_void, size: usize, prot: c_int, flags: c_int, fd: c_int, from: c_long) -> *mut c_void;
+    fn mmap(
+        at: *mut c_void,
+        size: usize,
+        prot: c_int,
+        flags: c_int,
+        fd: c_int,
+        from: c_long,
+    ) -> *mut c_void;
     fn mprotect(at: *mut c_void, size: usize, prot: c_int) -> c_int;
     fn memfd_create(name: *const c_char, flags: u32) -> c_int;
     fn ftruncate(fd: c_int, size: c_long) -> c_int;
@@ -81,6 +88,7 @@ impl Fences {
         place.offset - self.stretches[which].0
     }
 
+    #[cfg(linked)]
     pub fn address(&self, place: Place) -> *mut u8 {
         unsafe { self.base.add(place.offset) }
     }

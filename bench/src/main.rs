@@ -4,6 +4,7 @@
 mod boundary;
 mod cases;
 mod classes;
+mod crash;
 mod differential;
 #[cfg(linked)]
 mod exact;

@@ -77,7 +77,9 @@ fn terminals(sheet: &[u8]) -> usize {
 
 pub fn print() {
     println!("Nanoseconds a sheet, median of {ROUNDS} interleaved runs in one process.");
-    println!("limit: reading the sheet, writing the netlist and clearing 32,768 numbers, once each.");
+    println!(
+        "limit: reading the sheet, writing the netlist and clearing 32,768 numbers, once each."
+    );
     println!(
         "{:<27}{:>6}{:>7}{:>7}{:>8}{:>11}{:>11}{:>9}{:>9}{:>9}",
         "class", "", "bytes", "termls", "netlist", "proved", "second", "pr/sec", "limit", "pr/lim"
@@ -161,9 +163,7 @@ fn depths() {
     println!("\nDepth: the proved translator, 2,048 nodes, nanoseconds a node.");
     println!("{:<27}{:>9}{:>9}", "depth", "full", "lean");
     let mut first = None;
-    for (depth, sheet) in
-        [("12", second::wide::flat(2048)), ("64", second::wide::deep(2048, 64))]
-    {
+    for (depth, sheet) in [("12", second::wide::flat(2048)), ("64", second::wide::deep(2048, 64))] {
         let [full, lean] = times(&Class::one("depth", sheet));
         let (full, lean) = (full.proved / 2048.0, lean.proved / 2048.0);
         println!("{depth:<27}{full:>9.2}{lean:>9.2}");
