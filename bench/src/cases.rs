@@ -43,7 +43,7 @@ pub fn generated_try(random: &mut Random, index: usize) -> Try {
         } else {
             limit
         }
-    } else if index % 400 == 207 {
+    } else if index % 400 == 253 {
         let sheet_length = random.within(16_300, 16_500);
         noise(random, sheet_length)
     } else {
