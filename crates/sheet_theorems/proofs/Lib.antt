@@ -1,4 +1,9 @@
+pub mod KindBytes
+pub mod Bytes
 pub mod Tables
+pub mod Laying
+pub mod Standing
+pub mod TypeOffsets
 pub mod Sound
 pub mod Complete
 pub mod Exact
