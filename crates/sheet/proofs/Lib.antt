@@ -1,2 +1,4 @@
 pub mod TableLaws
 pub mod CheckLaws
+pub mod KindLaws
+pub mod TypesLaws

@@ -3,16 +3,19 @@ use records::Form;
 use records::Node;
 use records::Record;
 use records::Rule;
+use records::Shape;
 use records::TypeRecord;
 ghost use mathlib.Core.Path.{_≡_};
 ghost use mathlib.Core.Bool.{_&&_};
-ghost use Prim.Native.Nat.{_+_, _≤_};
+ghost use mathlib.Core.List.{[]};
+ghost use Prim.Native.Nat.{_+_, _≤_, _<_};
 ghost use lib.Dec.{ltb, eqb};
 ghost use lib.ListN.{length, getD};
 ghost use Rattle.calculus.specs.Types.{recEq};
-ghost use Rattle.calculus.specs.Read.{repeated};
+ghost use Rattle.calculus.specs.Read.{kindOf, byte, repeated, readTypes};
 ghost use Rattle.records.specs.Forms.{saidForm, recOf, recIn};
-ghost use Rattle.sheet.specs.Tables.{tableIn, sharableRec, arrowRec, knownBelow, formedIn, sizeIn, Before, sizeOf, saidChecked};
+ghost use Rattle.sheet.specs.Tables.{tableIn, sharableRec, arrowRec, knownBelow, formedIn, sizeIn, sizesOf, Before, sizeOf, saidChecked};
+ghost use Rattle.sheet.specs.Said.{saidTypes, noTypes, typesOf, endOf};
 
 // ---- type records
 
@@ -197,4 +200,76 @@ fn check_type(s: &[u8], at: usize, count: usize, sizes: &[u8], f: Form) -> Check
         return Checked::Refused(8, at);
     }
     Checked::Size(size as u8)
+}
+
+// The type records: their number and the offset past them, or a refusal's number and place.
+pub enum Listed {
+    All(usize, usize),
+    Refused(u8, usize),
+}
+
+// .. and the size of each type; 0 past them, and where they are refused.
+pub struct Types {
+    pub listed: Listed,
+    pub sizes: [u8; 256],
+}
+
+fn no_sizes() -> [u8; 256]
+    ensures { λ r. ⌜ r ≡ sizesOf [] ⌝ }
+{
+    [0u8; 256]
+}
+
+fn no_types(number: u8, place: usize) -> Types
+    ensures { λ r. ⌜ saidTypes r ≡ noTypes number place ⌝ }
+{
+    Types {
+        listed: Listed::Refused(number, place),
+        sizes: no_sizes(),
+    }
+}
+
+// Where no type record stands at an offset: a type's kind byte is that of a record cut short, any other ends the types.
+fn types_end(s: &[u8], at: usize, count: usize, sizes: [u8; 256]) -> Types
+    requires { ⌜ at < length (now s) ⌝ }
+    ensures { λ r. ⌜ saidTypes r ≡ endOf (kindOf (byte (now (s .entry)) at)) at count sizes ⌝ }
+{
+    match records::shape_of(s[at]) {
+        Shape::Type(_, _) => no_types(3, at),
+        Shape::Node(_, _, _) => Types {
+            listed: Listed::All(count, at),
+            sizes,
+        },
+        Shape::Unknown => Types {
+            listed: Listed::All(count, at),
+            sizes,
+        },
+    }
+}
+
+pub fn read_types(s: &[u8]) -> Types
+    ensures { λ r. ⌜ saidTypes r ≡ typesOf (readTypes 256 (now (s .entry)) [] 0) ⌝ }
+{
+    let mut sizes = no_sizes();
+    let mut at: usize = 0;
+    let mut count: usize = 0;
+    while at < s.len() {
+        let Record::Type(r) = records::record_at(s, at) else {
+            return types_end(s, at, count, sizes);
+        };
+        match check_type(s, at, count, &sizes, form_of(r)) {
+            Checked::Refused(number, place) => {
+                return no_types(number, place);
+            }
+            Checked::Size(size) => {
+                sizes[count] = size;
+                count = count + 1;
+                at = r.next;
+            }
+        }
+    }
+    Types {
+        listed: Listed::All(count, at),
+        sizes,
+    }
 }
