@@ -25,6 +25,7 @@ use Rattle.records.specs.declared.Node.{Node}
 use Rattle.records.specs.declared.Record.{Record}
 use Rattle.records.specs.declared.Record.the-variants as rec
 use Rattle.records.proofs.Record.{the-type}
+use Rattle.sheet.specs.Said.{nodeSubs}
 
 -- ---- the shape of a kind
 
@@ -33,19 +34,6 @@ typeRule k01 = rule.Bare
 typeRule k02 = rule.Sides
 typeRule k03 = rule.Sides
 typeRule k04 = rule.Sides
-
--- the number of subterms
-abbrev pub nodeSubs : NodeKind → ℕ
-nodeSubs k11 = 0
-nodeSubs k12 = 0
-nodeSubs k13 = 1
-nodeSubs k14 = 2
-nodeSubs k15 = 1
-nodeSubs k16 = 2
-nodeSubs k17 = 2
-nodeSubs k18 = 2
-nodeSubs k19 = 1
-nodeSubs k1A = 0
 
 abbrev pub nodeRule : NodeKind → Rule
 nodeRule k11 = rule.Binder
@@ -75,9 +63,9 @@ pub record-kind : (s : List ℕ) (at : ℕ) (k : Kind) → at < length s → kin
 unfolding recordAt
 record-kind s at k h e = rw (lt-leb (length s) at h, shape-kind (byte s at), e)
 
-in-sheet : (s : List ℕ) (at : ℕ) {r : Record} → recordAt s at ≡ r → (length s ≤ at → rec.Refused 3 (length s) ≡ r)
-unfolding recordAt
-in-sheet s at e h = rw (borrow.Author.Tests.le-leb (length s) at h) at e
+-- the record of a node of kind k at an offset
+abbrev pub nodeAs : List ℕ → ℕ → NodeKind → Node
+nodeAs s at k = record { kind = byte s at; first = bodyAt s (at + 1) (nodeBody k) 0; second = bodyAt s (at + 1) (nodeBody k) 1; subterms = nodeSubs k; rule = nodeRule k; next = at + 1 + nodeBody k }
 
 -- ---- type records
 
@@ -89,7 +77,7 @@ pub record TypeHere (s : List ℕ) (at : ℕ) (r : TypeRecord) : Type 0 where
   pub next : r .next ≡ at + 1 + typeBody kind
   pub said : recOf (r .kind) (r .left) (r .right) ≡ typeRec kind (byte s (at + 1)) (byte s (at + 2))
 
-body-at : (s : List ℕ) (from n j : ℕ) → j < n → bodyAt s from n j ≡ byte s (from + j)
+pub body-at : (s : List ℕ) (from n j : ℕ) → j < n → bodyAt s from n j ≡ byte s (from + j)
 body-at s from n j h = rw (getD-take n (drop from s) j 0 h, getD-drop from s j 0)
 
 -- the two type numbers of a record of kind 02, 03 or 04
@@ -149,3 +137,46 @@ module _ (s : List ℕ) (at : ℕ) (h : at < length s) where
       by : (t : Bool) → leb (typeBody k) (length s - (at + 1)) ≡ t → OneOf (1 ∷ 2 ∷ []) (tagOf the-type (cond t (rec.Type (typeHere k)) (rec.Refused 3 at))) → length s < at + 1 + typeBody k
       by true e o = ⊎-elim (λ (z : 0 ≡ 1). absurd (omega arith)) (λ (z : 0 ≡ 2). absurd (omega arith)) o
       by false e o = let l : length s - (at + 1) < typeBody k = leb-false _ _ e in omega arith
+
+-- ---- nodes' records
+
+-- a whole node's record at an offset
+pub record NodeHere (s : List ℕ) (at : ℕ) (r : Node) : Type 0 where
+  pub kind : NodeKind
+  pub is : kindOf (byte s at) ≡ node kind
+  pub whole : at + 1 + nodeBody kind ≤ length s
+  pub same : r ≡ nodeAs s at kind
+
+node-inj : {q r : Node} → rec.Node q ≡ rec.Node r → q ≡ r
+node-inj e = cc
+
+refused-not-node : {i p : ℕ} {r : Node} → rec.Refused i p ≡ rec.Node r → ⊥
+refused-not-node e = let z : _≡_ {A = ℕ} 0 1 = cc in omega arith
+
+type-not-node : {q : TypeRecord} {r : Node} → rec.Type q ≡ rec.Node r → ⊥
+type-not-node e = let z : _≡_ {A = ℕ} 0 1 = cc in omega arith
+
+module _ (s : List ℕ) (at : ℕ) (h : at < length s) where
+  node-of-kind : (k : Kind) (r : Node) → kindOf (byte s at) ≡ k → recordOf (kindShape k) s at ≡ rec.Node r → NodeHere s at r
+  node-of-kind unknown r i e = absurd (refused-not-node e)
+  node-of-kind (type k) r i e = absurd (by (leb (typeBody k) (length s - (at + 1))) _ e)
+    where
+      by : (t : Bool) (q : TypeRecord) → cond t (rec.Type q) (rec.Refused 3 at) ≡ rec.Node r → ⊥
+      by true q e = type-not-node e
+      by false q e = refused-not-node e
+  node-of-kind (node k) r i e = by (leb (nodeBody k) (length s - (at + 1))) refl e
+    where
+      by : (t : Bool) → leb (nodeBody k) (length s - (at + 1)) ≡ t → cond t (rec.Node (nodeAs s at k)) (rec.Refused 3 at) ≡ rec.Node r → NodeHere s at r
+      by true f e = let l : nodeBody k ≤ length s - (at + 1) = leb-true _ _ f in record { kind = k; is = i; whole = omega arith; same = sym (node-inj e) }
+      by false f e = absurd (refused-not-node e)
+
+  pub node-here : (r : Node) → recordAt s at ≡ rec.Node r → NodeHere s at r
+  node-here r e = node-of-kind (kindOf (byte s at)) r refl (sym (record-kind s at _ h refl) ∙ e)
+
+  -- where a node's kind byte stands and no whole record, it is cut short
+  pub node-cut : (k : NodeKind) → kindOf (byte s at) ≡ node k → OneOf (0 ∷ 2 ∷ []) (tagOf the-type (recordAt s at)) → length s < at + 1 + nodeBody k
+  node-cut k i o = by (leb (nodeBody k) (length s - (at + 1))) refl (rw (record-kind s at (node k) h i) at o)
+    where
+      by : (t : Bool) → leb (nodeBody k) (length s - (at + 1)) ≡ t → OneOf (0 ∷ 2 ∷ []) (tagOf the-type (cond t (rec.Node (nodeAs s at k)) (rec.Refused 3 at))) → length s < at + 1 + nodeBody k
+      by true e o = ⊎-elim (λ (z : 1 ≡ 0). absurd (omega arith)) (λ (z : 1 ≡ 2). absurd (omega arith)) o
+      by false e o = let l : length s - (at + 1) < nodeBody k = leb-false _ _ e in omega arith

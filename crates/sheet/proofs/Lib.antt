@@ -2,3 +2,4 @@ pub mod TableLaws
 pub mod CheckLaws
 pub mod KindLaws
 pub mod TypesLaws
+pub mod HeadLaws
