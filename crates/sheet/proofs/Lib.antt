@@ -3,3 +3,4 @@ pub mod CheckLaws
 pub mod KindLaws
 pub mod TypesLaws
 pub mod HeadLaws
+pub mod SpanLaws

@@ -362,4 +362,3 @@ fn span_at(s: &[u8], at: usize, count: usize, more: usize, types: usize) -> Span
         }
     }
 }
-
