@@ -4,3 +4,4 @@ pub mod KindLaws
 pub mod TypesLaws
 pub mod HeadLaws
 pub mod SpanLaws
+pub mod ReadLaws

@@ -12,10 +12,11 @@ ghost use Prim.Native.Nat.{_+_, _≤_, _<_};
 ghost use lib.Dec.{ltb, eqb};
 ghost use lib.ListN.{length, getD};
 ghost use Rattle.calculus.specs.Types.{recEq};
-ghost use Rattle.calculus.specs.Read.{kindOf, byte, repeated, readTypes, readTerm};
+ghost use Rattle.calculus.specs.Read.{kindOf, byte, repeated, readTypes, readTerm, readSheet};
 ghost use Rattle.records.specs.Forms.{saidForm, recOf, recIn};
 ghost use Rattle.sheet.specs.Tables.{tableIn, sharableRec, arrowRec, knownBelow, formedIn, sizeIn, sizesOf, Before, sizeOf, saidChecked};
-ghost use Rattle.sheet.specs.Said.{saidTypes, noTypes, typesOf, endOf, noNode, mistyped, saidHead, limitsOf, opens, saidSpan, spanned};
+ghost use Rattle.sheet.specs.Said.{saidTypes, noTypes, typesOf, endOf, noNode, mistyped, saidHead, limitsOf, opens, saidSpan, spanned, saidReading, noSheet, endedOf, readingOf, saidBounds};
+ghost use Rattle.calculus.specs.Stretch.{nowhere};
 
 // ---- type records
 
@@ -361,4 +362,75 @@ fn span_at(s: &[u8], at: usize, count: usize, more: usize, types: usize) -> Span
             }
         }
     }
+}
+
+// ---- the sheet
+
+// How many types and nodes a sheet has, and where its term begins; or a refusal's number and place.
+pub enum Verdict {
+    Read(usize, usize, usize),
+    Refused(u8, usize),
+}
+
+// .. and the size of each type; 0 past them, and where the sheet is refused.
+pub struct Reading {
+    pub verdict: Verdict,
+    pub sizes: [u8; 256],
+}
+
+fn no_sheet(number: u8, place: usize) -> Reading
+    ensures { λ r. ⌜ saidReading r ≡ noSheet number place ⌝ }
+{
+    Reading {
+        verdict: Verdict::Refused(number, place),
+        sizes: no_sizes(),
+    }
+}
+
+// The term, then the sheet's end.
+fn read_term(s: &[u8], types: usize, start: usize, sizes: [u8; 256]) -> Reading
+    ensures { λ r. ⌜ saidReading r ≡ endedOf (spanned (readTerm 64 (now (s .entry)) types start 0)) (length (now (s .entry))) types start sizes ⌝ }
+{
+    match span_at(s, start, 0, 64, types) {
+        Span::Refused(number, place) => no_sheet(number, place),
+        Span::Next(end, nodes) => {
+            if end == s.len() {
+                return Reading {
+                    verdict: Verdict::Read(types, nodes, start),
+                    sizes,
+                };
+            }
+            no_sheet(9, end)
+        }
+    }
+}
+
+// Refusals 2 to 9.
+pub fn read(s: &[u8]) -> Reading
+    ensures { λ r. ⌜ saidReading r ≡ readingOf (readSheet (now (s .entry))) ⌝ }
+{
+    if 16384 < s.len() {
+        return no_sheet(2, 0);
+    }
+    let t = read_types(s);
+    let listed = t.listed;
+    let sizes = t.sizes;
+    match listed {
+        Listed::Refused(number, place) => no_sheet(number, place),
+        Listed::All(count, end) => read_term(s, count, end, sizes),
+    }
+}
+
+// ---- the stretch of a node
+
+// A part of the sheet: where it begins, and its length.
+pub struct Bounds {
+    pub start: usize,
+    pub size: usize,
+}
+
+fn nowhere() -> Bounds
+    ensures { λ r. ⌜ saidBounds r ≡ nowhere ⌝ }
+{
+    Bounds { start: 0, size: 0 }
 }
