@@ -5,3 +5,4 @@ pub mod TypesLaws
 pub mod HeadLaws
 pub mod SpanLaws
 pub mod ReadLaws
+pub mod StretchLaws

@@ -16,7 +16,9 @@ ghost use Rattle.calculus.specs.Read.{kindOf, byte, repeated, readTypes, readTe
 ghost use Rattle.records.specs.Forms.{saidForm, recOf, recIn};
 ghost use Rattle.sheet.specs.Tables.{tableIn, sharableRec, arrowRec, knownBelow, formedIn, sizeIn, sizesOf, Before, sizeOf, saidChecked};
 ghost use Rattle.sheet.specs.Said.{saidTypes, noTypes, typesOf, endOf, noNode, mistyped, saidHead, limitsOf, opens, saidSpan, spanned, saidReading, noSheet, endedOf, readingOf, saidBounds};
-ghost use Rattle.calculus.specs.Stretch.{nowhere};
+ghost use Rattle.calculus.specs.Stretch.{nowhere, stretchOf, cut};
+ghost use Rattle.sheet_theorems.specs.Subterms.{skip};
+ghost use Rattle.sheet.specs.Nodes.{NodesFrom};
 
 // ---- type records
 
@@ -433,4 +435,55 @@ fn nowhere() -> Bounds
     ensures { λ r. ⌜ saidBounds r ≡ nowhere ⌝ }
 {
     Bounds { start: 0, size: 0 }
+}
+
+// The offset past n records of nodes.
+fn skip(s: &[u8], start: usize, n: usize) -> usize
+    requires { ⌜ NodesFrom (now s) start n ⌝ }
+    ensures { λ r. ⌜ r ≡ skip (now (s .entry)) n start ⌝ }
+{
+    let mut at = start;
+    let mut k: usize = 0;
+    while k < n {
+        let Record::Node(r) = records::record_at(s, at) else {
+            return at;
+        };
+        at = r.next;
+        k = k + 1;
+    }
+    at
+}
+
+// Where the stretch of a node begins, and its length; both 0 where the sheet is refused or the number is too large.
+pub fn stretch_bounds(s: &[u8], node: usize) -> Bounds
+    ensures { λ r. ⌜ saidBounds r ≡ stretchOf (now (s .entry)) node ⌝ }
+{
+    let v = read(s);
+    let verdict = v.verdict;
+    match verdict {
+        Verdict::Refused(_, _) => nowhere(),
+        Verdict::Read(types, nodes, start) => {
+            if nodes <= node {
+                return nowhere();
+            }
+            let at = skip(s, start, node);
+            match span_at(s, at, 0, 64, types) {
+                Span::Refused(_, _) => nowhere(),
+                Span::Next(end, _) => Bounds {
+                    start: at,
+                    size: end - at,
+                },
+            }
+        }
+    }
+}
+
+// The part of the caller's own sheet that holds a node and its subterms.
+pub fn stretch<'a>(s: &'a [u8], node: usize) -> &'a [u8]
+    ensures { λ r. ⌜ now r ≡ cut (now (s .entry)) (stretchOf (now (s .entry)) node) ⌝ }
+{
+    let b = stretch_bounds(s, node);
+    let start = b.start;
+    let end = start + b.size;
+    &s[start..end]
 }
