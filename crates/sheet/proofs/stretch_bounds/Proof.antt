@@ -1,6 +1,8 @@
 -- `sheet::stretch_bounds` meets its contract: the node stands as many records on from the term as its number says, and is read by itself. Assumes nothing.
-use Rattle.sheet.proofs.StretchLaws.{told, untold, told-past, told-nodes, told-stretch, told-read}
-use Rattle.sheet.specs.Said.{saidVerdict, saidSpan, ReadSaid}
+use Rattle.sheet.proofs.StretchLaws.{told-past, told-nodes, told-stretch, told-read}
+use Rattle.sheet.proofs.Told.{told, untold}
+use Rattle.sheet_theorems.proofs.StretchHolds.{stretch-refused}
+use Rattle.sheet.specs.Said.{saidSpan}
 use mathlib.Core.Path.{_≡_, refl, sym, ap, _∙_}
 use borrow.Author.Needs.{needs}
 use Rattle.sheet.proofs.stretch_bounds.Statement.{statement}
@@ -37,16 +39,16 @@ returns : tie.Need-returns
 returns c =
     let v = c .before .before .before in
     let a = v .before .before .before .before .args in
-    let t = told (a .s .now) _ _ _ (ap saidVerdict (sym (v .verdict .given .1)) ∙ ap (λ (x : ReadSaid). x .answer) (v .before .before .read .ensures)) in
-    c .nowhere2 .ensures ∙ told-past (a .s .now) _ _ _ t (a .node) (c .before .if1 .taken)
+    let t = told (a .s .now) _ _ _ _ (v .before .before .read .ensures) (v .verdict .given .1) in
+    c .nowhere2 .ensures ∙ told-past t (a .node) (c .before .if1 .taken)
 
 -- src/lib.rt:469:17
 skip-requires : tie.Need-skip-requires
 skip-requires c κs =
     let v = c .before .before in
     let a = v .before .before .before .before .args in
-    let t = told (a .s .now) _ _ _ (ap saidVerdict (sym (v .verdict .given .1)) ∙ ap (λ (x : ReadSaid). x .answer) (v .before .before .read .ensures)) in
-    told-nodes (a .s .now) _ _ _ t (a .node) (c .if1 .left)
+    let t = told (a .s .now) _ _ _ _ (v .before .before .read .ensures) (v .verdict .given .1) in
+    told-nodes t (a .node) (c .if1 .left)
 
 -- src/lib.rt:470:19
 span-at-requires : tie.Need-span-at-requires
@@ -69,28 +71,28 @@ sub-t14 : tie.Need-sub-t14
 sub-t14 c =
     let v = c .before .before .before .before .before .before .before in
     let a = v .before .before .before .before .args in
-    let t = told (a .s .now) _ _ _ (ap saidVerdict (sym (v .verdict .given .1)) ∙ ap (λ (x : ReadSaid). x .answer) (v .before .before .read .ensures)) in
-    told-stretch (a .s .now) _ _ _ t (a .node) (c .before .before .before .before .before .if1 .left) _ _ _ (c .before .before .before .before .skip .ensures) (ap saidSpan (sym (c .before .end .given .1)) ∙ c .before .before .before .span-at .ensures) .0
+    let t = told (a .s .now) _ _ _ _ (v .before .before .read .ensures) (v .verdict .given .1) in
+    told-stretch t (a .node) (c .before .before .before .before .before .if1 .left) _ _ _ (c .before .before .before .before .skip .ensures) (ap saidSpan (sym (c .before .end .given .1)) ∙ c .before .before .before .span-at .ensures) .0
 
 -- src/lib.rt:458:1
 returns-2 : tie.Need-returns-2
-returns-2 c = c .nowhere .ensures ∙ untold _ _ _ _ (ap saidVerdict (sym (c .before .enum-told .given .1)) ∙ ap (λ (x : ReadSaid). x .answer) (c .before .before .before .read .ensures))
+returns-2 c = c .nowhere .ensures ∙ sym (stretch-refused _ _ _ _ (untold _ _ _ _ (c .before .before .before .read .ensures) (c .before .enum-told .given .1)))
 
 -- src/lib.rt:458:1
 returns-3 : tie.Need-returns-3
 returns-3 c =
     let v = c .before .before .before .before .before .before .before in
     let a = v .before .before .before .before .args in
-    let t = told (a .s .now) _ _ _ (ap saidVerdict (sym (v .verdict .given .1)) ∙ ap (λ (x : ReadSaid). x .answer) (v .before .before .read .ensures)) in
-    absurd (told-read (a .s .now) _ _ _ t (a .node) (c .before .before .before .before .before .if1 .left) _ _ _ (c .before .before .before .before .skip .ensures) (ap saidSpan (sym (c .before .enum-told2 .given .1)) ∙ c .before .before .before .span-at .ensures))
+    let t = told (a .s .now) _ _ _ _ (v .before .before .read .ensures) (v .verdict .given .1) in
+    absurd (told-read t (a .node) (c .before .before .before .before .before .if1 .left) _ _ _ (c .before .before .before .before .skip .ensures) (ap saidSpan (sym (c .before .enum-told2 .given .1)) ∙ c .before .before .before .span-at .ensures))
 
 -- src/lib.rt:458:1
 returns-4 : tie.Need-returns-4
 returns-4 c =
     let v = c .before .before .before .before .before .before .before in
     let a = v .before .before .before .before .args in
-    let t = told (a .s .now) _ _ _ (ap saidVerdict (sym (v .verdict .given .1)) ∙ ap (λ (x : ReadSaid). x .answer) (v .before .before .read .ensures)) in
-    told-stretch (a .s .now) _ _ _ t (a .node) (c .before .before .before .before .before .if1 .left) _ _ _ (c .before .before .before .before .skip .ensures) (ap saidSpan (sym (c .before .end .given .1)) ∙ c .before .before .before .span-at .ensures) .1
+    let t = told (a .s .now) _ _ _ _ (v .before .before .read .ensures) (v .verdict .given .1) in
+    told-stretch t (a .node) (c .before .before .before .before .before .if1 .left) _ _ _ (c .before .before .before .before .skip .ensures) (ap saidSpan (sym (c .before .end .given .1)) ∙ c .before .before .before .span-at .ensures) .1
 
 pub stretch-bounds-spec : {M : Type 1} → statement M
 stretch-bounds-spec =
