@@ -10,8 +10,8 @@ use Rattle.calculus.specs.Types.{Ty, size, TyRec, rec01, rec02, rec03, rec04, T
 use Rattle.calculus.specs.Read.{checkType}
 use Rattle.calculus.specs.Laid.{TableOk}
 use Rattle.records.specs.Forms.{recIn}
-use Rattle.sheet.specs.declared.Checked.{Checked}
-use Rattle.sheet.specs.declared.Checked.the-variants as checked
+use Rattle.sheet.specs.declared.types.Checked.{Checked}
+use Rattle.sheet.specs.declared.types.Checked.the-variants as checked
 
 -- the records of the first n types, as the sheet's bytes hold them
 unfoldable pub tableIn : List ℕ → ℕ → Table
