@@ -1,9 +1,8 @@
 -- Two results that the contract of a public function allows are equal. Assumes nothing.
 use Prim.Native.Nat.{ℕ}
-use mathlib.Core.Path.{_≡_, refl, sym, ap, ap₂, _∙_}
+use mathlib.Core.Path.{_≡_, sym, ap, ap₂, _∙_}
 use mathlib.Core.List.{List}
-use native.Mathlib.Omega.{arith}
-use Rattle.calculus.specs.Answer.{Answer, good, refused}
+use Rattle.calculus.specs.Answer.{good, refused}
 use Rattle.calculus.proofs.Answers.{refused≢good, good-inj}
 use Rattle.calculus.specs.Read.{readSheet}
 use Rattle.calculus.specs.Stretch.{Stretch, stretchOf, cut}

@@ -1,6 +1,6 @@
 -- Where a node's stretch begins and ends, by the reader. Assumes nothing.
-use Prim.Native.Nat.{ℕ, zero, suc, _+_, _-_, _≤_, _<_}
-use mathlib.Core.Path.{_≡_, refl, sym, ap, ap₂, subst, _∙_}
+use Prim.Native.Nat.{ℕ, _+_, _-_, _≤_, _<_}
+use mathlib.Core.Path.{_≡_, refl, sym, ap, ap₂, _∙_}
 use mathlib.Core.Logic.{⊎-elim}
 use mathlib.Core.List.{List, [], _∷_}
 use native.Mathlib.Omega.{arith}
@@ -11,10 +11,9 @@ use types.Run.{OneOf}
 use lib.ListN.{length, getD}
 use Rattle.calculus.specs.Answer.{Answer, good, refused}
 use Rattle.calculus.proofs.Answers.{refused≢good, good-inj}
-use Rattle.calculus.specs.Terms.{Term, nodes}
-use Rattle.calculus.specs.Read.{Kind, kindOf, byte, Got, readTerm, Sheet, readSheet}
-use Rattle.calculus.specs.Write.{tableBytes}
-use Rattle.calculus.specs.Stretch.{Stretch, nowhere, stretchOf}
+use Rattle.calculus.specs.Terms.{nodes}
+use Rattle.calculus.specs.Read.{Kind, readTerm, Sheet, readSheet}
+use Rattle.calculus.specs.Stretch.{nowhere, stretchOf}
 use Rattle.sheet_theorems.specs.Subterms.{subterms, bodyOf, after, skip}
 use Rattle.sheet_theorems.proofs.StretchHolds.{skip-next, stretch-holds, stretch-past, stretch-refused}
 use Rattle.sheet_theorems.proofs.SubtermRead.{stretch-read}
@@ -24,7 +23,7 @@ use Rattle.records.specs.declared.Record.{Record}
 use Rattle.records.specs.declared.Record.the-variants as rec
 use Rattle.records.proofs.Record.{the-type}
 use Rattle.records.proofs.Laws.{node-next, stands-record}
-use Rattle.sheet.specs.Nodes.{NodeAt, NodesFrom}
+use Rattle.sheet.specs.Nodes.{NodesFrom}
 use Rattle.sheet.specs.Said.{End, end, spanned}
 use Rattle.sheet.proofs.Told.{Told}
 use Rattle.sheet.proofs.KindLaws.{NodeHere, node-here}

@@ -1,4 +1,4 @@
--- `sheet::read_types` meets its contract. The invariant `Reading`: the records so far are in order, and what is left to read is what there was. The measure is the bytes left. Assumes nothing.
+-- `sheet::read_types` meets its contract. The invariant `SoFar`: the records so far are in order, and what is left to read is what there was. The measure is the bytes left. Assumes nothing.
 use Prim.Native.Nat.{_-_, _+_}
 use mathlib.Core.Path.{sym, ap, _∙_}
 use native.Mathlib.Omega.{arith}
@@ -8,13 +8,13 @@ use Rattle.calculus.specs.Types.{TyRec}
 use Rattle.records.proofs.Laws.{type-next}
 use Rattle.sheet.specs.Tables.{tableIn, sizeOf, saidChecked}
 use Rattle.sheet.proofs.TableLaws.{table-count, sizes-length}
-use Rattle.sheet.proofs.TypesLaws.{Reading, first, next-type, type-refused, types-over, types-stop}
+use Rattle.sheet.proofs.TypesLaws.{SoFar, first, next-type, type-refused, types-over, types-stop}
 use Rattle.sheet.proofs.KindLaws.{type-here}
 use Rattle.sheet.proofs.types.read_types.Statement.{statement}
 use Rattle.sheet.proofs.types.read_types.Tie as tie
 
 abbrev Inv-loop : tie.InvT-loop
-Inv-loop s sizes₀ at₀ count₀ sizes at count = Reading s at count sizes
+Inv-loop s sizes₀ at₀ count₀ sizes at count = SoFar s at count sizes
 
 abbrev μ-loop : tie.MeasureT-loop
 μ-loop s sizes₀ at₀ count₀ sizes at count = length s - at
