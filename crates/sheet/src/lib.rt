@@ -118,10 +118,10 @@ pub fn stretch_bounds(s: &[u8], node: usize) -> Bounds
             let at = skip(s, start, node);
             match term::span_at(s, at, 0, MOST_DEPTH, types) {
                 Span::Refused(_, _) => nowhere(),
-                Span::Next(end, _) => Bounds {
-                    start: at,
-                    size: end - at,
-                },
+                Span::Next(end, _) => {
+                    let size = end - at;
+                    Bounds { start: at, size }
+                }
             }
         }
     }

@@ -81,10 +81,11 @@ pub fn span_at(s: &[u8], at: usize, count: usize, more: usize, types: usize) -> 
     match head_at(s, at, count, more, types) {
         Head::Refused(number, place) => Span::Refused(number, place),
         Head::Opens(next, subterms) => {
+            let nodes = count + 1;
             if subterms == 0 {
-                return Span::Next(next, count + 1);
+                return Span::Next(next, nodes);
             }
-            let a = span_at(s, next, count + 1, more - 1, types);
+            let a = span_at(s, next, nodes, more - 1, types);
             if subterms == 1 {
                 return a;
             }

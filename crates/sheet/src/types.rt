@@ -186,10 +186,12 @@ fn check_type(s: &[u8], at: usize, count: usize, sizes: &[u8], f: Form) -> Check
     if MOST_TYPES <= count {
         return Checked::Refused(8, at);
     }
-    if !known(f, count) {
+    let numbers = known(f, count);
+    let form = formed(s, f);
+    if !numbers {
         return Checked::Refused(5, at);
     }
-    if !formed(s, f) {
+    if !form {
         return Checked::Refused(6, at);
     }
     if repeats(s, count, f) {
@@ -199,7 +201,8 @@ fn check_type(s: &[u8], at: usize, count: usize, sizes: &[u8], f: Form) -> Check
     if LARGEST_SIZE < size {
         return Checked::Refused(8, at);
     }
-    Checked::Size(size as u8)
+    let bits = size as u8;
+    Checked::Size(bits)
 }
 
 // The type records: their number and the offset past them, or a refusal's number and place.

@@ -49,8 +49,8 @@ nowhere-requires-3 c κs = search needs
 enum-known-end : tie.Need-enum-known-end
 enum-known-end c = search needs
 
-sub-t14 : tie.Need-sub-t14
-sub-t14 c =
+sub-size : tie.Need-sub-size
+sub-size c =
     let v = c .before .before .before .before .before .before .before in
     let a = v .before .before .before .before .args in
     let t = told (a .s .now) _ _ _ _ (v .before .before .read .ensures) (v .verdict .given .1) in
@@ -88,7 +88,7 @@ stretch-bounds-spec =
     enum-told-2
     nowhere-requires-3
     enum-known-end
-    sub-t14
+    sub-size
     returns-2
     returns-3
     returns-4)

@@ -48,14 +48,14 @@ span-at-enum-known-next : (t : ℕ) → span-at-lts.Need-enum-known-next (
 ) (span-at-at t) span-at.Post
 span-at-enum-known-next t c = search needs
 
-span-at-add-t18 : (t : ℕ) → span-at-lts.Need-add-t18 (
+span-at-add-nodes : (t : ℕ) → span-at-lts.Need-add-nodes (
   head-at-reads.Asked,
   head-at-reads.Learnt,
   span-at-below t,
   span-at.Post,
 ) (span-at-at t) span-at.Post
-span-at-add-t18 t c =
-    let h = c .before .before in
+span-at-add-nodes t c =
+    let h = c .before in
     let e = ap saidHead (sym (h .next .given .1)) ∙ h .before .before .head-at .ensures in
     record { fits = omega (arith, open-tells _ _ _ _ _ e) }
 
@@ -69,17 +69,6 @@ span-at-returns t c =
     let h = c .before .before in
     let e = ap saidHead (sym (h .next .given .1)) ∙ h .before .before .head-at .ensures in
     span-none _ _ _ _ _ e (c .if1 .taken)
-
-span-at-add-span-at : (t : ℕ) → span-at-lts.Need-add-span-at (
-  head-at-reads.Asked,
-  head-at-reads.Learnt,
-  span-at-below t,
-  span-at.Post,
-) (span-at-at t) span-at.Post
-span-at-add-span-at t c =
-    let h = c .before .before in
-    let e = ap saidHead (sym (h .next .given .1)) ∙ h .before .before .head-at .ensures in
-    record { fits = omega (arith, open-tells _ _ _ _ _ e) }
 
 span-at-sub-span-at : (t : ℕ) → span-at-lts.Need-sub-span-at (
   head-at-reads.Asked,
@@ -197,9 +186,8 @@ pub +span-at-spec : {M : Type 1} → statement M
     (span-at-head-at-requires t)
     (span-at-enum-known-number t)
     (span-at-enum-known-next t)
-    (span-at-add-t18 t)
+    (span-at-add-nodes t)
     (span-at-returns t)
-    (span-at-add-span-at t)
     (span-at-sub-span-at t)
     (span-at-span-at-requires t)
     (span-at-returns-2 t)

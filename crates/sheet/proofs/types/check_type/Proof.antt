@@ -14,32 +14,67 @@ returns c = check-many (c .before .before .before .pre) _ _ (c .if1 .taken)
 known-requires : tie.Need-known-requires
 known-requires c κs = search needs
 
-returns-2 : tie.Need-returns-2
-returns-2 c = check-unknown (c .before .before .before .before .before .pre) _ _ (c .before .before .if1 .left) (sym (c .before .known .ensures) ∙ not-true _ (c .if2 .taken))
-
 formed-requires : tie.Need-formed-requires
 formed-requires c κs = search needs
 
+returns-2 : tie.Need-returns-2
+returns-2 c =
+    let k = c .before .before in
+    let o = k .before in
+    check-unknown (o .before .before .before .pre) _ _ (o .if1 .left) (sym (k .known .ensures) ∙ not-true _ (c .if2 .taken))
+
 returns-3 : tie.Need-returns-3
-returns-3 c = check-misformed (c .before .before .before .before .before .before .before .pre) _ _ (c .before .before .before .before .if1 .left) (sym (c .before .before .before .known .ensures) ∙ not-false _ (c .before .before .if2 .left)) (sym (c .before .formed .ensures) ∙ not-true _ (c .if3 .taken))
+returns-3 c =
+    let e = c .before in
+    let f = e .before in
+    let k = f .before in
+    let o = k .before in
+    check-misformed (o .before .before .before .pre) _ _ (o .if1 .left) (sym (k .known .ensures) ∙ not-false _ (e .if2 .left)) (sym (f .formed .ensures) ∙ not-true _ (c .if3 .taken))
 
 repeats-requires : tie.Need-repeats-requires
 repeats-requires c κs = search needs
 
 returns-4 : tie.Need-returns-4
-returns-4 c = check-again (c .before .before .before .before .before .before .before .before .before .pre) _ _ (c .before .before .before .before .before .before .if1 .left) (sym (c .before .before .before .before .before .known .ensures) ∙ not-false _ (c .before .before .before .before .if2 .left)) (sym (c .before .before .before .formed .ensures) ∙ not-false _ (c .before .before .if3 .left)) (sym (c .before .repeats .ensures) ∙ (c .if4 .taken))
+returns-4 c =
+    let r = c .before in
+    let d = r .before in
+    let e = d .before in
+    let f = e .before in
+    let k = f .before in
+    let o = k .before in
+    check-again (o .before .before .before .pre) _ _ (o .if1 .left) (sym (k .known .ensures) ∙ not-false _ (e .if2 .left)) (sym (f .formed .ensures) ∙ not-false _ (d .if3 .left)) (sym (r .repeats .ensures) ∙ c .if4 .taken)
 
 size-of-requires : tie.Need-size-of-requires
-size-of-requires c κs = rw (c .before .before .before .before .before .before .before .before .before .pre .sizes-are) (sizes-length (tableIn (c .before .before .before .before .before .before .before .before .before .args .s .now) (c .before .before .before .before .before .before .before .before .before .args .count)) (c .before .before .before .before .before .before .before .before .before .pre .ok .few))
+size-of-requires c κs =
+    let o = c .before .before .before .before .before .before in
+    let b = o .before .before .before in
+    rw (b .pre .sizes-are) (sizes-length (tableIn (b .args .s .now) (b .args .count)) (b .pre .ok .few))
 
 returns-5 : tie.Need-returns-5
-returns-5 c = check-large (c .before .before .before .before .before .before .before .before .before .before .before .pre) _ _ (c .before .before .before .before .before .before .before .before .if1 .left) (sym (c .before .before .before .before .before .before .before .known .ensures) ∙ not-false _ (c .before .before .before .before .before .before .if2 .left)) (sym (c .before .before .before .before .before .formed .ensures) ∙ not-false _ (c .before .before .before .before .if3 .left)) (sym (c .before .before .before .repeats .ensures) ∙ (c .before .before .if4 .left)) (rw (c .before .size-of .ensures) at (c .if5 .taken))
+returns-5 c =
+    let r = c .before .before .before in
+    let d = r .before in
+    let e = d .before in
+    let f = e .before in
+    let k = f .before in
+    let o = k .before in
+    check-large (o .before .before .before .pre) _ _ (o .if1 .left) (sym (k .known .ensures) ∙ not-false _ (e .if2 .left)) (sym (f .formed .ensures) ∙ not-false _ (d .if3 .left)) (sym (r .repeats .ensures) ∙ c .before .before .if4 .left)
+    (rw (c .before .size-of .ensures) at (c .if5 .taken))
 
-cast-t10 : tie.Need-cast-t10
-cast-t10 c = search needs
+cast-bits : tie.Need-cast-bits
+cast-bits c = search needs
 
 returns-6 : tie.Need-returns-6
-returns-6 c = rw (c .before .size-of .ensures) (check-sized (c .before .before .before .before .before .before .before .before .before .before .before .pre) _ _ (c .before .before .before .before .before .before .before .before .if1 .left) (sym (c .before .before .before .before .before .before .before .known .ensures) ∙ not-false _ (c .before .before .before .before .before .before .if2 .left)) (sym (c .before .before .before .before .before .formed .ensures) ∙ not-false _ (c .before .before .before .before .if3 .left)) (sym (c .before .before .before .repeats .ensures) ∙ (c .before .before .if4 .left)) (rw (c .before .size-of .ensures) at (c .if5 .left)))
+returns-6 c =
+    let r = c .before .before .before in
+    let d = r .before in
+    let e = d .before in
+    let f = e .before in
+    let k = f .before in
+    let o = k .before in
+    rw (c .before .size-of .ensures)
+    (check-sized (o .before .before .before .pre) _ _ (o .if1 .left) (sym (k .known .ensures) ∙ not-false _ (e .if2 .left)) (sym (f .formed .ensures) ∙ not-false _ (d .if3 .left)) (sym (r .repeats .ensures) ∙ c .before .before .if4 .left)
+    (rw (c .before .size-of .ensures) at (c .if5 .left)))
 
 pub check-type-spec : {M : Type 1} → statement M
 check-type-spec =
@@ -47,12 +82,12 @@ check-type-spec =
     (tie.spec
     returns
     known-requires
-    returns-2
     formed-requires
+    returns-2
     returns-3
     repeats-requires
     returns-4
     size-of-requires
     returns-5
-    cast-t10
+    cast-bits
     returns-6)
