@@ -1,5 +1,9 @@
 pub mod Drivers
+pub mod Lists
 pub mod Rings
+pub mod Terminals
+pub mod RootLaws
+pub mod BackLaws
 pub mod Roots
 pub mod Same
 pub mod Wiring

@@ -6,14 +6,10 @@ use mathlib.Core.List.{List, [], _∷_}
 use native.Mathlib.Nat.{min-eq-left, min-eq-right, le-of-lt, lt-of-not-le}
 use native.Mathlib.Decide.{decLe}
 use lib.Dec.{T, eqb, eqb→eq}
+use Rattle.laws.proofs.Tests.{on-cond}
 use Rattle.calculus.specs.Net.{Interface, Element, point, part, Wire, Net}
 use Rattle.calculus.specs.Lean.{driver, isPin, pointCount, backIn, back, backs, lowest, root}
 use Rattle.calculus.specs.Record.{Bits, Law, All, Same, Works, Joined, Possible}
-
--- a choice by a test: what holds on both sides
-on-cond {ℓ} : {A : Type ℓ} (P : A → Type 0) (b : Bool) (x y : A) → (T b → P x) → P y → P (cond b x y)
-on-cond P true x y f g = f tt
-on-cond P false x y f g = g
 
 on-min : (a b : ℕ) (P : ℕ → Type 0) → P a → P b → P (min a b)
 on-min a b P x y = elim (decLe a b) [ yes h ↦ rw (min-eq-left h) x | no h ↦ rw (min-eq-right (le-of-lt (lt-of-not-le h))) y ]

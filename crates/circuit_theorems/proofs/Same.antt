@@ -12,7 +12,8 @@ use Rattle.calculus.specs.Terms.{partAt}
 use Rattle.calculus.specs.Net.{Terminal, inp, out, number, Interface, Element, point, part, Wire, Net}
 use Rattle.calculus.specs.Lean.{driver, isPin, pointCount, backIn, back, backs, lowest, root, kept, keep, toInputs, toElement, leanWires, leanPin, lean}
 use Rattle.calculus.specs.Record.{Stream, Bits, Law, All, Same, streams, Works, Joined, Possible, PinsShow, PartShows, Outside}
-use Rattle.circuit_theorems.proofs.Rings.{by-eqb, or-cases, or-left, or-right, root-back, stay, lowest-is}
+use Rattle.laws.proofs.Tests.{by-eqb, or-cases, or-left, or-right, T-is, not-true, false-not}
+use Rattle.circuit_theorems.proofs.RootLaws.{root-back, root-stays}
 use Rattle.circuit_theorems.proofs.Roots.{driver-like, root-like}
 
 -- ---- All
@@ -96,10 +97,6 @@ keep-all : (F : Element → Type 0) (m : Net) (es : List Element) → All F es �
 keep-all F m [] a = tt
 keep-all F m (e ∷ es) a = let r = keep-all F m es (a .1) in all-cond F (kept m e) (e ∷ keep m es) (keep m es) (λ _. (a .0, r)) (λ _. r)
 
-not-true : (b : Bool) → T (not b) → b ≡ false
-not-true true t = absurd t
-not-true false t = refl
-
 within-here : (k i : ℕ) → T (within (suc k) i i)
 within-here k i = or-left (eqb i i) (within k (i + 1) i) (eqb-refl i)
 
@@ -131,13 +128,6 @@ module _ (law : Law) (m : Net) (ok : Wired m) (n : ℕ) (β : Bits) (p : Possibl
   to-lean = record { elements = keep-all (Works law n β) m (m .elements) (p .elements); wires = lean-wires (m .elements) (p .elements) (λ x w. w) }
 
 -- ---- from the lean netlist to the full one
-
-pub root-stays : (m : Net) (x : ℕ) → back m x ≡ x → root m x ≡ x
-unfolding root
-root-stays m x e =
-    let c = pointCount (m .elements) in
-    let s = stay m c x e in
-    subst (λ (y : ℕ). lowest c m y y ≡ x) (sym s) (⊎-elim (λ f. f) (λ (f : (j : ℕ) × (j < c) × (lowest c m x x ≡ backs j m x)). f .2 ∙ stay m (f .0) x e) (lowest-is m c x x))
 
 module _ (law : Law) (m : Net) (ok : Wired m) (n : ℕ) (α : Bits) (p : Possible law (lean m) n α) where
   -- each terminal has the bits of the output that stands for it
@@ -206,13 +196,6 @@ module _ (law : Law) (m : Net) (ok : Wired m) (n : ℕ) (α : Bits) (p : Possibl
   part-stands (point i ∷ es) c x h = part-stands es (c .1) x h
   part-stands (part q i ∷ es) c x h =
       ⊎-elim (λ t. let r = within-le (partAt q .inputs) i x t in c .0 x (r .0) (r .1)) (λ t. part-stands es (c .1) x t) (or-cases (within (partAt q .inputs) i x) (partIn es x) h)
-
-  T-is : (b : Bool) → T b → b ≡ true
-  T-is true t = refl
-  T-is false t = absurd t
-
-  false-not : (b : Bool) → b ≡ false → T (not b)
-  false-not b e = rw e tt
 
   abbrev WireOk : Wire → Type 0
   WireOk w = ((pointIn (m .elements) (w .from) ≡ false) × (T (pointIn (m .elements) (w .to)) ⊎ T (partIn (m .elements) (w .to)))) × ((isPin (m .pins) (w .to) ≡ false) × ((d : ℕ) → driver (m .wires) (w .to) d ≡ w .from))

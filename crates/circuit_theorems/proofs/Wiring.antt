@@ -16,8 +16,10 @@ use Rattle.calculus.specs.Rules.{Typed}
 use Rattle.calculus.specs.Record.{All}
 use Rattle.calculus.specs.Formed.{is, ins, made, targets, isOut, Tiled}
 use Rattle.circuit_theorems.proofs.Drivers.{turns-size, drivers}
-use Rattle.circuit_theorems.proofs.Rings.{by-eqb, or-cases, or-left, or-right, has, outs, moves-in}
-use Rattle.circuit_theorems.proofs.Same.{pointIn, partIn, within, hasTo, standIn, Clear, PinOk, Wired, root-stays, all-map, all-zip}
+use Rattle.circuit_theorems.proofs.Rings.{has, outs, moves-in}
+use Rattle.laws.proofs.Tests.{by-eqb, or-cases, or-elim, or-left, or-right, is-false, T-is, false-not-T}
+use Rattle.circuit_theorems.proofs.RootLaws.{root-stays}
+use Rattle.circuit_theorems.proofs.Same.{pointIn, partIn, within, hasTo, standIn, Clear, PinOk, Wired, all-map, all-zip}
 
 -- ---- the elements take the terminals from n up to e, without gap
 
@@ -160,9 +162,6 @@ module _ (P : ℕ → Type 0) where
 
 -- ---- no terminal is two things
 
-or-elim : {X : Type 0} (a b : Bool) → T (a || b) → (T a → X) → (T b → X) → X
-or-elim a b t f g = ⊎-elim f g (or-cases a b t)
-
 in-low : (es : List Element) (n e x : ℕ) → Tiled es n e → T (pointIn es x) → n ≤ x
 in-low [] n e x a h = absurd h
 in-low (point i ∷ es) n e x a h = or-elim (eqb i x) (pointIn es x) h (λ t. let q = eqb→eq i x t in let r = a .0 in omega arith) (λ t. let q = in-low es (n + 2) e x (a .1) t in omega arith)
@@ -191,14 +190,6 @@ outs-out [] x h = h
 outs-out (point i ∷ es) x h = or-elim (eqb (i + 1) x) (has (outs es) x) h (λ t. or-left (eqb (i + 1) x) _ t) (λ t. or-right (eqb (i + 1) x) _ (outs-out es x t))
 outs-out (part p i ∷ es) x h = or-right (eqb (i + partAt p .inputs) x) _ (outs-out es x h)
 
-is-false : (b : Bool) → (T b → ⊥) → b ≡ false
-is-false true f = absurd (f tt)
-is-false false f = refl
-
-T-of : (b : Bool) → T b → b ≡ true
-T-of true t = refl
-T-of false t = absurd t
-
 -- every element, seen from the whole list m: from its first terminal on, only it and those behind it count
 module _ (m : Net) (e : ℕ) where
   clears : (es : List Element) (n : ℕ) → Tiled es n e
@@ -210,7 +201,7 @@ module _ (m : Net) (e : ℕ) where
       let r = a .0 in (
         (
           is-false _ (λ t. or-elim (eqb i (i + 1)) (pointIn es (i + 1)) (g (i + 1) (omega arith) t) (λ u. let q = eqb→eq i (i + 1) u in omega arith) (λ u. let q = in-low es (n + 2) e (i + 1) (a .1) u in omega arith)),
-          T-of _ (f i (or-left (eqb i i) (pointIn es i) (eqb-refl i))),
+          T-is _ (f i (or-left (eqb i i) (pointIn es i) (eqb-refl i))),
         ),
         clears es (n + 2) (a .1) (λ x t. f x (or-right (eqb i x) (pointIn es x) t))
             (λ x l t. or-elim (eqb i x) (pointIn es x) (g x (omega arith) t) (λ u. let q = eqb→eq i x u in absurd (omega arith)) (λ u. u))
@@ -311,10 +302,6 @@ ins-pin : (ps : Interface) (i : ℕ) → 1 ≤ ins ps i → T (isPin ps i)
 ins-pin [] i h = absurd (omega arith)
 ins-pin (inp j ∷ ps) i h = by-eqb (λ b. 1 ≤ cond b 1 0 + ins ps i → T (b || isPin ps i)) j i (λ q l. tt) (λ q l. ins-pin ps i (omega arith)) h
 ins-pin (out o ∷ ps) i h = ins-pin ps i h
-
-false-not-T : (b : Bool) → b ≡ false → T b → ⊥
-false-not-T true e t = subst (λ (x : Bool). T x) e t
-false-not-T false e t = t
 
 -- ---- the whole
 
