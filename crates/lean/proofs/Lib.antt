@@ -4,3 +4,4 @@ pub mod FrameLaws
 pub mod DriverLaws
 pub mod StartLaws
 pub mod SettleLaws
+pub mod RoundLaws

@@ -5,12 +5,13 @@ use memory::POINT;
 use memory::ROOTS;
 use memory::TERMINALS;
 ghost use mathlib.Core.Path.{_≡_};
-ghost use Prim.Native.Nat.{_+_, _≤_};
-ghost use lib.ListN.{length, set};
+ghost use Prim.Native.Nat.{_+_, _-_, _≤_, _<_};
+ghost use lib.ListN.{length, getD, set};
 ghost use Rattle.calculus.specs.Terms.{partAt};
-ghost use Rattle.memory.specs.Map.{region};
+ghost use Rattle.calculus.specs.Lean.{root};
+ghost use Rattle.memory.specs.Map.{region, netIn, Ready};
 ghost use Rattle.lean.specs.Kinds.{outputOf, after, afterAll};
-ghost use Rattle.lean.specs.Table.{Blank, firstOf, started};
+ghost use Rattle.lean.specs.Table.{entry, Blank, firstOf, started, Partly, Output, Comes, Met, Settled, Rooted};
 
 // The number of inputs of a part.
 fn inputs_of(kind: u16) -> usize
@@ -85,5 +86,113 @@ fn start(work: &mut [u16], elements: usize)
         let kind = work[ELEMENTS + i];
         at = start_one(work, kind, at);
         i = i + 1;
+    }
+}
+
+// One step back from output x, which is not settled.
+fn back_of(work: &[u16], elements: usize, wires: usize, pins: usize, x: usize) -> usize
+    requires { ⌜ Partly (now work) elements wires pins × (Output (now work) elements wires pins x × (entry (now work) x ≡ 65535)) ⌝ }
+    ensures { λ r. ⌜ r ≡ getD (now (work .entry)) (x - 1) 0 ⌝ }
+{
+    work[x - 1] as usize
+}
+
+// Steps back from output o, to one that is settled or comes round: Brent's way, with a mark that moves up after 1, 2, 4, 8, .. steps.
+fn meet(work: &[u16], elements: usize, wires: usize, pins: usize, o: usize) -> usize
+    requires { ⌜ Partly (now work) elements wires pins × Output (now work) elements wires pins o ⌝ }
+    ensures { λ r. ⌜ Met (now (work .entry)) elements wires pins o r ⌝ }
+{
+    let mut x = o;
+    let mut mark = o;
+    let mut steps: usize = 0;
+    let mut span: usize = 1;
+    let mut left = TERMINALS;
+    while left > 0 {
+        if work[ROOTS + x] != NONE {
+            return x;
+        }
+        x = back_of(work, elements, wires, pins, x);
+        steps = steps + 1;
+        left = left - 1;
+        if x == mark {
+            return x;
+        }
+        if steps == span {
+            mark = x;
+            steps = 0;
+            span = 2 * span;
+        }
+    }
+    x
+}
+
+// The root of output o, which is settled or comes round: the lowest, once round.
+fn round(work: &[u16], elements: usize, wires: usize, pins: usize, o: usize) -> u16
+    requires { ⌜ Partly (now work) elements wires pins × (Output (now work) elements wires pins o
+        × (entry (now work) o ≡ 65535 → Comes (netIn (now work) elements wires pins) o)) ⌝ }
+    ensures { λ r. ⌜ r ≡ root (netIn (now (work .entry)) elements wires pins) o ⌝ }
+{
+    let mut x = o;
+    let mut low = o;
+    let mut left = TERMINALS;
+    while left > 0 {
+        let r = work[ROOTS + x];
+        if r != NONE {
+            return r;
+        }
+        x = back_of(work, elements, wires, pins, x);
+        left = left - 1;
+        if x == o {
+            return low as u16;
+        }
+        if x < low {
+            low = x;
+        }
+    }
+    low as u16
+}
+
+// From o back, each output that is not settled gets o's root r.
+fn settle(work: &mut [u16], elements: usize, wires: usize, pins: usize, o: usize, r: u16)
+    requires { ⌜ Partly (now work) elements wires pins × (Output (now work) elements wires pins o
+        × (r ≡ root (netIn (now work) elements wires pins) o)) ⌝ }
+    ensures { λ _. ⌜ Settled (now (work .entry)) (now (work .exit)) elements wires pins o ⌝ }
+{
+    let mut x = o;
+    let mut left = TERMINALS;
+    while left > 0 {
+        if work[ROOTS + x] != NONE {
+            return;
+        }
+        let next = back_of(work, elements, wires, pins, x);
+        work[ROOTS + x] = r;
+        x = next;
+        left = left - 1;
+    }
+}
+
+// Output o is settled.
+fn root_one(work: &mut [u16], elements: usize, wires: usize, pins: usize, o: usize)
+    requires { ⌜ Partly (now work) elements wires pins × (o < 8192) ⌝ }
+    ensures { λ _. ⌜ Settled (now (work .entry)) (now (work .exit)) elements wires pins o ⌝ }
+{
+    if work[ROOTS + o] == NONE {
+        let x = meet(work, elements, wires, pins, o);
+        let r = round(work, elements, wires, pins, x);
+        settle(work, elements, wires, pins, o, r);
+    }
+}
+
+// The root of every output.
+pub fn roots(work: &mut [u16], elements: usize, wires: usize, pins: usize)
+    requires { ⌜ Ready (now work) elements wires pins ⌝ }
+    ensures { λ _. ⌜ Rooted (now (work .entry)) (now (work .exit)) elements wires pins ⌝ }
+{
+    blank(work);
+    start(work, elements);
+    let mut o: usize = 0;
+    while o < TERMINALS {
+        root_one(work, elements, wires, pins, o);
+        o = o + 1;
     }
 }
