@@ -2,22 +2,21 @@
 -- pin, a point whose input is driven; on a formed netlist these determine the root of every output. Assumes nothing.
 use Prim.Native.Nat.{ℕ, zero, suc, _+_, _<_, _≤_}
 use mathlib.Core.Path.{_≡_, refl, sym, ap, _∙_, subst}
-use mathlib.Core.Logic.{_⊎_, inl, inr, ⊎-elim}
-use mathlib.Core.Bool.{Bool, true, false, cond, _||_}
+use mathlib.Core.Logic.{⊎-elim}
+use mathlib.Core.Bool.{Bool, true, false, cond}
 use mathlib.Core.List.{List, [], _∷_}
 use native.Mathlib.Omega.{arith}
-use native.Mathlib.Nat.{le-refl}
 use lib.Dec.{T, eqb, eqb→eq, eqb-refl}
 use lib.ListN.{length, getD}
 use Rattle.laws.proofs.Tests.{by-eqb, or-cases, or-elim, or-left, or-right, T-is}
 use Rattle.calculus.specs.Terms.{partAt}
-use Rattle.calculus.specs.Net.{Interface, Element, point, part, Wire, Net}
+use Rattle.calculus.specs.Net.{Element, point, part, Net}
 use Rattle.calculus.specs.Lean.{driver, isPin, backIn, back, backs, lowest, root}
 use Rattle.calculus.specs.Record.{All}
-use Rattle.calculus.specs.Formed.{targets, isOut, Rising, Formed}
-use Rattle.circuit_theorems.proofs.Rings.{has, outs, moves-in, count, rounds, Round}
-use Rattle.circuit_theorems.proofs.RootLaws.{still, root-stays, root-back, root-steps, root-lowest}
-use Rattle.circuit_theorems.proofs.Lists.{all-map, all-zip, all-at}
+use Rattle.calculus.specs.Formed.{isOut, Rising, Formed}
+use Rattle.circuit_theorems.proofs.Rings.{has, outs, moves-in}
+use Rattle.circuit_theorems.proofs.RootLaws.{root-stays, root-back, root-lowest, only-root}
+use Rattle.circuit_theorems.proofs.Lists.{all-at}
 use Rattle.circuit_theorems.proofs.Terminals.{pointIn, out-low, outs-out, driver-is}
 
 -- ---- one step back
@@ -150,17 +149,8 @@ module _ (m : Net) where
           (λ t. subst (λ (x : ℕ). r x ≡ r (back m x)) (eqb→eq (i + partAt p .inputs) o t) (ap r (sym (b .0))))
           (λ t. goes-in es o (a .1) (b .1) t f)
 
-      goes-far : (k o : ℕ) → T (isOut (m .elements) o) → r o ≡ r (backs k m o)
-      goes-far zero o h = refl
-      goes-far (suc k) o h =
-          goes-in (m .elements) o (s .elements) (back-parts (ok .end) (ok .rising)) h (λ x t. t) ∙ goes-far k (back m o) (back-out o h)
-
       -- .. and of nothing else
       pub sentences-only : (o : ℕ) → T (isOut (m .elements) o) → r o ≡ root m o
-      sentences-only o h = ⊎-elim (λ e. s .rings 1 o h (le-refl 1) e ∙ sym (root-lowest m 1 o (le-refl 1) e)) moving (still m o)
-        where
-          moving : 1 ≤ count m → r o ≡ root m o
-          moving c =
-              let q = rounds m o c in
-              goes-far (count m) o h ∙ s .rings (q .steps) _ (backs-out (count m) o h) (q .some) (q .same)
-              ∙ sym (root-lowest m (q .steps) _ (q .some) (q .same)) ∙ root-steps m (count m) o
+      sentences-only =
+          only-root m r (λ x. T (isOut (m .elements) x)) back-out
+          (λ o h. goes-in (m .elements) o (s .elements) (back-parts (ok .end) (ok .rising)) h (λ x t. t)) (s .rings)

@@ -4,7 +4,7 @@ use mathlib.Core.Bool.{Bool, true, false, cond, not}
 use mathlib.Core.List.{List, [], _∷_, _++_}
 use native.Mathlib.Nat.{not-suc-le-zero, le-of-suc-le-suc}
 use lib.Dec.{T}
-use lib.ListN.{length, getD}
+use lib.ListN.{length, getD, take, drop}
 use Rattle.calculus.specs.Record.{All}
 
 pub all-map : {A : Type 0} (F G : A → Type 0) → ((x : A) → F x → G x) → (xs : List A) → All F xs → All G xs
@@ -36,3 +36,19 @@ pub all-at : {A : Type 0} (F : A → Type 0) (xs : List A) (k : ℕ) (d : A) →
 all-at F [] k d a h = absurd (not-suc-le-zero h)
 all-at F (x ∷ xs) zero d a h = a .0
 all-at F (x ∷ xs) (suc k) d a h = all-at F xs k d (a .1) (le-of-suc-le-suc h)
+
+pub all-take : {A : Type 0} (F : A → Type 0) (k : ℕ) (xs : List A) → All F xs → All F (take k xs)
+all-take F zero xs a = tt
+all-take F (suc k) [] a = tt
+all-take F (suc k) (x ∷ xs) a = (a .0, all-take F k xs (a .1))
+
+pub all-drop : {A : Type 0} (F : A → Type 0) (k : ℕ) (xs : List A) → All F xs → All F (drop k xs)
+all-drop F zero xs a = a
+all-drop F (suc k) [] a = tt
+all-drop F (suc k) (x ∷ xs) a = all-drop F k xs (a .1)
+
+-- the i-th element, or what holds anyway
+pub all-getD : {A : Type 0} (F : A → Type 0) (xs : List A) (i : ℕ) (d : A) → All F xs → F d → F (getD xs i d)
+all-getD F [] i d a h = h
+all-getD F (x ∷ xs) zero d a h = a .0
+all-getD F (x ∷ xs) (suc i) d a h = all-getD F xs i d (a .1) h

@@ -2,15 +2,14 @@
 use Prim.Native.Nat.{ℕ, zero, suc, _+_, _-_, _<_, _≤_, min}
 use mathlib.Core.Path.{_≡_, refl, sym, ap, _∙_, subst}
 use mathlib.Core.Logic.{_⊎_, inl, inr, ⊎-elim}
-use mathlib.Core.Bool.{Bool, true, false, cond, _||_}
 use mathlib.Core.List.{List, [], _∷_}
 use native.Mathlib.Nat.{min-eq-left, min-eq-right, min-le-left, min-le-right, le-of-lt, lt-of-not-le, le-trans, le-antisymm, eq-or-lt-of-le, not-suc-le-zero, le-of-suc-le-suc, le-refl}
 use native.Mathlib.Decide.{decLe}
 use native.Mathlib.Omega.{arith}
-use lib.Dec.{T, eqb}
+use lib.Dec.{T}
 use lib.ListN.{length}
-use Rattle.calculus.specs.Net.{Interface, Element, point, part, Wire, Net}
-use Rattle.calculus.specs.Lean.{driver, isPin, pointCount, backIn, back, backs, lowest, root}
+use Rattle.calculus.specs.Net.{Net}
+use Rattle.calculus.specs.Lean.{back, backs, lowest, root}
 use Rattle.circuit_theorems.proofs.Rings.{has, outs, outs-length, moves-in, backs-add, backs-sub, stay, Round, later, count, rounds}
 
 module _ (m : Net) where
@@ -97,13 +96,13 @@ module _ (m : Net) where
   lowest-reached : (k p : ℕ) → (j : ℕ) × (lowest k m p p ≡ backs j m p)
   lowest-reached k p = ⊎-elim (λ e. (0, e)) (λ (x : (j : ℕ) × (j < k) × (lowest k m p p ≡ backs j m p)). (x .0, x .2)) (lowest-is k p p)
 
-  -- the root is some steps back
-  pub root-reached : (o : ℕ) → (k : ℕ) × (root m o ≡ backs k m o)
+  -- the root is some steps back, as many as there are points or more
+  pub root-reached : (o : ℕ) → (k : ℕ) × (count m ≤ k) × (root m o ≡ backs k m o)
   unfolding root
-  root-reached o = let (j, e) = lowest-reached (count m) (backs (count m) m o) in (count m + j, e ∙ sym (backs-add m (count m) j o))
+  root-reached o = let (j, e) = lowest-reached (count m) (backs (count m) m o) in (count m + j, omega arith, e ∙ sym (backs-add m (count m) j o))
 
   pub root-root : (o : ℕ) → root m (root m o) ≡ root m o
-  root-root o = let (k, e) = root-reached o in ap (root m) e ∙ root-steps k o
+  root-root o = let (k, h, e) = root-reached o in ap (root m) e ∙ root-steps k o
 
   -- ---- rings
 
@@ -140,6 +139,23 @@ module _ (m : Net) where
           le-antisymm (ring-once (count m) k (backs (count m) m o) r s) (ring-once k (count m) (backs (count m) m o) s r)
           ∙ ring-turned k (count m) o (round k o one e)
 
+  -- so the root is on the ring, and at most every output of it
+  pub root-on-ring : (k o : ℕ) → 1 ≤ k → backs k m o ≡ o → (j : ℕ) × (j < k) × (root m o ≡ backs j m o)
+  root-on-ring k o one e = let (j, h, f) = lowest-of k o one in (j, h, root-lowest k o one e ∙ f)
+
+  pub root-le : (k o j : ℕ) → 1 ≤ k → backs k m o ≡ o → root m o ≤ backs j m o
+  root-le k o j one e = subst (λ (y : ℕ). y ≤ backs j m o) (sym (root-lowest k o one e)) (ring-le k j o (round k o one e))
+
+  -- an output of the ring that is at most every other one is the root
+  pub root-found : (k o j : ℕ) → 1 ≤ k → backs k m o ≡ o → ((i : ℕ) → i < k → backs j m o ≤ backs i m o) → root m o ≡ backs j m o
+  root-found k o j one e low =
+      let (i, h, f) = root-on-ring k o one e in
+      le-antisymm (root-le k o j one e) (subst (λ (y : ℕ). backs j m o ≤ y) (sym f) (low i h))
+
+  -- an output that is its own root is on a ring, or stays
+  pub root-ring : (o : ℕ) → root m o ≡ o → (k : ℕ) × (1 ≤ k) × (backs k m o ≡ o)
+  root-ring o e = ⊎-elim (λ s. (1, le-refl 1, s)) (λ c. let (k, h, f) = root-reached o in (k, omega arith, sym f ∙ e)) (still o)
+
   -- ---- these determine it
 
   -- the document's sentences, on any netlist: an output that stays (a part's, or a point's whose input is a pin) is its own root;
@@ -152,14 +168,24 @@ module _ (m : Net) where
   pub root-is : IsRoot (root m)
   root-is = record { stays = root-stays; goes-on = λ o. sym (root-back o); rings = root-lowest }
 
-  goes-far : (r : ℕ → ℕ) → IsRoot r → (k o : ℕ) → r o ≡ r (backs k m o)
-  goes-far r i zero o = refl
-  goes-far r i (suc k) o = i .goes-on o ∙ goes-far r i k (back m o)
+  -- on outputs of which P holds, and holds on going back: what goes on to the next, and is the lowest on a ring, is the root
+  module _ (r : ℕ → ℕ) (P : ℕ → Type 0) (on : (o : ℕ) → P o → P (back m o)) (goes-on : (o : ℕ) → P o → r o ≡ r (back m o))
+      (rings : (k o : ℕ) → P o → 1 ≤ k → backs k m o ≡ o → r o ≡ lowest k m o o) where
+    far : (k o : ℕ) → P o → P (backs k m o)
+    far zero o h = h
+    far (suc k) o h = far k (back m o) (on o h)
+
+    goes-far : (k o : ℕ) → P o → r o ≡ r (backs k m o)
+    goes-far zero o h = refl
+    goes-far (suc k) o h = goes-on o h ∙ goes-far k (back m o) (on o h)
+
+    pub only-root : (o : ℕ) → P o → r o ≡ root m o
+    only-root o h = ⊎-elim (λ e. rings 1 o h (le-refl 1) e ∙ sym (root-lowest 1 o (le-refl 1) e)) moving (still o)
+      where
+        moving : 1 ≤ count m → r o ≡ root m o
+        moving c =
+            let q = rounds m o c in
+            goes-far (count m) o h ∙ rings (q .steps) _ (far (count m) o h) (q .some) (q .same) ∙ sym (root-lowest (q .steps) _ (q .some) (q .same)) ∙ root-steps (count m) o
 
   pub root-only : (r : ℕ → ℕ) → IsRoot r → (o : ℕ) → r o ≡ root m o
-  root-only r i o = ⊎-elim (λ s. i .stays o s ∙ sym (root-stays o s)) moving (still o)
-    where
-      moving : 1 ≤ count m → r o ≡ root m o
-      moving c =
-          let q = rounds m o c in
-          goes-far r i (count m) o ∙ i .rings (q .steps) _ (q .some) (q .same) ∙ sym (root-lowest (q .steps) _ (q .some) (q .same)) ∙ root-steps (count m) o
+  root-only r i o = only-root r (λ _. Unit {0}) (λ _ _. tt) (λ x _. i .goes-on x) (λ k x _. i .rings k x) o tt

@@ -1,21 +1,21 @@
 -- Which terminals of a netlist are which: where elements take rising terminals, none is two things, and no input is made twice.
 -- Assumes nothing.
 use Prim.Native.Nat.{ℕ, zero, suc, _+_, _<_, _≤_}
-use mathlib.Core.Path.{_≡_, refl, sym, ap, _∙_, subst}
+use mathlib.Core.Path.{_≡_, refl, sym, subst}
 use mathlib.Core.Logic.{_⊎_, inl, inr, ⊎-elim}
-use mathlib.Core.Bool.{Bool, true, false, cond, not, _||_}
+use mathlib.Core.Bool.{Bool, false, cond, _||_}
 use mathlib.Core.List.{List, [], _∷_}
 use native.Mathlib.Omega.{arith}
 use native.Mathlib.Decide.{decLe}
 use native.Mathlib.Nat.{not-suc-le-zero}
 use lib.Dec.{T, eqb, eqb→eq, eqb-refl}
 use lib.ListN.{length, getD}
-use Rattle.laws.proofs.Tests.{by-eqb, or-elim, or-left, or-right, is-false, T-is}
+use Rattle.laws.proofs.Tests.{by-eqb, or-elim, or-left, or-right}
 use Rattle.calculus.specs.Terms.{partAt}
 use Rattle.calculus.specs.Net.{Interface, inp, out, Element, point, part, Wire, partSide}
 use Rattle.calculus.specs.Lean.{isPin, driver}
 use Rattle.calculus.specs.Record.{All}
-use Rattle.calculus.specs.Formed.{is, ins, made, targets, isOut, Tiled, Rising}
+use Rattle.calculus.specs.Formed.{ins, made, targets, isOut, Tiled, Rising}
 use Rattle.circuit_theorems.proofs.Rings.{has, outs}
 use Rattle.circuit_theorems.proofs.Lists.{all-map, all-zip}
 
@@ -37,11 +37,6 @@ abbrev pub partIn : List Element → ℕ → Bool
 partIn [] x = false
 partIn (point i ∷ es) x = partIn es x
 partIn (part p i ∷ es) x = within (partAt p .inputs) i x || partIn es x
-
--- i is the target of a wire
-abbrev pub hasTo : List Wire → ℕ → Bool
-hasTo [] i = false
-hasTo (w ∷ ws) i = eqb (w .to) i || hasTo ws i
 
 -- the k-th element is this point
 pub point-at : (es : List Element) (k i : ℕ) (d : Element) → k < length es → getD es k d ≡ point i → T (pointIn es i)
@@ -178,10 +173,6 @@ point-made (part p i ∷ es) x h = omega (arith, point-made es x h)
 
 -- ---- wires and pins by their counts
 
-pub to-has : (ws : List Wire) (x : ℕ) → 1 ≤ targets ws x → T (hasTo ws x)
-to-has [] x h = absurd (omega arith)
-to-has (w ∷ ws) x h = by-eqb (λ b. 1 ≤ cond b 1 0 + targets ws x → T (b || hasTo ws x)) (w .to) x (λ q l. tt) (λ q l. to-has ws x (omega arith)) h
-
 counted : (w : Wire) (ws : List Wire) → 1 ≤ targets (w ∷ ws) (w .to)
 counted w ws = by-eqb (λ b. 1 ≤ cond b 1 0 + targets ws (w .to)) (w .to) (w .to) (λ q. omega arith) (λ q. absurd (q refl))
 
@@ -208,6 +199,12 @@ driver-is P (w ∷ ws) i d a h = by-eqb (λ b. P (cond b (w .from) (driver ws i 
 pub driver-fed : (P : ℕ → Type 0) (ws : List Wire) (i d : ℕ) → All (λ w. P (w .from)) ws → 1 ≤ targets ws i → P (driver ws i d)
 driver-fed P [] i d a h = absurd (omega arith)
 driver-fed P (w ∷ ws) i d a h = by-eqb (λ b. 1 ≤ cond b 1 0 + targets ws i → P (cond b (w .from) (driver ws i d))) (w .to) i (λ q l. a .0) (λ q l. driver-fed P ws i d (a .1) (omega arith)) h
+
+-- .. and so whatever d
+pub driver-any : (ws : List Wire) (i d e : ℕ) → 1 ≤ targets ws i → driver ws i d ≡ driver ws i e
+driver-any [] i d e h = absurd (omega arith)
+driver-any (w ∷ ws) i d e h =
+    by-eqb (λ b. 1 ≤ cond b 1 0 + targets ws i → cond b (w .from) (driver ws i d) ≡ cond b (w .from) (driver ws i e)) (w .to) i (λ q l. refl) (λ q l. driver-any ws i d e (omega arith)) h
 
 pub pin-ins : (ps : Interface) (i : ℕ) → T (isPin ps i) → 1 ≤ ins ps i
 pin-ins [] i h = absurd h
