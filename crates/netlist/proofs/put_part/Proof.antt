@@ -16,4 +16,7 @@ returns c =
     (omega arith, e .1 ∙ rw (add-one, add-two))
 
 pub put-part-spec : {M : Type 1} → statement M
-put-part-spec = tie.close (tie.spec (λ c. search needs) (λ c. search needs) (λ c. simp length-set (omega arith)) (λ c. search needs) (λ c κs. simp length-set (omega arith)) same-length returns)
+put-part-spec =
+    tie.close
+    (tie.spec (λ c. search needs) (λ c. search needs) (λ c. simp length-set (omega arith)) (λ c. search needs)
+    (λ c κs. simp length-set (omega arith)) same-length returns)

@@ -16,4 +16,7 @@ returns c =
     (omega arith, e .1 ∙ rw (c .before .before .before .before .number-of .ensures, add-one))
 
 pub put-pin-spec : {M : Type 1} → statement M
-put-pin-spec = tie.close (tie.spec (λ c κs. search needs) (λ c. search needs) (λ c. search needs) (λ c κs. simp length-set (omega arith)) same-length returns)
+put-pin-spec =
+    tie.close
+    (tie.spec (λ c κs. search needs) (λ c. search needs) (λ c. search needs) (λ c κs. simp length-set (omega arith)) same-length
+    returns)

@@ -16,4 +16,6 @@ returns c =
     (omega arith, e .1 ∙ rw add-one)
 
 pub put-point-spec : {M : Type 1} → statement M
-put-point-spec = tie.close (tie.spec (λ c. search needs) (λ c. search needs) (λ c κs. simp length-set (omega arith)) same-length returns)
+put-point-spec =
+    tie.close
+    (tie.spec (λ c. search needs) (λ c. search needs) (λ c κs. simp length-set (omega arith)) same-length returns)

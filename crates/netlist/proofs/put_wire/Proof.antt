@@ -27,4 +27,7 @@ returns c =
     (omega arith, e .1 ∙ rw (m, first .ensures .1, add-one at))
 
 pub put-wire-spec : {M : Type 1} → statement M
-put-wire-spec = tie.close (tie.spec (λ c. search needs) (λ c. search needs) (λ c κs. simp length-set (omega arith)) put-two-requires-2 same-length returns)
+put-wire-spec =
+    tie.close
+    (tie.spec (λ c. search needs) (λ c. search needs) (λ c κs. simp length-set (omega arith)) put-two-requires-2 same-length
+    returns)
