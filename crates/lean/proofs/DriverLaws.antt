@@ -14,20 +14,10 @@ use Rattle.calculus.specs.Lean.{driver, isPin, back, root}
 use Rattle.calculus.specs.Record.{All}
 use Rattle.calculus.specs.Formed.{targets, ins, made, isOut, Rising, Formed}
 use Rattle.circuit_theorems.proofs.Lists.{all-map}
-use Rattle.circuit_theorems.proofs.Terminals.{pointIn, made-high, made-one, tiled-rising, out-high, point-made, driver-is, driver-fed, pin-ins, no-ins}
+use Rattle.circuit_theorems.proofs.Terminals.{pointIn, made-high, made-one, tiled-rising, out-high, point-made, driver-is, driver-fed, driver-any, pin-ins, no-ins}
+use Rattle.circuit_theorems.proofs.Drive.{driver-none}
 use Rattle.circuit_theorems.proofs.BackLaws.{back-point, pin-root}
 use Rattle.memory.specs.Map.{netIn, Ready}
-
--- an input that a wire reaches has one driver, whatever stands for none
-pub driver-any : (ws : List Wire) (i c d : ℕ) → 1 ≤ targets ws i → driver ws i c ≡ driver ws i d
-driver-any [] i c d h = absurd (omega arith)
-driver-any (w ∷ ws) i c d h =
-    by-eqb (λ b. 1 ≤ cond b 1 0 + targets ws i → cond b (w .from) (driver ws i c) ≡ cond b (w .from) (driver ws i d)) (w .to) i (λ e l. refl) (λ q l. driver-any ws i c d (omega arith)) h
-
-pub driver-none : (ws : List Wire) (i d : ℕ) → targets ws i ≡ 0 → driver ws i d ≡ d
-driver-none [] i d h = refl
-driver-none (w ∷ ws) i d h =
-    by-eqb (λ b. cond b 1 0 + targets ws i ≡ 0 → cond b (w .from) (driver ws i d) ≡ d) (w .to) i (λ e l. absurd (omega arith)) (λ q l. driver-none ws i d (omega arith)) h
 
 module _ (w : List ℕ) (e k p : ℕ) (r : Ready w e k p) where
   abbrev m : Net

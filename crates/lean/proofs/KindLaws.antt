@@ -14,27 +14,21 @@ use Rattle.calculus.specs.Terms.{partAt}
 use Rattle.calculus.specs.Net.{Element, point, part}
 use Rattle.calculus.specs.Formed.{Tiled}
 use Rattle.memory.specs.Map.{region, elementsFrom}
-use Rattle.lean.specs.Kinds.{after, afterAll, outputOf}
+use Rattle.netlist.specs.Elements.{after, afterAll}
+use Rattle.netlist.proofs.Elements.{kinds-tiled, tiled-end}
+use Rattle.netlist.proofs.InMemory.{region-length}
+use Rattle.lean.specs.Table.{outputOf}
 
-pub inputs-few : (k : ℕ) → partAt k .inputs ≤ 2
-inputs-few zero = omega arith
-inputs-few (suc zero) = omega arith
-inputs-few (suc (suc zero)) = omega arith
-inputs-few (suc (suc (suc zero))) = omega arith
-inputs-few (suc (suc (suc (suc zero)))) = omega arith
-inputs-few (suc (suc (suc (suc (suc zero))))) = omega arith
-inputs-few (suc (suc (suc (suc (suc (suc zero)))))) = omega arith
-inputs-few (suc (suc (suc (suc (suc (suc (suc k))))))) = omega arith
-
-pub inputs-none : (k : ℕ) → (k ≡ 1 → ⊥) → (k ≡ 2 → ⊥) → (k ≡ 3 → ⊥) → (k ≡ 4 → ⊥) → (k ≡ 5 → ⊥) → 0 ≡ partAt k .inputs
-inputs-none zero a b c d e = refl
-inputs-none (suc zero) a b c d e = absurd (a refl)
-inputs-none (suc (suc zero)) a b c d e = absurd (b refl)
-inputs-none (suc (suc (suc zero))) a b c d e = absurd (c refl)
-inputs-none (suc (suc (suc (suc zero)))) a b c d e = absurd (d refl)
-inputs-none (suc (suc (suc (suc (suc zero))))) a b c d e = absurd (e refl)
-inputs-none (suc (suc (suc (suc (suc (suc zero)))))) a b c d e = refl
-inputs-none (suc (suc (suc (suc (suc (suc (suc k))))))) a b c d e = refl
+-- no kind from 7 on is a part's
+pub inputs-none : (k : ℕ) → 7 ≤ k → 0 ≡ partAt k .inputs
+inputs-none zero h = refl
+inputs-none (suc zero) h = absurd (omega arith)
+inputs-none (suc (suc zero)) h = absurd (omega arith)
+inputs-none (suc (suc (suc zero))) h = absurd (omega arith)
+inputs-none (suc (suc (suc (suc zero)))) h = absurd (omega arith)
+inputs-none (suc (suc (suc (suc (suc zero))))) h = absurd (omega arith)
+inputs-none (suc (suc (suc (suc (suc (suc zero)))))) h = refl
+inputs-none (suc (suc (suc (suc (suc (suc (suc k))))))) h = refl
 
 -- the next free terminal is one behind the output
 pub after-output : (k n : ℕ) → outputOf k n + 1 ≡ after k n
@@ -51,23 +45,10 @@ output-from k n = by (eqb k 7)
     by true = omega arith
     by false = omega arith
 
-pub after-rises : (ks : List ℕ) (n : ℕ) → n ≤ afterAll ks n
-after-rises [] n = omega arith
-after-rises (k ∷ ks) n = omega (arith, after-output k n, output-from k n, after-rises ks (after k n))
-
 pub tiled-after : (ks : List ℕ) (n e : ℕ) → Tiled (elementsFrom ks n) n e → afterAll ks n ≡ e
-tiled-after [] n e t = t
-tiled-after (k ∷ ks) n e t = by (eqb k 7) t (λ x. tiled-after ks x e)
-  where
-    by : (b : Bool) → Tiled (cond b (point n ∷ elementsFrom ks (n + 2)) (part k n ∷ elementsFrom ks (n + partAt k .inputs + 1))) n e
-        → ((x : ℕ) → Tiled (elementsFrom ks x) x e → afterAll ks x ≡ e) → afterAll ks (cond b (n + 2) (n + partAt k .inputs + 1)) ≡ e
-    by true t f = f (n + 2) (t .1)
-    by false t f = f (n + partAt k .inputs + 1) (t .1)
+tiled-after ks n e t = tiled-end (elementsFrom ks n) n (afterAll ks n) e (kinds-tiled ks n) t
 
 -- ---- n numbers from `at` on, one after the other
-
-pub region-length : (w : List ℕ) (at n : ℕ) → at + n ≤ length w → length (region w at n) ≡ n
-region-length w at n h = length-take-le n (drop at w) (rw length-drop (omega arith))
 
 pub region-next : (w : List ℕ) (at n i : ℕ) → at + n ≤ length w → i < n → drop i (region w at n) ≡ getD w (at + i) 0 ∷ drop (i + 1) (region w at n)
 region-next w at n i h lt =

@@ -26,7 +26,7 @@ module _ (w : List ℕ) (e k p : ℕ) (q : Partly w e k p) where
 
   -- a root is an output
   pub root-out : (o : ℕ) → T (isOut (m .elements) o) → T (isOut (m .elements) (root m o))
-  root-out o t = let (j, z) = root-reached m o in subst (λ (x : ℕ). T (isOut (m .elements) x)) (sym z) (backs-out m (q .ready .formed) j o t)
+  root-out o t = let (j, _, z) = root-reached m o in subst (λ (x : ℕ). T (isOut (m .elements) x)) (sym z) (backs-out m (q .ready .formed) j o t)
 
   pub root-below : (o : ℕ) → T (isOut (m .elements) o) → root m o < 8192
   root-below o t = output-below w e k p (q .ready) (root m o) (root-out o t)
@@ -140,14 +140,11 @@ module _ (w₀ w : List ℕ) (e k p o r x left : ℕ) (s : Settling w₀ w e k p
 -- ---- all are settled
 
 pub rooted : (w v : List ℕ) (e k p : ℕ) → Ready w e k p → Within w v → Partly v e k p → ((x : ℕ) → x < 8192 → entry v x ≡ 65535 → ⊥) → Rooted w v e k p
-rooted w v e k p r h q d =
-    let same = net-same w e k p r v h in
-    record {
-      within = h;
-      ready = q .ready;
-      net = same;
-      table = rw (← same) (λ x l. by x l (isOut (netIn v e k p .elements) x) refl);
-    }
+rooted w v e k p r h q d = record {
+  within = h;
+  net = net-same w e k p r v h;
+  whole = record { ready = q .ready; table = λ x l. by x l (isOut (netIn v e k p .elements) x) refl };
+}
   where
     by : (x : ℕ) → x < 8192 → (b : Bool) → isOut (netIn v e k p .elements) x ≡ b → entry v x ≡ cond b (root (netIn v e k p) x) 0
     by x l true z = q .right x (subst T (sym z) tt) (d x l)

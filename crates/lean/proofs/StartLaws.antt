@@ -18,9 +18,10 @@ use Rattle.circuit_theorems.proofs.Terminals.{pointIn, point-made}
 use Rattle.circuit_theorems.proofs.RootLaws.{root-stays}
 use Rattle.circuit_theorems.proofs.BackLaws.{PartStays, back-parts}
 use Rattle.memory.specs.Map.{region, elementsFrom, netIn, Ready}
-use Rattle.lean.specs.Kinds.{after, afterAll, outputOf}
-use Rattle.lean.specs.Table.{entry, Within, Blank, firstOf, started, Partly}
-use Rattle.lean.proofs.KindLaws.{after-rises, output-low, after-output, output-from, tiled-after}
+use Rattle.netlist.specs.Elements.{after, afterAll}
+use Rattle.lean.specs.Table.{outputOf, entry, Within, Blank, firstOf, started, Partly}
+use Rattle.netlist.proofs.Elements.{after-rises}
+use Rattle.lean.proofs.KindLaws.{output-low, after-output, output-from, tiled-after}
 use Rattle.lean.proofs.TableLaws.{within-none, within-then, within-set, entry-same, entry-other}
 use Rattle.lean.proofs.FrameLaws.{net-same, ready-same}
 use Rattle.lean.proofs.DriverLaws.{rising, output-below, input-below, point-none, point-driven}

@@ -10,9 +10,10 @@ use lib.Seq.{getD-set-same, getD-set-other}
 use borrow.Author.Tests.{ne-eqb, eq-eqb}
 use Rattle.calculus.specs.Terms.{partAt}
 use Rattle.memory.specs.Map.{region}
-use Rattle.lean.specs.Kinds.{after, afterAll, outputOf}
-use Rattle.lean.specs.Table.{entry, Within, firstOf, started}
-use Rattle.lean.proofs.KindLaws.{after-rises, output-low, region-next}
+use Rattle.netlist.specs.Elements.{after, afterAll}
+use Rattle.lean.specs.Table.{outputOf, entry, Within, firstOf, started}
+use Rattle.netlist.proofs.Elements.{after-rises}
+use Rattle.lean.proofs.KindLaws.{output-low, region-next}
 
 pub within-none : (w : List ℕ) → Within w w
 within-none w = record { size = refl; below = λ j h. refl; above = λ j h. refl }

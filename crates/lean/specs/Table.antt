@@ -10,7 +10,7 @@ use Rattle.calculus.specs.Net.{Net}
 use Rattle.calculus.specs.Lean.{back, backs, root}
 use Rattle.calculus.specs.Formed.{isOut}
 use Rattle.memory.specs.Map.{netIn, Ready}
-use Rattle.lean.specs.Kinds.{after, outputOf}
+use Rattle.netlist.specs.Elements.{after}
 
 -- the entry of terminal x
 abbrev pub entry : List ℕ → ℕ → ℕ
@@ -25,6 +25,10 @@ pub record Within (w w′ : List ℕ) : Type 0 where
 pub record Blank (w w′ : List ℕ) : Type 0 where
   pub within : Within w w′
   pub none : (x : ℕ) → x < 8192 → entry w′ x ≡ 0
+
+-- the output of an element of kind k that starts at n
+abbrev pub outputOf : ℕ → ℕ → ℕ
+outputOf k n = cond (eqb k 7) (n + 1) (n + partAt k .inputs)
 
 -- ---- how it starts: an output that stays is its own root; that of a point whose input has a driver is not settled, 65,535
 
@@ -70,9 +74,12 @@ pub record Settled (w w′ : List ℕ) (elements wires pins o : ℕ) : Type 0 wh
   pub still : (x : ℕ) → (entry w x ≡ 65535 → ⊥) → entry w′ x ≡ 65535 → ⊥
 
 -- the whole table: each output's root, 0 at the inputs and past the end
+pub record Whole (w : List ℕ) (elements wires pins : ℕ) : Type 0 where
+  pub ready : Ready w elements wires pins
+  pub table : (x : ℕ) → x < 8192
+      → entry w x ≡ cond (isOut (netIn w elements wires pins .elements) x) (root (netIn w elements wires pins) x) 0
+
 pub record Rooted (w w′ : List ℕ) (elements wires pins : ℕ) : Type 0 where
   pub within : Within w w′
-  pub ready : Ready w′ elements wires pins
   pub net : netIn w′ elements wires pins ≡ netIn w elements wires pins
-  pub table : (x : ℕ) → x < 8192
-      → entry w′ x ≡ cond (isOut (netIn w elements wires pins .elements) x) (root (netIn w elements wires pins) x) 0
+  pub whole : Whole w′ elements wires pins

@@ -4,27 +4,27 @@ use memory::NONE;
 use memory::POINT;
 use memory::ROOTS;
 use memory::TERMINALS;
+use parts::Named;
 ghost use mathlib.Core.Path.{_≡_};
 ghost use Prim.Native.Nat.{_+_, _-_, _≤_, _<_};
 ghost use lib.ListN.{length, getD, set};
 ghost use Rattle.calculus.specs.Terms.{partAt};
 ghost use Rattle.calculus.specs.Lean.{root};
 ghost use Rattle.memory.specs.Map.{region, netIn, Ready};
-ghost use Rattle.lean.specs.Kinds.{outputOf, after, afterAll};
-ghost use Rattle.lean.specs.Table.{entry, Blank, firstOf, started, Partly, Output, Comes, Met, Settled, Rooted};
+ghost use Rattle.netlist.specs.Elements.{after, afterAll};
+ghost use Rattle.lean.specs.Table.{outputOf, entry, Blank, firstOf, started, Partly, Output, Comes, Met, Settled, Rooted};
 
-// The number of inputs of a part.
+// The number of inputs of an element of this kind that is a part.
 fn inputs_of(kind: u16) -> usize
     ensures { λ r. ⌜ r ≡ partAt kind .inputs ⌝ }
 {
-    match kind {
-        1 => 1,
-        2 => 2,
-        3 => 2,
-        4 => 2,
-        5 => 1,
-        _ => 0,
+    if kind < POINT {
+        return match parts::part_at(kind as u8) {
+            Named::Part(q) => q.inputs as usize,
+            Named::Unknown => 0,
+        };
     }
+    0
 }
 
 // The output of the element of this kind whose first terminal is `at`.

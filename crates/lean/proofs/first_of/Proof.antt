@@ -3,7 +3,7 @@ use native.Mathlib.Omega.{arith}
 use mathlib.Core.Path.{_≡_, sym, _∙_}
 use mathlib.Core.Logic.{⊎-elim}
 use Prim.Native.Nat.{_<_}
-use Rattle.lean.specs.Kinds.{outputOf}
+use Rattle.lean.specs.Table.{outputOf}
 use Rattle.lean.proofs.KindLaws.{output-low, first-low}
 use Rattle.lean.proofs.TableLaws.{first-loose, first-pin, first-part}
 use Rattle.lean.proofs.first_of.Statement.{statement}

@@ -1,6 +1,7 @@
 use borrow.Author.Needs.{needs}
 use native.Mathlib.Omega.{arith}
-use Rattle.lean.proofs.KindLaws.{inputs-few, point-kind, part-kind}
+use Rattle.netlist.proofs.PartInputs.{inputs-few}
+use Rattle.lean.proofs.KindLaws.{point-kind, part-kind}
 use Rattle.lean.proofs.output_of.Statement.{statement}
 use Rattle.lean.proofs.output_of.Tie as tie
 use Rattle.lean.proofs.output_of.Reads as reads

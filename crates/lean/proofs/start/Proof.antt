@@ -4,8 +4,8 @@ use Prim.Native.Nat.{ℕ, _≤_, _<_, _-_, _+_}
 use mathlib.Core.List.{List}
 use lib.ListN.{length, drop, getD, set}
 use Rattle.memory.specs.Map.{region}
-use Rattle.lean.specs.Kinds.{afterAll, outputOf}
-use Rattle.lean.specs.Table.{Within, started, firstOf}
+use Rattle.netlist.specs.Elements.{afterAll}
+use Rattle.lean.specs.Table.{outputOf, Within, started, firstOf}
 use Rattle.lean.proofs.KindLaws.{region-end}
 use Rattle.lean.proofs.TableLaws.{within-none, Starting, starting-low, starting-next}
 use Rattle.lean.proofs.start.Statement.{statement}
