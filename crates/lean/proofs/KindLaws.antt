@@ -71,3 +71,9 @@ output-low k n e h = omega (arith, after-output k n)
 
 pub first-low : (k n e : ℕ) → after k n ≤ e → n < e
 first-low k n e h = omega (arith, after-output k n, output-from k n)
+
+pub point-low : (k n e : ℕ) → k ≡ 7 → after k n ≤ e → n + 2 ≤ e
+point-low k n e z h = rw (eq-eqb k 7 z) at h
+
+pub part-low : (k n e : ℕ) → (k ≡ 7 → ⊥) → after k n ≤ e → n + partAt k .inputs + 1 ≤ e
+part-low k n e d h = rw (ne-eqb k 7 d) at h

@@ -5,3 +5,7 @@ pub mod DriverLaws
 pub mod StartLaws
 pub mod SettleLaws
 pub mod RoundLaws
+pub mod RowLaws
+pub mod SumLaws
+pub mod LeanLaws
+pub mod FitLaws

@@ -46,3 +46,15 @@ pub record PinsFit (w : List ℕ) (pins : ℕ) (bytes : List ℕ) (room from : �
   pub few : pins ≤ 128
   pub low : (i : ℕ) → i < pins → LowPin (terminalOf (getD w (18944 + i) 0))
   pub target : from + length bytes ≤ room
+
+-- an input, and room for its wire
+pub record InputFits (w : List ℕ) (i : ℕ) (bytes : List ℕ) (room at : ℕ) : Type 0 where
+  pub driven : Driven w
+  pub low : i < 8192
+  pub target : at + length bytes ≤ room
+
+-- so many inputs, and room for their wires
+pub record InputsFit (w : List ℕ) (count first : ℕ) (bytes : List ℕ) (room from : ℕ) : Type 0 where
+  pub driven : Driven w
+  pub low : first + count ≤ 8192
+  pub target : from + length bytes ≤ room
