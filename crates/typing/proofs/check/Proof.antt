@@ -1,0 +1,35 @@
+use borrow.Author.Needs.{needs}
+use Rattle.typing.proofs.check.Statement.{statement}
+use Rattle.typing.proofs.check.Tie as tie
+use Rattle.typing.proofs.check.Reads as reads
+use Rattle.typing.proofs.check.Lts as lts
+use Rattle.binders.proofs.none.Reads as none-reads
+use Rattle.typing.proofs.walk.Reads as walk-reads
+
+-- src/lib.rt:398:9
+none-requires : tie.Need-none-requires
+none-requires c κs = search needs
+
+-- src/lib.rt:399:9
+walk-requires : tie.Need-walk-requires
+walk-requires c κs = ?
+
+-- src/lib.rt:403:13
+enum-known-v : tie.Need-enum-known-v
+enum-known-v c = search needs
+
+-- src/lib.rt:407:26
+enum-known-v-2 : tie.Need-enum-known-v-2
+enum-known-v-2 c = search needs
+
+-- src/lib.rt:394:1
+returns : tie.Need-returns
+returns c = ?
+
+-- src/lib.rt:394:1
+returns-2 : tie.Need-returns-2
+returns-2 c = ?
+
+pub check-spec : {M : Type 1} → statement M
+check-spec =
+    tie.close (tie.spec none-requires walk-requires enum-known-v enum-known-v-2 returns returns-2)

@@ -1,0 +1,428 @@
+// The typing walk (document 01, "Numbers of the refusals": 10 to 15), on type numbers. Places are node numbers.
+use binders::Binders;
+use binders::Use;
+use parts::Named;
+use records::Form;
+use records::Node;
+use records::Record;
+ghost use mathlib.Core.Path.{_≡_};
+ghost use Prim.Native.Nat.{ℕ, _+_, _<_, _≤_};
+ghost use Rattle.calculus.specs.Types.{bit};
+ghost use Rattle.calculus.specs.Walk.{Stack};
+ghost use Rattle.records.specs.Forms.{recIn};
+ghost use Rattle.parts.specs.Table.{shapeTy};
+ghost use Rattle.binders.specs.Stacks.{stackOf, saidUse};
+ghost use Rattle.typing.specs.Steps.{sidedOf, standsFor, constantOf, leafOf, openingOf, enterOf, wantedOf, usedUp, leaveOne, betweenOf, appliedOf, pairedOf, joinedOf, closesOf, leaveTwo};
+ghost use Rattle.typing.specs.Verdicts.{stoppedOf, fineOf, Says, Follows, saidTyping, checkOf};
+ghost use Rattle.typing.specs.Fits.{Ready, Walked, Holds, Read};
+
+// A refusal: its number and its place. Callers pass it on unread.
+pub struct Refusal {
+    pub number: u8,
+    pub place: usize,
+}
+
+// A term's type number, the offset past it and the nodes up to there; or a refusal.
+pub enum Verdict {
+    Fine { ty: u8, next: usize, count: usize },
+    Refused(Refusal),
+}
+
+// A verdict, and the binders with their marks after it.
+pub struct Checked {
+    pub verdict: Verdict,
+    pub binders: Binders,
+}
+
+// A type record as numbers: its kind, 1 to 4, and its two sides, 0 for the single bit.
+pub struct Sided {
+    pub kind: u8,
+    pub left: u8,
+    pub right: u8,
+}
+
+fn sides_of(s: &[u8], t: u8) -> Sided
+    ensures { λ r. ⌜ r ≡ sidedOf (recIn (now (s .entry)) t) ⌝ }
+{
+    match records::type_at(s, t) {
+        Form::Bit => Sided {
+            kind: 1,
+            left: 0,
+            right: 0,
+        },
+        Form::Product(left, right) => Sided {
+            kind: 2,
+            left,
+            right,
+        },
+        Form::Arrow(left, right) => Sided {
+            kind: 3,
+            left,
+            right,
+        },
+        Form::Linear(left, right) => Sided {
+            kind: 4,
+            left,
+            right,
+        },
+    }
+}
+
+fn stopped(number: u8, place: usize, b: Binders) -> Checked
+    ensures { λ r. ⌜ r ≡ stoppedOf number place b ⌝ }
+{
+    Checked {
+        verdict: Verdict::Refused(Refusal { number, place }),
+        binders: b,
+    }
+}
+
+fn fine(ty: u8, next: usize, count: usize, b: Binders) -> Checked
+    ensures { λ r. ⌜ r ≡ fineOf ty next count b ⌝ }
+{
+    Checked {
+        verdict: Verdict::Fine { ty, next, count },
+        binders: b,
+    }
+}
+
+// ---- leaves
+
+// Type t is the single bit.
+fn is_bit(s: &[u8], t: u8) -> bool
+    ensures { λ r. ⌜ r ≡ standsFor (recIn (now (s .entry))) bit t ⌝ }
+{
+    sides_of(s, t).kind == 1
+}
+
+// Type t is the sharable arrow from the bit to the bit.
+fn is_unary(s: &[u8], t: u8) -> bool
+    ensures { λ r. ⌜ r ≡ standsFor (recIn (now (s .entry))) (shapeTy 1) t ⌝ }
+{
+    let q = sides_of(s, t);
+    if q.kind != 3 {
+        return false;
+    }
+    if !is_bit(s, q.left) {
+        return false;
+    }
+    is_bit(s, q.right)
+}
+
+// Type t is the sharable arrow from the bit to such an arrow.
+fn is_binary(s: &[u8], t: u8) -> bool
+    ensures { λ r. ⌜ r ≡ standsFor (recIn (now (s .entry))) (shapeTy 2) t ⌝ }
+{
+    let q = sides_of(s, t);
+    if q.kind != 3 {
+        return false;
+    }
+    if !is_bit(s, q.left) {
+        return false;
+    }
+    is_unary(s, q.right)
+}
+
+fn has_shape(s: &[u8], t: u8, shape: u8) -> bool
+    requires { ⌜ shape ≤ 2 ⌝ }
+    ensures { λ r. ⌜ r ≡ standsFor (recIn (now (s .entry))) (shapeTy shape) t ⌝ }
+{
+    match shape {
+        0 => is_bit(s, t),
+        1 => is_unary(s, t),
+        _ => is_binary(s, t),
+    }
+}
+
+// A constant: 15, then 12.
+fn constant(s: &[u8], p: u8, t: u8) -> Use
+    ensures { λ r. ⌜ ((n : ℕ) (st : Stack) → saidUse r st n ≡ constantOf (recIn (now (s .entry))) p t n st) ⌝ }
+{
+    match parts::part_at(p) {
+        Named::Unknown => Use::Refused(15),
+        Named::Part(part) => {
+            if has_shape(s, t, part.shape) {
+                Use::Type(t)
+            } else {
+                Use::Refused(12)
+            }
+        }
+    }
+}
+
+fn settled(u: Use, next: usize, node: usize, b: Binders) -> Checked
+    requires { ⌜ node < 2048 ⌝ }
+    ensures { λ r. ⌜ Says r (saidUse u (stackOf b) node) next (node + 1) ⌝ }
+{
+    match u {
+        Use::Type(t) => fine(t, next, node + 1, b),
+        Use::Refused(k) => stopped(k, node, b),
+    }
+}
+
+// A node without subterms.
+fn leaf(s: &[u8], n: Node, node: usize, b: Binders) -> Checked
+    requires { ⌜ (b .count ≤ 128) × (node < 2048) ⌝ }
+    ensures { λ r. ⌜ Says r (leafOf (recIn (now (s .entry))) (n .kind) (n .first) (n .second) node (stackOf b)) (n .next) (node + 1) ⌝ }
+{
+    let i = records::wide(n.first);
+    let kind = n.kind;
+    match kind {
+        0x11 => settled(binders::use_shared(b, i), n.next, node, b),
+        0x12 => {
+            let taken = binders::use_linear(b, i);
+            let answer = taken.answer;
+            settled(answer, n.next, node, taken.binders)
+        }
+        _ => settled(constant(s, n.first, n.second), n.next, node, b),
+    }
+}
+
+// ---- entering a node
+
+// What entering a node does: bind nothing, a sharable or a linear variable of a type, or find a written type of the wrong shape.
+pub enum Opening {
+    Nothing,
+    Shared(u8),
+    Linear(u8),
+    Misfit,
+}
+
+fn opens(s: &[u8], kind: u8, t: u8) -> Opening
+    ensures { λ r. ⌜ r ≡ openingOf kind t (recIn (now (s .entry)) t) ⌝ }
+{
+    let q = sides_of(s, t);
+    match kind {
+        0x13 => {
+            if q.kind == 3 {
+                Opening::Shared(q.left)
+            } else {
+                Opening::Misfit
+            }
+        }
+        0x15 => {
+            if q.kind == 4 {
+                Opening::Linear(q.left)
+            } else {
+                Opening::Misfit
+            }
+        }
+        0x17 => {
+            if q.kind == 2 {
+                Opening::Nothing
+            } else {
+                Opening::Misfit
+            }
+        }
+        0x19 => {
+            if q.kind <= 2 {
+                Opening::Shared(t)
+            } else {
+                Opening::Misfit
+            }
+        }
+        _ => Opening::Nothing,
+    }
+}
+
+fn enter(s: &[u8], n: Node, node: usize, b: Binders) -> Checked
+    requires { ⌜ (b .count < 128) × (node < 2048) ⌝ }
+    ensures { λ r. ⌜ Says r (enterOf (recIn (now (s .entry))) (n .kind) (n .first) node (stackOf b)) (n .next) (node + 1) ⌝ }
+{
+    match opens(s, n.kind, n.first) {
+        Opening::Nothing => fine(n.first, n.next, node + 1, b),
+        Opening::Shared(t) => fine(n.first, n.next, node + 1, binders::push(b, t, 0)),
+        Opening::Linear(t) => fine(n.first, n.next, node + 1, binders::push(b, t, 1)),
+        Opening::Misfit => stopped(12, node, b),
+    }
+}
+
+// ---- leaving a node with one subterm
+
+// The type that the body of a function or a fixed point of type t must have.
+fn wanted(s: &[u8], kind: u8, t: u8) -> u8
+    ensures { λ r. ⌜ r ≡ wantedOf kind t (recIn (now (s .entry)) t) ⌝ }
+{
+    if kind == 0x19 {
+        return t;
+    }
+    sides_of(s, t).right
+}
+
+// A linear function's variable has been used.
+fn used_up(kind: u8, b: Binders) -> bool
+    requires { ⌜ b .count ≤ 128 ⌝ }
+    ensures { λ r. ⌜ r ≡ usedUp kind (stackOf b) ⌝ }
+{
+    if kind == 0x15 {
+        return binders::top_used(b);
+    }
+    true
+}
+
+// 14, then 12.
+fn leave_one(s: &[u8], n: Node, node: usize, x: Checked) -> Checked
+    requires { ⌜ Holds 128 x ⌝ }
+    ensures { λ r. ⌜ Follows x r (leaveOne (recIn (now (s .entry))) (n .kind) (n .first) node) ⌝ }
+{
+    let v = x.verdict;
+    let Verdict::Fine { ty, next, count } = v else {
+        return x;
+    };
+    if !used_up(n.kind, x.binders) {
+        return stopped(14, node, x.binders);
+    }
+    if ty != wanted(s, n.kind, n.first) {
+        return stopped(12, node, x.binders);
+    }
+    fine(n.first, next, count, binders::leave(x.binders, 1))
+}
+
+// ---- between two subterms
+
+// On entering a projection's body: 12 if the first subterm is no product; its two halves are bound, the second nearer.
+fn between(s: &[u8], kind: u8, node: usize, x: Checked) -> Checked
+    requires { ⌜ Holds 126 x ⌝ }
+    ensures { λ r. ⌜ Follows x r (betweenOf (recIn (now (s .entry))) kind node) ⌝ }
+{
+    let v = x.verdict;
+    let Verdict::Fine { ty, next, count } = v else {
+        return x;
+    };
+    if kind != 0x18 {
+        return x;
+    }
+    let q = sides_of(s, ty);
+    if q.kind != 2 {
+        return stopped(12, node, x.binders);
+    }
+    let b = binders::push(x.binders, q.left, 0);
+    fine(ty, next, count, binders::push(b, q.right, 0))
+}
+
+// ---- leaving a node with two subterms
+
+// The type of a node, or none that the rule gives.
+pub enum Fit {
+    Type(u8),
+    Misfit,
+}
+
+// A function of type f, an arrow of kind k, at an argument of type a.
+fn applied(s: &[u8], k: u8, f: u8, a: u8) -> Fit
+    ensures { λ r. ⌜ r ≡ appliedOf (recIn (now (s .entry)) f) k a ⌝ }
+{
+    let q = sides_of(s, f);
+    if q.kind != k {
+        return Fit::Misfit;
+    }
+    if a != q.left {
+        return Fit::Misfit;
+    }
+    Fit::Type(q.right)
+}
+
+// A pair of the written type t, of two terms of types a and b.
+fn paired(s: &[u8], t: u8, a: u8, b: u8) -> Fit
+    ensures { λ r. ⌜ r ≡ pairedOf (recIn (now (s .entry)) t) t a b ⌝ }
+{
+    let q = sides_of(s, t);
+    if a != q.left {
+        return Fit::Misfit;
+    }
+    if b != q.right {
+        return Fit::Misfit;
+    }
+    Fit::Type(t)
+}
+
+// Types of the two subterms to the type of the node.
+fn joined(s: &[u8], kind: u8, t: u8, a: u8, b: u8) -> Fit
+    ensures { λ r. ⌜ r ≡ joinedOf (recIn (now (s .entry))) kind t a b ⌝ }
+{
+    match kind {
+        0x14 => applied(s, 3, a, b),
+        0x16 => applied(s, 4, a, b),
+        0x17 => paired(s, t, a, b),
+        _ => Fit::Type(b),
+    }
+}
+
+// The binders that go out of scope: a projection's two.
+fn closes(kind: u8) -> usize
+    ensures { λ r. ⌜ r ≡ closesOf kind ⌝ }
+{
+    if kind == 0x18 { 2 } else { 0 }
+}
+
+fn leave_two(s: &[u8], n: Node, node: usize, a: u8, y: Checked) -> Checked
+    ensures { λ r. ⌜ Follows y r (leaveTwo (recIn (now (s .entry))) (n .kind) (n .first) node a) ⌝ }
+{
+    let v = y.verdict;
+    let Verdict::Fine { ty, next, count } = v else {
+        return y;
+    };
+    match joined(s, n.kind, n.first, a, ty) {
+        Fit::Misfit => stopped(12, node, y.binders),
+        Fit::Type(t) => fine(t, next, count, binders::leave(y.binders, closes(n.kind))),
+    }
+}
+
+// ---- the walk
+
+fn walk(s: &[u8], at: usize, node: usize, b: Binders) -> Checked
+    requires { ⌜ Ready (now s) at node (stackOf b) ⌝ }
+    ensures { λ r. ⌜ Walked (now (s .entry)) at node (stackOf b) r ⌝ }
+{
+    let Record::Node(n) = records::record_at(s, at) else {
+        return stopped(0, 0, b);
+    };
+    if n.subterms == 0 {
+        return leaf(s, n, node, b);
+    }
+    let inside = enter(s, n, node, b);
+    let opened = inside.verdict;
+    let Verdict::Fine {
+        ty: _,
+        next: start,
+        count: first,
+    } = opened
+    else {
+        return inside;
+    };
+    let x = walk(s, start, first, inside.binders);
+    if n.subterms == 1 {
+        return leave_one(s, n, node, x);
+    }
+    let middle = between(s, n.kind, node, x);
+    let halfway = middle.verdict;
+    let Verdict::Fine { ty, next, count } = halfway else {
+        return middle;
+    };
+    let y = walk(s, next, count, middle.binders);
+    leave_two(s, n, node, ty, y)
+}
+
+// The type of a sheet's term, by its number, or a refusal.
+pub enum Typing {
+    Type(u8),
+    Refused(Refusal),
+}
+
+// The walk over a sheet that has been read, whose term starts at an offset.
+pub fn check(s: &[u8], at: usize) -> Typing
+    requires { ⌜ Read (now s) at ⌝ }
+    ensures { λ r. ⌜ saidTyping r ≡ checkOf (now (s .entry)) ⌝ }
+{
+    let b = binders::none();
+    let r = walk(s, at, 0, b);
+    let v = r.verdict;
+    match v {
+        Verdict::Fine {
+            ty,
+            next: _,
+            count: _,
+        } => Typing::Type(ty),
+        Verdict::Refused(refusal) => Typing::Refused(refusal),
+    }
+}
