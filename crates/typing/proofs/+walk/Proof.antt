@@ -1,4 +1,14 @@
-use Prim.Native.Nat.{ℕ, _<_}
+-- `typing::walk` meets its contract, on whichever term stands at the offset: by the turns at its node. The falling number is the
+-- bytes left. Assumes nothing.
+use borrow.Author.Needs.{needs}
+use native.Mathlib.Omega.{arith}
+use mathlib.Core.Path.{_≡_, refl, sym, _∙_}
+use lib.ListN.{length}
+use Rattle.binders.specs.Stacks.{stackOf}
+use Rattle.binders.proofs.Laws.{length-of}
+use Rattle.typing.proofs.WalkLaws.{firstOf, secondOf}
+use Rattle.typing.proofs.Turns.{no-node, few-binders, few-nodes, held, holds-more, turn-leaf, turn-refused, turn-falls, turn-first, turn-one, turn-halfway, turn-falls-again, turn-second, turn-two}
+use Prim.Native.Nat.{ℕ, _<_, _-_}
 use borrow.Fn.Kinds.{In}
 use borrow.Fn.PlainCycle.{Measures, is, falls, and}
 use Rattle.typing.proofs.walk.Reads as walk
@@ -15,433 +25,13 @@ use Rattle.typing.proofs.+walk.{statement}
 use Rattle.typing.proofs.+walk.Tie.{close}
 
 abbrev μ-walk : Measures 1 walk-kinds.ps ℕ
-μ-walk κs a = ?
+μ-walk κs a = length (a .0 .now) - a .1 .0
 
 abbrev walk-at : ℕ → In 1 walk-kinds.ps
 walk-at t = and 1 walk-kinds.ps (is 1 walk-kinds.ps μ-walk t) walk.Pre
 
 abbrev walk-below : ℕ → In 1 walk-kinds.ps
 walk-below t = and 1 walk-kinds.ps (falls 1 walk-kinds.ps _<_ μ-walk t) walk.Pre
-
--- src/lib.rt:358:27
-walk-record-at-requires : (t : ℕ) → walk-lts.Need-record-at-requires (
-  record-at-reads.Asked,
-  record-at-reads.Learnt,
-  stopped-reads.Asked,
-  stopped-reads.Learnt,
-  leaf-reads.Asked,
-  leaf-reads.Learnt,
-  enter-reads.Asked,
-  enter-reads.Learnt,
-  walk-below t,
-  walk.Post,
-  leave-one-reads.Asked,
-  leave-one-reads.Learnt,
-  between-reads.Asked,
-  between-reads.Learnt,
-  leave-two-reads.Asked,
-  leave-two-reads.Learnt,
-) (walk-at t) walk.Post
-walk-record-at-requires t c κs = ?
-
--- src/lib.rt:358:22
-walk-enum-known-n : (t : ℕ) → walk-lts.Need-enum-known-n (
-  record-at-reads.Asked,
-  record-at-reads.Learnt,
-  stopped-reads.Asked,
-  stopped-reads.Learnt,
-  leaf-reads.Asked,
-  leaf-reads.Learnt,
-  enter-reads.Asked,
-  enter-reads.Learnt,
-  walk-below t,
-  walk.Post,
-  leave-one-reads.Asked,
-  leave-one-reads.Learnt,
-  between-reads.Asked,
-  between-reads.Learnt,
-  leave-two-reads.Asked,
-  leave-two-reads.Learnt,
-) (walk-at t) walk.Post
-walk-enum-known-n t c = ?
-
--- src/lib.rt:359:9
-walk-stopped-requires : (t : ℕ) → walk-lts.Need-stopped-requires (
-  record-at-reads.Asked,
-  record-at-reads.Learnt,
-  stopped-reads.Asked,
-  stopped-reads.Learnt,
-  leaf-reads.Asked,
-  leaf-reads.Learnt,
-  enter-reads.Asked,
-  enter-reads.Learnt,
-  walk-below t,
-  walk.Post,
-  leave-one-reads.Asked,
-  leave-one-reads.Learnt,
-  between-reads.Asked,
-  between-reads.Learnt,
-  leave-two-reads.Asked,
-  leave-two-reads.Learnt,
-) (walk-at t) walk.Post
-walk-stopped-requires t c κs = ?
-
--- src/lib.rt:359:9
-walk-returns : (t : ℕ) → walk-lts.Need-returns (
-  record-at-reads.Asked,
-  record-at-reads.Learnt,
-  stopped-reads.Asked,
-  stopped-reads.Learnt,
-  leaf-reads.Asked,
-  leaf-reads.Learnt,
-  enter-reads.Asked,
-  enter-reads.Learnt,
-  walk-below t,
-  walk.Post,
-  leave-one-reads.Asked,
-  leave-one-reads.Learnt,
-  between-reads.Asked,
-  between-reads.Learnt,
-  leave-two-reads.Asked,
-  leave-two-reads.Learnt,
-) (walk-at t) walk.Post
-walk-returns t c = ?
-
--- src/lib.rt:362:9
-walk-leaf-requires : (t : ℕ) → walk-lts.Need-leaf-requires (
-  record-at-reads.Asked,
-  record-at-reads.Learnt,
-  stopped-reads.Asked,
-  stopped-reads.Learnt,
-  leaf-reads.Asked,
-  leaf-reads.Learnt,
-  enter-reads.Asked,
-  enter-reads.Learnt,
-  walk-below t,
-  walk.Post,
-  leave-one-reads.Asked,
-  leave-one-reads.Learnt,
-  between-reads.Asked,
-  between-reads.Learnt,
-  leave-two-reads.Asked,
-  leave-two-reads.Learnt,
-) (walk-at t) walk.Post
-walk-leaf-requires t c κs = ?
-
--- src/lib.rt:362:9
-walk-returns-2 : (t : ℕ) → walk-lts.Need-returns-2 (
-  record-at-reads.Asked,
-  record-at-reads.Learnt,
-  stopped-reads.Asked,
-  stopped-reads.Learnt,
-  leaf-reads.Asked,
-  leaf-reads.Learnt,
-  enter-reads.Asked,
-  enter-reads.Learnt,
-  walk-below t,
-  walk.Post,
-  leave-one-reads.Asked,
-  leave-one-reads.Learnt,
-  between-reads.Asked,
-  between-reads.Learnt,
-  leave-two-reads.Asked,
-  leave-two-reads.Learnt,
-) (walk-at t) walk.Post
-walk-returns-2 t c = ?
-
--- src/lib.rt:364:9
-walk-enter-requires : (t : ℕ) → walk-lts.Need-enter-requires (
-  record-at-reads.Asked,
-  record-at-reads.Learnt,
-  stopped-reads.Asked,
-  stopped-reads.Learnt,
-  leaf-reads.Asked,
-  leaf-reads.Learnt,
-  enter-reads.Asked,
-  enter-reads.Learnt,
-  walk-below t,
-  walk.Post,
-  leave-one-reads.Asked,
-  leave-one-reads.Learnt,
-  between-reads.Asked,
-  between-reads.Learnt,
-  leave-two-reads.Asked,
-  leave-two-reads.Learnt,
-) (walk-at t) walk.Post
-walk-enter-requires t c κs = ?
-
--- src/lib.rt:368:15
-walk-enum-known-opened : (t : ℕ) → walk-lts.Need-enum-known-opened (
-  record-at-reads.Asked,
-  record-at-reads.Learnt,
-  stopped-reads.Asked,
-  stopped-reads.Learnt,
-  leaf-reads.Asked,
-  leaf-reads.Learnt,
-  enter-reads.Asked,
-  enter-reads.Learnt,
-  walk-below t,
-  walk.Post,
-  leave-one-reads.Asked,
-  leave-one-reads.Learnt,
-  between-reads.Asked,
-  between-reads.Learnt,
-  leave-two-reads.Asked,
-  leave-two-reads.Learnt,
-) (walk-at t) walk.Post
-walk-enum-known-opened t c = ?
-
--- src/lib.rt:372:9
-walk-enum-told : (t : ℕ) → walk-lts.Need-enum-told (
-  record-at-reads.Asked,
-  record-at-reads.Learnt,
-  stopped-reads.Asked,
-  stopped-reads.Learnt,
-  leaf-reads.Asked,
-  leaf-reads.Learnt,
-  enter-reads.Asked,
-  enter-reads.Learnt,
-  walk-below t,
-  walk.Post,
-  leave-one-reads.Asked,
-  leave-one-reads.Learnt,
-  between-reads.Asked,
-  between-reads.Learnt,
-  leave-two-reads.Asked,
-  leave-two-reads.Learnt,
-) (walk-at t) walk.Post
-walk-enum-told t c = ?
-
--- src/lib.rt:372:9
-walk-returns-3 : (t : ℕ) → walk-lts.Need-returns-3 (
-  record-at-reads.Asked,
-  record-at-reads.Learnt,
-  stopped-reads.Asked,
-  stopped-reads.Learnt,
-  leaf-reads.Asked,
-  leaf-reads.Learnt,
-  enter-reads.Asked,
-  enter-reads.Learnt,
-  walk-below t,
-  walk.Post,
-  leave-one-reads.Asked,
-  leave-one-reads.Learnt,
-  between-reads.Asked,
-  between-reads.Learnt,
-  leave-two-reads.Asked,
-  leave-two-reads.Learnt,
-) (walk-at t) walk.Post
-walk-returns-3 t c = ?
-
--- src/lib.rt:374:9
-walk-walk-requires : (t : ℕ) → walk-lts.Need-walk-requires (
-  record-at-reads.Asked,
-  record-at-reads.Learnt,
-  stopped-reads.Asked,
-  stopped-reads.Learnt,
-  leaf-reads.Asked,
-  leaf-reads.Learnt,
-  enter-reads.Asked,
-  enter-reads.Learnt,
-  walk-below t,
-  walk.Post,
-  leave-one-reads.Asked,
-  leave-one-reads.Learnt,
-  between-reads.Asked,
-  between-reads.Learnt,
-  leave-two-reads.Asked,
-  leave-two-reads.Learnt,
-) (walk-at t) walk.Post
-walk-walk-requires t c κs = ?
-
--- src/lib.rt:376:9
-walk-leave-one-requires : (t : ℕ) → walk-lts.Need-leave-one-requires (
-  record-at-reads.Asked,
-  record-at-reads.Learnt,
-  stopped-reads.Asked,
-  stopped-reads.Learnt,
-  leaf-reads.Asked,
-  leaf-reads.Learnt,
-  enter-reads.Asked,
-  enter-reads.Learnt,
-  walk-below t,
-  walk.Post,
-  leave-one-reads.Asked,
-  leave-one-reads.Learnt,
-  between-reads.Asked,
-  between-reads.Learnt,
-  leave-two-reads.Asked,
-  leave-two-reads.Learnt,
-) (walk-at t) walk.Post
-walk-leave-one-requires t c κs = ?
-
--- src/lib.rt:376:9
-walk-returns-4 : (t : ℕ) → walk-lts.Need-returns-4 (
-  record-at-reads.Asked,
-  record-at-reads.Learnt,
-  stopped-reads.Asked,
-  stopped-reads.Learnt,
-  leaf-reads.Asked,
-  leaf-reads.Learnt,
-  enter-reads.Asked,
-  enter-reads.Learnt,
-  walk-below t,
-  walk.Post,
-  leave-one-reads.Asked,
-  leave-one-reads.Learnt,
-  between-reads.Asked,
-  between-reads.Learnt,
-  leave-two-reads.Asked,
-  leave-two-reads.Learnt,
-) (walk-at t) walk.Post
-walk-returns-4 t c = ?
-
--- src/lib.rt:378:9
-walk-between-requires : (t : ℕ) → walk-lts.Need-between-requires (
-  record-at-reads.Asked,
-  record-at-reads.Learnt,
-  stopped-reads.Asked,
-  stopped-reads.Learnt,
-  leaf-reads.Asked,
-  leaf-reads.Learnt,
-  enter-reads.Asked,
-  enter-reads.Learnt,
-  walk-below t,
-  walk.Post,
-  leave-one-reads.Asked,
-  leave-one-reads.Learnt,
-  between-reads.Asked,
-  between-reads.Learnt,
-  leave-two-reads.Asked,
-  leave-two-reads.Learnt,
-) (walk-at t) walk.Post
-walk-between-requires t c κs = ?
-
--- src/lib.rt:380:25
-walk-enum-known-halfway : (t : ℕ) → walk-lts.Need-enum-known-halfway (
-  record-at-reads.Asked,
-  record-at-reads.Learnt,
-  stopped-reads.Asked,
-  stopped-reads.Learnt,
-  leaf-reads.Asked,
-  leaf-reads.Learnt,
-  enter-reads.Asked,
-  enter-reads.Learnt,
-  walk-below t,
-  walk.Post,
-  leave-one-reads.Asked,
-  leave-one-reads.Learnt,
-  between-reads.Asked,
-  between-reads.Learnt,
-  leave-two-reads.Asked,
-  leave-two-reads.Learnt,
-) (walk-at t) walk.Post
-walk-enum-known-halfway t c = ?
-
--- src/lib.rt:381:9
-walk-enum-told-2 : (t : ℕ) → walk-lts.Need-enum-told-2 (
-  record-at-reads.Asked,
-  record-at-reads.Learnt,
-  stopped-reads.Asked,
-  stopped-reads.Learnt,
-  leaf-reads.Asked,
-  leaf-reads.Learnt,
-  enter-reads.Asked,
-  enter-reads.Learnt,
-  walk-below t,
-  walk.Post,
-  leave-one-reads.Asked,
-  leave-one-reads.Learnt,
-  between-reads.Asked,
-  between-reads.Learnt,
-  leave-two-reads.Asked,
-  leave-two-reads.Learnt,
-) (walk-at t) walk.Post
-walk-enum-told-2 t c = ?
-
--- src/lib.rt:381:9
-walk-returns-5 : (t : ℕ) → walk-lts.Need-returns-5 (
-  record-at-reads.Asked,
-  record-at-reads.Learnt,
-  stopped-reads.Asked,
-  stopped-reads.Learnt,
-  leaf-reads.Asked,
-  leaf-reads.Learnt,
-  enter-reads.Asked,
-  enter-reads.Learnt,
-  walk-below t,
-  walk.Post,
-  leave-one-reads.Asked,
-  leave-one-reads.Learnt,
-  between-reads.Asked,
-  between-reads.Learnt,
-  leave-two-reads.Asked,
-  leave-two-reads.Learnt,
-) (walk-at t) walk.Post
-walk-returns-5 t c = ?
-
--- src/lib.rt:383:9
-walk-walk-requires-2 : (t : ℕ) → walk-lts.Need-walk-requires-2 (
-  record-at-reads.Asked,
-  record-at-reads.Learnt,
-  stopped-reads.Asked,
-  stopped-reads.Learnt,
-  leaf-reads.Asked,
-  leaf-reads.Learnt,
-  enter-reads.Asked,
-  enter-reads.Learnt,
-  walk-below t,
-  walk.Post,
-  leave-one-reads.Asked,
-  leave-one-reads.Learnt,
-  between-reads.Asked,
-  between-reads.Learnt,
-  leave-two-reads.Asked,
-  leave-two-reads.Learnt,
-) (walk-at t) walk.Post
-walk-walk-requires-2 t c κs = ?
-
--- src/lib.rt:384:5
-walk-leave-two-requires : (t : ℕ) → walk-lts.Need-leave-two-requires (
-  record-at-reads.Asked,
-  record-at-reads.Learnt,
-  stopped-reads.Asked,
-  stopped-reads.Learnt,
-  leaf-reads.Asked,
-  leaf-reads.Learnt,
-  enter-reads.Asked,
-  enter-reads.Learnt,
-  walk-below t,
-  walk.Post,
-  leave-one-reads.Asked,
-  leave-one-reads.Learnt,
-  between-reads.Asked,
-  between-reads.Learnt,
-  leave-two-reads.Asked,
-  leave-two-reads.Learnt,
-) (walk-at t) walk.Post
-walk-leave-two-requires t c κs = ?
-
--- src/lib.rt:354:1
-walk-returns-6 : (t : ℕ) → walk-lts.Need-returns-6 (
-  record-at-reads.Asked,
-  record-at-reads.Learnt,
-  stopped-reads.Asked,
-  stopped-reads.Learnt,
-  leaf-reads.Asked,
-  leaf-reads.Learnt,
-  enter-reads.Asked,
-  enter-reads.Learnt,
-  walk-below t,
-  walk.Post,
-  leave-one-reads.Asked,
-  leave-one-reads.Learnt,
-  between-reads.Asked,
-  between-reads.Learnt,
-  leave-two-reads.Asked,
-  leave-two-reads.Learnt,
-) (walk-at t) walk.Post
-walk-returns-6 t c = ?
 
 pub +walk-spec : {M : Type 1} → statement M
 +walk-spec = close μ-walk λ t. walk-lts.spec (
@@ -464,23 +54,23 @@ pub +walk-spec : {M : Type 1} → statement M
 )
     (walk-at t)
     walk.Post
-    (walk-record-at-requires t)
-    (walk-enum-known-n t)
-    (walk-stopped-requires t)
-    (walk-returns t)
-    (walk-leaf-requires t)
-    (walk-returns-2 t)
-    (walk-enter-requires t)
-    (walk-enum-known-opened t)
-    (walk-enum-told t)
-    (walk-returns-3 t)
-    (walk-walk-requires t)
-    (walk-leave-one-requires t)
-    (walk-returns-4 t)
-    (walk-between-requires t)
-    (walk-enum-known-halfway t)
-    (walk-enum-told-2 t)
-    (walk-returns-5 t)
-    (walk-walk-requires-2 t)
-    (walk-leave-two-requires t)
-    (walk-returns-6 t)
+    (λ c κs. search needs)
+    (λ c. search needs)
+    (λ c κs. search needs)
+    (λ c Θ e F. absurd (no-node (c .before .before .record-at .result) (c .before .match .keys2) (c .before .before .before .before .args .s .now) (c .before .before .before .before .args .at) e (sym (c .before .before .record-at .ensures)) (F .stands)))
+    (λ c κs. (omega (arith, few-binders (c .before .before .before .before .before .before .before .pre .1 .fits), length-of (c .before .before .before .before .before .before .before .args .b)), few-nodes (c .before .before .before .before .before .before .before .pre .1 .fits)))
+    (λ c Θ e F. turn-leaf (c .before .before .before .before .before .before .before .before .args .s .now) (c .before .before .before .before .before .before .before .before .args .at) (c .before .before .before .before .before .before .before .before .args .node) (stackOf (c .before .before .before .before .before .before .before .before .args .b)) (c .before .before .before .before .n .given .0 .0) (sym (c .before .before .before .before .before .before .record-at .ensures) ∙ c .before .before .before .before .n .given .1) Θ e F (c .before .if1 .taken) (c .leaf .ensures))
+    (λ c κs. (omega (arith, few-binders (c .before .before .before .before .before .before .before .pre .1 .fits), length-of (c .before .before .before .before .before .before .before .args .b)), few-nodes (c .before .before .before .before .before .before .before .pre .1 .fits)))
+    (λ c. search needs)
+    (λ c. search needs)
+    (λ c Θ e F. turn-refused (c .before .before .before .before .before .before .before .before .before .before .args .s .now) (c .before .before .before .before .before .before .before .before .before .before .args .at) (c .before .before .before .before .before .before .before .before .before .before .args .node) (stackOf (c .before .before .before .before .before .before .before .before .before .before .args .b)) (c .before .before .before .before .before .before .n .given .0 .0) (sym (c .before .before .before .before .before .before .before .before .record-at .ensures) ∙ c .before .before .before .before .before .before .n .given .1) Θ e F (c .before .before .before .if1 .left) (c .before .before .enter .result) (c .before .before .enter .ensures) (c .enum-told .given .1))
+    (λ c κs. (omega (arith, c .before .before .before .before .before .before .before .before .before .before .before .pre .0, turn-falls (c .before .before .before .before .before .before .before .before .before .before .before .args .s .now) (c .before .before .before .before .before .before .before .before .before .before .before .args .at) (c .before .before .before .before .before .before .before .before .before .before .before .args .node) (stackOf (c .before .before .before .before .before .before .before .before .before .before .before .args .b)) (c .before .before .before .before .before .before .before .n .given .0 .0) (sym (c .before .before .before .before .before .before .before .before .before .record-at .ensures) ∙ c .before .before .before .before .before .before .before .n .given .1) (c .before .before .before .before .before .before .before .before .before .before .before .pre .1 .table) (c .before .before .before .before .before .before .before .before .before .before .before .pre .1 .term) (c .before .before .before .before .before .before .before .before .before .before .before .pre .1 .fits) (c .before .before .before .before .if1 .left) (c .before .before .before .enter .result) (c .before .before .before .enter .ensures) (c .before .opened .given .1)), record { table = c .before .before .before .before .before .before .before .before .before .before .before .pre .1 .table; term = firstOf (c .before .before .before .before .before .before .before .before .before .before .before .pre .1 .term); fits = turn-first (c .before .before .before .before .before .before .before .before .before .before .before .args .s .now) (c .before .before .before .before .before .before .before .before .before .before .before .args .at) (c .before .before .before .before .before .before .before .before .before .before .before .args .node) (stackOf (c .before .before .before .before .before .before .before .before .before .before .before .args .b)) (c .before .before .before .before .before .before .before .n .given .0 .0) (sym (c .before .before .before .before .before .before .before .before .before .record-at .ensures) ∙ c .before .before .before .before .before .before .before .n .given .1) (c .before .before .before .before .before .before .before .before .before .before .before .pre .1 .table) (c .before .before .before .before .before .before .before .before .before .before .before .pre .1 .term) (c .before .before .before .before .before .before .before .before .before .before .before .pre .1 .fits) (c .before .before .before .before .if1 .left) (c .before .before .before .enter .result) (c .before .before .before .enter .ensures) (c .before .opened .given .1) }))
+    (λ c κs. holds-more (c .before .before .walk .result) (held (turn-first (c .before .before .before .before .before .before .before .before .before .before .before .before .before .before .args .s .now) (c .before .before .before .before .before .before .before .before .before .before .before .before .before .before .args .at) (c .before .before .before .before .before .before .before .before .before .before .before .before .before .before .args .node) (stackOf (c .before .before .before .before .before .before .before .before .before .before .before .before .before .before .args .b)) (c .before .before .before .before .before .before .before .before .before .before .n .given .0 .0) (sym (c .before .before .before .before .before .before .before .before .before .before .before .before .record-at .ensures) ∙ c .before .before .before .before .before .before .before .before .before .before .n .given .1) (c .before .before .before .before .before .before .before .before .before .before .before .before .before .before .pre .1 .table) (c .before .before .before .before .before .before .before .before .before .before .before .before .before .before .pre .1 .term) (c .before .before .before .before .before .before .before .before .before .before .before .before .before .before .pre .1 .fits) (c .before .before .before .before .before .before .before .if1 .left) (c .before .before .before .before .before .before .enter .result) (c .before .before .before .before .before .before .enter .ensures) (c .before .before .before .before .opened .given .1)) (c .before .before .walk .result) (c .before .before .walk .ensures (c .before .before .before .before .before .before .before .before .before .before .before .before .before .before .pre .1 .table) (firstOf (c .before .before .before .before .before .before .before .before .before .before .before .before .before .before .pre .1 .term)) (turn-first (c .before .before .before .before .before .before .before .before .before .before .before .before .before .before .args .s .now) (c .before .before .before .before .before .before .before .before .before .before .before .before .before .before .args .at) (c .before .before .before .before .before .before .before .before .before .before .before .before .before .before .args .node) (stackOf (c .before .before .before .before .before .before .before .before .before .before .before .before .before .before .args .b)) (c .before .before .before .before .before .before .before .before .before .before .n .given .0 .0) (sym (c .before .before .before .before .before .before .before .before .before .before .before .before .record-at .ensures) ∙ c .before .before .before .before .before .before .before .before .before .before .n .given .1) (c .before .before .before .before .before .before .before .before .before .before .before .before .before .before .pre .1 .table) (c .before .before .before .before .before .before .before .before .before .before .before .before .before .before .pre .1 .term) (c .before .before .before .before .before .before .before .before .before .before .before .before .before .before .pre .1 .fits) (c .before .before .before .before .before .before .before .if1 .left) (c .before .before .before .before .before .before .enter .result) (c .before .before .before .before .before .before .enter .ensures) (c .before .before .before .before .opened .given .1)))))
+    (λ c Θ e F. turn-one (c .before .before .before .before .before .before .before .before .before .before .before .before .before .before .before .args .s .now) (c .before .before .before .before .before .before .before .before .before .before .before .before .before .before .before .args .at) (c .before .before .before .before .before .before .before .before .before .before .before .before .before .before .before .args .node) (stackOf (c .before .before .before .before .before .before .before .before .before .before .before .before .before .before .before .args .b)) (c .before .before .before .before .before .before .before .before .before .before .before .n .given .0 .0) (sym (c .before .before .before .before .before .before .before .before .before .before .before .before .before .record-at .ensures) ∙ c .before .before .before .before .before .before .before .before .before .before .before .n .given .1) Θ e F (c .before .before .before .before .before .before .before .before .if1 .left) (c .before .before .before .before .before .before .before .enter .result) (c .before .before .before .before .before .before .before .enter .ensures) (c .before .before .before .before .before .opened .given .1) (c .before .before .before .walk .result) (c .before .before .before .walk .ensures Θ (firstOf e) (turn-first (c .before .before .before .before .before .before .before .before .before .before .before .before .before .before .before .args .s .now) (c .before .before .before .before .before .before .before .before .before .before .before .before .before .before .before .args .at) (c .before .before .before .before .before .before .before .before .before .before .before .before .before .before .before .args .node) (stackOf (c .before .before .before .before .before .before .before .before .before .before .before .before .before .before .before .args .b)) (c .before .before .before .before .before .before .before .before .before .before .before .n .given .0 .0) (sym (c .before .before .before .before .before .before .before .before .before .before .before .before .before .record-at .ensures) ∙ c .before .before .before .before .before .before .before .before .before .before .before .n .given .1) Θ e F (c .before .before .before .before .before .before .before .before .if1 .left) (c .before .before .before .before .before .before .before .enter .result) (c .before .before .before .before .before .before .before .enter .ensures) (c .before .before .before .before .before .opened .given .1))) (c .before .if2 .taken) (c .leave-one .ensures))
+    (λ c κs. held (turn-first (c .before .before .before .before .before .before .before .before .before .before .before .before .before .before .args .s .now) (c .before .before .before .before .before .before .before .before .before .before .before .before .before .before .args .at) (c .before .before .before .before .before .before .before .before .before .before .before .before .before .before .args .node) (stackOf (c .before .before .before .before .before .before .before .before .before .before .before .before .before .before .args .b)) (c .before .before .before .before .before .before .before .before .before .before .n .given .0 .0) (sym (c .before .before .before .before .before .before .before .before .before .before .before .before .record-at .ensures) ∙ c .before .before .before .before .before .before .before .before .before .before .n .given .1) (c .before .before .before .before .before .before .before .before .before .before .before .before .before .before .pre .1 .table) (c .before .before .before .before .before .before .before .before .before .before .before .before .before .before .pre .1 .term) (c .before .before .before .before .before .before .before .before .before .before .before .before .before .before .pre .1 .fits) (c .before .before .before .before .before .before .before .if1 .left) (c .before .before .before .before .before .before .enter .result) (c .before .before .before .before .before .before .enter .ensures) (c .before .before .before .before .opened .given .1)) (c .before .before .walk .result) (c .before .before .walk .ensures (c .before .before .before .before .before .before .before .before .before .before .before .before .before .before .pre .1 .table) (firstOf (c .before .before .before .before .before .before .before .before .before .before .before .before .before .before .pre .1 .term)) (turn-first (c .before .before .before .before .before .before .before .before .before .before .before .before .before .before .args .s .now) (c .before .before .before .before .before .before .before .before .before .before .before .before .before .before .args .at) (c .before .before .before .before .before .before .before .before .before .before .before .before .before .before .args .node) (stackOf (c .before .before .before .before .before .before .before .before .before .before .before .before .before .before .args .b)) (c .before .before .before .before .before .before .before .before .before .before .n .given .0 .0) (sym (c .before .before .before .before .before .before .before .before .before .before .before .before .record-at .ensures) ∙ c .before .before .before .before .before .before .before .before .before .before .n .given .1) (c .before .before .before .before .before .before .before .before .before .before .before .before .before .before .pre .1 .table) (c .before .before .before .before .before .before .before .before .before .before .before .before .before .before .pre .1 .term) (c .before .before .before .before .before .before .before .before .before .before .before .before .before .before .pre .1 .fits) (c .before .before .before .before .before .before .before .if1 .left) (c .before .before .before .before .before .before .enter .result) (c .before .before .before .before .before .before .enter .ensures) (c .before .before .before .before .opened .given .1))))
+    (λ c. search needs)
+    (λ c. search needs)
+    (λ c Θ e F. turn-halfway (c .before .before .before .before .before .before .before .before .before .before .before .before .before .before .before .before .before .args .s .now) (c .before .before .before .before .before .before .before .before .before .before .before .before .before .before .before .before .before .args .at) (c .before .before .before .before .before .before .before .before .before .before .before .before .before .before .before .before .before .args .node) (stackOf (c .before .before .before .before .before .before .before .before .before .before .before .before .before .before .before .before .before .args .b)) (c .before .before .before .before .before .before .before .before .before .before .before .before .before .n .given .0 .0) (sym (c .before .before .before .before .before .before .before .before .before .before .before .before .before .before .before .record-at .ensures) ∙ c .before .before .before .before .before .before .before .before .before .before .before .before .before .n .given .1) Θ e F (c .before .before .before .before .before .before .before .before .before .before .if1 .left) (c .before .before .before .before .before .before .before .before .before .enter .result) (c .before .before .before .before .before .before .before .before .before .enter .ensures) (c .before .before .before .before .before .before .before .opened .given .1) (c .before .before .before .before .before .walk .result) (c .before .before .before .before .before .walk .ensures Θ (firstOf e) (turn-first (c .before .before .before .before .before .before .before .before .before .before .before .before .before .before .before .before .before .args .s .now) (c .before .before .before .before .before .before .before .before .before .before .before .before .before .before .before .before .before .args .at) (c .before .before .before .before .before .before .before .before .before .before .before .before .before .before .before .before .before .args .node) (stackOf (c .before .before .before .before .before .before .before .before .before .before .before .before .before .before .before .before .before .args .b)) (c .before .before .before .before .before .before .before .before .before .before .before .before .before .n .given .0 .0) (sym (c .before .before .before .before .before .before .before .before .before .before .before .before .before .before .before .record-at .ensures) ∙ c .before .before .before .before .before .before .before .before .before .before .before .before .before .n .given .1) Θ e F (c .before .before .before .before .before .before .before .before .before .before .if1 .left) (c .before .before .before .before .before .before .before .before .before .enter .result) (c .before .before .before .before .before .before .before .before .before .enter .ensures) (c .before .before .before .before .before .before .before .opened .given .1))) (c .before .before .before .if2 .left) (c .before .before .between .result) (c .before .before .between .ensures) (c .enum-told2 .given .1))
+    (λ c κs. (omega (arith, c .before .before .before .before .before .before .before .before .before .before .before .before .before .before .before .before .before .before .pre .0, turn-falls-again (c .before .before .before .before .before .before .before .before .before .before .before .before .before .before .before .before .before .before .args .s .now) (c .before .before .before .before .before .before .before .before .before .before .before .before .before .before .before .before .before .before .args .at) (c .before .before .before .before .before .before .before .before .before .before .before .before .before .before .before .before .before .before .args .node) (stackOf (c .before .before .before .before .before .before .before .before .before .before .before .before .before .before .before .before .before .before .args .b)) (c .before .before .before .before .before .before .before .before .before .before .before .before .before .before .n .given .0 .0) (sym (c .before .before .before .before .before .before .before .before .before .before .before .before .before .before .before .before .record-at .ensures) ∙ c .before .before .before .before .before .before .before .before .before .before .before .before .before .before .n .given .1) (c .before .before .before .before .before .before .before .before .before .before .before .before .before .before .before .before .before .before .pre .1 .table) (c .before .before .before .before .before .before .before .before .before .before .before .before .before .before .before .before .before .before .pre .1 .term) (c .before .before .before .before .before .before .before .before .before .before .before .before .before .before .before .before .before .before .pre .1 .fits) (c .before .before .before .before .before .before .before .before .before .before .before .if1 .left) (c .before .before .before .before .before .before .before .before .before .before .enter .result) (c .before .before .before .before .before .before .before .before .before .before .enter .ensures) (c .before .before .before .before .before .before .before .before .opened .given .1) (c .before .before .before .before .before .before .walk .result) (c .before .before .before .before .before .before .walk .ensures (c .before .before .before .before .before .before .before .before .before .before .before .before .before .before .before .before .before .before .pre .1 .table) (firstOf (c .before .before .before .before .before .before .before .before .before .before .before .before .before .before .before .before .before .before .pre .1 .term)) (turn-first (c .before .before .before .before .before .before .before .before .before .before .before .before .before .before .before .before .before .before .args .s .now) (c .before .before .before .before .before .before .before .before .before .before .before .before .before .before .before .before .before .before .args .at) (c .before .before .before .before .before .before .before .before .before .before .before .before .before .before .before .before .before .before .args .node) (stackOf (c .before .before .before .before .before .before .before .before .before .before .before .before .before .before .before .before .before .before .args .b)) (c .before .before .before .before .before .before .before .before .before .before .before .before .before .before .n .given .0 .0) (sym (c .before .before .before .before .before .before .before .before .before .before .before .before .before .before .before .before .record-at .ensures) ∙ c .before .before .before .before .before .before .before .before .before .before .before .before .before .before .n .given .1) (c .before .before .before .before .before .before .before .before .before .before .before .before .before .before .before .before .before .before .pre .1 .table) (c .before .before .before .before .before .before .before .before .before .before .before .before .before .before .before .before .before .before .pre .1 .term) (c .before .before .before .before .before .before .before .before .before .before .before .before .before .before .before .before .before .before .pre .1 .fits) (c .before .before .before .before .before .before .before .before .before .before .before .if1 .left) (c .before .before .before .before .before .before .before .before .before .before .enter .result) (c .before .before .before .before .before .before .before .before .before .before .enter .ensures) (c .before .before .before .before .before .before .before .before .opened .given .1))) (c .before .before .before .before .if2 .left) (c .before .before .before .between .result) (c .before .before .before .between .ensures) (c .before .halfway .given .1)), record { table = c .before .before .before .before .before .before .before .before .before .before .before .before .before .before .before .before .before .before .pre .1 .table; term = secondOf (c .before .before .before .before .before .before .before .before .before .before .before .before .before .before .before .before .before .before .pre .1 .term); fits = turn-second (c .before .before .before .before .before .before .before .before .before .before .before .before .before .before .before .before .before .before .args .s .now) (c .before .before .before .before .before .before .before .before .before .before .before .before .before .before .before .before .before .before .args .at) (c .before .before .before .before .before .before .before .before .before .before .before .before .before .before .before .before .before .before .args .node) (stackOf (c .before .before .before .before .before .before .before .before .before .before .before .before .before .before .before .before .before .before .args .b)) (c .before .before .before .before .before .before .before .before .before .before .before .before .before .before .n .given .0 .0) (sym (c .before .before .before .before .before .before .before .before .before .before .before .before .before .before .before .before .record-at .ensures) ∙ c .before .before .before .before .before .before .before .before .before .before .before .before .before .before .n .given .1) (c .before .before .before .before .before .before .before .before .before .before .before .before .before .before .before .before .before .before .pre .1 .table) (c .before .before .before .before .before .before .before .before .before .before .before .before .before .before .before .before .before .before .pre .1 .term) (c .before .before .before .before .before .before .before .before .before .before .before .before .before .before .before .before .before .before .pre .1 .fits) (c .before .before .before .before .before .before .before .before .before .before .before .if1 .left) (c .before .before .before .before .before .before .before .before .before .before .enter .result) (c .before .before .before .before .before .before .before .before .before .before .enter .ensures) (c .before .before .before .before .before .before .before .before .opened .given .1) (c .before .before .before .before .before .before .walk .result) (c .before .before .before .before .before .before .walk .ensures (c .before .before .before .before .before .before .before .before .before .before .before .before .before .before .before .before .before .before .pre .1 .table) (firstOf (c .before .before .before .before .before .before .before .before .before .before .before .before .before .before .before .before .before .before .pre .1 .term)) (turn-first (c .before .before .before .before .before .before .before .before .before .before .before .before .before .before .before .before .before .before .args .s .now) (c .before .before .before .before .before .before .before .before .before .before .before .before .before .before .before .before .before .before .args .at) (c .before .before .before .before .before .before .before .before .before .before .before .before .before .before .before .before .before .before .args .node) (stackOf (c .before .before .before .before .before .before .before .before .before .before .before .before .before .before .before .before .before .before .args .b)) (c .before .before .before .before .before .before .before .before .before .before .before .before .before .before .n .given .0 .0) (sym (c .before .before .before .before .before .before .before .before .before .before .before .before .before .before .before .before .record-at .ensures) ∙ c .before .before .before .before .before .before .before .before .before .before .before .before .before .before .n .given .1) (c .before .before .before .before .before .before .before .before .before .before .before .before .before .before .before .before .before .before .pre .1 .table) (c .before .before .before .before .before .before .before .before .before .before .before .before .before .before .before .before .before .before .pre .1 .term) (c .before .before .before .before .before .before .before .before .before .before .before .before .before .before .before .before .before .before .pre .1 .fits) (c .before .before .before .before .before .before .before .before .before .before .before .if1 .left) (c .before .before .before .before .before .before .before .before .before .before .enter .result) (c .before .before .before .before .before .before .before .before .before .before .enter .ensures) (c .before .before .before .before .before .before .before .before .opened .given .1))) (c .before .before .before .before .if2 .left) (c .before .before .before .between .result) (c .before .before .before .between .ensures) (c .before .halfway .given .1) }))
+    (λ c κs. search needs)
+    (λ c Θ e F. turn-two (c .before .before .before .before .before .before .before .before .before .before .before .before .before .before .before .before .before .before .before .before .args .s .now) (c .before .before .before .before .before .before .before .before .before .before .before .before .before .before .before .before .before .before .before .before .args .at) (c .before .before .before .before .before .before .before .before .before .before .before .before .before .before .before .before .before .before .before .before .args .node) (stackOf (c .before .before .before .before .before .before .before .before .before .before .before .before .before .before .before .before .before .before .before .before .args .b)) (c .before .before .before .before .before .before .before .before .before .before .before .before .before .before .before .before .n .given .0 .0) (sym (c .before .before .before .before .before .before .before .before .before .before .before .before .before .before .before .before .before .before .record-at .ensures) ∙ c .before .before .before .before .before .before .before .before .before .before .before .before .before .before .before .before .n .given .1) Θ e F (c .before .before .before .before .before .before .before .before .before .before .before .before .before .if1 .left) (c .before .before .before .before .before .before .before .before .before .before .before .before .enter .result) (c .before .before .before .before .before .before .before .before .before .before .before .before .enter .ensures) (c .before .before .before .before .before .before .before .before .before .before .opened .given .1) (c .before .before .before .before .before .before .before .before .walk .result) (c .before .before .before .before .before .before .before .before .walk .ensures Θ (firstOf e) (turn-first (c .before .before .before .before .before .before .before .before .before .before .before .before .before .before .before .before .before .before .before .before .args .s .now) (c .before .before .before .before .before .before .before .before .before .before .before .before .before .before .before .before .before .before .before .before .args .at) (c .before .before .before .before .before .before .before .before .before .before .before .before .before .before .before .before .before .before .before .before .args .node) (stackOf (c .before .before .before .before .before .before .before .before .before .before .before .before .before .before .before .before .before .before .before .before .args .b)) (c .before .before .before .before .before .before .before .before .before .before .before .before .before .before .before .before .n .given .0 .0) (sym (c .before .before .before .before .before .before .before .before .before .before .before .before .before .before .before .before .before .before .record-at .ensures) ∙ c .before .before .before .before .before .before .before .before .before .before .before .before .before .before .before .before .n .given .1) Θ e F (c .before .before .before .before .before .before .before .before .before .before .before .before .before .if1 .left) (c .before .before .before .before .before .before .before .before .before .before .before .before .enter .result) (c .before .before .before .before .before .before .before .before .before .before .before .before .enter .ensures) (c .before .before .before .before .before .before .before .before .before .before .opened .given .1))) (c .before .before .before .before .before .before .if2 .left) (c .before .before .before .before .before .between .result) (c .before .before .before .before .before .between .ensures) (c .before .before .before .halfway .given .1) (c .before .walk2 .result) (c .leave-two .result) (c .before .walk2 .ensures Θ (secondOf e) (turn-second (c .before .before .before .before .before .before .before .before .before .before .before .before .before .before .before .before .before .before .before .before .args .s .now) (c .before .before .before .before .before .before .before .before .before .before .before .before .before .before .before .before .before .before .before .before .args .at) (c .before .before .before .before .before .before .before .before .before .before .before .before .before .before .before .before .before .before .before .before .args .node) (stackOf (c .before .before .before .before .before .before .before .before .before .before .before .before .before .before .before .before .before .before .before .before .args .b)) (c .before .before .before .before .before .before .before .before .before .before .before .before .before .before .before .before .n .given .0 .0) (sym (c .before .before .before .before .before .before .before .before .before .before .before .before .before .before .before .before .before .before .record-at .ensures) ∙ c .before .before .before .before .before .before .before .before .before .before .before .before .before .before .before .before .n .given .1) Θ e F (c .before .before .before .before .before .before .before .before .before .before .before .before .before .if1 .left) (c .before .before .before .before .before .before .before .before .before .before .before .before .enter .result) (c .before .before .before .before .before .before .before .before .before .before .before .before .enter .ensures) (c .before .before .before .before .before .before .before .before .before .before .opened .given .1) (c .before .before .before .before .before .before .before .before .walk .result) (c .before .before .before .before .before .before .before .before .walk .ensures Θ (firstOf e) (turn-first (c .before .before .before .before .before .before .before .before .before .before .before .before .before .before .before .before .before .before .before .before .args .s .now) (c .before .before .before .before .before .before .before .before .before .before .before .before .before .before .before .before .before .before .before .before .args .at) (c .before .before .before .before .before .before .before .before .before .before .before .before .before .before .before .before .before .before .before .before .args .node) (stackOf (c .before .before .before .before .before .before .before .before .before .before .before .before .before .before .before .before .before .before .before .before .args .b)) (c .before .before .before .before .before .before .before .before .before .before .before .before .before .before .before .before .n .given .0 .0) (sym (c .before .before .before .before .before .before .before .before .before .before .before .before .before .before .before .before .before .before .record-at .ensures) ∙ c .before .before .before .before .before .before .before .before .before .before .before .before .before .before .before .before .n .given .1) Θ e F (c .before .before .before .before .before .before .before .before .before .before .before .before .before .if1 .left) (c .before .before .before .before .before .before .before .before .before .before .before .before .enter .result) (c .before .before .before .before .before .before .before .before .before .before .before .before .enter .ensures) (c .before .before .before .before .before .before .before .before .before .before .opened .given .1))) (c .before .before .before .before .before .before .if2 .left) (c .before .before .before .before .before .between .result) (c .before .before .before .before .before .between .ensures) (c .before .before .before .halfway .given .1))) (c .leave-two .ensures))
