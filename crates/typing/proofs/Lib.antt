@@ -5,3 +5,4 @@ pub mod Ranges
 pub mod WalkLaws
 pub mod FitLaws
 pub mod Turns
+pub mod SheetLaws

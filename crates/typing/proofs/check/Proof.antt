@@ -1,3 +1,5 @@
+-- `typing::check` meets its contract: the walk starts from what the reader guarantees. Assumes nothing.
+use Rattle.typing.proofs.SheetLaws.{sheet-fits, check-fine, check-refused}
 use borrow.Author.Needs.{needs}
 use Rattle.typing.proofs.check.Statement.{statement}
 use Rattle.typing.proofs.check.Tie as tie
@@ -12,7 +14,7 @@ none-requires c κs = search needs
 
 -- src/lib.rt:399:9
 walk-requires : tie.Need-walk-requires
-walk-requires c κs = ?
+walk-requires c κs = record { table = c .before .before .pre .sheet .table; term = c .before .before .pre .sheet .term; fits = sheet-fits (c .before .before .pre) (c .none .ensures) }
 
 -- src/lib.rt:403:13
 enum-known-v : tie.Need-enum-known-v
@@ -24,11 +26,11 @@ enum-known-v-2 c = search needs
 
 -- src/lib.rt:394:1
 returns : tie.Need-returns
-returns c = ?
+returns c = check-fine (c .before .before .before .before .before .before .pre) (c .before .before .before .before .none .ensures) (c .before .before .before .walk .result) (c .before .before .before .walk .ensures) (c .before .v .given .1)
 
 -- src/lib.rt:394:1
 returns-2 : tie.Need-returns-2
-returns-2 c = ?
+returns-2 c = check-refused (c .before .before .before .before .before .before .pre) (c .before .before .before .before .none .ensures) (c .before .before .before .walk .result) (c .before .before .before .walk .ensures) (c .before .v2 .given .1)
 
 pub check-spec : {M : Type 1} → statement M
 check-spec =
