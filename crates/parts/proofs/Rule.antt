@@ -79,7 +79,7 @@ part-few p = by-cases (ltb p 7) refl
     by-cases true e = few-type p (ltb-true p 7 e)
     by-cases false e = past-few p (ltb-false p 7 e)
 
-shape-size : (k : ℕ) → size (shapeTy k) ≡ suc k
+pub shape-size : (k : ℕ) → size (shapeTy k) ≡ suc k
 shape-size zero = refl
 shape-size (suc k) = rw (shape-size k) (omega arith)
 

@@ -6,3 +6,4 @@ pub mod WalkLaws
 pub mod FitLaws
 pub mod Turns
 pub mod SheetLaws
+pub mod Exact
