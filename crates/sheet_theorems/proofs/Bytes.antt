@@ -1,5 +1,5 @@
 -- Bytes in front of a list, one after the other. Assumes nothing.
-use Prim.Native.Nat.{ℕ, zero, suc, _+_, _≤_, _<_}
+use Prim.Native.Nat.{ℕ, _+_, _≤_, _<_}
 use mathlib.Core.Path.{_≡_, refl, sym, ap, _∙_}
 use mathlib.Core.List.{List, [], _∷_, _++_}
 use native.Mathlib.Omega.{arith}
@@ -30,3 +30,9 @@ behind s p l at e = sym (drop-drop (length p) at s) ∙ ap (λ (x : List ℕ). d
 -- bytes that stand there end within the list
 pub within : (s p l : List ℕ) (at : ℕ) → drop at s ≡ p ++ l → 0 < length p → at + length p ≤ length s
 within s p l at e h = omega (arith, ap length e, length-drop at s, length-append p l)
+
+pub second-byte : (s l : List ℕ) (at k b : ℕ) → drop at s ≡ k ∷ b ∷ l → byte s (at + 1) ≡ b
+second-byte s l at k b e = first-byte s l (at + 1) b (behind s (k ∷ []) (b ∷ l) at e)
+
+pub third-byte : (s l : List ℕ) (at k a b : ℕ) → drop at s ≡ k ∷ a ∷ b ∷ l → byte s (at + 2) ≡ b
+third-byte s l at k a b e = first-byte s l (at + 2) b (behind s (k ∷ a ∷ []) (b ∷ l) at e)

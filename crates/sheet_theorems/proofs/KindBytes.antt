@@ -1,11 +1,11 @@
 -- The kind byte: each kind has one, and a byte that gives the kind is that one. Assumes nothing.
-use Prim.Native.Nat.{ℕ, _<_, _≤_}
-use mathlib.Core.Path.{_≡_, refl, sym, subst, subst⁻¹, _∙_}
-use mathlib.Core.Bool.{Bool, true, false, _||_}
+use Prim.Native.Nat.{ℕ, _≤_}
+use mathlib.Core.Path.{_≡_, refl, sym, subst, subst⁻¹}
+use mathlib.Core.Bool.{Bool, true}
 use native.Mathlib.Omega.{arith}
 use native.Mathlib.Decide.{decLt}
 use lib.Dec.{T, eqb, eqb→eq}
-use lib.ListN.{length, List·getD-eq-default}
+use lib.ListN.{List·getD-eq-default}
 use Rattle.laws.proofs.Below.{below}
 use Rattle.calculus.specs.Read.{Kind, unknown, type, node, TypeKind, k01, k02, k03, k04, NodeKind, k11, k12, k13, k14, k15, k16, k17, k18, k19, k1A, kinds, kindOf}
 
@@ -61,3 +61,15 @@ node-kind k17 = refl
 node-kind k18 = refl
 node-kind k19 = refl
 node-kind k1A = refl
+
+pub node-range : (k : NodeKind) → (0x11 ≤ nodeByte k) × (nodeByte k ≤ 0x1A)
+node-range k11 = omega arith
+node-range k12 = omega arith
+node-range k13 = omega arith
+node-range k14 = omega arith
+node-range k15 = omega arith
+node-range k16 = omega arith
+node-range k17 = omega arith
+node-range k18 = omega arith
+node-range k19 = omega arith
+node-range k1A = omega arith

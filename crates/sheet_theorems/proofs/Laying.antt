@@ -1,17 +1,17 @@
 -- What is read lies in its bytes as it is written out, within the limits. Assumes nothing.
 use Prim.Native.Nat.{ℕ, zero, suc, _+_, _≤_, _<_, max}
-use mathlib.Core.Path.{_≡_, refl, sym, ap, subst, subst⁻¹, _∙_}
-use mathlib.Core.Bool.{Bool, true, false, _||_}
+use mathlib.Core.Path.{_≡_, refl, sym, ap, subst, _∙_}
+use mathlib.Core.Bool.{_||_}
 use mathlib.Core.List.{List, [], _∷_, _++_, append-assoc, append-nil}
 use native.Mathlib.Omega.{arith}
 use native.Mathlib.Nat.{max-le}
 use lib.Dec.{T, leb, eqb, ltb, leb→le, ltb→lt, eqb→eq}
 use lib.ListN.{length, drop, length-append}
 use lib.Seq.{drop-length}
-use Rattle.calculus.specs.Answer.{Answer, good, refused, _>>=_, need}
+use Rattle.calculus.specs.Answer.{Answer, good, _>>=_}
 use Rattle.calculus.proofs.Answers.{refused≢good, good-inj, on-bind, on-need}
 use Rattle.calculus.specs.Types.{TyRec, rec01, rec02, rec03, rec04, Table}
-use Rattle.calculus.specs.Terms.{Term, var, lvar, fun, app, lfun, lapp, pair, proj, fix, con, nodes}
+use Rattle.calculus.specs.Terms.{Term, fun, app, lfun, lapp, pair, proj, fix, nodes}
 use Rattle.calculus.specs.Read.{Kind, unknown, type, node, TypeKind, k01, k02, k03, k04, NodeKind, k11, k12, k13, k14, k15, k16, k17, k18, k19, k1A, kindOf, byte, typeBody, typeRec, checkType, typeAt, readTypes, Got, got, nodeBody, nodeTyped, nodeKind, headAt, nodeAt, readTerm, Sheet, readSheet}
 use Rattle.calculus.specs.Write.{recBytes, tableBytes, termBytes, sheetBytes}
 use Rattle.calculus.specs.Laid.{TableOk, depth, Ranged, Laid}

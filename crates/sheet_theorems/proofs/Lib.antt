@@ -3,7 +3,16 @@ pub mod Bytes
 pub mod Tables
 pub mod Laying
 pub mod Standing
+pub mod ByKind
 pub mod TypeOffsets
+pub mod Going
+pub mod TableRead
+pub mod SheetRead
 pub mod Sound
 pub mod Complete
 pub mod Exact
+pub mod OneType
+pub mod StretchHolds
+pub mod WalkKeeps
+pub mod SubtermRead
+pub mod TypeForms

@@ -1,34 +1,34 @@
 -- What the typing walk accepts has a derivation by the rules. Assumes nothing.
 use Prim.Native.Nat.{ℕ, zero, suc, _+_}
-use mathlib.Core.Path.{_≡_, refl, sym, ap, ap₂, subst}
-use mathlib.Core.Bool.{Bool, true, false, _&&_}
-use mathlib.Core.List.{List, [], _∷_}
+use mathlib.Core.Path.{_≡_, refl, ap, ap₂, subst}
+use mathlib.Core.Bool.{Bool, true, false}
+use mathlib.Core.List.{[], _∷_}
 use lib.Dec.{T, eqb, ltb, eqb→eq, ltb→lt}
 use lib.ListN.{length}
-use Rattle.calculus.specs.Answer.{Answer, good, refused, _>>=_, need}
+use Rattle.calculus.specs.Answer.{Answer, good, refused}
 use Rattle.calculus.proofs.Answers.{refused≢good, good-inj, on-bind, on-need}
 use Rattle.calculus.specs.Types.{Ty, bit, prod, arrow, lolli, sharable, isArrow, tyEq, TyRec, rec01, rec02, rec03, rec04, Table, recAt, tree}
 use Rattle.calculus.specs.Terms.{Term, var, lvar, fun, app, lfun, lapp, pair, proj, fix, con, nodes, parts, partAt}
 use Rattle.calculus.specs.Laid.{Agrees, TableOk}
 use Rattle.laws.proofs.Tests.{and-both}
-use Rattle.calculus.specs.Walk.{Binder, shared, linear, Stack, Sides, product, sharableArrow, linearArrow, Found, found, under, useShared, useLinear, pop, topUsed, walk}
-use Rattle.calculus.specs.Rules.{Entry, many, once, away, Ctx, NoLinear, none-end, none-many, none-away, InΓ, in-here, in-many, in-away, IsΔ, is-here, is-many, is-away, Split, split-end, split-many, split-first, split-second, split-away, Typed, Var, LVar, →I, →E, ⊸I, ⊸E, ×I, ×E, Fix, Con}
+use Rattle.calculus.specs.Walk.{Binder, shared, linear, Stack, Sides, product, sharableArrow, linearArrow, Found, under, useShared, useLinear, pop, topUsed, walk}
+use Rattle.calculus.specs.Rules.{many, once, away, Ctx, NoLinear, none-end, none-many, none-away, InΓ, in-here, in-many, in-away, IsΔ, is-here, is-many, is-away, Split, split-end, split-many, split-first, split-second, split-away, Typed, Var, LVar, →I, →E, ⊸I, ⊸E, ×I, ×E, Fix, Con}
 
 -- ---- forms of types
 
-product-good : (q : TyRec) (n : ℕ) (s : Sides) → product q n ≡ good s → q ≡ rec02 (s .left) (s .right)
+pub product-good : (q : TyRec) (n : ℕ) (s : Sides) → product q n ≡ good s → q ≡ rec02 (s .left) (s .right)
 product-good rec01 n s e = absurd (refused≢good e)
 product-good (rec02 a b) n s e = ap (λ (s : Sides). rec02 (s .left) (s .right)) (good-inj e)
 product-good (rec03 a b) n s e = absurd (refused≢good e)
 product-good (rec04 a b) n s e = absurd (refused≢good e)
 
-sharable-good : (q : TyRec) (n : ℕ) (s : Sides) → sharableArrow q n ≡ good s → q ≡ rec03 (s .left) (s .right)
+pub sharable-good : (q : TyRec) (n : ℕ) (s : Sides) → sharableArrow q n ≡ good s → q ≡ rec03 (s .left) (s .right)
 sharable-good rec01 n s e = absurd (refused≢good e)
 sharable-good (rec02 a b) n s e = absurd (refused≢good e)
 sharable-good (rec03 a b) n s e = ap (λ (s : Sides). rec03 (s .left) (s .right)) (good-inj e)
 sharable-good (rec04 a b) n s e = absurd (refused≢good e)
 
-linear-good : (q : TyRec) (n : ℕ) (s : Sides) → linearArrow q n ≡ good s → q ≡ rec04 (s .left) (s .right)
+pub linear-good : (q : TyRec) (n : ℕ) (s : Sides) → linearArrow q n ≡ good s → q ≡ rec04 (s .left) (s .right)
 linear-good rec01 n s e = absurd (refused≢good e)
 linear-good (rec02 a b) n s e = absurd (refused≢good e)
 linear-good (rec03 a b) n s e = absurd (refused≢good e)
@@ -72,7 +72,7 @@ pub record Derived (Θ : Table) (st : Stack) (e : Term) (r : Found) : Type 0 whe
   pub typed : Typed Θ ctx e (tree Θ (r .type))
 
 -- an answer under one more binder
-under-good : (b : Binder) (m : Answer Found) (r : Found) → under b m ≡ good r → (q : Found) × (m ≡ good q) × (record { type = q .type; stack = b ∷ q .stack } ≡ r)
+pub under-good : (b : Binder) (m : Answer Found) (r : Found) → under b m ≡ good r → (q : Found) × (m ≡ good q) × (record { type = q .type; stack = b ∷ q .stack } ≡ r)
 under-good b (good q) r e = (q, refl, good-inj e)
 under-good b (refused n p) r e = absurd (refused≢good e)
 

@@ -1,16 +1,16 @@
 -- A term that stands at an offset: its bytes, where its subterms stand, and where it ends. Assumes nothing.
-use Prim.Native.Nat.{ℕ, zero, suc, _+_, _≤_, _<_}
+use Prim.Native.Nat.{ℕ, _+_, _≤_, _<_}
 use mathlib.Core.Path.{_≡_, refl, sym, ap, _∙_}
 use mathlib.Core.List.{List, [], _∷_, _++_, append-assoc, append-nil}
 use native.Mathlib.Omega.{arith}
 use lib.ListN.{length, drop, length-append}
 use lib.Seq.{drop-append-seam}
 use Rattle.calculus.specs.Terms.{Term, var, lvar, fun, app, lfun, lapp, pair, proj, fix, con}
-use Rattle.calculus.specs.Read.{Kind, node, NodeKind, k11, k12, k13, k14, k15, k16, k17, k18, k19, k1A, kindOf, byte, Sheet}
+use Rattle.calculus.specs.Read.{node, NodeKind, k11, k12, k13, k14, k15, k16, k17, k18, k19, k1A, kindOf, byte, Sheet}
 use Rattle.calculus.specs.Write.{tableBytes, termBytes, sheetBytes}
 use Rattle.calculus.specs.Laid.{Stands, Laid}
-use Rattle.sheet_theorems.proofs.KindBytes.{nodeByte, node-kind}
-use Rattle.sheet_theorems.proofs.Bytes.{first-byte, behind, within}
+use Rattle.sheet_theorems.proofs.KindBytes.{nodeByte, node-kind, node-range}
+use Rattle.sheet_theorems.proofs.Bytes.{first-byte, second-byte, third-byte, behind, within}
 
 -- ---- the kind, and the end
 
@@ -56,12 +56,6 @@ pub term-nonempty : (e : Term) → 0 < length (termBytes e)
 term-nonempty e = rw (kind-first e) (omega arith)
 
 module _ (s : List ℕ) (at : ℕ) where
-  second : (k b : ℕ) (l : List ℕ) → drop at s ≡ k ∷ b ∷ l → byte s (at + 1) ≡ b
-  second k b l e = first-byte s l (at + 1) b (behind s (k ∷ []) (b ∷ l) at e)
-
-  third : (k a b : ℕ) (l : List ℕ) → drop at s ≡ k ∷ a ∷ b ∷ l → byte s (at + 2) ≡ b
-  third k a b l e = first-byte s l (at + 2) b (behind s (k ∷ a ∷ []) (b ∷ l) at e)
-
   -- the last subterm, behind some bytes
   sub-last : (p : List ℕ) (e : Term) (rest : List ℕ) → drop at s ≡ p ++ (termBytes e ++ rest) → Stands s (at + length p) e
   sub-last p e rest h = record { rest = rest; here = behind s p (termBytes e ++ rest) at h }
@@ -85,6 +79,9 @@ module _ {s : List ℕ} {at : ℕ} where
   pub stands-node : {e : Term} → Stands s at e → kindOf (byte s at) ≡ node (kindIn e)
   stands-node {e} h = rw (stands-kind h) (node-kind (kindIn e))
 
+  pub stands-range : {e : Term} → Stands s at e → (0x11 ≤ byte s at) × (byte s at ≤ 0x1A)
+  stands-range {e} h = rw (stands-kind h) (node-range (kindIn e))
+
   pub stands-end : {e : Term} → Stands s at e → at + length (termBytes e) ≤ length s
   stands-end {e} h = within s (termBytes e) (h .rest) at (h .here) (term-nonempty e)
 
@@ -94,13 +91,13 @@ module _ {s : List ℕ} {at : ℕ} where
   -- ---- each kind of node
 
   pub var-binder : {i : ℕ} → Stands s at (var i) → byte s (at + 1) ≡ i
-  var-binder {i} h = second s at 0x11 i (h .rest) (h .here)
+  var-binder {i} h = second-byte s (h .rest) at 0x11 i (h .here)
 
   pub lvar-binder : {i : ℕ} → Stands s at (lvar i) → byte s (at + 1) ≡ i
-  lvar-binder {i} h = second s at 0x12 i (h .rest) (h .here)
+  lvar-binder {i} h = second-byte s (h .rest) at 0x12 i (h .here)
 
   pub fun-type : {t : ℕ} {e : Term} → Stands s at (fun t e) → byte s (at + 1) ≡ t
-  fun-type {t} {e} h = second s at 0x13 t (termBytes e ++ h .rest) (h .here)
+  fun-type {t} {e} h = second-byte s (termBytes e ++ h .rest) at 0x13 t (h .here)
 
   pub fun-body : {t : ℕ} {e : Term} → Stands s at (fun t e) → Stands s (at + 2) e
   fun-body {t} {e} h = sub-last s at (0x13 ∷ t ∷ []) e (h .rest) (h .here)
@@ -112,7 +109,7 @@ module _ {s : List ℕ} {at : ℕ} where
   app-argument {f} {a} h = sub-second s at (0x14 ∷ []) f a (h .rest) (h .here)
 
   pub lfun-type : {t : ℕ} {e : Term} → Stands s at (lfun t e) → byte s (at + 1) ≡ t
-  lfun-type {t} {e} h = second s at 0x15 t (termBytes e ++ h .rest) (h .here)
+  lfun-type {t} {e} h = second-byte s (termBytes e ++ h .rest) at 0x15 t (h .here)
 
   pub lfun-body : {t : ℕ} {e : Term} → Stands s at (lfun t e) → Stands s (at + 2) e
   lfun-body {t} {e} h = sub-last s at (0x15 ∷ t ∷ []) e (h .rest) (h .here)
@@ -124,7 +121,7 @@ module _ {s : List ℕ} {at : ℕ} where
   lapp-argument {f} {a} h = sub-second s at (0x16 ∷ []) f a (h .rest) (h .here)
 
   pub pair-type : {t : ℕ} {a b : Term} → Stands s at (pair t a b) → byte s (at + 1) ≡ t
-  pair-type {t} {a} {b} h = second s at 0x17 t (termBytes a ++ termBytes b ++ h .rest) (h .here)
+  pair-type {t} {a} {b} h = second-byte s (termBytes a ++ termBytes b ++ h .rest) at 0x17 t (h .here)
 
   pub pair-first : {t : ℕ} {a b : Term} → Stands s at (pair t a b) → Stands s (at + 2) a
   pair-first {t} {a} {b} h = sub-first s at (0x17 ∷ t ∷ []) a b (h .rest) (h .here)
@@ -139,16 +136,16 @@ module _ {s : List ℕ} {at : ℕ} where
   proj-body {a} {e} h = sub-second s at (0x18 ∷ []) a e (h .rest) (h .here)
 
   pub fix-type : {t : ℕ} {e : Term} → Stands s at (fix t e) → byte s (at + 1) ≡ t
-  fix-type {t} {e} h = second s at 0x19 t (termBytes e ++ h .rest) (h .here)
+  fix-type {t} {e} h = second-byte s (termBytes e ++ h .rest) at 0x19 t (h .here)
 
   pub fix-body : {t : ℕ} {e : Term} → Stands s at (fix t e) → Stands s (at + 2) e
   fix-body {t} {e} h = sub-last s at (0x19 ∷ t ∷ []) e (h .rest) (h .here)
 
   pub con-part : {p t : ℕ} → Stands s at (con p t) → byte s (at + 1) ≡ p
-  con-part {p} {t} h = second s at 0x1A p (t ∷ h .rest) (h .here)
+  con-part {p} {t} h = second-byte s (t ∷ h .rest) at 0x1A p (h .here)
 
   pub con-type : {p t : ℕ} → Stands s at (con p t) → byte s (at + 2) ≡ t
-  con-type {p} {t} h = third s at 0x1A p t (h .rest) (h .here)
+  con-type {p} {t} h = third-byte s (h .rest) at 0x1A p t (h .here)
 
 -- ---- the term of a sheet
 

@@ -1,8 +1,8 @@
 -- The table that the reader hands out: each number's type is what its record says, is well formed, and has no other number. Assumes nothing.
 use Prim.Native.Nat.{ℕ, zero, suc, _+_, _<_, _≤_}
-use mathlib.Core.Path.{_≡_, refl, sym, ap, ap₂, subst, _∙_}
-use mathlib.Core.Logic.{_⊎_, inl, inr, ⊎-elim}
-use mathlib.Core.Bool.{Bool, true, false, not, _&&_, _||_}
+use mathlib.Core.Path.{_≡_, refl, sym, subst, _∙_}
+use mathlib.Core.Logic.{_⊎_, ⊎-elim}
+use mathlib.Core.Bool.{Bool, true, false, not, _&&_}
 use mathlib.Core.List.{List, [], _∷_, _++_}
 use native.Mathlib.Omega.{arith}
 use native.Mathlib.Nat.{eq-or-lt-of-le, le-of-suc-le-suc, not-suc-le-zero}
@@ -10,14 +10,14 @@ use native.Mathlib.Decide.{decLt}
 use lib.Dec.{T, eqb, ltb, leb, ltb→lt, leb→le, lit≤, T-not, eqb-refl}
 use lib.ListN.{length, getD, length-append, List·getD-append, List·getD-eq-default}
 use lib.Seq.{getD-append-seam}
-use Rattle.calculus.specs.Answer.{Answer, good, refused, _>>=_, need}
-use Rattle.calculus.proofs.Answers.{refused≢good, good-inj, on-bind, on-need}
-use Rattle.calculus.specs.Types.{Ty, bit, prod, arrow, lolli, size, sharable, isArrow, TyRec, rec01, rec02, rec03, rec04, recEq, Table, recAt, tyOf, tysFrom, tree}
-use Rattle.calculus.specs.Read.{Kind, unknown, type, node, kindOf, byte, TypeKind, typeBody, typeRec, known, formed, repeated, checkType, typeAt, readTypes}
+use Rattle.calculus.specs.Answer.{good, need}
+use Rattle.calculus.proofs.Answers.{refused≢good, on-need}
+use Rattle.calculus.specs.Types.{Ty, bit, size, sharable, TyRec, rec01, rec02, rec03, rec04, recEq, Table, recAt, tyOf, tysFrom, tree}
+use Rattle.calculus.specs.Read.{known, formed, repeated, checkType}
 use Rattle.calculus.specs.Laid.{Agrees, Below, TableOk}
 use Rattle.laws.proofs.Tests.{and-both, and-of, or-left, or-right}
 
-tys-snoc : (acc : List Ty) (Θ : Table) (r : TyRec) → tysFrom acc (Θ ++ r ∷ []) ≡ tysFrom acc Θ ++ tyOf (tysFrom acc Θ) r ∷ []
+pub tys-snoc : (acc : List Ty) (Θ : Table) (r : TyRec) → tysFrom acc (Θ ++ r ∷ []) ≡ tysFrom acc Θ ++ tyOf (tysFrom acc Θ) r ∷ []
 tys-snoc acc [] r = refl
 tys-snoc acc (q ∷ Θ) r = tys-snoc (acc ++ tyOf acc q ∷ []) Θ r
 
@@ -25,7 +25,7 @@ tys-length : (acc : List Ty) (Θ : Table) → length (tysFrom acc Θ) ≡ length
 tys-length acc [] = omega arith
 tys-length acc (q ∷ Θ) = omega (arith, tys-length (acc ++ tyOf acc q ∷ []) Θ, length-append acc (tyOf acc q ∷ []))
 
-tys-count : (Θ : Table) → length (tysFrom [] Θ) ≡ length Θ
+pub tys-count : (Θ : Table) → length (tysFrom [] Θ) ≡ length Θ
 tys-count Θ = omega (arith, tys-length [] Θ)
 
 seam : {A : Type 0} (l : List A) (x d : A) (n : ℕ) → length l ≡ n → getD (l ++ x ∷ []) n d ≡ x
@@ -41,7 +41,7 @@ module _ (Θ : Table) (r : TyRec) where
   tree-old : (n : ℕ) → n < length Θ → tree more n ≡ tree Θ n
   tree-old n h = rw (tys-snoc [] Θ r) (List·getD-append (tysFrom [] Θ) _ bit n (rw (tys-count Θ) h))
 
-  tree-new : tree more (length Θ) ≡ tyOf (tysFrom [] Θ) r
+  pub tree-new : tree more (length Θ) ≡ tyOf (tysFrom [] Θ) r
   tree-new = rw (tys-snoc [] Θ r) (seam (tysFrom [] Θ) (tyOf (tysFrom [] Θ) r) bit (length Θ) (tys-count Θ))
 
   rec-old : (n : ℕ) → n < length Θ → recAt more n ≡ recAt Θ n

@@ -1,0 +1,19 @@
+-- `sheet::no_types` meets its contract. Assumes nothing.
+use mathlib.Core.Path.{_≡_, refl, sym, ap, _∙_}
+use borrow.Author.Needs.{needs}
+use Rattle.sheet.proofs.no_types.Statement.{statement}
+use Rattle.sheet.proofs.no_types.Tie as tie
+use Rattle.sheet.proofs.no_types.Reads as reads
+use Rattle.sheet.proofs.no_types.Lts as lts
+use Rattle.sheet.proofs.no_sizes.Reads as no-sizes-reads
+
+-- src/lib.rt:228:16
+no-sizes-requires : tie.Need-no-sizes-requires
+no-sizes-requires c κs = search needs
+
+-- src/lib.rt:223:1
+returns : tie.Need-returns
+returns c = rw (c .no-sizes .ensures)
+
+pub no-types-spec : {M : Type 1} → statement M
+no-types-spec = tie.close (tie.spec no-sizes-requires returns)
