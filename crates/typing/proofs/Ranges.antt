@@ -19,7 +19,7 @@ use Rattle.laws.proofs.Tests.{T-is}
 use Rattle.records.specs.Forms.{recOf, recFrom, recIn}
 use Rattle.records.proofs.FormLaws.{rec-long}
 use Rattle.sheet_theorems.proofs.Bytes.{first-byte, behind, within}
-use Rattle.sheet_theorems.proofs.TypeOffsets.{Record, record-zero, record-later, type-stands}
+use Rattle.sheet_theorems.proofs.TypeOffsets.{StandsRec, record-zero, record-later, type-stands}
 use Rattle.sheet_theorems.proofs.Sound.{Step, step-end, step-shared, step-same, step-took, derived}
 use Rattle.sheet_theorems.proofs.Complete.{Numbers, complete}
 use Rattle.typing.specs.Steps.{Types, kindNo, leftOf, rightOf, bothSides, standsFor}
@@ -32,7 +32,7 @@ module _ (s : List ℕ) (at : ℕ) where
       rec-long s at (within s (k ∷ a ∷ b ∷ []) rest at e (omega arith))
       ∙ rw (first-byte s (a ∷ b ∷ rest) at k e, first-byte s (b ∷ rest) (at + 1) a (behind s (k ∷ []) (a ∷ b ∷ rest) at e), first-byte s rest (at + 2) b (behind s (k ∷ a ∷ []) (b ∷ rest) at e))
 
-  record-from : (r : TyRec) → (r ≡ rec01 → ⊥) → Record s at r → recFrom s at ≡ r
+  record-from : (r : TyRec) → (r ≡ rec01 → ⊥) → StandsRec s at r → recFrom s at ≡ r
   record-from rec01 f h = absurd (f refl)
   record-from (rec02 a b) f h = three 2 a b (h .rest) (h .here)
   record-from (rec03 a b) f h = three 3 a b (h .rest) (h .here)
