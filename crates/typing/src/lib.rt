@@ -269,10 +269,12 @@ fn leave_one(s: &[u8], n: Node, node: usize, x: Checked) -> Checked
     let Verdict::Fine { ty, next, count } = v else {
         return x;
     };
-    if !used_up(n.kind, x.binders) {
+    let used = used_up(n.kind, x.binders);
+    let body = wanted(s, n.kind, n.first);
+    if !used {
         return stopped(14, node, x.binders);
     }
-    if ty != wanted(s, n.kind, n.first) {
+    if ty != body {
         return stopped(12, node, x.binders);
     }
     fine(n.first, next, count, binders::leave(x.binders, 1))
@@ -281,22 +283,22 @@ fn leave_one(s: &[u8], n: Node, node: usize, x: Checked) -> Checked
 // ---- between two subterms
 
 // On entering a projection's body: 12 if the first subterm is no product; its two halves are bound, the second nearer.
-fn between(s: &[u8], kind: u8, node: usize, x: Checked) -> Checked
-    requires { ⌜ Holds 126 x ⌝ }
-    ensures { λ r. ⌜ Follows x r (betweenOf (recIn (now (s .entry))) kind node) ⌝ }
+fn between(s: &[u8], kind: u8, node: usize, first: Checked) -> Checked
+    requires { ⌜ Holds 126 first ⌝ }
+    ensures { λ r. ⌜ Follows first r (betweenOf (recIn (now (s .entry))) kind node) ⌝ }
 {
-    let v = x.verdict;
+    let v = first.verdict;
     let Verdict::Fine { ty, next, count } = v else {
-        return x;
+        return first;
     };
     if kind != 0x18 {
-        return x;
+        return first;
     }
     let q = sides_of(s, ty);
     if q.kind != 2 {
-        return stopped(12, node, x.binders);
+        return stopped(12, node, first.binders);
     }
-    let b = binders::push(x.binders, q.left, 0);
+    let b = binders::push(first.binders, q.left, 0);
     fine(ty, next, count, binders::push(b, q.right, 0))
 }
 

@@ -32,7 +32,7 @@ returns c = follows-refused _ _ (c .enum-told .given .1)
 
 -- src/lib.rt:274:9
 returns-2 : tie.Need-returns-2
-returns-2 c = follows-same (c .before .before .before .before .before .args .x) _ (c .before .before .v .given .1) (between-other (recIn (c .before .before .before .before .before .args .s .now)) _ _ _ _ (c .if1 .taken))
+returns-2 c = follows-same (c .before .before .before .before .before .args .first) _ (c .before .before .v .given .1) (between-other (recIn (c .before .before .before .before .before .args .s .now)) _ _ _ _ (c .if1 .taken))
 
 -- src/lib.rt:276:9
 sides-of-requires : tie.Need-sides-of-requires
@@ -46,20 +46,20 @@ stopped-requires c κs = search needs
 returns-3 : tie.Need-returns-3
 returns-3 c =
     let a = c .before .before .before .before .before .before .before .before .before .args in
-    follows-stopped (a .x) _ (c .before .before .before .before .before .before .v .given .1) _ _ _ (c .stopped .ensures) (between-misfit (recIn (a .s .now)) _ _ _ _ (c .before .before .before .before .if1 .left) (c .before .before .before .sides-of .ensures) (c .before .if2 .taken))
+    follows-stopped (a .first) _ (c .before .before .before .before .before .before .v .given .1) _ _ _ (c .stopped .ensures) (between-misfit (recIn (a .s .now)) _ _ _ _ (c .before .before .before .before .if1 .left) (c .before .before .before .sides-of .ensures) (c .before .if2 .taken))
 
 -- src/lib.rt:280:9
 push-requires : tie.Need-push-requires
 push-requires c κs =
-    let h : c .before .before .before .before .before .before .before .before .args .x .binders .count ≤ 126 = rw (c .before .before .before .before .before .v .given .1) at (c .before .before .before .before .before .before .before .before .pre) in
+    let h : c .before .before .before .before .before .before .before .before .args .first .binders .count ≤ 126 = rw (c .before .before .before .before .before .v .given .1) at (c .before .before .before .before .before .before .before .before .pre) in
     omega arith
 
 -- src/lib.rt:281:27
 push-requires-2 : tie.Need-push-requires-2
 push-requires-2 c κs =
-    let h : c .before .before .before .before .before .before .before .before .before .args .x .binders .count ≤ 126 = rw (c .before .before .before .before .before .before .v .given .1) at (c .before .before .before .before .before .before .before .before .before .pre) in
-    let l : length (stackOf (c .push .result)) ≡ suc (length (stackOf (c .before .before .before .before .before .before .before .before .before .args .x .binders))) = ap length (c .push .ensures) in
-    omega (arith, length-of (c .push .result), length-of (c .before .before .before .before .before .before .before .before .before .args .x .binders))
+    let h : c .before .before .before .before .before .before .before .before .before .args .first .binders .count ≤ 126 = rw (c .before .before .before .before .before .before .v .given .1) at (c .before .before .before .before .before .before .before .before .before .pre) in
+    let l : length (stackOf (c .push .result)) ≡ suc (length (stackOf (c .before .before .before .before .before .before .before .before .before .args .first .binders))) = ap length (c .push .ensures) in
+    omega (arith, length-of (c .push .result), length-of (c .before .before .before .before .before .before .before .before .before .args .first .binders))
 
 -- src/lib.rt:281:5
 fine-requires : tie.Need-fine-requires
@@ -69,7 +69,7 @@ fine-requires c κs = search needs
 returns-4 : tie.Need-returns-4
 returns-4 c =
     let a = c .before .before .before .before .before .before .before .before .before .before .before .args in
-    follows-fine (a .x) _ (c .before .before .before .before .before .before .before .before .v .given .1) _ _ (c .fine .ensures) (between-pushed (recIn (a .s .now)) _ _ _ _ (c .before .before .before .before .before .before .if1 .left) (c .before .before .before .before .before .sides-of .ensures) (c .before .before .before .if2 .left) (c .before .before .push .ensures) (c .before .push2 .ensures))
+    follows-fine (a .first) _ (c .before .before .before .before .before .before .before .before .v .given .1) _ _ (c .fine .ensures) (between-pushed (recIn (a .s .now)) _ _ _ _ (c .before .before .before .before .before .before .if1 .left) (c .before .before .before .before .before .sides-of .ensures) (c .before .before .before .if2 .left) (c .before .before .push .ensures) (c .before .push2 .ensures))
 
 pub between-spec : {M : Type 1} → statement M
 between-spec =
