@@ -59,18 +59,69 @@ pub +walk-spec : {M : Type 1} → statement M
     (λ c κs. search needs)
     (λ c Θ e F. absurd (no-node (c .before .before .record-at .result) (c .before .match .keys2) (c .before .before .before .before .args .s .now) (c .before .before .before .before .args .at) e (sym (c .before .before .record-at .ensures)) (F .stands)))
     (λ c κs. (omega (arith, few-binders (c .before .before .before .before .before .before .before .pre .1 .fits), length-of (c .before .before .before .before .before .before .before .args .b)), few-nodes (c .before .before .before .before .before .before .before .pre .1 .fits)))
-    (λ c Θ e F. turn-leaf (c .before .before .before .before .before .before .before .before .args .s .now) (c .before .before .before .before .before .before .before .before .args .at) (c .before .before .before .before .before .before .before .before .args .node) (stackOf (c .before .before .before .before .before .before .before .before .args .b)) (c .before .before .before .before .n .given .0 .0) (sym (c .before .before .before .before .before .before .record-at .ensures) ∙ c .before .before .before .before .n .given .1) Θ e F (c .before .if1 .taken) (c .leaf .ensures))
+    (λ c Θ e F.
+    let a = c .before .before .before .before .before .before .before .before .args in
+    let n = c .before .before .before .before .n .given .0 .0 in
+    let here = sym (c .before .before .before .before .before .before .record-at .ensures) ∙ c .before .before .before .before .n .given .1 in
+    turn-leaf (a .s .now) (a .at) (a .node) (stackOf (a .b)) n here Θ e F (c .before .if1 .taken) (c .leaf .ensures))
     (λ c κs. (omega (arith, few-binders (c .before .before .before .before .before .before .before .pre .1 .fits), length-of (c .before .before .before .before .before .before .before .args .b)), few-nodes (c .before .before .before .before .before .before .before .pre .1 .fits)))
     (λ c. search needs)
     (λ c. search needs)
-    (λ c Θ e F. turn-refused (c .before .before .before .before .before .before .before .before .before .before .args .s .now) (c .before .before .before .before .before .before .before .before .before .before .args .at) (c .before .before .before .before .before .before .before .before .before .before .args .node) (stackOf (c .before .before .before .before .before .before .before .before .before .before .args .b)) (c .before .before .before .before .before .before .n .given .0 .0) (sym (c .before .before .before .before .before .before .before .before .record-at .ensures) ∙ c .before .before .before .before .before .before .n .given .1) Θ e F (c .before .before .before .if1 .left) (c .before .before .enter .result) (c .before .before .enter .ensures) (c .enum-told .given .1))
-    (λ c κs. (omega (arith, c .before .before .before .before .before .before .before .before .before .before .before .pre .0, turn-falls (c .before .before .before .before .before .before .before .before .before .before .before .args .s .now) (c .before .before .before .before .before .before .before .before .before .before .before .args .at) (c .before .before .before .before .before .before .before .before .before .before .before .args .node) (stackOf (c .before .before .before .before .before .before .before .before .before .before .before .args .b)) (c .before .before .before .before .before .before .before .n .given .0 .0) (sym (c .before .before .before .before .before .before .before .before .before .record-at .ensures) ∙ c .before .before .before .before .before .before .before .n .given .1) (c .before .before .before .before .before .before .before .before .before .before .before .pre .1 .table) (c .before .before .before .before .before .before .before .before .before .before .before .pre .1 .term) (c .before .before .before .before .before .before .before .before .before .before .before .pre .1 .fits) (c .before .before .before .before .if1 .left) (c .before .before .before .enter .result) (c .before .before .before .enter .ensures) (c .before .opened .given .1)), record { table = c .before .before .before .before .before .before .before .before .before .before .before .pre .1 .table; term = firstOf (c .before .before .before .before .before .before .before .before .before .before .before .pre .1 .term); fits = turn-first (c .before .before .before .before .before .before .before .before .before .before .before .args .s .now) (c .before .before .before .before .before .before .before .before .before .before .before .args .at) (c .before .before .before .before .before .before .before .before .before .before .before .args .node) (stackOf (c .before .before .before .before .before .before .before .before .before .before .before .args .b)) (c .before .before .before .before .before .before .before .n .given .0 .0) (sym (c .before .before .before .before .before .before .before .before .before .record-at .ensures) ∙ c .before .before .before .before .before .before .before .n .given .1) (c .before .before .before .before .before .before .before .before .before .before .before .pre .1 .table) (c .before .before .before .before .before .before .before .before .before .before .before .pre .1 .term) (c .before .before .before .before .before .before .before .before .before .before .before .pre .1 .fits) (c .before .before .before .before .if1 .left) (c .before .before .before .enter .result) (c .before .before .before .enter .ensures) (c .before .opened .given .1) }))
-    (λ c κs. holds-more (c .before .before .walk .result) (held (turn-first (c .before .before .before .before .before .before .before .before .before .before .before .before .before .before .args .s .now) (c .before .before .before .before .before .before .before .before .before .before .before .before .before .before .args .at) (c .before .before .before .before .before .before .before .before .before .before .before .before .before .before .args .node) (stackOf (c .before .before .before .before .before .before .before .before .before .before .before .before .before .before .args .b)) (c .before .before .before .before .before .before .before .before .before .before .n .given .0 .0) (sym (c .before .before .before .before .before .before .before .before .before .before .before .before .record-at .ensures) ∙ c .before .before .before .before .before .before .before .before .before .before .n .given .1) (c .before .before .before .before .before .before .before .before .before .before .before .before .before .before .pre .1 .table) (c .before .before .before .before .before .before .before .before .before .before .before .before .before .before .pre .1 .term) (c .before .before .before .before .before .before .before .before .before .before .before .before .before .before .pre .1 .fits) (c .before .before .before .before .before .before .before .if1 .left) (c .before .before .before .before .before .before .enter .result) (c .before .before .before .before .before .before .enter .ensures) (c .before .before .before .before .opened .given .1)) (c .before .before .walk .result) (c .before .before .walk .ensures (c .before .before .before .before .before .before .before .before .before .before .before .before .before .before .pre .1 .table) (firstOf (c .before .before .before .before .before .before .before .before .before .before .before .before .before .before .pre .1 .term)) (turn-first (c .before .before .before .before .before .before .before .before .before .before .before .before .before .before .args .s .now) (c .before .before .before .before .before .before .before .before .before .before .before .before .before .before .args .at) (c .before .before .before .before .before .before .before .before .before .before .before .before .before .before .args .node) (stackOf (c .before .before .before .before .before .before .before .before .before .before .before .before .before .before .args .b)) (c .before .before .before .before .before .before .before .before .before .before .n .given .0 .0) (sym (c .before .before .before .before .before .before .before .before .before .before .before .before .record-at .ensures) ∙ c .before .before .before .before .before .before .before .before .before .before .n .given .1) (c .before .before .before .before .before .before .before .before .before .before .before .before .before .before .pre .1 .table) (c .before .before .before .before .before .before .before .before .before .before .before .before .before .before .pre .1 .term) (c .before .before .before .before .before .before .before .before .before .before .before .before .before .before .pre .1 .fits) (c .before .before .before .before .before .before .before .if1 .left) (c .before .before .before .before .before .before .enter .result) (c .before .before .before .before .before .before .enter .ensures) (c .before .before .before .before .opened .given .1)))))
-    (λ c Θ e F. turn-one (c .before .before .before .before .before .before .before .before .before .before .before .before .before .before .before .args .s .now) (c .before .before .before .before .before .before .before .before .before .before .before .before .before .before .before .args .at) (c .before .before .before .before .before .before .before .before .before .before .before .before .before .before .before .args .node) (stackOf (c .before .before .before .before .before .before .before .before .before .before .before .before .before .before .before .args .b)) (c .before .before .before .before .before .before .before .before .before .before .before .n .given .0 .0) (sym (c .before .before .before .before .before .before .before .before .before .before .before .before .before .record-at .ensures) ∙ c .before .before .before .before .before .before .before .before .before .before .before .n .given .1) Θ e F (c .before .before .before .before .before .before .before .before .if1 .left) (c .before .before .before .before .before .before .before .enter .result) (c .before .before .before .before .before .before .before .enter .ensures) (c .before .before .before .before .before .opened .given .1) (c .before .before .before .walk .result) (c .before .before .before .walk .ensures Θ (firstOf e) (turn-first (c .before .before .before .before .before .before .before .before .before .before .before .before .before .before .before .args .s .now) (c .before .before .before .before .before .before .before .before .before .before .before .before .before .before .before .args .at) (c .before .before .before .before .before .before .before .before .before .before .before .before .before .before .before .args .node) (stackOf (c .before .before .before .before .before .before .before .before .before .before .before .before .before .before .before .args .b)) (c .before .before .before .before .before .before .before .before .before .before .before .n .given .0 .0) (sym (c .before .before .before .before .before .before .before .before .before .before .before .before .before .record-at .ensures) ∙ c .before .before .before .before .before .before .before .before .before .before .before .n .given .1) Θ e F (c .before .before .before .before .before .before .before .before .if1 .left) (c .before .before .before .before .before .before .before .enter .result) (c .before .before .before .before .before .before .before .enter .ensures) (c .before .before .before .before .before .opened .given .1))) (c .before .if2 .taken) (c .leave-one .ensures))
-    (λ c κs. held (turn-first (c .before .before .before .before .before .before .before .before .before .before .before .before .before .before .args .s .now) (c .before .before .before .before .before .before .before .before .before .before .before .before .before .before .args .at) (c .before .before .before .before .before .before .before .before .before .before .before .before .before .before .args .node) (stackOf (c .before .before .before .before .before .before .before .before .before .before .before .before .before .before .args .b)) (c .before .before .before .before .before .before .before .before .before .before .n .given .0 .0) (sym (c .before .before .before .before .before .before .before .before .before .before .before .before .record-at .ensures) ∙ c .before .before .before .before .before .before .before .before .before .before .n .given .1) (c .before .before .before .before .before .before .before .before .before .before .before .before .before .before .pre .1 .table) (c .before .before .before .before .before .before .before .before .before .before .before .before .before .before .pre .1 .term) (c .before .before .before .before .before .before .before .before .before .before .before .before .before .before .pre .1 .fits) (c .before .before .before .before .before .before .before .if1 .left) (c .before .before .before .before .before .before .enter .result) (c .before .before .before .before .before .before .enter .ensures) (c .before .before .before .before .opened .given .1)) (c .before .before .walk .result) (c .before .before .walk .ensures (c .before .before .before .before .before .before .before .before .before .before .before .before .before .before .pre .1 .table) (firstOf (c .before .before .before .before .before .before .before .before .before .before .before .before .before .before .pre .1 .term)) (turn-first (c .before .before .before .before .before .before .before .before .before .before .before .before .before .before .args .s .now) (c .before .before .before .before .before .before .before .before .before .before .before .before .before .before .args .at) (c .before .before .before .before .before .before .before .before .before .before .before .before .before .before .args .node) (stackOf (c .before .before .before .before .before .before .before .before .before .before .before .before .before .before .args .b)) (c .before .before .before .before .before .before .before .before .before .before .n .given .0 .0) (sym (c .before .before .before .before .before .before .before .before .before .before .before .before .record-at .ensures) ∙ c .before .before .before .before .before .before .before .before .before .before .n .given .1) (c .before .before .before .before .before .before .before .before .before .before .before .before .before .before .pre .1 .table) (c .before .before .before .before .before .before .before .before .before .before .before .before .before .before .pre .1 .term) (c .before .before .before .before .before .before .before .before .before .before .before .before .before .before .pre .1 .fits) (c .before .before .before .before .before .before .before .if1 .left) (c .before .before .before .before .before .before .enter .result) (c .before .before .before .before .before .before .enter .ensures) (c .before .before .before .before .opened .given .1))))
+    (λ c Θ e F.
+    let a = c .before .before .before .before .before .before .before .before .before .before .args in
+    let n = c .before .before .before .before .before .before .n .given .0 .0 in
+    let here = sym (c .before .before .before .before .before .before .before .before .record-at .ensures) ∙ c .before .before .before .before .before .before .n .given .1 in
+    turn-refused (a .s .now) (a .at) (a .node) (stackOf (a .b)) n here Θ e F (c .before .before .before .if1 .left) (c .before .before .enter .result) (c .before .before .enter .ensures) (c .enum-told .given .1))
+    (λ c κs.
+    let a = c .before .before .before .before .before .before .before .before .before .before .before .args in
+    let n = c .before .before .before .before .before .before .before .n .given .0 .0 in
+    let here = sym (c .before .before .before .before .before .before .before .before .before .record-at .ensures) ∙ c .before .before .before .before .before .before .before .n .given .1 in
+    let p = c .before .before .before .before .before .before .before .before .before .before .before .pre .1 in
+    (omega (arith, c .before .before .before .before .before .before .before .before .before .before .before .pre .0, turn-falls (a .s .now) (a .at) (a .node) (stackOf (a .b)) n here (p .table) (p .term) (p .fits) (c .before .before .before .before .if1 .left) (c .before .before .before .enter .result) (c .before .before .before .enter .ensures) (c .before .opened .given .1)), record { table = p .table; term = firstOf (p .term); fits = turn-first (a .s .now) (a .at) (a .node) (stackOf (a .b)) n here (p .table) (p .term) (p .fits) (c .before .before .before .before .if1 .left) (c .before .before .before .enter .result) (c .before .before .before .enter .ensures) (c .before .opened .given .1) }))
+    (λ c κs.
+    let a = c .before .before .before .before .before .before .before .before .before .before .before .before .before .before .args in
+    let n = c .before .before .before .before .before .before .before .before .before .before .n .given .0 .0 in
+    let here = sym (c .before .before .before .before .before .before .before .before .before .before .before .before .record-at .ensures) ∙ c .before .before .before .before .before .before .before .before .before .before .n .given .1 in
+    let p = c .before .before .before .before .before .before .before .before .before .before .before .before .before .before .pre .1 in
+    let first = turn-first (a .s .now) (a .at) (a .node) (stackOf (a .b)) n here (p .table) (p .term) (p .fits) (c .before .before .before .before .before .before .before .if1 .left) (c .before .before .before .before .before .before .enter .result) (c .before .before .before .before .before .before .enter .ensures) (c .before .before .before .before .opened .given .1) in
+    holds-more (c .before .before .walk .result) (held first (c .before .before .walk .result) (c .before .before .walk .ensures (p .table) (firstOf (p .term)) first)))
+    (λ c Θ e F.
+    let a = c .before .before .before .before .before .before .before .before .before .before .before .before .before .before .before .args in
+    let n = c .before .before .before .before .before .before .before .before .before .before .before .n .given .0 .0 in
+    let here = sym (c .before .before .before .before .before .before .before .before .before .before .before .before .before .record-at .ensures) ∙ c .before .before .before .before .before .before .before .before .before .before .before .n .given .1 in
+    let first = turn-first (a .s .now) (a .at) (a .node) (stackOf (a .b)) n here Θ e F (c .before .before .before .before .before .before .before .before .if1 .left) (c .before .before .before .before .before .before .before .enter .result) (c .before .before .before .before .before .before .before .enter .ensures) (c .before .before .before .before .before .opened .given .1) in
+    let x = c .before .before .before .walk .ensures Θ (firstOf e) first in
+    turn-one (a .s .now) (a .at) (a .node) (stackOf (a .b)) n here Θ e F (c .before .before .before .before .before .before .before .before .if1 .left) (c .before .before .before .before .before .before .before .enter .result) (c .before .before .before .before .before .before .before .enter .ensures) (c .before .before .before .before .before .opened .given .1) (c .before .before .before .walk .result) x (c .before .if2 .taken) (c .leave-one .ensures))
+    (λ c κs.
+    let a = c .before .before .before .before .before .before .before .before .before .before .before .before .before .before .args in
+    let n = c .before .before .before .before .before .before .before .before .before .before .n .given .0 .0 in
+    let here = sym (c .before .before .before .before .before .before .before .before .before .before .before .before .record-at .ensures) ∙ c .before .before .before .before .before .before .before .before .before .before .n .given .1 in
+    let p = c .before .before .before .before .before .before .before .before .before .before .before .before .before .before .pre .1 in
+    let first = turn-first (a .s .now) (a .at) (a .node) (stackOf (a .b)) n here (p .table) (p .term) (p .fits) (c .before .before .before .before .before .before .before .if1 .left) (c .before .before .before .before .before .before .enter .result) (c .before .before .before .before .before .before .enter .ensures) (c .before .before .before .before .opened .given .1) in
+    held first (c .before .before .walk .result) (c .before .before .walk .ensures (p .table) (firstOf (p .term)) first))
     (λ c. search needs)
     (λ c. search needs)
-    (λ c Θ e F. turn-halfway (c .before .before .before .before .before .before .before .before .before .before .before .before .before .before .before .before .before .args .s .now) (c .before .before .before .before .before .before .before .before .before .before .before .before .before .before .before .before .before .args .at) (c .before .before .before .before .before .before .before .before .before .before .before .before .before .before .before .before .before .args .node) (stackOf (c .before .before .before .before .before .before .before .before .before .before .before .before .before .before .before .before .before .args .b)) (c .before .before .before .before .before .before .before .before .before .before .before .before .before .n .given .0 .0) (sym (c .before .before .before .before .before .before .before .before .before .before .before .before .before .before .before .record-at .ensures) ∙ c .before .before .before .before .before .before .before .before .before .before .before .before .before .n .given .1) Θ e F (c .before .before .before .before .before .before .before .before .before .before .if1 .left) (c .before .before .before .before .before .before .before .before .before .enter .result) (c .before .before .before .before .before .before .before .before .before .enter .ensures) (c .before .before .before .before .before .before .before .opened .given .1) (c .before .before .before .before .before .walk .result) (c .before .before .before .before .before .walk .ensures Θ (firstOf e) (turn-first (c .before .before .before .before .before .before .before .before .before .before .before .before .before .before .before .before .before .args .s .now) (c .before .before .before .before .before .before .before .before .before .before .before .before .before .before .before .before .before .args .at) (c .before .before .before .before .before .before .before .before .before .before .before .before .before .before .before .before .before .args .node) (stackOf (c .before .before .before .before .before .before .before .before .before .before .before .before .before .before .before .before .before .args .b)) (c .before .before .before .before .before .before .before .before .before .before .before .before .before .n .given .0 .0) (sym (c .before .before .before .before .before .before .before .before .before .before .before .before .before .before .before .record-at .ensures) ∙ c .before .before .before .before .before .before .before .before .before .before .before .before .before .n .given .1) Θ e F (c .before .before .before .before .before .before .before .before .before .before .if1 .left) (c .before .before .before .before .before .before .before .before .before .enter .result) (c .before .before .before .before .before .before .before .before .before .enter .ensures) (c .before .before .before .before .before .before .before .opened .given .1))) (c .before .before .before .if2 .left) (c .before .before .between .result) (c .before .before .between .ensures) (c .enum-told2 .given .1))
-    (λ c κs. (omega (arith, c .before .before .before .before .before .before .before .before .before .before .before .before .before .before .before .before .before .before .pre .0, turn-falls-again (c .before .before .before .before .before .before .before .before .before .before .before .before .before .before .before .before .before .before .args .s .now) (c .before .before .before .before .before .before .before .before .before .before .before .before .before .before .before .before .before .before .args .at) (c .before .before .before .before .before .before .before .before .before .before .before .before .before .before .before .before .before .before .args .node) (stackOf (c .before .before .before .before .before .before .before .before .before .before .before .before .before .before .before .before .before .before .args .b)) (c .before .before .before .before .before .before .before .before .before .before .before .before .before .before .n .given .0 .0) (sym (c .before .before .before .before .before .before .before .before .before .before .before .before .before .before .before .before .record-at .ensures) ∙ c .before .before .before .before .before .before .before .before .before .before .before .before .before .before .n .given .1) (c .before .before .before .before .before .before .before .before .before .before .before .before .before .before .before .before .before .before .pre .1 .table) (c .before .before .before .before .before .before .before .before .before .before .before .before .before .before .before .before .before .before .pre .1 .term) (c .before .before .before .before .before .before .before .before .before .before .before .before .before .before .before .before .before .before .pre .1 .fits) (c .before .before .before .before .before .before .before .before .before .before .before .if1 .left) (c .before .before .before .before .before .before .before .before .before .before .enter .result) (c .before .before .before .before .before .before .before .before .before .before .enter .ensures) (c .before .before .before .before .before .before .before .before .opened .given .1) (c .before .before .before .before .before .before .walk .result) (c .before .before .before .before .before .before .walk .ensures (c .before .before .before .before .before .before .before .before .before .before .before .before .before .before .before .before .before .before .pre .1 .table) (firstOf (c .before .before .before .before .before .before .before .before .before .before .before .before .before .before .before .before .before .before .pre .1 .term)) (turn-first (c .before .before .before .before .before .before .before .before .before .before .before .before .before .before .before .before .before .before .args .s .now) (c .before .before .before .before .before .before .before .before .before .before .before .before .before .before .before .before .before .before .args .at) (c .before .before .before .before .before .before .before .before .before .before .before .before .before .before .before .before .before .before .args .node) (stackOf (c .before .before .before .before .before .before .before .before .before .before .before .before .before .before .before .before .before .before .args .b)) (c .before .before .before .before .before .before .before .before .before .before .before .before .before .before .n .given .0 .0) (sym (c .before .before .before .before .before .before .before .before .before .before .before .before .before .before .before .before .record-at .ensures) ∙ c .before .before .before .before .before .before .before .before .before .before .before .before .before .before .n .given .1) (c .before .before .before .before .before .before .before .before .before .before .before .before .before .before .before .before .before .before .pre .1 .table) (c .before .before .before .before .before .before .before .before .before .before .before .before .before .before .before .before .before .before .pre .1 .term) (c .before .before .before .before .before .before .before .before .before .before .before .before .before .before .before .before .before .before .pre .1 .fits) (c .before .before .before .before .before .before .before .before .before .before .before .if1 .left) (c .before .before .before .before .before .before .before .before .before .before .enter .result) (c .before .before .before .before .before .before .before .before .before .before .enter .ensures) (c .before .before .before .before .before .before .before .before .opened .given .1))) (c .before .before .before .before .if2 .left) (c .before .before .before .between .result) (c .before .before .before .between .ensures) (c .before .halfway .given .1)), record { table = c .before .before .before .before .before .before .before .before .before .before .before .before .before .before .before .before .before .before .pre .1 .table; term = secondOf (c .before .before .before .before .before .before .before .before .before .before .before .before .before .before .before .before .before .before .pre .1 .term); fits = turn-second (c .before .before .before .before .before .before .before .before .before .before .before .before .before .before .before .before .before .before .args .s .now) (c .before .before .before .before .before .before .before .before .before .before .before .before .before .before .before .before .before .before .args .at) (c .before .before .before .before .before .before .before .before .before .before .before .before .before .before .before .before .before .before .args .node) (stackOf (c .before .before .before .before .before .before .before .before .before .before .before .before .before .before .before .before .before .before .args .b)) (c .before .before .before .before .before .before .before .before .before .before .before .before .before .before .n .given .0 .0) (sym (c .before .before .before .before .before .before .before .before .before .before .before .before .before .before .before .before .record-at .ensures) ∙ c .before .before .before .before .before .before .before .before .before .before .before .before .before .before .n .given .1) (c .before .before .before .before .before .before .before .before .before .before .before .before .before .before .before .before .before .before .pre .1 .table) (c .before .before .before .before .before .before .before .before .before .before .before .before .before .before .before .before .before .before .pre .1 .term) (c .before .before .before .before .before .before .before .before .before .before .before .before .before .before .before .before .before .before .pre .1 .fits) (c .before .before .before .before .before .before .before .before .before .before .before .if1 .left) (c .before .before .before .before .before .before .before .before .before .before .enter .result) (c .before .before .before .before .before .before .before .before .before .before .enter .ensures) (c .before .before .before .before .before .before .before .before .opened .given .1) (c .before .before .before .before .before .before .walk .result) (c .before .before .before .before .before .before .walk .ensures (c .before .before .before .before .before .before .before .before .before .before .before .before .before .before .before .before .before .before .pre .1 .table) (firstOf (c .before .before .before .before .before .before .before .before .before .before .before .before .before .before .before .before .before .before .pre .1 .term)) (turn-first (c .before .before .before .before .before .before .before .before .before .before .before .before .before .before .before .before .before .before .args .s .now) (c .before .before .before .before .before .before .before .before .before .before .before .before .before .before .before .before .before .before .args .at) (c .before .before .before .before .before .before .before .before .before .before .before .before .before .before .before .before .before .before .args .node) (stackOf (c .before .before .before .before .before .before .before .before .before .before .before .before .before .before .before .before .before .before .args .b)) (c .before .before .before .before .before .before .before .before .before .before .before .before .before .before .n .given .0 .0) (sym (c .before .before .before .before .before .before .before .before .before .before .before .before .before .before .before .before .record-at .ensures) ∙ c .before .before .before .before .before .before .before .before .before .before .before .before .before .before .n .given .1) (c .before .before .before .before .before .before .before .before .before .before .before .before .before .before .before .before .before .before .pre .1 .table) (c .before .before .before .before .before .before .before .before .before .before .before .before .before .before .before .before .before .before .pre .1 .term) (c .before .before .before .before .before .before .before .before .before .before .before .before .before .before .before .before .before .before .pre .1 .fits) (c .before .before .before .before .before .before .before .before .before .before .before .if1 .left) (c .before .before .before .before .before .before .before .before .before .before .enter .result) (c .before .before .before .before .before .before .before .before .before .before .enter .ensures) (c .before .before .before .before .before .before .before .before .opened .given .1))) (c .before .before .before .before .if2 .left) (c .before .before .before .between .result) (c .before .before .before .between .ensures) (c .before .halfway .given .1) }))
+    (λ c Θ e F.
+    let a = c .before .before .before .before .before .before .before .before .before .before .before .before .before .before .before .before .before .args in
+    let n = c .before .before .before .before .before .before .before .before .before .before .before .before .before .n .given .0 .0 in
+    let here = sym (c .before .before .before .before .before .before .before .before .before .before .before .before .before .before .before .record-at .ensures) ∙ c .before .before .before .before .before .before .before .before .before .before .before .before .before .n .given .1 in
+    let first = turn-first (a .s .now) (a .at) (a .node) (stackOf (a .b)) n here Θ e F (c .before .before .before .before .before .before .before .before .before .before .if1 .left) (c .before .before .before .before .before .before .before .before .before .enter .result) (c .before .before .before .before .before .before .before .before .before .enter .ensures) (c .before .before .before .before .before .before .before .opened .given .1) in
+    let x = c .before .before .before .before .before .walk .ensures Θ (firstOf e) first in
+    turn-halfway (a .s .now) (a .at) (a .node) (stackOf (a .b)) n here Θ e F (c .before .before .before .before .before .before .before .before .before .before .if1 .left) (c .before .before .before .before .before .before .before .before .before .enter .result) (c .before .before .before .before .before .before .before .before .before .enter .ensures) (c .before .before .before .before .before .before .before .opened .given .1) (c .before .before .before .before .before .walk .result) x (c .before .before .before .if2 .left) (c .before .before .between .result) (c .before .before .between .ensures) (c .enum-told2 .given .1))
+    (λ c κs.
+    let a = c .before .before .before .before .before .before .before .before .before .before .before .before .before .before .before .before .before .before .args in
+    let n = c .before .before .before .before .before .before .before .before .before .before .before .before .before .before .n .given .0 .0 in
+    let here = sym (c .before .before .before .before .before .before .before .before .before .before .before .before .before .before .before .before .record-at .ensures) ∙ c .before .before .before .before .before .before .before .before .before .before .before .before .before .before .n .given .1 in
+    let p = c .before .before .before .before .before .before .before .before .before .before .before .before .before .before .before .before .before .before .pre .1 in
+    let first = turn-first (a .s .now) (a .at) (a .node) (stackOf (a .b)) n here (p .table) (p .term) (p .fits) (c .before .before .before .before .before .before .before .before .before .before .before .if1 .left) (c .before .before .before .before .before .before .before .before .before .before .enter .result) (c .before .before .before .before .before .before .before .before .before .before .enter .ensures) (c .before .before .before .before .before .before .before .before .opened .given .1) in
+    let x = c .before .before .before .before .before .before .walk .ensures (p .table) (firstOf (p .term)) first in
+    (omega (arith, c .before .before .before .before .before .before .before .before .before .before .before .before .before .before .before .before .before .before .pre .0, turn-falls-again (a .s .now) (a .at) (a .node) (stackOf (a .b)) n here (p .table) (p .term) (p .fits) (c .before .before .before .before .before .before .before .before .before .before .before .if1 .left) (c .before .before .before .before .before .before .before .before .before .before .enter .result) (c .before .before .before .before .before .before .before .before .before .before .enter .ensures) (c .before .before .before .before .before .before .before .before .opened .given .1) (c .before .before .before .before .before .before .walk .result) x (c .before .before .before .before .if2 .left) (c .before .before .before .between .result) (c .before .before .before .between .ensures) (c .before .halfway .given .1)), record { table = p .table; term = secondOf (p .term); fits = turn-second (a .s .now) (a .at) (a .node) (stackOf (a .b)) n here (p .table) (p .term) (p .fits) (c .before .before .before .before .before .before .before .before .before .before .before .if1 .left) (c .before .before .before .before .before .before .before .before .before .before .enter .result) (c .before .before .before .before .before .before .before .before .before .before .enter .ensures) (c .before .before .before .before .before .before .before .before .opened .given .1) (c .before .before .before .before .before .before .walk .result) x (c .before .before .before .before .if2 .left) (c .before .before .before .between .result) (c .before .before .before .between .ensures) (c .before .halfway .given .1) }))
     (λ c κs. search needs)
-    (λ c Θ e F. turn-two (c .before .before .before .before .before .before .before .before .before .before .before .before .before .before .before .before .before .before .before .before .args .s .now) (c .before .before .before .before .before .before .before .before .before .before .before .before .before .before .before .before .before .before .before .before .args .at) (c .before .before .before .before .before .before .before .before .before .before .before .before .before .before .before .before .before .before .before .before .args .node) (stackOf (c .before .before .before .before .before .before .before .before .before .before .before .before .before .before .before .before .before .before .before .before .args .b)) (c .before .before .before .before .before .before .before .before .before .before .before .before .before .before .before .before .n .given .0 .0) (sym (c .before .before .before .before .before .before .before .before .before .before .before .before .before .before .before .before .before .before .record-at .ensures) ∙ c .before .before .before .before .before .before .before .before .before .before .before .before .before .before .before .before .n .given .1) Θ e F (c .before .before .before .before .before .before .before .before .before .before .before .before .before .if1 .left) (c .before .before .before .before .before .before .before .before .before .before .before .before .enter .result) (c .before .before .before .before .before .before .before .before .before .before .before .before .enter .ensures) (c .before .before .before .before .before .before .before .before .before .before .opened .given .1) (c .before .before .before .before .before .before .before .before .walk .result) (c .before .before .before .before .before .before .before .before .walk .ensures Θ (firstOf e) (turn-first (c .before .before .before .before .before .before .before .before .before .before .before .before .before .before .before .before .before .before .before .before .args .s .now) (c .before .before .before .before .before .before .before .before .before .before .before .before .before .before .before .before .before .before .before .before .args .at) (c .before .before .before .before .before .before .before .before .before .before .before .before .before .before .before .before .before .before .before .before .args .node) (stackOf (c .before .before .before .before .before .before .before .before .before .before .before .before .before .before .before .before .before .before .before .before .args .b)) (c .before .before .before .before .before .before .before .before .before .before .before .before .before .before .before .before .n .given .0 .0) (sym (c .before .before .before .before .before .before .before .before .before .before .before .before .before .before .before .before .before .before .record-at .ensures) ∙ c .before .before .before .before .before .before .before .before .before .before .before .before .before .before .before .before .n .given .1) Θ e F (c .before .before .before .before .before .before .before .before .before .before .before .before .before .if1 .left) (c .before .before .before .before .before .before .before .before .before .before .before .before .enter .result) (c .before .before .before .before .before .before .before .before .before .before .before .before .enter .ensures) (c .before .before .before .before .before .before .before .before .before .before .opened .given .1))) (c .before .before .before .before .before .before .if2 .left) (c .before .before .before .before .before .between .result) (c .before .before .before .before .before .between .ensures) (c .before .before .before .halfway .given .1) (c .before .walk2 .result) (c .leave-two .result) (c .before .walk2 .ensures Θ (secondOf e) (turn-second (c .before .before .before .before .before .before .before .before .before .before .before .before .before .before .before .before .before .before .before .before .args .s .now) (c .before .before .before .before .before .before .before .before .before .before .before .before .before .before .before .before .before .before .before .before .args .at) (c .before .before .before .before .before .before .before .before .before .before .before .before .before .before .before .before .before .before .before .before .args .node) (stackOf (c .before .before .before .before .before .before .before .before .before .before .before .before .before .before .before .before .before .before .before .before .args .b)) (c .before .before .before .before .before .before .before .before .before .before .before .before .before .before .before .before .n .given .0 .0) (sym (c .before .before .before .before .before .before .before .before .before .before .before .before .before .before .before .before .before .before .record-at .ensures) ∙ c .before .before .before .before .before .before .before .before .before .before .before .before .before .before .before .before .n .given .1) Θ e F (c .before .before .before .before .before .before .before .before .before .before .before .before .before .if1 .left) (c .before .before .before .before .before .before .before .before .before .before .before .before .enter .result) (c .before .before .before .before .before .before .before .before .before .before .before .before .enter .ensures) (c .before .before .before .before .before .before .before .before .before .before .opened .given .1) (c .before .before .before .before .before .before .before .before .walk .result) (c .before .before .before .before .before .before .before .before .walk .ensures Θ (firstOf e) (turn-first (c .before .before .before .before .before .before .before .before .before .before .before .before .before .before .before .before .before .before .before .before .args .s .now) (c .before .before .before .before .before .before .before .before .before .before .before .before .before .before .before .before .before .before .before .before .args .at) (c .before .before .before .before .before .before .before .before .before .before .before .before .before .before .before .before .before .before .before .before .args .node) (stackOf (c .before .before .before .before .before .before .before .before .before .before .before .before .before .before .before .before .before .before .before .before .args .b)) (c .before .before .before .before .before .before .before .before .before .before .before .before .before .before .before .before .n .given .0 .0) (sym (c .before .before .before .before .before .before .before .before .before .before .before .before .before .before .before .before .before .before .record-at .ensures) ∙ c .before .before .before .before .before .before .before .before .before .before .before .before .before .before .before .before .n .given .1) Θ e F (c .before .before .before .before .before .before .before .before .before .before .before .before .before .if1 .left) (c .before .before .before .before .before .before .before .before .before .before .before .before .enter .result) (c .before .before .before .before .before .before .before .before .before .before .before .before .enter .ensures) (c .before .before .before .before .before .before .before .before .before .before .opened .given .1))) (c .before .before .before .before .before .before .if2 .left) (c .before .before .before .before .before .between .result) (c .before .before .before .before .before .between .ensures) (c .before .before .before .halfway .given .1))) (c .leave-two .ensures))
+    (λ c Θ e F.
+    let a = c .before .before .before .before .before .before .before .before .before .before .before .before .before .before .before .before .before .before .before .before .args in
+    let n = c .before .before .before .before .before .before .before .before .before .before .before .before .before .before .before .before .n .given .0 .0 in
+    let here = sym (c .before .before .before .before .before .before .before .before .before .before .before .before .before .before .before .before .before .before .record-at .ensures) ∙ c .before .before .before .before .before .before .before .before .before .before .before .before .before .before .before .before .n .given .1 in
+    let first = turn-first (a .s .now) (a .at) (a .node) (stackOf (a .b)) n here Θ e F (c .before .before .before .before .before .before .before .before .before .before .before .before .before .if1 .left) (c .before .before .before .before .before .before .before .before .before .before .before .before .enter .result) (c .before .before .before .before .before .before .before .before .before .before .before .before .enter .ensures) (c .before .before .before .before .before .before .before .before .before .before .opened .given .1) in
+    let x = c .before .before .before .before .before .before .before .before .walk .ensures Θ (firstOf e) first in
+    let second = turn-second (a .s .now) (a .at) (a .node) (stackOf (a .b)) n here Θ e F (c .before .before .before .before .before .before .before .before .before .before .before .before .before .if1 .left) (c .before .before .before .before .before .before .before .before .before .before .before .before .enter .result) (c .before .before .before .before .before .before .before .before .before .before .before .before .enter .ensures) (c .before .before .before .before .before .before .before .before .before .before .opened .given .1) (c .before .before .before .before .before .before .before .before .walk .result) x (c .before .before .before .before .before .before .if2 .left) (c .before .before .before .before .before .between .result) (c .before .before .before .before .before .between .ensures) (c .before .before .before .halfway .given .1) in
+    turn-two (a .s .now) (a .at) (a .node) (stackOf (a .b)) n here Θ e F (c .before .before .before .before .before .before .before .before .before .before .before .before .before .if1 .left) (c .before .before .before .before .before .before .before .before .before .before .before .before .enter .result) (c .before .before .before .before .before .before .before .before .before .before .before .before .enter .ensures) (c .before .before .before .before .before .before .before .before .before .before .opened .given .1) (c .before .before .before .before .before .before .before .before .walk .result) x (c .before .before .before .before .before .before .if2 .left) (c .before .before .before .before .before .between .result) (c .before .before .before .before .before .between .ensures) (c .before .before .before .halfway .given .1) (c .before .walk2 .result) (c .leave-two .result) (c .before .walk2 .ensures Θ (secondOf e) second) (c .leave-two .ensures))
