@@ -76,114 +76,172 @@ holds-more x = by-verdict (x .verdict)
     by-verdict (verdict.Fine t i j) h = omega arith
     by-verdict (verdict.Refused r) h = tt
 
--- ---- at a node
+-- ---- at a node: what is known, place by place of the code
 
-module _ (s : List ℕ) (at node : ℕ) (st : Stack) (n : Node) (here : recordAt s at ≡ rec.Node n) (Θ : Table) (e : Term) (F : Fits s at node Θ e st) where
-  abbrev R : Types
-  R = recIn s
+module _ (s : List ℕ) (at node : ℕ) (st : Stack) (Θ : Table) (e : Term) where
+  -- the node's record has been read
+  pub record Here : Type 0 where
+    pub n : Node
+    pub here : recordAt s at ≡ rec.Node n
+    pub fits : Fits s at node Θ e st
 
-  node-is : n ≡ nodeOf e at
-  node-is = let h : rec.Node n ≡ rec.Node (nodeOf e at) = sym here ∙ stands-record s at e (F .stands) in cc
+  -- a node with subterms has been entered
+  pub record Inside : Type 0 where
+    pub place : Here
+    pub i : Checked
+    pub some : ¬ (place .n .subterms ≡ 0)
+    pub says : Says i (enterOf (recIn s) (place .n .kind) (place .n .first) node st) (place .n .next) (node + 1)
 
-  abbrev Done : Checked → Type 0
+  -- .. and not refused
+  pub record Opened : Type 0 where
+    pub inside : Inside
+    pub t : ℕ
+    pub start : ℕ
+    pub count : ℕ
+    pub fine : inside .i .verdict ≡ verdict.Fine t start count
+
+  -- the first subterm has been walked
+  pub record First : Type 0 where
+    pub opened : Opened
+    pub x : Checked
+    pub says :
+        Says x (walk Θ (firstOf e) (opened .count) (stackOf (opened .inside .i .binders))) (opened .start + length (termBytes (firstOf e))) (opened .count + nodes (firstOf e))
+
+  -- there is a second one, and it has been entered
+  pub record Middle : Type 0 where
+    pub first : First
+    pub m : Checked
+    pub two : ¬ (first .opened .inside .place .n .subterms ≡ 1)
+    pub follows : Follows (first .x) m (betweenOf (recIn s) (first .opened .inside .place .n .kind) node)
+
+  -- .. and not refused
+  pub record Second : Type 0 where
+    pub middle : Middle
+    pub u : ℕ
+    pub start : ℕ
+    pub count : ℕ
+    pub fine : middle .m .verdict ≡ verdict.Fine u start count
+
+  -- the verdict on the whole term
+  abbrev pub Done : Checked → Type 0
   Done c = Says c (walk Θ e node st) (at + length (termBytes e)) (node + nodes e)
 
-  none-is : n .subterms ≡ 0 → nodeOf e at .subterms ≡ 0
-  none-is z = sym (ap (λ (n : Node). n .subterms) node-is) ∙ z
+-- ---- .. and what follows there
 
-  pub turn-leaf : n .subterms ≡ 0 → {c : Checked} → Says c (leafOf R (n .kind) (n .first) (n .second) node st) (n .next) (node + 1) → Done c
-  turn-leaf z {c} h = record {
-    answer = h .answer ∙ ap (λ (n : Node). leafOf R (n .kind) (n .first) (n .second) node st) node-is ∙ walk-leaf R Θ (F .table) (F .types) at node st (F .numbers) e (F .ranged) (none-is z);
-    ends = ends-as (c .verdict) (ap (λ (n : Node). n .next) node-is ∙ end-none at e (none-is z) .0) (omega (arith, end-none at e (none-is z) .1)) (h .ends);
-  }
+module _ {s : List ℕ} {at node : ℕ} {st : Stack} {Θ : Table} {e : Term} where
+  module _ (h : Here s at node st Θ e) where
+    node-is : h .n ≡ nodeOf e at
+    node-is = let z : rec.Node (h .n) ≡ rec.Node (nodeOf e at) = sym (h .here) ∙ stands-record s at e (h .fits .stands) in cc
 
-  module _ (d : ¬ (n .subterms ≡ 0)) (i : Checked) (I : Says i (enterOf R (n .kind) (n .first) node st) (n .next) (node + 1)) where
+    subterms-are : h .n .subterms ≡ nodeOf e at .subterms
+    subterms-are = ap (λ (n : Node). n .subterms) node-is
+
+    pub turn-leaf : h .n .subterms ≡ 0 → {c : Checked} → Says c (leafOf (recIn s) (h .n .kind) (h .n .first) (h .n .second) node st) (h .n .next) (node + 1) → Done s at node st Θ e c
+    turn-leaf z {c} w =
+        let F = h .fits in
+        let z₁ : nodeOf e at .subterms ≡ 0 = sym subterms-are ∙ z in
+        record {
+          answer = w .answer ∙ ap (λ (n : Node). leafOf (recIn s) (n .kind) (n .first) (n .second) node st) node-is ∙ walk-leaf (recIn s) Θ (F .table) (F .types) at node st (F .numbers) e (F .ranged) z₁;
+          ends = ends-as (c .verdict) (ap (λ (n : Node). n .next) node-is ∙ end-none at e z₁ .0) (omega (arith, end-none at e z₁ .1)) (w .ends);
+        }
+
+  module _ (h : Inside s at node st Θ e) where
     some-is : ¬ (nodeOf e at .subterms ≡ 0)
-    some-is z = d (ap (λ (n : Node). n .subterms) node-is ∙ z)
+    some-is z = h .some (subterms-are (h .place) ∙ z)
 
-    entered : said i ≡ enterOf R (nodeOf e at .kind) (nodeOf e at .first) node st
-    entered = I .answer ∙ ap (λ (n : Node). enterOf R (n .kind) (n .first) node st) node-is
+    entered : said (h .i) ≡ enterOf (recIn s) (nodeOf e at .kind) (nodeOf e at .first) node st
+    entered = h .says .answer ∙ ap (λ (n : Node). enterOf (recIn s) (n .kind) (n .first) node st) (node-is (h .place))
 
-    steps : walk Θ e node st ≡ (said i >>= λ o. walk Θ (firstOf e) (node + 1) (o .stack) >>= after R Θ e node)
-    steps = walk-steps R Θ (F .table) (F .types) at node st (F .numbers) e (F .ranged) some-is ∙ rw entered refl
+    steps : walk Θ e node st ≡ (said (h .i) >>= λ o. walk Θ (firstOf e) (node + 1) (o .stack) >>= after (recIn s) Θ e node)
+    steps = let F = h .place .fits in walk-steps (recIn s) Θ (F .table) (F .types) at node st (F .numbers) e (F .ranged) some-is ∙ rw entered refl
 
     -- refused on entering
-    pub turn-refused : {r : Refusal} → i .verdict ≡ verdict.Refused r → Done i
-    turn-refused v = record { answer = stops i _ v refl ∙ sym steps; ends = refused-ends i _ _ v }
+    pub turn-refused : {r : Refusal} → h .i .verdict ≡ verdict.Refused r → Done s at node st Θ e (h .i)
+    turn-refused v = record { answer = stops (h .i) _ v refl ∙ sym steps; ends = refused-ends (h .i) _ _ v }
 
-    module _ {t start first : ℕ} (v : i .verdict ≡ verdict.Fine t start first) where
-      start-is : (start ≡ n .next) × (first ≡ node + 1)
-      start-is = rw v at (I .ends)
+  module _ (h : Opened s at node st Θ e) where
+    start-is : (h .start ≡ h .inside .place .n .next) × (h .count ≡ node + 1)
+    start-is = rw (h .fine) at (h .inside .says .ends)
 
-      next-is : start ≡ nodeOf e at .next
-      next-is = start-is .0 ∙ ap (λ (n : Node). n .next) node-is
+    next-is : h .start ≡ nodeOf e at .next
+    next-is = start-is .0 ∙ ap (λ (n : Node). n .next) (node-is (h .inside .place))
 
-      inside : enterOf R (nodeOf e at .kind) (nodeOf e at .first) node st ≡ good (foundAt t (stackOf (i .binders)))
-      inside = sym entered ∙ said-fine i v
+    inside-is : enterOf (recIn s) (nodeOf e at .kind) (nodeOf e at .first) node st ≡ good (foundAt (h .t) (stackOf (h .inside .i .binders)))
+    inside-is = sym (entered (h .inside)) ∙ said-fine (h .inside .i) (h .fine)
 
-      pub turn-falls : length s - start < length s - at
-      turn-falls = omega (arith, node-next s at here, start-is .0)
+    pub turn-falls : length s - h .start < length s - at
+    turn-falls = omega (arith, node-next s at (h .inside .place .here), start-is .0)
 
-      pub turn-first : Fits s start first Θ (firstOf e) (stackOf (i .binders))
-      turn-first = fits-at (sym next-is) (sym (start-is .1)) (fits-first s at node Θ st e F some-is _ inside)
+    pub turn-first : Fits s (h .start) (h .count) Θ (firstOf e) (stackOf (h .inside .i .binders))
+    turn-first = fits-at (sym next-is) (sym (start-is .1)) (fits-first s at node Θ st e (h .inside .place .fits) (some-is (h .inside)) _ inside-is)
 
-      module _ (x : Checked) (X : Says x (walk Θ (firstOf e) first (stackOf (i .binders))) (start + length (termBytes (firstOf e))) (first + nodes (firstOf e))) where
-        first-said : said x ≡ walk Θ (firstOf e) (node + 1) (stackOf (i .binders))
-        first-said = X .answer ∙ ap (λ (z : ℕ). walk Θ (firstOf e) z (stackOf (i .binders))) (start-is .1)
+  module _ (h : First s at node st Θ e) where
+    first-said : said (h .x) ≡ walk Θ (firstOf e) (node + 1) (stackOf (h .opened .inside .i .binders))
+    first-said = h .says .answer ∙ ap (λ (z : ℕ). walk Θ (firstOf e) z (stackOf (h .opened .inside .i .binders))) (start-is (h .opened) .1)
 
-        -- the rest of the walk
-        rest : walk Θ e node st ≡ (said x >>= after R Θ e node)
-        rest = steps ∙ rw (said-fine i v, first-said) refl
+    -- the rest of the walk
+    rest : walk Θ e node st ≡ (said (h .x) >>= after (recIn s) Θ e node)
+    rest = steps (h .opened .inside) ∙ rw (said-fine (h .opened .inside .i) (h .opened .fine), first-said) refl
 
-        pub turn-one : n .subterms ≡ 1 → {c : Checked} → Follows x c (leaveOne R (n .kind) (n .first) node) → Done c
-        turn-one z {c} h =
-            let z₁ : nodeOf e at .subterms ≡ 1 = sym (ap (λ (n : Node). n .subterms) node-is) ∙ z in
-            record {
-              answer = h .answer ∙ bind-same (said x) (λ a _. ap (λ (n : Node). leaveOne R (n .kind) (n .first) node a) node-is ∙ after-one R Θ at node a e z₁) ∙ sym rest;
-              ends = ends-as (c .verdict) (ap (λ (k : ℕ). k + length (termBytes (firstOf e))) next-is ∙ end-one at e z₁ .0) (omega (arith, start-is .1, end-one at e z₁ .1)) (h .ends _ _ (X .ends));
-            }
+    pub turn-held : Holds 126 (h .x)
+    turn-held = held (turn-first (h .opened)) (h .x) (h .says)
 
-        module _ (d₁ : ¬ (n .subterms ≡ 1)) (m : Checked) (M : Follows x m (betweenOf R (n .kind) node)) where
-          two-is : ¬ (nodeOf e at .subterms ≡ 1)
-          two-is z = d₁ (ap (λ (n : Node). n .subterms) node-is ∙ z)
+    pub turn-one : h .opened .inside .place .n .subterms ≡ 1 → {c : Checked}
+        → Follows (h .x) c (leaveOne (recIn s) (h .opened .inside .place .n .kind) (h .opened .inside .place .n .first) node) → Done s at node st Θ e c
+    turn-one z {c} w =
+        let N = node-is (h .opened .inside .place) in
+        let z₁ : nodeOf e at .subterms ≡ 1 = sym (subterms-are (h .opened .inside .place)) ∙ z in
+        record {
+          answer = w .answer ∙ bind-same (said (h .x)) (λ a _. ap (λ (n : Node). leaveOne (recIn s) (n .kind) (n .first) node a) N ∙ after-one (recIn s) Θ at node a e z₁) ∙ sym rest;
+          ends = ends-as (c .verdict) (ap (λ (k : ℕ). k + length (termBytes (firstOf e))) (next-is (h .opened)) ∙ end-one at e z₁ .0) (omega (arith, start-is (h .opened) .1, end-one at e z₁ .1)) (w .ends _ _ (h .says .ends));
+        }
 
-          abbrev second : Found → Answer Found
-          second y = walk Θ (secondOf e) (node + 1 + nodes (firstOf e)) (y .stack) >>= leaveTwo R (nodeOf e at .kind) (nodeOf e at .first) node (y .type)
+  module _ (h : Middle s at node st Θ e) where
+    two-is : ¬ (nodeOf e at .subterms ≡ 1)
+    two-is z = h .two (subterms-are (h .first .opened .inside .place) ∙ z)
 
-          middle-said : said m ≡ (said x >>= betweenOf R (nodeOf e at .kind) node)
-          middle-said = M .answer ∙ ap (λ (n : Node). said x >>= betweenOf R (n .kind) node) node-is
+    abbrev second : Found → Answer Found
+    second y = walk Θ (secondOf e) (node + 1 + nodes (firstOf e)) (y .stack) >>= leaveTwo (recIn s) (nodeOf e at .kind) (nodeOf e at .first) node (y .type)
 
-          rest-two : walk Θ e node st ≡ (said m >>= second)
-          rest-two =
-              rest ∙ bind-same (said x) (λ a _. sym (after-two R Θ at node a e some-is two-is))
-              ∙ sym (bind-assoc (said x) (betweenOf R (nodeOf e at .kind) node) second) ∙ ap (λ (z : Answer Found). z >>= second) (sym middle-said)
+    middle-said : said (h .m) ≡ (said (h .first .x) >>= betweenOf (recIn s) (nodeOf e at .kind) node)
+    middle-said = h .follows .answer ∙ ap (λ (n : Node). said (h .first .x) >>= betweenOf (recIn s) (n .kind) node) (node-is (h .first .opened .inside .place))
 
-          -- refused in the first subterm, or between the two
-          pub turn-halfway : {r : Refusal} → m .verdict ≡ verdict.Refused r → Done m
-          turn-halfway v = record { answer = stops m second v refl ∙ sym rest-two; ends = refused-ends m _ _ v }
+    rest-two : walk Θ e node st ≡ (said (h .m) >>= second)
+    rest-two =
+        rest (h .first) ∙ bind-same (said (h .first .x)) (λ a _. sym (after-two (recIn s) Θ at node a e (some-is (h .first .opened .inside)) two-is))
+        ∙ sym (bind-assoc (said (h .first .x)) (betweenOf (recIn s) (nodeOf e at .kind) node) second) ∙ ap (λ (z : Answer Found). z >>= second) (sym middle-said)
 
-          module _ {u mid count : ℕ} (w : m .verdict ≡ verdict.Fine u mid count) where
-            mid-is : (mid ≡ start + length (termBytes (firstOf e))) × (count ≡ first + nodes (firstOf e))
-            mid-is = rw w at (M .ends _ _ (X .ends))
+    -- refused in the first subterm, or between the two
+    pub turn-halfway : {r : Refusal} → h .m .verdict ≡ verdict.Refused r → Done s at node st Θ e (h .m)
+    turn-halfway v = record { answer = stops (h .m) second v refl ∙ sym rest-two; ends = refused-ends (h .m) _ _ v }
 
-            count-is : count ≡ node + 1 + nodes (firstOf e)
-            count-is = mid-is .1 ∙ ap (λ (z : ℕ). z + nodes (firstOf e)) (start-is .1)
+  module _ (h : Second s at node st Θ e) where
+    abbrev o : Opened s at node st Θ e
+    o = h .middle .first .opened
 
-            pub turn-falls-again : length s - mid < length s - at
-            turn-falls-again = omega (arith, node-next s at here, start-is .0, mid-is .0)
+    mid-is : (h .start ≡ o .start + length (termBytes (firstOf e))) × (h .count ≡ o .count + nodes (firstOf e))
+    mid-is = rw (h .fine) at (h .middle .follows .ends _ _ (h .middle .first .says .ends))
 
-            pub turn-second : Fits s mid count Θ (secondOf e) (stackOf (m .binders))
-            turn-second =
-                on-bind (said x) (betweenOf R (nodeOf e at .kind) node) (foundAt u (stackOf (m .binders))) (sym middle-said ∙ said-fine m w) λ a h k.
-                fits-at (ap (λ (z : ℕ). z + length (termBytes (firstOf e))) (sym next-is) ∙ sym (mid-is .0)) (sym count-is)
-                (fits-second s at node Θ st e F some-is _ inside two-is a (sym first-said ∙ h) _ k)
+    count-is : h .count ≡ node + 1 + nodes (firstOf e)
+    count-is = mid-is .1 ∙ ap (λ (z : ℕ). z + nodes (firstOf e)) (start-is o .1)
 
-            pub turn-two : (y c : Checked) → Says y (walk Θ (secondOf e) count (stackOf (m .binders))) (mid + length (termBytes (secondOf e))) (count + nodes (secondOf e))
-                → Follows y c (leaveTwo R (n .kind) (n .first) node u) → Done c
-            turn-two y c Y h = record {
-              answer =
-                  h .answer ∙ ap (λ (n : Node). said y >>= leaveTwo R (n .kind) (n .first) node u) node-is
-                  ∙ ap (λ (z : Answer Found). z >>= leaveTwo R (nodeOf e at .kind) (nodeOf e at .first) node u) (Y .answer ∙ ap (λ (z : ℕ). walk Θ (secondOf e) z (stackOf (m .binders))) count-is)
-                  ∙ sym (rest-two ∙ rw (said-fine m w) refl);
-              ends = ends-as (c .verdict) (omega (arith, mid-is .0, next-is, end-two at e some-is two-is .0)) (omega (arith, count-is, end-two at e some-is two-is .1)) (h .ends _ _ (Y .ends));
-            }
+    pub turn-falls-again : length s - h .start < length s - at
+    turn-falls-again = omega (arith, node-next s at (o .inside .place .here), start-is o .0, mid-is .0)
+
+    pub turn-second : Fits s (h .start) (h .count) Θ (secondOf e) (stackOf (h .middle .m .binders))
+    turn-second =
+        on-bind (said (h .middle .first .x)) (betweenOf (recIn s) (nodeOf e at .kind) node) (foundAt (h .u) (stackOf (h .middle .m .binders))) (sym (middle-said (h .middle)) ∙ said-fine (h .middle .m) (h .fine)) λ a g k.
+        fits-at (ap (λ (z : ℕ). z + length (termBytes (firstOf e))) (sym (next-is o)) ∙ sym (mid-is .0)) (sym count-is)
+        (fits-second s at node Θ st e (o .inside .place .fits) (some-is (o .inside)) _ (inside-is o) (two-is (h .middle)) a (sym (first-said (h .middle .first)) ∙ g) _ k)
+
+    pub turn-two : (y c : Checked) → Says y (walk Θ (secondOf e) (h .count) (stackOf (h .middle .m .binders))) (h .start + length (termBytes (secondOf e))) (h .count + nodes (secondOf e))
+        → Follows y c (leaveTwo (recIn s) (o .inside .place .n .kind) (o .inside .place .n .first) node (h .u)) → Done s at node st Θ e c
+    turn-two y c Y w =
+        let E = end-two at e (some-is (o .inside)) (two-is (h .middle)) in
+        record {
+          answer =
+              w .answer ∙ ap (λ (n : Node). said y >>= leaveTwo (recIn s) (n .kind) (n .first) node (h .u)) (node-is (o .inside .place))
+              ∙ ap (λ (z : Answer Found). z >>= leaveTwo (recIn s) (nodeOf e at .kind) (nodeOf e at .first) node (h .u)) (Y .answer ∙ ap (λ (z : ℕ). walk Θ (secondOf e) z (stackOf (h .middle .m .binders))) count-is)
+              ∙ sym (rest-two (h .middle) ∙ rw (said-fine (h .middle .m) (h .fine)) refl);
+          ends = ends-as (c .verdict) (omega (arith, mid-is .0, next-is o, E .0)) (omega (arith, count-is, E .1)) (w .ends _ _ (Y .ends));
+        }
