@@ -1,9 +1,9 @@
 -- What the contracts of the uses of a variable allow: one answer, and where a linear variable is taken, one stack. Assumes nothing.
-use Prim.Native.Nat.{ℕ, suc}
-use mathlib.Core.Path.{_≡_, refl, sym, ap, _∙_}
+use Prim.Native.Nat.{ℕ}
+use mathlib.Core.Path.{_≡_, sym, ap, _∙_}
 use native.Mathlib.Omega.{arith}
 use Rattle.calculus.specs.Answer.{Answer, good, refused}
-use Rattle.calculus.specs.Walk.{Stack, Found, found}
+use Rattle.calculus.specs.Walk.{Stack, Found}
 use Rattle.binders.specs.declared.Use.{Use}
 use Rattle.binders.specs.declared.Use.the-variants as use·
 use Rattle.binders.specs.declared.Taken.{Taken}

@@ -1,5 +1,5 @@
 -- Two answers that the contract of `part_at` allows are equal. Assumes nothing.
-use Prim.Native.Nat.{ℕ, zero, suc}
+use Prim.Native.Nat.{ℕ}
 use mathlib.Core.Path.{_≡_, refl, sym, ap, _∙_}
 use native.Mathlib.Omega.{arith}
 use Rattle.calculus.specs.Types.{size}

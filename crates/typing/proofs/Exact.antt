@@ -4,17 +4,16 @@ use mathlib.Core.Path.{_≡_, refl, sym, ap, ap₂, _∙_}
 use mathlib.Core.Logic.{_↔_}
 use mathlib.Core.List.{List, []}
 use native.Mathlib.Omega.{arith}
-use Rattle.calculus.specs.Answer.{Answer, good, refused, _>>=_}
-use Rattle.calculus.proofs.Answers.{on-bind, good-inj}
-use Rattle.calculus.specs.Types.{Ty, tree}
+use Rattle.calculus.specs.Answer.{good, _>>=_}
+use Rattle.calculus.proofs.Answers.{on-bind}
+use Rattle.calculus.specs.Types.{Ty}
 use Rattle.calculus.specs.Read.{Sheet, readSheet}
 use Rattle.calculus.specs.Rules.{Typed}
 use Rattle.calculus.specs.Walk.{Found, walk}
 use Rattle.sheet_theorems.proofs.Exact.{exact}
-use Rattle.typing.specs.declared.Refusal.{Refusal}
 use Rattle.typing.specs.declared.Typing.{Typing}
 use Rattle.typing.specs.declared.Typing.the-variants as typing
-use Rattle.typing.specs.Verdicts.{saidTyping, typeOf, checkOf}
+use Rattle.typing.specs.Verdicts.{saidTyping, checkOf}
 
 -- ---- two answers that the contract of `check` allows are equal
 

@@ -1,19 +1,19 @@
 -- What the walk may take for granted passes on to the subterms of a node. Assumes nothing.
-use Prim.Native.Nat.{ℕ, zero, suc, _+_, _*_, _≤_, _<_, max}
-use mathlib.Core.Path.{_≡_, refl, sym, ap, subst, subst⁻¹, _∙_}
+use Prim.Native.Nat.{ℕ, suc, _+_, _≤_, _<_}
+use mathlib.Core.Path.{_≡_, refl, sym, ap, subst}
 use mathlib.Core.Bool.{Bool, true, false, cond}
-use mathlib.Core.List.{List, [], _∷_, _++_}
+use mathlib.Core.List.{List, _∷_, _++_}
 use native.Mathlib.Omega.{arith}
 use native.Mathlib.Nat.{le-max-left, le-max-right}
 use lib.Dec.{eqb, leb}
-use lib.ListN.{length, drop, length-append}
-use Rattle.calculus.specs.Answer.{Answer, good, refused, _>>=_, need}
+use lib.ListN.{length, length-append}
+use Rattle.calculus.specs.Answer.{good, _>>=_, need}
 use Rattle.calculus.proofs.Answers.{refused≢good, good-inj, on-need}
-use Rattle.calculus.specs.Types.{TyRec, Table, recAt}
+use Rattle.calculus.specs.Types.{TyRec, Table}
 use Rattle.calculus.specs.Terms.{Term, var, lvar, fun, app, lfun, lapp, pair, proj, fix, con, nodes}
 use Rattle.calculus.specs.Write.{termBytes}
-use Rattle.calculus.specs.Laid.{TableOk, Ranged, Stands, depth}
-use Rattle.calculus.specs.Walk.{shared, linear, Stack, Found, found, walk}
+use Rattle.calculus.specs.Laid.{Ranged, Stands, depth}
+use Rattle.calculus.specs.Walk.{shared, Stack, Found, found, walk}
 use Rattle.laws.proofs.Tests.{on-cond}
 use Rattle.records.specs.Forms.{recIn}
 use Rattle.records.specs.Heads.{nodeOf}
@@ -21,7 +21,7 @@ use Rattle.sheet_theorems.proofs.Standing.{fun-body, app-function, app-argument
 use Rattle.sheet_theorems.proofs.Complete.{Numbers}
 use Rattle.typing.specs.declared.Opening.{Opening}
 use Rattle.typing.specs.declared.Opening.the-variants as opening
-use Rattle.typing.specs.Steps.{Types, kindNo, leftOf, rightOf, whereKind, openingOf, opened, enterOf, betweenOf}
+use Rattle.typing.specs.Steps.{kindNo, leftOf, rightOf, openingOf, opened, enterOf, betweenOf}
 use Rattle.typing.specs.Fits.{Fits}
 use Rattle.typing.proofs.Ranges.{left-in, right-in, Kept, kept}
 use Rattle.typing.proofs.WalkLaws.{firstOf, secondOf}

@@ -1,20 +1,20 @@
 -- The type records of a read sheet are its table's, and the walk keeps to the table and to the binders. Assumes nothing.
-use Prim.Native.Nat.{ℕ, zero, suc, _+_, _*_, _≤_, _<_}
-use mathlib.Core.Path.{_≡_, refl, sym, ap, ap₂, subst, _∙_}
-use mathlib.Core.Bool.{Bool, true, false, _&&_}
+use Prim.Native.Nat.{ℕ, zero, suc, _+_, _*_, _<_}
+use mathlib.Core.Path.{_≡_, refl, sym, ap, _∙_}
+use mathlib.Core.Bool.{Bool}
 use mathlib.Core.List.{List, [], _∷_, _++_}
 use native.Mathlib.Omega.{arith}
-use lib.Dec.{T, eqb, leb}
-use lib.ListN.{length, getD, drop}
-use Rattle.calculus.specs.Answer.{Answer, good}
+use lib.Dec.{eqb, leb}
+use lib.ListN.{length, drop}
+use Rattle.calculus.specs.Answer.{good}
 use Rattle.calculus.proofs.Answers.{good-inj}
 use Rattle.calculus.specs.Types.{Ty, bit, prod, arrow, lolli, sharable, tyEq, TyRec, rec01, rec02, rec03, rec04, Table, recAt, tree}
 use Rattle.calculus.specs.Terms.{Term}
 use Rattle.calculus.specs.Read.{Sheet}
-use Rattle.calculus.specs.Write.{recBytes, tableBytes, termBytes, sheetBytes}
+use Rattle.calculus.specs.Write.{tableBytes, termBytes, sheetBytes}
 use Rattle.calculus.specs.Laid.{Agrees, Below, TableOk, Ranged, Laid}
 use Rattle.calculus.specs.Rules.{Ctx}
-use Rattle.calculus.specs.Walk.{shared, linear, Stack, Found, found, walk}
+use Rattle.calculus.specs.Walk.{Stack, Found, walk}
 use Rattle.laws.proofs.Tests.{T-is}
 use Rattle.records.specs.Forms.{recOf, recFrom, recIn}
 use Rattle.records.proofs.FormLaws.{rec-long}

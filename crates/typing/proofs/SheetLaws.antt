@@ -1,20 +1,16 @@
 -- The walk over a whole sheet: it starts from what the reader guarantees, and its answer is the sheet's. Assumes nothing.
-use Prim.Native.Nat.{ℕ, _+_, _≤_}
-use mathlib.Core.Path.{_≡_, refl, sym, ap, subst⁻¹, _∙_}
+use Prim.Native.Nat.{ℕ}
+use mathlib.Core.Path.{_≡_, ap, _∙_}
 use mathlib.Core.List.{List, []}
 use native.Mathlib.Omega.{arith}
-use lib.ListN.{length}
-use Rattle.calculus.specs.Answer.{Answer, good, refused, _>>=_}
-use Rattle.calculus.specs.Read.{Sheet, readSheet}
-use Rattle.calculus.specs.Write.{tableBytes}
-use Rattle.calculus.specs.Walk.{Stack, Found, found, walk}
+use Rattle.calculus.specs.Answer.{good, refused}
+use Rattle.calculus.specs.Walk.{Stack, walk}
 use Rattle.sheet_theorems.proofs.Laying.{laid}
 use Rattle.sheet_theorems.proofs.Standing.{sheet-stands}
-use Rattle.typing.specs.declared.Verdict.{Verdict}
 use Rattle.typing.specs.declared.Verdict.the-variants as verdict
 use Rattle.typing.specs.declared.Refusal.{Refusal}
 use Rattle.typing.specs.declared.Checked.{Checked}
-use Rattle.typing.specs.Verdicts.{said, Says, typeOf, checkOf}
+use Rattle.typing.specs.Verdicts.{said, checkOf}
 use Rattle.typing.specs.Fits.{Fits, Walked, Read}
 use Rattle.typing.proofs.VerdictLaws.{said-fine, said-refused}
 use Rattle.typing.proofs.Ranges.{sheet-types}

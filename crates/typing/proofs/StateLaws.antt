@@ -1,19 +1,18 @@
 -- Laws of the steps of the walk that change the binders, by what the code has tested. Assumes nothing.
 use Prim.Native.Nat.{ℕ}
-use mathlib.Core.Path.{_≡_, refl, sym, ap, _∙_}
+use mathlib.Core.Path.{_≡_}
 use mathlib.Core.Bool.{Bool, true, false}
-use mathlib.Core.List.{List, [], _∷_}
+use mathlib.Core.List.{_∷_}
 use borrow.Author.Tests.{eq-eqb, ne-eqb}
 use lib.ListN.{drop}
-use Rattle.calculus.specs.Answer.{Answer, good, refused}
-use Rattle.calculus.specs.Types.{TyRec}
-use Rattle.calculus.specs.Walk.{shared, linear, Stack, Found, found, useShared, useLinear}
+use Rattle.calculus.specs.Answer.{refused}
+use Rattle.calculus.specs.Walk.{shared, linear, Stack, found, useShared, useLinear}
 use Rattle.typing.specs.declared.Sided.{Sided}
 use Rattle.typing.specs.declared.Opening.{Opening}
 use Rattle.typing.specs.declared.Opening.the-variants as opening
 use Rattle.typing.specs.declared.Fit.{Fit}
 use Rattle.typing.specs.declared.Fit.the-variants as fit
-use Rattle.typing.specs.Steps.{Types, sidedOf, constantOf, leafOf, openingOf, opened, enterOf, wantedOf, usedUp, leaveOne, betweenOf, joinedOf, closesOf, leaveTwo}
+use Rattle.typing.specs.Steps.{Types, sidedOf, constantOf, leafOf, openingOf, enterOf, wantedOf, usedUp, leaveOne, betweenOf, joinedOf, closesOf, leaveTwo}
 use Rattle.typing.proofs.StepLaws.{kind-is, left-is, right-is}
 use Rattle.typing.proofs.VerdictLaws.{foundAt}
 

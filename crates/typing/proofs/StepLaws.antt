@@ -1,23 +1,21 @@
 -- Laws of the steps of the walk, by what the code has tested: types and their forms. Assumes nothing.
-use Prim.Native.Nat.{ℕ, _≤_, _<_, _+_}
-use mathlib.Core.Path.{_≡_, refl, sym, ap, _∙_}
-use mathlib.Core.Bool.{Bool, true, false, not, _&&_, cond}
+use Prim.Native.Nat.{ℕ, _≤_, _<_}
+use mathlib.Core.Path.{_≡_, refl, sym, ap}
+use mathlib.Core.Bool.{Bool, true, false, not, cond}
 use native.Mathlib.Omega.{arith}
 use borrow.Author.Tests.{eq-eqb, ne-eqb, le-leb, lt-leb}
 use lib.Dec.{eqb, ltb}
 use lib.ListN.{length}
-use Rattle.calculus.specs.Answer.{Answer, good, refused, need}
-use Rattle.calculus.specs.Types.{Ty, bit, arrow, TyRec}
+use Rattle.calculus.specs.Answer.{refused}
+use Rattle.calculus.specs.Types.{TyRec}
 use Rattle.calculus.specs.Terms.{parts, partAt}
-use Rattle.calculus.specs.Walk.{Stack, Found, found, topUsed}
-use Rattle.parts.specs.Table.{Lookup, Entry, listed, unlisted, saidPart, entryOf, named, shapeTy}
+use Rattle.calculus.specs.Walk.{Stack, found, topUsed}
+use Rattle.parts.specs.Table.{Entry, listed, unlisted, saidPart, entryOf, named, shapeTy}
 use Rattle.parts.specs.declared.Part.{Part}
 use Rattle.typing.specs.declared.Sided.{Sided}
-use Rattle.typing.specs.declared.Opening.{Opening}
 use Rattle.typing.specs.declared.Opening.the-variants as opening
-use Rattle.typing.specs.declared.Fit.{Fit}
 use Rattle.typing.specs.declared.Fit.the-variants as fit
-use Rattle.typing.specs.Steps.{Types, kindNo, leftOf, rightOf, sidedOf, bothSides, standsFor, constantOf, openingOf, opened, wantedOf, usedUp, appliedOf, pairedOf, joinedOf, closesOf}
+use Rattle.typing.specs.Steps.{Types, kindNo, leftOf, rightOf, sidedOf, bothSides, standsFor, constantOf, openingOf, wantedOf, usedUp, appliedOf, pairedOf, joinedOf, closesOf}
 
 -- ---- a test that the code turns round
 

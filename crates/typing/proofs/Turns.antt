@@ -1,17 +1,17 @@
 -- The walk's turns at one node: what each call may take for granted, and what each way out says. Assumes nothing.
-use Prim.Native.Nat.{ℕ, _+_, _-_, _*_, _≤_, _<_}
+use Prim.Native.Nat.{ℕ, _+_, _-_, _≤_, _<_}
 use mathlib.Core.Path.{_≡_, refl, sym, ap, subst, _∙_}
 use mathlib.Core.Logic.{⊎-elim}
 use mathlib.Core.List.{List, [], _∷_}
 use native.Mathlib.Omega.{arith}
 use lib.ListN.{length}
-use Rattle.calculus.specs.Answer.{Answer, good, refused, _>>=_}
+use Rattle.calculus.specs.Answer.{Answer, good, _>>=_}
 use Rattle.calculus.proofs.Answers.{on-bind}
 use Rattle.calculus.specs.Types.{Table}
 use Rattle.calculus.specs.Terms.{Term, nodes}
 use Rattle.calculus.specs.Write.{termBytes}
 use Rattle.calculus.specs.Laid.{Stands}
-use Rattle.calculus.specs.Walk.{Stack, Found, found, walk}
+use Rattle.calculus.specs.Walk.{Stack, Found, walk}
 use Rattle.records.specs.Record.{recordAt}
 use Rattle.records.specs.Forms.{recIn}
 use Rattle.records.specs.Heads.{nodeOf}
@@ -28,7 +28,7 @@ use Rattle.typing.specs.declared.Verdict.{Verdict}
 use Rattle.typing.specs.declared.Verdict.the-variants as verdict
 use Rattle.typing.specs.declared.Refusal.{Refusal}
 use Rattle.typing.specs.declared.Checked.{Checked}
-use Rattle.typing.specs.Steps.{Types, leafOf, enterOf, leaveOne, betweenOf, leaveTwo}
+use Rattle.typing.specs.Steps.{leafOf, enterOf, leaveOne, betweenOf, leaveTwo}
 use Rattle.typing.specs.Verdicts.{said, EndsAt, Says, Follows}
 use Rattle.typing.specs.Fits.{Fits, Holds, HoldsIn}
 use Rattle.typing.proofs.VerdictLaws.{foundAt, said-fine, stops, refused-ends}

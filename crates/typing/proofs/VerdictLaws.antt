@@ -1,17 +1,14 @@
 -- Laws of verdicts: what a step says that is fine, that refuses, or that passes a refusal on. Assumes nothing.
-use Prim.Native.Nat.{ℕ, _+_, _≤_}
-use mathlib.Core.Path.{_≡_, refl, sym, ap, subst, subst⁻¹, _∙_}
-use mathlib.Core.List.{List, []}
-use lib.ListN.{length}
-use Rattle.calculus.specs.Answer.{Answer, good, refused, _>>=_}
+use Prim.Native.Nat.{ℕ}
+use mathlib.Core.Path.{_≡_, refl, sym, subst⁻¹, _∙_}
+use Rattle.calculus.specs.Answer.{Answer, refused, _>>=_}
 use Rattle.calculus.specs.Walk.{Stack, Found, found}
 use Rattle.binders.specs.Stacks.{stackOf}
 use Rattle.binders.specs.declared.Binders.{Binders}
-use Rattle.typing.specs.declared.Verdict.{Verdict}
 use Rattle.typing.specs.declared.Verdict.the-variants as verdict
 use Rattle.typing.specs.declared.Refusal.{Refusal}
 use Rattle.typing.specs.declared.Checked.{Checked}
-use Rattle.typing.specs.Verdicts.{saidVerdict, said, stoppedOf, fineOf, EndsAt, Says, Follows}
+use Rattle.typing.specs.Verdicts.{said, stoppedOf, fineOf, EndsAt, Says, Follows}
 
 -- a type and a stack
 abbrev pub foundAt : ℕ → Stack → Found

@@ -1,8 +1,8 @@
 -- The walk at one node, in the steps of the code. Assumes nothing.
-use Prim.Native.Nat.{ℕ, zero, suc, _+_, _*_, _≤_, _<_, max}
-use mathlib.Core.Path.{_≡_, refl, sym, ap, subst, subst⁻¹, _∙_}
+use Prim.Native.Nat.{ℕ, _+_, _<_}
+use mathlib.Core.Path.{_≡_, refl, sym}
 use mathlib.Core.Bool.{Bool, true, false, cond}
-use mathlib.Core.List.{List, [], _∷_}
+use mathlib.Core.List.{[], _∷_}
 use native.Mathlib.Omega.{arith}
 use lib.Dec.{eqb, leb}
 use lib.ListN.{length, drop}
@@ -10,14 +10,12 @@ use Rattle.calculus.specs.Answer.{Answer, good, refused, _>>=_, need}
 use Rattle.calculus.specs.Types.{TyRec, rec01, rec02, rec03, rec04, Table, recAt}
 use Rattle.calculus.specs.Terms.{Term, var, lvar, fun, app, lfun, lapp, pair, proj, fix, con, nodes, partAt}
 use Rattle.calculus.specs.Laid.{TableOk, Ranged}
-use Rattle.calculus.specs.Walk.{shared, linear, Stack, Sides, sides, product, sharableArrow, linearArrow, Found, found, pop, topUsed, walk}
+use Rattle.calculus.specs.Walk.{shared, linear, Stack, product, sharableArrow, linearArrow, Found, found, pop, topUsed, walk}
 use Rattle.records.specs.Heads.{nodeOf}
 use Rattle.sheet_theorems.proofs.Complete.{Numbers}
-use Rattle.typing.specs.declared.Opening.{Opening}
-use Rattle.typing.specs.declared.Opening.the-variants as opening
 use Rattle.typing.specs.declared.Fit.the-variants as fit
-use Rattle.typing.specs.Steps.{Types, kindNo, leftOf, rightOf, constantOf, leafOf, whereKind, openingOf, opened, enterOf, wantedOf, usedUp, leaveOne, betweenOf, appliedOf, pairedOf, joinedOf, closesOf, fitted, leaveTwo}
-use Rattle.typing.proofs.Ranges.{sharable-is, stands-for, Kept, kept}
+use Rattle.typing.specs.Steps.{Types, kindNo, constantOf, leafOf, openingOf, opened, enterOf, wantedOf, usedUp, leaveOne, betweenOf, appliedOf, pairedOf, joinedOf, closesOf, fitted, leaveTwo}
+use Rattle.typing.proofs.Ranges.{sharable-is, stands-for, kept}
 
 -- ---- answers
 

@@ -1,9 +1,9 @@
 -- What the walk may take for granted at an offset of a sheet that has been read. Assumes nothing.
 use Prim.Native.Nat.{ℕ, _+_, _*_, _≤_, _<_}
 use mathlib.Core.Path.{_≡_}
-use mathlib.Core.List.{List, []}
+use mathlib.Core.List.{List}
 use lib.ListN.{length}
-use Rattle.calculus.specs.Answer.{Answer, good, refused, _>>=_}
+use Rattle.calculus.specs.Answer.{Answer, good}
 use Rattle.calculus.specs.Types.{Table, recAt}
 use Rattle.calculus.specs.Terms.{Term, nodes}
 use Rattle.calculus.specs.Read.{Sheet, readSheet}

@@ -1,14 +1,14 @@
 -- The typing walk in the steps of the code, over the sheet's own type records: leaves, entering, between two subterms, leaving.
 -- Assumes nothing.
-use Prim.Native.Nat.{ℕ, zero, suc, _+_}
+use Prim.Native.Nat.{ℕ}
 use mathlib.Core.Bool.{Bool, true, false, _&&_, cond}
-use mathlib.Core.List.{List, [], _∷_}
+use mathlib.Core.List.{_∷_}
 use lib.Dec.{leb, ltb, eqb}
 use lib.ListN.{length, drop}
 use Rattle.calculus.specs.Answer.{Answer, good, refused, _>>=_, need}
 use Rattle.calculus.specs.Types.{Ty, bit, prod, arrow, lolli, TyRec, rec01, rec02, rec03, rec04}
 use Rattle.calculus.specs.Terms.{parts, partAt}
-use Rattle.calculus.specs.Walk.{Binder, shared, linear, Stack, Found, found, useShared, useLinear, topUsed}
+use Rattle.calculus.specs.Walk.{shared, linear, Stack, Found, found, useShared, useLinear, topUsed}
 use Rattle.typing.specs.declared.Sided.{Sided}
 use Rattle.typing.specs.declared.Opening.{Opening}
 use Rattle.typing.specs.declared.Opening.the-variants as opening

@@ -3,12 +3,9 @@ use Prim.Native.Nat.{ℕ}
 use mathlib.Core.Path.{_≡_, refl, sym, ap, _∙_}
 use mathlib.Core.List.{List}
 use native.Mathlib.Omega.{arith}
-use lib.ListN.{length}
 use Rattle.calculus.specs.Answer.{Answer, good, refused}
 use Rattle.calculus.proofs.Answers.{good-inj}
 use Rattle.calculus.specs.Read.{Sheet, readSheet}
-use Rattle.calculus.specs.Write.{tableBytes}
-use Rattle.sheet.specs.declared.Verdict.{Verdict}
 use Rattle.sheet.specs.declared.Verdict.the-variants as verdict
 use Rattle.sheet.specs.declared.Reading.{Reading}
 use Rattle.sheet.specs.Said.{Counts, ReadSaid, saidVerdict, saidReading, readingOf}

@@ -3,23 +3,16 @@ use Rattle.typing.proofs.StepLaws.{applied-kind, applied-left, applied-
 use borrow.Author.Needs.{needs}
 use Rattle.typing.proofs.applied.Statement.{statement}
 use Rattle.typing.proofs.applied.Tie as tie
-use Rattle.typing.proofs.applied.Reads as reads
-use Rattle.typing.proofs.applied.Lts as lts
-use Rattle.typing.proofs.sides_of.Reads as sides-of-reads
 
--- src/lib.rt:296:9
 sides-of-requires : tie.Need-sides-of-requires
 sides-of-requires c κs = search needs
 
--- src/lib.rt:298:9
 returns : tie.Need-returns
 returns c = applied-kind _ (c .before .before .sides-of .ensures) _ _ (c .if1 .taken)
 
--- src/lib.rt:301:9
 returns-2 : tie.Need-returns-2
 returns-2 c = applied-left _ (c .before .before .before .before .sides-of .ensures) _ _ (c .before .before .if1 .left) (c .if2 .taken)
 
--- src/lib.rt:293:1
 returns-3 : tie.Need-returns-3
 returns-3 c = applied-fits _ (c .before .before .before .before .sides-of .ensures) _ _ (c .before .before .if1 .left) (c .if2 .left)
 

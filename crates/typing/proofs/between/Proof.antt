@@ -1,5 +1,5 @@
 -- `typing::between` meets its contract: by the kind of the node and the form of the first type. Assumes nothing.
-use mathlib.Core.Path.{_≡_, refl, sym, ap, _∙_}
+use mathlib.Core.Path.{_≡_, ap}
 use native.Mathlib.Omega.{arith}
 use Prim.Native.Nat.{_≤_, suc}
 use lib.ListN.{length}
@@ -11,61 +11,44 @@ use Rattle.typing.proofs.StateLaws.{between-other, between-misfit, betw
 use borrow.Author.Needs.{needs}
 use Rattle.typing.proofs.between.Statement.{statement}
 use Rattle.typing.proofs.between.Tie as tie
-use Rattle.typing.proofs.between.Reads as reads
-use Rattle.typing.proofs.between.Lts as lts
-use Rattle.binders.proofs.push.Reads as push-reads
-use Rattle.typing.proofs.fine.Reads as fine-reads
-use Rattle.typing.proofs.sides_of.Reads as sides-of-reads
-use Rattle.typing.proofs.stopped.Reads as stopped-reads
 
--- src/lib.rt:270:25
 enum-known-v : tie.Need-enum-known-v
 enum-known-v c = search needs
 
--- src/lib.rt:271:9
 enum-told : tie.Need-enum-told
 enum-told c = search needs
 
--- src/lib.rt:271:9
 returns : tie.Need-returns
 returns c = follows-refused _ _ (c .enum-told .given .1)
 
--- src/lib.rt:274:9
 returns-2 : tie.Need-returns-2
 returns-2 c = follows-same (c .before .before .before .before .before .args .first) _ (c .before .before .v .given .1) (between-other (recIn (c .before .before .before .before .before .args .s .now)) _ _ _ _ (c .if1 .taken))
 
--- src/lib.rt:276:9
 sides-of-requires : tie.Need-sides-of-requires
 sides-of-requires c κs = search needs
 
--- src/lib.rt:278:9
 stopped-requires : tie.Need-stopped-requires
 stopped-requires c κs = search needs
 
--- src/lib.rt:278:9
 returns-3 : tie.Need-returns-3
 returns-3 c =
     let a = c .before .before .before .before .before .before .before .before .before .args in
     follows-stopped (a .first) _ (c .before .before .before .before .before .before .v .given .1) _ _ _ (c .stopped .ensures) (between-misfit (recIn (a .s .now)) _ _ _ _ (c .before .before .before .before .if1 .left) (c .before .before .before .sides-of .ensures) (c .before .if2 .taken))
 
--- src/lib.rt:280:9
 push-requires : tie.Need-push-requires
 push-requires c κs =
     let h : c .before .before .before .before .before .before .before .before .args .first .binders .count ≤ 126 = rw (c .before .before .before .before .before .v .given .1) at (c .before .before .before .before .before .before .before .before .pre) in
     omega arith
 
--- src/lib.rt:281:27
 push-requires-2 : tie.Need-push-requires-2
 push-requires-2 c κs =
     let h : c .before .before .before .before .before .before .before .before .before .args .first .binders .count ≤ 126 = rw (c .before .before .before .before .before .before .v .given .1) at (c .before .before .before .before .before .before .before .before .before .pre) in
     let l : length (stackOf (c .push .result)) ≡ suc (length (stackOf (c .before .before .before .before .before .before .before .before .before .args .first .binders))) = ap length (c .push .ensures) in
     omega (arith, length-of (c .push .result), length-of (c .before .before .before .before .before .before .before .before .before .args .first .binders))
 
--- src/lib.rt:281:5
 fine-requires : tie.Need-fine-requires
 fine-requires c κs = search needs
 
--- src/lib.rt:265:1
 returns-4 : tie.Need-returns-4
 returns-4 c =
     let a = c .before .before .before .before .before .before .before .before .before .before .before .args in

@@ -3,32 +3,22 @@ use Rattle.typing.proofs.SheetLaws.{sheet-fits, check-fine, check-refus
 use borrow.Author.Needs.{needs}
 use Rattle.typing.proofs.check.Statement.{statement}
 use Rattle.typing.proofs.check.Tie as tie
-use Rattle.typing.proofs.check.Reads as reads
-use Rattle.typing.proofs.check.Lts as lts
-use Rattle.binders.proofs.none.Reads as none-reads
-use Rattle.typing.proofs.walk.Reads as walk-reads
 
--- src/lib.rt:398:9
 none-requires : tie.Need-none-requires
 none-requires c κs = search needs
 
--- src/lib.rt:399:9
 walk-requires : tie.Need-walk-requires
 walk-requires c κs = record { table = c .before .before .pre .sheet .table; term = c .before .before .pre .sheet .term; fits = sheet-fits (c .before .before .pre) (c .none .ensures) }
 
--- src/lib.rt:403:13
 enum-known-v : tie.Need-enum-known-v
 enum-known-v c = search needs
 
--- src/lib.rt:407:26
 enum-known-v-2 : tie.Need-enum-known-v-2
 enum-known-v-2 c = search needs
 
--- src/lib.rt:394:1
 returns : tie.Need-returns
 returns c = check-fine (c .before .before .before .before .before .before .pre) (c .before .before .before .before .none .ensures) (c .before .before .before .walk .result) (c .before .before .before .walk .ensures) (c .before .v .given .1)
 
--- src/lib.rt:394:1
 returns-2 : tie.Need-returns-2
 returns-2 c = check-refused (c .before .before .before .before .before .before .pre) (c .before .before .before .before .none .ensures) (c .before .before .before .walk .result) (c .before .before .before .walk .ensures) (c .before .v2 .given .1)
 

@@ -1,43 +1,32 @@
 -- `typing::constant` meets its contract: by the table of parts, then by the shape of the type. Assumes nothing.
-use mathlib.Core.Path.{_≡_, refl, sym, ap, _∙_}
+use mathlib.Core.Path.{sym, _∙_}
 use Rattle.records.specs.Forms.{recIn}
 use Rattle.parts.proofs.Rule.{few-arrows}
 use Rattle.typing.proofs.StepLaws.{constant-unknown, constant-misfit, constant-fits, shape-is}
 use borrow.Author.Needs.{needs}
 use Rattle.typing.proofs.constant.Statement.{statement}
 use Rattle.typing.proofs.constant.Tie as tie
-use Rattle.typing.proofs.constant.Reads as reads
-use Rattle.typing.proofs.constant.Lts as lts
-use Rattle.parts.proofs.part_at.Reads as part-at-reads
-use Rattle.typing.proofs.has_shape.Reads as has-shape-reads
 
--- src/lib.rt:130:11
 part-at-requires : tie.Need-part-at-requires
 part-at-requires c κs = search needs
 
--- src/lib.rt:131:27
 enum-told : tie.Need-enum-told
 enum-told c = search needs
 
--- src/lib.rt:132:21
 enum-known-part : tie.Need-enum-known-part
 enum-known-part c = search needs
 
--- src/lib.rt:133:16
 has-shape-requires : tie.Need-has-shape-requires
 has-shape-requires c κs =
     let q = c .before .part .given .0 .0 in
     few-arrows (c .before .before .before .before .before .args .p) (q .shape) (shape-is (c .before .before .before .before .before .args .p) q (rw (c .before .part .given .1) at (c .before .before .before .part-at .ensures)))
 
--- src/lib.rt:127:1
 returns : tie.Need-returns
 returns c n st = constant-unknown (recIn (c .before .before .before .before .args .s .now)) (c .before .before .before .before .args .p) (c .before .before .before .before .args .t) n st (rw (c .enum-told .given .1) at (c .before .before .part-at .ensures))
 
--- src/lib.rt:127:1
 returns-2 : tie.Need-returns-2
 returns-2 c n st = constant-fits (recIn (c .before .before .before .before .before .before .before .args .s .now)) (c .before .before .before .before .before .before .before .args .p) (c .before .before .before .before .before .before .before .args .t) n st (c .before .before .before .part .given .0 .0) (rw (c .before .before .before .part .given .1) at (c .before .before .before .before .before .part-at .ensures)) (sym (c .before .has-shape .ensures) ∙ c .if1 .taken)
 
--- src/lib.rt:127:1
 returns-3 : tie.Need-returns-3
 returns-3 c n st = constant-misfit (recIn (c .before .before .before .before .before .before .before .args .s .now)) (c .before .before .before .before .before .before .before .args .p) (c .before .before .before .before .before .before .before .args .t) n st (c .before .before .before .part .given .0 .0) (rw (c .before .before .before .part .given .1) at (c .before .before .before .before .before .part-at .ensures)) (sym (c .before .has-shape .ensures) ∙ c .if1 .left)
 

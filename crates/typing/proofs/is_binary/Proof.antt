@@ -1,5 +1,5 @@
 -- `typing::is_binary` meets its contract: by the kind of the record and its two sides. Assumes nothing.
-use mathlib.Core.Path.{_≡_, refl, sym, ap, _∙_}
+use mathlib.Core.Path.{sym, _∙_}
 use Rattle.calculus.specs.Types.{bit}
 use Rattle.parts.specs.Table.{shapeTy}
 use Rattle.records.specs.Forms.{recIn}
@@ -8,35 +8,24 @@ use Rattle.typing.proofs.StepLaws.{not-so, so, both-kind, both-left, bo
 use borrow.Author.Needs.{needs}
 use Rattle.typing.proofs.is_binary.Statement.{statement}
 use Rattle.typing.proofs.is_binary.Tie as tie
-use Rattle.typing.proofs.is_binary.Reads as reads
-use Rattle.typing.proofs.is_binary.Lts as lts
-use Rattle.typing.proofs.is_bit.Reads as is-bit-reads
-use Rattle.typing.proofs.is_unary.Reads as is-unary-reads
-use Rattle.typing.proofs.sides_of.Reads as sides-of-reads
 
--- src/lib.rt:117:9
 sides-of-requires : tie.Need-sides-of-requires
 sides-of-requires c κs = search needs
 
--- src/lib.rt:119:9
 returns : tie.Need-returns
 unfolding standsFor
 returns c = both-kind _ (c .before .before .sides-of .ensures) 3 (standsFor (recIn (c .before .before .before .before .args .s .now)) bit) (standsFor (recIn (c .before .before .before .before .args .s .now)) (shapeTy 1)) (c .if1 .taken)
 
--- src/lib.rt:121:9
 is-bit-requires : tie.Need-is-bit-requires
 is-bit-requires c κs = search needs
 
--- src/lib.rt:122:9
 returns-2 : tie.Need-returns-2
 unfolding standsFor
 returns-2 c = both-left _ (c .before .before .before .before .sides-of .ensures) 3 (standsFor (recIn (c .before .before .before .before .before .before .args .s .now)) bit) (standsFor (recIn (c .before .before .before .before .before .before .args .s .now)) (shapeTy 1)) (c .before .before .if1 .left) (sym (c .before .is-bit .ensures) ∙ not-so (c .before .is-bit .result) (c .if2 .taken))
 
--- src/lib.rt:124:5
 is-unary-requires : tie.Need-is-unary-requires
 is-unary-requires c κs = search needs
 
--- src/lib.rt:114:1
 returns-3 : tie.Need-returns-3
 unfolding standsFor
 returns-3 c = c .is-unary .ensures ∙ both-right _ (c .before .before .before .before .before .sides-of .ensures) 3 (standsFor (recIn (c .before .before .before .before .before .before .before .args .s .now)) bit) (standsFor (recIn (c .before .before .before .before .before .before .before .args .s .now)) (shapeTy 1)) (c .before .before .before .if1 .left) (sym (c .before .before .is-bit .ensures) ∙ so (c .before .before .is-bit .result) (c .before .if2 .left))

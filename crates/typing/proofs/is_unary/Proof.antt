@@ -1,41 +1,30 @@
 -- `typing::is_unary` meets its contract: by the kind of the record and its two sides. Assumes nothing.
-use mathlib.Core.Path.{_≡_, refl, sym, ap, _∙_}
+use mathlib.Core.Path.{sym, _∙_}
 use Rattle.calculus.specs.Types.{bit}
-use Rattle.parts.specs.Table.{shapeTy}
 use Rattle.records.specs.Forms.{recIn}
 use Rattle.typing.specs.Steps.{standsFor}
 use Rattle.typing.proofs.StepLaws.{not-so, so, both-kind, both-left, both-right}
 use borrow.Author.Needs.{needs}
 use Rattle.typing.proofs.is_unary.Statement.{statement}
 use Rattle.typing.proofs.is_unary.Tie as tie
-use Rattle.typing.proofs.is_unary.Reads as reads
-use Rattle.typing.proofs.is_unary.Lts as lts
-use Rattle.typing.proofs.is_bit.Reads as is-bit-reads
-use Rattle.typing.proofs.sides_of.Reads as sides-of-reads
 
--- src/lib.rt:103:9
 sides-of-requires : tie.Need-sides-of-requires
 sides-of-requires c κs = search needs
 
--- src/lib.rt:105:9
 returns : tie.Need-returns
 unfolding standsFor
 returns c = both-kind _ (c .before .before .sides-of .ensures) 3 (standsFor (recIn (c .before .before .before .before .args .s .now)) bit) (standsFor (recIn (c .before .before .before .before .args .s .now)) bit) (c .if1 .taken)
 
--- src/lib.rt:107:9
 is-bit-requires : tie.Need-is-bit-requires
 is-bit-requires c κs = search needs
 
--- src/lib.rt:108:9
 returns-2 : tie.Need-returns-2
 unfolding standsFor
 returns-2 c = both-left _ (c .before .before .before .before .sides-of .ensures) 3 (standsFor (recIn (c .before .before .before .before .before .before .args .s .now)) bit) (standsFor (recIn (c .before .before .before .before .before .before .args .s .now)) bit) (c .before .before .if1 .left) (sym (c .before .is-bit .ensures) ∙ not-so (c .before .is-bit .result) (c .if2 .taken))
 
--- src/lib.rt:110:5
 is-bit-requires-2 : tie.Need-is-bit-requires-2
 is-bit-requires-2 c κs = search needs
 
--- src/lib.rt:100:1
 returns-3 : tie.Need-returns-3
 unfolding standsFor
 returns-3 c = c .is-bit2 .ensures ∙ both-right _ (c .before .before .before .before .before .sides-of .ensures) 3 (standsFor (recIn (c .before .before .before .before .before .before .before .args .s .now)) bit) (standsFor (recIn (c .before .before .before .before .before .before .before .args .s .now)) bit) (c .before .before .before .if1 .left) (sym (c .before .before .is-bit .ensures) ∙ so (c .before .before .is-bit .result) (c .before .if2 .left))

@@ -1,40 +1,29 @@
 -- `typing::joined` meets its contract: by the kind of the node. Assumes nothing.
-use mathlib.Core.Path.{_≡_, refl, sym, ap, _∙_}
+use mathlib.Core.Path.{_∙_}
 use Rattle.records.specs.Forms.{recIn}
 use Rattle.typing.proofs.StepLaws.{join-app, join-lapp, join-pair, join-last}
 use borrow.Author.Needs.{needs}
 use Rattle.typing.proofs.joined.Statement.{statement}
 use Rattle.typing.proofs.joined.Tie as tie
-use Rattle.typing.proofs.joined.Reads as reads
-use Rattle.typing.proofs.joined.Lts as lts
-use Rattle.typing.proofs.applied.Reads as applied-reads
-use Rattle.typing.proofs.paired.Reads as paired-reads
 
--- src/lib.rt:325:17
 applied-requires : tie.Need-applied-requires
 applied-requires c κs = search needs
 
--- src/lib.rt:326:17
 applied-requires-2 : tie.Need-applied-requires-2
 applied-requires-2 c κs = search needs
 
--- src/lib.rt:327:17
 paired-requires : tie.Need-paired-requires
 paired-requires c κs = search needs
 
--- src/lib.rt:321:1
 returns : tie.Need-returns
 returns c = c .applied .ensures ∙ join-app (recIn (c .before .before .before .args .s .now)) _ _ _ _ (c .before .match .keys1)
 
--- src/lib.rt:321:1
 returns-2 : tie.Need-returns-2
 returns-2 c = c .applied2 .ensures ∙ join-lapp (recIn (c .before .before .before .args .s .now)) _ _ _ _ (c .before .match .keys2)
 
--- src/lib.rt:321:1
 returns-3 : tie.Need-returns-3
 returns-3 c = c .paired .ensures ∙ join-pair (recIn (c .before .before .before .args .s .now)) _ _ _ _ (c .before .match .keys3)
 
--- src/lib.rt:321:1
 returns-4 : tie.Need-returns-4
 returns-4 c = join-last (recIn (c .before .before .args .s .now)) _ _ _ _ (c .match .rest .0 .0 .1) (c .match .rest .0 .1) (c .match .rest .1)
 

@@ -1,5 +1,5 @@
 -- `typing::leaf` meets its contract: by the kind of the node. Assumes nothing.
-use mathlib.Core.Path.{_≡_, refl, sym, ap, _∙_}
+use mathlib.Core.Path.{_∙_}
 use Rattle.binders.specs.Stacks.{stackOf}
 use Rattle.records.specs.Forms.{recIn}
 use Rattle.typing.proofs.VerdictLaws.{says-as}
@@ -7,55 +7,38 @@ use Rattle.typing.proofs.StateLaws.{leaf-shared, leaf-linear, leaf-cons
 use borrow.Author.Needs.{needs}
 use Rattle.typing.proofs.leaf.Statement.{statement}
 use Rattle.typing.proofs.leaf.Tie as tie
-use Rattle.typing.proofs.leaf.Reads as reads
-use Rattle.typing.proofs.leaf.Lts as lts
-use Rattle.binders.proofs.use_linear.Reads as use-linear-reads
-use Rattle.binders.proofs.use_shared.Reads as use-shared-reads
-use Rattle.records.proofs.wide.Reads as wide-reads
-use Rattle.typing.proofs.constant.Reads as constant-reads
-use Rattle.typing.proofs.settled.Reads as settled-reads
 
--- src/lib.rt:157:9
 wide-requires : tie.Need-wide-requires
 wide-requires c κs = search needs
 
--- src/lib.rt:160:25
 use-shared-requires : tie.Need-use-shared-requires
 use-shared-requires c κs = search needs
 
--- src/lib.rt:160:17
 settled-requires : tie.Need-settled-requires
 settled-requires c κs = search needs
 
--- src/lib.rt:162:17
 use-linear-requires : tie.Need-use-linear-requires
 use-linear-requires c κs = search needs
 
--- src/lib.rt:164:13
 settled-requires-2 : tie.Need-settled-requires-2
 settled-requires-2 c κs = search needs
 
--- src/lib.rt:166:22
 constant-requires : tie.Need-constant-requires
 constant-requires c κs = search needs
 
--- src/lib.rt:166:14
 settled-requires-3 : tie.Need-settled-requires-3
 settled-requires-3 c κs = search needs
 
--- src/lib.rt:153:1
 returns : tie.Need-returns
 returns c =
     let a = c .before .before .before .before .before .args in
     says-as (c .settled .ensures) (c .before .use-shared .ensures (a .node) ∙ leaf-shared (recIn (a .s .now)) _ _ _ _ _ (c .before .before .match .keys1) (c .before .before .before .wide .ensures))
 
--- src/lib.rt:153:1
 returns-2 : tie.Need-returns-2
 returns-2 c =
     let a = c .before .before .before .before .before .args in
     says-as (c .settled2 .ensures) (c .before .use-linear .ensures (a .node) ∙ leaf-linear (recIn (a .s .now)) _ _ _ _ _ (c .before .before .match .keys2) (c .before .before .before .wide .ensures))
 
--- src/lib.rt:153:1
 returns-3 : tie.Need-returns-3
 returns-3 c =
     let a = c .before .before .before .before .before .args in

@@ -1,6 +1,4 @@
 -- `typing::leave_one` meets its contract: 14, then 12. Assumes nothing.
-use mathlib.Core.Path.{_≡_, refl, sym, ap, _∙_}
-use Rattle.binders.specs.Stacks.{stackOf}
 use Rattle.records.specs.Forms.{recIn}
 use Rattle.typing.proofs.VerdictLaws.{follows-refused, follows-stopped, follows-fine}
 use Rattle.typing.proofs.StepLaws.{not-so, so}
@@ -8,63 +6,44 @@ use Rattle.typing.proofs.StateLaws.{leave-unused, leave-misfit, leave-f
 use borrow.Author.Needs.{needs}
 use Rattle.typing.proofs.leave_one.Statement.{statement}
 use Rattle.typing.proofs.leave_one.Tie as tie
-use Rattle.typing.proofs.leave_one.Reads as reads
-use Rattle.typing.proofs.leave_one.Lts as lts
-use Rattle.binders.proofs.leave.Reads as leave-reads
-use Rattle.typing.proofs.fine.Reads as fine-reads
-use Rattle.typing.proofs.stopped.Reads as stopped-reads
-use Rattle.typing.proofs.used_up.Reads as used-up-reads
-use Rattle.typing.proofs.wanted.Reads as wanted-reads
 
--- src/lib.rt:269:25
 enum-known-v : tie.Need-enum-known-v
 enum-known-v c = search needs
 
--- src/lib.rt:270:9
 enum-told : tie.Need-enum-told
 enum-told c = search needs
 
--- src/lib.rt:270:9
 returns : tie.Need-returns
 returns c = follows-refused _ _ (c .enum-told .given .1)
 
--- src/lib.rt:272:9
 used-up-requires : tie.Need-used-up-requires
 used-up-requires c κs = rw (c .before .v .given .1) at (c .before .before .before .before .pre)
 
--- src/lib.rt:273:9
 wanted-requires : tie.Need-wanted-requires
 wanted-requires c κs = search needs
 
--- src/lib.rt:275:9
 stopped-requires : tie.Need-stopped-requires
 stopped-requires c κs = search needs
 
--- src/lib.rt:275:9
 returns-2 : tie.Need-returns-2
 returns-2 c =
     let a = c .before .before .before .before .before .before .before .before .args in
     follows-stopped (a .x) _ (c .before .before .before .before .before .v .given .1) _ _ _ (c .stopped .ensures) (leave-unused (recIn (a .s .now)) _ _ _ _ _ (c .before .before .before .used-up .ensures) (not-so (c .before .before .before .used-up .result) (c .before .if1 .taken)))
 
--- src/lib.rt:278:9
 stopped-requires-2 : tie.Need-stopped-requires-2
 stopped-requires-2 c κs = search needs
 
--- src/lib.rt:278:9
 returns-3 : tie.Need-returns-3
 returns-3 c =
     let a = c .before .before .before .before .before .before .before .before .before .args in
     follows-stopped (a .x) _ (c .before .before .before .before .before .before .v .given .1) _ _ _ (c .stopped2 .ensures) (leave-misfit (recIn (a .s .now)) _ _ _ _ _ (c .before .before .before .before .used-up .ensures) (so (c .before .before .before .before .used-up .result) (c .before .before .if1 .left)) (c .before .before .before .wanted .ensures) (c .before .if2 .taken))
 
--- src/lib.rt:280:32
 leave-requires : tie.Need-leave-requires
 leave-requires c κs = search needs
 
--- src/lib.rt:280:5
 fine-requires : tie.Need-fine-requires
 fine-requires c κs = search needs
 
--- src/lib.rt:264:1
 returns-4 : tie.Need-returns-4
 returns-4 c =
     let a = c .before .before .before .before .before .before .before .before .before .before .args in

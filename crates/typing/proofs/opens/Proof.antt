@@ -3,47 +3,34 @@ use Rattle.typing.proofs.StepLaws.{open-fun, open-fun-not, open-lfun, o
 use borrow.Author.Needs.{needs}
 use Rattle.typing.proofs.opens.Statement.{statement}
 use Rattle.typing.proofs.opens.Tie as tie
-use Rattle.typing.proofs.opens.Reads as reads
-use Rattle.typing.proofs.opens.Lts as lts
-use Rattle.typing.proofs.sides_of.Reads as sides-of-reads
 
--- src/lib.rt:183:9
 sides-of-requires : tie.Need-sides-of-requires
 sides-of-requires c κs = search needs
 
--- src/lib.rt:180:1
 returns : tie.Need-returns
 returns c = open-fun _ (c .before .before .before .sides-of .ensures) _ _ (c .before .before .match .keys1) (c .if1 .taken)
 
--- src/lib.rt:180:1
 returns-2 : tie.Need-returns-2
 returns-2 c = open-fun-not _ (c .before .before .before .sides-of .ensures) _ _ (c .before .before .match .keys1) (c .if1 .left)
 
--- src/lib.rt:180:1
 returns-3 : tie.Need-returns-3
 returns-3 c = open-lfun _ (c .before .before .before .sides-of .ensures) _ _ (c .before .before .match .keys2) (c .if2 .taken)
 
--- src/lib.rt:180:1
 returns-4 : tie.Need-returns-4
 returns-4 c = open-lfun-not _ (c .before .before .before .sides-of .ensures) _ _ (c .before .before .match .keys2) (c .if2 .left)
 
--- src/lib.rt:180:1
 returns-5 : tie.Need-returns-5
 returns-5 c = open-pair _ (c .before .before .before .sides-of .ensures) _ _ (c .before .before .match .keys3) (c .if3 .taken)
 
--- src/lib.rt:180:1
 returns-6 : tie.Need-returns-6
 returns-6 c = open-pair-not _ (c .before .before .before .sides-of .ensures) _ _ (c .before .before .match .keys3) (c .if3 .left)
 
--- src/lib.rt:180:1
 returns-7 : tie.Need-returns-7
 returns-7 c = open-fix _ (c .before .before .before .sides-of .ensures) _ _ (c .before .before .match .keys4) (c .if4 .taken)
 
--- src/lib.rt:180:1
 returns-8 : tie.Need-returns-8
 returns-8 c = open-fix-not _ (c .before .before .before .sides-of .ensures) _ _ (c .before .before .match .keys4) (c .if4 .left)
 
--- src/lib.rt:180:1
 returns-9 : tie.Need-returns-9
 returns-9 c = open-none _ _ _ (c .match .rest .0 .0 .0 .1) (c .match .rest .0 .0 .1) (c .match .rest .0 .1) (c .match .rest .1)
 

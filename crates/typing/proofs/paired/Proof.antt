@@ -3,23 +3,16 @@ use Rattle.typing.proofs.StepLaws.{paired-left, paired-right, paired-fi
 use borrow.Author.Needs.{needs}
 use Rattle.typing.proofs.paired.Statement.{statement}
 use Rattle.typing.proofs.paired.Tie as tie
-use Rattle.typing.proofs.paired.Reads as reads
-use Rattle.typing.proofs.paired.Lts as lts
-use Rattle.typing.proofs.sides_of.Reads as sides-of-reads
 
--- src/lib.rt:310:9
 sides-of-requires : tie.Need-sides-of-requires
 sides-of-requires c κs = search needs
 
--- src/lib.rt:312:9
 returns : tie.Need-returns
 returns c = paired-left _ (c .before .before .sides-of .ensures) _ _ _ (c .if1 .taken)
 
--- src/lib.rt:315:9
 returns-2 : tie.Need-returns-2
 returns-2 c = paired-right _ (c .before .before .before .before .sides-of .ensures) _ _ _ (c .before .before .if1 .left) (c .if2 .taken)
 
--- src/lib.rt:307:1
 returns-3 : tie.Need-returns-3
 returns-3 c = paired-fits _ (c .before .before .before .before .sides-of .ensures) _ _ _ (c .before .before .if1 .left) (c .if2 .left)
 

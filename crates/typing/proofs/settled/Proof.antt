@@ -1,39 +1,28 @@
 -- `typing::settled` meets its contract. Assumes nothing.
-use mathlib.Core.Path.{_≡_, refl, sym, ap, _∙_}
+use mathlib.Core.Path.{refl}
 use Rattle.typing.proofs.VerdictLaws.{says-fine, says-stopped}
 use borrow.Author.Needs.{needs}
 use Rattle.typing.proofs.settled.Statement.{statement}
 use Rattle.typing.proofs.settled.Tie as tie
-use Rattle.typing.proofs.settled.Reads as reads
-use Rattle.typing.proofs.settled.Lts as lts
-use Rattle.typing.proofs.fine.Reads as fine-reads
-use Rattle.typing.proofs.stopped.Reads as stopped-reads
 
--- src/lib.rt:147:19
 enum-known-u : tie.Need-enum-known-u
 enum-known-u c = search needs
 
--- src/lib.rt:147:39
 add-fine : tie.Need-add-fine
 add-fine c = search needs
 
--- src/lib.rt:147:25
 fine-requires : tie.Need-fine-requires
 fine-requires c κs = search needs
 
--- src/lib.rt:148:22
 enum-known-u-2 : tie.Need-enum-known-u-2
 enum-known-u-2 c = search needs
 
--- src/lib.rt:148:28
 stopped-requires : tie.Need-stopped-requires
 stopped-requires c κs = search needs
 
--- src/lib.rt:142:1
 returns : tie.Need-returns
 returns c = says-fine _ _ _ _ (c .fine .ensures) (rw (c .before .before .u .given .1) refl)
 
--- src/lib.rt:142:1
 returns-2 : tie.Need-returns-2
 returns-2 c = says-stopped _ _ _ _ _ (c .stopped .ensures) (rw (c .before .before .u2 .given .1) refl)
 

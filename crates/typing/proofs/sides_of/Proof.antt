@@ -3,46 +3,34 @@ use Rattle.typing.specs.Steps.{sidedOf}
 use borrow.Author.Needs.{needs}
 use Rattle.typing.proofs.sides_of.Statement.{statement}
 use Rattle.typing.proofs.sides_of.Tie as tie
-use Rattle.typing.proofs.sides_of.Reads as reads
-use Rattle.typing.proofs.sides_of.Lts as lts
-use Rattle.records.proofs.type_at.Reads as type-at-reads
 
--- src/lib.rt:48:11
 type-at-requires : tie.Need-type-at-requires
 type-at-requires c κs = search needs
 
--- src/lib.rt:49:22
 enum-told : tie.Need-enum-told
 enum-told c = search needs
 
--- src/lib.rt:54:23
 enum-known-left : tie.Need-enum-known-left
 enum-known-left c = search needs
 
--- src/lib.rt:59:21
 enum-known-left-2 : tie.Need-enum-known-left-2
 enum-known-left-2 c = search needs
 
--- src/lib.rt:64:22
 enum-known-left-3 : tie.Need-enum-known-left-3
 enum-known-left-3 c = search needs
 
--- src/lib.rt:45:1
 returns : tie.Need-returns
 unfolding sidedOf
 returns c = rw (← c .before .before .type-at .ensures, c .enum-told .given .1)
 
--- src/lib.rt:45:1
 returns-2 : tie.Need-returns-2
 unfolding sidedOf
 returns-2 c = rw (← c .before .before .before .type-at .ensures, c .before .left .given .1)
 
--- src/lib.rt:45:1
 returns-3 : tie.Need-returns-3
 unfolding sidedOf
 returns-3 c = rw (← c .before .before .before .type-at .ensures, c .before .left2 .given .1)
 
--- src/lib.rt:45:1
 returns-4 : tie.Need-returns-4
 unfolding sidedOf
 returns-4 c = rw (← c .before .before .before .type-at .ensures, c .before .left3 .given .1)

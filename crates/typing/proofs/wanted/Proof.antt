@@ -3,19 +3,13 @@ use Rattle.typing.proofs.StepLaws.{wanted-fix, wanted-right}
 use borrow.Author.Needs.{needs}
 use Rattle.typing.proofs.wanted.Statement.{statement}
 use Rattle.typing.proofs.wanted.Tie as tie
-use Rattle.typing.proofs.wanted.Reads as reads
-use Rattle.typing.proofs.wanted.Lts as lts
-use Rattle.typing.proofs.sides_of.Reads as sides-of-reads
 
--- src/lib.rt:236:9
 returns : tie.Need-returns
 returns c = wanted-fix _ _ _ (c .if1 .taken)
 
--- src/lib.rt:238:5
 sides-of-requires : tie.Need-sides-of-requires
 sides-of-requires c κs = search needs
 
--- src/lib.rt:232:1
 returns-2 : tie.Need-returns-2
 returns-2 c = wanted-right _ (c .sides-of .ensures) _ _ (c .before .if1 .left)
 

@@ -3,37 +3,25 @@ use Rattle.typing_corpus.proofs.Reading.{has-been-read}
 use borrow.Author.Needs.{needs}
 use Rattle.typing_corpus.proofs.line.Statement.{statement}
 use Rattle.typing_corpus.proofs.line.Tie as tie
-use Rattle.typing_corpus.proofs.line.Reads as reads
-use Rattle.typing_corpus.proofs.line.Lts as lts
-use Rattle.sheet.proofs.read.Reads as read-reads
-use Rattle.typing_corpus.proofs.refused.Reads as refused-reads
-use Rattle.typing_corpus.proofs.typed.Reads as typed-reads
 
--- src/main.rt:32:9
 read-requires : tie.Need-read-requires
 read-requires c κs = search needs
 
--- src/main.rt:35:29
 enum-known-verdict : tie.Need-enum-known-verdict
 enum-known-verdict c = search needs
 
--- src/main.rt:36:13
 typed-requires : tie.Need-typed-requires
 typed-requires c κs = has-been-read _ (c .before .before .before .read .result) (c .before .verdict .given .1) (c .before .before .before .read .ensures)
 
--- src/main.rt:38:26
 enum-known-verdict-2 : tie.Need-enum-known-verdict-2
 enum-known-verdict-2 c = search needs
 
--- src/main.rt:39:13
 refused-requires : tie.Need-refused-requires
 refused-requires c κs = search needs
 
--- src/main.rt:31:1
 returns : tie.Need-returns
 returns c = search needs
 
--- src/main.rt:31:1
 returns-2 : tie.Need-returns-2
 returns-2 c = search needs
 
