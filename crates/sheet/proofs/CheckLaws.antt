@@ -1,16 +1,14 @@
 -- What `sizeOf` says of a type record, by the facts that the tests find one after the other. Assumes nothing.
 use Prim.Native.Nat.{ℕ, _≤_, _<_}
-use mathlib.Core.Path.{_≡_, refl, sym, ap, _∙_}
-use mathlib.Core.Bool.{Bool, true, false, not}
+use mathlib.Core.Path.{_≡_, _∙_}
+use mathlib.Core.Bool.{true, false}
 use mathlib.Core.List.{List, []}
 use borrow.Author.Tests.{lt-ltb, le-ltb, le-leb, lt-leb}
-use lib.Dec.{ltb, leb}
 use lib.ListN.{length}
-use Rattle.calculus.specs.Answer.{Answer, good, refused, _>>=_, need}
+use Rattle.calculus.specs.Answer.{good, refused}
 use Rattle.calculus.specs.Types.{size, TyRec, Table, tyOf, tysFrom}
-use Rattle.calculus.specs.Read.{known, formed, repeated, checkType}
-use Rattle.calculus.specs.Laid.{TableOk}
-use Rattle.sheet.specs.Tables.{tableIn, knownBelow, formedIn, sizeIn, sizesOf, Before, sizeOf}
+use Rattle.calculus.specs.Read.{known, formed, repeated}
+use Rattle.sheet.specs.Tables.{tableIn, knownBelow, formedIn, sizeIn, Before, sizeOf}
 use Rattle.sheet.proofs.TableLaws.{table-count, known-by, formed-by, size-by}
 
 -- over any table

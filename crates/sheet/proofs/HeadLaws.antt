@@ -1,6 +1,6 @@
 -- What `headAt` says, by the record that stands at an offset. Assumes nothing.
-use Prim.Native.Nat.{ℕ, zero, suc, _+_, _≤_, _<_}
-use mathlib.Core.Path.{_≡_, refl, sym, ap, ap₂, _∙_}
+use Prim.Native.Nat.{ℕ, _+_, _≤_, _<_}
+use mathlib.Core.Path.{_≡_, refl, sym, _∙_}
 use mathlib.Core.Bool.{Bool, true, false, not, _||_}
 use mathlib.Core.List.{List, [], _∷_}
 use native.Mathlib.Omega.{arith}
@@ -8,19 +8,18 @@ use denote.Enum.Declared.{tagOf}
 use types.Run.{OneOf}
 use lib.Dec.{ltb, leb, eqb}
 use lib.ListN.{length}
-use borrow.Author.Tests.{lt-ltb, le-ltb, le-leb, lt-leb, eq-eqb, ne-eqb, leb-true, leb-false}
-use Rattle.calculus.specs.Answer.{Answer, good, refused, _>>=_, need}
-use Rattle.calculus.specs.Read.{Kind, unknown, type, node, NodeKind, k11, k12, k13, k14, k15, k16, k17, k18, k19, k1A, kindOf, nodeBody, nodeTyped, nodeKind, byte, headAt}
+use borrow.Author.Tests.{lt-ltb, le-ltb, le-leb, lt-leb, leb-true, leb-false}
+use Rattle.calculus.specs.Answer.{good, refused, _>>=_, need}
+use Rattle.calculus.specs.Read.{Kind, unknown, type, node, NodeKind, k11, k12, k13, k14, k15, k16, k17, k18, k19, k1A, kindOf, nodeBody, nodeTyped, byte, headAt}
 use Rattle.records.specs.Record.{recordAt, shapeOf, bodyAt}
 use Rattle.records.specs.declared.Node.{Node}
 use Rattle.records.specs.declared.Rule.{Rule}
-use Rattle.records.specs.declared.Rule.the-variants as rule
 use Rattle.records.specs.declared.Shape.{Shape}
 use Rattle.records.specs.declared.Shape.the-variants as shape
 use Rattle.records.specs.declared.Record.the-variants as rec
 use Rattle.records.proofs.Record.{the-type}
-use Rattle.sheet.specs.Said.{nodeSubs, Opened, opening, headed, opens, mistyped, limitsOf, noNode}
-use Rattle.sheet.proofs.KindLaws.{kindShape, shape-kind, nodeRule, nodeAs, NodeHere, node-here, node-cut, body-at}
+use Rattle.sheet.specs.Said.{nodeSubs, opening, headed, opens, mistyped, limitsOf, noNode}
+use Rattle.sheet.proofs.KindLaws.{kindShape, shape-kind, nodeRule, nodeAs, node-here, node-cut, body-at}
 
 -- the refusal by the shape of the kind
 abbrev numberOf : Shape → ℕ

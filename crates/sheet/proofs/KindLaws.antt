@@ -1,17 +1,16 @@
 -- What stands at an offset, by the kind of its first byte. Assumes nothing.
 use Prim.Native.Nat.{ℕ, _+_, _-_, _≤_, _<_}
-use mathlib.Core.Path.{_≡_, refl, sym, ap, ap₂, _∙_}
+use mathlib.Core.Path.{_≡_, refl, sym, ap, _∙_}
 use mathlib.Core.Logic.{⊎-elim}
 use mathlib.Core.Bool.{Bool, true, false, cond}
-use mathlib.Core.List.{List, [], _∷_, map}
+use mathlib.Core.List.{List, [], _∷_}
 use native.Mathlib.Omega.{arith}
 use borrow.Author.Tests.{leb-true, leb-false, lt-leb}
 use denote.Enum.Declared.{tagOf}
 use types.Run.{OneOf}
 use lib.Dec.{leb}
-use lib.ListN.{length, getD, take, drop, List·getD-map}
+use lib.ListN.{length, drop, List·getD-map}
 use lib.Seq.{getD-take, getD-drop}
-use Rattle.calculus.specs.Types.{TyRec}
 use Rattle.calculus.specs.Read.{Kind, unknown, type, node, TypeKind, k01, k02, k03, k04, NodeKind, k11, k12, k13, k14, k15, k16, k17, k18, k19, k1A, kinds, kindOf, byte, typeBody, nodeBody, typeRec}
 use Rattle.sheet_theorems.proofs.KindBytes.{typeByte, type-byte}
 use Rattle.records.specs.Forms.{recOf}

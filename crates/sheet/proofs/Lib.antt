@@ -5,4 +5,6 @@ pub mod TypesLaws
 pub mod HeadLaws
 pub mod SpanLaws
 pub mod ReadLaws
+pub mod Told
 pub mod StretchLaws
+pub mod Determined

@@ -1,22 +1,22 @@
 -- What `readSheet` says, by the facts that a reader finds one after the other. Assumes nothing.
-use Prim.Native.Nat.{ℕ, _+_, _≤_, _<_}
-use mathlib.Core.Path.{_≡_, refl, sym, ap, subst, _∙_}
+use Prim.Native.Nat.{ℕ, _≤_, _<_}
+use mathlib.Core.Path.{_≡_, refl, sym, ap}
 use mathlib.Core.Bool.{Bool, true, false, cond}
 use mathlib.Core.List.{List, []}
 use native.Mathlib.Omega.{arith}
 use borrow.Author.Tests.{le-leb, lt-leb, eq-eqb, ne-eqb}
-use lib.Dec.{leb, eqb}
+use lib.Dec.{eqb}
 use lib.ListN.{length}
 use Rattle.calculus.specs.Answer.{Answer, good, refused, _>>=_, need}
 use Rattle.calculus.proofs.Answers.{refused≢good, good-inj}
 use Rattle.calculus.specs.Types.{Table}
 use Rattle.calculus.specs.Terms.{nodes}
-use Rattle.calculus.specs.Read.{Got, readTypes, readTerm, Sheet, readSheet}
+use Rattle.calculus.specs.Read.{Got, readTypes, readTerm, readSheet}
 use Rattle.calculus.specs.Write.{tableBytes}
 use Rattle.sheet_theorems.proofs.Tables.{empty-ok}
 use Rattle.sheet_theorems.proofs.Laying.{types-listed, termed}
 use Rattle.sheet.specs.Tables.{sizesOf}
-use Rattle.sheet.specs.Said.{Count, TypesSaid, allTypes, noTypes, typesOf, End, end, spanned, Counts, ReadSaid, wholeSheet, noSheet, readingOf, endedOf}
+use Rattle.sheet.specs.Said.{Count, TypesSaid, allTypes, typesOf, End, end, spanned, wholeSheet, noSheet, readingOf, endedOf}
 
 -- ---- behind the types
 

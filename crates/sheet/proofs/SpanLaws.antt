@@ -1,16 +1,15 @@
 -- What `readTerm` says of a term's end, by what the head of its record opens. Assumes nothing.
 use Prim.Native.Nat.{ℕ, zero, suc, _+_, _-_, _≤_, _<_}
 use mathlib.Core.Path.{_≡_, refl, sym, ap, ap₂, subst, _∙_}
-use mathlib.Core.Bool.{Bool, true, false, _||_}
+use mathlib.Core.Bool.{_||_}
 use mathlib.Core.List.{List}
 use native.Mathlib.Omega.{arith}
-use native.Mathlib.Numerals.{sub-one}
-use lib.Dec.{T, ltb, leb, eqb, ltb→lt, leb→le}
+use lib.Dec.{ltb, leb, eqb, ltb→lt, leb→le}
 use lib.ListN.{length, replicate, length-replicate}
-use Rattle.calculus.specs.Answer.{Answer, good, refused, _>>=_, need}
+use Rattle.calculus.specs.Answer.{Answer, good, refused, _>>=_}
 use Rattle.calculus.proofs.Answers.{refused≢good, good-inj, on-bind, on-need}
 use Rattle.calculus.specs.Terms.{Term, fun, app, lfun, lapp, pair, proj, fix}
-use Rattle.calculus.specs.Read.{Kind, kindOf, NodeKind, k11, k12, k13, k14, k15, k16, k17, k18, k19, k1A, nodeBody, nodeTyped, nodeKind, byte, headAt, Got, got, nodeAt, readTerm}
+use Rattle.calculus.specs.Read.{kindOf, NodeKind, k11, k12, k13, k14, k15, k16, k17, k18, k19, k1A, nodeBody, nodeTyped, nodeKind, byte, headAt, Got, got, nodeAt, readTerm}
 use Rattle.calculus.specs.Types.{rec01}
 use Rattle.sheet_theorems.proofs.Standing.{term-nonempty}
 use Rattle.sheet_theorems.proofs.Laying.{termed}

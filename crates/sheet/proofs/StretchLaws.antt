@@ -1,6 +1,6 @@
 -- Where a node's stretch begins and ends, by the reader. Assumes nothing.
-use Prim.Native.Nat.{ℕ, zero, suc, _+_, _-_, _≤_, _<_}
-use mathlib.Core.Path.{_≡_, refl, sym, ap, ap₂, subst, _∙_}
+use Prim.Native.Nat.{ℕ, _+_, _-_, _≤_, _<_}
+use mathlib.Core.Path.{_≡_, refl, sym, ap, ap₂, _∙_}
 use mathlib.Core.Logic.{⊎-elim}
 use mathlib.Core.List.{List, [], _∷_}
 use native.Mathlib.Omega.{arith}
@@ -11,10 +11,9 @@ use types.Run.{OneOf}
 use lib.ListN.{length, getD}
 use Rattle.calculus.specs.Answer.{Answer, good, refused}
 use Rattle.calculus.proofs.Answers.{refused≢good, good-inj}
-use Rattle.calculus.specs.Terms.{Term, nodes}
-use Rattle.calculus.specs.Read.{Kind, kindOf, byte, Got, readTerm, Sheet, readSheet}
-use Rattle.calculus.specs.Write.{tableBytes}
-use Rattle.calculus.specs.Stretch.{Stretch, nowhere, stretchOf}
+use Rattle.calculus.specs.Terms.{nodes}
+use Rattle.calculus.specs.Read.{Kind, readTerm, Sheet, readSheet}
+use Rattle.calculus.specs.Stretch.{nowhere, stretchOf}
 use Rattle.sheet_theorems.specs.Subterms.{subterms, bodyOf, after, skip}
 use Rattle.sheet_theorems.proofs.StretchHolds.{skip-next, stretch-holds, stretch-past, stretch-refused}
 use Rattle.sheet_theorems.proofs.SubtermRead.{stretch-read}
@@ -24,8 +23,9 @@ use Rattle.records.specs.declared.Record.{Record}
 use Rattle.records.specs.declared.Record.the-variants as rec
 use Rattle.records.proofs.Record.{the-type}
 use Rattle.records.proofs.Laws.{node-next, stands-record}
-use Rattle.sheet.specs.Nodes.{NodeAt, NodesFrom}
-use Rattle.sheet.specs.Said.{End, end, spanned, Counts, ReadSaid, readingOf}
+use Rattle.sheet.specs.Nodes.{NodesFrom}
+use Rattle.sheet.specs.Said.{End, end, spanned}
+use Rattle.sheet.proofs.Told.{Told}
 use Rattle.sheet.proofs.KindLaws.{NodeHere, node-here}
 
 -- ---- one record further
@@ -47,36 +47,9 @@ node-stands s start n k at f h e o =
     let q = ap (recordAt s) e ∙ stands-record s (skip s k start) (w .term) (w .stands) in
     ⊎-elim (λ (z : 1 ≡ 0). absurd (omega arith)) (λ (z : 1 ≡ 2). absurd (omega arith)) (rw q at o)
 
--- ---- what the reader says
+-- ---- the stretch of a node of a sheet that is read
 
--- a sheet that is read, with its counts
-pub record Told (s : List ℕ) (types n start : ℕ) : Type 0 where
-  pub sheet : Sheet
-  pub is : readSheet s ≡ good sheet
-  pub types-are : types ≡ length (sheet .table)
-  pub nodes-are : n ≡ nodes (sheet .term)
-  pub start-is : start ≡ length (tableBytes (sheet .table))
-
-told-by : (s : List ℕ) (types n start : ℕ) (a : Answer Sheet) → readSheet s ≡ a → good (record { types = types; nodes = n; start = start }) ≡ readingOf a .answer → Told s types n start
-unfolding readingOf
-told-by s types n start (good σ) e h =
-    let f = good-inj h in
-    record { sheet = σ; is = e; types-are = ap (λ (c : Counts). c .types) f; nodes-are = ap (λ (c : Counts). c .nodes) f; start-is = ap (λ (c : Counts). c .start) f }
-told-by s types n start (refused i p) e h = absurd (refused≢good (sym h))
-
-pub told : (s : List ℕ) (types n start : ℕ) → good (record { types = types; nodes = n; start = start }) ≡ readingOf (readSheet s) .answer → Told s types n start
-told s types n start h = told-by s types n start (readSheet s) refl h
-
-untold-by : (s : List ℕ) (k number place : ℕ) (a : Answer Sheet) → readSheet s ≡ a → refused number place ≡ readingOf a .answer → nowhere ≡ stretchOf s k
-unfolding readingOf
-untold-by s k number place (good σ) e h = absurd (refused≢good h)
-untold-by s k number place (refused i p) e h = sym (stretch-refused s i p k e)
-
--- a refused sheet
-pub untold : (s : List ℕ) (k number place : ℕ) → refused number place ≡ readingOf (readSheet s) .answer → nowhere ≡ stretchOf s k
-untold s k number place h = untold-by s k number place (readSheet s) refl h
-
-module _ (s : List ℕ) (types n start : ℕ) (t : Told s types n start) (k : ℕ) where
+module _ {s sizes : List ℕ} {types n start : ℕ} (t : Told s sizes types n start) (k : ℕ) where
   pub told-past : n ≤ k → nowhere ≡ stretchOf s k
   told-past h = let e = t .nodes-are in sym (stretch-past s (t .sheet) k (t .is) (omega arith))
 

@@ -1,18 +1,18 @@
 -- Laws of the table of types that a sheet's bytes hold: its records, their tests, and the sizes. Assumes nothing.
 use Prim.Native.Nat.{ℕ, zero, suc, _+_, _-_, _≤_, _<_}
-use mathlib.Core.Path.{_≡_, refl, sym, ap, ap₂, subst, _∙_}
+use mathlib.Core.Path.{_≡_, refl, sym, ap, ap₂, _∙_}
 use mathlib.Core.Logic.{⊎-elim}
-use mathlib.Core.Bool.{Bool, true, false, not, _&&_, _||_}
+use mathlib.Core.Bool.{Bool, true, false, _&&_, _||_}
 use mathlib.Core.List.{List, [], _∷_, _++_, map, append-assoc}
 use native.Mathlib.Omega.{arith}
 use native.Mathlib.Nat.{not-suc-le-zero, eq-or-lt-of-le, le-of-suc-le-suc}
 use native.Mathlib.Numerals.{add-one}
 use borrow.Author.Tests.{ltb-true}
-use lib.Dec.{T, ltb, eqb, leb}
+use lib.Dec.{ltb}
 use lib.ListN.{length, getD, set, replicate, length-append, length-map, length-replicate, List·getD-append}
 use lib.Seq.{getD-at, set-at}
 use Rattle.laws.proofs.Tests.{T-is, and-both}
-use Rattle.calculus.specs.Types.{Ty, bit, prod, arrow, lolli, size, sharable, isArrow, TyRec, rec01, rec02, rec03, rec04, recEq, Table, recAt, tyOf, tysFrom, tree}
+use Rattle.calculus.specs.Types.{Ty, bit, size, sharable, isArrow, TyRec, rec01, rec02, rec03, rec04, recEq, Table, recAt, tyOf, tysFrom, tree}
 use Rattle.calculus.specs.Read.{known, formed, repeated}
 use Rattle.calculus.specs.Laid.{Agrees, TableOk}
 use Rattle.records.specs.Forms.{recIn}

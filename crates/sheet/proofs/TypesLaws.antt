@@ -1,19 +1,18 @@
 -- The reader of type records, one record further or at its end. Assumes nothing.
 use Prim.Native.Nat.{ℕ, zero, suc, _+_, _*_, _-_, _≤_, _<_}
-use mathlib.Core.Path.{_≡_, refl, sym, ap, subst, _∙_}
-use mathlib.Core.Bool.{Bool, true, false, cond}
+use mathlib.Core.Path.{_≡_, refl, sym, ap, _∙_}
 use mathlib.Core.List.{List, [], _∷_, _++_}
 use native.Mathlib.Omega.{arith}
 use borrow.Author.Tests.{lt-ltb, le-ltb, le-leb, lt-leb}
-use lib.Dec.{T, leb, ltb, ltb→lt}
+use lib.Dec.{ltb, ltb→lt}
 use denote.Enum.Declared.{tagOf}
 use types.Run.{OneOf}
-use lib.ListN.{length, getD, set, length-append, List·getD-eq-default}
+use lib.ListN.{length, set, length-append, List·getD-eq-default}
 use lib.Seq.{getD-at}
-use Rattle.calculus.specs.Answer.{Answer, good, refused, _>>=_, need}
-use Rattle.calculus.proofs.Answers.{refused≢good, good-inj, on-bind, on-need}
-use Rattle.calculus.specs.Types.{size, TyRec, rec01, rec02, rec03, rec04, Table, recAt, tyOf, tysFrom}
-use Rattle.calculus.specs.Read.{Kind, unknown, type, node, TypeKind, k01, k02, k03, k04, kindOf, byte, typeBody, typeRec, checkType, typeAt, readTypes}
+use Rattle.calculus.specs.Answer.{Answer, good, refused, _>>=_}
+use Rattle.calculus.proofs.Answers.{good-inj, on-bind, on-need}
+use Rattle.calculus.specs.Types.{size, TyRec, rec01, Table, tyOf, tysFrom}
+use Rattle.calculus.specs.Read.{Kind, unknown, type, node, TypeKind, k01, k02, k03, k04, kindOf, byte, typeBody, typeRec, checkType, readTypes}
 use Rattle.calculus.specs.Write.{recBytes, tableBytes}
 use Rattle.calculus.specs.Laid.{TableOk}
 use Rattle.sheet_theorems.proofs.KindBytes.{typeByte, type-byte}
@@ -29,9 +28,9 @@ use Rattle.records.specs.declared.Shape.the-variants as shape
 use Rattle.records.proofs.Record.{the-type}
 use Rattle.records.specs.declared.TypeRecord.{TypeRecord}
 use Rattle.sheet.specs.Tables.{tableIn, sizesOf, Before, sizeOf}
-use Rattle.sheet.specs.Said.{TypesSaid, allTypes, noTypes, typesOf, endOf}
+use Rattle.sheet.specs.Said.{allTypes, noTypes, typesOf, endOf}
 use Rattle.sheet.proofs.KindLaws.{TypeHere, type-cut, kindShape, shape-kind}
-use Rattle.sheet.proofs.TableLaws.{table-more, table-count, table-at, sizes-more}
+use Rattle.sheet.proofs.TableLaws.{table-more, table-count, sizes-more}
 
 -- ---- one record of `readTypes`
 
@@ -76,13 +75,13 @@ size-tells Θ q at z e =
 
 -- ---- the state of the loop
 
-pub record Reading (s : List ℕ) (at count : ℕ) (sizes : List ℕ) : Type 0 where
+pub record SoFar (s : List ℕ) (at count : ℕ) (sizes : List ℕ) : Type 0 where
   pub before : Before s count sizes
   pub end : at ≡ length (tableBytes (tableIn s count))
   pub left : readTypes 256 s [] 0 ≡ readTypes (256 - count) s (tableIn s count) at
   pub within : at ≤ length s
 
-pub first : (s : List ℕ) → Reading s 0 0 (sizesOf [])
+pub first : (s : List ℕ) → SoFar s 0 0 (sizesOf [])
 unfolding tableIn
 first s = record { before = record { ok = empty-ok; sizes-are = refl }; end = refl; left = refl; within = omega arith }
 
@@ -120,7 +119,7 @@ module _ (s : List ℕ) (at : ℕ) (r : TypeRecord) (t : TypeHere s at r) where
       let k : byte s at ≡ typeByte (t .kind) = type-byte (byte s at) (t .kind) (t .is) in
       sym (rec-later s (suc n) at (λ z. omega arith) a ∙ rec-long s at (omega arith) ∙ rw k (said-by (t .kind) (byte s (at + 1)) (byte s (at + 2))))
 
-  module _ (count : ℕ) (sizes : List ℕ) (i : Reading s at count sizes) where
+  module _ (count : ℕ) (sizes : List ℕ) (i : SoFar s at count sizes) where
     abbrev Θ : Table
     Θ = tableIn s count
 
@@ -131,7 +130,7 @@ module _ (s : List ℕ) (at : ℕ) (r : TypeRecord) (t : TypeHere s at r) where
     went = i .left ∙ types-whole s Θ at (256 - count) (t .kind) room (t .is) (t .whole)
 
     -- one type further
-    pub next-type : (z : ℕ) → good z ≡ sizeOf Θ q at → Reading s (r .next) (count + 1) (set sizes count z)
+    pub next-type : (z : ℕ) → good z ≡ sizeOf Θ q at → SoFar s (r .next) (count + 1) (set sizes count z)
     next-type z e =
         let (few, ok, is) = size-tells Θ q at z (sym e) in
         let c : length Θ ≡ count = table-count s count in
@@ -153,7 +152,7 @@ module _ (s : List ℕ) (at : ℕ) (r : TypeRecord) (t : TypeHere s at r) where
 
 -- ---- the end of the types
 
-module _ (s : List ℕ) (at count : ℕ) (sizes : List ℕ) (i : Reading s at count sizes) where
+module _ (s : List ℕ) (at count : ℕ) (sizes : List ℕ) (i : SoFar s at count sizes) where
   all-read : readTypes (256 - count) s (tableIn s count) at ≡ good (tableIn s count, at) → allTypes count at sizes ≡ typesOf (readTypes 256 s [] 0)
   unfolding typesOf
   all-read e = rw (i .left, e, table-count s count, i .before .sizes-are)

@@ -1,6 +1,6 @@
 -- What the answers of the code say, in the terms of the definitions: one case for each variant. Assumes nothing.
 use Prim.Native.Nat.{ℕ, _+_}
-use mathlib.Core.Bool.{Bool, true, false, not, cond}
+use mathlib.Core.Bool.{Bool, false, not, cond}
 use mathlib.Core.List.{List, []}
 use lib.Dec.{ltb, leb, eqb}
 use lib.ListN.{length}
@@ -11,13 +11,13 @@ use Rattle.calculus.specs.Write.{tableBytes}
 use Rattle.calculus.specs.Stretch.{Stretch}
 use Rattle.calculus.specs.Read.{Kind, unknown, type, node, NodeKind, k11, k12, k13, k14, k15, k16, k17, k18, k19, k1A, nodeBody, headAt, Got, Sheet}
 use Rattle.sheet.specs.Tables.{sizesOf}
-use Rattle.sheet.specs.declared.Listed.{Listed}
-use Rattle.sheet.specs.declared.Listed.the-variants as listed
-use Rattle.sheet.specs.declared.Types.{Types}
-use Rattle.sheet.specs.declared.Head.{Head}
-use Rattle.sheet.specs.declared.Head.the-variants as head
-use Rattle.sheet.specs.declared.Span.{Span}
-use Rattle.sheet.specs.declared.Span.the-variants as span
+use Rattle.sheet.specs.declared.types.Listed.{Listed}
+use Rattle.sheet.specs.declared.types.Listed.the-variants as listed
+use Rattle.sheet.specs.declared.types.Types.{Types}
+use Rattle.sheet.specs.declared.term.Head.{Head}
+use Rattle.sheet.specs.declared.term.Head.the-variants as head
+use Rattle.sheet.specs.declared.term.Span.{Span}
+use Rattle.sheet.specs.declared.term.Span.the-variants as span
 use Rattle.sheet.specs.declared.Verdict.{Verdict}
 use Rattle.sheet.specs.declared.Verdict.the-variants as verdict
 use Rattle.sheet.specs.declared.Reading.{Reading}

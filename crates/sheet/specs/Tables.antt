@@ -6,12 +6,12 @@ use mathlib.Core.List.{List, [], _∷_, _++_, map}
 use lib.Dec.{ltb}
 use lib.ListN.{length, getD, replicate}
 use Rattle.calculus.specs.Answer.{Answer, good, refused, _>>=_, need}
-use Rattle.calculus.specs.Types.{Ty, size, TyRec, rec01, rec02, rec03, rec04, Table, tyOf, tysFrom}
+use Rattle.calculus.specs.Types.{size, TyRec, rec01, rec02, rec03, rec04, Table, tyOf, tysFrom}
 use Rattle.calculus.specs.Read.{checkType}
 use Rattle.calculus.specs.Laid.{TableOk}
 use Rattle.records.specs.Forms.{recIn}
-use Rattle.sheet.specs.declared.Checked.{Checked}
-use Rattle.sheet.specs.declared.Checked.the-variants as checked
+use Rattle.sheet.specs.declared.types.Checked.{Checked}
+use Rattle.sheet.specs.declared.types.Checked.the-variants as checked
 
 -- the records of the first n types, as the sheet's bytes hold them
 unfoldable pub tableIn : List ℕ → ℕ → Table

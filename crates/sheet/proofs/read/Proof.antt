@@ -1,51 +1,37 @@
 -- `sheet::read` meets its contract: length, types, term, end. Assumes nothing.
-use Rattle.sheet.proofs.ReadLaws.{read-long, read-types-bad, read-types-good}
-use Rattle.sheet.specs.Said.{saidListed, TypesSaid}
-use mathlib.Core.Path.{_≡_, refl, sym, ap, _∙_}
+use mathlib.Core.Path.{sym, ap, _∙_}
 use borrow.Author.Needs.{needs}
+use Rattle.sheet.specs.Said.{saidListed, TypesSaid}
+use Rattle.sheet.proofs.ReadLaws.{read-long, read-types-bad, read-types-good}
 use Rattle.sheet.proofs.read.Statement.{statement}
 use Rattle.sheet.proofs.read.Tie as tie
-use Rattle.sheet.proofs.read.Reads as reads
-use Rattle.sheet.proofs.read.Lts as lts
-use Rattle.sheet.proofs.no_sheet.Reads as no-sheet-reads
-use Rattle.sheet.proofs.read_term.Reads as read-term-reads
-use Rattle.sheet.proofs.read_types.Reads as read-types-reads
 
--- src/lib.rt:413:9
 no-sheet-requires : tie.Need-no-sheet-requires
 no-sheet-requires c κs = search needs
 
--- src/lib.rt:413:9
 returns : tie.Need-returns
 returns c = c .no-sheet .ensures ∙ read-long _ (c .before .if1 .taken)
 
--- src/lib.rt:415:9
 read-types-requires : tie.Need-read-types-requires
 read-types-requires c κs = search needs
 
--- src/lib.rt:419:25
 enum-known-listed : tie.Need-enum-known-listed
 enum-known-listed c = search needs
 
--- src/lib.rt:419:43
 no-sheet-requires-2 : tie.Need-no-sheet-requires-2
 no-sheet-requires-2 c κs = search needs
 
--- src/lib.rt:420:21
 enum-known-listed-2 : tie.Need-enum-known-listed-2
 enum-known-listed-2 c = search needs
 
--- src/lib.rt:420:36
 read-term-requires : tie.Need-read-term-requires
 read-term-requires c κs = search needs
 
--- src/lib.rt:409:1
 returns-2 : tie.Need-returns-2
 returns-2 c =
     let t = c .before .before .before .before .before in
     c .no-sheet2 .ensures ∙ read-types-bad _ (t .before .if1 .left) _ _ (ap saidListed (sym (c .before .before .listed .given .1)) ∙ ap (λ (x : TypesSaid). x .answer) (t .read-types .ensures))
 
--- src/lib.rt:409:1
 returns-3 : tie.Need-returns-3
 returns-3 c =
     let t = c .before .before .before .before .before in

@@ -1,44 +1,32 @@
 -- `sheet::read_term` meets its contract, by the end of the term. Assumes nothing.
-use Rattle.sheet.proofs.ReadLaws.{ended-here, ended-refused, ended-more}
-use Rattle.sheet.specs.Said.{saidSpan}
-use mathlib.Core.Path.{_≡_, refl, sym, ap, _∙_}
+use mathlib.Core.Path.{sym, ap, _∙_}
 use borrow.Author.Needs.{needs}
+use Rattle.sheet.specs.Said.{saidSpan}
+use Rattle.sheet.proofs.ReadLaws.{ended-here, ended-refused, ended-more}
 use Rattle.sheet.proofs.read_term.Statement.{statement}
 use Rattle.sheet.proofs.read_term.Tie as tie
-use Rattle.sheet.proofs.read_term.Reads as reads
-use Rattle.sheet.proofs.read_term.Lts as lts
-use Rattle.sheet.proofs.no_sheet.Reads as no-sheet-reads
-use Rattle.sheet.proofs.span_at.Reads as span-at-reads
 
--- src/lib.rt:394:11
 span-at-requires : tie.Need-span-at-requires
 span-at-requires c κs = search needs
 
--- src/lib.rt:395:23
 enum-known-number : tie.Need-enum-known-number
 enum-known-number c = search needs
 
--- src/lib.rt:395:41
 no-sheet-requires : tie.Need-no-sheet-requires
 no-sheet-requires c κs = search needs
 
--- src/lib.rt:396:20
 enum-known-end : tie.Need-enum-known-end
 enum-known-end c = search needs
 
--- src/lib.rt:398:17
 returns : tie.Need-returns
 returns c = ended-here _ _ _ _ _ _ _ (ap saidSpan (sym (c .before .before .end .given .1)) ∙ c .before .before .before .before .span-at .ensures) (c .if1 .taken)
 
--- src/lib.rt:403:13
 no-sheet-requires-2 : tie.Need-no-sheet-requires-2
 no-sheet-requires-2 c κs = search needs
 
--- src/lib.rt:391:1
 returns-2 : tie.Need-returns-2
 returns-2 c = c .no-sheet .ensures ∙ ended-refused _ _ _ _ _ (ap saidSpan (sym (c .before .before .number .given .1)) ∙ c .before .before .before .before .span-at .ensures)
 
--- src/lib.rt:391:1
 returns-3 : tie.Need-returns-3
 returns-3 c = c .no-sheet2 .ensures ∙ ended-more _ _ _ _ _ _ _ (ap saidSpan (sym (c .before .before .before .end .given .1)) ∙ c .before .before .before .before .before .span-at .ensures) (c .before .if1 .left)
 

@@ -1,15 +1,12 @@
 -- `sheet::skip` meets its contract. The invariant: k records are passed. The measure is the records left. Assumes nothing.
-use Rattle.sheet.proofs.StretchLaws.{skip-more, node-stands}
-use Rattle.sheet_theorems.specs.Subterms.{skip}
 use Prim.Native.Nat.{_≤_, _-_}
-use borrow.Author.Needs.{needs}
+use mathlib.Core.Path.{_≡_, refl, sym, _∙_}
 use native.Mathlib.Omega.{arith}
-use mathlib.Core.Path.{_≡_, refl, sym, ap, _∙_}
+use borrow.Author.Needs.{needs}
+use Rattle.sheet_theorems.specs.Subterms.{skip}
+use Rattle.sheet.proofs.StretchLaws.{skip-more, node-stands}
 use Rattle.sheet.proofs.skip.Statement.{statement}
 use Rattle.sheet.proofs.skip.Tie as tie
-use Rattle.sheet.proofs.skip.Reads as reads
-use Rattle.sheet.proofs.skip.Lts as lts
-use Rattle.records.proofs.record_at.Reads as record-at-reads
 
 abbrev Inv-loop : tie.InvT-loop
 Inv-loop s start n at₀ k₀ at k = (k ≤ n) × (at ≡ skip s k start)
@@ -17,42 +14,34 @@ Inv-loop s start n at₀ k₀ at k = (k ≤ n) × (at ≡ skip s k start)
 abbrev μ-loop : tie.MeasureT-loop
 μ-loop s start n at₀ k₀ at k = n - k
 
--- src/lib.rt:447:5
 loop-holds : tie.Need-loop-holds Inv-loop μ-loop
 unfolding skip
 loop-holds c = (omega arith, refl)
 
--- src/lib.rt:448:31
 record-at-requires : tie.Need-record-at-requires Inv-loop μ-loop
 record-at-requires c κs = search needs
 
--- src/lib.rt:448:26
 enum-known-r : tie.Need-enum-known-r Inv-loop μ-loop
 enum-known-r c = search needs
 
--- src/lib.rt:449:13
 returns : tie.Need-returns Inv-loop μ-loop
 returns c =
     let l = c .before .before .before .loop in
     let w = c .before .before .before .before .before in
     node-stands (w .args .s .now) (w .args .start) (w .args .n) (l .k) (l .at) (w .pre) (c .before .before .loop-test .taken) (l .inv .1) (rw (← c .before .record-at .ensures) (c .match .keys2))
 
--- src/lib.rt:452:13
 add-k : tie.Need-add-k Inv-loop μ-loop
 add-k c = search needs
 
--- src/lib.rt:447:5
 loop-less : tie.Need-loop-less Inv-loop μ-loop
 loop-less c = omega arith
 
--- src/lib.rt:447:5
 loop-again : tie.Need-loop-again Inv-loop μ-loop
 loop-again c =
     let l = c .before .before .before .before .before .loop in
     let a = c .before .before .before .before .before .before .before .args in
     (omega arith, skip-more (a .s .now) (a .start) (l .k) (l .at) _ (l .inv .1) (sym (c .before .before .before .record-at .ensures) ∙ c .before .r .given .1))
 
--- src/lib.rt:441:1
 returns-2 : tie.Need-returns-2 Inv-loop μ-loop
 returns-2 c =
     let l = c .before .loop in

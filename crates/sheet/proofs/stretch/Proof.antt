@@ -1,42 +1,33 @@
 -- `sheet::stretch` meets its contract: the stretch lies within the sheet. Assumes nothing.
-use Rattle.sheet.proofs.StretchLaws.{stretch-within}
 use Prim.Native.Nat.{_+_, _-_}
+use mathlib.Core.Path.{_≡_}
 use native.Mathlib.Omega.{arith}
-use mathlib.Core.Path.{_≡_, refl, sym, ap, _∙_}
 use borrow.Author.Needs.{needs}
+use Rattle.sheet.proofs.StretchLaws.{stretch-within}
 use Rattle.sheet.proofs.stretch.Statement.{statement}
 use Rattle.sheet.proofs.stretch.Tie as tie
-use Rattle.sheet.proofs.stretch.Reads as reads
-use Rattle.sheet.proofs.stretch.Lts as lts
-use Rattle.sheet.proofs.stretch_bounds.Reads as stretch-bounds-reads
 
--- src/lib.rt:485:9
 stretch-bounds-requires : tie.Need-stretch-bounds-requires
 stretch-bounds-requires c κs = search needs
 
--- src/lib.rt:487:15
 add-end : tie.Need-add-end
 add-end c =
     let a = c .before .before .before .args in
     let w = rw (← c .before .stretch-bounds .ensures) at (stretch-within (a .s .now) (a .node)) in
     record { fits = omega arith }
 
--- src/lib.rt:488:5
 sub-result : tie.Need-sub-result
 sub-result c = search needs
 
--- src/lib.rt:488:5
 part-result-start : tie.Need-part-result-start
 part-result-start c = search needs
 
--- src/lib.rt:488:5
 part-result-end : tie.Need-part-result-end
 part-result-end c =
     let a = c .before .before .before .args in
     let w = rw (← c .before .stretch-bounds .ensures) at (stretch-within (a .s .now) (a .node)) in
     omega arith
 
--- src/lib.rt:482:1
 returns : tie.Need-returns
 returns c =
     let b = c .before .before .stretch-bounds in

@@ -1,12 +1,9 @@
 -- `sheet_corpus::cases` meets its contract. The invariant: the room keeps its length. The measure is the cases left. Assumes nothing.
+use mathlib.Core.Path.{_≡_}
 use borrow.Author.Needs.{needs}
 use lib.ListN.{length}
-use mathlib.Core.Path.{_≡_}
 use Rattle.sheet_corpus.proofs.cases.Statement.{statement}
 use Rattle.sheet_corpus.proofs.cases.Tie as tie
-use Rattle.sheet_corpus.proofs.cases.Reads as reads
-use Rattle.sheet_corpus.proofs.cases.Lts as lts
-use Rattle.sheet_corpus.proofs.case.Reads as case-reads
 
 abbrev Inv-loop : tie.InvT-loop
 Inv-loop room₀ left₀ room left = length room ≡ length room₀
@@ -14,39 +11,30 @@ Inv-loop room₀ left₀ room left = length room ≡ length room₀
 abbrev μ-loop : tie.MeasureT-loop
 μ-loop room₀ left₀ room left = left
 
--- src/main.rt:78:5
 loop-holds : tie.Need-loop-holds Inv-loop μ-loop
 loop-holds c = search needs
 
--- src/main.rt:79:13
 case-requires : tie.Need-case-requires Inv-loop μ-loop
 case-requires c κs = search needs
 
--- src/main.rt:80:13
 same-length : tie.Need-same-length Inv-loop μ-loop
 same-length c = search needs
 
--- src/main.rt:80:13
 returns : tie.Need-returns Inv-loop μ-loop
 returns c = search needs
 
--- src/main.rt:82:16
 sub-left : tie.Need-sub-left Inv-loop μ-loop
 sub-left c = search needs
 
--- src/main.rt:78:5
 loop-less : tie.Need-loop-less Inv-loop μ-loop
 loop-less c = search needs
 
--- src/main.rt:78:5
 loop-again : tie.Need-loop-again Inv-loop μ-loop
 loop-again c = search needs
 
--- src/main.rt:76:1
 same-length-2 : tie.Need-same-length-2 Inv-loop μ-loop
 same-length-2 c = search needs
 
--- src/main.rt:76:1
 returns-2 : tie.Need-returns-2 Inv-loop μ-loop
 returns-2 c = search needs
 
