@@ -1,5 +1,5 @@
 -- `typing_corpus::line` meets its contract: the walk is asked only where the sheet has been read. Assumes nothing.
-use Rattle.typing_corpus.proofs.Reading.{has-been-read}
+use Rattle.sheet.proofs.Told.{told}
 use borrow.Author.Needs.{needs}
 use Rattle.typing_corpus.proofs.line.Statement.{statement}
 use Rattle.typing_corpus.proofs.line.Tie as tie
@@ -11,7 +11,10 @@ enum-known-verdict : tie.Need-enum-known-verdict
 enum-known-verdict c = search needs
 
 typed-requires : tie.Need-typed-requires
-typed-requires c κs = has-been-read _ (c .before .before .before .read .result) (c .before .verdict .given .1) (c .before .before .before .read .ensures)
+typed-requires c κs =
+    let r = c .before .before .before .read in
+    let t = told _ (r .result) _ _ _ (r .ensures) (c .before .verdict .given .1) in
+    record { sheet = t .sheet; good = t .is; start = t .start-is }
 
 enum-known-verdict-2 : tie.Need-enum-known-verdict-2
 enum-known-verdict-2 c = search needs
