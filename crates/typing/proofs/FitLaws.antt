@@ -19,8 +19,8 @@ use Rattle.records.specs.Forms.{recIn}
 use Rattle.records.specs.Heads.{nodeOf}
 use Rattle.sheet_theorems.proofs.Standing.{fun-body, app-function, app-argument, lfun-body, lapp-function, lapp-argument, pair-first, pair-second, proj-pair, proj-body, fix-body}
 use Rattle.sheet_theorems.proofs.Complete.{Numbers}
-use Rattle.typing.specs.declared.Opening.{Opening}
-use Rattle.typing.specs.declared.Opening.the-variants as opening
+use Rattle.typing.specs.declared.rules.Opening.{Opening}
+use Rattle.typing.specs.declared.rules.Opening.the-variants as opening
 use Rattle.typing.specs.Steps.{kindNo, leftOf, rightOf, openingOf, opened, enterOf, betweenOf}
 use Rattle.typing.specs.Fits.{Fits}
 use Rattle.typing.proofs.Ranges.{left-in, right-in, Kept, kept}

@@ -7,11 +7,11 @@ use borrow.Author.Tests.{eq-eqb, ne-eqb}
 use lib.ListN.{drop}
 use Rattle.calculus.specs.Answer.{refused}
 use Rattle.calculus.specs.Walk.{shared, linear, Stack, found, useShared, useLinear}
-use Rattle.typing.specs.declared.Sided.{Sided}
-use Rattle.typing.specs.declared.Opening.{Opening}
-use Rattle.typing.specs.declared.Opening.the-variants as opening
-use Rattle.typing.specs.declared.Fit.{Fit}
-use Rattle.typing.specs.declared.Fit.the-variants as fit
+use Rattle.typing.specs.declared.rules.Sided.{Sided}
+use Rattle.typing.specs.declared.rules.Opening.{Opening}
+use Rattle.typing.specs.declared.rules.Opening.the-variants as opening
+use Rattle.typing.specs.declared.rules.Fit.{Fit}
+use Rattle.typing.specs.declared.rules.Fit.the-variants as fit
 use Rattle.typing.specs.Steps.{Types, sidedOf, constantOf, leafOf, openingOf, enterOf, wantedOf, usedUp, leaveOne, betweenOf, joinedOf, closesOf, leaveTwo}
 use Rattle.typing.proofs.StepLaws.{kind-is, left-is, right-is}
 use Rattle.typing.proofs.VerdictLaws.{foundAt}

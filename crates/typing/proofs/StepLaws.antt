@@ -12,9 +12,9 @@ use Rattle.calculus.specs.Terms.{parts, partAt}
 use Rattle.calculus.specs.Walk.{Stack, found, topUsed}
 use Rattle.parts.specs.Table.{Entry, listed, unlisted, saidPart, entryOf, named, shapeTy}
 use Rattle.parts.specs.declared.Part.{Part}
-use Rattle.typing.specs.declared.Sided.{Sided}
-use Rattle.typing.specs.declared.Opening.the-variants as opening
-use Rattle.typing.specs.declared.Fit.the-variants as fit
+use Rattle.typing.specs.declared.rules.Sided.{Sided}
+use Rattle.typing.specs.declared.rules.Opening.the-variants as opening
+use Rattle.typing.specs.declared.rules.Fit.the-variants as fit
 use Rattle.typing.specs.Steps.{Types, kindNo, leftOf, rightOf, sidedOf, bothSides, standsFor, constantOf, openingOf, wantedOf, usedUp, appliedOf, pairedOf, joinedOf, closesOf}
 
 -- ---- a test that the code turns round

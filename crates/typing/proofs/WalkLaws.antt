@@ -13,7 +13,7 @@ use Rattle.calculus.specs.Laid.{TableOk, Ranged}
 use Rattle.calculus.specs.Walk.{shared, linear, Stack, product, sharableArrow, linearArrow, Found, found, pop, topUsed, walk}
 use Rattle.records.specs.Heads.{nodeOf}
 use Rattle.sheet_theorems.proofs.Complete.{Numbers}
-use Rattle.typing.specs.declared.Fit.the-variants as fit
+use Rattle.typing.specs.declared.rules.Fit.the-variants as fit
 use Rattle.typing.specs.Steps.{Types, kindNo, constantOf, leafOf, openingOf, opened, enterOf, wantedOf, usedUp, leaveOne, betweenOf, appliedOf, pairedOf, joinedOf, closesOf, fitted, leaveTwo}
 use Rattle.typing.proofs.Ranges.{sharable-is, stands-for, kept}
 

@@ -9,11 +9,11 @@ use Rattle.calculus.specs.Answer.{Answer, good, refused, _>>=_, need}
 use Rattle.calculus.specs.Types.{Ty, bit, prod, arrow, lolli, TyRec, rec01, rec02, rec03, rec04}
 use Rattle.calculus.specs.Terms.{parts, partAt}
 use Rattle.calculus.specs.Walk.{shared, linear, Stack, Found, found, useShared, useLinear, topUsed}
-use Rattle.typing.specs.declared.Sided.{Sided}
-use Rattle.typing.specs.declared.Opening.{Opening}
-use Rattle.typing.specs.declared.Opening.the-variants as opening
-use Rattle.typing.specs.declared.Fit.{Fit}
-use Rattle.typing.specs.declared.Fit.the-variants as fit
+use Rattle.typing.specs.declared.rules.Sided.{Sided}
+use Rattle.typing.specs.declared.rules.Opening.{Opening}
+use Rattle.typing.specs.declared.rules.Opening.the-variants as opening
+use Rattle.typing.specs.declared.rules.Fit.{Fit}
+use Rattle.typing.specs.declared.rules.Fit.the-variants as fit
 
 -- the records of the types, by number
 abbrev pub Types : Type 0

@@ -1,20 +1,19 @@
 // The typing walk (document 01, "Numbers of the refusals": 10 to 15), on type numbers. Places are node numbers.
 use binders::Binders;
 use binders::Use;
-use parts::Named;
-use records::Form;
 use records::Node;
 use records::Record;
+use rules::Fit;
+use rules::Opening;
 ghost use mathlib.Core.Path.{_≡_};
-ghost use Prim.Native.Nat.{ℕ, _+_, _<_, _≤_};
-ghost use Rattle.calculus.specs.Types.{bit};
-ghost use Rattle.calculus.specs.Walk.{Stack};
+ghost use Prim.Native.Nat.{_+_, _<_, _≤_};
 ghost use Rattle.records.specs.Forms.{recIn};
-ghost use Rattle.parts.specs.Table.{shapeTy};
 ghost use Rattle.binders.specs.Stacks.{stackOf, saidUse};
-ghost use Rattle.typing.specs.Steps.{sidedOf, standsFor, constantOf, leafOf, openingOf, enterOf, wantedOf, usedUp, leaveOne, betweenOf, appliedOf, pairedOf, joinedOf, closesOf, leaveTwo};
+ghost use Rattle.typing.specs.Steps.{leafOf, enterOf, usedUp, leaveOne, betweenOf, leaveTwo};
 ghost use Rattle.typing.specs.Verdicts.{stoppedOf, fineOf, Says, Follows, saidTyping, checkOf};
 ghost use Rattle.typing.specs.Fits.{Ready, Walked, Holds, Read};
+
+mod rules;
 
 // A refusal: its number and its place. Callers pass it on unread.
 pub struct Refusal {
@@ -32,40 +31,6 @@ pub enum Verdict {
 pub struct Checked {
     pub verdict: Verdict,
     pub binders: Binders,
-}
-
-// A type record as numbers: its kind, 1 to 4, and its two sides, 0 for the single bit.
-pub struct Sided {
-    pub kind: u8,
-    pub left: u8,
-    pub right: u8,
-}
-
-fn sides_of(s: &[u8], t: u8) -> Sided
-    ensures { λ r. ⌜ r ≡ sidedOf (recIn (now (s .entry)) t) ⌝ }
-{
-    match records::type_at(s, t) {
-        Form::Bit => Sided {
-            kind: 1,
-            left: 0,
-            right: 0,
-        },
-        Form::Product(left, right) => Sided {
-            kind: 2,
-            left,
-            right,
-        },
-        Form::Arrow(left, right) => Sided {
-            kind: 3,
-            left,
-            right,
-        },
-        Form::Linear(left, right) => Sided {
-            kind: 4,
-            left,
-            right,
-        },
-    }
 }
 
 fn stopped(number: u8, place: usize, b: Binders) -> Checked
@@ -87,68 +52,6 @@ fn fine(ty: u8, next: usize, count: usize, b: Binders) -> Checked
 }
 
 // ---- leaves
-
-// Type t is the single bit.
-fn is_bit(s: &[u8], t: u8) -> bool
-    ensures { λ r. ⌜ r ≡ standsFor (recIn (now (s .entry))) bit t ⌝ }
-{
-    sides_of(s, t).kind == 1
-}
-
-// Type t is the sharable arrow from the bit to the bit.
-fn is_unary(s: &[u8], t: u8) -> bool
-    ensures { λ r. ⌜ r ≡ standsFor (recIn (now (s .entry))) (shapeTy 1) t ⌝ }
-{
-    let q = sides_of(s, t);
-    if q.kind != 3 {
-        return false;
-    }
-    if !is_bit(s, q.left) {
-        return false;
-    }
-    is_bit(s, q.right)
-}
-
-// Type t is the sharable arrow from the bit to such an arrow.
-fn is_binary(s: &[u8], t: u8) -> bool
-    ensures { λ r. ⌜ r ≡ standsFor (recIn (now (s .entry))) (shapeTy 2) t ⌝ }
-{
-    let q = sides_of(s, t);
-    if q.kind != 3 {
-        return false;
-    }
-    if !is_bit(s, q.left) {
-        return false;
-    }
-    is_unary(s, q.right)
-}
-
-fn has_shape(s: &[u8], t: u8, shape: u8) -> bool
-    requires { ⌜ shape ≤ 2 ⌝ }
-    ensures { λ r. ⌜ r ≡ standsFor (recIn (now (s .entry))) (shapeTy shape) t ⌝ }
-{
-    match shape {
-        0 => is_bit(s, t),
-        1 => is_unary(s, t),
-        _ => is_binary(s, t),
-    }
-}
-
-// A constant: 15, then 12.
-fn constant(s: &[u8], p: u8, t: u8) -> Use
-    ensures { λ r. ⌜ ((n : ℕ) (st : Stack) → saidUse r st n ≡ constantOf (recIn (now (s .entry))) p t n st) ⌝ }
-{
-    match parts::part_at(p) {
-        Named::Unknown => Use::Refused(15),
-        Named::Part(part) => {
-            if has_shape(s, t, part.shape) {
-                Use::Type(t)
-            } else {
-                Use::Refused(12)
-            }
-        }
-    }
-}
 
 fn settled(u: Use, next: usize, node: usize, b: Binders) -> Checked
     requires { ⌜ node < 2048 ⌝ }
@@ -174,62 +77,17 @@ fn leaf(s: &[u8], n: Node, node: usize, b: Binders) -> Checked
             let answer = taken.answer;
             settled(answer, n.next, node, taken.binders)
         }
-        _ => settled(constant(s, n.first, n.second), n.next, node, b),
+        _ => settled(rules::constant(s, n.first, n.second), n.next, node, b),
     }
 }
 
 // ---- entering a node
 
-// What entering a node does: bind nothing, a sharable or a linear variable of a type, or find a written type of the wrong shape.
-pub enum Opening {
-    Nothing,
-    Shared(u8),
-    Linear(u8),
-    Misfit,
-}
-
-fn opens(s: &[u8], kind: u8, t: u8) -> Opening
-    ensures { λ r. ⌜ r ≡ openingOf kind t (recIn (now (s .entry)) t) ⌝ }
-{
-    let q = sides_of(s, t);
-    match kind {
-        0x13 => {
-            if q.kind == 3 {
-                Opening::Shared(q.left)
-            } else {
-                Opening::Misfit
-            }
-        }
-        0x15 => {
-            if q.kind == 4 {
-                Opening::Linear(q.left)
-            } else {
-                Opening::Misfit
-            }
-        }
-        0x17 => {
-            if q.kind == 2 {
-                Opening::Nothing
-            } else {
-                Opening::Misfit
-            }
-        }
-        0x19 => {
-            if q.kind <= 2 {
-                Opening::Shared(t)
-            } else {
-                Opening::Misfit
-            }
-        }
-        _ => Opening::Nothing,
-    }
-}
-
 fn enter(s: &[u8], n: Node, node: usize, b: Binders) -> Checked
     requires { ⌜ (b .count < 128) × (node < 2048) ⌝ }
     ensures { λ r. ⌜ Says r (enterOf (recIn (now (s .entry))) (n .kind) (n .first) node (stackOf b)) (n .next) (node + 1) ⌝ }
 {
-    match opens(s, n.kind, n.first) {
+    match rules::opens(s, n.kind, n.first) {
         Opening::Nothing => fine(n.first, n.next, node + 1, b),
         Opening::Shared(t) => fine(n.first, n.next, node + 1, binders::push(b, t, 0)),
         Opening::Linear(t) => fine(n.first, n.next, node + 1, binders::push(b, t, 1)),
@@ -238,16 +96,6 @@ fn enter(s: &[u8], n: Node, node: usize, b: Binders) -> Checked
 }
 
 // ---- leaving a node with one subterm
-
-// The type that the body of a function or a fixed point of type t must have.
-fn wanted(s: &[u8], kind: u8, t: u8) -> u8
-    ensures { λ r. ⌜ r ≡ wantedOf kind t (recIn (now (s .entry)) t) ⌝ }
-{
-    if kind == 0x19 {
-        return t;
-    }
-    sides_of(s, t).right
-}
 
 // A linear function's variable has been used.
 fn used_up(kind: u8, b: Binders) -> bool
@@ -270,7 +118,7 @@ fn leave_one(s: &[u8], n: Node, node: usize, x: Checked) -> Checked
         return x;
     };
     let used = used_up(n.kind, x.binders);
-    let body = wanted(s, n.kind, n.first);
+    let body = rules::wanted(s, n.kind, n.first);
     if !used {
         return stopped(14, node, x.binders);
     }
@@ -294,7 +142,7 @@ fn between(s: &[u8], kind: u8, node: usize, first: Checked) -> Checked
     if kind != 0x18 {
         return first;
     }
-    let q = sides_of(s, ty);
+    let q = rules::sides_of(s, ty);
     if q.kind != 2 {
         return stopped(12, node, first.binders);
     }
@@ -304,59 +152,6 @@ fn between(s: &[u8], kind: u8, node: usize, first: Checked) -> Checked
 
 // ---- leaving a node with two subterms
 
-// The type of a node, or none that the rule gives.
-pub enum Fit {
-    Type(u8),
-    Misfit,
-}
-
-// A function of type f, an arrow of kind k, at an argument of type a.
-fn applied(s: &[u8], k: u8, f: u8, a: u8) -> Fit
-    ensures { λ r. ⌜ r ≡ appliedOf (recIn (now (s .entry)) f) k a ⌝ }
-{
-    let q = sides_of(s, f);
-    if q.kind != k {
-        return Fit::Misfit;
-    }
-    if a != q.left {
-        return Fit::Misfit;
-    }
-    Fit::Type(q.right)
-}
-
-// A pair of the written type t, of two terms of types a and b.
-fn paired(s: &[u8], t: u8, a: u8, b: u8) -> Fit
-    ensures { λ r. ⌜ r ≡ pairedOf (recIn (now (s .entry)) t) t a b ⌝ }
-{
-    let q = sides_of(s, t);
-    if a != q.left {
-        return Fit::Misfit;
-    }
-    if b != q.right {
-        return Fit::Misfit;
-    }
-    Fit::Type(t)
-}
-
-// Types of the two subterms to the type of the node.
-fn joined(s: &[u8], kind: u8, t: u8, a: u8, b: u8) -> Fit
-    ensures { λ r. ⌜ r ≡ joinedOf (recIn (now (s .entry))) kind t a b ⌝ }
-{
-    match kind {
-        0x14 => applied(s, 3, a, b),
-        0x16 => applied(s, 4, a, b),
-        0x17 => paired(s, t, a, b),
-        _ => Fit::Type(b),
-    }
-}
-
-// The binders that go out of scope: a projection's two.
-fn closes(kind: u8) -> usize
-    ensures { λ r. ⌜ r ≡ closesOf kind ⌝ }
-{
-    if kind == 0x18 { 2 } else { 0 }
-}
-
 fn leave_two(s: &[u8], n: Node, node: usize, a: u8, y: Checked) -> Checked
     ensures { λ r. ⌜ Follows y r (leaveTwo (recIn (now (s .entry))) (n .kind) (n .first) node a) ⌝ }
 {
@@ -364,9 +159,14 @@ fn leave_two(s: &[u8], n: Node, node: usize, a: u8, y: Checked) -> Checked
     let Verdict::Fine { ty, next, count } = v else {
         return y;
     };
-    match joined(s, n.kind, n.first, a, ty) {
+    match rules::joined(s, n.kind, n.first, a, ty) {
         Fit::Misfit => stopped(12, node, y.binders),
-        Fit::Type(t) => fine(t, next, count, binders::leave(y.binders, closes(n.kind))),
+        Fit::Type(t) => fine(
+            t,
+            next,
+            count,
+            binders::leave(y.binders, rules::closes(n.kind)),
+        ),
     }
 }
 

@@ -1,8 +1,8 @@
--- `typing::paired` meets its contract: by the two sides. Assumes nothing.
+-- `typing::rules::paired` meets its contract: by the two sides. Assumes nothing.
 use Rattle.typing.proofs.StepLaws.{paired-left, paired-right, paired-fits}
 use borrow.Author.Needs.{needs}
-use Rattle.typing.proofs.paired.Statement.{statement}
-use Rattle.typing.proofs.paired.Tie as tie
+use Rattle.typing.proofs.rules.paired.Statement.{statement}
+use Rattle.typing.proofs.rules.paired.Tie as tie
 
 sides-of-requires : tie.Need-sides-of-requires
 sides-of-requires c κs = search needs

@@ -1,10 +1,10 @@
--- `typing::joined` meets its contract: by the kind of the node. Assumes nothing.
+-- `typing::rules::joined` meets its contract: by the kind of the node. Assumes nothing.
 use mathlib.Core.Path.{_∙_}
 use Rattle.records.specs.Forms.{recIn}
 use Rattle.typing.proofs.StepLaws.{join-app, join-lapp, join-pair, join-last}
 use borrow.Author.Needs.{needs}
-use Rattle.typing.proofs.joined.Statement.{statement}
-use Rattle.typing.proofs.joined.Tie as tie
+use Rattle.typing.proofs.rules.joined.Statement.{statement}
+use Rattle.typing.proofs.rules.joined.Tie as tie
 
 applied-requires : tie.Need-applied-requires
 applied-requires c κs = search needs

@@ -1,8 +1,8 @@
--- `typing::applied` meets its contract: by the kind and the left side. Assumes nothing.
+-- `typing::rules::applied` meets its contract: by the kind and the left side. Assumes nothing.
 use Rattle.typing.proofs.StepLaws.{applied-kind, applied-left, applied-fits}
 use borrow.Author.Needs.{needs}
-use Rattle.typing.proofs.applied.Statement.{statement}
-use Rattle.typing.proofs.applied.Tie as tie
+use Rattle.typing.proofs.rules.applied.Statement.{statement}
+use Rattle.typing.proofs.rules.applied.Tie as tie
 
 sides-of-requires : tie.Need-sides-of-requires
 sides-of-requires c κs = search needs

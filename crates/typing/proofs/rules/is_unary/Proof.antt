@@ -1,12 +1,12 @@
--- `typing::is_unary` meets its contract: by the kind of the record and its two sides. Assumes nothing.
+-- `typing::rules::is_unary` meets its contract: by the kind of the record and its two sides. Assumes nothing.
 use mathlib.Core.Path.{sym, _∙_}
 use Rattle.calculus.specs.Types.{bit}
 use Rattle.records.specs.Forms.{recIn}
 use Rattle.typing.specs.Steps.{standsFor}
 use Rattle.typing.proofs.StepLaws.{not-so, so, both-kind, both-left, both-right}
 use borrow.Author.Needs.{needs}
-use Rattle.typing.proofs.is_unary.Statement.{statement}
-use Rattle.typing.proofs.is_unary.Tie as tie
+use Rattle.typing.proofs.rules.is_unary.Statement.{statement}
+use Rattle.typing.proofs.rules.is_unary.Tie as tie
 
 sides-of-requires : tie.Need-sides-of-requires
 sides-of-requires c κs = search needs

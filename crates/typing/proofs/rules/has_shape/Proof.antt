@@ -1,9 +1,9 @@
--- `typing::has_shape` meets its contract: by the shape. Assumes nothing.
+-- `typing::rules::has_shape` meets its contract: by the shape. Assumes nothing.
 use mathlib.Core.Path.{_≡_}
 use native.Mathlib.Omega.{arith}
 use borrow.Author.Needs.{needs}
-use Rattle.typing.proofs.has_shape.Statement.{statement}
-use Rattle.typing.proofs.has_shape.Tie as tie
+use Rattle.typing.proofs.rules.has_shape.Statement.{statement}
+use Rattle.typing.proofs.rules.has_shape.Tie as tie
 
 is-bit-requires : tie.Need-is-bit-requires
 is-bit-requires c κs = search needs

@@ -1,4 +1,4 @@
--- `typing::is_binary` meets its contract: by the kind of the record and its two sides. Assumes nothing.
+-- `typing::rules::is_binary` meets its contract: by the kind of the record and its two sides. Assumes nothing.
 use mathlib.Core.Path.{sym, _∙_}
 use Rattle.calculus.specs.Types.{bit}
 use Rattle.parts.specs.Table.{shapeTy}
@@ -6,8 +6,8 @@ use Rattle.records.specs.Forms.{recIn}
 use Rattle.typing.specs.Steps.{standsFor}
 use Rattle.typing.proofs.StepLaws.{not-so, so, both-kind, both-left, both-right}
 use borrow.Author.Needs.{needs}
-use Rattle.typing.proofs.is_binary.Statement.{statement}
-use Rattle.typing.proofs.is_binary.Tie as tie
+use Rattle.typing.proofs.rules.is_binary.Statement.{statement}
+use Rattle.typing.proofs.rules.is_binary.Tie as tie
 
 sides-of-requires : tie.Need-sides-of-requires
 sides-of-requires c κs = search needs

@@ -1,11 +1,11 @@
--- `typing::constant` meets its contract: by the table of parts, then by the shape of the type. Assumes nothing.
+-- `typing::rules::constant` meets its contract: by the table of parts, then by the shape of the type. Assumes nothing.
 use mathlib.Core.Path.{sym, _∙_}
 use Rattle.records.specs.Forms.{recIn}
 use Rattle.parts.proofs.Rule.{few-arrows}
 use Rattle.typing.proofs.StepLaws.{constant-unknown, constant-misfit, constant-fits, shape-is}
 use borrow.Author.Needs.{needs}
-use Rattle.typing.proofs.constant.Statement.{statement}
-use Rattle.typing.proofs.constant.Tie as tie
+use Rattle.typing.proofs.rules.constant.Statement.{statement}
+use Rattle.typing.proofs.rules.constant.Tie as tie
 
 part-at-requires : tie.Need-part-at-requires
 part-at-requires c κs = search needs

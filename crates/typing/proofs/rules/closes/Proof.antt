@@ -1,7 +1,7 @@
--- `typing::closes` meets its contract. Assumes nothing.
+-- `typing::rules::closes` meets its contract. Assumes nothing.
 use Rattle.typing.proofs.StepLaws.{closes-two, closes-none}
-use Rattle.typing.proofs.closes.Statement.{statement}
-use Rattle.typing.proofs.closes.Tie as tie
+use Rattle.typing.proofs.rules.closes.Statement.{statement}
+use Rattle.typing.proofs.rules.closes.Tie as tie
 
 returns : tie.Need-returns
 returns c = closes-two _ (c .if1 .taken)

@@ -1,8 +1,8 @@
--- `typing::wanted` meets its contract: by the kind of the node. Assumes nothing.
+-- `typing::rules::wanted` meets its contract: by the kind of the node. Assumes nothing.
 use Rattle.typing.proofs.StepLaws.{wanted-fix, wanted-right}
 use borrow.Author.Needs.{needs}
-use Rattle.typing.proofs.wanted.Statement.{statement}
-use Rattle.typing.proofs.wanted.Tie as tie
+use Rattle.typing.proofs.rules.wanted.Statement.{statement}
+use Rattle.typing.proofs.rules.wanted.Tie as tie
 
 returns : tie.Need-returns
 returns c = wanted-fix _ _ _ (c .if1 .taken)

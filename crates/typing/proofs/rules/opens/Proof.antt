@@ -1,8 +1,8 @@
--- `typing::opens` meets its contract: by the kind of the node and the kind of the type. Assumes nothing.
+-- `typing::rules::opens` meets its contract: by the kind of the node and the kind of the type. Assumes nothing.
 use Rattle.typing.proofs.StepLaws.{open-fun, open-fun-not, open-lfun, open-lfun-not, open-pair, open-pair-not, open-fix, open-fix-not, open-none}
 use borrow.Author.Needs.{needs}
-use Rattle.typing.proofs.opens.Statement.{statement}
-use Rattle.typing.proofs.opens.Tie as tie
+use Rattle.typing.proofs.rules.opens.Statement.{statement}
+use Rattle.typing.proofs.rules.opens.Tie as tie
 
 sides-of-requires : tie.Need-sides-of-requires
 sides-of-requires c κs = search needs

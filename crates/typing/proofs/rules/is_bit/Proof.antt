@@ -1,9 +1,9 @@
--- `typing::is_bit` meets its contract. Assumes nothing.
+-- `typing::rules::is_bit` meets its contract. Assumes nothing.
 use Rattle.typing.specs.Steps.{standsFor}
 use Rattle.typing.proofs.StepLaws.{bit-test}
 use borrow.Author.Needs.{needs}
-use Rattle.typing.proofs.is_bit.Statement.{statement}
-use Rattle.typing.proofs.is_bit.Tie as tie
+use Rattle.typing.proofs.rules.is_bit.Statement.{statement}
+use Rattle.typing.proofs.rules.is_bit.Tie as tie
 
 sides-of-requires : tie.Need-sides-of-requires
 sides-of-requires c κs = search needs
