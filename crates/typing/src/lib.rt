@@ -10,8 +10,9 @@ ghost use Prim.Native.Nat.{_+_, _<_, _≤_};
 ghost use Rattle.records.specs.Forms.{recIn};
 ghost use Rattle.binders.specs.Stacks.{stackOf, saidUse};
 ghost use Rattle.typing.specs.Steps.{leafOf, enterOf, usedUp, leaveOne, betweenOf, leaveTwo};
-ghost use Rattle.typing.specs.Verdicts.{stoppedOf, fineOf, Says, Follows, saidTyping, checkOf};
-ghost use Rattle.typing.specs.Fits.{Ready, Walked, Holds, Read};
+ghost use Rattle.typing.specs.Verdicts.{stoppedOf, fineOf, Says, Follows};
+ghost use Rattle.typing.specs.Answers.{saidTyping, checkOf, Read};
+ghost use Rattle.typing.specs.Fits.{Ready, Walked, Holds};
 
 mod rules;
 
