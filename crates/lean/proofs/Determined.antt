@@ -1,12 +1,12 @@
 -- Each public function's contract determines its result, and the memory or the output that it writes: two results that it allows for one
 -- call are equal. Assumes nothing.
-use mathlib.Core.Path.{_≡_, refl, ap, sym, _∙_}
+use mathlib.Core.Path.{_≡_, ap, sym, _∙_}
 use mathlib.Core.Bool.{cond}
 use mathlib.Core.List.{List}
-use Prim.Native.Nat.{ℕ, _+_, _-_, _≤_, _<_}
+use Prim.Native.Nat.{ℕ, _+_, _-_, _<_}
 use native.Mathlib.Omega.{arith}
 use native.Mathlib.Decide.{decLe}
-use lib.ListN.{length, getD}
+use lib.ListN.{getD}
 use lib.Seq.{ext-getD}
 use contract.Lifetimes.{Lfts}
 use denote.Triple.Clauses.{AtExit}
@@ -15,7 +15,7 @@ use borrow.Fn.Kinds.{Out, Dens, resT, endedOf}
 use Rattle.calculus.specs.Net.{Net}
 use Rattle.calculus.specs.Lean.{root}
 use Rattle.calculus.specs.Formed.{isOut}
-use Rattle.lean.specs.Table.{entry, Within, Rooted}
+use Rattle.lean.specs.Table.{entry, Rooted}
 use Rattle.lean.proofs.roots.Kinds as roots
 use Rattle.lean.proofs.roots.Reads as roots-reads
 use Rattle.lean.proofs.lean_length.Kinds as lean-length

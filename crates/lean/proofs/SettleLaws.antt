@@ -1,15 +1,15 @@
 -- One output more is settled: the table stays partly done. Assumes nothing.
-use Prim.Native.Nat.{ℕ, zero, suc, _+_, _-_, _≤_, _<_}
+use Prim.Native.Nat.{ℕ, _+_, _-_, _<_}
 use mathlib.Core.Path.{_≡_, refl, sym, ap, _∙_, subst}
 use mathlib.Core.Bool.{Bool, true, false, cond}
-use mathlib.Core.List.{List, [], _∷_}
+use mathlib.Core.List.{List}
 use native.Mathlib.Omega.{arith}
 use native.Mathlib.Decide.{ℕ-discrete}
 use lib.Dec.{T}
-use lib.ListN.{length, getD, set}
+use lib.ListN.{getD, set}
 use Rattle.laws.proofs.Tests.{false-not-T}
 use Rattle.calculus.specs.Net.{Net}
-use Rattle.calculus.specs.Lean.{back, backs, root}
+use Rattle.calculus.specs.Lean.{root}
 use Rattle.calculus.specs.Formed.{isOut}
 use Rattle.circuit_theorems.proofs.RootLaws.{root-reached, root-back}
 use Rattle.circuit_theorems.proofs.BackLaws.{back-out, backs-out}

@@ -1,12 +1,10 @@
+-- By the kind. Assumes nothing.
 use borrow.Author.Needs.{needs}
 use native.Mathlib.Omega.{arith}
 use Rattle.netlist.proofs.PartInputs.{inputs-few}
 use Rattle.lean.proofs.KindLaws.{point-kind, part-kind}
 use Rattle.lean.proofs.output_of.Statement.{statement}
 use Rattle.lean.proofs.output_of.Tie as tie
-use Rattle.lean.proofs.output_of.Reads as reads
-use Rattle.lean.proofs.output_of.Lts as lts
-use Rattle.lean.proofs.inputs_of.Reads as inputs-of-reads
 
 -- src/lib.rt:29:24
 add-result : tie.Need-add-result

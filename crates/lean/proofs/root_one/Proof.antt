@@ -1,13 +1,9 @@
+-- What is met has the same root as o, and it is settled or comes round. Assumes nothing.
 use borrow.Author.Needs.{needs}
 use mathlib.Core.Path.{_∙_}
 use Rattle.lean.proofs.SettleLaws.{loose-out}
 use Rattle.lean.proofs.root_one.Statement.{statement}
 use Rattle.lean.proofs.root_one.Tie as tie
-use Rattle.lean.proofs.root_one.Reads as reads
-use Rattle.lean.proofs.root_one.Lts as lts
-use Rattle.lean.proofs.meet.Reads as meet-reads
-use Rattle.lean.proofs.round.Reads as round-reads
-use Rattle.lean.proofs.settle.Reads as settle-reads
 
 -- src/lib.rt:179:13
 add-if1 : tie.Need-add-if1
