@@ -6,7 +6,7 @@ use Rattle.calculus.specs.Answer.{good, refused}
 use Rattle.calculus.proofs.Answers.{refused≢good, good-inj}
 use Rattle.calculus.specs.Read.{readSheet}
 use Rattle.calculus.specs.Stretch.{Stretch, stretchOf, cut}
-use Rattle.sheet.specs.Said.{Counts, ReadSaid, saidVerdict, saidReading, readingOf, saidBounds}
+use Rattle.sheet.specs.Sheets.{Counts, ReadSaid, saidVerdict, saidReading, readingOf, saidBounds}
 use Rattle.sheet.specs.declared.Verdict.{Verdict}
 use Rattle.sheet.specs.declared.Verdict.the-variants as verdict
 use Rattle.sheet.specs.declared.Reading.{Reading}

@@ -13,7 +13,6 @@ use Rattle.calculus.specs.Answer.{good, refused, _>>=_, need}
 use Rattle.calculus.specs.Read.{Kind, unknown, type, node, NodeKind, k11, k12, k13, k14, k15, k16, k17, k18, k19, k1A, kindOf, nodeBody, nodeTyped, byte, headAt}
 use Rattle.records.specs.Record.{recordAt, shapeOf, bodyAt}
 use Rattle.records.specs.declared.Node.{Node}
-use Rattle.records.specs.declared.Rule.{Rule}
 use Rattle.records.specs.declared.Shape.{Shape}
 use Rattle.records.specs.declared.Shape.the-variants as shape
 use Rattle.records.specs.declared.Record.the-variants as rec

@@ -21,7 +21,6 @@ use Rattle.records.specs.declared.Shape.{Shape}
 use Rattle.records.specs.declared.Shape.the-variants as shape
 use Rattle.records.specs.declared.TypeRecord.{TypeRecord}
 use Rattle.records.specs.declared.Node.{Node}
-use Rattle.records.specs.declared.Record.{Record}
 use Rattle.records.specs.declared.Record.the-variants as rec
 use Rattle.records.proofs.Record.{the-type}
 use Rattle.sheet.specs.Said.{nodeSubs}

@@ -16,7 +16,8 @@ use Rattle.calculus.specs.Write.{tableBytes}
 use Rattle.sheet_theorems.proofs.Tables.{empty-ok}
 use Rattle.sheet_theorems.proofs.Laying.{types-listed, termed}
 use Rattle.sheet.specs.Tables.{sizesOf}
-use Rattle.sheet.specs.Said.{Count, TypesSaid, allTypes, typesOf, End, end, spanned, wholeSheet, noSheet, readingOf, endedOf}
+use Rattle.sheet.specs.Said.{Count, TypesSaid, allTypes, typesOf, End, end, spanned, endedOf}
+use Rattle.sheet.specs.Sheets.{wholeSheet, noSheet, readingOf}
 
 -- ---- behind the types
 

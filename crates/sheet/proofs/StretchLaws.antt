@@ -19,7 +19,6 @@ use Rattle.sheet_theorems.proofs.StretchHolds.{skip-next, stretch-holds, stretc
 use Rattle.sheet_theorems.proofs.SubtermRead.{stretch-read}
 use Rattle.records.specs.Record.{recordAt}
 use Rattle.records.specs.declared.Node.{Node}
-use Rattle.records.specs.declared.Record.{Record}
 use Rattle.records.specs.declared.Record.the-variants as rec
 use Rattle.records.proofs.Record.{the-type}
 use Rattle.records.proofs.Laws.{node-next, stands-record}

@@ -13,8 +13,7 @@ use Rattle.calculus.specs.Write.{tableBytes}
 use Rattle.calculus.specs.Laid.{Laid}
 use Rattle.sheet_theorems.proofs.Laying.{laid}
 use Rattle.sheet.specs.Tables.{sizesOf}
-use Rattle.sheet.specs.Said.{Counts, ReadSaid, saidVerdict, saidReading, readingOf}
-use Rattle.sheet.specs.declared.Verdict.{Verdict}
+use Rattle.sheet.specs.Sheets.{Counts, ReadSaid, saidVerdict, saidReading, readingOf}
 use Rattle.sheet.specs.declared.Verdict.the-variants as verdict
 use Rattle.sheet.specs.declared.Reading.{Reading}
 use Rattle.sheet.proofs.TableLaws.{size-at}

@@ -23,7 +23,6 @@ use Rattle.records.specs.Forms.{recOf, recIn}
 use Rattle.records.proofs.FormLaws.{rec-first, rec-later, rec-long}
 use Rattle.records.specs.Record.{recordAt, shapeOf}
 use Rattle.records.specs.declared.Rule.{Rule}
-use Rattle.records.specs.declared.Shape.{Shape}
 use Rattle.records.specs.declared.Shape.the-variants as shape
 use Rattle.records.proofs.Record.{the-type}
 use Rattle.records.specs.declared.TypeRecord.{TypeRecord}

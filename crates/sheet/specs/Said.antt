@@ -1,4 +1,4 @@
--- What the answers of the code say, in the terms of the definitions: one case for each variant. Assumes nothing.
+-- What the answers on type records, nodes' records and terms say, in the terms of the definitions: one case for each variant. Assumes nothing.
 use Prim.Native.Nat.{ℕ, _+_}
 use mathlib.Core.Bool.{Bool, false, not, cond}
 use mathlib.Core.List.{List, []}
@@ -7,10 +7,9 @@ use lib.ListN.{length}
 use Rattle.calculus.specs.Answer.{Answer, good, refused, _>>=_, need}
 use Rattle.calculus.specs.Types.{Table}
 use Rattle.calculus.specs.Terms.{nodes}
-use Rattle.calculus.specs.Write.{tableBytes}
-use Rattle.calculus.specs.Stretch.{Stretch}
-use Rattle.calculus.specs.Read.{Kind, unknown, type, node, NodeKind, k11, k12, k13, k14, k15, k16, k17, k18, k19, k1A, nodeBody, headAt, Got, Sheet}
+use Rattle.calculus.specs.Read.{Kind, unknown, type, node, NodeKind, k11, k12, k13, k14, k15, k16, k17, k18, k19, k1A, nodeBody, headAt, Got}
 use Rattle.sheet.specs.Tables.{sizesOf}
+use Rattle.sheet.specs.Sheets.{ReadSaid, wholeSheet, noSheet}
 use Rattle.sheet.specs.declared.types.Listed.{Listed}
 use Rattle.sheet.specs.declared.types.Listed.the-variants as listed
 use Rattle.sheet.specs.declared.types.Types.{Types}
@@ -18,10 +17,6 @@ use Rattle.sheet.specs.declared.term.Head.{Head}
 use Rattle.sheet.specs.declared.term.Head.the-variants as head
 use Rattle.sheet.specs.declared.term.Span.{Span}
 use Rattle.sheet.specs.declared.term.Span.the-variants as span
-use Rattle.sheet.specs.declared.Verdict.{Verdict}
-use Rattle.sheet.specs.declared.Verdict.the-variants as verdict
-use Rattle.sheet.specs.declared.Reading.{Reading}
-use Rattle.sheet.specs.declared.Bounds.{Bounds}
 use Rattle.records.specs.declared.Rule.{Rule}
 use Rattle.records.specs.declared.Rule.the-variants as rule
 use Rattle.records.specs.declared.Node.{Node}
@@ -136,43 +131,9 @@ unfoldable pub spanned : Answer Got → Answer End
 spanned (good g) = end (g .next) (g .count)
 spanned (refused number place) = refused number place
 
--- ---- a sheet
-
--- its number of types, its number of nodes, and where its term begins
-pub record Counts : Type 0 where
-  pub types : ℕ
-  pub nodes : ℕ
-  pub start : ℕ
-
--- .. or a refusal, and the sizes of its types
-pub record ReadSaid : Type 0 where
-  pub answer : Answer Counts
-  pub sizes : List ℕ
-
-abbrev pub saidVerdict : Verdict → Answer Counts
-saidVerdict (verdict.Read types n start) = good (record { types = types; nodes = n; start = start })
-saidVerdict (verdict.Refused number place) = refused number place
-
-abbrev pub saidReading : Reading → ReadSaid
-saidReading r = record { answer = saidVerdict (r .verdict); sizes = r .sizes }
-
-abbrev pub wholeSheet : ℕ → ℕ → ℕ → List ℕ → ReadSaid
-wholeSheet types n start sizes = record { answer = good (record { types = types; nodes = n; start = start }); sizes = sizes }
-
--- no sizes where the sheet is refused
-abbrev pub noSheet : ℕ → ℕ → ReadSaid
-noSheet number place = record { answer = refused number place; sizes = sizesOf [] }
-
-unfoldable pub readingOf : Answer Sheet → ReadSaid
-readingOf (good σ) = wholeSheet (length (σ .table)) (nodes (σ .term)) (length (tableBytes (σ .table))) (sizesOf (σ .table))
-readingOf (refused number place) = noSheet number place
+-- ---- the sheet behind its types
 
 -- behind the types: the term's end is the sheet's
 unfoldable pub endedOf : Answer End → ℕ → ℕ → ℕ → List ℕ → ReadSaid
 endedOf (good e) size types start sizes = cond (eqb (e .at) size) (wholeSheet types (e .count) start sizes) (noSheet 9 (e .at))
 endedOf (refused number place) size types start sizes = noSheet number place
-
--- ---- a part of the sheet
-
-abbrev pub saidBounds : Bounds → Stretch
-saidBounds b = record { start = b .start; size = b .size }

@@ -8,7 +8,8 @@ ghost use Rattle.calculus.specs.Read.{readTerm, readSheet};
 ghost use Rattle.calculus.specs.Stretch.{nowhere, stretchOf, cut};
 ghost use Rattle.sheet_theorems.specs.Subterms.{skip};
 ghost use Rattle.sheet.specs.Nodes.{NodesFrom};
-ghost use Rattle.sheet.specs.Said.{spanned, saidReading, noSheet, endedOf, readingOf, saidBounds};
+ghost use Rattle.sheet.specs.Said.{spanned, endedOf};
+ghost use Rattle.sheet.specs.Sheets.{saidReading, noSheet, readingOf, saidBounds};
 
 mod term;
 mod types;
