@@ -1,0 +1,3 @@
+mod TurnLaws
+mod RunLaws
+mod LinkLaws

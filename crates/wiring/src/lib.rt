@@ -1,0 +1,218 @@
+// The making walk: the elements, the wires and the interface of a term, in the working memory.
+use memory::TARGETS;
+use records::Form;
+ghost use mathlib.Core.Path.{_≡_};
+ghost use mathlib.Core.Bool.{cond};
+ghost use mathlib.Core.Logic.{_⊎_};
+ghost use mathlib.Core.List.{_∷_, [], map};
+ghost use Prim.Native.Nat.{ℕ, _+_, _*_, _≤_, _<_};
+ghost use lib.ListN.{length, getD, take, drop, replicate};
+ghost use lib.Seq.{sets};
+ghost use Rattle.calculus.specs.Types.{tree, size};
+ghost use Rattle.calculus.specs.Terms.{partAt};
+ghost use Rattle.calculus.specs.Net.{turns, partSide};
+ghost use Rattle.records.specs.Forms.{recIn};
+ghost use Rattle.memory.specs.Map.{region, code};
+ghost use Rattle.wiring.specs.Wires.{wired, linked, links, Apart};
+ghost use Rattle.wiring.specs.Faces.{sidesOf, Knows, Named, endOf, face};
+ghost use mathlib.Core.Bool.{false};
+
+// ---- terminals and wires
+
+// An input terminal, and an output terminal, by its number.
+pub struct In(pub u16);
+
+pub struct Out(pub u16);
+
+fn code_in(i: In) -> u16
+    requires { ⌜ i .0 < 32768 ⌝ }
+    ensures { λ r. ⌜ r ≡ 2 * i .0 ⌝ }
+{
+    2 * i.0
+}
+
+fn code_out(o: Out) -> u16
+    requires { ⌜ o .0 < 32767 ⌝ }
+    ensures { λ r. ⌜ r ≡ 2 * o .0 + 1 ⌝ }
+{
+    2 * o.0 + 1
+}
+
+// The wire number `count`: its source is the driver of its target.
+fn wire(work: &mut [u16], from: Out, to: In, count: usize)
+    requires { ⌜ (32768 ≤ length (now work)) × (to .0 < 8192) × (count < 5632) ⌝ }
+    ensures { λ _. ⌜ now (work .exit) ≡ wired (now (work .entry)) count (from .0) (to .0) ⌝ }
+{
+    work[to.0 as usize] = from.0;
+    work[TARGETS + count] = to.0;
+}
+
+// The wire between two terminals of one bit, one of them an output.
+fn link(work: &mut [u16], a: u16, f: u16, count: usize)
+    requires { ⌜ (32768 ≤ length (now work)) × (a < 16384) × (f < 16384) × (count < 5632) ⌝ }
+    ensures { λ _. ⌜ now (work .exit) ≡ linked (now (work .entry)) count a f ⌝ }
+{
+    if a % 2 == 1 {
+        wire(work, Out(a / 2), In(f / 2), count)
+    } else {
+        wire(work, Out(f / 2), In(a / 2), count)
+    }
+}
+
+// n wires, left to right, between the argument's interface at a and the function's at f.
+fn connect(work: &mut [u16], a: usize, f: usize, n: usize, count: usize)
+    requires { ⌜ Apart (now work) a f n count ⌝ }
+    ensures { λ _. ⌜ now (work .exit) ≡ links (now (work .entry)) count (region (now (work .entry)) a n) (region (now (work .entry)) f n) ⌝ }
+{
+    let mut i: usize = 0;
+    while i < n {
+        let x = work[a + i];
+        let y = work[f + i];
+        link(work, x, y, count + i);
+        i = i + 1;
+    }
+}
+
+// n numbers, copied.
+fn copy(work: &mut [u16], from: usize, to: usize, n: usize)
+    requires { ⌜ (from + n ≤ length (now work)) × (to + n ≤ length (now work)) × ((to ≤ from) ⊎ (from + n ≤ to)) ⌝ }
+    ensures { λ _. ⌜ now (work .exit) ≡ sets (now (work .entry)) to (region (now (work .entry)) from n) ⌝ }
+{
+    let mut i: usize = 0;
+    while i < n {
+        let x = work[from + i];
+        work[to + i] = x;
+        i = i + 1;
+    }
+}
+
+// n numbers, all x.
+fn fill(work: &mut [u16], to: usize, n: usize, x: u16)
+    requires { ⌜ to + n ≤ length (now work) ⌝ }
+    ensures { λ _. ⌜ now (work .exit) ≡ sets (now (work .entry)) to (replicate n x) ⌝ }
+{
+    let mut i: usize = 0;
+    while i < n {
+        work[to + i] = x;
+        i = i + 1;
+    }
+}
+
+// ---- types
+
+// A type record: if it is an arrow, and its two type numbers.
+struct Sides {
+    arrow: bool,
+    left: u8,
+    right: u8,
+}
+
+fn sides_at(s: &[u8], t: u8) -> Sides
+    ensures { λ r. ⌜ r ≡ sidesOf (recIn (now (s .entry)) t) ⌝ }
+{
+    match records::type_at(s, t) {
+        Form::Bit => Sides {
+            arrow: false,
+            left: 0,
+            right: 0,
+        },
+        Form::Product(left, right) => Sides {
+            arrow: false,
+            left,
+            right,
+        },
+        Form::Arrow(left, right) => Sides {
+            arrow: true,
+            left,
+            right,
+        },
+        Form::Linear(left, right) => Sides {
+            arrow: true,
+            left,
+            right,
+        },
+    }
+}
+
+fn size_of(sizes: &[u8], t: u8) -> usize
+    requires { ⌜ length (now sizes) ≡ 256 ⌝ }
+    ensures { λ r. ⌜ r ≡ getD (now (sizes .entry)) t 0 ⌝ }
+{
+    records::wide(sizes[records::wide(t)])
+}
+
+// If bit j of a type is turned. No bit of a sharable type is.
+fn turned(s: &[u8], sizes: &[u8], of: u8, bit: usize) -> bool
+    requires { ⌜ Named (now s) (now sizes) of ⌝ }
+    ensures { λ r. ⌜ ((q : Named (now (s .entry)) (now (sizes .entry)) of) → bit < size (tree (q .table) of)
+        → r ≡ getD (turns false (tree (q .table) of)) bit false) ⌝ }
+{
+    let mut t = of;
+    let mut j = bit;
+    let mut odd = false;
+    let mut x = sides_at(s, t);
+    while x.arrow {
+        let n = size_of(sizes, x.left);
+        if j < n {
+            odd = !odd;
+            t = x.left;
+        } else {
+            j = j - n;
+            t = x.right;
+        }
+        x = sides_at(s, t);
+    }
+    odd
+}
+
+// ---- interfaces
+
+// One terminal of the point whose input is n: its input, or its output.
+fn end_of(n: usize, input: bool) -> u16
+    requires { ⌜ n + 1 < 8192 ⌝ }
+    ensures { λ r. ⌜ r ≡ endOf n input ⌝ }
+{
+    if input {
+        code_in(In(n as u16))
+    } else {
+        code_out(Out((n + 1) as u16))
+    }
+}
+
+// An interface of a binder of type t, whose points start at terminal n: the variable's output interface, or its input interface.
+fn interface(s: &[u8], sizes: &[u8], work: &mut [u16], to: usize, t: u8, n: usize, output: bool)
+    requires { ⌜ (Named (now s) (now sizes) t) × (to + getD (now sizes) t 0 ≤ length (now work)) × (n + 2 * getD (now sizes) t 0 ≤ 8192) ⌝ }
+    ensures { λ _. ⌜ ((q : Named (now (s .entry)) (now (sizes .entry)) t)
+        → now (work .exit) ≡ sets (now (work .entry)) to (face output (turns false (tree (q .table) t)) n)) ⌝ }
+{
+    let l = size_of(sizes, t);
+    let mut j: usize = 0;
+    while j < l {
+        let c = end_of(n + 2 * j, turned(s, sizes, t, j) == output);
+        work[to + j] = c;
+        j = j + 1;
+    }
+}
+
+fn inputs_of(part: u8) -> usize
+    ensures { λ r. ⌜ r ≡ partAt part .inputs ⌝ }
+{
+    match part {
+        1 | 5 => 1,
+        2..=4 => 2,
+        _ => 0,
+    }
+}
+
+// The interface of a part whose first terminal is n: k inputs, then the output.
+fn terminals(work: &mut [u16], to: usize, k: usize, n: usize)
+    requires { ⌜ (to + k < length (now work)) × (n + k < 8192) ⌝ }
+    ensures { λ _. ⌜ now (work .exit) ≡ sets (now (work .entry)) to (map code (partSide k n)) ⌝ }
+{
+    let mut i: usize = 0;
+    while i < k {
+        work[to + i] = code_in(In((n + i) as u16));
+        i = i + 1;
+    }
+    work[to + k] = code_out(Out((n + k) as u16));
+}
