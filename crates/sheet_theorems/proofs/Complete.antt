@@ -1,47 +1,21 @@
 -- What has a derivation by the rules is accepted by the typing walk. Assumes nothing.
-use Prim.Native.Nat.{ℕ, zero, suc, _+_, _<_}
-use mathlib.Core.Path.{_≡_, refl, sym, ap, ap₂, subst, _∙_}
-use mathlib.Core.Bool.{Bool, true, false, _&&_}
-use mathlib.Core.List.{List, [], _∷_}
+use Prim.Native.Nat.{ℕ, _+_, _<_}
+use mathlib.Core.Path.{_≡_, refl, sym, ap, _∙_}
+use mathlib.Core.Bool.{true, false}
+use mathlib.Core.List.{[], _∷_}
 use native.Mathlib.Omega.{arith}
-use lib.Dec.{T, eqb, ltb}
+use lib.Dec.{T, eqb}
 use lib.ListN.{length}
 use borrow.Author.Tests.{lt-ltb, eq-eqb}
-use Rattle.calculus.specs.Answer.{Answer, good, refused, _>>=_, need}
-use Rattle.calculus.specs.Types.{Ty, bit, prod, arrow, lolli, sharable, isArrow, tyEq, TyRec, rec01, rec02, rec03, rec04, Table, recAt, tree}
-use Rattle.calculus.specs.Terms.{Term, var, lvar, fun, app, lfun, lapp, pair, proj, fix, con, nodes, parts, partAt}
-use Rattle.calculus.specs.Walk.{Binder, shared, linear, Stack, Sides, sides, product, sharableArrow, linearArrow, Found, found, under, useShared, useLinear, pop, topUsed, walk}
-use Rattle.calculus.specs.Rules.{Entry, many, once, away, Ctx, NoLinear, none-end, none-many, none-away, InΓ, in-here, in-many, in-away, IsΔ, is-here, is-many, is-away, Split, split-end, split-many, split-first, split-second, split-away, Typed, Var, LVar, →I, →E, ⊸I, ⊸E, ×I, ×E, Fix, Con}
-use Rattle.sheet_theorems.proofs.Sound.{Agrees, Formed, Step, step-end, step-shared, step-same, step-took}
-
-and-of : (a b : Bool) → T a → T b → T (a && b)
-and-of true b p q = q
-and-of false b p q = p
-
-abbrev pub known : Table → TyRec → Type 0
-known Θ rec01 = Unit {0}
-known Θ (rec02 a b) = (a < length Θ) × (b < length Θ)
-known Θ (rec03 a b) = (a < length Θ) × (b < length Θ)
-known Θ (rec04 a b) = (a < length Θ) × (b < length Θ)
-
--- a table that the reader accepts
-pub record Sheetly (Θ : Table) : Type 0 where
-  pub formed : Formed Θ
-  pub range : (n : ℕ) → n < length Θ → known Θ (recAt Θ n)
-  pub once : (a b : ℕ) → a < length Θ → b < length Θ → tree Θ a ≡ tree Θ b → a ≡ b
-
--- a term whose type numbers name types
-abbrev pub Ranged : Table → Term → Type 0
-Ranged Θ (var i) = Unit {0}
-Ranged Θ (lvar i) = Unit {0}
-Ranged Θ (fun t e) = (t < length Θ) × Ranged Θ e
-Ranged Θ (app f a) = Ranged Θ f × Ranged Θ a
-Ranged Θ (lfun t e) = (t < length Θ) × Ranged Θ e
-Ranged Θ (lapp f a) = Ranged Θ f × Ranged Θ a
-Ranged Θ (pair t a b) = (t < length Θ) × Ranged Θ a × Ranged Θ b
-Ranged Θ (proj a e) = Ranged Θ a × Ranged Θ e
-Ranged Θ (fix t e) = (t < length Θ) × Ranged Θ e
-Ranged Θ (con p t) = t < length Θ
+use Rattle.calculus.specs.Answer.{Answer}
+use Rattle.calculus.specs.Types.{Ty, bit, prod, arrow, lolli, sharable, tyEq, TyRec, rec01, rec02, rec03, rec04, Table, recAt, tree}
+use Rattle.calculus.specs.Terms.{Term, fun, app, lfun, lapp, pair, proj, fix, con, nodes, parts, partAt}
+use Rattle.calculus.specs.Walk.{shared, linear, Stack, Found, found, useShared, useLinear, walk}
+use Rattle.calculus.specs.Rules.{Ctx, NoLinear, none-end, none-many, none-away, InΓ, in-here, in-many, in-away, IsΔ, is-here, is-many, is-away, Split, split-end, split-many, split-first, split-second, split-away, Typed, Var, LVar, →I, →E, ⊸I, ⊸E, ×I, ×E, Fix, Con}
+use Rattle.calculus.specs.Laid.{Agrees, Below, TableOk, Ranged}
+use Rattle.laws.proofs.Tests.{and-of, T-is}
+use Rattle.sheet_theorems.proofs.Tables.{wider}
+use Rattle.sheet_theorems.proofs.Sound.{Step, step-end, step-shared, step-same, step-took}
 
 abbrev pub Numbers : Stack → ℕ → Type 0
 Numbers [] l = Unit {0}
@@ -60,19 +34,19 @@ pub record Parts (Θ : Table) (q : TyRec) (of : ℕ → ℕ → TyRec) (σ τ : 
   pub right-is : tree Θ right ≡ τ
 
 module _ (Θ : Table) where
-  arrow-parts : (q : TyRec) (ρ σ τ : Ty) → Agrees Θ q ρ → known Θ q → ρ ≡ arrow σ τ → Parts Θ q rec03 σ τ
+  arrow-parts : (q : TyRec) (ρ σ τ : Ty) → Agrees Θ q ρ → Below (length Θ) q → ρ ≡ arrow σ τ → Parts Θ q rec03 σ τ
   arrow-parts rec01 ρ σ τ a k e = absurd (let z : _≡_ {A = ℕ} 0 1 = cc in omega arith)
   arrow-parts (rec02 x y) ρ σ τ a k e = let h = a .0 in absurd (let z : _≡_ {A = ℕ} 0 1 = cc in omega arith)
   arrow-parts (rec03 x y) ρ σ τ a k e = let h = a .0 in record { left = x; right = y; rec = refl; left-in = k .0; right-in = k .1; left-is = cc; right-is = cc }
   arrow-parts (rec04 x y) ρ σ τ a k e = let h = a .0 in absurd (let z : _≡_ {A = ℕ} 0 1 = cc in omega arith)
 
-  lolli-parts : (q : TyRec) (ρ σ τ : Ty) → Agrees Θ q ρ → known Θ q → ρ ≡ lolli σ τ → Parts Θ q rec04 σ τ
+  lolli-parts : (q : TyRec) (ρ σ τ : Ty) → Agrees Θ q ρ → Below (length Θ) q → ρ ≡ lolli σ τ → Parts Θ q rec04 σ τ
   lolli-parts rec01 ρ σ τ a k e = absurd (let z : _≡_ {A = ℕ} 0 1 = cc in omega arith)
   lolli-parts (rec02 x y) ρ σ τ a k e = let h = a .0 in absurd (let z : _≡_ {A = ℕ} 0 1 = cc in omega arith)
   lolli-parts (rec03 x y) ρ σ τ a k e = let h = a .0 in absurd (let z : _≡_ {A = ℕ} 0 1 = cc in omega arith)
   lolli-parts (rec04 x y) ρ σ τ a k e = let h = a .0 in record { left = x; right = y; rec = refl; left-in = k .0; right-in = k .1; left-is = cc; right-is = cc }
 
-  prod-parts : (q : TyRec) (ρ σ τ : Ty) → Agrees Θ q ρ → known Θ q → ρ ≡ prod σ τ → Parts Θ q rec02 σ τ
+  prod-parts : (q : TyRec) (ρ σ τ : Ty) → Agrees Θ q ρ → Below (length Θ) q → ρ ≡ prod σ τ → Parts Θ q rec02 σ τ
   prod-parts rec01 ρ σ τ a k e = absurd (let z : _≡_ {A = ℕ} 0 1 = cc in omega arith)
   prod-parts (rec02 x y) ρ σ τ a k e = let h = a .0 in record { left = x; right = y; rec = refl; left-in = k .0; right-in = k .1; left-is = cc; right-is = cc }
   prod-parts (rec03 x y) ρ σ τ a k e = let h = a .0 in absurd (let z : _≡_ {A = ℕ} 0 1 = cc in omega arith)
@@ -116,27 +90,23 @@ numbers-step l (step-shared s) k = (k .0, numbers-step l s (k .1))
 numbers-step l (step-same s) k = (k .0, numbers-step l s (k .1))
 numbers-step l (step-took s) k = (k .0, numbers-step l s (k .1))
 
-tyEq-refl : (τ : Ty) → T (tyEq τ τ)
+pub tyEq-refl : (τ : Ty) → T (tyEq τ τ)
 tyEq-refl bit = tt
 tyEq-refl (prod a b) = and-of (tyEq a a) (tyEq b b) (tyEq-refl a) (tyEq-refl b)
 tyEq-refl (arrow a b) = and-of (tyEq a a) (tyEq b b) (tyEq-refl a) (tyEq-refl b)
 tyEq-refl (lolli a b) = and-of (tyEq a a) (tyEq b b) (tyEq-refl a) (tyEq-refl b)
 
-T-true : (b : Bool) → T b → b ≡ true
-T-true true t = refl
-T-true false t = absurd t
-
 -- ---- each rule
 
-module _ (Θ : Table) (ok : Sheetly Θ) where
+module _ (Θ : Table) (ok : TableOk Θ) where
   parts-arrow : (t : ℕ) {σ τ : Ty} → t < length Θ → tree Θ t ≡ arrow σ τ → Parts Θ (recAt Θ t) rec03 σ τ
-  parts-arrow t h e = arrow-parts Θ (recAt Θ t) (tree Θ t) _ _ (ok .formed t) (ok .range t h) e
+  parts-arrow t h e = arrow-parts Θ (recAt Θ t) (tree Θ t) _ _ (ok .agrees t) (wider (recAt Θ t) (omega arith) (ok .earlier t h)) e
 
   parts-lolli : (t : ℕ) {σ τ : Ty} → t < length Θ → tree Θ t ≡ lolli σ τ → Parts Θ (recAt Θ t) rec04 σ τ
-  parts-lolli t h e = lolli-parts Θ (recAt Θ t) (tree Θ t) _ _ (ok .formed t) (ok .range t h) e
+  parts-lolli t h e = lolli-parts Θ (recAt Θ t) (tree Θ t) _ _ (ok .agrees t) (wider (recAt Θ t) (omega arith) (ok .earlier t h)) e
 
   parts-prod : (t : ℕ) {σ τ : Ty} → t < length Θ → tree Θ t ≡ prod σ τ → Parts Θ (recAt Θ t) rec02 σ τ
-  parts-prod t h e = prod-parts Θ (recAt Θ t) (tree Θ t) _ _ (ok .formed t) (ok .range t h) e
+  parts-prod t h e = prod-parts Θ (recAt Θ t) (tree Θ t) _ _ (ok .agrees t) (wider (recAt Θ t) (omega arith) (ok .earlier t h)) e
 
   -- two numbers of one type are one
   same : {a b : ℕ} {τ : Ty} → a < length Θ → b < length Θ → tree Θ a ≡ τ → tree Θ b ≡ τ → eqb a b ≡ true
@@ -178,11 +148,11 @@ module _ (Θ : Table) (ok : Sheetly Θ) where
   fix-walk : (t : ℕ) (e : Term) (n : ℕ) (st st′ : Stack) (θ : Ty) (h : t < length Θ) → tree Θ t ≡ θ → T (sharable θ)
       → Accepted Θ θ (shared t ∷ st′) (walk Θ e (n + 1) (shared t ∷ st)) → Accepted Θ θ st′ (walk Θ (fix t e) n st)
   fix-walk t e n st st′ θ h eτ sh x =
-      record { type = t; type-in = h; type-is = eτ; answer = simp (T-true (sharable (tree Θ t)) (rw eτ sh), x .answer, same (x .type-in) h (x .type-is) eτ) }
+      record { type = t; type-in = h; type-is = eτ; answer = simp (T-is (sharable (tree Θ t)) (rw eτ sh), x .answer, same (x .type-in) h (x .type-is) eτ) }
 
   con-walk : (p t n : ℕ) (st : Stack) → t < length Θ → p < length parts → tree Θ t ≡ partAt p .type → Accepted Θ (partAt p .type) st (walk Θ (con p t) n st)
   con-walk p t n st h hp e =
-      record { type = t; type-in = h; type-is = e; answer = simp (lt-ltb p (length parts) hp, T-true (tyEq (tree Θ t) (partAt p .type)) (rw e (tyEq-refl (partAt p .type)))) }
+      record { type = t; type-in = h; type-is = e; answer = simp (lt-ltb p (length parts) hp, T-is (tyEq (tree Θ t) (partAt p .type)) (rw e (tyEq-refl (partAt p .type)))) }
 
   pub complete : {Γ : Ctx} {e : Term} {τ : Ty} → Typed Θ Γ e τ → Ranged Θ e → (n : ℕ) {st st′ : Stack} → Step Θ st st′ Γ → Numbers st (length Θ) → Accepted Θ τ st′ (walk Θ e n st)
   complete (Var x) g n s k = shares n x s k

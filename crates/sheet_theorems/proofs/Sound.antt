@@ -1,43 +1,34 @@
 -- What the typing walk accepts has a derivation by the rules. Assumes nothing.
 use Prim.Native.Nat.{ℕ, zero, suc, _+_}
-use mathlib.Core.Path.{_≡_, refl, sym, ap, ap₂, subst}
-use mathlib.Core.Bool.{Bool, true, false, _&&_}
-use mathlib.Core.List.{List, [], _∷_}
+use mathlib.Core.Path.{_≡_, refl, ap, ap₂, subst}
+use mathlib.Core.Bool.{Bool, true, false}
+use mathlib.Core.List.{[], _∷_}
 use lib.Dec.{T, eqb, ltb, eqb→eq, ltb→lt}
 use lib.ListN.{length}
-use Rattle.calculus.specs.Answer.{Answer, good, refused, _>>=_, need}
+use Rattle.calculus.specs.Answer.{Answer, good, refused}
 use Rattle.calculus.proofs.Answers.{refused≢good, good-inj, on-bind, on-need}
 use Rattle.calculus.specs.Types.{Ty, bit, prod, arrow, lolli, sharable, isArrow, tyEq, TyRec, rec01, rec02, rec03, rec04, Table, recAt, tree}
 use Rattle.calculus.specs.Terms.{Term, var, lvar, fun, app, lfun, lapp, pair, proj, fix, con, nodes, parts, partAt}
-use Rattle.calculus.specs.Walk.{Binder, shared, linear, Stack, Sides, product, sharableArrow, linearArrow, Found, found, under, useShared, useLinear, pop, topUsed, walk}
-use Rattle.calculus.specs.Rules.{Entry, many, once, away, Ctx, NoLinear, none-end, none-many, none-away, InΓ, in-here, in-many, in-away, IsΔ, is-here, is-many, is-away, Split, split-end, split-many, split-first, split-second, split-away, Typed, Var, LVar, →I, →E, ⊸I, ⊸E, ×I, ×E, Fix, Con}
-
--- ---- the table: each number's type is what its record says, and is well formed
-
-abbrev pub Agrees : Table → TyRec → Ty → Type 0
-Agrees Θ rec01 τ = τ ≡ bit
-Agrees Θ (rec02 a b) τ = (τ ≡ prod (tree Θ a) (tree Θ b)) × T (sharable (tree Θ a)) × T (sharable (tree Θ b))
-Agrees Θ (rec03 a b) τ = (τ ≡ arrow (tree Θ a) (tree Θ b)) × T (sharable (tree Θ a))
-Agrees Θ (rec04 a b) τ = (τ ≡ lolli (tree Θ a) (tree Θ b)) × T (isArrow (tree Θ a))
-
-abbrev pub Formed : Table → Type 0
-Formed Θ = (n : ℕ) → Agrees Θ (recAt Θ n) (tree Θ n)
+use Rattle.calculus.specs.Laid.{Agrees, TableOk}
+use Rattle.laws.proofs.Tests.{and-both}
+use Rattle.calculus.specs.Walk.{Binder, shared, linear, Stack, Sides, product, sharableArrow, linearArrow, Found, under, useShared, useLinear, pop, topUsed, walk}
+use Rattle.calculus.specs.Rules.{many, once, away, Ctx, NoLinear, none-end, none-many, none-away, InΓ, in-here, in-many, in-away, IsΔ, is-here, is-many, is-away, Split, split-end, split-many, split-first, split-second, split-away, Typed, Var, LVar, →I, →E, ⊸I, ⊸E, ×I, ×E, Fix, Con}
 
 -- ---- forms of types
 
-product-good : (q : TyRec) (n : ℕ) (s : Sides) → product q n ≡ good s → q ≡ rec02 (s .left) (s .right)
+pub product-good : (q : TyRec) (n : ℕ) (s : Sides) → product q n ≡ good s → q ≡ rec02 (s .left) (s .right)
 product-good rec01 n s e = absurd (refused≢good e)
 product-good (rec02 a b) n s e = ap (λ (s : Sides). rec02 (s .left) (s .right)) (good-inj e)
 product-good (rec03 a b) n s e = absurd (refused≢good e)
 product-good (rec04 a b) n s e = absurd (refused≢good e)
 
-sharable-good : (q : TyRec) (n : ℕ) (s : Sides) → sharableArrow q n ≡ good s → q ≡ rec03 (s .left) (s .right)
+pub sharable-good : (q : TyRec) (n : ℕ) (s : Sides) → sharableArrow q n ≡ good s → q ≡ rec03 (s .left) (s .right)
 sharable-good rec01 n s e = absurd (refused≢good e)
 sharable-good (rec02 a b) n s e = absurd (refused≢good e)
 sharable-good (rec03 a b) n s e = ap (λ (s : Sides). rec03 (s .left) (s .right)) (good-inj e)
 sharable-good (rec04 a b) n s e = absurd (refused≢good e)
 
-linear-good : (q : TyRec) (n : ℕ) (s : Sides) → linearArrow q n ≡ good s → q ≡ rec04 (s .left) (s .right)
+pub linear-good : (q : TyRec) (n : ℕ) (s : Sides) → linearArrow q n ≡ good s → q ≡ rec04 (s .left) (s .right)
 linear-good rec01 n s e = absurd (refused≢good e)
 linear-good (rec02 a b) n s e = absurd (refused≢good e)
 linear-good (rec03 a b) n s e = absurd (refused≢good e)
@@ -81,7 +72,7 @@ pub record Derived (Θ : Table) (st : Stack) (e : Term) (r : Found) : Type 0 whe
   pub typed : Typed Θ ctx e (tree Θ (r .type))
 
 -- an answer under one more binder
-under-good : (b : Binder) (m : Answer Found) (r : Found) → under b m ≡ good r → (q : Found) × (m ≡ good q) × (record { type = q .type; stack = b ∷ q .stack } ≡ r)
+pub under-good : (b : Binder) (m : Answer Found) (r : Found) → under b m ≡ good r → (q : Found) × (m ≡ good q) × (record { type = q .type; stack = b ∷ q .stack } ≡ r)
 under-good b (good q) r e = (q, refl, good-inj e)
 under-good b (refused n p) r e = absurd (refused≢good e)
 
@@ -135,10 +126,6 @@ takes Θ (linear t u ∷ st) (suc i) n r e =
     (record { ctx = away ∷ h .ctx; step = step-same (h .step); at = is-away (h .at) })
 
 -- ---- the test of equal types
-
-and-both : (a b : Bool) → T (a && b) → T a × T b
-and-both true b t = (tt, t)
-and-both false b t = absurd t
 
 pub tyEq→eq : (σ τ : Ty) → T (tyEq σ τ) → σ ≡ τ
 tyEq→eq bit bit t = refl
@@ -221,7 +208,7 @@ module _ (Θ : Table) (st : Stack) where
       record { ctx = Γ; step = s; typed = rw e (Con (ltb→lt p (length parts) h) e z) }
 
 -- the walk
-pub derived : (Θ : Table) → Formed Θ → (e : Term) (n : ℕ) (st : Stack) (r : Found) → walk Θ e n st ≡ good r → Derived Θ st e r
+pub derived : (Θ : Table) → TableOk Θ → (e : Term) (n : ℕ) (st : Stack) (r : Found) → walk Θ e n st ≡ good r → Derived Θ st e r
 derived Θ ok (var i) n st r h =
     let s = shares Θ st i n r h in
     record { ctx = s .ctx; step = s .step; typed = Var (s .at) }
@@ -232,28 +219,28 @@ derived Θ ok (fun t e) n st r h =
     on-bind (sharableArrow (recAt Θ t) n) _ r h λ τ h₁ k₁.
     on-bind (walk Θ e (n + 1) (shared (τ .left) ∷ st)) _ r k₁ λ q h₂ k₂.
     on-need (eqb (q .type) (τ .right)) 12 n _ r k₂ λ h₃ k₃.
-    let (eτ, sh) = subst (λ (q : TyRec). Agrees Θ q (tree Θ t)) (sharable-good (recAt Θ t) n τ h₁) (ok t) in
+    let (eτ, sh) = subst (λ (q : TyRec). Agrees Θ q (tree Θ t)) (sharable-good (recAt Θ t) n τ h₁) (ok .agrees t) in
     rw (← good-inj k₃) (fun-rule Θ st t (τ .left) (τ .right) e q eτ sh (eqb→eq _ _ h₃) (derived Θ ok e (n + 1) _ q h₂))
 derived Θ ok (app f a) n st r h =
     on-bind (walk Θ f (n + 1) st) _ r h λ x h₁ k₁.
     on-bind (walk Θ a (n + 1 + nodes f) (x .stack)) _ r k₁ λ y h₂ k₂.
     on-bind (sharableArrow (recAt Θ (x .type)) n) _ r k₂ λ τ h₃ k₃.
     on-need (eqb (y .type) (τ .left)) 12 n _ r k₃ λ h₄ k₄.
-    let (eτ, sh) = subst (λ (q : TyRec). Agrees Θ q (tree Θ (x .type))) (sharable-good (recAt Θ (x .type)) n τ h₃) (ok (x .type)) in
+    let (eτ, sh) = subst (λ (q : TyRec). Agrees Θ q (tree Θ (x .type))) (sharable-good (recAt Θ (x .type)) n τ h₃) (ok .agrees (x .type)) in
     rw (← good-inj k₄) (app-rule Θ st (τ .left) (τ .right) f a x y eτ (eqb→eq _ _ h₄) (derived Θ ok f (n + 1) st x h₁) (derived Θ ok a _ (x .stack) y h₂))
 derived Θ ok (lfun t e) n st r h =
     on-bind (linearArrow (recAt Θ t) n) _ r h λ τ h₁ k₁.
     on-bind (walk Θ e (n + 1) (linear (τ .left) false ∷ st)) _ r k₁ λ q h₂ k₂.
     on-need (topUsed (q .stack)) 14 n _ r k₂ λ h₃ k₃.
     on-need (eqb (q .type) (τ .right)) 12 n _ r k₃ λ h₄ k₄.
-    let (eτ, ar) = subst (λ (q : TyRec). Agrees Θ q (tree Θ t)) (linear-good (recAt Θ t) n τ h₁) (ok t) in
+    let (eτ, ar) = subst (λ (q : TyRec). Agrees Θ q (tree Θ t)) (linear-good (recAt Θ t) n τ h₁) (ok .agrees t) in
     rw (← good-inj k₄) (lfun-rule Θ st t (τ .left) (τ .right) e q eτ ar h₃ (eqb→eq _ _ h₄) (derived Θ ok e (n + 1) _ q h₂))
 derived Θ ok (lapp f a) n st r h =
     on-bind (walk Θ f (n + 1) st) _ r h λ x h₁ k₁.
     on-bind (walk Θ a (n + 1 + nodes f) (x .stack)) _ r k₁ λ y h₂ k₂.
     on-bind (linearArrow (recAt Θ (x .type)) n) _ r k₂ λ τ h₃ k₃.
     on-need (eqb (y .type) (τ .left)) 12 n _ r k₃ λ h₄ k₄.
-    let (eτ, ar) = subst (λ (q : TyRec). Agrees Θ q (tree Θ (x .type))) (linear-good (recAt Θ (x .type)) n τ h₃) (ok (x .type)) in
+    let (eτ, ar) = subst (λ (q : TyRec). Agrees Θ q (tree Θ (x .type))) (linear-good (recAt Θ (x .type)) n τ h₃) (ok .agrees (x .type)) in
     rw (← good-inj k₄) (lapp-rule Θ st (τ .left) (τ .right) f a x y eτ (eqb→eq _ _ h₄) (derived Θ ok f (n + 1) st x h₁) (derived Θ ok a _ (x .stack) y h₂))
 derived Θ ok (pair t a b) n st r h =
     on-bind (product (recAt Θ t) n) _ r h λ τ h₁ k₁.
@@ -261,13 +248,13 @@ derived Θ ok (pair t a b) n st r h =
     on-bind (walk Θ b (n + 1 + nodes a) (x .stack)) _ r k₂ λ y h₃ k₃.
     on-need (eqb (x .type) (τ .left)) 12 n _ r k₃ λ h₄ k₄.
     on-need (eqb (y .type) (τ .right)) 12 n _ r k₄ λ h₅ k₅.
-    let (eτ, s₁, s₂) = subst (λ (q : TyRec). Agrees Θ q (tree Θ t)) (product-good (recAt Θ t) n τ h₁) (ok t) in
+    let (eτ, s₁, s₂) = subst (λ (q : TyRec). Agrees Θ q (tree Θ t)) (product-good (recAt Θ t) n τ h₁) (ok .agrees t) in
     rw (← good-inj k₅) (pair-rule Θ st t (τ .left) (τ .right) a b x y eτ s₁ s₂ (eqb→eq _ _ h₄) (eqb→eq _ _ h₅) (derived Θ ok a (n + 1) st x h₂) (derived Θ ok b _ (x .stack) y h₃))
 derived Θ ok (proj a e) n st r h =
     on-bind (walk Θ a (n + 1) st) _ r h λ x h₁ k₁.
     on-bind (product (recAt Θ (x .type)) n) _ r k₁ λ τ h₂ k₂.
     on-bind (walk Θ e (n + 1 + nodes a) (shared (τ .right) ∷ shared (τ .left) ∷ x .stack)) _ r k₂ λ y h₃ k₃.
-    let (eτ, s₁, s₂) = subst (λ (q : TyRec). Agrees Θ q (tree Θ (x .type))) (product-good (recAt Θ (x .type)) n τ h₂) (ok (x .type)) in
+    let (eτ, s₁, s₂) = subst (λ (q : TyRec). Agrees Θ q (tree Θ (x .type))) (product-good (recAt Θ (x .type)) n τ h₂) (ok .agrees (x .type)) in
     rw (← good-inj k₃) (proj-rule Θ st (τ .left) (τ .right) a e x y eτ s₁ s₂ (derived Θ ok a (n + 1) st x h₁) (derived Θ ok e _ _ y h₃))
 derived Θ ok (fix t e) n st r h =
     on-need (sharable (tree Θ t)) 12 n _ r h λ h₁ k₁.
@@ -283,7 +270,7 @@ derived Θ ok (con p t) n st r h =
 closed : {Θ : Table} {st : Stack} {Γ : Ctx} → Step Θ [] st Γ → Γ ≡ []
 closed step-end = refl
 
-pub sound : (Θ : Table) → Formed Θ → (e : Term) (r : Found) → walk Θ e 0 [] ≡ good r → Typed Θ [] e (tree Θ (r .type))
+pub sound : (Θ : Table) → TableOk Θ → (e : Term) (r : Found) → walk Θ e 0 [] ≡ good r → Typed Θ [] e (tree Θ (r .type))
 sound Θ ok e r h =
     let d = derived Θ ok e 0 [] r h in
     rw (closed (d .step)) at (d .typed)

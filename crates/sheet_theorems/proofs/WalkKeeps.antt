@@ -1,0 +1,214 @@
+-- An accepted walk leaves the binders as they were, but for marks of use, and its type number names a type. Assumes nothing.
+use Prim.Native.Nat.{ℕ, zero, suc, _+_, _<_}
+use mathlib.Core.Path.{_≡_, refl, ap, subst}
+use mathlib.Core.Bool.{Bool, true, false}
+use mathlib.Core.List.{[], _∷_}
+use native.Mathlib.Omega.{arith}
+use lib.Dec.{eqb, ltb}
+use lib.ListN.{length}
+use Rattle.calculus.specs.Answer.{good}
+use Rattle.calculus.proofs.Answers.{refused≢good, good-inj, on-bind, on-need}
+use Rattle.calculus.specs.Types.{sharable, tyEq, TyRec, rec02, rec03, rec04, Table, recAt, tree}
+use Rattle.calculus.specs.Terms.{Term, var, lvar, fun, app, lfun, lapp, pair, proj, fix, con, nodes, parts, partAt}
+use Rattle.calculus.specs.Walk.{Binder, shared, linear, Stack, Sides, product, sharableArrow, linearArrow, Found, useShared, useLinear, pop, topUsed, walk}
+use Rattle.calculus.specs.Laid.{Below, TableOk, Ranged}
+use Rattle.sheet_theorems.proofs.Sound.{product-good, sharable-good, linear-good, under-good}
+use Rattle.sheet_theorems.proofs.Complete.{Numbers}
+
+-- the same binders, of which some linear ones have been used meanwhile
+pub data Kept : Stack → Stack → Type 0 where
+  kept-end : Kept [] []
+  kept-shared : {t : ℕ} {st st′ : Stack} → Kept st st′ → Kept (shared t ∷ st) (shared t ∷ st′)
+  kept-same : {t : ℕ} {u : Bool} {st st′ : Stack} → Kept st st′ → Kept (linear t u ∷ st) (linear t u ∷ st′)
+  kept-took : {t : ℕ} {st st′ : Stack} → Kept st st′ → Kept (linear t false ∷ st) (linear t true ∷ st′)
+
+pub kept-refl : (st : Stack) → Kept st st
+kept-refl [] = kept-end
+kept-refl (shared t ∷ st) = kept-shared (kept-refl st)
+kept-refl (linear t u ∷ st) = kept-same (kept-refl st)
+
+pub kept-trans : {a b c : Stack} → Kept a b → Kept b c → Kept a c
+kept-trans kept-end kept-end = kept-end
+kept-trans (kept-shared p) (kept-shared q) = kept-shared (kept-trans p q)
+kept-trans (kept-same p) (kept-same q) = kept-same (kept-trans p q)
+kept-trans (kept-same p) (kept-took q) = kept-took (kept-trans p q)
+kept-trans (kept-took p) (kept-same q) = kept-took (kept-trans p q)
+
+pub kept-length : {st st′ : Stack} → Kept st st′ → length st′ ≡ length st
+kept-length kept-end = refl
+kept-length (kept-shared k) = ap suc (kept-length k)
+kept-length (kept-same k) = ap suc (kept-length k)
+kept-length (kept-took k) = ap suc (kept-length k)
+
+pub kept-numbers : {st st′ : Stack} (l : ℕ) → Kept st st′ → Numbers st l → Numbers st′ l
+kept-numbers l kept-end n = n
+kept-numbers l (kept-shared k) n = (n .0, kept-numbers l k (n .1))
+kept-numbers l (kept-same k) n = (n .0, kept-numbers l k (n .1))
+kept-numbers l (kept-took k) n = (n .0, kept-numbers l k (n .1))
+
+-- leaving a binder's scope
+pub kept-pop : {b : Binder} {st st′ : Stack} → Kept (b ∷ st) st′ → Kept st (pop st′)
+kept-pop (kept-shared k) = k
+kept-pop (kept-same k) = k
+kept-pop (kept-took k) = k
+
+use-shared-keeps : (st : Stack) (i n : ℕ) (r : Found) → useShared st i n ≡ good r → Kept st (r .stack)
+use-shared-keeps [] i n r e = absurd (refused≢good e)
+use-shared-keeps (shared t ∷ st) zero n r e = rw (← good-inj e) (kept-refl (shared t ∷ st))
+use-shared-keeps (linear t u ∷ st) zero n r e = absurd (refused≢good e)
+use-shared-keeps (shared t ∷ st) (suc i) n r e =
+    let (q, e₁, e₂) = under-good (shared t) (useShared st i n) r e in
+    rw (← e₂) (kept-shared (use-shared-keeps st i n q e₁))
+use-shared-keeps (linear t u ∷ st) (suc i) n r e =
+    let (q, e₁, e₂) = under-good (linear t u) (useShared st i n) r e in
+    rw (← e₂) (kept-same (use-shared-keeps st i n q e₁))
+
+use-linear-keeps : (st : Stack) (i n : ℕ) (r : Found) → useLinear st i n ≡ good r → Kept st (r .stack)
+use-linear-keeps [] i n r e = absurd (refused≢good e)
+use-linear-keeps (shared t ∷ st) zero n r e = absurd (refused≢good e)
+use-linear-keeps (linear t true ∷ st) zero n r e = absurd (refused≢good e)
+use-linear-keeps (linear t false ∷ st) zero n r e = rw (← good-inj e) (kept-took (kept-refl st))
+use-linear-keeps (shared t ∷ st) (suc i) n r e =
+    let (q, e₁, e₂) = under-good (shared t) (useLinear st i n) r e in
+    rw (← e₂) (kept-shared (use-linear-keeps st i n q e₁))
+use-linear-keeps (linear t u ∷ st) (suc i) n r e =
+    let (q, e₁, e₂) = under-good (linear t u) (useLinear st i n) r e in
+    rw (← e₂) (kept-same (use-linear-keeps st i n q e₁))
+
+pub walk-keeps : (Θ : Table) (e : Term) (n : ℕ) (st : Stack) (r : Found) → walk Θ e n st ≡ good r → Kept st (r .stack)
+walk-keeps Θ (var i) n st r h = use-shared-keeps st i n r h
+walk-keeps Θ (lvar i) n st r h = use-linear-keeps st i n r h
+walk-keeps Θ (fun t e) n st r h =
+    on-bind (sharableArrow (recAt Θ t) n) _ r h λ τ h₁ k₁.
+    on-bind (walk Θ e (n + 1) (shared (τ .left) ∷ st)) _ r k₁ λ q h₂ k₂.
+    on-need (eqb (q .type) (τ .right)) 12 n _ r k₂ λ h₃ k₃.
+    rw (← good-inj k₃) (kept-pop (walk-keeps Θ e (n + 1) _ q h₂))
+walk-keeps Θ (app f a) n st r h =
+    on-bind (walk Θ f (n + 1) st) _ r h λ x h₁ k₁.
+    on-bind (walk Θ a (n + 1 + nodes f) (x .stack)) _ r k₁ λ y h₂ k₂.
+    on-bind (sharableArrow (recAt Θ (x .type)) n) _ r k₂ λ τ h₃ k₃.
+    on-need (eqb (y .type) (τ .left)) 12 n _ r k₃ λ h₄ k₄.
+    rw (← good-inj k₄) (kept-trans (walk-keeps Θ f (n + 1) st x h₁) (walk-keeps Θ a _ (x .stack) y h₂))
+walk-keeps Θ (lfun t e) n st r h =
+    on-bind (linearArrow (recAt Θ t) n) _ r h λ τ h₁ k₁.
+    on-bind (walk Θ e (n + 1) (linear (τ .left) false ∷ st)) _ r k₁ λ q h₂ k₂.
+    on-need (topUsed (q .stack)) 14 n _ r k₂ λ h₃ k₃.
+    on-need (eqb (q .type) (τ .right)) 12 n _ r k₃ λ h₄ k₄.
+    rw (← good-inj k₄) (kept-pop (walk-keeps Θ e (n + 1) _ q h₂))
+walk-keeps Θ (lapp f a) n st r h =
+    on-bind (walk Θ f (n + 1) st) _ r h λ x h₁ k₁.
+    on-bind (walk Θ a (n + 1 + nodes f) (x .stack)) _ r k₁ λ y h₂ k₂.
+    on-bind (linearArrow (recAt Θ (x .type)) n) _ r k₂ λ τ h₃ k₃.
+    on-need (eqb (y .type) (τ .left)) 12 n _ r k₃ λ h₄ k₄.
+    rw (← good-inj k₄) (kept-trans (walk-keeps Θ f (n + 1) st x h₁) (walk-keeps Θ a _ (x .stack) y h₂))
+walk-keeps Θ (pair t a b) n st r h =
+    on-bind (product (recAt Θ t) n) _ r h λ τ h₁ k₁.
+    on-bind (walk Θ a (n + 1) st) _ r k₁ λ x h₂ k₂.
+    on-bind (walk Θ b (n + 1 + nodes a) (x .stack)) _ r k₂ λ y h₃ k₃.
+    on-need (eqb (x .type) (τ .left)) 12 n _ r k₃ λ h₄ k₄.
+    on-need (eqb (y .type) (τ .right)) 12 n _ r k₄ λ h₅ k₅.
+    rw (← good-inj k₅) (kept-trans (walk-keeps Θ a (n + 1) st x h₂) (walk-keeps Θ b _ (x .stack) y h₃))
+walk-keeps Θ (proj a e) n st r h =
+    on-bind (walk Θ a (n + 1) st) _ r h λ x h₁ k₁.
+    on-bind (product (recAt Θ (x .type)) n) _ r k₁ λ τ h₂ k₂.
+    on-bind (walk Θ e (n + 1 + nodes a) (shared (τ .right) ∷ shared (τ .left) ∷ x .stack)) _ r k₂ λ y h₃ k₃.
+    rw (← good-inj k₃) (kept-trans (walk-keeps Θ a (n + 1) st x h₁) (kept-pop (kept-pop (walk-keeps Θ e _ _ y h₃))))
+walk-keeps Θ (fix t e) n st r h =
+    on-need (sharable (tree Θ t)) 12 n _ r h λ h₁ k₁.
+    on-bind (walk Θ e (n + 1) (shared t ∷ st)) _ r k₁ λ q h₂ k₂.
+    on-need (eqb (q .type) t) 12 n _ r k₂ λ h₃ k₃.
+    rw (← good-inj k₃) (kept-pop (walk-keeps Θ e (n + 1) _ q h₂))
+walk-keeps Θ (con p t) n st r h =
+    on-need (ltb p (length parts)) 15 n _ r h λ h₁ k₁.
+    on-need (tyEq (tree Θ t) (partAt p .type)) 12 n _ r k₁ λ h₂ k₂.
+    rw (← good-inj k₂) (kept-refl st)
+
+-- ---- the type number
+
+use-shared-in : (st : Stack) (i n l : ℕ) (r : Found) → Numbers st l → useShared st i n ≡ good r → r .type < l
+use-shared-in [] i n l r k e = absurd (refused≢good e)
+use-shared-in (shared t ∷ st) zero n l r k e = rw (← good-inj e) (k .0)
+use-shared-in (linear t u ∷ st) zero n l r k e = absurd (refused≢good e)
+use-shared-in (shared t ∷ st) (suc i) n l r k e =
+    let (q, e₁, e₂) = under-good (shared t) (useShared st i n) r e in
+    rw (← e₂) (use-shared-in st i n l q (k .1) e₁)
+use-shared-in (linear t u ∷ st) (suc i) n l r k e =
+    let (q, e₁, e₂) = under-good (linear t u) (useShared st i n) r e in
+    rw (← e₂) (use-shared-in st i n l q (k .1) e₁)
+
+use-linear-in : (st : Stack) (i n l : ℕ) (r : Found) → Numbers st l → useLinear st i n ≡ good r → r .type < l
+use-linear-in [] i n l r k e = absurd (refused≢good e)
+use-linear-in (shared t ∷ st) zero n l r k e = absurd (refused≢good e)
+use-linear-in (linear t true ∷ st) zero n l r k e = absurd (refused≢good e)
+use-linear-in (linear t false ∷ st) zero n l r k e = rw (← good-inj e) (k .0)
+use-linear-in (shared t ∷ st) (suc i) n l r k e =
+    let (q, e₁, e₂) = under-good (shared t) (useLinear st i n) r e in
+    rw (← e₂) (use-linear-in st i n l q (k .1) e₁)
+use-linear-in (linear t u ∷ st) (suc i) n l r k e =
+    let (q, e₁, e₂) = under-good (linear t u) (useLinear st i n) r e in
+    rw (← e₂) (use-linear-in st i n l q (k .1) e₁)
+
+module _ (Θ : Table) (ok : TableOk Θ) where
+  -- the two sides of a written or found type
+  sides-in : (t a b : ℕ) (of : ℕ → ℕ → TyRec) → t < length Θ → recAt Θ t ≡ of a b → ((m : ℕ) → Below m (of a b) → (a < m) × (b < m)) → (a < length Θ) × (b < length Θ)
+  sides-in t a b of h e f =
+      let k = f t (subst (λ (q : TyRec). Below t q) e (ok .earlier t h)) in
+      (omega arith, omega arith)
+
+  pub arrow-in : (t n : ℕ) (τ : Sides) → t < length Θ → sharableArrow (recAt Θ t) n ≡ good τ → (τ .left < length Θ) × (τ .right < length Θ)
+  arrow-in t n τ h e = sides-in t (τ .left) (τ .right) rec03 h (sharable-good (recAt Θ t) n τ e) (λ m k. k)
+
+  pub lolli-in : (t n : ℕ) (τ : Sides) → t < length Θ → linearArrow (recAt Θ t) n ≡ good τ → (τ .left < length Θ) × (τ .right < length Θ)
+  lolli-in t n τ h e = sides-in t (τ .left) (τ .right) rec04 h (linear-good (recAt Θ t) n τ e) (λ m k. k)
+
+  pub product-in : (t n : ℕ) (τ : Sides) → t < length Θ → product (recAt Θ t) n ≡ good τ → (τ .left < length Θ) × (τ .right < length Θ)
+  product-in t n τ h e = sides-in t (τ .left) (τ .right) rec02 h (product-good (recAt Θ t) n τ e) (λ m k. k)
+
+  pub walk-in : (e : Term) (n : ℕ) (st : Stack) (r : Found) → Ranged Θ e → Numbers st (length Θ) → walk Θ e n st ≡ good r → r .type < length Θ
+  walk-in (var i) n st r g k h = use-shared-in st i n (length Θ) r k h
+  walk-in (lvar i) n st r g k h = use-linear-in st i n (length Θ) r k h
+  walk-in (fun t e) n st r g k h =
+      on-bind (sharableArrow (recAt Θ t) n) _ r h λ τ h₁ k₁.
+      on-bind (walk Θ e (n + 1) (shared (τ .left) ∷ st)) _ r k₁ λ q h₂ k₂.
+      on-need (eqb (q .type) (τ .right)) 12 n _ r k₂ λ h₃ k₃.
+      rw (← good-inj k₃) (g .0)
+  walk-in (app f a) n st r g k h =
+      on-bind (walk Θ f (n + 1) st) _ r h λ x h₁ k₁.
+      on-bind (walk Θ a (n + 1 + nodes f) (x .stack)) _ r k₁ λ y h₂ k₂.
+      on-bind (sharableArrow (recAt Θ (x .type)) n) _ r k₂ λ τ h₃ k₃.
+      on-need (eqb (y .type) (τ .left)) 12 n _ r k₃ λ h₄ k₄.
+      rw (← good-inj k₄) (arrow-in (x .type) n τ (walk-in f (n + 1) st x (g .0) k h₁) h₃ .1)
+  walk-in (lfun t e) n st r g k h =
+      on-bind (linearArrow (recAt Θ t) n) _ r h λ τ h₁ k₁.
+      on-bind (walk Θ e (n + 1) (linear (τ .left) false ∷ st)) _ r k₁ λ q h₂ k₂.
+      on-need (topUsed (q .stack)) 14 n _ r k₂ λ h₃ k₃.
+      on-need (eqb (q .type) (τ .right)) 12 n _ r k₃ λ h₄ k₄.
+      rw (← good-inj k₄) (g .0)
+  walk-in (lapp f a) n st r g k h =
+      on-bind (walk Θ f (n + 1) st) _ r h λ x h₁ k₁.
+      on-bind (walk Θ a (n + 1 + nodes f) (x .stack)) _ r k₁ λ y h₂ k₂.
+      on-bind (linearArrow (recAt Θ (x .type)) n) _ r k₂ λ τ h₃ k₃.
+      on-need (eqb (y .type) (τ .left)) 12 n _ r k₃ λ h₄ k₄.
+      rw (← good-inj k₄) (lolli-in (x .type) n τ (walk-in f (n + 1) st x (g .0) k h₁) h₃ .1)
+  walk-in (pair t a b) n st r g k h =
+      on-bind (product (recAt Θ t) n) _ r h λ τ h₁ k₁.
+      on-bind (walk Θ a (n + 1) st) _ r k₁ λ x h₂ k₂.
+      on-bind (walk Θ b (n + 1 + nodes a) (x .stack)) _ r k₂ λ y h₃ k₃.
+      on-need (eqb (x .type) (τ .left)) 12 n _ r k₃ λ h₄ k₄.
+      on-need (eqb (y .type) (τ .right)) 12 n _ r k₄ λ h₅ k₅.
+      rw (← good-inj k₅) (g .0)
+  walk-in (proj a e) n st r g k h =
+      on-bind (walk Θ a (n + 1) st) _ r h λ x h₁ k₁.
+      on-bind (product (recAt Θ (x .type)) n) _ r k₁ λ τ h₂ k₂.
+      on-bind (walk Θ e (n + 1 + nodes a) (shared (τ .right) ∷ shared (τ .left) ∷ x .stack)) _ r k₂ λ y h₃ k₃.
+      let z = product-in (x .type) n τ (walk-in a (n + 1) st x (g .0) k h₁) h₂ in
+      rw (← good-inj k₃) (walk-in e _ _ y (g .1) (z .1, (z .0, kept-numbers (length Θ) (walk-keeps Θ a (n + 1) st x h₁) k)) h₃)
+  walk-in (fix t e) n st r g k h =
+      on-need (sharable (tree Θ t)) 12 n _ r h λ h₁ k₁.
+      on-bind (walk Θ e (n + 1) (shared t ∷ st)) _ r k₁ λ q h₂ k₂.
+      on-need (eqb (q .type) t) 12 n _ r k₂ λ h₃ k₃.
+      rw (← good-inj k₃) (g .0)
+  walk-in (con p t) n st r g k h =
+      on-need (ltb p (length parts)) 15 n _ r h λ h₁ k₁.
+      on-need (tyEq (tree Θ t) (partAt p .type)) 12 n _ r k₁ λ h₂ k₂.
+      rw (← good-inj k₂) g
