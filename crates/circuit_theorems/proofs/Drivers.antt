@@ -1,27 +1,19 @@
 -- Drivers: each input terminal that a term makes, or gets with a linear variable, is driven by one wire or shown once in the interface.
 -- By induction on the derivation. Assumes nothing.
 use Prim.Native.Nat.{ℕ, zero, suc, _+_, _*_}
-use mathlib.Core.Path.{_≡_, refl, sym, ap, ap₂, _∙_, subst}
-use mathlib.Core.Bool.{Bool, true, false, not, _&&_, cond, true≢false, false≢true}
+use mathlib.Core.Path.{_≡_, refl, sym, ap, ap₂, _∙_}
+use mathlib.Core.Bool.{Bool, true, false, not, true≢false, false≢true}
 use mathlib.Core.List.{List, [], _∷_, _++_, map, cons≢nil, nil≢cons, head-eq-of-cons-eq, tail-eq-of-cons-eq}
 use native.Mathlib.Omega.{arith}
-use native.Mathlib.Nat.{zero-add, add-zero}
-use lib.Dec.{T, eqb}
+use lib.Dec.{T}
 use lib.ListN.{length, take, drop, getD, length-append, take-append-drop}
 use lib.Seq.{take-at, drop-at}
-use Rattle.calculus.specs.Types.{Ty, bit, prod, arrow, lolli, size, sharable, Table, tree}
-use Rattle.calculus.specs.Terms.{Term, var, lvar, fun, app, lfun, lapp, pair, proj, fix, con, partAt}
-use Rattle.calculus.specs.Rules.{Entry, many, once, away, Ctx, NoLinear, none-end, none-many, none-away, InΓ, in-here, in-many, in-away, IsΔ, is-here, is-many, is-away, Split, split-end, split-many, split-first, split-second, split-away, Typed, Var, LVar, →I, →E, ⊸I, ⊸E, ×I, ×E, Fix, Con}
+use Rattle.laws.proofs.Tests.{and-both, and-of}
+use Rattle.calculus.specs.Types.{Ty, bit, prod, arrow, lolli, size, sharable, Table}
+use Rattle.calculus.specs.Terms.{Term, partAt}
+use Rattle.calculus.specs.Rules.{many, once, away, Ctx, NoLinear, none-end, none-many, none-away, InΓ, in-here, in-many, in-away, IsΔ, is-here, is-many, is-away, Split, split-end, split-many, split-first, split-second, split-away, Typed, Var, LVar, →I, →E, ⊸I, ⊸E, ×I, ×E, Fix, Con}
 use Rattle.calculus.specs.Net.{Terminal, inp, out, Interface, turns, Element, point, part, Wire, points, inSide, outSide, join, partSide, Bound, unbound, Made, leftOf, rightOf, binder, madeVar, madeFun, madeApp, madePair, firstHalf, secondHalf, madeProj, madeFix, madeCon, make}
-use Rattle.calculus.specs.Formed.{is, ins, made, targets}
-
-and-both : (a b : Bool) → T (a && b) → T a × T b
-and-both true b t = (tt, t)
-and-both false b t = absurd t
-
-and-of : (a b : Bool) → T a → T b → T (a && b)
-and-of true b p q = q
-and-of false b p q = p
+use Rattle.calculus.specs.Formed.{ins, made, targets}
 
 -- ---- counts of an input terminal
 
@@ -38,12 +30,12 @@ ins-append [] t i = omega arith
 ins-append (inp j ∷ s) t i = omega (arith, ins-append s t i)
 ins-append (out o ∷ s) t i = ins-append s t i
 
-made-append : (s t : List Element) (i : ℕ) → made (s ++ t) i ≡ made s i + made t i
+pub made-append : (s t : List Element) (i : ℕ) → made (s ++ t) i ≡ made s i + made t i
 made-append [] t i = omega arith
 made-append (point j ∷ s) t i = omega (arith, made-append s t i)
 made-append (part p j ∷ s) t i = omega (arith, made-append s t i)
 
-targets-append : (s t : List Wire) (i : ℕ) → targets (s ++ t) i ≡ targets s i + targets t i
+pub targets-append : (s t : List Wire) (i : ℕ) → targets (s ++ t) i ≡ targets s i + targets t i
 targets-append [] t i = omega arith
 targets-append (w ∷ s) t i = omega (arith, targets-append s t i)
 
@@ -60,7 +52,7 @@ map-append : {A B : Type 0} (f : A → B) (s t : List A) → map f (s ++ t) ≡ 
 map-append f [] t = refl
 map-append f (x ∷ s) t = ap {B = List _} (λ r. f x ∷ r) (map-append f s t)
 
-dirs-in : (ts : List Bool) (n : ℕ) → dirs (inSide ts n) ≡ map not ts
+pub dirs-in : (ts : List Bool) (n : ℕ) → dirs (inSide ts n) ≡ map not ts
 dirs-in [] n = refl
 dirs-in (false ∷ ts) n = ap (λ (r : List Bool). true ∷ r) (dirs-in ts (n + 2))
 dirs-in (true ∷ ts) n = ap (λ (r : List Bool). false ∷ r) (dirs-in ts (n + 2))
@@ -139,7 +131,7 @@ dirs-drop zero s = refl
 dirs-drop (suc k) [] = refl
 dirs-drop (suc k) (x ∷ s) = dirs-drop k s
 
-dirs-left : (o : Bool) (α : Ty) (rest : List Bool) (s : Interface) → dirs s ≡ turns o α ++ rest → dirs (take (size α) s) ≡ turns o α
+pub dirs-left : (o : Bool) (α : Ty) (rest : List Bool) (s : Interface) → dirs s ≡ turns o α ++ rest → dirs (take (size α) s) ≡ turns o α
 dirs-left o α rest s e = dirs-take (size α) s ∙ ap (take (size α)) e ∙ take-at (turns o α) rest (size α) (turns-size o α)
 
 dirs-right : (o : Bool) (α : Ty) (rest : List Bool) (s : Interface) → dirs s ≡ turns o α ++ rest → dirs (drop (size α) s) ≡ rest
@@ -219,7 +211,7 @@ in-dirs : (α τ : Ty) (n : ℕ) (s : Interface) → dirs s ≡ turns false τ �
 in-dirs α τ n s e =
     map-append dir (inSide (turns false α) n) s ∙ ap₂ _++_ (dirs-in (turns false α) n ∙ sym (turns-not false α)) e
 
-opposite : (α : Ty) (a f : Interface) → dirs a ≡ turns false α → dirs f ≡ turns true α → dirs f ≡ map not (dirs a)
+pub opposite : (α : Ty) (a f : Interface) → dirs a ≡ turns false α → dirs f ≡ turns true α → dirs f ≡ map not (dirs a)
 opposite α a f p q = q ∙ turns-not false α ∙ ap (map not) (sym p)
 
 part-dirs : (p n : ℕ) → dirs (partSide (partAt p .inputs) n) ≡ turns false (partAt p .type)
@@ -293,38 +285,38 @@ halves θ₁ θ₂ a et ed = (
   record { type = ap rightOf et; dirs = rw et (dirs-right false θ₁ (turns false θ₂) (a .side) ed) },
 )
 
-pub driven : {Θ : Table} {Γ : Ctx} {e : Term} {τ : Ty} → Typed Θ Γ e τ → (env : List Bound) → Env Γ env → (n : ℕ) → Driven Γ env τ (make Θ e env n)
-driven (Var x) env v n = var-driven n (shown-shared x v)
-driven (LVar x) env v n = var-driven n (shown-linear x v)
-driven {Θ} (→I {t = t} {e = e} {θ = θ} {τ = τ} eτ sh d) env v n =
-    rw eτ (fun-driven θ τ n (make Θ e (binder θ n ∷ env) (n + 2 * size θ)) sh (driven d (binder θ n ∷ env) (env-many sh (binder-fits θ n) v) (n + 2 * size θ)))
-driven {Θ} (→E {f = f} {a = a} {θ = θ} {τ = τ} z d c) env v n =
+pub term-driven : {Θ : Table} {Γ : Ctx} {e : Term} {τ : Ty} → Typed Θ Γ e τ → (env : List Bound) → Env Γ env → (n : ℕ) → Driven Γ env τ (make Θ e env n)
+term-driven (Var x) env v n = var-driven n (shown-shared x v)
+term-driven (LVar x) env v n = var-driven n (shown-linear x v)
+term-driven {Θ} (→I {t = t} {e = e} {θ = θ} {τ = τ} eτ sh d) env v n =
+    rw eτ (fun-driven θ τ n (make Θ e (binder θ n ∷ env) (n + 2 * size θ)) sh (term-driven d (binder θ n ∷ env) (env-many sh (binder-fits θ n) v) (n + 2 * size θ)))
+term-driven {Θ} (→E {f = f} {a = a} {θ = θ} {τ = τ} z d c) env v n =
     let (p, q) = split-env z v in
-    let x = driven d env p n in
+    let x = term-driven d env p n in
     let m = make Θ f env n in
-    app-driven z θ τ m (make Θ a env (m .next)) (ap leftOf (x .type)) (ap rightOf (x .type)) (x .dirs) (x .count) (driven c env q (m .next))
-driven {Θ} (⊸I {t = t} {e = e} {κ = κ} {τ = τ} eτ ar d) env v n =
-    rw eτ (lfun-driven κ τ n (make Θ e (binder κ n ∷ env) (n + 2 * size κ)) (driven d (binder κ n ∷ env) (env-once (binder-fits κ n) v) (n + 2 * size κ)))
-driven {Θ} (⊸E {f = f} {a = a} {κ = κ} {τ = τ} z d c) env v n =
+    app-driven z θ τ m (make Θ a env (m .next)) (ap leftOf (x .type)) (ap rightOf (x .type)) (x .dirs) (x .count) (term-driven c env q (m .next))
+term-driven {Θ} (⊸I {t = t} {e = e} {κ = κ} {τ = τ} eτ ar d) env v n =
+    rw eτ (lfun-driven κ τ n (make Θ e (binder κ n ∷ env) (n + 2 * size κ)) (term-driven d (binder κ n ∷ env) (env-once (binder-fits κ n) v) (n + 2 * size κ)))
+term-driven {Θ} (⊸E {f = f} {a = a} {κ = κ} {τ = τ} z d c) env v n =
     let (p, q) = split-env z v in
-    let x = driven d env p n in
+    let x = term-driven d env p n in
     let m = make Θ f env n in
-    app-driven z κ τ m (make Θ a env (m .next)) (ap leftOf (x .type)) (ap rightOf (x .type)) (x .dirs) (x .count) (driven c env q (m .next))
-driven {Θ} (×I {a = a} {b = b} {θ₁ = θ₁} {θ₂ = θ₂} z eτ s₁ s₂ d c) env v n =
+    app-driven z κ τ m (make Θ a env (m .next)) (ap leftOf (x .type)) (ap rightOf (x .type)) (x .dirs) (x .count) (term-driven c env q (m .next))
+term-driven {Θ} (×I {a = a} {b = b} {θ₁ = θ₁} {θ₂ = θ₂} z eτ s₁ s₂ d c) env v n =
     let (p, q) = split-env z v in
     let m = make Θ a env n in
-    rw eτ (pair-driven z θ₁ θ₂ m (make Θ b env (m .next)) (driven d env p n) (driven c env q (m .next)))
-driven {Θ} (×E {a = a} {e = e} {θ₁ = θ₁} {θ₂ = θ₂} {τ = τ} z s₁ s₂ d c) env v n =
+    rw eτ (pair-driven z θ₁ θ₂ m (make Θ b env (m .next)) (term-driven d env p n) (term-driven c env q (m .next)))
+term-driven {Θ} (×E {a = a} {e = e} {θ₁ = θ₁} {θ₂ = θ₂} {τ = τ} z s₁ s₂ d c) env v n =
     let (p, q) = split-env z v in
     let m = make Θ a env n in
-    let x = driven d env p n in
+    let x = term-driven d env p n in
     let (h₁, h₂) = halves θ₁ θ₂ m (x .type) (x .dirs) in
-    proj-driven z θ₁ θ₂ τ m (make Θ e (secondHalf m ∷ firstHalf m ∷ env) (m .next)) s₁ s₂ x (driven c _ (env-many s₂ h₂ (env-many s₁ h₁ q)) (m .next))
-driven {Θ} (Fix {t = t} {e = e} {θ = θ} eτ sh d) env v n =
-    rw eτ (fix-driven θ n (make Θ e (binder θ n ∷ env) (n + 2 * size θ)) sh (driven d (binder θ n ∷ env) (env-many sh (binder-fits θ n) v) (n + 2 * size θ)))
-driven (Con {p = p} h e z) env v n = con-driven p n z
+    proj-driven z θ₁ θ₂ τ m (make Θ e (secondHalf m ∷ firstHalf m ∷ env) (m .next)) s₁ s₂ x (term-driven c _ (env-many s₂ h₂ (env-many s₁ h₁ q)) (m .next))
+term-driven {Θ} (Fix {t = t} {e = e} {θ = θ} eτ sh d) env v n =
+    rw eτ (fix-driven θ n (make Θ e (binder θ n ∷ env) (n + 2 * size θ)) sh (term-driven d (binder θ n ∷ env) (env-many sh (binder-fits θ n) v) (n + 2 * size θ)))
+term-driven (Con {p = p} h e z) env v n = con-driven p n z
 
 -- a whole sheet: each input is the target of one wire or shown by one pin
 pub drivers : {Θ : Table} {e : Term} {τ : Ty} → Typed Θ [] e τ → (i : ℕ) →
     made (make Θ e [] 0 .elements) i ≡ targets (make Θ e [] 0 .wires) i + ins (make Θ e [] 0 .side) i
-drivers d i = omega (arith, driven d [] env-end 0 .count i)
+drivers d i = omega (arith, term-driven d [] env-end 0 .count i)

@@ -1,25 +1,28 @@
--- For every accepted sheet: its term has a derivation, each input has one driver, and the two netlists have the same possible records. Assumes nothing.
-use Prim.Native.Nat.{ℕ, _+_}
-use mathlib.Core.Path.{_≡_, refl, sym, ap, subst, _∙_}
+-- For every accepted sheet: its term has a derivation, both netlists are formed, each input has one driver, and the two netlists have the
+-- same possible records. Assumes nothing.
+use Prim.Native.Nat.{ℕ, _+_, _≤_}
+use mathlib.Core.Path.{_≡_, subst}
 use mathlib.Core.Logic.{_↔_}
-use mathlib.Core.List.{List, [], _∷_}
-use lib.Dec.{T, leb, eqb}
+use mathlib.Core.List.{List, []}
+use lib.Dec.{T, leb, eqb, leb→le}
 use lib.ListN.{length}
-use Rattle.calculus.specs.Answer.{Answer, good, refused, _>>=_, need}
+use Rattle.calculus.specs.Answer.{good}
 use Rattle.calculus.proofs.Answers.{good-inj, on-bind, on-need}
-use Rattle.calculus.specs.Types.{Ty, Table, tree}
-use Rattle.calculus.specs.Read.{Sheet, Got, readTypes, readTerm, readSheet}
-use Rattle.calculus.specs.Walk.{Found, walk}
+use Rattle.calculus.specs.Types.{tree}
+use Rattle.calculus.specs.Read.{Sheet, readTypes, readTerm, readSheet}
+use Rattle.calculus.specs.Walk.{walk}
 use Rattle.calculus.specs.Rules.{Typed}
 use Rattle.calculus.specs.Net.{Net, make, netOf}
 use Rattle.calculus.specs.Lean.{lean}
-use Rattle.calculus.specs.Record.{Bits, Law, Outside}
+use Rattle.calculus.specs.Record.{Bits, Law, All, partLaw, Outside}
+use Rattle.calculus.specs.Formed.{ins, made, targets, isOut, Formed}
 use Rattle.calculus.specs.Translate.{full}
 use Rattle.sheet_theorems.proofs.Sound.{sound}
 use Rattle.sheet_theorems.proofs.Complete.{Sheetly}
 use Rattle.sheet_theorems.proofs.Tables.{table-read}
-use Rattle.circuit_theorems.proofs.Same.{Wired, same-records}
-use Rattle.circuit_theorems.proofs.Wiring.{wired}
+use Rattle.circuit_theorems.proofs.Same.{same-records}
+use Rattle.circuit_theorems.proofs.Forming.{Whole, whole-net, lean-formed}
+use Rattle.circuit_theorems.proofs.Wiring.{input-once, one-driver, no-driver, wires-run}
 
 sheet-table : (s : List ℕ) (σ : Sheet) → readSheet s ≡ good σ → Sheetly (σ .table)
 unfolding readSheet
@@ -34,8 +37,9 @@ sheet-table s σ e =
 pub record Accepts (s : List ℕ) (m : Net) : Type 0 where
   pub sheet : Sheet
   pub reads : readSheet s ≡ good sheet
-  pub type : Ty
-  pub typed : Typed (sheet .table) [] (sheet .term) type
+  pub type : ℕ
+  pub typed : Typed (sheet .table) [] (sheet .term) (tree (sheet .table) type)
+  pub few : make (sheet .table) (sheet .term) [] 0 .next ≤ 8192
   pub is : netOf (make (sheet .table) (sheet .term) [] 0) ≡ m
 
 pub accepts : (s : List ℕ) (m : Net) → full s ≡ good m → Accepts s m
@@ -47,12 +51,44 @@ accepts s m e =
     record {
       sheet = σ;
       reads = h₁;
-      type = tree (σ .table) (r .type);
+      type = r .type;
       typed = sound (σ .table) (sheet-table s σ h₁ .formed) (σ .term) r h₂;
+      few = leb→le _ 8192 h₃;
       is = good-inj e₃;
     }
 
+-- ---- formed
+
+-- the full netlist is formed, and its elements take all the terminals from 0 on
+pub formed : (s : List ℕ) (m : Net) → full s ≡ good m → Whole m
+formed s m e = let a = accepts s m e in subst Whole (a .is) (whole-net (a .typed) (a .few))
+
+pub formed-lean : (s : List ℕ) (m : Net) → full s ≡ good m → Formed (lean m)
+formed-lean s m e = lean-formed m (formed s m e .net)
+
+-- ---- demand 3, first half
+
+-- each input of the full netlist is the target of one wire or shown by one pin, never both
+pub driven : (s : List ℕ) (m : Net) → full s ≡ good m → (i : ℕ) → made (m .elements) i ≡ 1 → targets (m .wires) i + ins (m .pins) i ≡ 1
+driven s m e = one-driver m (formed s m e .net)
+
+-- what is no input is neither; and no input is made twice
+pub undriven : (s : List ℕ) (m : Net) → full s ≡ good m → (i : ℕ) → made (m .elements) i ≡ 0 → (targets (m .wires) i ≡ 0) × (ins (m .pins) i ≡ 0)
+undriven s m e = no-driver m (formed s m e .net)
+
+pub made-once : (s : List ℕ) (m : Net) → full s ≡ good m → (i : ℕ) → made (m .elements) i ≤ 1
+made-once s m e = input-once m (formed s m e .net)
+
+-- wires run from outputs to inputs, and both are made
+pub wired : (s : List ℕ) (m : Net) → full s ≡ good m → All (λ w. T (isOut (m .elements) (w .from)) × (made (m .elements) (w .to) ≡ 1)) (m .wires)
+wired s m e = wires-run m (formed s m e .net)
+
+-- ---- demand 3, second half
+
+-- over any law of the parts, the two netlists have the same possible records of pins and part terminals
 pub same-circuit : (law : Law) (s : List ℕ) (m : Net) → full s ≡ good m → (n : ℕ) (γ π : Bits) → Outside law m n γ π ↔ Outside law (lean m) n γ π
-same-circuit law s m e =
-    let a = accepts s m e in
-    same-records law m (subst (λ (x : Net). Wired x) (a .is) (wired (a .typed)))
+same-circuit law s m e = same-records law m (formed s m e .net)
+
+-- .. and so over document 01's
+pub same-circuit-01 : (s : List ℕ) (m : Net) → full s ≡ good m → (n : ℕ) (γ π : Bits) → Outside partLaw m n γ π ↔ Outside partLaw (lean m) n γ π
+same-circuit-01 = same-circuit partLaw

@@ -1,17 +1,17 @@
--- One step back does not change the root: as many steps as there are points end at an output that stays, or in a ring. Assumes nothing.
-use Prim.Native.Nat.{ℕ, zero, suc, _+_, _-_, _<_, _≤_, min}
-use mathlib.Core.Path.{_≡_, refl, sym, ap, _∙_, subst, subst⁻¹}
+-- As many steps back as there are points end at an output that stays, or in a ring. Assumes nothing.
+use Prim.Native.Nat.{ℕ, zero, suc, _+_, _-_, _<_, _≤_}
+use mathlib.Core.Path.{_≡_, refl, sym, ap, _∙_, subst}
 use mathlib.Core.Logic.{_⊎_, inl, inr, ⊎-elim}
-use mathlib.Core.Bool.{Bool, true, false, cond, _||_}
+use mathlib.Core.Bool.{Bool, false, cond, _||_}
 use mathlib.Core.List.{List, [], _∷_}
-use native.Mathlib.Nat.{min-eq-left, min-eq-right, min-le-left, min-le-right, le-of-lt, lt-of-not-le, suc-add, zero-add, le-trans, le-antisymm, eq-or-lt-of-le, not-suc-le-zero, le-of-suc-le-suc, le-refl, add-comm}
-use native.Mathlib.Decide.{decLe, ℕ-discrete}
+use native.Mathlib.Nat.{suc-add, zero-add, eq-or-lt-of-le, not-suc-le-zero, le-of-suc-le-suc, le-refl, add-comm}
+use native.Mathlib.Decide.{ℕ-discrete}
 use native.Mathlib.Omega.{arith}
-use lib.Dec.{T, eqb, eqb→eq, eqb-refl}
+use lib.Dec.{T, eqb, eqb→eq}
 use lib.ListN.{length}
-use borrow.Author.Tests.{ne-eqb, eq-eqb}
-use Rattle.calculus.specs.Net.{Interface, Element, point, part, Wire, Net}
-use Rattle.calculus.specs.Lean.{driver, isPin, pointCount, backIn, back, backs, lowest, root}
+use Rattle.laws.proofs.Tests.{or-cases, or-left, or-right, by-eqb}
+use Rattle.calculus.specs.Net.{Element, point, part, Net}
+use Rattle.calculus.specs.Lean.{driver, isPin, pointCount, backIn, back, backs}
 
 -- ---- more pigeons than holes
 
@@ -22,22 +22,6 @@ has (y ∷ P) x = eqb y x || has P x
 abbrev remove : ℕ → List ℕ → List ℕ
 remove q [] = []
 remove q (y ∷ P) = cond (eqb y q) P (y ∷ remove q P)
-
-pub or-cases : (a b : Bool) → T (a || b) → T a ⊎ T b
-or-cases true b t = inl tt
-or-cases false b t = inr t
-
-pub or-left : (a b : Bool) → T a → T (a || b)
-or-left true b t = tt
-or-left false b t = absurd t
-
-pub or-right : (a b : Bool) → T b → T (a || b)
-or-right true b t = tt
-or-right false b t = t
-
--- by cases of a test of equal numbers, with the fact at hand
-pub by-eqb : (F : Bool → Type 0) (a b : ℕ) → (a ≡ b → F true) → (¬ (a ≡ b) → F false) → F (eqb a b)
-by-eqb F a b f g = elim (ℕ-discrete a b) [ yes e ↦ subst⁻¹ F (eq-eqb a b e) (f e) | no d ↦ subst⁻¹ F (ne-eqb a b d) (g d) ]
 
 remove-length : (q : ℕ) (P : List ℕ) → T (has P q) → suc (length (remove q P)) ≡ length P
 remove-length q [] h = absurd h
@@ -79,7 +63,7 @@ outs [] = []
 outs (point i ∷ es) = (i + 1) ∷ outs es
 outs (part p i ∷ es) = outs es
 
-outs-length : (es : List Element) → length (outs es) ≡ pointCount es
+pub outs-length : (es : List Element) → length (outs es) ≡ pointCount es
 outs-length [] = refl
 outs-length (point i ∷ es) = ap suc (outs-length es)
 outs-length (part p i ∷ es) = outs-length es
@@ -94,7 +78,7 @@ module _ (m : Net) where
       (λ d. moves-in es x)
   moves-in (part p i ∷ es) x = moves-in es x
 
-  backs-add : (a b x : ℕ) → backs (a + b) m x ≡ backs b m (backs a m x)
+  pub backs-add : (a b x : ℕ) → backs (a + b) m x ≡ backs b m (backs a m x)
   backs-add zero b x = rw zero-add
   backs-add (suc a) b x = rw suc-add (backs-add a b (back m x))
 
@@ -121,7 +105,7 @@ module _ (m : Net) where
       go (inr t) (inr f) = inr (λ k h. ⊎-elim (λ (e : k ≡ n). rw e t) (λ l. f k l) (eq-or-lt-of-le (le-of-suc-le-suc h)))
 
   -- what comes round, comes round later too
-  later : (n a x : ℕ) → Round n x → Round n (backs a m x)
+  pub later : (n a x : ℕ) → Round n x → Round n (backs a m x)
   later n a x r = record {
     steps = r .steps;
     some = r .some;
@@ -129,13 +113,13 @@ module _ (m : Net) where
     same = sym (backs-add a (r .steps) x) ∙ ap (λ (k : ℕ). backs k m x) (add-comm a (r .steps)) ∙ backs-add (r .steps) a x ∙ ap (backs a m) (r .same);
   }
 
-  backs-sub : (a b x : ℕ) → a ≤ b → backs (b - a) m (backs a m x) ≡ backs b m x
+  pub backs-sub : (a b x : ℕ) → a ≤ b → backs (b - a) m (backs a m x) ≡ backs b m x
   backs-sub a b x h = let e : a + (b - a) ≡ b = omega arith in sym (backs-add a (b - a) x) ∙ rw e
 
-  abbrev count : ℕ
+  abbrev pub count : ℕ
   count = pointCount (m .elements)
 
-  rounds : (x : ℕ) → 1 ≤ count → Round count (backs count m x)
+  pub rounds : (x : ℕ) → 1 ≤ count → Round count (backs count m x)
   rounds x one = ⊎-elim halted ringed (stops (suc count) x)
     where
       halted : (k : ℕ) × (k < suc count) × (back m (backs k m x) ≡ backs k m x) → Round count (backs count m x)
@@ -151,64 +135,3 @@ module _ (m : Net) where
       ringed : ((k : ℕ) → k < suc count → T (has (outs (m .elements)) (backs k m x))) → Round count (backs count m x)
       ringed f =
           comes (pigeon (suc count) (outs (m .elements)) (λ k. backs k m x) (omega (arith, outs-length (m .elements))) f)
-
-  -- ---- the lowest
-
-  lowest-low : (k o low : ℕ) → lowest k m o low ≤ low
-  lowest-low zero o low = le-refl low
-  lowest-low (suc k) o low = le-trans (lowest-low k (back m o) (min low o)) (min-le-left low o)
-
-  lowest-le : (k o low j : ℕ) → j < k → lowest k m o low ≤ backs j m o
-  lowest-le zero o low j h = absurd (not-suc-le-zero h)
-  lowest-le (suc k) o low zero h = le-trans (lowest-low k (back m o) (min low o)) (min-le-right low o)
-  lowest-le (suc k) o low (suc j) h = lowest-le k (back m o) (min low o) j (le-of-suc-le-suc h)
-
-  pub lowest-is : (k o low : ℕ) → (lowest k m o low ≡ low) ⊎ ((j : ℕ) × (j < k) × (lowest k m o low ≡ backs j m o))
-  lowest-is zero o low = inl refl
-  lowest-is (suc k) o low = ⊎-elim (λ e. here (decLe low o) e) (λ (x : (j : ℕ) × (j < k) × (lowest k m (back m o) (min low o) ≡ backs j m (back m o))). inr (suc (x .0), omega (arith, x .1), x .2)) (lowest-is k (back m o) (min low o))
-    where
-      here : Dec (low ≤ o) → lowest k m (back m o) (min low o) ≡ min low o → (lowest k m (back m o) (min low o) ≡ low) ⊎ ((j : ℕ) × (j < suc k) × (lowest k m (back m o) (min low o) ≡ backs j m o))
-      here (yes h) e = inl (e ∙ min-eq-left h)
-      here (no h) e = inr (0, omega arith, e ∙ min-eq-right (le-of-lt (lt-of-not-le h)))
-
-  -- from p, at least one step
-  lowest-of : (k p : ℕ) → 1 ≤ k → (j : ℕ) × (j < k) × (lowest k m p p ≡ backs j m p)
-  lowest-of k p h = ⊎-elim (λ e. (0, h, e)) (λ x. x) (lowest-is k p p)
-
-  back-first : (c p : ℕ) → 1 ≤ c → backs c m p ≡ backs (c - 1) m (back m p)
-  back-first zero p h = absurd (not-suc-le-zero h)
-  back-first (suc c) p h = let e : suc c - 1 ≡ c = omega arith in rw e
-
-  lower : (n p j : ℕ) → Round n p → j < n → lowest n m (back m p) (back m p) ≤ backs j m p
-  lower n p zero r h =
-      subst (λ (y : ℕ). lowest n m (back m p) (back m p) ≤ y) (sym (back-first (r .steps) p (r .some)) ∙ r .same)
-      (lowest-le n (back m p) (back m p) (r .steps - 1) (omega (arith, r .some, r .few)))
-  lower n p (suc j) r h = lowest-le n (back m p) (back m p) j (omega arith)
-
-  upper : (n p i : ℕ) → Round n p → i < n → lowest n m p p ≤ backs (suc i) m p
-  upper n p i r h = ⊎-elim (λ (e : suc i ≡ n). (subst (λ (y : ℕ). lowest n m p p ≤ y) (ap (backs (n - r .steps) m) (sym (r .same)) ∙ backs-sub (r .steps) n p (r .few) ∙ ap (λ (k : ℕ). backs k m p) (sym e)) (lowest-le n p p (n - r .steps) (omega (arith, r .some, r .few)))))
-      (λ l. lowest-le n p p (suc i) l) (eq-or-lt-of-le h)
-
-  turned : (n p : ℕ) → Round n p → lowest n m (back m p) (back m p) ≡ lowest n m p p
-  turned n p r = meet (lowest-of n (back m p) (omega (arith, r .some, r .few))) (lowest-of n p (omega (arith, r .some, r .few)))
-    where
-      meet : (i : ℕ) × (i < n) × (lowest n m (back m p) (back m p) ≡ backs i m (back m p)) → (j : ℕ) × (j < n) × (lowest n m p p ≡ backs j m p)
-          → lowest n m (back m p) (back m p) ≡ lowest n m p p
-      meet (i, hi, ei) (j, hj, ej) =
-          le-antisymm (subst (λ (y : ℕ). lowest n m (back m p) (back m p) ≤ y) (sym ej) (lower n p j r hj))
-          (subst (λ (y : ℕ). lowest n m p p ≤ y) (sym ei) (upper n p i r hi))
-
-  some-out : (P : List ℕ) (x : ℕ) → T (has P x) → 1 ≤ length P
-  some-out [] x t = absurd t
-  some-out (y ∷ P) x t = omega arith
-
-  backs-back : (k x : ℕ) → backs k m (back m x) ≡ back m (backs k m x)
-  backs-back zero x = refl
-  backs-back (suc k) x = backs-back k (back m x)
-
-  -- the root of the output that drives a point is the root of the point's output
-  pub root-back : (x : ℕ) → root m (back m x) ≡ root m x
-  unfolding root
-  root-back x = ⊎-elim (λ e. ap (root m) e) (λ t.
-      ap (λ (y : ℕ). lowest count m y y) (backs-back count x)
-      ∙ turned count (backs count m x) (rounds x (omega (arith, some-out (outs (m .elements)) x t, outs-length (m .elements))))) (moves-in (m .elements) x)

@@ -1,19 +1,14 @@
 -- In a possible record an output and its root have the same bits. Assumes nothing.
-use Prim.Native.Nat.{ℕ, zero, suc, _+_, _<_, _≤_, min}
-use mathlib.Core.Path.{_≡_, refl, sym, ap, _∙_, subst}
-use mathlib.Core.Bool.{Bool, true, false, cond}
+use Prim.Native.Nat.{ℕ, zero, suc, _+_, min}
+use mathlib.Core.Path.{_≡_, refl, sym, _∙_, subst}
 use mathlib.Core.List.{List, [], _∷_}
 use native.Mathlib.Nat.{min-eq-left, min-eq-right, le-of-lt, lt-of-not-le}
 use native.Mathlib.Decide.{decLe}
-use lib.Dec.{T, eqb, eqb→eq}
-use Rattle.calculus.specs.Net.{Interface, Element, point, part, Wire, Net}
+use lib.Dec.{eqb, eqb→eq}
+use Rattle.laws.proofs.Tests.{on-cond}
+use Rattle.calculus.specs.Net.{Element, point, part, Wire, Net}
 use Rattle.calculus.specs.Lean.{driver, isPin, pointCount, backIn, back, backs, lowest, root}
 use Rattle.calculus.specs.Record.{Bits, Law, All, Same, Works, Joined, Possible}
-
--- a choice by a test: what holds on both sides
-on-cond {ℓ} : {A : Type ℓ} (P : A → Type 0) (b : Bool) (x y : A) → (T b → P x) → P y → P (cond b x y)
-on-cond P true x y f g = f tt
-on-cond P false x y f g = g
 
 on-min : (a b : ℕ) (P : ℕ → Type 0) → P a → P b → P (min a b)
 on-min a b P x y = elim (decLe a b) [ yes h ↦ rw (min-eq-left h) x | no h ↦ rw (min-eq-right (le-of-lt (lt-of-not-le h))) y ]

@@ -1,104 +1,36 @@
 -- The lean netlist and the full one have the same possible records, seen from outside. Assumes nothing.
-use Prim.Native.Nat.{ℕ, zero, suc, _+_, _-_, _<_, _≤_, min}
-use mathlib.Core.Path.{_≡_, refl, sym, ap, ap₂, _∙_, subst, subst⁻¹}
-use mathlib.Core.Logic.{_⊎_, inl, inr, ⊎-elim, _↔_}
-use mathlib.Core.Bool.{Bool, true, false, cond, not, _&&_, _||_, xor}
-use mathlib.Core.List.{List, [], _∷_, _++_, map}
-use native.Mathlib.Nat.{add-zero}
+use Prim.Native.Nat.{ℕ, zero, suc, _+_, _<_, _≤_}
+use mathlib.Core.Path.{_≡_, refl, sym, ap, ap₂, _∙_, subst}
+use mathlib.Core.Logic.{_⊎_, ⊎-elim, _↔_}
+use mathlib.Core.Bool.{Bool, true, false, cond, not, _&&_}
+use mathlib.Core.List.{List, [], _∷_, map}
 use native.Mathlib.Omega.{arith}
 use lib.Dec.{T, eqb, eqb→eq, eqb-refl}
-use lib.ListN.{length}
 use Rattle.calculus.specs.Terms.{partAt}
-use Rattle.calculus.specs.Net.{Terminal, inp, out, number, Interface, Element, point, part, Wire, Net}
-use Rattle.calculus.specs.Lean.{driver, isPin, pointCount, backIn, back, backs, lowest, root, kept, keep, toInputs, toElement, leanWires, leanPin, lean}
+use Rattle.calculus.specs.Net.{inp, out, Interface, Element, point, part, Wire, Net}
+use Rattle.calculus.specs.Lean.{driver, isPin, back, root, kept, keep, toInputs, toElement, leanWires, leanPin, lean}
+use Rattle.calculus.specs.Formed.{targets, Formed}
 use Rattle.calculus.specs.Record.{Stream, Bits, Law, All, Same, streams, Works, Joined, Possible, PinsShow, PartShows, Outside}
-use Rattle.circuit_theorems.proofs.Rings.{by-eqb, or-cases, or-left, or-right, root-back, stay, lowest-is}
-use Rattle.circuit_theorems.proofs.Roots.{driver-like, root-like}
-
--- ---- All
-
-pub all-map : {A : Type 0} (F G : A → Type 0) → ((x : A) → F x → G x) → (xs : List A) → All F xs → All G xs
-all-map F G f [] a = tt
-all-map F G f (x ∷ xs) a = (f x (a .0), all-map F G f xs (a .1))
-
-pub all-zip : {A : Type 0} (F G : A → Type 0) (xs : List A) → All F xs → All G xs → All (λ x. F x × G x) xs
-all-zip F G [] a b = tt
-all-zip F G (x ∷ xs) a b = ((a .0, b .0), all-zip F G xs (a .1) (b .1))
-
-all-append : {A : Type 0} (F : A → Type 0) (xs ys : List A) → All F xs → All F ys → All F (xs ++ ys)
-all-append F [] ys a b = b
-all-append F (x ∷ xs) ys a b = (a .0, all-append F xs ys (a .1) b)
-
-all-left : {A : Type 0} (F : A → Type 0) (xs ys : List A) → All F (xs ++ ys) → All F xs
-all-left F [] ys a = tt
-all-left F (x ∷ xs) ys a = (a .0, all-left F xs ys (a .1))
-
-all-right : {A : Type 0} (F : A → Type 0) (xs ys : List A) → All F (xs ++ ys) → All F ys
-all-right F [] ys a = a
-all-right F (x ∷ xs) ys a = all-right F xs ys (a .1)
-
-all-cond : {A : Type 0} (F : A → Type 0) (b : Bool) (xs ys : List A) → (T b → All F xs) → (T (not b) → All F ys) → All F (cond b xs ys)
-all-cond F true xs ys f g = f tt
-all-cond F false xs ys f g = g tt
-
--- ---- which terminals are which
-
-abbrev pub pointIn : List Element → ℕ → Bool
-pointIn [] x = false
-pointIn (point i ∷ es) x = eqb i x || pointIn es x
-pointIn (part p i ∷ es) x = pointIn es x
-
-abbrev pub within : ℕ → ℕ → ℕ → Bool
-within zero i x = false
-within (suc k) i x = eqb i x || within k (i + 1) x
-
-abbrev pub partIn : List Element → ℕ → Bool
-partIn [] x = false
-partIn (point i ∷ es) x = partIn es x
-partIn (part p i ∷ es) x = within (partAt p .inputs) i x || partIn es x
-
-abbrev pub hasTo : List Wire → ℕ → Bool
-hasTo [] i = false
-hasTo (w ∷ ws) i = eqb (w .to) i || hasTo ws i
-
--- the output that stands for a terminal
-abbrev pub standIn : Net → ℕ → ℕ
-standIn m x = cond (pointIn (m .elements) x) (root m (x + 1)) (root m x)
-
-abbrev pub Clear : Net → Element → Type 0
-Clear m (point i) = (pointIn (m .elements) (i + 1) ≡ false) × (pointIn (m .elements) i ≡ true)
-Clear m (part p i) = (x : ℕ) → i ≤ x → x ≤ i + partAt p .inputs → standIn m x ≡ x
-
-abbrev pub PinOk : Net → Terminal → Type 0
-PinOk m (inp i) = T (pointIn (m .elements) i) ⊎ T (partIn (m .elements) i)
-PinOk m (out o) = pointIn (m .elements) o ≡ false
-
--- what the making of a netlist ensures
-pub record Wired (m : Net) : Type 0 where
-  pub clear : All (Clear m) (m .elements)
-  pub from-out : All (λ w. pointIn (m .elements) (w .from) ≡ false) (m .wires)
-  pub to-in : All (λ w. T (pointIn (m .elements) (w .to)) ⊎ T (partIn (m .elements) (w .to))) (m .wires)
-  pub no-pin : All (λ w. isPin (m .pins) (w .to) ≡ false) (m .wires)
-  pub one : All (λ w. (d : ℕ) → driver (m .wires) (w .to) d ≡ w .from) (m .wires)
-  pub fed : (i : ℕ) → T (partIn (m .elements) i) → isPin (m .pins) i ≡ false → T (hasTo (m .wires) i)
-  pub pins-ok : All (PinOk m) (m .pins)
+use Rattle.laws.proofs.Tests.{by-eqb, or-cases, or-left, or-right, T-is, not-true, false-not}
+use Rattle.circuit_theorems.proofs.Lists.{all-map, all-zip, all-append, all-left, all-right, all-cond}
+use Rattle.circuit_theorems.proofs.Terminals.{pointIn, partIn, within}
+use Rattle.circuit_theorems.proofs.RootLaws.{root-back}
+use Rattle.circuit_theorems.proofs.BackLaws.{back-point, pin-root}
+use Rattle.circuit_theorems.proofs.Wiring.{standIn, Clear, Wired, PinOk, wired-net}
+use Rattle.circuit_theorems.proofs.Roots.{root-like}
 
 -- ---- from the full netlist to the lean one
 
-driver-fed : (n : ℕ) (β : Bits) (ws : List Wire) → All (Joined n β) ws → (i d : ℕ) → T (hasTo ws i) → Same n β (driver ws i d) i
-driver-fed n β [] a i d h = absurd h
-driver-fed n β (w ∷ ws) a i d h =
-    by-eqb (λ b. T (b || hasTo ws i) → Same n β (cond b (w .from) (driver ws i d)) i) (w .to) i
+driven-like : (n : ℕ) (β : Bits) (ws : List Wire) → All (Joined n β) ws → (i d : ℕ) → 1 ≤ targets ws i → Same n β (driver ws i d) i
+driven-like n β [] a i d h = absurd (omega arith)
+driven-like n β (w ∷ ws) a i d h =
+    by-eqb (λ b. 1 ≤ cond b 1 0 + targets ws i → Same n β (cond b (w .from) (driver ws i d)) i) (w .to) i
     (λ e _. subst (λ (j : ℕ). Same n β (w .from) j) e (a .0))
-    (λ _ t. driver-fed n β ws (a .1) i d t) h
+    (λ _ t. driven-like n β ws (a .1) i d (omega arith)) h
 
 keep-all : (F : Element → Type 0) (m : Net) (es : List Element) → All F es → All F (keep m es)
 keep-all F m [] a = tt
 keep-all F m (e ∷ es) a = let r = keep-all F m es (a .1) in all-cond F (kept m e) (e ∷ keep m es) (keep m es) (λ _. (a .0, r)) (λ _. r)
-
-not-true : (b : Bool) → T (not b) → b ≡ false
-not-true true t = absurd t
-not-true false t = refl
 
 within-here : (k i : ℕ) → T (within (suc k) i i)
 within-here k i = or-left (eqb i i) (within k (i + 1) i) (eqb-refl i)
@@ -106,7 +38,7 @@ within-here k i = or-left (eqb i i) (within k (i + 1) i) (eqb-refl i)
 module _ (law : Law) (m : Net) (ok : Wired m) (n : ℕ) (β : Bits) (p : Possible law m n β) where
   fed-like : (i : ℕ) → T (partIn (m .elements) i) → T (not (isPin (m .pins) i)) → Same n β (root m (driver (m .wires) i 0)) i
   fed-like i h u t l =
-      root-like n β law m p (driver (m .wires) i 0) t l ∙ driver-fed n β (m .wires) (p .wires) i 0 (ok .fed i h (not-true (isPin (m .pins) i) u)) t l
+      root-like n β law m p (driver (m .wires) i 0) t l ∙ driven-like n β (m .wires) (p .wires) i 0 (ok .fed i h (not-true (isPin (m .pins) i) u)) t l
 
   inputs-like : (k i : ℕ) → ((x : ℕ) → T (within k i x) → T (partIn (m .elements) x)) → All (Joined n β) (toInputs m k i)
   inputs-like zero i h = tt
@@ -132,25 +64,10 @@ module _ (law : Law) (m : Net) (ok : Wired m) (n : ℕ) (β : Bits) (p : Possibl
 
 -- ---- from the lean netlist to the full one
 
-pub root-stays : (m : Net) (x : ℕ) → back m x ≡ x → root m x ≡ x
-unfolding root
-root-stays m x e =
-    let c = pointCount (m .elements) in
-    let s = stay m c x e in
-    subst (λ (y : ℕ). lowest c m y y ≡ x) (sym s) (⊎-elim (λ f. f) (λ (f : (j : ℕ) × (j < c) × (lowest c m x x ≡ backs j m x)). f .2 ∙ stay m (f .0) x e) (lowest-is m c x x))
-
 module _ (law : Law) (m : Net) (ok : Wired m) (n : ℕ) (α : Bits) (p : Possible law (lean m) n α) where
   -- each terminal has the bits of the output that stands for it
   abbrev spread : Bits
   spread x t = α (standIn m x) t
-
-  back-point : (es : List Element) (i : ℕ) → T (pointIn es i) → isPin (m .pins) i ≡ false → backIn es m (i + 1) ≡ driver (m .wires) i (i + 1)
-  back-point [] i h u = absurd h
-  back-point (point j ∷ es) i h u =
-      by-eqb (λ b. cond b (cond (isPin (m .pins) j) (i + 1) (driver (m .wires) j (i + 1))) (backIn es m (i + 1)) ≡ driver (m .wires) i (i + 1)) (j + 1) (i + 1)
-      (λ e. let f : j ≡ i = omega arith in rw (f, u))
-      (λ d. back-point es i (⊎-elim (λ t. absurd (d (ap (λ (k : ℕ). k + 1) (eqb→eq j i t)))) (λ t. t) (or-cases (eqb j i) (pointIn es i) h)) u)
-  back-point (part q j ∷ es) i h u = back-point es i h u
 
   -- the terminals of parts keep their bits
   streams-same : (k i : ℕ) → ((x : ℕ) → i ≤ x → x < i + k → standIn m x ≡ x) → streams k i α ≡ streams k i spread
@@ -207,13 +124,6 @@ module _ (law : Law) (m : Net) (ok : Wired m) (n : ℕ) (α : Bits) (p : Possibl
   part-stands (part q i ∷ es) c x h =
       ⊎-elim (λ t. let r = within-le (partAt q .inputs) i x t in c .0 x (r .0) (r .1)) (λ t. part-stands es (c .1) x t) (or-cases (within (partAt q .inputs) i x) (partIn es x) h)
 
-  T-is : (b : Bool) → T b → b ≡ true
-  T-is true t = refl
-  T-is false t = absurd t
-
-  false-not : (b : Bool) → b ≡ false → T (not b)
-  false-not b e = rw e tt
-
   abbrev WireOk : Wire → Type 0
   WireOk w = ((pointIn (m .elements) (w .from) ≡ false) × (T (pointIn (m .elements) (w .to)) ⊎ T (partIn (m .elements) (w .to)))) × ((isPin (m .pins) (w .to) ≡ false) × ((d : ℕ) → driver (m .wires) (w .to) d ≡ w .from))
 
@@ -225,7 +135,7 @@ module _ (law : Law) (m : Net) (ok : Wired m) (n : ℕ) (α : Bits) (p : Possibl
 
       at-point : T (pointIn (m .elements) (w .to)) → Joined n spread w
       at-point h t l =
-          let b : back m (w .to + 1) ≡ w .from = back-point (m .elements) (w .to) h u ∙ d (w .to + 1) in
+          let b : back m (w .to + 1) ≡ w .from = back-point m (w .to) h u ∙ d (w .to + 1) in
           let e : standIn m (w .to) ≡ root m (w .to + 1) = rw (T-is (pointIn (m .elements) (w .to)) h) in
           from t ∙ ap (λ (x : ℕ). α x t) (ap (root m) (sym b) ∙ root-back m (w .to + 1) ∙ sym e)
 
@@ -241,15 +151,6 @@ module _ (law : Law) (m : Net) (ok : Wired m) (n : ℕ) (α : Bits) (p : Possibl
     wires = all-map WireOk (Joined n spread) (joins (p .wires)) (m .wires)
         (all-zip _ _ (m .wires) (all-zip _ _ (m .wires) (ok .from-out) (ok .to-in)) (all-zip _ _ (m .wires) (ok .no-pin) (ok .one)));
   }
-
-  -- a point whose input is a pin stays, and is kept
-  back-pin : (es : List Element) (i : ℕ) → T (isPin (m .pins) i) → backIn es m (i + 1) ≡ i + 1
-  back-pin [] i u = refl
-  back-pin (point j ∷ es) i u =
-      by-eqb (λ b. cond b (cond (isPin (m .pins) j) (i + 1) (driver (m .wires) j (i + 1))) (backIn es m (i + 1)) ≡ i + 1) (j + 1) (i + 1)
-      (λ e. let f : j ≡ i = omega arith in rw (f, T-is (isPin (m .pins) i) u))
-      (λ _. back-pin es i u)
-  back-pin (part q j ∷ es) i u = back-pin es i u
 
   kept-works : (es : List Element) (i : ℕ) → T (pointIn es i) → root m (i + 1) ≡ i + 1 → All (Works law n α) (keep m es) → Same n α i (i + 1)
   kept-works [] i h e a = absurd h
@@ -274,7 +175,7 @@ module _ (law : Law) (m : Net) (ok : Wired m) (n : ℕ) (α : Bits) (p : Possibl
     where
       at-point : T (pointIn (m .elements) i) → (t : ℕ) → t < n → α i t ≡ spread i t
       at-point h t l =
-          let r : root m (i + 1) ≡ i + 1 = root-stays m (i + 1) (back-pin (m .elements) i (sub i (or-left (eqb i i) (isPin ps i) (eqb-refl i)))) in
+          let r : root m (i + 1) ≡ i + 1 = pin-root m i (sub i (or-left (eqb i i) (isPin ps i) (eqb-refl i))) in
           let e : standIn m i ≡ root m (i + 1) = rw (T-is (pointIn (m .elements) i) h) in
           kept-works (m .elements) i h r w t l ∙ ap (λ (x : ℕ). α x t) (sym (e ∙ r))
 
@@ -290,19 +191,20 @@ pins-forth law m n β p γ k (inp i ∷ ps) a = (a .0, pins-forth law m n β p �
 pins-forth law m n β p γ k (out o ∷ ps) a = ((λ t l. a .0 t l ∙ sym (root-like n β law m p o t l)), pins-forth law m n β p γ (suc k) ps (a .1))
 
 -- seen from outside, the two have the same possible records, for any number of ticks
-pub same-records : (law : Law) (m : Net) → Wired m → (n : ℕ) (γ π : Bits) → Outside law m n γ π ↔ Outside law (lean m) n γ π
+pub same-records : (law : Law) (m : Net) → Formed m → (n : ℕ) (γ π : Bits) → Outside law m n γ π ↔ Outside law (lean m) n γ π
 unfolding lean
-same-records law m ok n γ π = (
-  (λ a. record {
-    bits = a .bits;
-    possible = to-lean law m ok n (a .bits) (a .possible);
-    pins = pins-forth law m n (a .bits) (a .possible) γ 0 (m .pins) (a .pins);
-    parts = keep-all (PartShows n π (a .bits)) m (m .elements) (a .parts);
-  }),
-  (λ a. record {
-    bits = spread law m ok n (a .bits) (a .possible);
-    possible = from-lean law m ok n (a .bits) (a .possible);
-    pins = pins-back law m ok n (a .bits) (a .possible) (a .possible .elements) γ 0 (m .pins) (ok .pins-ok) (λ i u. u) (a .pins);
-    parts = parts-back law m ok n (a .bits) (a .possible) π (m .elements) (ok .clear) (a .parts);
-  }),
-)
+same-records law m f n γ π =
+    let ok = wired-net m f in (
+      (λ a. record {
+        bits = a .bits;
+        possible = to-lean law m ok n (a .bits) (a .possible);
+        pins = pins-forth law m n (a .bits) (a .possible) γ 0 (m .pins) (a .pins);
+        parts = keep-all (PartShows n π (a .bits)) m (m .elements) (a .parts);
+      }),
+      (λ a. record {
+        bits = spread law m ok n (a .bits) (a .possible);
+        possible = from-lean law m ok n (a .bits) (a .possible);
+        pins = pins-back law m ok n (a .bits) (a .possible) (a .possible .elements) γ 0 (m .pins) (ok .pins-ok) (λ i u. u) (a .pins);
+        parts = parts-back law m ok n (a .bits) (a .possible) π (m .elements) (ok .clear) (a .parts);
+      }),
+    )
