@@ -1,0 +1,41 @@
+-- `binders::push` meets its contract: the stores are past the binders in scope. Assumes nothing.
+use native.Mathlib.Omega.{arith}
+use Prim.Native.Nat.{ℕ, suc, _+_, _-_, _<_}
+use mathlib.Core.Path.{_≡_, refl, sym, _∙_}
+use lib.ListN.{length}
+use Rattle.binders.proofs.Laws.{pushed}
+use borrow.Author.Needs.{needs}
+use Rattle.binders.proofs.push.Statement.{statement}
+use Rattle.binders.proofs.push.Tie as tie
+use Rattle.binders.proofs.push.Reads as reads
+use Rattle.binders.proofs.push.Lts as lts
+
+-- src/lib.rt:47:5
+element-write-next : tie.Need-element-write-next
+element-write-next c = search needs
+
+-- src/lib.rt:48:5
+element-write-next-2 : tie.Need-element-write-next-2
+element-write-next-2 c = search needs
+
+-- src/lib.rt:49:5
+element-write-next-3 : tie.Need-element-write-next-3
+element-write-next-3 c = search needs
+
+-- src/lib.rt:50:18
+add-next : tie.Need-add-next
+add-next c = search needs
+
+-- src/lib.rt:41:1
+returns : tie.Need-returns
+returns c =
+    let b = c .args .b in
+    let lt : length (b .types) ≡ 128 = search needs in
+    let ls : length (b .sorts) ≡ 128 = search needs in
+    let lu : length (b .used) ≡ 128 = search needs in
+    pushed (b .types) (b .sorts) (b .used) (c .args .t) (c .args .sort) 0 (b .count) (omega (arith, c .pre)) (omega (arith, c .pre)) (omega (arith, c .pre))
+
+pub push-spec : {M : Type 1} → statement M
+push-spec =
+    tie.close
+    (tie.spec element-write-next element-write-next-2 element-write-next-3 add-next returns)

@@ -1,0 +1,39 @@
+-- The table of parts, as its entries say it, and as document 01 has it. Assumes nothing.
+use Prim.Native.Nat.{ℕ, zero, suc}
+use mathlib.Core.Bool.{cond}
+use lib.Dec.{ltb}
+use lib.ListN.{length}
+use Rattle.calculus.specs.Types.{Ty, bit, arrow}
+use Rattle.calculus.specs.Terms.{parts, partAt}
+use Rattle.parts.specs.declared.Part.{Part}
+use Rattle.parts.specs.declared.Named.{Named}
+use Rattle.parts.specs.declared.Named.the-variants as of
+
+-- so many arrows from the single bit
+abbrev pub shapeTy : ℕ → Ty
+shapeTy zero = bit
+shapeTy (suc n) = arrow bit (shapeTy n)
+
+-- a part's terminals and its type, or no part
+pub record Entry : Type 0 where
+  pub inputs : ℕ
+  pub outputs : ℕ
+  pub type : Ty
+
+pub data Lookup : Type 0 where
+  listed : Entry → Lookup
+  unlisted : Lookup
+
+abbrev pub saidPart : Part → Entry
+saidPart q = record { inputs = q .inputs; outputs = q .outputs; type = shapeTy (q .shape) }
+
+abbrev pub saidNamed : Named → Lookup
+saidNamed (of.Part q) = listed (saidPart q)
+saidNamed of.Unknown = unlisted
+
+-- each part has one output
+abbrev pub entryOf : ℕ → Entry
+entryOf p = record { inputs = partAt p .inputs; outputs = 1; type = partAt p .type }
+
+unfoldable pub named : ℕ → Lookup
+named p = cond (ltb p (length parts)) (listed (entryOf p)) unlisted
