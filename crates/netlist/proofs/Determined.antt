@@ -1,0 +1,79 @@
+-- Each public function's contract determines its result, and the output where it writes to one: two results that it allows for one
+-- call are equal. Assumes nothing.
+use mathlib.Core.Path.{_≡_, refl, ap, sym, _∙_}
+use mathlib.Core.List.{List}
+use Prim.Native.Nat.{ℕ}
+use contract.Lifetimes.{Lfts}
+use denote.Triple.Clauses.{AtExit}
+use borrow.Fn.Kind.{PK, RK}
+use borrow.Fn.Kinds.{Out, Dens, resT, endedOf}
+use Rattle.netlist.specs.declared.Terminal.{Terminal}
+use Rattle.netlist.specs.declared.Terminal.the-variants.{Input, Output}
+use Rattle.netlist.specs.Said.{saidTerminal}
+use Rattle.netlist.proofs.terminal_of.Kinds as terminal-of
+use Rattle.netlist.proofs.terminal_of.Reads as terminal-of-reads
+use Rattle.netlist.proofs.code_of.Kinds as code-of
+use Rattle.netlist.proofs.code_of.Reads as code-of-reads
+use Rattle.netlist.proofs.number_of.Kinds as number-of
+use Rattle.netlist.proofs.number_of.Reads as number-of-reads
+use Rattle.netlist.proofs.put_two.Kinds as put-two
+use Rattle.netlist.proofs.put_two.Reads as put-two-reads
+use Rattle.netlist.proofs.put_point.Kinds as put-point
+use Rattle.netlist.proofs.put_point.Reads as put-point-reads
+use Rattle.netlist.proofs.put_part.Kinds as put-part
+use Rattle.netlist.proofs.put_part.Reads as put-part-reads
+use Rattle.netlist.proofs.put_wire.Kinds as put-wire
+use Rattle.netlist.proofs.put_wire.Reads as put-wire-reads
+use Rattle.netlist.proofs.put_pin.Kinds as put-pin
+use Rattle.netlist.proofs.put_pin.Reads as put-pin-reads
+use Rattle.netlist.proofs.full_length.Kinds as full-length
+use Rattle.netlist.proofs.full_length.Reads as full-length-reads
+use Rattle.netlist.proofs.write_full.Kinds as write-full
+use Rattle.netlist.proofs.write_full.Reads as write-full-reads
+
+module _ {n : ℕ} (ps : List (PK n)) (r : RK n) (Post : Out n ps r) where
+  -- the result
+  abbrev Result : Type 0
+  Result = (κs : Lfts n) (a : Dens κs ps) (x y : resT r κs .Denot) (s t : AtExit (endedOf n ps r) κs) → Post κs a x s → Post κs a y t → x ≡ y
+
+  -- the result, and the bytes of the output as the function returns
+  abbrev Results : ((κs : Lfts n) → AtExit (endedOf n ps r) κs → List ℕ) → Type 0
+  Results bytes =
+      (κs : Lfts n) (a : Dens κs ps) (x y : resT r κs .Denot) (s t : AtExit (endedOf n ps r) κs) → Post κs a x s → Post κs a y t
+      → (x ≡ y) × (bytes κs s ≡ bytes κs t)
+
+one-terminal : (x y : Terminal) → saidTerminal x ≡ saidTerminal y → x ≡ y
+one-terminal (Input i) (Input j) e = let h : i .0 ≡ j .0 = cc in ap (λ (x : ℕ). Input (record { 0 = x })) h
+one-terminal (Input i) (Output p) e = cc
+one-terminal (Output o) (Input j) e = cc
+one-terminal (Output o) (Output p) e = let h : o .0 ≡ p .0 = cc in ap (λ (x : ℕ). Output (record { 0 = x })) h
+
+pub terminal-of-determined : Result terminal-of.ps terminal-of.r terminal-of-reads.Post
+terminal-of-determined κs a x y s t f g = one-terminal x y (f ∙ sym g)
+
+pub code-of-determined : Result code-of.ps code-of.r code-of-reads.Post
+code-of-determined κs a x y s t f g = f ∙ sym g
+
+pub number-of-determined : Result number-of.ps number-of.r number-of-reads.Post
+number-of-determined κs a x y s t f g = f ∙ sym g
+
+pub put-two-determined : Results put-two.ps put-two.r put-two-reads.Post (λ κs s. s .0 .now)
+put-two-determined κs a x y s t f g = (f .0 ∙ sym (g .0), f .1 ∙ sym (g .1))
+
+pub put-point-determined : Results put-point.ps put-point.r put-point-reads.Post (λ κs s. s .0 .now)
+put-point-determined κs a x y s t f g = (f .0 ∙ sym (g .0), f .1 ∙ sym (g .1))
+
+pub put-part-determined : Results put-part.ps put-part.r put-part-reads.Post (λ κs s. s .0 .now)
+put-part-determined κs a x y s t f g = (f .0 ∙ sym (g .0), f .1 ∙ sym (g .1))
+
+pub put-wire-determined : Results put-wire.ps put-wire.r put-wire-reads.Post (λ κs s. s .0 .now)
+put-wire-determined κs a x y s t f g = (f .0 ∙ sym (g .0), f .1 ∙ sym (g .1))
+
+pub put-pin-determined : Results put-pin.ps put-pin.r put-pin-reads.Post (λ κs s. s .0 .now)
+put-pin-determined κs a x y s t f g = (f .0 ∙ sym (g .0), f .1 ∙ sym (g .1))
+
+pub full-length-determined : Result full-length.ps full-length.r full-length-reads.Post
+full-length-determined κs a x y s t f g = f ∙ sym g
+
+pub write-full-determined : Results write-full.ps write-full.r write-full-reads.Post (λ κs s. s .1 .0 .now)
+write-full-determined κs a x y s t f g = (f .0 ∙ sym (g .0), f .1 ∙ sym (g .1))

@@ -1,0 +1,112 @@
+-- What holds of a netlist that stands in the working memory. Assumes nothing.
+use mathlib.Core.Path.{_≡_, refl, ap, sym, _∙_}
+use mathlib.Core.List.{List, [], _∷_, _++_, map, map-append}
+use Prim.Native.Nat.{ℕ, _+_, _-_, _*_, _≤_, _<_}
+use native.Mathlib.Omega.{arith}
+use native.Mathlib.Numerals.{add-one}
+use lib.ListN.{length, getD, take, drop, length-drop, length-map}
+use lib.Seq.{length-take-le, take-suc, getD-take, getD-drop}
+use Rattle.calculus.specs.Net.{elementBytes, wireBytes, pinBytes, netBytes}
+use Rattle.calculus.specs.Record.{All}
+use Rattle.calculus.specs.Formed.{made, targets, ins}
+use Rattle.memory.specs.Map.{region, elementsFrom, wiresFrom, terminalOf, netIn, Ready}
+use Rattle.netlist.specs.Elements.{after, afterAll, sizeOf, Known}
+use Rattle.netlist.proofs.Records.{wires-append, pins-append, wires-length, pins-length, net-length}
+use Rattle.netlist.proofs.Elements.{firstBytes, firstAfter, bytes-more, length-more, after-one, bytes-within, after-within, kinds-tiled, tiled-end, kinds-known}
+use Rattle.netlist.proofs.Targets.{made-past, target-counted}
+
+pub region-length : (w : List ℕ) (a n : ℕ) → a + n ≤ length w → length (region w a n) ≡ n
+region-length w a n h = length-take-le n (drop a w) (rw length-drop (omega arith))
+
+pub wires-count : (w is : List ℕ) → length (wiresFrom w is) ≡ length is
+wires-count w [] = refl
+wires-count w (i ∷ is) = let h = wires-count w is in omega arith
+
+pub region-at : (w : List ℕ) (a n j : ℕ) → j < n → getD (region w a n) j 0 ≡ getD w (a + j) 0
+region-at w a n j h = getD-take n (drop a w) j 0 h ∙ getD-drop a w j 0
+
+pub wiresFrom-append : (w is js : List ℕ) → wiresFrom w (is ++ js) ≡ wiresFrom w is ++ wiresFrom w js
+wiresFrom-append w [] js = refl
+wiresFrom-append w (i ∷ is) js = rw (wiresFrom-append w is js)
+
+-- ---- one more element, wire or pin
+
+module _ (w : List ℕ) (a i : ℕ) (h : a + i < length w) where
+  here : i < length (drop a w)
+  here = rw length-drop (omega arith)
+
+  pub element-more : firstBytes (drop a w) (i + 1) ≡ firstBytes (drop a w) i ++ elementBytes (elementsFrom (getD w (a + i) 0 ∷ []) (firstAfter (drop a w) i))
+  element-more = rw (← getD-drop a w i 0) (bytes-more (drop a w) i here)
+
+  pub element-length : length (firstBytes (drop a w) (i + 1)) ≡ length (firstBytes (drop a w) i) + sizeOf (getD w (a + i) 0)
+  element-length = rw (← getD-drop a w i 0) (length-more (drop a w) i here)
+
+  pub element-after : firstAfter (drop a w) (i + 1) ≡ after (getD w (a + i) 0) (firstAfter (drop a w) i)
+  element-after = rw (← getD-drop a w i 0) (after-one (drop a w) i here)
+
+  pub element-fits : (n : ℕ) → i < n → length (firstBytes (drop a w) i) + sizeOf (getD w (a + i) 0) ≤ length (firstBytes (drop a w) n)
+  element-fits n lt =
+      let e : i + 1 + (n - (i + 1)) ≡ n = omega arith in
+      let within = rw e at (bytes-within (drop a w) (i + 1) (n - (i + 1))) in
+      omega (arith, element-length)
+
+pub after-fits : (ks : List ℕ) (i n : ℕ) → i ≤ n → firstAfter ks i ≤ firstAfter ks n
+after-fits ks i n h = let e : i + (n - i) ≡ n = omega arith in rw e at (after-within ks i (n - i))
+
+pub wires-more : (w : List ℕ) (a i : ℕ) → a + i < length w
+    → wireBytes (wiresFrom w (region w a (i + 1))) ≡ wireBytes (wiresFrom w (region w a i)) ++ wireBytes (wiresFrom w (getD w (a + i) 0 ∷ []))
+wires-more w a i h =
+    let lt : i < length (drop a w) = rw length-drop (omega arith) in
+    rw (add-one i, take-suc (drop a w) i 0 lt, wiresFrom-append w (region w a i) (getD (drop a w) i 0 ∷ []), wires-append (wiresFrom w (region w a i)) (wiresFrom w (getD (drop a w) i 0 ∷ [])), getD-drop a w i 0)
+
+pub pins-more : (w : List ℕ) (a i : ℕ) → a + i < length w
+    → pinBytes (map terminalOf (region w a (i + 1))) ≡ pinBytes (map terminalOf (region w a i)) ++ pinBytes (terminalOf (getD w (a + i) 0) ∷ [])
+pins-more w a i h =
+    let lt : i < length (drop a w) = rw length-drop (omega arith) in
+    rw (add-one i, take-suc (drop a w) i 0 lt, map-append terminalOf (region w a i) (getD (drop a w) i 0 ∷ []), pins-append (map terminalOf (region w a i)) (terminalOf (getD (drop a w) i 0) ∷ []), getD-drop a w i 0)
+
+-- ---- the length of n of them
+
+pub wires-first : (w : List ℕ) (a n : ℕ) → a + n ≤ length w → length (wireBytes (wiresFrom w (region w a n))) ≡ 5 * n
+wires-first w a n h = rw (wires-length (wiresFrom w (region w a n)), wires-count w (region w a n), region-length w a n h)
+
+pub pins-first : (w : List ℕ) (a n : ℕ) → a + n ≤ length w → length (pinBytes (map terminalOf (region w a n))) ≡ 3 * n
+pins-first w a n h = rw (pins-length (map terminalOf (region w a n)), length-map (region w a n) terminalOf, region-length w a n h)
+
+-- ---- a whole netlist
+
+module _ (w : List ℕ) (e k p : ℕ) (r : Ready w e k p) where
+  pub length-here : length (netBytes (netIn w e k p)) ≡ 5 * k + 3 * p + length (firstBytes (drop 13824 w) e)
+  unfolding netIn
+  length-here =
+      let l = net-length (netIn w e k p) in
+      let a = wires-first w 8192 k (omega arith) in
+      let b = pins-first w 18944 p (omega arith) in
+      omega arith
+
+  -- the elements' terminals end by 8,192
+  pub after-here : firstAfter (drop 13824 w) e ≤ 8192
+  unfolding netIn
+  after-here =
+      let ks = region w 13824 e in
+      let t = tiled-end (elementsFrom ks 0) 0 (afterAll ks 0) (r .end) (kinds-tiled ks 0) (r .tiled) in
+      let b = r .below in
+      omega arith
+
+  -- and each wire runs to one of them
+  pub target-here : (j : ℕ) → j < k → getD w (8192 + j) 0 < 8192
+  unfolding netIn
+  target-here j h =
+      let ts = region w 8192 k in
+      let t = getD w (8192 + j) 0 in
+      let l = region-length w 8192 k (omega arith) in
+      let counted : 1 ≤ targets (wiresFrom w ts) t = rw (← region-at w 8192 k j h) (target-counted w ts j (omega arith)) in
+      let once = r .formed .once t in
+      let past : 8192 ≤ t → ⊥ = λ g. omega (arith, made-past (elementsFrom (region w 13824 e) 0) 0 (r .end) t (r .tiled) (omega arith)) in
+      omega arith
+
+  pub kind-here : All Known (netIn w e k p .elements) → (i : ℕ) → i < e → getD w (13824 + i) 0 < 8
+  unfolding netIn
+  kind-here a i h =
+      let l = region-length w 13824 e (omega arith) in
+      rw (← region-at w 13824 e i h) (kinds-known (region w 13824 e) 0 i a (omega arith))

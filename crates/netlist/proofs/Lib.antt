@@ -1,0 +1,8 @@
+pub mod Records
+pub mod Bytes
+pub mod Elements
+pub mod PartInputs
+pub mod Targets
+pub mod InMemory
+pub mod Whole
+pub mod Determined

@@ -1,0 +1,70 @@
+-- The invariant: the output holds the records of the first i elements, and n is the next free terminal. Assumes nothing.
+use native.Mathlib.Omega.{arith}
+use mathlib.Core.Path.{_≡_, refl, sym, _∙_}
+use Prim.Native.Nat.{_≤_, _<_, _-_, _+_}
+use lib.ListN.{length, drop}
+use lib.Seq.{sets}
+use Rattle.netlist.proofs.Records.{record-more}
+use Rattle.netlist.proofs.Elements.{firstBytes, firstAfter}
+use Rattle.netlist.proofs.InMemory.{element-more, element-length, element-after, element-fits, after-fits}
+use Rattle.netlist.proofs.put_elements.Statement.{statement}
+use Rattle.netlist.proofs.put_elements.Tie as tie
+
+abbrev Inv-loop : tie.InvT-loop
+Inv-loop work elements out₀ from at₀ n₀ i₀ out at n i =
+    (i ≤ elements)
+    × ((at ≡ from + length (firstBytes (drop 13824 work) i))
+    × ((n ≡ firstAfter (drop 13824 work) i) × ((length out ≡ length out₀) × (out ≡ sets out₀ from (firstBytes (drop 13824 work) i)))))
+
+abbrev μ-loop : tie.MeasureT-loop
+μ-loop work elements out₀ from at₀ n₀ i₀ out at n i = elements - i
+
+loop-holds : tie.Need-loop-holds Inv-loop μ-loop
+loop-holds c = (omega arith, (omega arith, (refl, (refl, refl))))
+
+put-element-requires : tie.Need-put-element-requires Inv-loop μ-loop
+put-element-requires c κs =
+    let a = c .before .before .before .before .before .before .args in
+    let l = c .before .before .before .loop in
+    let f = element-fits (a .work .now) 13824 (l .i) (omega arith) (a .elements) (omega arith) in
+    (c .before .before .before .before .before .before .pre .known (l .i) (omega arith), omega arith)
+
+next-after-requires : tie.Need-next-after-requires Inv-loop μ-loop
+next-after-requires c κs =
+    let a = c .before .before .before .before .before .before .before .before .before .args in
+    let l = c .before .before .before .before .before .before .loop in
+    let f = after-fits (drop 13824 (a .work .now)) (l .i) (a .elements) (omega arith) in
+    (c .before .before .before .before .before .before .before .before .before .pre .known (l .i) (omega arith), omega arith)
+
+loop-again : tie.Need-loop-again Inv-loop μ-loop
+loop-again c =
+    let a = c .before .before .before .before .before .before .before .before .before .before .args in
+    let l = c .before .before .before .before .before .before .before .loop in
+    let put = c .before .before .before .put-element in
+    let w = a .work .now in
+    let lt : 13824 + l .i < length w = omega arith in
+    let e = element-length w 13824 (l .i) lt in (
+      omega arith,
+      (
+        omega (arith, put .ensures .0),
+        (
+          c .next-after .ensures ∙ rw (l .inv .1 .1 .0) (sym (element-after w 13824 (l .i) lt)),
+          (
+            put .kept .0 ∙ l .inv .1 .1 .1 .0,
+            put .ensures .1 ∙ rw (l .inv .1 .1 .1 .1, l .inv .1 .1 .0) (record-more (a .out .now) (firstBytes (drop 13824 w) (l .i)) _ _ (a .from) (l .at) (l .inv .1 .0) (element-more w 13824 (l .i) lt)),
+          ),
+        ),
+      ),
+    )
+
+returns : tie.Need-returns Inv-loop μ-loop
+returns c =
+    let l = c .before .loop in
+    let n : l .i ≡ c .before .before .before .before .args .elements = omega arith in
+    rw (← n) (l .inv .1 .0, l .inv .1 .1 .1 .1)
+
+pub put-elements-spec : {M : Type 1} → statement M
+put-elements-spec =
+    tie.close
+    (tie.spec Inv-loop μ-loop loop-holds (λ c. omega arith) (λ c. omega arith) (λ c. omega arith) put-element-requires
+    next-after-requires (λ c. omega arith) (λ c. omega arith) loop-again (λ c. omega arith) returns)

@@ -1,0 +1,32 @@
+-- What stands in the working memory, and fits the room of the output. Assumes nothing.
+use Prim.Native.Nat.{ℕ, _+_, _*_, _≤_, _<_}
+use mathlib.Core.List.{List}
+use lib.ListN.{length, getD}
+use Rattle.calculus.specs.Net.{elementBytes, netBytes}
+use Rattle.calculus.specs.Record.{All}
+use Rattle.memory.specs.Map.{region, elementsFrom, netIn, Ready}
+use Rattle.netlist.specs.Elements.{afterAll, Known}
+
+-- a whole netlist
+pub record Writable (w : List ℕ) (elements wires pins room : ℕ) : Type 0 where
+  pub ready : Ready w elements wires pins
+  pub known : All Known (netIn w elements wires pins .elements)
+  pub target : length (netBytes (netIn w elements wires pins)) ≤ room
+
+-- from an offset on, n elements of known kinds, that take no terminal from 8,192 on
+pub record ElementsFit (w : List ℕ) (n room from : ℕ) : Type 0 where
+  pub source : 13824 + n ≤ length w
+  pub target : from + length (elementBytes (elementsFrom (region w 13824 n) 0)) ≤ room
+  pub known : (i : ℕ) → i < n → getD w (13824 + i) 0 < 8
+  pub low : afterAll (region w 13824 n) 0 ≤ 8192
+
+-- n wires, to inputs below 8,192
+pub record WiresFit (w : List ℕ) (n room from : ℕ) : Type 0 where
+  pub source : 8192 + n ≤ length w
+  pub target : from + 5 * n ≤ room
+  pub low : (i : ℕ) → i < n → getD w (8192 + i) 0 < 8192
+
+-- n pins
+pub record PinsFit (w : List ℕ) (n room from : ℕ) : Type 0 where
+  pub source : 18944 + n ≤ length w
+  pub target : from + 3 * n ≤ room

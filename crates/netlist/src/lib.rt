@@ -1,0 +1,221 @@
+// Terminals, the records of a netlist as bytes, and the full netlist.
+use parts::Named;
+ghost use mathlib.Core.Path.{_≡_};
+ghost use mathlib.Core.List.{_∷_, [], map};
+ghost use Prim.Native.Nat.{_+_, _*_, _≤_, _<_};
+ghost use lib.ListN.{length};
+ghost use lib.Seq.{sets};
+ghost use Rattle.calculus.specs.Net.{two, number, point, part, elementBytes, wireBytes, pinBytes, netBytes};
+ghost use Rattle.calculus.specs.Terms.{partAt};
+ghost use Rattle.memory.specs.Map.{code, terminalOf, region, elementsFrom, wiresFrom, netIn, Ready};
+ghost use Rattle.netlist.specs.Said.{saidTerminal, wire};
+ghost use Rattle.netlist.specs.Elements.{after, sizeOf};
+ghost use Rattle.netlist.specs.Fitting.{ElementsFit, WiresFit, PinsFit, Writable};
+
+// An input terminal, and an output terminal, by its number.
+pub struct In(pub u16);
+
+pub struct Out(pub u16);
+
+// A terminal of an interface.
+pub enum Terminal {
+    Input(In),
+    Output(Out),
+}
+
+// The terminal of a code: 2 i is input i, 2 o + 1 output o.
+pub fn terminal_of(coded: u16) -> Terminal
+    ensures { λ r. ⌜ saidTerminal r ≡ terminalOf coded ⌝ }
+{
+    let n = coded / 2;
+    if coded % 2 == 0 {
+        Terminal::Input(In(n))
+    } else {
+        Terminal::Output(Out(n))
+    }
+}
+
+pub fn code_of(t: Terminal) -> u16
+    requires { ⌜ number (saidTerminal t) < 32768 ⌝ }
+    ensures { λ r. ⌜ r ≡ code (saidTerminal t) ⌝ }
+{
+    match t {
+        Terminal::Input(i) => 2 * i.0,
+        Terminal::Output(o) => 2 * o.0 + 1,
+    }
+}
+
+pub fn number_of(t: Terminal) -> u16
+    ensures { λ r. ⌜ r ≡ number (saidTerminal t) ⌝ }
+{
+    match t {
+        Terminal::Input(i) => i.0,
+        Terminal::Output(o) => o.0,
+    }
+}
+
+// A number of two bytes, low byte first. As each function here, it answers the offset past what it wrote.
+pub fn put_two(out: &mut [u8], at: usize, n: u16) -> usize
+    requires { ⌜ at + 2 ≤ length (now out) ⌝ }
+    ensures { λ r. ⌜ (r ≡ at + 2) × (now (out .exit) ≡ sets (now (out .entry)) at (two n)) ⌝ }
+{
+    out[at] = (n % 256) as u8;
+    out[at + 1] = (n / 256) as u8;
+    at + 2
+}
+
+// A point: 21, its input.
+pub fn put_point(out: &mut [u8], at: usize, input: In) -> usize
+    requires { ⌜ at + 3 ≤ length (now out) ⌝ }
+    ensures { λ r. ⌜ (r ≡ at + 3) × (now (out .exit) ≡ sets (now (out .entry)) at (elementBytes (point (input .0) ∷ []))) ⌝ }
+{
+    out[at] = 0x21;
+    put_two(out, at + 1, input.0)
+}
+
+// A part: 22, its number, its first terminal.
+pub fn put_part(out: &mut [u8], at: usize, kind: u8, first: u16) -> usize
+    requires { ⌜ at + 4 ≤ length (now out) ⌝ }
+    ensures { λ r. ⌜ (r ≡ at + 4) × (now (out .exit) ≡ sets (now (out .entry)) at (elementBytes (part kind first ∷ []))) ⌝ }
+{
+    out[at] = 0x22;
+    out[at + 1] = kind;
+    put_two(out, at + 2, first)
+}
+
+// A wire: 23, the output that it runs from, the input that it runs to.
+pub fn put_wire(out: &mut [u8], at: usize, from: Out, to: In) -> usize
+    requires { ⌜ at + 5 ≤ length (now out) ⌝ }
+    ensures { λ r. ⌜ (r ≡ at + 5) × (now (out .exit) ≡ sets (now (out .entry)) at (wireBytes (wire (from .0) (to .0) ∷ []))) ⌝ }
+{
+    out[at] = 0x23;
+    let mid = put_two(out, at + 1, from.0);
+    put_two(out, mid, to.0)
+}
+
+// A pin: 24, its terminal.
+pub fn put_pin(out: &mut [u8], at: usize, t: Terminal) -> usize
+    requires { ⌜ at + 3 ≤ length (now out) ⌝ }
+    ensures { λ r. ⌜ (r ≡ at + 3) × (now (out .exit) ≡ sets (now (out .entry)) at (pinBytes (saidTerminal t ∷ []))) ⌝ }
+{
+    let n = number_of(t);
+    out[at] = 0x24;
+    put_two(out, at + 1, n)
+}
+
+// A part's number of inputs.
+fn inputs_of(kind: u8) -> u16
+    ensures { λ r. ⌜ r ≡ partAt kind .inputs ⌝ }
+{
+    match parts::part_at(kind) {
+        Named::Part(q) => q.inputs as u16,
+        Named::Unknown => 0,
+    }
+}
+
+// The next free terminal behind an element of a kind that starts at n.
+fn next_after(kind: u16, n: u16) -> u16
+    requires { ⌜ (kind < 8) × (n ≤ 8192) ⌝ }
+    ensures { λ r. ⌜ r ≡ after kind n ⌝ }
+{
+    if kind == memory::POINT {
+        n + 2
+    } else {
+        n + inputs_of(kind as u8) + 1
+    }
+}
+
+// The bytes of the record of an element of a kind.
+fn size_of(kind: u16) -> usize
+    ensures { λ r. ⌜ r ≡ sizeOf kind ⌝ }
+{
+    if kind == memory::POINT { 3 } else { 4 }
+}
+
+// The length of the full netlist that stands in the working memory.
+pub fn full_length(work: &[u16], elements: usize, wires: usize, pins: usize) -> usize
+    requires { ⌜ Ready (now work) elements wires pins ⌝ }
+    ensures { λ r. ⌜ r ≡ length (netBytes (netIn (now (work .entry)) elements wires pins)) ⌝ }
+{
+    let mut sum = 5 * wires + 3 * pins;
+    let mut i: usize = 0;
+    while i < elements {
+        sum = sum + size_of(work[memory::ELEMENTS + i]);
+        i = i + 1;
+    }
+    sum
+}
+
+// The record of an element of a kind that starts at terminal n.
+fn put_element(out: &mut [u8], at: usize, kind: u16, n: u16) -> usize
+    requires { ⌜ (kind < 8) × (at + sizeOf kind ≤ length (now out)) ⌝ }
+    ensures { λ r. ⌜ (r ≡ at + sizeOf kind)
+        × (now (out .exit) ≡ sets (now (out .entry)) at (elementBytes (elementsFrom (kind ∷ []) n))) ⌝ }
+{
+    if kind == memory::POINT {
+        put_point(out, at, In(n))
+    } else {
+        put_part(out, at, kind as u8, n)
+    }
+}
+
+// The records of all elements, from an offset on.
+fn put_elements(work: &[u16], elements: usize, out: &mut [u8], from: usize) -> usize
+    requires { ⌜ ElementsFit (now work) elements (length (now out)) from ⌝ }
+    ensures { λ r. ⌜ (r ≡ from + length (elementBytes (elementsFrom (region (now (work .entry)) 13824 elements) 0)))
+        × (now (out .exit) ≡ sets (now (out .entry)) from (elementBytes (elementsFrom (region (now (work .entry)) 13824 elements) 0))) ⌝ }
+{
+    let mut at = from;
+    let mut n: u16 = 0;
+    let mut i: usize = 0;
+    while i < elements {
+        let kind = work[memory::ELEMENTS + i];
+        at = put_element(out, at, kind, n);
+        n = next_after(kind, n);
+        i = i + 1;
+    }
+    at
+}
+
+// The records of all wires, from an offset on.
+fn put_wires(work: &[u16], wires: usize, out: &mut [u8], from: usize) -> usize
+    requires { ⌜ WiresFit (now work) wires (length (now out)) from ⌝ }
+    ensures { λ r. ⌜ (r ≡ from + 5 * wires)
+        × (now (out .exit) ≡ sets (now (out .entry)) from (wireBytes (wiresFrom (now (work .entry)) (region (now (work .entry)) 8192 wires)))) ⌝ }
+{
+    let mut at = from;
+    let mut i: usize = 0;
+    while i < wires {
+        let to = work[memory::TARGETS + i];
+        let driver = work[memory::DRIVERS + to as usize];
+        at = put_wire(out, at, Out(driver), In(to));
+        i = i + 1;
+    }
+    at
+}
+
+// The records of all pins, from an offset on.
+fn put_pins(work: &[u16], pins: usize, out: &mut [u8], from: usize) -> usize
+    requires { ⌜ PinsFit (now work) pins (length (now out)) from ⌝ }
+    ensures { λ r. ⌜ (r ≡ from + 3 * pins)
+        × (now (out .exit) ≡ sets (now (out .entry)) from (pinBytes (map terminalOf (region (now (work .entry)) 18944 pins)))) ⌝ }
+{
+    let mut at = from;
+    let mut i: usize = 0;
+    while i < pins {
+        at = put_pin(out, at, terminal_of(work[memory::STACK + i]));
+        i = i + 1;
+    }
+    at
+}
+
+// The full netlist that stands in the working memory, written from the start of the output; its length.
+pub fn write_full(work: &[u16], out: &mut [u8], elements: usize, wires: usize, pins: usize) -> usize
+    requires { ⌜ Writable (now work) elements wires pins (length (now out)) ⌝ }
+    ensures { λ r. ⌜ (r ≡ length (netBytes (netIn (now (work .entry)) elements wires pins)))
+        × (now (out .exit) ≡ sets (now (out .entry)) 0 (netBytes (netIn (now (work .entry)) elements wires pins))) ⌝ }
+{
+    let first = put_elements(work, elements, out, 0);
+    let second = put_wires(work, wires, out, first);
+    put_pins(work, pins, out, second)
+}
