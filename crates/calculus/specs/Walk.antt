@@ -106,9 +106,9 @@ walk Θ (lfun t e) n st = do
   _ ← need (topUsed (r .stack)) 14 n
   _ ← need (eqb (r .type) (τ .right)) 12 n
   found t (pop (r .stack))
-walk Θ (lapp f a) n st = do
-  x ← walk Θ f (n + 1) st
-  y ← walk Θ a (n + 1 + nodes f) (x .stack)
+walk Θ (lapp g b) n st = do
+  x ← walk Θ g (n + 1) st
+  y ← walk Θ b (n + 1 + nodes g) (x .stack)
   τ ← linearArrow (recAt Θ (x .type)) n
   _ ← need (eqb (y .type) (τ .left)) 12 n
   found (τ .right) (y .stack)

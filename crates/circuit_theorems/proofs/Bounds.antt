@@ -22,7 +22,7 @@ use Rattle.circuit_theorems.proofs.Terminals.{tiled-rising, rising-end}
 use Rattle.circuit_theorems.proofs.Drivers.{dirs, turns-size, Env, env-end, Driven, term-driven, opposite, dirs-left, dirs-in}
 use Rattle.circuit_theorems.proofs.Outputs.{tiled, Named, names-below}
 use Rattle.circuit_theorems.proofs.Counts.{part-inputs, elements-few, wires-few, bytes-few, lean-bytes}
-use Rattle.circuit_theorems.proofs.Limits.{sheet-limits}
+use Rattle.sheet_theorems.proofs.Laying.{laid}
 use Rattle.circuit_theorems.proofs.Main.{Accepts, accepts, formed}
 
 -- ---- elements
@@ -218,7 +218,7 @@ module _ (s : List ℕ) (m : Net) (ok : full s ≡ good m) where
   few-elements =
       let a = accepts s m ok in
       let k = make (a .sheet .table) (a .sheet .term) [] 0 in
-      let h : length (k .elements) ≤ 5120 = omega (arith, points-parts (k .elements), parts-made (a .sheet .table) (a .sheet .term) [] 0, elements-made (a .sheet .table) (a .sheet .term) [] 0, a .few, constants-nodes (a .sheet .term), sheet-limits s (a .sheet) (a .reads) .few-nodes) in
+      let h : length (k .elements) ≤ 5120 = omega (arith, points-parts (k .elements), parts-made (a .sheet .table) (a .sheet .term) [] 0, elements-made (a .sheet .table) (a .sheet .term) [] 0, a .few, constants-nodes (a .sheet .term), laid s (a .sheet) (a .reads) .few) in
       subst (λ (x : Net). length (x .elements) ≤ 5120) (a .is) h
 
   pub few-wires : length (m .wires) ≤ 5461
@@ -236,7 +236,7 @@ module _ (s : List ℕ) (m : Net) (ok : full s ≡ good m) where
       subst (λ (x : Net). dirs (x .pins) ≡ turns false (tree (a .sheet .table) (a .type))) (a .is) (term-driven (a .typed) [] env-end 0 .dirs)
 
   pub few-pins : length (m .pins) ≤ 128
-  few-pins = let a = accepts s m ok in omega (arith, pins-size a, sheet-limits s (a .sheet) (a .reads) .small-types (a .type))
+  few-pins = let a = accepts s m ok in omega (arith, pins-size a, laid s (a .sheet) (a .reads) .table .small (a .type))
 
   -- ---- the length of the netlists
 

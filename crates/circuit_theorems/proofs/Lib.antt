@@ -11,7 +11,6 @@ pub mod Same
 pub mod Forming
 pub mod LeanLaws
 pub mod Counts
-pub mod Limits
 pub mod Main
 pub mod Bounds
 pub mod Drive

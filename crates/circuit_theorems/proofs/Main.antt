@@ -4,12 +4,11 @@ use Prim.Native.Nat.{ℕ, _+_, _≤_}
 use mathlib.Core.Path.{_≡_, subst}
 use mathlib.Core.Logic.{_↔_}
 use mathlib.Core.List.{List, []}
-use lib.Dec.{T, leb, eqb, leb→le}
-use lib.ListN.{length}
+use lib.Dec.{T, leb, leb→le}
 use Rattle.calculus.specs.Answer.{good}
 use Rattle.calculus.proofs.Answers.{good-inj, on-bind, on-need}
 use Rattle.calculus.specs.Types.{tree}
-use Rattle.calculus.specs.Read.{Sheet, readTypes, readTerm, readSheet}
+use Rattle.calculus.specs.Read.{Sheet, readSheet}
 use Rattle.calculus.specs.Walk.{walk}
 use Rattle.calculus.specs.Rules.{Typed}
 use Rattle.calculus.specs.Net.{Net, make, netOf}
@@ -18,20 +17,10 @@ use Rattle.calculus.specs.Record.{Bits, Law, All, partLaw, Outside}
 use Rattle.calculus.specs.Formed.{ins, made, targets, isOut, Formed}
 use Rattle.calculus.specs.Translate.{full}
 use Rattle.sheet_theorems.proofs.Sound.{sound}
-use Rattle.sheet_theorems.proofs.Complete.{Sheetly}
-use Rattle.sheet_theorems.proofs.Tables.{table-read}
+use Rattle.sheet_theorems.proofs.Laying.{laid}
 use Rattle.circuit_theorems.proofs.Same.{same-records}
 use Rattle.circuit_theorems.proofs.Forming.{Whole, whole-net, lean-formed}
 use Rattle.circuit_theorems.proofs.Wiring.{input-once, one-driver, no-driver, wires-run}
-
-sheet-table : (s : List ℕ) (σ : Sheet) → readSheet s ≡ good σ → Sheetly (σ .table)
-unfolding readSheet
-sheet-table s σ e =
-    on-need (leb (length s) 16384) 2 0 _ σ e λ h₁ e₁.
-    on-bind (readTypes 256 s [] 0) _ σ e₁ λ r h₂ e₂.
-    on-bind (readTerm 64 s (length (r .0)) (r .1) 0) _ σ e₂ λ g h₃ e₃.
-    on-need (eqb (g .next) (length s)) 9 (g .next) _ σ e₃ λ h₄ e₄.
-    subst (λ (x : Sheet). Sheetly (x .table)) (good-inj e₄) (table-read s r h₂)
 
 -- an accepted sheet: what was read, its derivation, and its netlist
 pub record Accepts (s : List ℕ) (m : Net) : Type 0 where
@@ -52,7 +41,7 @@ accepts s m e =
       sheet = σ;
       reads = h₁;
       type = r .type;
-      typed = sound (σ .table) (sheet-table s σ h₁ .formed) (σ .term) r h₂;
+      typed = sound (σ .table) (laid s σ h₁ .table) (σ .term) r h₂;
       few = leb→le _ 8192 h₃;
       is = good-inj e₃;
     }

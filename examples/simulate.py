@@ -1,0 +1,114 @@
+#!/usr/bin/env python3
+"""Runs a lean listing tick after tick, and holds the circuits of this folder to what they are for.
+
+    python3 examples/simulate.py LISTINGS      # a folder of NAME.listing files, as examples/run writes them
+"""
+import os
+import random
+import sys
+
+
+class Circuit:
+    """The lean part of a listing: a bit for each output, tick after tick. Registers start at 0."""
+
+    def __init__(self, text):
+        lines = text.split("\n")
+        self.points, self.parts, self.driver, self.pins = [], [], {}, []
+        for line in lines[lines.index("lean") + 1:lines.index("end")]:
+            word, *rest = line.split()
+            if word == "point":
+                self.points.append((int(rest[0]), int(rest[1])))
+            elif word == "part":
+                self.parts.append((rest[0], [int(x) for x in rest[1:]]))
+            elif word == "wire":
+                self.driver[int(rest[1])] = int(rest[0])
+            else:
+                self.pins.append(int(rest[0]))
+        inputs = {i for i, _ in self.points} | {i for _, t in self.parts for i in t[:-1]}
+        self.in_pins = [p for p in self.pins if p in inputs]
+        self.out_pins = [p for p in self.pins if p not in inputs]
+        self.state = {t[-1]: 0 for name, t in self.parts if name == "reg"}
+
+    def tick(self, bits):
+        given = dict(zip(self.in_pins, bits))
+        known = {}
+
+        def value(i):
+            return given[i] if i in given else output(self.driver[i])
+
+        def output(o):
+            if o not in known:
+                known[o] = self.state[o] if o in self.state else self.source[o]()
+            return known[o]
+
+        self.source = {}
+        for i, o in self.points:
+            self.source[o] = lambda i=i: value(i)
+        gates = {"zero": lambda: 0, "one": lambda: 1, "inv": lambda a: 1 - a, "and": lambda a, b: a & b,
+                 "or": lambda a, b: a | b, "xor": lambda a, b: a ^ b}
+        for name, t in self.parts:
+            if name != "reg":
+                self.source[t[-1]] = lambda name=name, t=t: gates[name](*[value(i) for i in t[:-1]])
+        shown = [output(o) for o in self.out_pins]
+        self.state = {t[-1]: value(t[0]) for name, t in self.parts if name == "reg"}
+        return shown
+
+
+def bits(n, width):
+    return [n >> k & 1 for k in range(width)]
+
+
+def number(bs):
+    return sum(b << k for k, b in enumerate(bs))
+
+
+def adder(c, width):
+    rng = random.Random(7)
+    for _ in range(500):
+        x, y = rng.randrange(2 ** width), rng.randrange(2 ** width)
+        assert number(c.tick(bits(x, width) + bits(y, width))) == x + y, (x, y)
+
+
+def full_adder(c):
+    for n in range(8):
+        a = bits(n, 3)
+        assert number(c.tick(a)) == sum(a), a
+
+
+def shift_register(c):
+    seen = []
+    for t in range(2 + 255):
+        seen.append(tuple(c.tick([1 if t == 0 else 0])))
+    assert len(set(seen[1:256])) == 255 and seen[256] == seen[1], "the period is 255"
+
+
+def chain(c):
+    said = [c.tick([b])[0] for b in (1, 0, 0, 1)]
+    assert said == [1, 0, 1, 1], said
+
+
+def comparator(c):
+    rng = random.Random(9)
+    xs, ys = [rng.randrange(2) for _ in range(20)], [0] * 20
+    ys[:5] = xs[:5]
+    ys[5] = 1 - xs[5]
+    shown = [c.tick([x, y]) for x, y in zip(xs, ys)]
+    assert [d for _, d in shown] == [0] * 5 + [1] * 15
+    assert [g for g, _ in shown] == [0] * 5 + [xs[5]] * 15
+
+
+CHECKS = {"full-adder": full_adder, "ripple-adder-8": lambda c: adder(c, 8), "shift-register-8": shift_register,
+          "chain-two": chain, "comparator-divergence": comparator}
+
+
+def main():
+    if len(sys.argv) != 2:
+        sys.exit(__doc__)
+    for name, check in sorted(CHECKS.items()):
+        with open(os.path.join(sys.argv[1], name + ".listing")) as f:
+            check(Circuit(f.read()))
+        print("%s does what it is for" % name)
+
+
+if __name__ == "__main__":
+    main()

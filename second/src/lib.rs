@@ -1,0 +1,36 @@
+//! The independent second program: sheets to netlists, written from document 01 alone.
+//! Each module opens with the section of document 01 that it follows.
+
+pub mod answers;
+pub mod check;
+pub mod corpus;
+pub mod damage;
+pub mod derive;
+pub mod edges_making;
+pub mod edges_reading;
+pub mod edges_typing;
+pub mod full;
+pub mod grow;
+pub mod lean;
+pub mod listing;
+pub mod netlist;
+pub mod parts;
+pub mod random;
+pub mod read;
+pub mod records;
+pub mod refusal;
+pub mod sheet;
+pub mod translate;
+pub mod wide;
+pub mod write;
+
+pub use check::check;
+pub use derive::derivable;
+pub use full::{full, terminals};
+pub use lean::lean;
+pub use listing::listing;
+pub use netlist::{bytes, Netlist};
+pub use read::{read, stretch};
+pub use refusal::Refusal;
+pub use sheet::Sheet;
+pub use translate::translate;

@@ -1,0 +1,75 @@
+//! Document 01, "The sheet": types, terms and the limits, as owned trees.
+
+/// The limits of refusals 1, 2, 8 and 16.
+pub const MEMORY: usize = 32_768;
+pub const SHEET_BYTES: usize = 16_384;
+pub const TYPES: usize = 256;
+pub const SIZE: usize = 128;
+pub const NODES: usize = 2_048;
+pub const DEPTH: usize = 64;
+pub const TERMINALS: usize = 8_192;
+
+/// A type number counts the type records from 0.
+pub type TypeNumber = usize;
+
+/// Variables, functions, applications and arrows are of one of two sorts.
+#[derive(Clone, Copy, Debug, PartialEq, Eq, Hash)]
+pub enum Sort {
+    Sharable,
+    Linear,
+}
+
+/// A type record. As no record occurs twice, equal types have equal numbers.
+#[derive(Clone, Copy, Debug, PartialEq, Eq, Hash)]
+pub enum Type {
+    Bit,
+    Product(TypeNumber, TypeNumber),
+    Arrow(Sort, TypeNumber, TypeNumber),
+}
+
+impl Type {
+    /// The kinds 01 and 02 make sharable types.
+    pub fn is_sharable(self) -> bool {
+        !self.is_arrow()
+    }
+
+    /// The kinds 03 and 04 make linear types.
+    pub fn is_arrow(self) -> bool {
+        matches!(self, Type::Arrow(..))
+    }
+}
+
+/// A term with the node number of its first record.
+#[derive(Clone, Debug, PartialEq, Eq)]
+pub struct Term {
+    pub node: usize,
+    pub form: Form,
+}
+
+#[derive(Clone, Debug, PartialEq, Eq)]
+pub enum Form {
+    Variable { sort: Sort, binder: usize },
+    Function { sort: Sort, written: TypeNumber, body: Box<Term> },
+    Application { sort: Sort, function: Box<Term>, argument: Box<Term> },
+    Pair { written: TypeNumber, left: Box<Term>, right: Box<Term> },
+    Projection { pair: Box<Term>, body: Box<Term> },
+    FixedPoint { written: TypeNumber, body: Box<Term> },
+    Constant { part: u8, written: TypeNumber },
+}
+
+/// A sheet that refusals 2 to 9 let pass.
+#[derive(Clone, Debug, PartialEq, Eq)]
+pub struct Sheet {
+    pub types: Vec<Type>,
+    /// For each type its number of single bits.
+    pub sizes: Vec<usize>,
+    pub term: Term,
+    /// For each node the start and the length of its bytes, subterms included.
+    pub stretches: Vec<(usize, usize)>,
+}
+
+impl Sheet {
+    pub fn nodes(&self) -> usize {
+        self.stretches.len()
+    }
+}
