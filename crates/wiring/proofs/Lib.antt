@@ -1,3 +1,5 @@
 mod TurnLaws
 mod RunLaws
 mod LinkLaws
+mod StoreLaws
+mod NodeLaws

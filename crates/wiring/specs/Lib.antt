@@ -1,2 +1,5 @@
 pub mod Wires
 pub mod Faces
+pub mod Store
+pub mod Walk
+pub mod Nodes

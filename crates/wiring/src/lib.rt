@@ -216,3 +216,25 @@ fn terminals(work: &mut [u16], to: usize, k: usize, n: usize)
     }
     work[to + k] = code_out(Out((n + k) as u16));
 }
+
+// ---- the walk
+
+// The next free terminal, the numbers of elements and wires made, the height of the stack and the number of binders in scope.
+pub struct State {
+    pub next: usize,
+    pub elements: usize,
+    pub wires: usize,
+    pub top: usize,
+    pub scope: usize,
+}
+
+// What a term leaves: the offset past it, its type, the length of its interface at the height on entry, and the numbers after it.
+pub struct Built {
+    pub past: usize,
+    pub ty: u8,
+    pub len: usize,
+    pub next: usize,
+    pub elements: usize,
+    pub wires: usize,
+}
+

@@ -1,0 +1,101 @@
+-- What the making walk asks of a term's place, and what it leaves there. Assumes nothing.
+use Prim.Native.Nat.{ℕ, _+_, _*_, _-_, _≤_, _<_}
+use mathlib.Core.Path.{_≡_}
+use mathlib.Core.Logic.{_⊎_}
+use mathlib.Core.Bool.{cond, false}
+use mathlib.Core.List.{List, [], _∷_, _++_, map}
+use lib.ListN.{length, getD}
+use lib.Dec.{eqb}
+use Rattle.calculus.specs.Types.{Ty, size, Table, tree}
+use Rattle.calculus.specs.Terms.{Term}
+use Rattle.calculus.specs.Write.{termBytes}
+use Rattle.calculus.specs.Laid.{Stands, Ranged, depth}
+use Rattle.calculus.specs.Rules.{Ctx, Typed}
+use Rattle.calculus.specs.Net.{turns, Interface, outSide, Bound, unbound, Made, make}
+use Rattle.records.specs.Heads.{nodeOf}
+use Rattle.records.specs.Forms.{recIn}
+use Rattle.records.specs.declared.Node.{Node}
+use Rattle.memory.specs.Map.{region, code}
+use Rattle.circuit_theorems.proofs.Drivers.{Env}
+use Rattle.wiring.specs.declared.State.{State}
+use Rattle.wiring.specs.declared.Built.{Built}
+use Rattle.wiring.specs.Faces.{sidesOf, Knows}
+use Rattle.wiring.specs.Store.{Store, Holds, after}
+
+-- ---- binders: for each, the outermost first, its type number, and where its output interface is
+
+-- the points from terminal n on, as 2 n + 1
+pub record OfPoints (τ : Ty) (place : ℕ) (side : Interface) : Type 0 where
+  pub first : ℕ
+  pub is : place ≡ 2 * first + 1
+  pub few : first + 2 * size τ ≤ 8192
+  pub shown : side ≡ outSide (turns false τ) first
+
+-- codes from height h of the stack on, as 2 h
+pub record OfStack (stack : List ℕ) (τ : Ty) (place : ℕ) (side : Interface) : Type 0 where
+  pub height : ℕ
+  pub is : place ≡ 2 * height
+  pub below : height + size τ ≤ length stack
+  pub shown : map code side ≡ region stack height (size τ)
+
+pub record BoundAt (Θ : Table) (stack : List ℕ) (t place : ℕ) (b : Bound) : Type 0 where
+  pub named : t < length Θ
+  pub type : b .type ≡ tree Θ t
+  pub side : OfPoints (tree Θ t) place (b .side) ⊎ OfStack stack (tree Θ t) place (b .side)
+
+-- binder number i counts outwards
+abbrev pub slot : ℕ → ℕ → ℕ
+slot scope i = 2 * (scope - 1 - i)
+
+pub record Binds (Θ : Table) (stack binders : List ℕ) (scope : ℕ) (env : List Bound) : Type 0 where
+  pub count : length binders ≡ 2 * scope
+  pub all : length env ≡ scope
+  pub each : (i : ℕ) → i < scope → BoundAt Θ stack (getD binders (slot scope i) 0) (getD binders (slot scope i + 1) 0) (getD env i unbound)
+
+-- ---- a term at an offset
+
+pub record Asks (s sizes w : List ℕ) (at : ℕ) (st : State) : Type 0 where
+  pub table : Table
+  pub knows : Knows s sizes table
+  pub term : Term
+  pub stands : Stands s at term
+  pub ranged : Ranged table term
+  pub context : Ctx
+  pub type : Ty
+  pub typed : Typed table context term type
+  pub env : List Bound
+  pub fits : Env context env
+  pub store : Store
+  pub holds : Holds w store
+  pub elements : length (store .kinds) ≡ st .elements
+  pub wires : length (store .targets) ≡ st .wires
+  pub top : length (store .stack) ≡ st .top
+  pub binds : Binds table (store .stack) (store .binders) (st .scope) env
+  pub few : make table term env (st .next) .next ≤ 8192
+  pub few-elements : st .elements + length (make table term env (st .next) .elements) ≤ 5120
+  pub few-wires : st .wires + length (make table term env (st .next) .wires) ≤ 5632
+  pub deep : st .top + 128 * depth term ≤ 8448
+  pub scoped : st .scope + 2 * depth term ≤ 128
+
+abbrev pub madeOf : {s sizes w : List ℕ} {at : ℕ} {st : State} → Asks s sizes w at st → Made
+madeOf {st = st} q = make (q .table) (q .term) (q .env) (st .next)
+
+pub record Leaves {s sizes w : List ℕ} {at : ℕ} {st : State} (q : Asks s sizes w at st) (r : Built) (w′ : List ℕ) : Type 0 where
+  pub holds : Holds w′ (after (q .store) (madeOf q))
+  pub past : r .past ≡ at + length (termBytes (q .term))
+  pub named : r .ty < length (q .table)
+  pub type : tree (q .table) (r .ty) ≡ q .type
+  pub len : r .len ≡ length (madeOf q .side)
+  pub next : r .next ≡ madeOf q .next
+  pub elements : r .elements ≡ st .elements + length (madeOf q .elements)
+  pub wires : r .wires ≡ st .wires + length (madeOf q .wires)
+
+-- .. whose first record is read
+pub record Here (s sizes w : List ℕ) (node : Node) (st : State) : Type 0 where
+  pub at : ℕ
+  pub asks : Asks s sizes w at st
+  pub is : node ≡ nodeOf (asks .term) at
+
+-- the type number that a function or a fixed point binds
+abbrev pub boundIn : List ℕ → Node → ℕ
+boundIn s node = cond (eqb (node .kind) 0x19) (node .first) (sidesOf (recIn s (node .first)) .left)
