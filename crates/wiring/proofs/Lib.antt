@@ -3,3 +3,4 @@ mod RunLaws
 mod LinkLaws
 mod StoreLaws
 mod NodeLaws
+mod LeafLaws

@@ -13,14 +13,14 @@ use Rattle.calculus.specs.Terms.{Term, var, lvar, fun, app, lfun, lapp, pair, p
 use Rattle.calculus.specs.Write.{termBytes}
 use Rattle.calculus.specs.Laid.{Agrees, Below, TableOk, Stands, Ranged, depth}
 use Rattle.calculus.specs.Rules.{Ctx, many, once, away, Split, split-end, split-many, split-first, split-second, split-away, InΓ, in-here, in-many, in-away, IsΔ, is-here, is-many, is-away, Typed, Var, LVar, →I, →E, ⊸I, ⊸E, ×I, ×E, Fix, Con}
-use Rattle.calculus.specs.Net.{Interface, turns, outSide, inSide, points, Bound, Made, leftOf, rightOf, binder, firstHalf, secondHalf, make}
+use Rattle.calculus.specs.Net.{Interface, turns, outSide, inSide, points, Bound, Made, leftOf, rightOf, binder, madePair, firstHalf, secondHalf, make}
 use Rattle.records.specs.Heads.{nodeOf}
 use Rattle.records.specs.Forms.{recIn}
 use Rattle.sheet_theorems.proofs.Standing.{fun-body, lfun-body, fix-body, app-function, app-argument, lapp-function, lapp-argument, pair-first, pair-second, proj-pair, proj-body}
 use Rattle.circuit_theorems.proofs.Drivers.{dir, dirs, Fits, Env, env-end, env-many, env-once, env-away, turns-size, dirs-left, term-driven}
 use Rattle.wiring.specs.Faces.{sidesOf, Knows}
 use Rattle.wiring.specs.Walk.{boundIn}
-use Rattle.wiring.specs.Nodes.{funOf, Binding, Applied, Paired, Projected, Twofold}
+use Rattle.wiring.specs.Nodes.{funOf, Binding, Applied, Paired, Projected, Twofold, Variable, Constant}
 
 -- ---- the sides of a type, by its record
 
@@ -158,3 +158,159 @@ module _ {s sizes : List ℕ} {Θ : Table} (K : Knows s sizes Θ) (at n : ℕ) (
   binding (×I z eτ s₁ s₂ d c) st rg v h = absurd (omega arith)
   binding (×E z s₁ s₂ d c) st rg v h = absurd (omega arith)
   binding (Con p e z) st rg v h = absurd (omega arith)
+
+  -- ---- two subterms
+
+  pub twofold : {Γ : Ctx} {e : Term} {τ : Ty} → Typed Θ Γ e τ → Stands s at e → Ranged Θ e → Env Γ env → nodeOf e at .subterms ≡ 2 → Twofold Θ s at n env e τ
+  twofold (Var x) st rg v h = absurd (omega arith)
+  twofold (LVar x) st rg v h = absurd (omega arith)
+  twofold (→I eτ sh d) st rg v h = absurd (omega arith)
+  twofold (⊸I eτ ar d) st rg v h = absurd (omega arith)
+  twofold (Fix eτ sh d) st rg v h = absurd (omega arith)
+  twofold (Con p e z) st rg v h = absurd (omega arith)
+  twofold (→E {f = f} {a = a} {θ = θ} {τ = τ} z d c) st rg v h =
+      let (p, q) = split-env z v in
+      record {
+        first = f;
+        second = a;
+        stands-first = rw one (app-function st);
+        stands-second = rw one (app-argument st);
+        ranged-first = rg .0;
+        ranged-second = rg .1;
+        deep-first = omega arith;
+        deep-second = omega arith;
+        bytes = omega (arith, length-append (termBytes f) (termBytes a));
+        context = _;
+        type = arrow θ τ;
+        typed = d;
+        fits = p;
+        context₂ = _;
+        type₂ = θ;
+        env₂ = env;
+        typed₂ = c;
+        fits₂ = q;
+        sort = inl (record { not-pair = λ z. omega arith; not-proj = λ z. omega arith; same = refl; arrow = not-arrow refl; left = refl; right = refl; turned = refl; is = refl });
+      }
+    where
+      one : at + 1 + 0 ≡ at + 1
+      one = omega arith
+  twofold (⊸E {f = f} {a = a} {κ = κ} {τ = τ} z d c) st rg v h =
+      let (p, q) = split-env z v in
+      record {
+        first = f;
+        second = a;
+        stands-first = rw one (lapp-function st);
+        stands-second = rw one (lapp-argument st);
+        ranged-first = rg .0;
+        ranged-second = rg .1;
+        deep-first = omega arith;
+        deep-second = omega arith;
+        bytes = omega (arith, length-append (termBytes f) (termBytes a));
+        context = _;
+        type = lolli κ τ;
+        typed = d;
+        fits = p;
+        context₂ = _;
+        type₂ = κ;
+        env₂ = env;
+        typed₂ = c;
+        fits₂ = q;
+        sort = inl (record { not-pair = λ z. omega arith; not-proj = λ z. omega arith; same = refl; arrow = not-lolli refl; left = refl; right = refl; turned = refl; is = refl });
+      }
+    where
+      one : at + 1 + 0 ≡ at + 1
+      one = omega arith
+  twofold (×I {t = t} {a = a} {b = b} {θ₁ = θ₁} {θ₂ = θ₂} z eτ s₁ s₂ d c) st rg v h =
+      let (p, q) = split-env z v in
+      record {
+        first = a;
+        second = b;
+        stands-first = rw two (pair-first st);
+        stands-second = rw two (pair-second st);
+        ranged-first = rg .1;
+        ranged-second = rg .2;
+        deep-first = omega arith;
+        deep-second = omega arith;
+        bytes = omega (arith, length-append (termBytes a) (termBytes b));
+        context = _;
+        type = θ₁;
+        typed = d;
+        fits = p;
+        context₂ = _;
+        type₂ = θ₂;
+        env₂ = env;
+        typed₂ = c;
+        fits₂ = q;
+        sort = inr (inl (record { pair = refl; same = refl; first = rg .0; is-type = eτ; is = ap (λ (ρ : Ty). madePair ρ (make Θ a env n) (make Θ b env (make Θ a env n .next))) eτ }));
+      }
+    where
+      two : at + 1 + 1 ≡ at + 2
+      two = omega arith
+  twofold (×E {a = a} {e = e} {θ₁ = θ₁} {θ₂ = θ₂} {τ = τ} z s₁ s₂ d c) st rg v h =
+      let (p, q) = split-env z v in
+      let x = make Θ a env n in
+      let D = term-driven d env p n in
+      let (h₁, h₂) = halves-fit θ₁ θ₂ x (D .type) (D .dirs) in
+      record {
+        first = a;
+        second = e;
+        stands-first = rw one (proj-pair st);
+        stands-second = rw one (proj-body st);
+        ranged-first = rg .0;
+        ranged-second = rg .1;
+        deep-first = omega arith;
+        deep-second = omega arith;
+        bytes = omega (arith, length-append (termBytes a) (termBytes e));
+        context = _;
+        type = prod θ₁ θ₂;
+        typed = d;
+        fits = p;
+        context₂ = many θ₂ ∷ many θ₁ ∷ _;
+        type₂ = τ;
+        env₂ = secondHalf x ∷ firstHalf x ∷ env;
+        typed₂ = c;
+        fits₂ = env-many s₂ h₂ (env-many s₁ h₁ q);
+        sort = inr (inr (record { proj = refl; halves = refl; product = not-prod refl; sum = refl; same = refl; is = refl }));
+      }
+    where
+      one : at + 1 + 0 ≡ at + 1
+      one = omega arith
+
+-- ---- variables are bound
+
+pub shared-bound : {Γ : Ctx} {env : List Bound} {i : ℕ} {θ : Ty} → InΓ Γ i θ → Env Γ env → i < length env
+shared-bound (in-here z) (env-many h f v) = omega arith
+shared-bound (in-many x) (env-many h f v) = omega (arith, shared-bound x v)
+shared-bound (in-away x) (env-away v) = omega (arith, shared-bound x v)
+
+pub linear-bound : {Γ : Ctx} {env : List Bound} {i : ℕ} {κ : Ty} → IsΔ Γ i κ → Env Γ env → i < length env
+linear-bound (is-here z) (env-once f v) = omega arith
+linear-bound (is-many x) (env-many h f v) = omega (arith, linear-bound x v)
+linear-bound (is-away x) (env-away v) = omega (arith, linear-bound x v)
+
+-- ---- no subterm
+
+module _ {Θ : Table} (s : List ℕ) (at n : ℕ) (env : List Bound) where
+  pub variable : {Γ : Ctx} {e : Term} {τ : Ty} → Typed Θ Γ e τ → Env Γ env → nodeOf e at .subterms ≡ 0 → (nodeOf e at .kind ≡ 0x1A → ⊥) → Variable Θ s at n env e τ
+  variable (Var x) v h f = record { bound = shared-bound x v; is = refl; bytes = omega arith; shallow = refl }
+  variable (LVar x) v h f = record { bound = linear-bound x v; is = refl; bytes = omega arith; shallow = refl }
+  variable (→I eτ sh d) v h f = absurd (omega arith)
+  variable (⊸I eτ ar d) v h f = absurd (omega arith)
+  variable (Fix eτ sh d) v h f = absurd (omega arith)
+  variable (→E z d c) v h f = absurd (omega arith)
+  variable (⊸E z d c) v h f = absurd (omega arith)
+  variable (×I z eτ s₁ s₂ d c) v h f = absurd (omega arith)
+  variable (×E z s₁ s₂ d c) v h f = absurd (omega arith)
+  variable (Con p e z) v h f = absurd (f refl)
+
+  pub constant : {Γ : Ctx} {e : Term} {τ : Ty} → Typed Θ Γ e τ → Ranged Θ e → nodeOf e at .kind ≡ 0x1A → Constant Θ s at n env e τ
+  constant (Var x) rg f = absurd (omega arith)
+  constant (LVar x) rg f = absurd (omega arith)
+  constant (→I eτ sh d) rg f = absurd (omega arith)
+  constant (⊸I eτ ar d) rg f = absurd (omega arith)
+  constant (Fix eτ sh d) rg f = absurd (omega arith)
+  constant (→E z d c) rg f = absurd (omega arith)
+  constant (⊸E z d c) rg f = absurd (omega arith)
+  constant (×I z eτ s₁ s₂ d c) rg f = absurd (omega arith)
+  constant (×E z s₁ s₂ d c) rg f = absurd (omega arith)
+  constant (Con p e z) rg f = record { known = p; named = rg; is-type = e; is = refl; bytes = omega arith; shallow = refl }

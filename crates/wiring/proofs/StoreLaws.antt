@@ -50,10 +50,10 @@ module _ {w : List ℕ} {from room : ℕ} {xs : List ℕ} (L : Lies w from room 
     here = λ j l. elim (decLe (suc j) (length xs)) [
       | yes lt ↦ sets-before vs w i (from + j) 0 (omega arith) ∙ L .here j lt ∙ sym (List·getD-append xs vs 0 j lt)
       | no ge ↦ let k = j - length xs in
-        let ej : j ≡ length xs + k = omega arith in
-        let ek : from + j ≡ i + k = omega arith in
-        let lk : k < length vs = omega (arith, length-append xs vs) in
-        rw ek (sets-at vs w i k (omega arith) lk) ∙ sym (ap (λ (x : ℕ). getD (xs ++ vs) x 0) ej ∙ getD-append-add xs vs k 0)
+          let ej : j ≡ length xs + k = omega arith in
+          let ek : from + j ≡ i + k = omega arith in
+          let lk : k < length vs = omega (arith, length-append xs vs) in
+          rw ek (sets-at vs w i k (omega arith) lk) ∙ sym (ap (λ (x : ℕ). getD (xs ++ vs) x 0) ej ∙ getD-append-add xs vs k 0)
     ];
   }
 

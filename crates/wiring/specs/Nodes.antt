@@ -4,13 +4,13 @@ use mathlib.Core.Path.{_≡_}
 use mathlib.Core.Logic.{_⊎_}
 use mathlib.Core.Bool.{true, false}
 use mathlib.Core.List.{List, [], _∷_, _++_}
-use lib.ListN.{length}
+use lib.ListN.{length, getD}
 use Rattle.calculus.specs.Types.{Ty, bit, size, Table, tree}
 use Rattle.calculus.specs.Terms.{Term}
 use Rattle.calculus.specs.Write.{termBytes}
 use Rattle.calculus.specs.Laid.{Stands, Ranged, depth}
 use Rattle.calculus.specs.Rules.{Ctx, Typed}
-use Rattle.calculus.specs.Net.{turns, points, inSide, Bound, Made, leftOf, rightOf, binder, madeApp, madePair, firstHalf, secondHalf, madeProj, madeFix, make}
+use Rattle.calculus.specs.Net.{turns, points, inSide, Bound, Made, leftOf, rightOf, binder, madeApp, madePair, firstHalf, secondHalf, madeProj, madeFix, madeVar, madeCon, unbound, make}
 use Rattle.records.specs.Heads.{nodeOf}
 use Rattle.circuit_theorems.proofs.Drivers.{Env}
 use Rattle.wiring.specs.Walk.{boundIn}
@@ -94,3 +94,17 @@ module _ (Θ : Table) (s : List ℕ) (at n : ℕ) (env : List Bound) (e : Term) 
     pub sort : Applied (make Θ first env n) (make Θ second env₂ (make Θ first env n .next)) type env₂ type₂
         ⊎ (Paired (make Θ first env n) (make Θ second env₂ (make Θ first env n .next)) type env₂ type₂
         ⊎ Projected (make Θ first env n) (make Θ second env₂ (make Θ first env n .next)) type env₂ type₂)
+
+  pub record Variable : Type 0 where
+    pub bound : nodeOf e at .first < length env
+    pub is : make Θ e env n ≡ madeVar (getD env (nodeOf e at .first) unbound) n
+    pub bytes : at + length (termBytes e) ≡ nodeOf e at .next
+    pub shallow : depth e ≡ 1
+
+  pub record Constant : Type 0 where
+    pub known : nodeOf e at .first < 7
+    pub named : nodeOf e at .second < length Θ
+    pub is-type : tree Θ (nodeOf e at .second) ≡ τ
+    pub is : make Θ e env n ≡ madeCon (nodeOf e at .first) n
+    pub bytes : at + length (termBytes e) ≡ nodeOf e at .next
+    pub shallow : depth e ≡ 1

@@ -1,8 +1,8 @@
 -- What the making walk asks of a term's place, and what it leaves there. Assumes nothing.
-use Prim.Native.Nat.{ℕ, _+_, _*_, _-_, _≤_, _<_}
+use Prim.Native.Nat.{ℕ, _+_, _*_, _-_, _/_, _%_, _≤_, _<_}
 use mathlib.Core.Path.{_≡_}
 use mathlib.Core.Logic.{_⊎_}
-use mathlib.Core.Bool.{cond, false}
+use mathlib.Core.Bool.{cond, true, false}
 use mathlib.Core.List.{List, [], _∷_, _++_, map}
 use lib.ListN.{length, getD}
 use lib.Dec.{eqb}
@@ -19,7 +19,7 @@ use Rattle.memory.specs.Map.{region, code}
 use Rattle.circuit_theorems.proofs.Drivers.{Env}
 use Rattle.wiring.specs.declared.State.{State}
 use Rattle.wiring.specs.declared.Built.{Built}
-use Rattle.wiring.specs.Faces.{sidesOf, Knows}
+use Rattle.wiring.specs.Faces.{sidesOf, Knows, Named, face}
 use Rattle.wiring.specs.Store.{Store, Holds, after}
 
 -- ---- binders: for each, the outermost first, its type number, and where its output interface is
@@ -42,6 +42,16 @@ pub record BoundAt (Θ : Table) (stack : List ℕ) (t place : ℕ) (b : Bound) :
   pub named : t < length Θ
   pub type : b .type ≡ tree Θ t
   pub side : OfPoints (tree Θ t) place (b .side) ⊎ OfStack stack (tree Θ t) place (b .side)
+
+-- the codes of a binder's output interface, of n bits
+unfoldable pub shown : Table → ℕ → List ℕ → ℕ → ℕ → List ℕ
+shown Θ n w t place = cond (eqb (place % 2) 1) (face true (turns false (tree Θ t)) (place / 2)) (region w (18944 + place / 2) n)
+
+pub record Showable (s sizes : List ℕ) (size to t place : ℕ) : Type 0 where
+  pub known : Named s sizes t
+  pub room : to + getD sizes t 0 ≤ size
+  pub points : place % 2 ≡ 1 → place / 2 + 2 * getD sizes t 0 ≤ 8192
+  pub stack : (place % 2 ≡ 1 → ⊥) → 18944 + place / 2 + getD sizes t 0 ≤ to
 
 -- binder number i counts outwards
 abbrev pub slot : ℕ → ℕ → ℕ

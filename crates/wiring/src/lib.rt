@@ -1,6 +1,10 @@
 // The making walk: the elements, the wires and the interface of a term, in the working memory.
+use memory::BINDERS;
+use memory::ELEMENTS;
+use memory::STACK;
 use memory::TARGETS;
 use records::Form;
+use records::Node;
 ghost use mathlib.Core.Path.{_≡_};
 ghost use mathlib.Core.Bool.{cond};
 ghost use mathlib.Core.Logic.{_⊎_};
@@ -14,6 +18,7 @@ ghost use Rattle.calculus.specs.Net.{turns, partSide};
 ghost use Rattle.records.specs.Forms.{recIn};
 ghost use Rattle.memory.specs.Map.{region, code};
 ghost use Rattle.wiring.specs.Wires.{wired, linked, links, Apart};
+ghost use Rattle.wiring.specs.Walk.{Here, Leaves, Showable, shown};
 ghost use Rattle.wiring.specs.Faces.{sidesOf, Knows, Named, endOf, face};
 ghost use mathlib.Core.Bool.{false};
 
@@ -238,3 +243,86 @@ pub struct Built {
     pub wires: usize,
 }
 
+// The binder number k, counted from the outermost: its type, and where its interface is.
+fn bind(work: &mut [u16], k: usize, t: u8, place: usize)
+    requires { ⌜ (32768 ≤ length (now work)) × (k < 128) × (place < 65536) ⌝ }
+    ensures { λ _. ⌜ now (work .exit) ≡ sets (now (work .entry)) (27392 + 2 * k) (t ∷ place ∷ []) ⌝ }
+{
+    work[BINDERS + 2 * k] = t as u16;
+    work[BINDERS + 2 * k + 1] = place as u16;
+}
+
+// The output interface of a binder of type t: that of points, or numbers further down on the stack.
+fn show(s: &[u8], sizes: &[u8], work: &mut [u16], to: usize, t: u8, place: usize)
+    requires { ⌜ Showable (now s) (now sizes) (length (now work)) to t place ⌝ }
+    ensures { λ _. ⌜ ((q : Named (now (s .entry)) (now (sizes .entry)) t)
+        → now (work .exit) ≡ sets (now (work .entry)) to (shown (q .table) (getD (now (sizes .entry)) t 0) (now (work .entry)) t place)) ⌝ }
+{
+    let n = place / 2;
+    if place % 2 == 1 {
+        interface(s, sizes, work, to, t, n, true);
+    } else {
+        copy(work, STACK + n, to, size_of(sizes, t));
+    }
+}
+
+// A variable: its binder's output interface.
+fn variable(s: &[u8], sizes: &[u8], work: &mut [u16], node: Node, st: State) -> Built
+    requires { ⌜ (Here (now s) (now sizes) (now work) node st) × (node .subterms ≡ 0) × (node .kind ≡ 0x1A → ⊥) ⌝ }
+    ensures { λ r. ⌜ ((q : Here (now (s .entry)) (now (sizes .entry)) (now (work .entry)) node st) → Leaves (q .asks) r (now (work .exit))) ⌝ }
+{
+    let past = node.next;
+    let next = st.next;
+    let elements = st.elements;
+    let wires = st.wires;
+    let top = st.top;
+    let k = BINDERS + 2 * (st.scope - 1 - records::wide(node.first));
+    let ty = work[k] as u8;
+    let place = work[k + 1] as usize;
+    let len = size_of(sizes, ty);
+    show(s, sizes, work, STACK + top, ty, place);
+    Built {
+        past,
+        ty,
+        len,
+        next,
+        elements,
+        wires,
+    }
+}
+
+// A constant: its part.
+fn constant(s: &[u8], sizes: &[u8], work: &mut [u16], node: Node, st: State) -> Built
+    requires { ⌜ (Here (now s) (now sizes) (now work) node st) × (node .kind ≡ 0x1A) ⌝ }
+    ensures { λ r. ⌜ ((q : Here (now (s .entry)) (now (sizes .entry)) (now (work .entry)) node st) → Leaves (q .asks) r (now (work .exit))) ⌝ }
+{
+    let past = node.next;
+    let ty = node.second;
+    let part = node.first;
+    let next = st.next;
+    let elements = st.elements;
+    let wires = st.wires;
+    let top = st.top;
+    let k = inputs_of(part);
+    work[ELEMENTS + elements] = part as u16;
+    terminals(work, STACK + top, k, next);
+    Built {
+        past,
+        ty,
+        len: k + 1,
+        next: next + k + 1,
+        elements: elements + 1,
+        wires,
+    }
+}
+
+fn leaf(s: &[u8], sizes: &[u8], work: &mut [u16], node: Node, st: State) -> Built
+    requires { ⌜ (Here (now s) (now sizes) (now work) node st) × (node .subterms ≡ 0) ⌝ }
+    ensures { λ r. ⌜ ((q : Here (now (s .entry)) (now (sizes .entry)) (now (work .entry)) node st) → Leaves (q .asks) r (now (work .exit))) ⌝ }
+{
+    if node.kind == 0x1A {
+        constant(s, sizes, work, node, st)
+    } else {
+        variable(s, sizes, work, node, st)
+    }
+}
