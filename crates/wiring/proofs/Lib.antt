@@ -4,3 +4,5 @@ mod LinkLaws
 mod StoreLaws
 mod NodeLaws
 mod LeafLaws
+mod BindLaws
+mod OneLaws

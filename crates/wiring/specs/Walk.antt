@@ -4,7 +4,8 @@ use mathlib.Core.Path.{_≡_}
 use mathlib.Core.Logic.{_⊎_}
 use mathlib.Core.Bool.{cond, true, false}
 use mathlib.Core.List.{List, [], _∷_, _++_, map}
-use lib.ListN.{length, getD}
+use lib.ListN.{length, getD, replicate}
+use lib.Seq.{sets}
 use lib.Dec.{eqb}
 use Rattle.calculus.specs.Types.{Ty, size, Table, tree}
 use Rattle.calculus.specs.Terms.{Term}
@@ -20,6 +21,7 @@ use Rattle.circuit_theorems.proofs.Drivers.{Env}
 use Rattle.wiring.specs.declared.State.{State}
 use Rattle.wiring.specs.declared.Built.{Built}
 use Rattle.wiring.specs.Faces.{sidesOf, Knows, Named, face}
+use Rattle.wiring.specs.Wires.{links, Apart}
 use Rattle.wiring.specs.Store.{Store, Holds, after}
 
 -- ---- binders: for each, the outermost first, its type number, and where its output interface is
@@ -109,3 +111,47 @@ pub record Here (s sizes w : List ℕ) (node : Node) (st : State) : Type 0 where
 -- the type number that a function or a fixed point binds
 abbrev pub boundIn : List ℕ → Node → ℕ
 boundIn s node = cond (eqb (node .kind) 0x19) (node .first) (sidesOf (recIn s (node .first)) .left)
+
+-- ---- a function or a fixed point
+
+-- with its points, its input interface on the stack and its binder
+abbrev pub opened : Store → Table → ℕ → ℕ → Store
+opened m Θ t n = record {
+  drivers = m .drivers;
+  targets = m .targets;
+  kinds = m .kinds ++ replicate (size (tree Θ t)) 7;
+  stack = m .stack ++ face false (turns false (tree Θ t)) n;
+  binders = m .binders ++ t ∷ (2 * n + 1) ∷ [];
+  rest = m .rest;
+}
+
+-- behind l points
+abbrev pub inner : ℕ → State → State
+inner l st = record { next = st .next + 2 * l; elements = st .elements + l; wires = st .wires; top = st .top + l; scope = st .scope + 1 }
+
+pub record Opened {s sizes w : List ℕ} {node : Node} {st : State} (q : Here s sizes w node st) (r : State) (w′ : List ℕ) : Type 0 where
+  pub state : r ≡ inner (size (tree (q .asks .table) (boundIn s node))) st
+  pub holds : Holds w′ (opened (q .asks .store) (q .asks .table) (boundIn s node) (st .next))
+
+-- the body's interface wired to the input interface below it, and moved down
+unfoldable pub looped : List ℕ → ℕ → ℕ → ℕ → List ℕ
+looped w at l k =
+    let v = links w k (region w (at + l) l) (region w at l) in
+    sets v at (region v (at + l) l)
+
+unfoldable pub closedIn : List ℕ → Node → ℕ → ℕ → Built → List ℕ
+closedIn w node top l r = cond (eqb (node .kind) 0x19) (looped w (18944 + top) l (r .wires)) w
+
+unfoldable pub closed : Node → ℕ → Built → Built
+closed node l r = record {
+  past = r .past;
+  ty = node .first;
+  len = cond (eqb (node .kind) 0x19) l (l + r .len);
+  next = r .next;
+  elements = r .elements;
+  wires = cond (eqb (node .kind) 0x19) (r .wires + l) (r .wires);
+}
+
+pub record Closable (w : List ℕ) (node : Node) (top l : ℕ) (r : Built) : Type 0 where
+  pub small : (l ≤ 128) × (r .len ≤ 128) × (top ≤ 8448) × (r .wires ≤ 5632)
+  pub apart : node .kind ≡ 0x19 → Apart w (18944 + top + l) (18944 + top) l (r .wires)

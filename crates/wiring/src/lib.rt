@@ -1,6 +1,7 @@
 // The making walk: the elements, the wires and the interface of a term, in the working memory.
 use memory::BINDERS;
 use memory::ELEMENTS;
+use memory::POINT;
 use memory::STACK;
 use memory::TARGETS;
 use records::Form;
@@ -18,7 +19,7 @@ ghost use Rattle.calculus.specs.Net.{turns, partSide};
 ghost use Rattle.records.specs.Forms.{recIn};
 ghost use Rattle.memory.specs.Map.{region, code};
 ghost use Rattle.wiring.specs.Wires.{wired, linked, links, Apart};
-ghost use Rattle.wiring.specs.Walk.{Here, Leaves, Showable, shown};
+ghost use Rattle.wiring.specs.Walk.{Here, Leaves, Showable, shown, boundIn, Opened, looped, closed, closedIn, Closable};
 ghost use Rattle.wiring.specs.Faces.{sidesOf, Knows, Named, endOf, face};
 ghost use mathlib.Core.Bool.{false};
 
@@ -324,5 +325,81 @@ fn leaf(s: &[u8], sizes: &[u8], work: &mut [u16], node: Node, st: State) -> Buil
         constant(s, sizes, work, node, st)
     } else {
         variable(s, sizes, work, node, st)
+    }
+}
+
+// The type that a function or a fixed point binds.
+fn bound(s: &[u8], node: Node) -> u8
+    ensures { λ r. ⌜ r ≡ boundIn (now (s .entry)) node ⌝ }
+{
+    let first = node.first;
+    if node.kind == 0x19 {
+        return first;
+    }
+    sides_at(s, first).left
+}
+
+// Before the body of a function or a fixed point: its points, its input interface on the stack, and its binder.
+fn open(s: &[u8], sizes: &[u8], work: &mut [u16], node: Node, st: State) -> State
+    requires { ⌜ (Here (now s) (now sizes) (now work) node st) × (node .subterms ≡ 1) ⌝ }
+    ensures { λ r. ⌜ ((q : Here (now (s .entry)) (now (sizes .entry)) (now (work .entry)) node st) → Opened q r (now (work .exit))) ⌝ }
+{
+    let next = st.next;
+    let elements = st.elements;
+    let wires = st.wires;
+    let top = st.top;
+    let scope = st.scope;
+    let t = bound(s, node);
+    let l = size_of(sizes, t);
+    fill(work, ELEMENTS + elements, l, POINT);
+    interface(s, sizes, work, STACK + top, t, next, false);
+    bind(work, scope, t, 2 * next + 1);
+    State {
+        next: next + 2 * l,
+        elements: elements + l,
+        wires,
+        top: top + l,
+        scope: scope + 1,
+    }
+}
+
+// The body's interface, of l bits, stands above the input interface of a fixed point: it is wired to that, and moved down.
+fn close_loop(work: &mut [u16], at: usize, l: usize, wires: usize)
+    requires { ⌜ Apart (now work) (at + l) at l wires ⌝ }
+    ensures { λ _. ⌜ now (work .exit) ≡ looped (now (work .entry)) at l wires ⌝ }
+{
+    connect(work, at + l, at, l, wires);
+    copy(work, at + l, at, l);
+}
+
+// After the body, whose interface stands above the input interface: of a function both are the result, of a fixed point the body's.
+fn close(work: &mut [u16], node: Node, top: usize, l: usize, r: Built) -> Built
+    requires { ⌜ Closable (now work) node top l r ⌝ }
+    ensures { λ b. ⌜ (b ≡ closed node l r) × (now (work .exit) ≡ closedIn (now (work .entry)) node top l r) ⌝ }
+{
+    let ty = node.first;
+    let past = r.past;
+    let next = r.next;
+    let elements = r.elements;
+    let wires = r.wires;
+    let len = r.len;
+    if node.kind == 0x19 {
+        close_loop(work, STACK + top, l, wires);
+        return Built {
+            past,
+            ty,
+            len: l,
+            next,
+            elements,
+            wires: wires + l,
+        };
+    }
+    Built {
+        past,
+        ty,
+        len: l + len,
+        next,
+        elements,
+        wires,
     }
 }
