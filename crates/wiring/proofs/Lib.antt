@@ -5,4 +5,5 @@ mod StoreLaws
 mod NodeLaws
 mod LeafLaws
 mod BindLaws
+mod JoinLaws
 mod OneLaws
