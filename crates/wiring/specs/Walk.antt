@@ -155,3 +155,56 @@ closed node l r = record {
 pub record Closable (w : List ℕ) (node : Node) (top l : ℕ) (r : Built) : Type 0 where
   pub small : (l ≤ 128) × (r .len ≤ 128) × (top ≤ 8448) × (r .wires ≤ 5632)
   pub apart : node .kind ≡ 0x19 → Apart w (18944 + top + l) (18944 + top) l (r .wires)
+
+-- ---- a node of two subterms
+
+-- the halves of a product that stands at height `top`, bound: the second is the nearer
+unfoldable pub halved : List ℕ → List ℕ → List ℕ → ℕ → ℕ → ℕ → List ℕ
+halved s sizes w t scope top =
+    let x = sidesOf (recIn s t) in
+    sets (sets w (27392 + 2 * scope) (x .left ∷ 2 * top ∷ [])) (27392 + 2 * (scope + 1)) (x .right ∷ 2 * (top + getD sizes (x .left) 0) ∷ [])
+
+-- between the subterms
+unfoldable pub betweenIn : List ℕ → List ℕ → List ℕ → Node → State → Built → List ℕ
+betweenIn s sizes w node st f = cond (eqb (node .kind) 0x18) (halved s sizes w (f .ty) (st .scope) (st .top)) w
+
+unfoldable pub middle : Node → State → Built → State
+middle node st f = record {
+  next = f .next;
+  elements = f .elements;
+  wires = f .wires;
+  top = st .top + f .len;
+  scope = cond (eqb (node .kind) 0x18) (st .scope + 2) (st .scope);
+}
+
+pub record Between (sizes w : List ℕ) (st : State) (f : Built) : Type 0 where
+  pub all : length sizes ≡ 256
+  pub memory : 32768 ≤ length w
+  pub small : (st .top ≤ 8448) × (f .len ≤ 128) × (st .scope + 1 < 128)
+
+-- an argument's interface, of m bits, stands above the function's, of l bits: it is wired to the start of that, and the rest moved down
+unfoldable pub appliedIn : List ℕ → ℕ → ℕ → ℕ → ℕ → List ℕ
+appliedIn w at l m k =
+    let v = links w k (region w (at + l) m) (region w at m) in
+    sets v at (region v (at + m) (l - m))
+
+unfoldable pub finishedIn : List ℕ → Node → ℕ → Built → Built → List ℕ
+finishedIn w node top f x =
+    cond (eqb (node .kind) 0x18) (sets w (18944 + top) (region w (18944 + top + f .len) (x .len)))
+    (cond (eqb (node .kind) 0x17) w (appliedIn w (18944 + top) (f .len) (x .len) (x .wires)))
+
+unfoldable pub finished : List ℕ → Node → Built → Built → Built
+finished s node f x = record {
+  past = x .past;
+  ty = cond (eqb (node .kind) 0x18) (x .ty) (cond (eqb (node .kind) 0x17) (node .first) (sidesOf (recIn s (f .ty)) .right));
+  len = cond (eqb (node .kind) 0x18) (x .len) (cond (eqb (node .kind) 0x17) (f .len + x .len) (f .len - x .len));
+  next = x .next;
+  elements = x .elements;
+  wires = cond (eqb (node .kind) 0x18) (x .wires) (cond (eqb (node .kind) 0x17) (x .wires) (x .wires + x .len));
+}
+
+pub record Finishable (w : List ℕ) (node : Node) (top : ℕ) (f x : Built) : Type 0 where
+  pub memory : 32768 ≤ length w
+  pub small : (f .len ≤ 128) × (x .len ≤ 128) × (x .wires ≤ 5632)
+  pub height : top + f .len + x .len ≤ 8448
+  pub apart : (node .kind ≡ 0x18 → ⊥) → (node .kind ≡ 0x17 → ⊥) → (x .len ≤ f .len) × Apart w (18944 + top + f .len) (18944 + top) (x .len) (x .wires)

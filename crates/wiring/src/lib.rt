@@ -19,7 +19,7 @@ ghost use Rattle.calculus.specs.Net.{turns, partSide};
 ghost use Rattle.records.specs.Forms.{recIn};
 ghost use Rattle.memory.specs.Map.{region, code};
 ghost use Rattle.wiring.specs.Wires.{wired, linked, links, Apart};
-ghost use Rattle.wiring.specs.Walk.{Here, Leaves, Showable, shown, boundIn, Opened, looped, closed, closedIn, Closable};
+ghost use Rattle.wiring.specs.Walk.{Here, Leaves, Showable, shown, boundIn, Opened, looped, closed, closedIn, Closable, halved, Between, middle, betweenIn, appliedIn, Finishable, finished, finishedIn};
 ghost use Rattle.wiring.specs.Faces.{sidesOf, Knows, Named, endOf, face};
 ghost use mathlib.Core.Bool.{false};
 
@@ -401,5 +401,103 @@ fn close(work: &mut [u16], node: Node, top: usize, l: usize, r: Built) -> Built
         next,
         elements,
         wires,
+    }
+}
+
+// The halves of a product of type t, whose interface stands at height `top`, are bound: the second is the nearer.
+fn bind_halves(s: &[u8], sizes: &[u8], work: &mut [u16], t: u8, scope: usize, top: usize)
+    requires { ⌜ (length (now sizes) ≡ 256) × (32768 ≤ length (now work)) × (scope + 1 < 128) × (top ≤ 8448) ⌝ }
+    ensures { λ _. ⌜ now (work .exit) ≡ halved (now (s .entry)) (now (sizes .entry)) (now (work .entry)) t scope top ⌝ }
+{
+    let x = sides_at(s, t);
+    let left = x.left;
+    let right = x.right;
+    let l = size_of(sizes, left);
+    bind(work, scope, left, 2 * top);
+    bind(work, scope + 1, right, 2 * (top + l));
+}
+
+// Between two subterms: a projection binds the two halves of the first.
+fn between(s: &[u8], sizes: &[u8], work: &mut [u16], node: Node, st: State, f: Built) -> State
+    requires { ⌜ Between (now sizes) (now work) st f ⌝ }
+    ensures { λ r. ⌜ (r ≡ middle node st f) × (now (work .exit) ≡ betweenIn (now (s .entry)) (now (sizes .entry)) (now (work .entry)) node st f) ⌝ }
+{
+    let next = f.next;
+    let elements = f.elements;
+    let wires = f.wires;
+    let top = st.top + f.len;
+    let scope = st.scope;
+    if node.kind == 0x18 {
+        bind_halves(s, sizes, work, f.ty, scope, st.top);
+        return State {
+            next,
+            elements,
+            wires,
+            top,
+            scope: scope + 2,
+        };
+    }
+    State {
+        next,
+        elements,
+        wires,
+        top,
+        scope,
+    }
+}
+
+// An argument's interface, of m bits, stands above the function's, of l bits: it is wired to the start of that, and the rest moved down.
+fn apply(work: &mut [u16], at: usize, l: usize, m: usize, wires: usize)
+    requires { ⌜ (m ≤ l) × (at + l ≤ length (now work)) × Apart (now work) (at + l) at m wires ⌝ }
+    ensures { λ _. ⌜ now (work .exit) ≡ appliedIn (now (work .entry)) at l m wires ⌝ }
+{
+    connect(work, at + l, at, m, wires);
+    copy(work, at + m, at, l - m);
+}
+
+// After two subterms, the second's interface above the first's: of a projection the body's is the result, of a pair both, of an
+// application the rest of the function's.
+fn finish(s: &[u8], work: &mut [u16], node: Node, top: usize, f: Built, x: Built) -> Built
+    requires { ⌜ Finishable (now work) node top f x ⌝ }
+    ensures { λ r. ⌜ (r ≡ finished (now (s .entry)) node f x) × (now (work .exit) ≡ finishedIn (now (work .entry)) node top f x) ⌝ }
+{
+    let first = node.first;
+    let l = f.len;
+    let of = f.ty;
+    let past = x.past;
+    let ty = x.ty;
+    let len = x.len;
+    let next = x.next;
+    let elements = x.elements;
+    let wires = x.wires;
+    if node.kind == 0x18 {
+        copy(work, STACK + top + l, STACK + top, len);
+        return Built {
+            past,
+            ty,
+            len,
+            next,
+            elements,
+            wires,
+        };
+    }
+    if node.kind == 0x17 {
+        return Built {
+            past,
+            ty: first,
+            len: l + len,
+            next,
+            elements,
+            wires,
+        };
+    }
+    apply(work, STACK + top, l, len, wires);
+    Built {
+        past,
+        ty: sides_at(s, of).right,
+        len: l - len,
+        next,
+        elements,
+        wires: wires + len,
     }
 }
