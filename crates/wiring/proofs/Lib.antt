@@ -7,3 +7,4 @@ mod LeafLaws
 mod BindLaws
 mod JoinLaws
 mod OneLaws
+mod TwoLaws
