@@ -8,3 +8,4 @@ mod BindLaws
 mod JoinLaws
 mod OneLaws
 mod TwoLaws
+mod FinishLaws

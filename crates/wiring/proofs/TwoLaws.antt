@@ -169,16 +169,16 @@ module _ {s sizes w : List ℕ} {node : Node} {st : State} (q : Here s sizes w n
 
     -- ---- between
 
-    abbrev left : ℕ
+    abbrev pub left : ℕ
     left = sidesOf (recIn s (f .ty)) .left
 
-    abbrev right : ℕ
+    abbrev pub right : ℕ
     right = sidesOf (recIn s (f .ty)) .right
 
-    abbrev bound : List ℕ
+    abbrev pub bound : List ℕ
     bound = Q .store .binders ++ left ∷ (2 * st .top) ∷ []
 
-    abbrev both-bound : List ℕ
+    abbrev pub both-bound : List ℕ
     both-bound = bound ++ right ∷ (2 * (st .top + getD sizes left 0)) ∷ []
 
     abbrev pub binders₂ : List ℕ
@@ -325,3 +325,33 @@ module _ {s sizes w : List ℕ} {node : Node} {st : State} (q : Here s sizes w n
 
           second-top : length (Q .store .stack ++ map code (x .side)) ≡ r .top
           second-top = omega (arith, length-append (Q .store .stack) (map code (x .side)), length-map (x .side) code, Q .top, middle-is .3)
+
+      module _ {b : Built} {w₃ : List ℕ} (K : Leaves second-asks b w₃) where
+        pub second-holds : Holds w₃ (after store₂ y)
+        unfolding second-asks
+        second-holds = rw second-is at (K .holds)
+
+        pub second-left : (b .past ≡ f .past + length (termBytes (both .second))) × (b .ty < length Θ) × (tree Θ (b .ty) ≡ both .type₂) × (b .len ≡ length (y .side)) × (b .next ≡ y .next)
+            × (b .elements ≡ st .elements + length (x .elements) + length (y .elements)) × (b .wires ≡ st .wires + length (x .wires) + length (y .wires))
+        unfolding second-asks
+        second-left = (
+          K .past,
+          K .named,
+          K .type,
+          K .len ∙ ap (λ (m : Made). length (m .side)) second-is,
+          K .next ∙ ap (λ (m : Made). m .next) second-is,
+          omega (arith, K .elements, ap (λ (m : Made). length (m .elements)) second-is, middle-is .1),
+          omega (arith, K .wires, ap (λ (m : Made). length (m .wires)) second-is, middle-is .2),
+        )
+
+  pub second-type : y .type ≡ both .type₂
+  second-type = made-type (both .typed₂) (both .env₂) (both .fits₂) (x .next)
+
+  pub second-length : length (y .side) ≡ size (both .type₂)
+  second-length = made-side (both .typed₂) (both .env₂) (both .fits₂) (x .next) ∙ ap size second-type
+
+  pub first-dirs : dirs (x .side) ≡ turns false (both .type)
+  first-dirs = term-driven (both .typed) (Q .env) (both .fits) n .dirs
+
+  pub second-dirs : dirs (y .side) ≡ turns false (both .type₂)
+  second-dirs = term-driven (both .typed₂) (both .env₂) (both .fits₂) (x .next) .dirs
