@@ -9,3 +9,4 @@ mod JoinLaws
 mod OneLaws
 mod TwoLaws
 mod FinishLaws
+mod StepLaws

@@ -18,6 +18,7 @@ use Rattle.records.specs.Heads.{nodeOf}
 use Rattle.records.specs.Forms.{recIn}
 use Rattle.records.specs.declared.Node.{Node}
 use Rattle.memory.specs.Map.{region, code, kindOf}
+use Rattle.sheet_theorems.proofs.Standing.{stands-in}
 use Rattle.circuit_theorems.specs.Drive.{driveAll}
 use Rattle.circuit_theorems.specs.Terminals.{terminals}
 use Rattle.circuit_theorems.proofs.Bounds.{next-is, made-side, made-type, join-length}
@@ -156,6 +157,13 @@ module _ {s sizes w : List ℕ} {node : Node} {st : State} (q : Here s sizes w n
         × (f .elements ≡ st .elements + length (x .elements)) × (f .wires ≡ st .wires + length (x .wires))
     unfolding first-asks
     first-left = (L .past, L .named, L .type, L .len, L .next, L .elements, L .wires)
+
+    -- the second stands past the first record
+    pub first-past : (node .next ≤ f .past) × (f .past < length s)
+    first-past = (
+      omega (arith, first-left .0),
+      stands-in (subst (λ (k : ℕ). Stands s k (both .second)) (sym (first-left .0 ∙ ap (λ (k : ℕ). k + length (termBytes (both .first))) next-at)) (both .stands-second)),
+    )
 
     pub first-small : f .len ≤ 128
     first-small = omega (arith, first-left .3, first-length, ap size (first-left .2), Q .knows .ok .small (f .ty))

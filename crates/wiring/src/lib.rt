@@ -6,6 +6,7 @@ use memory::STACK;
 use memory::TARGETS;
 use records::Form;
 use records::Node;
+use records::Record;
 ghost use mathlib.Core.Path.{_≡_};
 ghost use mathlib.Core.Bool.{cond};
 ghost use mathlib.Core.Logic.{_⊎_};
@@ -19,7 +20,7 @@ ghost use Rattle.calculus.specs.Net.{turns, partSide};
 ghost use Rattle.records.specs.Forms.{recIn};
 ghost use Rattle.memory.specs.Map.{region, code};
 ghost use Rattle.wiring.specs.Wires.{wired, linked, links, Apart};
-ghost use Rattle.wiring.specs.Walk.{Here, Leaves, Showable, shown, boundIn, Opened, looped, closed, closedIn, Closable, halved, Between, middle, betweenIn, appliedIn, Finishable, finished, finishedIn};
+ghost use Rattle.wiring.specs.Walk.{Asks, Here, Leaves, Showable, shown, boundIn, Opened, looped, closed, closedIn, Closable, halved, Between, middle, betweenIn, appliedIn, Finishable, finished, finishedIn};
 ghost use Rattle.wiring.specs.Faces.{sidesOf, Knows, Named, endOf, face};
 ghost use mathlib.Core.Bool.{false};
 
@@ -500,4 +501,37 @@ fn finish(s: &[u8], work: &mut [u16], node: Node, top: usize, f: Built, x: Built
         elements,
         wires: wires + len,
     }
+}
+
+// The walk: what a term makes, its interface on the stack at the height on entry. The falling number is the bytes left.
+pub fn make(s: &[u8], sizes: &[u8], work: &mut [u16], at: usize, st: State) -> Built
+    requires { ⌜ Asks (now s) (now sizes) (now work) at st ⌝ }
+    ensures { λ r. ⌜ ((q : Asks (now (s .entry)) (now (sizes .entry)) (now (work .entry)) at st) → Leaves q r (now (work .exit))) ⌝ }
+{
+    let top = st.top;
+    let Record::Node(node) = records::record_at(s, at) else {
+        return Built {
+            past: at,
+            ty: 0,
+            len: 0,
+            next: 0,
+            elements: 0,
+            wires: 0,
+        };
+    };
+    let next = node.next;
+    if node.subterms == 0 {
+        return leaf(s, sizes, work, node, st);
+    }
+    if node.subterms == 1 {
+        let inner = open(s, sizes, work, node, st);
+        let l = inner.top - top;
+        let r = make(s, sizes, work, next, inner);
+        return close(work, node, top, l, r);
+    }
+    let f = make(s, sizes, work, next, st);
+    let past = f.past;
+    let middle = between(s, sizes, work, node, st, f);
+    let x = make(s, sizes, work, past, middle);
+    finish(s, work, node, top, f, x)
 }
