@@ -10,3 +10,4 @@ mod OneLaws
 mod TwoLaws
 mod FinishLaws
 mod StepLaws
+mod CountLaws

@@ -3,3 +3,4 @@ pub mod Faces
 pub mod Store
 pub mod Walk
 pub mod Nodes
+pub mod Count

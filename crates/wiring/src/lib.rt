@@ -16,11 +16,12 @@ ghost use lib.ListN.{length, getD, take, drop, replicate};
 ghost use lib.Seq.{sets};
 ghost use Rattle.calculus.specs.Types.{tree, size};
 ghost use Rattle.calculus.specs.Terms.{partAt};
-ghost use Rattle.calculus.specs.Net.{turns, partSide};
+ghost use Rattle.calculus.specs.Net.{turns, partSide, make};
 ghost use Rattle.records.specs.Forms.{recIn};
 ghost use Rattle.memory.specs.Map.{region, code};
 ghost use Rattle.wiring.specs.Wires.{wired, linked, links, Apart};
 ghost use Rattle.wiring.specs.Walk.{Asks, Here, Leaves, Showable, shown, boundIn, Opened, looped, closed, closedIn, Closable, halved, Between, middle, betweenIn, appliedIn, Finishable, finished, finishedIn};
+ghost use Rattle.wiring.specs.Count.{ownIn, Counting};
 ghost use Rattle.wiring.specs.Faces.{sidesOf, Knows, Named, endOf, face};
 ghost use mathlib.Core.Bool.{false};
 
@@ -534,4 +535,39 @@ pub fn make(s: &[u8], sizes: &[u8], work: &mut [u16], at: usize, st: State) -> B
     let middle = between(s, sizes, work, node, st, f);
     let x = make(s, sizes, work, past, middle);
     finish(s, work, node, top, f, x)
+}
+
+// ---- whole sheets
+
+// The terminals that one record makes.
+fn own_terminals(s: &[u8], sizes: &[u8], node: Node) -> usize
+    requires { ⌜ length (now sizes) ≡ 256 ⌝ }
+    ensures { λ r. ⌜ r ≡ ownIn (now (s .entry)) (now (sizes .entry)) node ⌝ }
+{
+    if node.kind == 0x1A {
+        return inputs_of(node.first) + 1;
+    }
+    if node.subterms == 1 {
+        return 2 * size_of(sizes, bound(s, node));
+    }
+    0
+}
+
+// The terminals of the term at an offset, which has so many nodes. They can be more than 8,192.
+pub fn count(s: &[u8], sizes: &[u8], from: usize, nodes: usize) -> usize
+    requires { ⌜ Counting (now s) (now sizes) from nodes ⌝ }
+    ensures { λ r. ⌜ ((q : Counting (now (s .entry)) (now (sizes .entry)) from nodes) → r ≡ make (q .table) (q .term) [] 0 .next) ⌝ }
+{
+    let mut at = from;
+    let mut left = nodes;
+    let mut total: usize = 0;
+    while left > 0 {
+        let Record::Node(node) = records::record_at(s, at) else {
+            return total;
+        };
+        at = node.next;
+        total = total + own_terminals(s, sizes, node);
+        left = left - 1;
+    }
+    total
 }
