@@ -1,16 +1,16 @@
 -- Laws of the stack of binders over its three arrays. Assumes nothing.
 use Prim.Native.Nat.{ℕ, zero, suc, _+_, _-_, _<_, _≤_}
-use mathlib.Core.Path.{_≡_, refl, sym, ap, _∙_}
-use mathlib.Core.Bool.{Bool, true, false, not}
-use mathlib.Core.List.{List, [], _∷_}
+use mathlib.Core.Path.{_≡_, refl, ap}
+use mathlib.Core.Bool.{true, false, not}
+use mathlib.Core.List.{List, _∷_}
 use native.Mathlib.Omega.{arith}
 use native.Mathlib.Numerals.{add-one}
 use borrow.Author.Tests.{ne-eqb}
 use lib.Dec.{eqb}
 use lib.ListN.{length, getD, set, drop}
 use lib.Seq.{getD-set-same, getD-set-other}
-use Rattle.calculus.specs.Answer.{Answer, good, refused}
-use Rattle.calculus.specs.Walk.{Binder, shared, linear, Stack, Found, found, under, useShared, useLinear, topUsed}
+use Rattle.calculus.specs.Answer.{refused}
+use Rattle.calculus.specs.Walk.{found, useShared, useLinear, topUsed}
 use Rattle.binders.specs.declared.Binders.{Binders}
 use Rattle.binders.specs.Stacks.{isUsed, binderOf, stackFrom, stackOf}
 

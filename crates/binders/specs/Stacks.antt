@@ -3,7 +3,7 @@ use Prim.Native.Nat.{ℕ, zero, suc}
 use mathlib.Core.Bool.{Bool, true, false}
 use mathlib.Core.List.{List, [], _∷_}
 use lib.ListN.{getD}
-use Rattle.calculus.specs.Answer.{Answer, good, refused}
+use Rattle.calculus.specs.Answer.{Answer, refused}
 use Rattle.calculus.specs.Walk.{Binder, shared, linear, Stack, Found, found}
 use Rattle.binders.specs.declared.Binders.{Binders}
 use Rattle.binders.specs.declared.Use.{Use}

@@ -4,7 +4,7 @@ use mathlib.Core.Path.{_≡_, refl, ap, sym, _∙_}
 use mathlib.Core.List.{List, _++_}
 use Prim.Native.Nat.{ℕ, _+_, _-_, _≤_, _<_}
 use native.Mathlib.Omega.{arith}
-use lib.ListN.{length, set, drop, replicate, length-append, length-replicate, length-drop}
+use lib.ListN.{length, getD, set, drop, replicate, length-append, length-replicate, length-drop, getD-replicate, List·getD-append}
 use lib.Seq.{drop-at}
 use Rattle.calculus.specs.Translate.{zeroed}
 
@@ -24,3 +24,11 @@ zeroed-length n w h = rw (length-append, length-replicate, length-drop) (omega a
 pub zeroed-same : (n : ℕ) (v w : List ℕ) → drop n v ≡ drop n w → zeroed n v ≡ zeroed n w
 unfolding zeroed
 zeroed-same n v w e = ap (λ (x : List ℕ). replicate n 0 ++ x) e
+
+pub zeroed-zeros : (n : ℕ) (w : List ℕ) (i : ℕ) → i < n → getD (zeroed n w) i 0 ≡ 0
+unfolding zeroed
+zeroed-zeros n w i h = List·getD-append (replicate n 0) (drop n w) 0 i (rw length-replicate h) ∙ getD-replicate n i 0 0 h
+
+pub zeroed-later : (n : ℕ) (w : List ℕ) → drop n (zeroed n w) ≡ drop n w
+unfolding zeroed
+zeroed-later n w = drop-at (replicate n 0) (drop n w) n (length-replicate n 0)

@@ -18,9 +18,13 @@ two-bytes n h = (omega arith, (omega arith, tt))
 pub two-back : (n : ℕ) → n % 256 + 256 * (n / 256) ≡ n
 two-back n = omega (arith, div-add-mod' n 256)
 
-pub bytes-append : (xs ys : List ℕ) → Bytes xs → Bytes ys → Bytes (xs ++ ys)
-bytes-append [] ys p q = q
-bytes-append (x ∷ xs) ys p q = (p .0, bytes-append xs ys (p .1) q)
+-- what holds of all of two lists holds of all of both
+pub all-append : {A : Type 0} (P : A → Type 0) (xs ys : List A) → All P xs → All P ys → All P (xs ++ ys)
+all-append P [] ys p q = q
+all-append P (x ∷ xs) ys p q = (p .0, all-append P xs ys (p .1) q)
+
+bytes-append : (xs ys : List ℕ) → Bytes xs → Bytes ys → Bytes (xs ++ ys)
+bytes-append xs ys p q = all-append (λ b. b < 256) xs ys p q
 
 -- ---- numbers that fit
 

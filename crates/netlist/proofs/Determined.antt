@@ -1,15 +1,11 @@
 -- Each public function's contract determines its result, and the output where it writes to one: two results that it allows for one
 -- call are equal. Assumes nothing.
-use mathlib.Core.Path.{_≡_, refl, ap, sym, _∙_}
-use mathlib.Core.List.{List}
+use mathlib.Core.Path.{_≡_, ap, sym, _∙_}
 use Prim.Native.Nat.{ℕ}
-use contract.Lifetimes.{Lfts}
-use denote.Triple.Clauses.{AtExit}
-use borrow.Fn.Kind.{PK, RK}
-use borrow.Fn.Kinds.{Out, Dens, resT, endedOf}
 use Rattle.netlist.specs.declared.Terminal.{Terminal}
 use Rattle.netlist.specs.declared.Terminal.the-variants.{Input, Output}
 use Rattle.netlist.specs.Said.{saidTerminal}
+use Rattle.netlist.proofs.OneResult.{Result, Results}
 use Rattle.netlist.proofs.terminal_of.Kinds as terminal-of
 use Rattle.netlist.proofs.terminal_of.Reads as terminal-of-reads
 use Rattle.netlist.proofs.code_of.Kinds as code-of
@@ -26,21 +22,12 @@ use Rattle.netlist.proofs.put_wire.Kinds as put-wire
 use Rattle.netlist.proofs.put_wire.Reads as put-wire-reads
 use Rattle.netlist.proofs.put_pin.Kinds as put-pin
 use Rattle.netlist.proofs.put_pin.Reads as put-pin-reads
+use Rattle.netlist.proofs.inputs_of.Kinds as inputs-of
+use Rattle.netlist.proofs.inputs_of.Reads as inputs-of-reads
 use Rattle.netlist.proofs.full_length.Kinds as full-length
 use Rattle.netlist.proofs.full_length.Reads as full-length-reads
 use Rattle.netlist.proofs.write_full.Kinds as write-full
 use Rattle.netlist.proofs.write_full.Reads as write-full-reads
-
-module _ {n : ℕ} (ps : List (PK n)) (r : RK n) (Post : Out n ps r) where
-  -- the result
-  abbrev Result : Type 0
-  Result = (κs : Lfts n) (a : Dens κs ps) (x y : resT r κs .Denot) (s t : AtExit (endedOf n ps r) κs) → Post κs a x s → Post κs a y t → x ≡ y
-
-  -- the result, and the bytes of the output as the function returns
-  abbrev Results : ((κs : Lfts n) → AtExit (endedOf n ps r) κs → List ℕ) → Type 0
-  Results bytes =
-      (κs : Lfts n) (a : Dens κs ps) (x y : resT r κs .Denot) (s t : AtExit (endedOf n ps r) κs) → Post κs a x s → Post κs a y t
-      → (x ≡ y) × (bytes κs s ≡ bytes κs t)
 
 one-terminal : (x y : Terminal) → saidTerminal x ≡ saidTerminal y → x ≡ y
 one-terminal (Input i) (Input j) e = let h : i .0 ≡ j .0 = cc in ap (λ (x : ℕ). Input (record { 0 = x })) h
@@ -71,6 +58,9 @@ put-wire-determined κs a x y s t f g = (f .0 ∙ sym (g .0), f .1 ∙ sym (g .1
 
 pub put-pin-determined : Results put-pin.ps put-pin.r put-pin-reads.Post (λ κs s. s .0 .now)
 put-pin-determined κs a x y s t f g = (f .0 ∙ sym (g .0), f .1 ∙ sym (g .1))
+
+pub inputs-of-determined : Result inputs-of.ps inputs-of.r inputs-of-reads.Post
+inputs-of-determined κs a x y s t f g = f ∙ sym g
 
 pub full-length-determined : Result full-length.ps full-length.r full-length-reads.Post
 full-length-determined κs a x y s t f g = f ∙ sym g

@@ -117,7 +117,8 @@ module _ (ks : List ℕ) (i : ℕ) where
   -- never more than all
   pub bytes-within : (d : ℕ) → length (firstBytes ks i) ≤ length (firstBytes ks (i + d))
   bytes-within d =
-      rw (take-add i d ks, kinds-append (take i ks) (take d (drop i ks)) 0, elements-append (elementsFrom (take i ks) 0) (elementsFrom (take d (drop i ks)) (firstAfter ks i)), length-append (firstBytes ks i) (elementBytes (elementsFrom (take d (drop i ks)) (firstAfter ks i))))
+      let rest = elementsFrom (take d (drop i ks)) (firstAfter ks i) in
+      rw (take-add i d ks, kinds-append (take i ks) (take d (drop i ks)) 0, elements-append (elementsFrom (take i ks) 0) rest, length-append (firstBytes ks i) (elementBytes rest))
       (omega arith)
 
   pub after-within : (d : ℕ) → firstAfter ks i ≤ firstAfter ks (i + d)

@@ -5,4 +5,6 @@ pub mod PartInputs
 pub mod Targets
 pub mod InMemory
 pub mod Whole
+pub mod KnownParts
+pub mod OneResult
 pub mod Determined

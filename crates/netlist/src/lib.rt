@@ -103,8 +103,8 @@ pub fn put_pin(out: &mut [u8], at: usize, t: Terminal) -> usize
     put_two(out, at + 1, n)
 }
 
-// A part's number of inputs.
-fn inputs_of(kind: u8) -> u16
+// A part's number of inputs; none where there is no such part.
+pub fn inputs_of(kind: u8) -> u16
     ensures { λ r. ⌜ r ≡ partAt kind .inputs ⌝ }
 {
     match parts::part_at(kind) {

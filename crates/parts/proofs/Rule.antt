@@ -1,17 +1,18 @@
 -- The rule of the table of parts, by one test over the whole table: each entry is document 01's. Assumes nothing.
-use mathlib.Core.Path.{_≡_, refl, sym, ap, _∙_}
+use mathlib.Core.Path.{_≡_, refl}
 use mathlib.Core.Bool.{Bool, true, false, _&&_}
 use mathlib.Core.List.{List, [], _∷_}
-use Prim.Native.Nat.{ℕ, _<_, _≤_}
+use Prim.Native.Nat.{ℕ, zero, suc, _<_, _≤_}
 use native.Mathlib.Omega.{arith}
-use borrow.Author.Tests.{lt-ltb, le-ltb}
-use lib.Dec.{T, eqb, eqb→eq}
-use lib.ListN.{length, getD}
-use Rattle.calculus.specs.Types.{Ty, bit, prod, arrow, lolli, tyEq}
+use borrow.Author.Tests.{lt-ltb, le-ltb, ltb-true, ltb-false}
+use lib.Dec.{T, eqb, ltb, leb, eqb→eq, leb→le}
+use lib.ListN.{getD, List·getD-eq-default}
+use Rattle.calculus.specs.Types.{Ty, bit, prod, arrow, lolli, size, tyEq}
+use Rattle.calculus.specs.Terms.{parts, partAt}
 use Rattle.laws.proofs.Tests.{and-both}
 use Rattle.laws.proofs.Below.{below}
 use Rattle.parts.specs.declared.Part.{Part}
-use Rattle.parts.specs.Table.{Entry, listed, unlisted, saidPart, entryOf, named}
+use Rattle.parts.specs.Table.{Entry, listed, unlisted, saidPart, entryOf, named, shapeTy}
 
 abbrev part : ℕ → ℕ → ℕ → Part
 part i o k = record { inputs = i; outputs = o; shape = k }
@@ -62,3 +63,25 @@ named-part p h = rw (lt-ltb p 7 h, right p h)
 pub named-none : (p : ℕ) → 7 ≤ p → unlisted ≡ named p
 unfolding named
 named-none p h = rw (le-ltb p 7 h)
+
+-- ---- no part has more than two arrows
+
+few-type : (p : ℕ) → p < 7 → size (partAt p .type) ≤ 3
+few-type p h = leb→le _ _ (below 7 (λ k. leb (size (partAt k .type)) 3) tt p h)
+
+past-few : (p : ℕ) → 7 ≤ p → size (partAt p .type) ≤ 3
+past-few p h = rw (List·getD-eq-default parts (partAt 0) {n = p} h) (omega arith)
+
+part-few : (p : ℕ) → size (partAt p .type) ≤ 3
+part-few p = by-cases (ltb p 7) refl
+  where
+    by-cases : (t : Bool) → ltb p 7 ≡ t → size (partAt p .type) ≤ 3
+    by-cases true e = few-type p (ltb-true p 7 e)
+    by-cases false e = past-few p (ltb-false p 7 e)
+
+pub shape-size : (k : ℕ) → size (shapeTy k) ≡ suc k
+shape-size zero = refl
+shape-size (suc k) = rw (shape-size k) (omega arith)
+
+pub few-arrows : (p k : ℕ) → shapeTy k ≡ partAt p .type → k ≤ 2
+few-arrows p k e = let h : size (shapeTy k) ≤ 3 = rw e (part-few p) in omega (arith, shape-size k)

@@ -2,14 +2,10 @@
 use Rattle.binders.proofs.Laws.{left, left-all}
 use Rattle.binders.proofs.leave.Statement.{statement}
 use Rattle.binders.proofs.leave.Tie as tie
-use Rattle.binders.proofs.leave.Reads as reads
-use Rattle.binders.proofs.leave.Lts as lts
 
--- src/lib.rt:55:1
 returns : tie.Need-returns
 returns c = left-all _ _ _ _ _ (c .if1 .taken)
 
--- src/lib.rt:55:1
 returns-2 : tie.Need-returns-2
 returns-2 c = left _ _ _ _ _ (c .if1 .left)
 

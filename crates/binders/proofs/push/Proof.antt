@@ -1,32 +1,24 @@
 -- `binders::push` meets its contract: the stores are past the binders in scope. Assumes nothing.
 use native.Mathlib.Omega.{arith}
-use Prim.Native.Nat.{ℕ, suc, _+_, _-_, _<_}
-use mathlib.Core.Path.{_≡_, refl, sym, _∙_}
+use mathlib.Core.Path.{_≡_}
 use lib.ListN.{length}
 use Rattle.binders.proofs.Laws.{pushed}
 use borrow.Author.Needs.{needs}
 use Rattle.binders.proofs.push.Statement.{statement}
 use Rattle.binders.proofs.push.Tie as tie
-use Rattle.binders.proofs.push.Reads as reads
-use Rattle.binders.proofs.push.Lts as lts
 
--- src/lib.rt:47:5
 element-write-next : tie.Need-element-write-next
 element-write-next c = search needs
 
--- src/lib.rt:48:5
 element-write-next-2 : tie.Need-element-write-next-2
 element-write-next-2 c = search needs
 
--- src/lib.rt:49:5
 element-write-next-3 : tie.Need-element-write-next-3
 element-write-next-3 c = search needs
 
--- src/lib.rt:50:18
 add-next : tie.Need-add-next
 add-next c = search needs
 
--- src/lib.rt:41:1
 returns : tie.Need-returns
 returns c =
     let b = c .args .b in

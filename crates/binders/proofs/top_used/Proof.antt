@@ -6,32 +6,24 @@ use Rattle.binders.proofs.Laws.{top-none, top-shared, top-linear, mark-
 use borrow.Author.Needs.{needs}
 use Rattle.binders.proofs.top_used.Statement.{statement}
 use Rattle.binders.proofs.top_used.Tie as tie
-use Rattle.binders.proofs.top_used.Reads as reads
-use Rattle.binders.proofs.top_used.Lts as lts
 
--- src/lib.rt:75:9
 returns : tie.Need-returns
 returns c = top-none _ _ _ _ (c .if1 .taken)
 
--- src/lib.rt:77:14
 sub-at : tie.Need-sub-at
 sub-at c = search needs
 
--- src/lib.rt:78:8
 element-copy-out-if2 : tie.Need-element-copy-out-if2
 element-copy-out-if2 c = search needs
 
--- src/lib.rt:79:9
 returns-2 : tie.Need-returns-2
 returns-2 c =
     let b = c .before .before .before .args .t1 in
     top-shared (b .types) (b .sorts) (b .used) (b .count) (c .before .before .if1 .left) (c .if2 .taken)
 
--- src/lib.rt:81:5
 element-copy-out-result : tie.Need-element-copy-out-result
 element-copy-out-result c = search needs
 
--- src/lib.rt:69:1
 returns-3 : tie.Need-returns-3
 returns-3 c =
     let b = c .before .before .before .before .args .t1 in

@@ -1,32 +1,25 @@
 -- `binders::use_linear` meets its contract: by the count, the sort and the mark of the binder. Assumes nothing.
 use native.Mathlib.Omega.{arith}
-use Prim.Native.Nat.{ℕ, suc, _+_, _-_, _<_}
-use mathlib.Core.Path.{_≡_, refl, sym, _∙_}
+use Prim.Native.Nat.{suc, _+_, _-_, _<_}
+use mathlib.Core.Path.{_≡_}
 use lib.ListN.{getD, length}
 use Rattle.binders.proofs.Laws.{linear-out, linear-shared, linear-used, linear-type}
 use borrow.Author.Needs.{needs}
 use Rattle.binders.proofs.use_linear.Statement.{statement}
 use Rattle.binders.proofs.use_linear.Tie as tie
-use Rattle.binders.proofs.use_linear.Reads as reads
-use Rattle.binders.proofs.use_linear.Lts as lts
 
--- src/lib.rt:107:9
 returns : tie.Need-returns
 returns c n = linear-out _ _ _ n _ _ (c .if1 .taken)
 
--- src/lib.rt:112:14
 sub-at : tie.Need-sub-at
 sub-at c = search needs
 
--- src/lib.rt:112:14
 sub-at-2 : tie.Need-sub-at-2
 sub-at-2 c = search needs
 
--- src/lib.rt:113:8
 element-copy-out-if2 : tie.Need-element-copy-out-if2
 element-copy-out-if2 c = search needs
 
--- src/lib.rt:114:9
 returns-2 : tie.Need-returns-2
 returns-2 c n =
     let b = c .before .before .before .args .t1 in
@@ -35,11 +28,9 @@ returns-2 c n =
     let e : b .count - 1 - i + suc i ≡ b .count = omega arith in
     linear-shared (b .types) (b .sorts) (b .used) n (b .count) i (b .count - 1 - i) e (c .if2 .taken)
 
--- src/lib.rt:119:8
 element-copy-out-if3 : tie.Need-element-copy-out-if3
 element-copy-out-if3 c = search needs
 
--- src/lib.rt:120:9
 returns-3 : tie.Need-returns-3
 returns-3 c n =
     let b = c .before .before .before .before .before .args .t1 in
@@ -48,15 +39,12 @@ returns-3 c n =
     let e : b .count - 1 - i + suc i ≡ b .count = omega arith in
     linear-used (b .types) (b .sorts) (b .used) n (b .count) i (b .count - 1 - i) (getD (b .sorts) (b .count - 1 - i) 0 - 1) (getD (b .used) (b .count - 1 - i) 0 - 1) e (omega (arith, c .before .before .if2 .left)) (omega (arith, c .if3 .taken))
 
--- src/lib.rt:126:5
 element-write-next : tie.Need-element-write-next
 element-write-next c = search needs
 
--- src/lib.rt:128:27
 element-copy-out-t13 : tie.Need-element-copy-out-t13
 element-copy-out-t13 c = search needs
 
--- src/lib.rt:101:1
 returns-4 : tie.Need-returns-4
 returns-4 c n =
     let b = c .before .before .before .before .before .before .args .t1 in

@@ -1,32 +1,25 @@
 -- `binders::use_shared` meets its contract: by the count and the sort of the binder. Assumes nothing.
 use native.Mathlib.Omega.{arith}
-use Prim.Native.Nat.{ℕ, suc, _+_, _-_, _<_}
-use mathlib.Core.Path.{_≡_, refl, sym, _∙_}
+use Prim.Native.Nat.{suc, _+_, _-_, _<_}
+use mathlib.Core.Path.{_≡_}
 use lib.ListN.{getD}
 use Rattle.binders.proofs.Laws.{shared-out, shared-linear, shared-type}
 use borrow.Author.Needs.{needs}
 use Rattle.binders.proofs.use_shared.Statement.{statement}
 use Rattle.binders.proofs.use_shared.Tie as tie
-use Rattle.binders.proofs.use_shared.Reads as reads
-use Rattle.binders.proofs.use_shared.Lts as lts
 
--- src/lib.rt:91:9
 returns : tie.Need-returns
 returns c n = shared-out _ _ _ n _ _ (c .if1 .taken)
 
--- src/lib.rt:93:14
 sub-at : tie.Need-sub-at
 sub-at c = search needs
 
--- src/lib.rt:93:14
 sub-at-2 : tie.Need-sub-at-2
 sub-at-2 c = search needs
 
--- src/lib.rt:94:8
 element-copy-out-if2 : tie.Need-element-copy-out-if2
 element-copy-out-if2 c = search needs
 
--- src/lib.rt:95:9
 returns-2 : tie.Need-returns-2
 returns-2 c n =
     let b = c .before .before .before .args .t1 in
@@ -35,11 +28,9 @@ returns-2 c n =
     let e : b .count - 1 - i + suc i ≡ b .count = omega arith in
     shared-linear (b .types) (b .sorts) (b .used) n (b .count) i (b .count - 1 - i) (getD (b .sorts) (b .count - 1 - i) 0 - 1) e (omega (arith, c .if2 .taken))
 
--- src/lib.rt:97:15
 element-copy-out-t10 : tie.Need-element-copy-out-t10
 element-copy-out-t10 c = search needs
 
--- src/lib.rt:85:1
 returns-3 : tie.Need-returns-3
 returns-3 c n =
     let b = c .before .before .before .before .args .t1 in

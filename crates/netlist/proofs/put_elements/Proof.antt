@@ -43,7 +43,8 @@ loop-again c =
     let put = c .before .before .before .put-element in
     let w = a .work .now in
     let lt : 13824 + l .i < length w = omega arith in
-    let e = element-length w 13824 (l .i) lt in (
+    let e = element-length w 13824 (l .i) lt in
+    let more = record-more (a .out .now) (firstBytes (drop 13824 w) (l .i)) _ _ (a .from) (l .at) (l .inv .1 .0) (element-more w 13824 (l .i) lt) in (
       omega arith,
       (
         omega (arith, put .ensures .0),
@@ -51,7 +52,7 @@ loop-again c =
           c .next-after .ensures ∙ rw (l .inv .1 .1 .0) (sym (element-after w 13824 (l .i) lt)),
           (
             put .kept .0 ∙ l .inv .1 .1 .1 .0,
-            put .ensures .1 ∙ rw (l .inv .1 .1 .1 .1, l .inv .1 .1 .0) (record-more (a .out .now) (firstBytes (drop 13824 w) (l .i)) _ _ (a .from) (l .at) (l .inv .1 .0) (element-more w 13824 (l .i) lt)),
+            put .ensures .1 ∙ rw (l .inv .1 .1 .1 .1, l .inv .1 .1 .0) more,
           ),
         ),
       ),

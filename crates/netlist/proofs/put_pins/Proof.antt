@@ -30,13 +30,14 @@ loop-again c =
     let l = c .before .before .before .before .before .before .before .loop in
     let put = c .before .before .put-pin in
     let w = a .work .now in
-    let n = pins-first w 18944 (l .i) (omega arith) in (
+    let n = pins-first w 18944 (l .i) (omega arith) in
+    let more = record-more (a .out .now) (pinBytes (map terminalOf (region w 18944 (l .i)))) _ _ (a .from) (l .at) (omega arith) (pins-more w 18944 (l .i) (omega arith)) in (
       omega arith,
       (
         omega (arith, put .ensures .0),
         (
           put .kept .0 ∙ l .inv .1 .1 .0,
-          put .ensures .1 ∙ rw (l .inv .1 .1 .1, c .before .before .before .terminal-of .ensures) (record-more (a .out .now) (pinBytes (map terminalOf (region w 18944 (l .i)))) _ _ (a .from) (l .at) (omega arith) (pins-more w 18944 (l .i) (omega arith))),
+          put .ensures .1 ∙ rw (l .inv .1 .1 .1, c .before .before .before .terminal-of .ensures) more,
         ),
       ),
     )

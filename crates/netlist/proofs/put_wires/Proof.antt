@@ -41,13 +41,14 @@ loop-again c =
     let l = c .before .before .before .before .before .before .before .loop in
     let put = c .before .before .put-wire in
     let w = a .work .now in
-    let n = wires-first w 8192 (l .i) (omega arith) in (
+    let n = wires-first w 8192 (l .i) (omega arith) in
+    let more = record-more (a .out .now) (wireBytes (wiresFrom w (region w 8192 (l .i)))) _ _ (a .from) (l .at) (omega arith) (wires-more w 8192 (l .i) (omega arith)) in (
       omega arith,
       (
         omega (arith, put .ensures .0),
         (
           put .kept .0 ∙ l .inv .1 .1 .0,
-          put .ensures .1 ∙ rw (l .inv .1 .1 .1, zero-add) (record-more (a .out .now) (wireBytes (wiresFrom w (region w 8192 (l .i)))) _ _ (a .from) (l .at) (omega arith) (wires-more w 8192 (l .i) (omega arith))),
+          put .ensures .1 ∙ rw (l .inv .1 .1 .1, zero-add) more,
         ),
       ),
     )

@@ -3,22 +3,16 @@ use Rattle.parts.proofs.Rule.{named-part, named-none}
 use borrow.Author.Needs.{needs}
 use Rattle.parts.proofs.part_at.Statement.{statement}
 use Rattle.parts.proofs.part_at.Tie as tie
-use Rattle.parts.proofs.part_at.Reads as reads
-use Rattle.parts.proofs.part_at.Lts as lts
 
--- src/lib.rt:63:21
 mul-t13 : tie.Need-mul-t13
 mul-t13 c = search needs
 
--- src/lib.rt:63:21
 array-copy-out-t16 : tie.Need-array-copy-out-t16
 array-copy-out-t16 c = search needs
 
--- src/lib.rt:58:1
 returns : tie.Need-returns
 returns c = named-part (c .before .before .args .p) (c .before .if1 .taken)
 
--- src/lib.rt:58:1
 returns-2 : tie.Need-returns-2
 returns-2 c = named-none (c .before .args .p) (c .if1 .left)
 

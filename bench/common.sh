@@ -1,0 +1,46 @@
+# Sourced by the scripts of this folder and of examples/callers, in the repository's root: the
+# archive of the proved translator, the processor it is for, and tools that may have to be installed.
+archive=target/staticlib/libtranslator.a
+
+# need COMMAND PACKAGE: install a Debian package where its command is missing
+need() {
+    command -v "$1" >/dev/null && return
+    echo "installing $2 for $1" >&2
+    { apt-get update && apt-get install -y --no-install-recommends "$2"; } >/dev/null ||
+        { echo "this needs $1 (Debian package $2)" >&2; exit 2; }
+}
+
+for tool in cargo gcc readelf; do
+    command -v "$tool" >/dev/null || { echo "this needs $tool on the PATH" >&2; exit 2; }
+done
+
+if [ ! -f "$archive" ]; then
+    command -v rt >/dev/null || { echo "this needs rt on the PATH, to make $archive" >&2; exit 2; }
+    rt staticlib translator >&2
+fi
+
+# native: whether the archive is for this machine. cc and emulator make and run programs for it.
+case $(readelf -h "$archive" 2>/dev/null | sed -n 's/^ *Machine: *//p' | head -n 1) in
+    *X86-64) for_processor=x86_64 ;;
+    AArch64) for_processor=aarch64 ;;
+    *) echo "$archive is for a processor that this script does not know" >&2; exit 2 ;;
+esac
+if [ "$for_processor" = "$(uname -m)" ]; then
+    native=yes cc=gcc emulator='' static=''
+else
+    native=no cc=$for_processor-linux-gnu-gcc emulator=qemu-$for_processor static=-static
+    need "$cc" "gcc-$(echo "$for_processor" | tr _ -)-linux-gnu"
+    # the toolchain runs its own programs under an emulator that stands beside its compiler
+    kit=$(readlink -f "$(command -v rt)" || true)
+    beside=${kit%/bin/rt}/on/$(uname -m)/toolchain/bin/$emulator
+    if [ -x "$beside" ]; then emulator=$beside; else need "$emulator" qemu-user; fi
+    echo "the archive is for $for_processor and this machine is $(uname -m): running it under ${emulator##*/}" >&2
+fi
+
+# the host process and the bench program
+build_bench() {
+    (cd bench && cargo build --release --offline --quiet -j1)
+    mkdir -p bench/target
+    "$cc" -O2 -Wall -Wextra $static -o bench/target/host bench/host.c "$archive"
+    export BENCH_HOST="$emulator bench/target/host"
+}

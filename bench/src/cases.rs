@@ -1,0 +1,130 @@
+//! The sheets that are tried and the calls on each: all named edges of the second program's
+//! corpora, then generated and damaged sheets, with rooms and memories near every limit.
+
+use second::corpus::{any, named, Case, Kind, ROOM};
+use second::damage::{damage, noise};
+use second::netlist::length;
+use second::random::Random;
+use second::sheet::MEMORY;
+use second::translate::netlist;
+use second::wide::{crowd, deep, flat, terminals_and, tower};
+use std::collections::HashSet;
+
+/// One sheet with its calls (room, memory, lean) and the nodes whose stretches are asked for.
+pub struct Try {
+    pub sheet: Vec<u8>,
+    pub calls: Vec<(usize, usize, bool)>,
+    pub nodes: Vec<usize>,
+}
+
+/// Each named case as it stands, full and lean; then some calls of our own.
+pub fn named_tries(random: &mut Random) -> Vec<Try> {
+    let mut seen = HashSet::new();
+    let kinds = [Kind::Whole, Kind::Reading, Kind::Typing, Kind::Making];
+    let cases: Vec<Case> = kinds.into_iter().flat_map(named).collect();
+    let mut tries = Vec::new();
+    for Case { room, memory, sheet } in cases {
+        if !seen.insert((room, memory, sheet.clone())) {
+            continue;
+        }
+        let calls = vec![(room, memory, false), (room, memory, true)];
+        let nodes = some_nodes(random, &sheet);
+        tries.push(Try { sheet, calls, nodes });
+    }
+    tries
+}
+
+/// A generated sheet, mostly small; now and then one near a limit, or one that is too long.
+pub fn generated_try(random: &mut Random, index: usize) -> Try {
+    let sheet = if index % 100 == 7 {
+        let limit = near_limit(random);
+        if random.once_in(2) {
+            damage(random, &limit)
+        } else {
+            limit
+        }
+    } else if index % 400 == 253 {
+        let sheet_length = random.within(16_300, 16_500);
+        noise(random, sheet_length)
+    } else {
+        any(random, index)
+    };
+    let calls = some_calls(random, &sheet);
+    let nodes = some_nodes(random, &sheet);
+    Try { sheet, calls, nodes }
+}
+
+/// A generated sheet of at most so many bytes, for slow machines.
+#[cfg(linked)]
+pub fn small_try(random: &mut Random, index: usize, most: usize) -> Try {
+    loop {
+        let tried = generated_try(random, index);
+        if tried.sheet.len() <= most {
+            return tried;
+        }
+    }
+}
+
+fn near_limit(random: &mut Random) -> Vec<u8> {
+    match random.below(6) {
+        0 => terminals_and(random.below(4)),
+        1 | 2 => crowd(random.within(7_941, 8_194)),
+        3 => flat(random.within(2_000, 2_049)),
+        4 => {
+            let depth = random.within(50, 65);
+            deep(random.within(1_900, 2_049), depth)
+        }
+        _ => tower(random.within(60, 66)),
+    }
+}
+
+/// One call for each netlist, and more at the netlist's own length.
+fn some_calls(random: &mut Random, sheet: &[u8]) -> Vec<(usize, usize, bool)> {
+    let mut calls = Vec::new();
+    for lean in [false, true] {
+        let needed = netlist(sheet, lean).ok().map(|made| length(&made));
+        let room = some_room(random, needed);
+        calls.push((room, some_memory(random), lean));
+        if let Some(needed) = needed {
+            if random.once_in(3) {
+                calls.push((needed, MEMORY, lean));
+            }
+            if random.once_in(3) {
+                calls.push((needed - 1, MEMORY, lean));
+            }
+        }
+    }
+    calls
+}
+
+fn some_room(random: &mut Random, needed: Option<usize>) -> usize {
+    let needed = needed.unwrap_or(100);
+    match random.below(10) {
+        0 => 0,
+        1 => needed + 1,
+        2 => random.below(needed + 1),
+        3 => random.below(ROOM + 1),
+        4 => random.within(needed, 2 * needed).min(ROOM),
+        5 | 6 => needed,
+        7 => ROOM + random.below(5_000),
+        _ => ROOM,
+    }
+}
+
+fn some_memory(random: &mut Random) -> usize {
+    match random.below(32) {
+        0 => 0,
+        1 => MEMORY - 1,
+        2 => random.below(MEMORY),
+        3..=6 => MEMORY + 1,
+        7..=10 => MEMORY + random.below(8_192),
+        _ => MEMORY,
+    }
+}
+
+/// Nodes of the sheet, the first that it has not, and numbers that no sheet has.
+fn some_nodes(random: &mut Random, sheet: &[u8]) -> Vec<usize> {
+    let count = second::read(sheet).map_or(4, |read| read.nodes());
+    let far = *random.pick(&[2_048, 65_535, 65_536, 1 << 32, usize::MAX]);
+    vec![random.below(count + 1), random.below(count), *random.pick(&[0, count - 1, count, far])]
+}

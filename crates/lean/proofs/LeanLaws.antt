@@ -1,0 +1,158 @@
+-- The tables of drivers and roots in the working memory give the lean netlist of the definition. Assumes nothing.
+use Prim.Native.Nat.{ℕ, zero, suc, _+_, _*_, _≤_, _<_}
+use mathlib.Core.Path.{_≡_, refl, sym, ap, _∙_, subst}
+use mathlib.Core.Bool.{Bool, true, false, cond, not, _&&_, _||_}
+use mathlib.Core.List.{List, [], _∷_, _++_, map}
+use native.Mathlib.Omega.{arith}
+use native.Mathlib.Nat.{le-refl}
+use lib.Dec.{T, eqb, eqb-refl}
+use lib.ListN.{length, getD, length-append, length-map}
+use borrow.Author.Tests.{ne-eqb, eq-eqb, eqb-false}
+use Rattle.laws.proofs.Tests.{by-eqb, or-left, or-right, T-is}
+use Rattle.calculus.specs.Terms.{partAt}
+use Rattle.calculus.specs.Net.{Terminal, inp, out, Interface, Element, point, part, Wire, Net, partSide, elementBytes, wireBytes, pinBytes, netBytes}
+use Rattle.calculus.specs.Lean.{driver, isPin, root, kept, keep, toInputs, toElement, leanWires, leanPin, lean}
+use Rattle.calculus.specs.Record.{All}
+use Rattle.calculus.specs.Formed.{is, ins, made, isOut, Shown}
+use Rattle.memory.specs.Map.{region, elementsFrom, terminalOf, netIn, Ready}
+use Rattle.netlist.specs.Said.{wire}
+use Rattle.netlist.specs.Elements.{afterAll}
+use Rattle.netlist.proofs.InMemory.{region-length, region-at}
+use Rattle.netlist.proofs.Records as records
+use Rattle.lean.specs.Table.{entry, Whole}
+use Rattle.lean.specs.InMemory.{undriven, keptIn, keepIn, inputIn, inputsIn, elementIn, wiresIn, pinIn, keptRow, wireRow, pinRow}
+use Rattle.lean.specs.Fitting.{Driven, LowPin}
+use Rattle.lean.proofs.KindLaws.{tiled-after}
+use Rattle.lean.proofs.SumLaws.{rowsSize}
+use Rattle.lean.proofs.DriverLaws.{output-below, input-below, driver-out, pin-none, driver-in}
+
+is-self : (i : ℕ) → is i i ≡ 1
+is-self i = rw (T-is (eqb i i) (eqb-refl i))
+
+module _ (w : List ℕ) (e k p : ℕ) (q : Whole w e k p) where
+  abbrev m : Net
+  m = netIn w e k p
+
+  -- the entry of an output is its root
+  pub entry-root : (o : ℕ) → T (isOut (m .elements) o) → entry w o ≡ root m o
+  entry-root o t = q .table o (output-below w e k p (q .ready) o t) ∙ ap (λ (b : Bool). cond b (root m o) 0) (T-is (isOut (m .elements) o) t)
+
+  -- ---- elements
+
+  keep-in : (es : List Element) → ((x : ℕ) → T (isOut es x) → T (isOut (m .elements) x)) → keepIn w es ≡ keep m es
+  keep-in [] f = refl
+  keep-in (point i ∷ es) f =
+      let a : entry w (i + 1) ≡ root m (i + 1) = entry-root (i + 1) (f (i + 1) (or-left (eqb (i + 1) (i + 1)) (isOut es (i + 1)) (eqb-refl (i + 1)))) in
+      rw (a, keep-in es (λ x t. f x (or-right (eqb (i + 1) x) (isOut es x) t)))
+  keep-in (part r i ∷ es) f = ap (λ (xs : List Element). part r i ∷ xs) (keep-in es (λ x t. f x (or-right (eqb (i + partAt r .inputs) x) (isOut es x) t)))
+
+  -- ---- wires
+
+  input-in : (i : ℕ) → 1 ≤ made (m .elements) i
+      → inputIn w i ≡ cond (isPin (m .pins) i) [] (wire (root m (driver (m .wires) i 0)) i ∷ [])
+  input-in i h = by (undriven w i) refl
+    where
+      by : (b : Bool) → undriven w i ≡ b
+          → cond b [] (wire (entry w (getD w i 0)) i ∷ []) ≡ cond (isPin (m .pins) i) [] (wire (root m (driver (m .wires) i 0)) i ∷ [])
+      by true z = rw (pin-none w e k p (q .ready) i h ∙ z)
+      by false z =
+          let u = pin-none w e k p (q .ready) i h ∙ z in
+          rw (u, driver-in w e k p (q .ready) i 0 h u)
+          (ap (λ (x : ℕ). wire x i ∷ []) (entry-root (getD w i 0) (driver-out w e k p (q .ready) i (input-below w e k p (q .ready) i h) (eqb-false (getD w i 0) 65535 z))))
+
+  inputs-in : (c i : ℕ) → ((x : ℕ) → 1 ≤ ins (partSide c i) x → 1 ≤ made (m .elements) x) → inputsIn w c i ≡ toInputs m c i
+  inputs-in zero i f = refl
+  inputs-in (suc c) i f = rw (input-in i (f i (omega (arith, is-self i))), inputs-in c (i + 1) (λ x h. f x (omega arith)))
+
+  element-in : (x : Element) → ((y : ℕ) → 1 ≤ made (x ∷ []) y → 1 ≤ made (m .elements) y) → ((y : ℕ) → T (isOut (x ∷ []) y) → T (isOut (m .elements) y))
+      → elementIn w x ≡ toElement m x
+  element-in (part r i) f g = inputs-in (partAt r .inputs) i (λ y h. f y (omega arith))
+  element-in (point i) f g =
+      let a : entry w (i + 1) ≡ root m (i + 1) = entry-root (i + 1) (g (i + 1) (or-left (eqb (i + 1) (i + 1)) false (eqb-refl (i + 1)))) in
+      let b = pin-none w e k p (q .ready) i (f i (omega (arith, is-self i))) in
+      rw (a, b)
+
+  out-first : (x : Element) (es : List Element) (y : ℕ) → T (isOut (x ∷ []) y) → T (isOut (x ∷ es) y)
+  out-first (point i) es y t = by (eqb (i + 1) y) t
+    where
+      by : (b : Bool) → T (b || false) → T (b || isOut es y)
+      by true t = tt
+      by false t = absurd t
+  out-first (part r i) es y t = by (eqb (i + partAt r .inputs) y) t
+    where
+      by : (b : Bool) → T (b || false) → T (b || isOut es y)
+      by true t = tt
+      by false t = absurd t
+
+  out-rest : (x : Element) (es : List Element) (y : ℕ) → T (isOut es y) → T (isOut (x ∷ es) y)
+  out-rest (point i) es y t = or-right (eqb (i + 1) y) (isOut es y) t
+  out-rest (part r i) es y t = or-right (eqb (i + partAt r .inputs) y) (isOut es y) t
+
+  made-first : (x : Element) (es : List Element) (y : ℕ) → made (x ∷ []) y ≤ made (x ∷ es) y
+  made-first (point i) es y = omega arith
+  made-first (part r i) es y = omega arith
+
+  made-rest : (x : Element) (es : List Element) (y : ℕ) → made es y ≤ made (x ∷ es) y
+  made-rest (point i) es y = omega arith
+  made-rest (part r i) es y = omega arith
+
+  wires-in : (es : List Element) → ((y : ℕ) → 1 ≤ made es y → 1 ≤ made (m .elements) y) → ((y : ℕ) → T (isOut es y) → T (isOut (m .elements) y))
+      → wiresIn w es ≡ leanWires m es
+  wires-in [] f g = refl
+  wires-in (x ∷ es) f g =
+      rw (element-in x (λ y h. f y (omega (arith, made-first x es y))) (λ y t. g y (out-first x es y t)), wires-in es (λ y h. f y (omega (arith, made-rest x es y))) (λ y t. g y (out-rest x es y t)))
+
+  -- ---- pins
+
+  pins-in : (cs : List ℕ) → All (Shown (m .elements)) (map terminalOf cs) → map (λ c. pinIn w (terminalOf c)) cs ≡ map (leanPin m) (map terminalOf cs)
+  pins-in [] a = refl
+  pins-in (c ∷ cs) a = rw (pins-in cs (a .1)) (ap (λ (t : Terminal). t ∷ map (leanPin m) (map terminalOf cs)) (by (terminalOf c) (a .0)))
+    where
+      by : (t : Terminal) → Shown (m .elements) t → pinIn w t ≡ leanPin m t
+      by (inp i) s = refl
+      by (out o) s = ap out (entry-root o s)
+
+  -- ---- the whole
+
+  abbrev ks : List ℕ
+  ks = region w 13824 e
+
+  pub lean-bytes : netBytes (lean m) ≡ keptRow w ks 0 ++ (wireRow w ks 0 ++ pinRow w (region w 18944 p))
+  unfolding netBytes lean keptRow wireRow pinRow netIn
+  lean-bytes =
+      rw (← keep-in (m .elements) (λ x t. t), ← wires-in (m .elements) (λ y h. h) (λ y t. t), ← pins-in (region w 18944 p) (q .ready .formed .shown))
+
+  pub pins-length : 18944 + p ≤ length w → length (pinRow w (region w 18944 p)) ≡ 3 * p
+  unfolding pinRow
+  pins-length h = records.pins-length (map (λ c. pinIn w (terminalOf c)) (region w 18944 p)) ∙ ap (λ (x : ℕ). 3 * x) (length-map (region w 18944 p) (λ c. pinIn w (terminalOf c)) ∙ region-length w 18944 p h)
+
+  pub lean-length : 18944 + p ≤ length w → length (netBytes (lean m)) ≡ 3 * p + rowsSize w ks 0
+  lean-length h =
+      omega (arith, ap length lean-bytes, length-append (keptRow w ks 0) (wireRow w ks 0 ++ pinRow w (region w 18944 p)), length-append (wireRow w ks 0) (pinRow w (region w 18944 p)), pins-length h)
+
+  -- ---- what the writers ask
+
+  pub driven : Driven w
+  driven = record { size = q .ready .size; low = λ i l d. output-below w e k p (q .ready) (getD w i 0) (driver-out w e k p (q .ready) i l d) }
+
+  pub kinds-low : afterAll ks 0 ≤ 8192
+  unfolding netIn
+  kinds-low = let z = tiled-after ks 0 (q .ready .end) (q .ready .tiled) in let b = q .ready .below in omega arith
+
+  low-pin : (t : Terminal) → Shown (m .elements) t → LowPin t
+  low-pin (inp i) s = tt
+  low-pin (out o) s = output-below w e k p (q .ready) o s
+
+  pub pins-low : (i : ℕ) → i < p → LowPin (terminalOf (getD w (18944 + i) 0))
+  unfolding netIn
+  pins-low i h =
+      let z = q .ready .size in
+      let f = q .ready .few-pins in
+      let l : length (region w 18944 p) ≡ p = region-length w 18944 p (omega arith) in
+      subst (λ (x : ℕ). LowPin (terminalOf x)) (region-at w 18944 p i h)
+      (by (region w 18944 p) i (q .ready .formed .shown) (omega arith))
+    where
+      by : (cs : List ℕ) (j : ℕ) → All (Shown (m .elements)) (map terminalOf cs) → j < length cs → LowPin (terminalOf (getD cs j 0))
+      by [] j a l = absurd (omega arith)
+      by (c ∷ cs) zero a l = low-pin (terminalOf c) (a .0)
+      by (c ∷ cs) (suc j) a l = by cs j (a .1) (omega arith)

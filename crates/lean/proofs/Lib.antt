@@ -1,0 +1,11 @@
+pub mod KindLaws
+pub mod TableLaws
+pub mod FrameLaws
+pub mod DriverLaws
+pub mod StartLaws
+pub mod SettleLaws
+pub mod RoundLaws
+pub mod RowLaws
+pub mod SumLaws
+pub mod LeanLaws
+pub mod FitLaws

@@ -1,0 +1,137 @@
+-- The invariant: with the bytes of the elements that are still to come, the sum is that of all. Assumes nothing.
+use borrow.Author.Needs.{needs}
+use native.Mathlib.Omega.{arith}
+use mathlib.Core.Path.{_≡_, refl, ap, sym, _∙_, subst}
+use mathlib.Core.List.{List, [], _∷_, _++_}
+use Prim.Native.Nat.{ℕ, _≤_, _<_, _-_, _+_, _*_}
+use lib.ListN.{length, getD, drop}
+use Rattle.memory.specs.Map.{region}
+use Rattle.netlist.specs.Elements.{after}
+use Rattle.netlist.proofs.InMemory.{region-length}
+use Rattle.lean.proofs.KindLaws.{first-low, output-low, after-output}
+use Rattle.lean.proofs.SumLaws.{rowsSize, rows-most, Summing, summing-low, summing-most, summing-step, summing-end}
+use Rattle.lean.proofs.LeanLaws.{lean-length, kinds-low}
+use Rattle.lean.proofs.element_size.Reads as element-size-reads
+use Rattle.lean.proofs.output_of.Reads as output-of-reads
+use Rattle.lean.proofs.lean_length.Statement.{statement}
+use Rattle.lean.proofs.lean_length.Tie as tie
+use Rattle.lean.proofs.lean_length.Reads as reads
+use Rattle.lean.proofs.lean_length.Lts as lts
+
+abbrev Inv-loop : tie.InvT-loop
+Inv-loop work elements wires pins sum₀ n₀ i₀ sum n i =
+    (i ≤ elements) × Summing work elements (3 * pins + rowsSize work (region work 13824 elements) 0) sum n i
+
+abbrev μ-loop : tie.MeasureT-loop
+μ-loop work elements wires pins sum₀ n₀ i₀ sum n i = elements - i
+
+fits : (w : List ℕ) (elements : ℕ) → 32768 ≤ length w → elements ≤ 5120 → 13824 + elements ≤ length w
+fits w elements a b = omega arith
+
+mul-sum : tie.Need-mul-sum Inv-loop μ-loop
+mul-sum c = let f = c .before .pre .ready .few-pins in omega arith
+
+loop-holds : tie.Need-loop-holds Inv-loop μ-loop
+loop-holds c =
+    let s = c .before in
+    let a = s .args in
+    (omega arith, record { low = kinds-low (a .work .now) (a .elements) (a .wires) (a .pins) (s .pre); adds = refl })
+
+shared-slice-read-kind : tie.Need-shared-slice-read-kind Inv-loop μ-loop
+shared-slice-read-kind c =
+    let s = c .before .before .before .before in
+    let z = fits (s .args .work .now) (s .args .elements) (s .pre .ready .size) (s .pre .ready .few-elements) in
+    omega arith
+
+element-size-requires : tie.Need-element-size-requires Inv-loop μ-loop
+element-size-requires c κs =
+    let b = c .before in
+    let l = b .before .loop in
+    let s = b .before .before .before in
+    let a = s .args in
+    let w = a .work .now in
+    let z = fits w (a .elements) (s .pre .ready .size) (s .pre .ready .few-elements) in
+    (s .pre .ready .size, summing-low w (a .elements) _ (l .sum) (l .n) (l .i) z (l .inv .1) (b .loop-test .taken))
+
+add-sum : tie.Need-add-sum Inv-loop μ-loop
+add-sum c =
+    let b = c .before .before in
+    let l = b .before .loop in
+    let s = b .before .before .before in
+    let a = s .args in
+    let w = a .work .now in
+    let z = fits w (a .elements) (s .pre .ready .size) (s .pre .ready .few-elements) in
+    let f = s .pre .ready .few-pins in
+    let g = s .pre .ready .few-elements in
+    let h = summing-most w (a .elements) _ (l .sum) (l .n) (l .i) z (l .inv .1) (b .loop-test .taken) in
+    let e = c .element-size .ensures in
+    omega (arith, h, e, rows-most w (region w 13824 (a .elements)) 0, region-length w 13824 (a .elements) z)
+
+output-of-requires : tie.Need-output-of-requires Inv-loop μ-loop
+output-of-requires c κs =
+    let b = c .before .before in
+    let l = b .before .loop in
+    let s = b .before .before .before in
+    let a = s .args in
+    let w = a .work .now in
+    let z = fits w (a .elements) (s .pre .ready .size) (s .pre .ready .few-elements) in
+    let h = summing-low w (a .elements) _ (l .sum) (l .n) (l .i) z (l .inv .1) (b .loop-test .taken) in
+    let q : l .n < 8192 = first-low (getD w (13824 + l .i) 0) (l .n) 8192 h in
+    omega arith
+
+add-n : tie.Need-add-n Inv-loop μ-loop
+add-n c =
+    let b = c .before .before .before in
+    let l = b .before .loop in
+    let s = b .before .before .before in
+    let a = s .args in
+    let w = a .work .now in
+    let z = fits w (a .elements) (s .pre .ready .size) (s .pre .ready .few-elements) in
+    let h = summing-low w (a .elements) _ (l .sum) (l .n) (l .i) z (l .inv .1) (b .loop-test .taken) in
+    let q : c .output-of .result < 8192 = rw (c .output-of .ensures) (output-low (getD w (13824 + l .i) 0) (l .n) 8192 h) in
+    omega arith
+
+loop-again : tie.Need-loop-again Inv-loop μ-loop
+loop-again c =
+    let r = c .before in
+    let b = r .before .before in
+    let l = b .before .loop in
+    let s = b .before .before .before in
+    let a = s .args in
+    let w = a .work .now in
+    let z = fits w (a .elements) (s .pre .ready .size) (s .pre .ready .few-elements) in (
+      omega arith,
+      summing-step w (a .elements) _ (l .sum) (l .n) (l .i) z (l .inv .1) (b .loop-test .taken) _ _ (ap (λ (x : ℕ). l .sum + x) (r .element-size .ensures))
+          (rw (c .output-of .ensures) (after-output (getD w (13824 + l .i) 0) (l .n))),
+    )
+
+returns : tie.Need-returns Inv-loop μ-loop
+returns c =
+    let l = c .before .loop in
+    let s = c .before .before .before in
+    let a = s .args in
+    let w = a .work .now in
+    let f = s .pre .ready .few-pins in
+    let g = s .pre .ready .size in
+    let z = fits w (a .elements) (s .pre .ready .size) (s .pre .ready .few-elements) in
+    summing-end w (a .elements) _ (l .sum) (l .n) (l .i) z (l .inv .1) (c .loop-test .left) ∙ sym (lean-length w (a .elements) (a .wires) (a .pins) (s .pre) (omega arith))
+
+pub lean-length-spec : {M : Type 1} → statement M
+lean-length-spec =
+    tie.close
+    (tie.spec
+    Inv-loop
+    μ-loop
+    mul-sum
+    loop-holds
+    (λ c. omega arith)
+    (λ c. omega arith)
+    shared-slice-read-kind
+    element-size-requires
+    add-sum
+    output-of-requires
+    add-n
+    (λ c. omega arith)
+    (λ c. omega arith)
+    loop-again
+    returns)

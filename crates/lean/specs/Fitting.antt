@@ -1,0 +1,60 @@
+-- What a writer of records asks of the working memory and of the room in the output. Assumes nothing.
+use Prim.Native.Nat.{ℕ, _+_, _≤_, _<_}
+use mathlib.Core.Path.{_≡_}
+use mathlib.Core.List.{List, [], _∷_}
+use lib.ListN.{length, getD}
+use Rattle.calculus.specs.Net.{Terminal, inp, out, netBytes}
+use Rattle.calculus.specs.Lean.{lean}
+use Rattle.calculus.specs.Record.{All}
+use Rattle.memory.specs.Map.{region, netIn, terminalOf}
+use Rattle.netlist.specs.Elements.{after, afterAll, Known}
+use Rattle.lean.specs.Table.{Whole}
+
+-- a whole lean netlist
+pub record Fits (w : List ℕ) (elements wires pins room : ℕ) : Type 0 where
+  pub whole : Whole w elements wires pins
+  pub known : All Known (netIn w elements wires pins .elements)
+  pub target : length (netBytes (lean (netIn w elements wires pins))) ≤ room
+
+-- a driver is below 8,192
+pub record Driven (w : List ℕ) : Type 0 where
+  pub size : 32768 ≤ length w
+  pub low : (i : ℕ) → i < 8192 → (getD w i 0 ≡ 65535 → ⊥) → getD w i 0 < 8192
+
+-- an element of kind k that starts at n, and room for its records
+pub record ElementFits (w : List ℕ) (k n : ℕ) (bytes : List ℕ) (room at : ℕ) : Type 0 where
+  pub driven : Driven w
+  pub known : k < 8
+  pub low : after k n ≤ 8192
+  pub target : at + length bytes ≤ room
+
+-- all elements, and room for their records from an offset on
+pub record RowFits (w : List ℕ) (elements : ℕ) (bytes : List ℕ) (room from : ℕ) : Type 0 where
+  pub driven : Driven w
+  pub few : elements ≤ 5120
+  pub known : (i : ℕ) → i < elements → getD w (13824 + i) 0 < 8
+  pub low : afterAll (region w 13824 elements) 0 ≤ 8192
+  pub target : from + length bytes ≤ room
+
+-- an output that a pin shows is below 8,192
+abbrev pub LowPin : Terminal → Type 0
+LowPin (inp i) = Unit {0}
+LowPin (out o) = o < 8192
+
+pub record PinsFit (w : List ℕ) (pins : ℕ) (bytes : List ℕ) (room from : ℕ) : Type 0 where
+  pub size : 32768 ≤ length w
+  pub few : pins ≤ 128
+  pub low : (i : ℕ) → i < pins → LowPin (terminalOf (getD w (18944 + i) 0))
+  pub target : from + length bytes ≤ room
+
+-- an input, and room for its wire
+pub record InputFits (w : List ℕ) (i : ℕ) (bytes : List ℕ) (room at : ℕ) : Type 0 where
+  pub driven : Driven w
+  pub low : i < 8192
+  pub target : at + length bytes ≤ room
+
+-- so many inputs, and room for their wires
+pub record InputsFit (w : List ℕ) (count first : ℕ) (bytes : List ℕ) (room from : ℕ) : Type 0 where
+  pub driven : Driven w
+  pub low : first + count ≤ 8192
+  pub target : from + length bytes ≤ room

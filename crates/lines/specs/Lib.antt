@@ -1,0 +1,4 @@
+pub mod Figure
+pub mod Wrote
+pub mod OneLine
+pub mod InBytes

@@ -1,0 +1,23 @@
+-- The line of one element, wire, pin or refusal, by its numbers; names that stay shut. Assumes nothing.
+use Prim.Native.Nat.{ℕ}
+use mathlib.Core.List.{[], _∷_}
+use Rattle.calculus.specs.Answer.{refused}
+use Rattle.calculus.specs.Net.{point, part, out}
+use Rattle.calculus.specs.Listing.{Text, elementLine, wireLine, pinLines, listed}
+use Rattle.netlist.specs.Said.{wire}
+
+unfoldable pub pointLine : ℕ → Text
+pointLine i = elementLine (point i)
+
+unfoldable pub partLine : ℕ → ℕ → Text
+partLine p i = elementLine (part p i)
+
+unfoldable pub wiredLine : ℕ → ℕ → Text
+wiredLine from to = wireLine (wire from to)
+
+-- a pin's line has its terminal's number, of whichever kind that is
+unfoldable pub pinLine : ℕ → Text
+pinLine n = pinLines (out n ∷ [])
+
+unfoldable pub refusedLine : ℕ → ℕ → Text
+refusedLine number place = listed (refused number place)

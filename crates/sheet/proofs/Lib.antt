@@ -1,0 +1,10 @@
+pub mod TableLaws
+pub mod CheckLaws
+pub mod KindLaws
+pub mod TypesLaws
+pub mod HeadLaws
+pub mod SpanLaws
+pub mod ReadLaws
+pub mod Told
+pub mod StretchLaws
+pub mod Determined

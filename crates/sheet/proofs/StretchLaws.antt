@@ -1,0 +1,92 @@
+-- Where a node's stretch begins and ends, by the reader. Assumes nothing.
+use Prim.Native.Nat.{ℕ, _+_, _-_, _≤_, _<_}
+use mathlib.Core.Path.{_≡_, refl, sym, ap, ap₂, _∙_}
+use mathlib.Core.Logic.{⊎-elim}
+use mathlib.Core.List.{List, [], _∷_}
+use native.Mathlib.Omega.{arith}
+use native.Mathlib.Numerals.{add-one}
+use native.Mathlib.Decide.{decLt}
+use denote.Enum.Declared.{tagOf}
+use types.Run.{OneOf}
+use lib.ListN.{length, getD}
+use Rattle.calculus.specs.Answer.{Answer, good, refused}
+use Rattle.calculus.proofs.Answers.{refused≢good, good-inj}
+use Rattle.calculus.specs.Terms.{nodes}
+use Rattle.calculus.specs.Read.{Kind, readTerm, Sheet, readSheet}
+use Rattle.calculus.specs.Stretch.{nowhere, stretchOf}
+use Rattle.sheet_theorems.specs.Subterms.{subterms, bodyOf, after, skip}
+use Rattle.sheet_theorems.proofs.StretchHolds.{skip-next, stretch-holds, stretch-past, stretch-refused}
+use Rattle.sheet_theorems.proofs.SubtermRead.{stretch-read}
+use Rattle.records.specs.Record.{recordAt}
+use Rattle.records.specs.declared.Node.{Node}
+use Rattle.records.specs.declared.Record.the-variants as rec
+use Rattle.records.proofs.Record.{the-type}
+use Rattle.records.proofs.Laws.{node-next, stands-record}
+use Rattle.sheet.specs.Nodes.{NodesFrom}
+use Rattle.sheet.specs.Said.{End, end, spanned}
+use Rattle.sheet.proofs.Told.{Told}
+use Rattle.sheet.proofs.KindLaws.{NodeHere, node-here}
+
+-- ---- one record further
+
+after-here : (s : List ℕ) (at : ℕ) (r : Node) → NodeHere s at r → r .next ≡ after s at
+after-here s at r w = ap (λ (x : Node). x .next) (w .same) ∙ ap (λ (k : Kind). at + 1 + bodyOf k) (sym (w .is))
+
+-- the record of a node ends where the next begins
+pub after-node : (s : List ℕ) (at : ℕ) (r : Node) → recordAt s at ≡ rec.Node r → r .next ≡ after s at
+after-node s at r e = let l = node-next s at e in after-here s at r (node-here s at (omega arith) r e)
+
+pub skip-more : (s : List ℕ) (start k at : ℕ) (r : Node) → at ≡ skip s k start → recordAt s at ≡ rec.Node r → r .next ≡ skip s (k + 1) start
+skip-more s start k at r e f = after-node s at r f ∙ ap (after s) e ∙ sym (rw (add-one k) (skip-next s k start))
+
+-- a node stands there, so its record does
+pub node-stands : {A : Type 0} (s : List ℕ) (start n k at : ℕ) → NodesFrom s start n → k < n → at ≡ skip s k start → OneOf (0 ∷ 2 ∷ []) (tagOf the-type (recordAt s at)) → A
+node-stands s start n k at f h e o =
+    let w = f k h in
+    let q = ap (recordAt s) e ∙ stands-record s (skip s k start) (w .term) (w .stands) in
+    ⊎-elim (λ (z : 1 ≡ 0). absurd (omega arith)) (λ (z : 1 ≡ 2). absurd (omega arith)) (rw q at o)
+
+-- ---- the stretch of a node of a sheet that is read
+
+module _ {s sizes : List ℕ} {types n start : ℕ} (t : Told s sizes types n start) (k : ℕ) where
+  pub told-past : n ≤ k → nowhere ≡ stretchOf s k
+  told-past h = let e = t .nodes-are in sym (stretch-past s (t .sheet) k (t .is) (omega arith))
+
+  module _ (h : k < n) where
+    below : (i : ℕ) → i ≤ k → i < nodes (t .sheet .term)
+    below i l = let e = t .nodes-are in omega arith
+
+    -- the nodes up to it
+    pub told-nodes : NodesFrom s start k
+    told-nodes i l =
+        let q = stretch-holds s (t .sheet) i (t .is) (below i (omega arith)) .node in
+        record { term = getD (subterms (t .sheet .term)) i (t .sheet .term); stands = rw (t .start-is, ← q .start) (q .stands) }
+
+    start-there : (at : ℕ) → at ≡ skip s k start → at ≡ stretchOf s k .start
+    start-there at e = e ∙ rw (t .start-is) (sym (stretch-holds s (t .sheet) k (t .is) (below k (omega arith)) .node .start))
+
+    there : (at : ℕ) → at ≡ skip s k start → spanned (readTerm 64 s types at 0) ≡ end (at + stretchOf s k .size) (nodes (getD (subterms (t .sheet .term)) k (t .sheet .term)))
+    unfolding spanned
+    there at e = rw (start-there at e, t .types-are, stretch-read s (t .sheet) k (t .is) (below k (omega arith)))
+
+    -- the stretch, by its ends
+    pub told-stretch : (at b c : ℕ) → at ≡ skip s k start → end b c ≡ spanned (readTerm 64 s types at 0) → (at ≤ b) × (record { start = at; size = b - at } ≡ stretchOf s k)
+    told-stretch at b c e f =
+        let g : b ≡ at + stretchOf s k .size = ap (λ (x : End). x .at) (good-inj (f ∙ there at e)) in
+        let z : b - at ≡ stretchOf s k .size = omega arith in
+        (omega arith, ap₂ (λ (x y : ℕ). record { start = x; size = y }) (start-there at e) z)
+
+    pub told-read : (at number place : ℕ) → at ≡ skip s k start → refused number place ≡ spanned (readTerm 64 s types at 0) → ⊥
+    told-read at number place e f = refused≢good (f ∙ there at e)
+
+-- ---- within the sheet
+
+within-by : (s : List ℕ) (k : ℕ) (a : Answer Sheet) → readSheet s ≡ a → stretchOf s k .start + stretchOf s k .size ≤ length s
+within-by s k (good σ) e = elim (decLt k (nodes (σ .term))) [
+  | yes h ↦ stretch-holds s σ k e h .within
+  | no h ↦ rw (stretch-past s σ k e (omega arith)) (omega arith)
+]
+within-by s k (refused i p) e = rw (stretch-refused s i p k e) (omega arith)
+
+pub stretch-within : (s : List ℕ) (k : ℕ) → stretchOf s k .start + stretchOf s k .size ≤ length s
+stretch-within s k = within-by s k (readSheet s) refl

@@ -1,0 +1,157 @@
+-- Laws of the table of types that a sheet's bytes hold: its records, their tests, and the sizes. Assumes nothing.
+use Prim.Native.Nat.{ℕ, zero, suc, _+_, _-_, _≤_, _<_}
+use mathlib.Core.Path.{_≡_, refl, sym, ap, ap₂, _∙_}
+use mathlib.Core.Logic.{⊎-elim}
+use mathlib.Core.Bool.{Bool, true, false, _&&_, _||_}
+use mathlib.Core.List.{List, [], _∷_, _++_, map, append-assoc}
+use native.Mathlib.Omega.{arith}
+use native.Mathlib.Nat.{not-suc-le-zero, eq-or-lt-of-le, le-of-suc-le-suc}
+use native.Mathlib.Numerals.{add-one}
+use borrow.Author.Tests.{ltb-true}
+use lib.Dec.{ltb}
+use lib.ListN.{length, getD, set, replicate, length-append, length-map, length-replicate, List·getD-append}
+use lib.Seq.{getD-at, set-at}
+use Rattle.laws.proofs.Tests.{T-is, and-both}
+use Rattle.calculus.specs.Types.{Ty, bit, size, sharable, isArrow, TyRec, rec01, rec02, rec03, rec04, recEq, Table, recAt, tyOf, tysFrom, tree}
+use Rattle.calculus.specs.Read.{known, formed, repeated}
+use Rattle.calculus.specs.Laid.{Agrees, TableOk}
+use Rattle.records.specs.Forms.{recIn}
+use Rattle.sheet.specs.Tables.{tableIn, sharableRec, arrowRec, knownBelow, formedIn, sizeIn, sizesOf}
+
+-- ---- the records
+
+pub table-more : (s : List ℕ) (n : ℕ) → tableIn s (n + 1) ≡ tableIn s n ++ recIn s n ∷ []
+unfolding tableIn
+table-more s n = rw (add-one n)
+
+pub table-count : (s : List ℕ) (n : ℕ) → length (tableIn s n) ≡ n
+unfolding tableIn
+table-count s zero = refl
+table-count s (suc n) = omega (arith, length-append (tableIn s n) (recIn s n ∷ []), table-count s n)
+
+-- type t's record is the t-th
+pub table-at : (s : List ℕ) (n t : ℕ) → t < n → recAt (tableIn s n) t ≡ recIn s t
+unfolding tableIn
+table-at s zero t h = absurd (not-suc-le-zero h)
+table-at s (suc n) t h =
+    ⊎-elim (λ (e : t ≡ n). getD-at (tableIn s n) (recIn s n) [] rec01 t (table-count s n ∙ sym e) ∙ ap (recIn s) (sym e))
+    (λ l. List·getD-append (tableIn s n) (recIn s n ∷ []) rec01 t (rw (table-count s n) l) ∙ table-at s n t l)
+    (eq-or-lt-of-le (le-of-suc-le-suc h))
+
+-- ---- repeats
+
+repeated-snoc : (Θ : Table) (q r : TyRec) → repeated (Θ ++ q ∷ []) r ≡ (repeated Θ r || recEq q r)
+repeated-snoc [] q r = or-false (recEq q r)
+  where
+    or-false : (b : Bool) → (b || false) ≡ b
+    or-false true = refl
+    or-false false = refl
+repeated-snoc (p ∷ Θ) q r = or-front (recEq p r) _ (repeated Θ r) (recEq q r) (repeated-snoc Θ q r)
+  where
+    or-front : (b x y z : Bool) → x ≡ (y || z) → (b || x) ≡ ((b || y) || z)
+    or-front true x y z e = refl
+    or-front false x y z e = e
+
+-- one record further, and none is the same
+pub repeated-more : (s : List ℕ) (n : ℕ) (q r : TyRec) → repeated (tableIn s n) r ≡ false → q ≡ recIn s n → recEq q r ≡ false → repeated (tableIn s (n + 1)) r ≡ false
+repeated-more s n q r a e b = rw (table-more s n, repeated-snoc (tableIn s n) (recIn s n) r, a, ← e) b
+
+repeated-at : (Θ : Table) (r : TyRec) (n : ℕ) → n < length Θ → recEq (recAt Θ n) r ≡ true → repeated Θ r ≡ true
+repeated-at [] r n h e = absurd (not-suc-le-zero h)
+repeated-at (q ∷ Θ) r zero h e = rw e
+repeated-at (q ∷ Θ) r (suc n) h e = or-true (recEq q r) (repeated-at Θ r n (le-of-suc-le-suc h) e)
+  where
+    or-true : (b : Bool) {x : Bool} → x ≡ true → (b || x) ≡ true
+    or-true true e = refl
+    or-true false e = e
+
+-- one of them is the same
+pub repeated-found : (s : List ℕ) (n t : ℕ) (q r : TyRec) → t < n → q ≡ recIn s t → recEq q r ≡ true → repeated (tableIn s n) r ≡ true
+repeated-found s n t q r h e b = repeated-at (tableIn s n) r t (rw (table-count s n) h) (rw (table-at s n t h, ← e) b)
+
+-- ---- the tests, over the table and by the records
+
+pub known-by : (s : List ℕ) (n : ℕ) (q : TyRec) → known (tableIn s n) q ≡ knownBelow n q
+known-by s n rec01 = refl
+known-by s n (rec02 a b) = rw (table-count s n)
+known-by s n (rec03 a b) = rw (table-count s n)
+known-by s n (rec04 a b) = rw (table-count s n)
+
+module _ (Θ : Table) where
+  sharable-by : (q : TyRec) (τ : Ty) → Agrees Θ q τ → sharable τ ≡ sharableRec q
+  sharable-by rec01 τ a = rw a
+  sharable-by (rec02 x y) τ a = rw (a .0, T-is (sharable (tree Θ x)) (a .1), T-is (sharable (tree Θ y)) (a .2))
+  sharable-by (rec03 x y) τ a = rw (a .0)
+  sharable-by (rec04 x y) τ a = rw (a .0)
+
+  arrow-by : (q : TyRec) (τ : Ty) → Agrees Θ q τ → isArrow τ ≡ arrowRec q
+  arrow-by rec01 τ a = rw a
+  arrow-by (rec02 x y) τ a = rw (a .0)
+  arrow-by (rec03 x y) τ a = rw (a .0)
+  arrow-by (rec04 x y) τ a = rw (a .0)
+
+both-lt : (a b n : ℕ) → (ltb a n && ltb b n) ≡ true → (a < n) × (b < n)
+both-lt a b n e = let (p, q) = and-both (ltb a n) (ltb b n) (rw e tt) in (ltb-true a n (T-is _ p), ltb-true b n (T-is _ q))
+
+module _ (s : List ℕ) (n : ℕ) (ok : TableOk (tableIn s n)) where
+  sharable-in : (a : ℕ) → a < n → sharable (tree (tableIn s n) a) ≡ sharableRec (recIn s a)
+  sharable-in a h = sharable-by (tableIn s n) (recAt (tableIn s n) a) (tree (tableIn s n) a) (ok .agrees a) ∙ ap sharableRec (table-at s n a h)
+
+  arrow-in : (a : ℕ) → a < n → isArrow (tree (tableIn s n) a) ≡ arrowRec (recIn s a)
+  arrow-in a h = arrow-by (tableIn s n) (recAt (tableIn s n) a) (tree (tableIn s n) a) (ok .agrees a) ∙ ap arrowRec (table-at s n a h)
+
+  pub formed-by : (q : TyRec) → knownBelow n q ≡ true → formed (tableIn s n) q ≡ formedIn s q
+  formed-by rec01 k = refl
+  formed-by (rec02 a b) k = let (x, y) = both-lt a b n k in rw (sharable-in a x, sharable-in b y)
+  formed-by (rec03 a b) k = sharable-in a (both-lt a b n k .0)
+  formed-by (rec04 a b) k = arrow-in a (both-lt a b n k .0)
+
+-- ---- sizes
+
+tys-snoc : (acc : List Ty) (Θ : Table) (r : TyRec) → tysFrom acc (Θ ++ r ∷ []) ≡ tysFrom acc Θ ++ tyOf (tysFrom acc Θ) r ∷ []
+tys-snoc acc [] r = refl
+tys-snoc acc (q ∷ Θ) r = tys-snoc (acc ++ tyOf acc q ∷ []) Θ r
+
+tys-length : (acc : List Ty) (Θ : Table) → length (tysFrom acc Θ) ≡ length acc + length Θ
+tys-length acc [] = omega arith
+tys-length acc (q ∷ Θ) = omega (arith, tys-length (acc ++ tyOf acc q ∷ []) Θ, length-append acc (tyOf acc q ∷ []))
+
+sizes-front : (Θ : Table) → length (map size (tysFrom [] Θ)) ≡ length Θ
+sizes-front Θ = omega (arith, length-map (tysFrom [] Θ) size, tys-length [] Θ)
+
+map-at : (l : List Ty) (n : ℕ) → n < length l → getD (map size l) n 0 ≡ size (getD l n bit)
+map-at [] n h = absurd (not-suc-le-zero h)
+map-at (τ ∷ l) zero h = refl
+map-at (τ ∷ l) (suc n) h = map-at l n (le-of-suc-le-suc h)
+
+map-snoc : (l : List Ty) (τ : Ty) → map size (l ++ τ ∷ []) ≡ map size l ++ size τ ∷ []
+map-snoc [] τ = refl
+map-snoc (x ∷ l) τ = ap (λ (m : List ℕ). size x ∷ m) (map-snoc l τ)
+
+-- entry t is the size of type t
+pub size-at : (Θ : Table) (t : ℕ) → t < length Θ → getD (sizesOf Θ) t 0 ≡ size (tree Θ t)
+unfolding sizesOf
+size-at Θ t h =
+    List·getD-append (map size (tysFrom [] Θ)) (replicate (256 - length Θ) 0) 0 t (rw (sizes-front Θ) h)
+    ∙ map-at (tysFrom [] Θ) t (omega (arith, tys-length [] Θ))
+
+pub sizes-length : (Θ : Table) → length Θ ≤ 256 → length (sizesOf Θ) ≡ 256
+unfolding sizesOf
+sizes-length Θ h =
+    omega (arith, length-append (map size (tysFrom [] Θ)) (replicate (256 - length Θ) 0), sizes-front Θ, length-replicate {A = ℕ} (256 - length Θ) 0)
+
+-- the size of a record's type, from the sizes of earlier types
+pub size-by : (Θ : Table) (q : TyRec) → knownBelow (length Θ) q ≡ true → sizeIn (sizesOf Θ) q ≡ size (tyOf (tysFrom [] Θ) q)
+size-by Θ rec01 k = refl
+size-by Θ (rec02 a b) k = let (x, y) = both-lt a b (length Θ) k in ap₂ _+_ (size-at Θ a x) (size-at Θ b y)
+size-by Θ (rec03 a b) k = let (x, y) = both-lt a b (length Θ) k in ap₂ _+_ (size-at Θ a x) (size-at Θ b y)
+size-by Θ (rec04 a b) k = let (x, y) = both-lt a b (length Θ) k in ap₂ _+_ (size-at Θ a x) (size-at Θ b y)
+
+-- one more size
+pub sizes-more : (Θ : Table) (q : TyRec) (n z : ℕ) → length Θ ≡ n → n < 256 → z ≡ size (tyOf (tysFrom [] Θ) q) → set (sizesOf Θ) n z ≡ sizesOf (Θ ++ q ∷ [])
+unfolding sizesOf
+sizes-more Θ q n z l h e =
+    let m : 256 - length Θ ≡ suc (255 - n) = omega arith in
+    let k : 256 - length (Θ ++ q ∷ []) ≡ 255 - n = omega (arith, length-append Θ (q ∷ [])) in
+    rw (m, k, tys-snoc [] Θ q, map-snoc (tysFrom [] Θ) (tyOf (tysFrom [] Θ) q), append-assoc (map size (tysFrom [] Θ)) (size (tyOf (tysFrom [] Θ) q) ∷ []) (replicate (255 - n) 0), ← e)
+    (set-at (map size (tysFrom [] Θ)) 0 (replicate (255 - n) 0) z n (sizes-front Θ ∙ l))

@@ -1,0 +1,139 @@
+-- What the answers on type records, nodes' records and terms say, in the terms of the definitions: one case for each variant. Assumes nothing.
+use Prim.Native.Nat.{ℕ, _+_}
+use mathlib.Core.Bool.{Bool, false, not, cond}
+use mathlib.Core.List.{List, []}
+use lib.Dec.{ltb, leb, eqb}
+use lib.ListN.{length}
+use Rattle.calculus.specs.Answer.{Answer, good, refused, _>>=_, need}
+use Rattle.calculus.specs.Types.{Table}
+use Rattle.calculus.specs.Terms.{nodes}
+use Rattle.calculus.specs.Read.{Kind, unknown, type, node, NodeKind, k11, k12, k13, k14, k15, k16, k17, k18, k19, k1A, nodeBody, headAt, Got}
+use Rattle.sheet.specs.Tables.{sizesOf}
+use Rattle.sheet.specs.Sheets.{ReadSaid, wholeSheet, noSheet}
+use Rattle.sheet.specs.declared.types.Listed.{Listed}
+use Rattle.sheet.specs.declared.types.Listed.the-variants as listed
+use Rattle.sheet.specs.declared.types.Types.{Types}
+use Rattle.sheet.specs.declared.term.Head.{Head}
+use Rattle.sheet.specs.declared.term.Head.the-variants as head
+use Rattle.sheet.specs.declared.term.Span.{Span}
+use Rattle.sheet.specs.declared.term.Span.the-variants as span
+use Rattle.records.specs.declared.Rule.{Rule}
+use Rattle.records.specs.declared.Rule.the-variants as rule
+use Rattle.records.specs.declared.Node.{Node}
+
+-- ---- the type records
+
+-- their number, and the offset past them
+pub record Count : Type 0 where
+  pub count : ℕ
+  pub end : ℕ
+
+-- .. or a refusal, and the sizes of the types
+pub record TypesSaid : Type 0 where
+  pub answer : Answer Count
+  pub sizes : List ℕ
+
+abbrev pub saidListed : Listed → Answer Count
+saidListed (listed.All n at) = good (record { count = n; end = at })
+saidListed (listed.Refused number place) = refused number place
+
+abbrev pub saidTypes : Types → TypesSaid
+saidTypes t = record { answer = saidListed (t .listed); sizes = t .sizes }
+
+abbrev pub allTypes : ℕ → ℕ → List ℕ → TypesSaid
+allTypes n at sizes = record { answer = good (record { count = n; end = at }); sizes = sizes }
+
+-- no sizes where the types are refused
+abbrev pub noTypes : ℕ → ℕ → TypesSaid
+noTypes number place = record { answer = refused number place; sizes = sizesOf [] }
+
+unfoldable pub typesOf : Answer (Table × ℕ) → TypesSaid
+typesOf (good r) = allTypes (length (r .0)) (r .1) (sizesOf (r .0))
+typesOf (refused number place) = noTypes number place
+
+-- at a kind byte where no type record stands: a type's is that of a record cut short, any other ends the types
+unfoldable pub endOf : Kind → ℕ → ℕ → List ℕ → TypesSaid
+endOf unknown at n sizes = allTypes n at sizes
+endOf (node k) at n sizes = allTypes n at sizes
+endOf (type k) at n sizes = noTypes 3 at
+
+-- ---- a node's record
+
+-- the number of subterms
+abbrev pub nodeSubs : NodeKind → ℕ
+nodeSubs k11 = 0
+nodeSubs k12 = 0
+nodeSubs k13 = 1
+nodeSubs k14 = 2
+nodeSubs k15 = 1
+nodeSubs k16 = 2
+nodeSubs k17 = 2
+nodeSubs k18 = 2
+nodeSubs k19 = 1
+nodeSubs k1A = 0
+
+-- where the next record is due, and the number of subterms
+pub record Opened : Type 0 where
+  pub next : ℕ
+  pub subterms : ℕ
+
+abbrev pub opening : ℕ → ℕ → Answer Opened
+opening next n = good (record { next = next; subterms = n })
+
+abbrev pub saidHead : Head → Answer Opened
+saidHead (head.Opens next n) = opening next n
+saidHead (head.Refused number place) = refused number place
+
+abbrev pub headed : ℕ → Answer NodeKind → Answer Opened
+headed at (good k) = opening (at + 1 + nodeBody k) (nodeSubs k)
+headed at (refused number place) = refused number place
+
+unfoldable pub opens : ℕ → List ℕ → ℕ → ℕ → ℕ → Answer Opened
+opens more s types at n = headed at (headAt more s types at n)
+
+-- a type number that the record holds names no type
+abbrev pub mistyped : Rule → ℕ → ℕ → ℕ → Bool
+mistyped rule.Bare x y types = false
+mistyped rule.Sides x y types = false
+mistyped rule.Binder x y types = false
+mistyped rule.Typed x y types = leb types x
+mistyped rule.Part x y types = leb types y
+
+-- a whole record: count, depth, type number
+unfoldable pub limitsOf : Node → ℕ → ℕ → ℕ → ℕ → Answer Opened
+limitsOf r at n more types = do
+  _ ← need (ltb n 2048) 8 at
+  _ ← need (ltb 0 more) 8 at
+  _ ← need (not (mistyped (r .rule) (r .first) (r .second) types)) 5 at
+  opening (r .next) (r .subterms)
+
+-- the refusal at a kind byte where no node's record stands: a node's is that of a record cut short
+unfoldable pub noNode : Kind → ℕ
+noNode unknown = 4
+noNode (type k) = 4
+noNode (node k) = 3
+
+-- ---- a term
+
+-- where the next record is due, and the number of nodes so far
+pub record End : Type 0 where
+  pub at : ℕ
+  pub count : ℕ
+
+abbrev pub end : ℕ → ℕ → Answer End
+end a c = good (record { at = a; count = c })
+
+abbrev pub saidSpan : Span → Answer End
+saidSpan (span.Next a c) = end a c
+saidSpan (span.Refused number place) = refused number place
+
+unfoldable pub spanned : Answer Got → Answer End
+spanned (good g) = end (g .next) (g .count)
+spanned (refused number place) = refused number place
+
+-- ---- the sheet behind its types
+
+-- behind the types: the term's end is the sheet's
+unfoldable pub endedOf : Answer End → ℕ → ℕ → ℕ → List ℕ → ReadSaid
+endedOf (good e) size types start sizes = cond (eqb (e .at) size) (wholeSheet types (e .count) start sizes) (noSheet 9 (e .at))
+endedOf (refused number place) size types start sizes = noSheet number place

@@ -1,0 +1,98 @@
+// The term of a sheet: refusals 3 to 5 and 8.
+use records::Node;
+use records::Record;
+use records::Rule;
+use records::Shape;
+ghost use mathlib.Core.Path.{_≡_};
+ghost use Rattle.calculus.specs.Read.{kindOf, readTerm};
+ghost use Rattle.sheet.specs.Said.{noNode, mistyped, saidHead, limitsOf, opens, saidSpan, spanned};
+
+const MOST_NODES: usize = 2048;
+
+// A node's record: where the next record is due and the number of subterms, or a refusal.
+pub enum Head {
+    Opens(usize, usize),
+    Refused(u8, usize),
+}
+
+// The refusal at a kind byte where no node's record stands: a node's is that of a record cut short, and no other is known here.
+fn no_node(kind: u8) -> u8
+    ensures { λ r. ⌜ r ≡ noNode (kindOf kind) ⌝ }
+{
+    match records::shape_of(kind) {
+        Shape::Node(_, _, _) => 3,
+        Shape::Type(_, _) => 4,
+        Shape::Unknown => 4,
+    }
+}
+
+// A type number that a node's record holds names no type.
+fn unknown_type(r: Node, types: usize) -> bool
+    ensures { λ b. ⌜ b ≡ mistyped (r .rule) (r .first) (r .second) types ⌝ }
+{
+    let rule = r.rule;
+    match rule {
+        Rule::Bare => false,
+        Rule::Sides => false,
+        Rule::Binder => false,
+        Rule::Typed => types <= records::wide(r.first),
+        Rule::Part => types <= records::wide(r.second),
+    }
+}
+
+// A whole node's record: count, depth, type number. `more` is how many levels of depth there may still be.
+fn limits(r: Node, at: usize, count: usize, more: usize, types: usize) -> Head
+    ensures { λ h. ⌜ saidHead h ≡ limitsOf r at count more types ⌝ }
+{
+    if MOST_NODES <= count {
+        return Head::Refused(8, at);
+    }
+    if more == 0 {
+        return Head::Refused(8, at);
+    }
+    if unknown_type(r, types) {
+        return Head::Refused(5, at);
+    }
+    Head::Opens(r.next, r.subterms)
+}
+
+fn head_at(s: &[u8], at: usize, count: usize, more: usize, types: usize) -> Head
+    ensures { λ h. ⌜ saidHead h ≡ opens more (now (s .entry)) types at count ⌝ }
+{
+    if s.len() <= at {
+        return Head::Refused(3, at);
+    }
+    let Record::Node(r) = records::record_at(s, at) else {
+        return Head::Refused(no_node(s[at]), at);
+    };
+    limits(r, at, count, more, types)
+}
+
+// The end of a term: where the next record is due and how many nodes there have been, or a refusal.
+pub enum Span {
+    Next(usize, usize),
+    Refused(u8, usize),
+}
+
+// The term at an offset, with `count` nodes before it.
+pub fn span_at(s: &[u8], at: usize, count: usize, more: usize, types: usize) -> Span
+    ensures { λ r. ⌜ saidSpan r ≡ spanned (readTerm more (now (s .entry)) types at count) ⌝ }
+{
+    match head_at(s, at, count, more, types) {
+        Head::Refused(number, place) => Span::Refused(number, place),
+        Head::Opens(next, subterms) => {
+            let nodes = count + 1;
+            if subterms == 0 {
+                return Span::Next(next, nodes);
+            }
+            let a = span_at(s, next, nodes, more - 1, types);
+            if subterms == 1 {
+                return a;
+            }
+            match a {
+                Span::Next(b, c) => span_at(s, b, c, more - 1, types),
+                Span::Refused(number, place) => Span::Refused(number, place),
+            }
+        }
+    }
+}

@@ -1,0 +1,278 @@
+// The type records of a sheet: refusals 3 and 5 to 8, and the sizes of the types.
+use records::Form;
+use records::Record;
+use records::Shape;
+use records::TypeRecord;
+ghost use mathlib.Core.Path.{_≡_};
+ghost use mathlib.Core.Bool.{_&&_};
+ghost use mathlib.Core.List.{[]};
+ghost use Prim.Native.Nat.{_+_, _≤_, _<_};
+ghost use lib.Dec.{ltb, eqb};
+ghost use lib.ListN.{length, getD};
+ghost use Rattle.calculus.specs.Types.{recEq};
+ghost use Rattle.calculus.specs.Read.{kindOf, byte, repeated, readTypes};
+ghost use Rattle.records.specs.Forms.{saidForm, recOf, recIn};
+ghost use Rattle.sheet.specs.Tables.{tableIn, sharableRec, arrowRec, knownBelow, formedIn, sizeIn, sizesOf, Before, sizeOf, saidChecked};
+ghost use Rattle.sheet.specs.Said.{saidTypes, noTypes, typesOf, endOf};
+
+const MOST_TYPES: usize = 256;
+
+const LARGEST_SIZE: usize = 128;
+
+// A number is a sharable type's: a single bit's or a product's.
+fn sharable(s: &[u8], t: u8) -> bool
+    ensures { λ r. ⌜ r ≡ sharableRec (recIn (now (s .entry)) t) ⌝ }
+{
+    match records::type_at(s, t) {
+        Form::Bit => true,
+        Form::Product(_, _) => true,
+        Form::Arrow(_, _) => false,
+        Form::Linear(_, _) => false,
+    }
+}
+
+// A number is an arrow's.
+fn arrow(s: &[u8], t: u8) -> bool
+    ensures { λ r. ⌜ r ≡ arrowRec (recIn (now (s .entry)) t) ⌝ }
+{
+    match records::type_at(s, t) {
+        Form::Bit => false,
+        Form::Product(_, _) => false,
+        Form::Arrow(_, _) => true,
+        Form::Linear(_, _) => true,
+    }
+}
+
+// A record that has been read, by its kind.
+fn form_of(r: TypeRecord) -> Form
+    ensures { λ f. ⌜ saidForm f ≡ recOf (r .kind) (r .left) (r .right) ⌝ }
+{
+    let kind = r.kind;
+    match kind {
+        0x02 => Form::Product(r.left, r.right),
+        0x03 => Form::Arrow(r.left, r.right),
+        0x04 => Form::Linear(r.left, r.right),
+        _ => Form::Bit,
+    }
+}
+
+fn both_below(a: u8, b: u8, count: usize) -> bool
+    ensures { λ r. ⌜ r ≡ (ltb a count && ltb b count) ⌝ }
+{
+    if records::wide(a) < count {
+        return records::wide(b) < count;
+    }
+    false
+}
+
+// Both type numbers name earlier types.
+fn known(f: Form, count: usize) -> bool
+    ensures { λ r. ⌜ r ≡ knownBelow count (saidForm f) ⌝ }
+{
+    match f {
+        Form::Bit => true,
+        Form::Product(a, b) => both_below(a, b, count),
+        Form::Arrow(a, b) => both_below(a, b, count),
+        Form::Linear(a, b) => both_below(a, b, count),
+    }
+}
+
+fn both_sharable(s: &[u8], a: u8, b: u8) -> bool
+    ensures { λ r. ⌜ r ≡ (sharableRec (recIn (now (s .entry)) a) && sharableRec (recIn (now (s .entry)) b)) ⌝ }
+{
+    if sharable(s, a) {
+        return sharable(s, b);
+    }
+    false
+}
+
+// The table's left and right rule.
+fn formed(s: &[u8], f: Form) -> bool
+    ensures { λ r. ⌜ r ≡ formedIn (now (s .entry)) (saidForm f) ⌝ }
+{
+    match f {
+        Form::Bit => true,
+        Form::Product(a, b) => both_sharable(s, a, b),
+        Form::Arrow(a, _) => sharable(s, a),
+        Form::Linear(a, _) => arrow(s, a),
+    }
+}
+
+fn both_equal(a: u8, b: u8, c: u8, d: u8) -> bool
+    ensures { λ r. ⌜ r ≡ (eqb a c && eqb b d) ⌝ }
+{
+    if a == c {
+        return b == d;
+    }
+    false
+}
+
+fn same(f: Form, g: Form) -> bool
+    ensures { λ r. ⌜ r ≡ recEq (saidForm f) (saidForm g) ⌝ }
+{
+    match f {
+        Form::Bit => match g {
+            Form::Bit => true,
+            Form::Product(_, _) => false,
+            Form::Arrow(_, _) => false,
+            Form::Linear(_, _) => false,
+        },
+        Form::Product(a, b) => match g {
+            Form::Bit => false,
+            Form::Product(c, d) => both_equal(a, b, c, d),
+            Form::Arrow(_, _) => false,
+            Form::Linear(_, _) => false,
+        },
+        Form::Arrow(a, b) => match g {
+            Form::Bit => false,
+            Form::Product(_, _) => false,
+            Form::Arrow(c, d) => both_equal(a, b, c, d),
+            Form::Linear(_, _) => false,
+        },
+        Form::Linear(a, b) => match g {
+            Form::Bit => false,
+            Form::Product(_, _) => false,
+            Form::Arrow(_, _) => false,
+            Form::Linear(c, d) => both_equal(a, b, c, d),
+        },
+    }
+}
+
+// One of the earlier records is the same.
+fn repeats(s: &[u8], count: usize, f: Form) -> bool
+    requires { ⌜ count ≤ 256 ⌝ }
+    ensures { λ r. ⌜ r ≡ repeated (tableIn (now (s .entry)) count) (saidForm f) ⌝ }
+{
+    let mut t: usize = 0;
+    while t < count {
+        if same(records::type_at(s, t as u8), f) {
+            return true;
+        }
+        t = t + 1;
+    }
+    false
+}
+
+fn sum(sizes: &[u8], a: u8, b: u8) -> usize
+    requires { ⌜ length (now sizes) ≡ 256 ⌝ }
+    ensures { λ r. ⌜ r ≡ getD (now (sizes .entry)) a 0 + getD (now (sizes .entry)) b 0 ⌝ }
+{
+    records::wide(sizes[records::wide(a)]) + records::wide(sizes[records::wide(b)])
+}
+
+// The size of a record's type, from the sizes of earlier types.
+fn size_of(sizes: &[u8], f: Form) -> usize
+    requires { ⌜ length (now sizes) ≡ 256 ⌝ }
+    ensures { λ r. ⌜ r ≡ sizeIn (now (sizes .entry)) (saidForm f) ⌝ }
+{
+    match f {
+        Form::Bit => 1,
+        Form::Product(a, b) => sum(sizes, a, b),
+        Form::Arrow(a, b) => sum(sizes, a, b),
+        Form::Linear(a, b) => sum(sizes, a, b),
+    }
+}
+
+// A type record against those before it: its size, or a refusal's number and place.
+pub enum Checked {
+    Size(u8),
+    Refused(u8, usize),
+}
+
+fn check_type(s: &[u8], at: usize, count: usize, sizes: &[u8], f: Form) -> Checked
+    requires { ⌜ Before (now s) count (now sizes) ⌝ }
+    ensures { λ r. ⌜ saidChecked r ≡ sizeOf (tableIn (now (s .entry)) count) (saidForm f) at ⌝ }
+{
+    if MOST_TYPES <= count {
+        return Checked::Refused(8, at);
+    }
+    let numbers = known(f, count);
+    let form = formed(s, f);
+    if !numbers {
+        return Checked::Refused(5, at);
+    }
+    if !form {
+        return Checked::Refused(6, at);
+    }
+    if repeats(s, count, f) {
+        return Checked::Refused(7, at);
+    }
+    let size = size_of(sizes, f);
+    if LARGEST_SIZE < size {
+        return Checked::Refused(8, at);
+    }
+    let bits = size as u8;
+    Checked::Size(bits)
+}
+
+// The type records: their number and the offset past them, or a refusal's number and place.
+pub enum Listed {
+    All(usize, usize),
+    Refused(u8, usize),
+}
+
+// .. and the size of each type; 0 past them, and where they are refused.
+pub struct Types {
+    pub listed: Listed,
+    pub sizes: [u8; 256],
+}
+
+pub fn no_sizes() -> [u8; 256]
+    ensures { λ r. ⌜ r ≡ sizesOf [] ⌝ }
+{
+    [0u8; 256]
+}
+
+fn no_types(number: u8, place: usize) -> Types
+    ensures { λ r. ⌜ saidTypes r ≡ noTypes number place ⌝ }
+{
+    Types {
+        listed: Listed::Refused(number, place),
+        sizes: no_sizes(),
+    }
+}
+
+// Where no type record stands at an offset: a type's kind byte is that of a record cut short, any other ends the types.
+fn types_end(s: &[u8], at: usize, count: usize, sizes: [u8; 256]) -> Types
+    requires { ⌜ at < length (now s) ⌝ }
+    ensures { λ r. ⌜ saidTypes r ≡ endOf (kindOf (byte (now (s .entry)) at)) at count sizes ⌝ }
+{
+    match records::shape_of(s[at]) {
+        Shape::Type(_, _) => no_types(3, at),
+        Shape::Node(_, _, _) => Types {
+            listed: Listed::All(count, at),
+            sizes,
+        },
+        Shape::Unknown => Types {
+            listed: Listed::All(count, at),
+            sizes,
+        },
+    }
+}
+
+pub fn read_types(s: &[u8]) -> Types
+    ensures { λ r. ⌜ saidTypes r ≡ typesOf (readTypes 256 (now (s .entry)) [] 0) ⌝ }
+{
+    let mut sizes = no_sizes();
+    let mut at: usize = 0;
+    let mut count: usize = 0;
+    while at < s.len() {
+        let Record::Type(r) = records::record_at(s, at) else {
+            return types_end(s, at, count, sizes);
+        };
+        match check_type(s, at, count, &sizes, form_of(r)) {
+            Checked::Refused(number, place) => {
+                return no_types(number, place);
+            }
+            Checked::Size(size) => {
+                sizes[count] = size;
+                count = count + 1;
+                at = r.next;
+            }
+        }
+    }
+    Types {
+        listed: Listed::All(count, at),
+        sizes,
+    }
+}

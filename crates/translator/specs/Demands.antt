@@ -1,0 +1,68 @@
+-- The demands, as statements about what a call leaves. Assumes nothing.
+use Prim.Native.Nat.{ℕ, _+_, _≤_, _<_}
+use mathlib.Core.Path.{_≡_}
+use mathlib.Core.Bool.{Bool}
+use mathlib.Core.Logic.{_↔_}
+use mathlib.Core.List.{List, [], _++_}
+use lib.ListN.{length, getD, drop}
+use Rattle.calculus.specs.Answer.{Answer, good, refused}
+use Rattle.calculus.specs.Types.{Ty}
+use Rattle.calculus.specs.Read.{Sheet, readSheet}
+use Rattle.calculus.specs.Rules.{Typed}
+use Rattle.calculus.specs.Net.{Net, make, netOf, netBytes}
+use Rattle.calculus.specs.Lean.{lean}
+use Rattle.calculus.specs.Record.{Bits, Law, Outside}
+use Rattle.calculus.specs.Formed.{made, targets, ins}
+use Rattle.calculus.specs.Translate.{asked, Call, call}
+
+-- ---- demand 1
+
+-- a success wrote bytes to the front of the output and left the rest; a refusal has a number from 1 to 17 and wrote nothing
+abbrev pub Wrote : Answer ℕ → List ℕ → List ℕ → Type 0
+Wrote (good n) out after = (bytes : List ℕ) × (length bytes ≡ n) × (n ≤ length out) × (after ≡ bytes ++ drop n out)
+Wrote (refused number place) out after = (1 ≤ number) × (number ≤ 17) × (after ≡ out)
+
+-- the first n numbers are 0, the later ones as they were
+pub record Cleared (n : ℕ) (work after : List ℕ) : Type 0 where
+  pub same-length : length after ≡ length work
+  pub zeros : (i : ℕ) → i < n → getD after i 0 ≡ 0
+  pub later : drop n after ≡ drop n work
+
+pub record Demand1 (wantLean : Bool) (s out work : List ℕ) (c : Call) : Type 0 where
+  pub wrote : Wrote (c .said) out (c .out)
+  -- too little working memory: refusal 1, and nothing is touched
+  pub small : length work < 32768 → (c .said ≡ refused 1 0) × (c .out ≡ out) × (c .work ≡ work)
+  pub cleared : 32768 ≤ length work → Cleared 32768 work (c .work)
+
+-- ---- demand 2
+
+-- form, limits and room of a call that is to write the netlist of a sheet σ in n bytes
+pub record Within (wantLean : Bool) (s out work : List ℕ) (σ : Sheet) (n : ℕ) : Type 0 where
+  pub memory : 32768 ≤ length work
+  pub reads : readSheet s ≡ good σ
+  pub terminals : make (σ .table) (σ .term) [] 0 .next ≤ 8192
+  pub needs : length (netBytes (asked wantLean (netOf (make (σ .table) (σ .term) [] 0)))) ≡ n
+  pub room : n ≤ length out
+
+-- .. and Figure 2 has a derivation
+pub record Derivable (wantLean : Bool) (s out work : List ℕ) (n : ℕ) : Type 0 where
+  pub sheet : Sheet
+  pub within : Within wantLean s out work sheet n
+  pub type : Ty
+  pub typed : Typed (sheet .table) [] (sheet .term) type
+
+pub record Demand2 (wantLean : Bool) (s out work : List ℕ) (c : Call) : Type 0 where
+  -- accepted, with n bytes written, exactly when within form, limits and room there is a derivation
+  pub accepted : (n : ℕ) → (c .said ≡ good n) ↔ Derivable wantLean s out work n
+  -- and the bytes written are the definition's
+  pub bytes : (n : ℕ) → c .said ≡ good n → (σ : Sheet) → readSheet s ≡ good σ
+      → c .out ≡ netBytes (asked wantLean (netOf (make (σ .table) (σ .term) [] 0))) ++ drop n out
+
+-- ---- demand 3
+
+-- of the full netlist of an accepted sheet
+pub record Demand3 (m : Net) : Type 1 where
+  -- each input has exactly one wire or stands exactly once among the pins, never both
+  pub one : (i : ℕ) → made (m .elements) i ≡ 1 → targets (m .wires) i + ins (m .pins) i ≡ 1
+  -- the lean netlist is the same circuit, over any law of the parts, for any number of ticks
+  pub same : (law : Law) (n : ℕ) (γ π : Bits) → Outside law m n γ π ↔ Outside law (lean m) n γ π

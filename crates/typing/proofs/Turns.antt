@@ -1,0 +1,247 @@
+-- The walk's turns at one node: what each call may take for granted, and what each way out says. Assumes nothing.
+use Prim.Native.Nat.{ℕ, _+_, _-_, _≤_, _<_}
+use mathlib.Core.Path.{_≡_, refl, sym, ap, subst, _∙_}
+use mathlib.Core.Logic.{⊎-elim}
+use mathlib.Core.List.{List, [], _∷_}
+use native.Mathlib.Omega.{arith}
+use lib.ListN.{length}
+use Rattle.calculus.specs.Answer.{Answer, good, _>>=_}
+use Rattle.calculus.proofs.Answers.{on-bind}
+use Rattle.calculus.specs.Types.{Table}
+use Rattle.calculus.specs.Terms.{Term, nodes}
+use Rattle.calculus.specs.Write.{termBytes}
+use Rattle.calculus.specs.Laid.{Stands}
+use Rattle.calculus.specs.Walk.{Stack, Found, walk}
+use Rattle.records.specs.Record.{recordAt}
+use Rattle.records.specs.Forms.{recIn}
+use Rattle.records.specs.Heads.{nodeOf}
+use Rattle.records.specs.declared.Node.{Node}
+use types.Run.{OneOf}
+use denote.Enum.Declared.{tagOf}
+use Rattle.records.specs.declared.Record.{Record}
+use Rattle.records.proofs.Record.{the-type}
+use Rattle.records.specs.declared.Record.the-variants as rec
+use Rattle.records.proofs.Laws.{stands-record, node-next}
+use Rattle.binders.specs.Stacks.{stackOf}
+use Rattle.binders.proofs.Laws.{length-of}
+use Rattle.typing.specs.declared.Verdict.{Verdict}
+use Rattle.typing.specs.declared.Verdict.the-variants as verdict
+use Rattle.typing.specs.declared.Refusal.{Refusal}
+use Rattle.typing.specs.declared.Checked.{Checked}
+use Rattle.typing.specs.Steps.{leafOf, enterOf, leaveOne, betweenOf, leaveTwo}
+use Rattle.typing.specs.Verdicts.{said, EndsAt, Says, Follows}
+use Rattle.typing.specs.Fits.{Fits, Holds, HoldsIn}
+use Rattle.typing.proofs.VerdictLaws.{foundAt, said-fine, stops, refused-ends}
+use Rattle.typing.proofs.Ranges.{Kept, kept}
+use Rattle.typing.proofs.WalkLaws.{bind-same, bind-assoc, firstOf, secondOf, after, walk-leaf, walk-steps, after-one, after-two}
+use Rattle.typing.proofs.FitLaws.{depth-some, nodes-some, end-none, end-one, end-two, fits-first, fits-second}
+
+-- a record that is no node's begins no term
+pub no-node : (r : Record) → OneOf (0 ∷ 2 ∷ []) (tagOf the-type r) → (s : List ℕ) (at : ℕ) (e : Term) → recordAt s at ≡ r → Stands s at e → ⊥
+no-node (rec.Type q) h s at e g w = let f = stands-record s at e w in let z : _≡_ {A = ℕ} 0 1 = cc in omega arith
+no-node (rec.Refused i p) h s at e g w = let f = stands-record s at e w in let z : _≡_ {A = ℕ} 0 1 = cc in omega arith
+no-node (rec.Node q) h s at e g w = ⊎-elim (λ (z : 1 ≡ 0). omega arith) (λ (z : 1 ≡ 2). omega arith) h
+
+-- ---- what fits
+
+ends-as : (v : Verdict) {a b x y : ℕ} → a ≡ x → b ≡ y → EndsAt v a b → EndsAt v x y
+ends-as v {a} {b} {x} {y} e f h = subst (λ (z : ℕ). EndsAt v x z) f (subst (λ (z : ℕ). EndsAt v z b) e h)
+
+module _ {s : List ℕ} {at node : ℕ} {Θ : Table} {e : Term} {st : Stack} where
+  pub few-binders : Fits s at node Θ e st → length st ≤ 126
+  few-binders F = omega (arith, F .room, depth-some e)
+
+  pub few-nodes : Fits s at node Θ e st → node < 2048
+  few-nodes F = omega (arith, F .few, nodes-some e)
+
+  pub fits-at : {a n : ℕ} → at ≡ a → node ≡ n → Fits s at node Θ e st → Fits s a n Θ e st
+  fits-at {a} {n} p q F = subst (λ (z : ℕ). Fits s a z Θ e st) q (subst (λ (z : ℕ). Fits s z node Θ e st) p F)
+
+  fits-kept : Fits s at node Θ e st → (r : Found) → walk Θ e node st ≡ good r → Kept Θ st r
+  fits-kept F r h = kept Θ (F .table) e (F .ranged) node st (F .numbers) r h
+
+  -- after a walk there are as many binders as before
+  pub held : Fits s at node Θ e st → (x : Checked) {i j : ℕ} → Says x (walk Θ e node st) i j → Holds 126 x
+  held F x X = by-verdict (x .verdict) refl
+    where
+      by-verdict : (v : Verdict) → x .verdict ≡ v → HoldsIn 126 v (x .binders .count)
+      by-verdict (verdict.Fine t i j) q =
+          omega (arith, few-binders F, fits-kept F (foundAt t (stackOf (x .binders))) (sym (X .answer) ∙ said-fine x q) .count, length-of (x .binders))
+      by-verdict (verdict.Refused r) q = tt
+
+pub holds-more : (x : Checked) → Holds 126 x → Holds 128 x
+holds-more x = by-verdict (x .verdict)
+  where
+    by-verdict : (v : Verdict) → HoldsIn 126 v (x .binders .count) → HoldsIn 128 v (x .binders .count)
+    by-verdict (verdict.Fine t i j) h = omega arith
+    by-verdict (verdict.Refused r) h = tt
+
+-- ---- at a node: what is known, place by place of the code
+
+module _ (s : List ℕ) (at node : ℕ) (st : Stack) (Θ : Table) (e : Term) where
+  -- the node's record has been read
+  pub record Here : Type 0 where
+    pub n : Node
+    pub here : recordAt s at ≡ rec.Node n
+    pub fits : Fits s at node Θ e st
+
+  -- a node with subterms has been entered
+  pub record Inside : Type 0 where
+    pub place : Here
+    pub i : Checked
+    pub some : ¬ (place .n .subterms ≡ 0)
+    pub says : Says i (enterOf (recIn s) (place .n .kind) (place .n .first) node st) (place .n .next) (node + 1)
+
+  -- .. and not refused
+  pub record Opened : Type 0 where
+    pub inside : Inside
+    pub t : ℕ
+    pub start : ℕ
+    pub count : ℕ
+    pub fine : inside .i .verdict ≡ verdict.Fine t start count
+
+  -- the first subterm has been walked
+  pub record First : Type 0 where
+    pub opened : Opened
+    pub x : Checked
+    pub says :
+        Says x (walk Θ (firstOf e) (opened .count) (stackOf (opened .inside .i .binders))) (opened .start + length (termBytes (firstOf e))) (opened .count + nodes (firstOf e))
+
+  -- there is a second one, and it has been entered
+  pub record Middle : Type 0 where
+    pub first : First
+    pub m : Checked
+    pub two : ¬ (first .opened .inside .place .n .subterms ≡ 1)
+    pub follows : Follows (first .x) m (betweenOf (recIn s) (first .opened .inside .place .n .kind) node)
+
+  -- .. and not refused
+  pub record Second : Type 0 where
+    pub middle : Middle
+    pub u : ℕ
+    pub start : ℕ
+    pub count : ℕ
+    pub fine : middle .m .verdict ≡ verdict.Fine u start count
+
+  -- the verdict on the whole term
+  abbrev pub Done : Checked → Type 0
+  Done c = Says c (walk Θ e node st) (at + length (termBytes e)) (node + nodes e)
+
+-- ---- .. and what follows there
+
+module _ {s : List ℕ} {at node : ℕ} {st : Stack} {Θ : Table} {e : Term} where
+  module _ (h : Here s at node st Θ e) where
+    node-is : h .n ≡ nodeOf e at
+    node-is = let z : rec.Node (h .n) ≡ rec.Node (nodeOf e at) = sym (h .here) ∙ stands-record s at e (h .fits .stands) in cc
+
+    subterms-are : h .n .subterms ≡ nodeOf e at .subterms
+    subterms-are = ap (λ (n : Node). n .subterms) node-is
+
+    pub turn-leaf : h .n .subterms ≡ 0 → {c : Checked} → Says c (leafOf (recIn s) (h .n .kind) (h .n .first) (h .n .second) node st) (h .n .next) (node + 1) → Done s at node st Θ e c
+    turn-leaf z {c} w =
+        let F = h .fits in
+        let z₁ : nodeOf e at .subterms ≡ 0 = sym subterms-are ∙ z in
+        record {
+          answer = w .answer ∙ ap (λ (n : Node). leafOf (recIn s) (n .kind) (n .first) (n .second) node st) node-is ∙ walk-leaf (recIn s) Θ (F .table) (F .types) at node st (F .numbers) e (F .ranged) z₁;
+          ends = ends-as (c .verdict) (ap (λ (n : Node). n .next) node-is ∙ end-none at e z₁ .0) (omega (arith, end-none at e z₁ .1)) (w .ends);
+        }
+
+  module _ (h : Inside s at node st Θ e) where
+    some-is : ¬ (nodeOf e at .subterms ≡ 0)
+    some-is z = h .some (subterms-are (h .place) ∙ z)
+
+    entered : said (h .i) ≡ enterOf (recIn s) (nodeOf e at .kind) (nodeOf e at .first) node st
+    entered = h .says .answer ∙ ap (λ (n : Node). enterOf (recIn s) (n .kind) (n .first) node st) (node-is (h .place))
+
+    steps : walk Θ e node st ≡ (said (h .i) >>= λ o. walk Θ (firstOf e) (node + 1) (o .stack) >>= after (recIn s) Θ e node)
+    steps = let F = h .place .fits in walk-steps (recIn s) Θ (F .table) (F .types) at node st (F .numbers) e (F .ranged) some-is ∙ rw entered refl
+
+    -- refused on entering
+    pub turn-refused : {r : Refusal} → h .i .verdict ≡ verdict.Refused r → Done s at node st Θ e (h .i)
+    turn-refused v = record { answer = stops (h .i) _ v refl ∙ sym steps; ends = refused-ends (h .i) _ _ v }
+
+  module _ (h : Opened s at node st Θ e) where
+    start-is : (h .start ≡ h .inside .place .n .next) × (h .count ≡ node + 1)
+    start-is = rw (h .fine) at (h .inside .says .ends)
+
+    next-is : h .start ≡ nodeOf e at .next
+    next-is = start-is .0 ∙ ap (λ (n : Node). n .next) (node-is (h .inside .place))
+
+    inside-is : enterOf (recIn s) (nodeOf e at .kind) (nodeOf e at .first) node st ≡ good (foundAt (h .t) (stackOf (h .inside .i .binders)))
+    inside-is = sym (entered (h .inside)) ∙ said-fine (h .inside .i) (h .fine)
+
+    pub turn-falls : length s - h .start < length s - at
+    turn-falls = omega (arith, node-next s at (h .inside .place .here), start-is .0)
+
+    pub turn-first : Fits s (h .start) (h .count) Θ (firstOf e) (stackOf (h .inside .i .binders))
+    turn-first = fits-at (sym next-is) (sym (start-is .1)) (fits-first s at node Θ st e (h .inside .place .fits) (some-is (h .inside)) _ inside-is)
+
+  module _ (h : First s at node st Θ e) where
+    first-said : said (h .x) ≡ walk Θ (firstOf e) (node + 1) (stackOf (h .opened .inside .i .binders))
+    first-said = h .says .answer ∙ ap (λ (z : ℕ). walk Θ (firstOf e) z (stackOf (h .opened .inside .i .binders))) (start-is (h .opened) .1)
+
+    -- the rest of the walk
+    rest : walk Θ e node st ≡ (said (h .x) >>= after (recIn s) Θ e node)
+    rest = steps (h .opened .inside) ∙ rw (said-fine (h .opened .inside .i) (h .opened .fine), first-said) refl
+
+    pub turn-held : Holds 126 (h .x)
+    turn-held = held (turn-first (h .opened)) (h .x) (h .says)
+
+    pub turn-one : h .opened .inside .place .n .subterms ≡ 1 → {c : Checked}
+        → Follows (h .x) c (leaveOne (recIn s) (h .opened .inside .place .n .kind) (h .opened .inside .place .n .first) node) → Done s at node st Θ e c
+    turn-one z {c} w =
+        let N = node-is (h .opened .inside .place) in
+        let z₁ : nodeOf e at .subterms ≡ 1 = sym (subterms-are (h .opened .inside .place)) ∙ z in
+        record {
+          answer = w .answer ∙ bind-same (said (h .x)) (λ a _. ap (λ (n : Node). leaveOne (recIn s) (n .kind) (n .first) node a) N ∙ after-one (recIn s) Θ at node a e z₁) ∙ sym rest;
+          ends = ends-as (c .verdict) (ap (λ (k : ℕ). k + length (termBytes (firstOf e))) (next-is (h .opened)) ∙ end-one at e z₁ .0) (omega (arith, start-is (h .opened) .1, end-one at e z₁ .1)) (w .ends _ _ (h .says .ends));
+        }
+
+  module _ (h : Middle s at node st Θ e) where
+    two-is : ¬ (nodeOf e at .subterms ≡ 1)
+    two-is z = h .two (subterms-are (h .first .opened .inside .place) ∙ z)
+
+    abbrev second : Found → Answer Found
+    second y = walk Θ (secondOf e) (node + 1 + nodes (firstOf e)) (y .stack) >>= leaveTwo (recIn s) (nodeOf e at .kind) (nodeOf e at .first) node (y .type)
+
+    middle-said : said (h .m) ≡ (said (h .first .x) >>= betweenOf (recIn s) (nodeOf e at .kind) node)
+    middle-said = h .follows .answer ∙ ap (λ (n : Node). said (h .first .x) >>= betweenOf (recIn s) (n .kind) node) (node-is (h .first .opened .inside .place))
+
+    rest-two : walk Θ e node st ≡ (said (h .m) >>= second)
+    rest-two =
+        rest (h .first) ∙ bind-same (said (h .first .x)) (λ a _. sym (after-two (recIn s) Θ at node a e (some-is (h .first .opened .inside)) two-is))
+        ∙ sym (bind-assoc (said (h .first .x)) (betweenOf (recIn s) (nodeOf e at .kind) node) second) ∙ ap (λ (z : Answer Found). z >>= second) (sym middle-said)
+
+    -- refused in the first subterm, or between the two
+    pub turn-halfway : {r : Refusal} → h .m .verdict ≡ verdict.Refused r → Done s at node st Θ e (h .m)
+    turn-halfway v = record { answer = stops (h .m) second v refl ∙ sym rest-two; ends = refused-ends (h .m) _ _ v }
+
+  module _ (h : Second s at node st Θ e) where
+    abbrev o : Opened s at node st Θ e
+    o = h .middle .first .opened
+
+    mid-is : (h .start ≡ o .start + length (termBytes (firstOf e))) × (h .count ≡ o .count + nodes (firstOf e))
+    mid-is = rw (h .fine) at (h .middle .follows .ends _ _ (h .middle .first .says .ends))
+
+    count-is : h .count ≡ node + 1 + nodes (firstOf e)
+    count-is = mid-is .1 ∙ ap (λ (z : ℕ). z + nodes (firstOf e)) (start-is o .1)
+
+    pub turn-falls-again : length s - h .start < length s - at
+    turn-falls-again = omega (arith, node-next s at (o .inside .place .here), start-is o .0, mid-is .0)
+
+    pub turn-second : Fits s (h .start) (h .count) Θ (secondOf e) (stackOf (h .middle .m .binders))
+    turn-second =
+        on-bind (said (h .middle .first .x)) (betweenOf (recIn s) (nodeOf e at .kind) node) (foundAt (h .u) (stackOf (h .middle .m .binders))) (sym (middle-said (h .middle)) ∙ said-fine (h .middle .m) (h .fine)) λ a g k.
+        fits-at (ap (λ (z : ℕ). z + length (termBytes (firstOf e))) (sym (next-is o)) ∙ sym (mid-is .0)) (sym count-is)
+        (fits-second s at node Θ st e (o .inside .place .fits) (some-is (o .inside)) _ (inside-is o) (two-is (h .middle)) a (sym (first-said (h .middle .first)) ∙ g) _ k)
+
+    pub turn-two : (y c : Checked) → Says y (walk Θ (secondOf e) (h .count) (stackOf (h .middle .m .binders))) (h .start + length (termBytes (secondOf e))) (h .count + nodes (secondOf e))
+        → Follows y c (leaveTwo (recIn s) (o .inside .place .n .kind) (o .inside .place .n .first) node (h .u)) → Done s at node st Θ e c
+    turn-two y c Y w =
+        let E = end-two at e (some-is (o .inside)) (two-is (h .middle)) in
+        record {
+          answer =
+              w .answer ∙ ap (λ (n : Node). said y >>= leaveTwo (recIn s) (n .kind) (n .first) node (h .u)) (node-is (o .inside .place))
+              ∙ ap (λ (z : Answer Found). z >>= leaveTwo (recIn s) (nodeOf e at .kind) (nodeOf e at .first) node (h .u)) (Y .answer ∙ ap (λ (z : ℕ). walk Θ (secondOf e) z (stackOf (h .middle .m .binders))) count-is)
+              ∙ sym (rest-two (h .middle) ∙ rw (said-fine (h .middle .m) (h .fine)) refl);
+          ends = ends-as (c .verdict) (omega (arith, mid-is .0, next-is o, E .0)) (omega (arith, count-is, E .1)) (w .ends _ _ (Y .ends));
+        }

@@ -1,0 +1,238 @@
+-- The walk at one node, in the steps of the code. Assumes nothing.
+use Prim.Native.Nat.{ℕ, _+_, _<_}
+use mathlib.Core.Path.{_≡_, refl, sym}
+use mathlib.Core.Bool.{Bool, true, false, cond}
+use mathlib.Core.List.{[], _∷_}
+use native.Mathlib.Omega.{arith}
+use lib.Dec.{eqb, leb}
+use lib.ListN.{length, drop}
+use Rattle.calculus.specs.Answer.{Answer, good, refused, _>>=_, need}
+use Rattle.calculus.specs.Types.{TyRec, rec01, rec02, rec03, rec04, Table, recAt}
+use Rattle.calculus.specs.Terms.{Term, var, lvar, fun, app, lfun, lapp, pair, proj, fix, con, nodes, partAt}
+use Rattle.calculus.specs.Laid.{TableOk, Ranged}
+use Rattle.calculus.specs.Walk.{shared, linear, Stack, product, sharableArrow, linearArrow, Found, found, pop, topUsed, walk}
+use Rattle.records.specs.Heads.{nodeOf}
+use Rattle.sheet_theorems.proofs.Complete.{Numbers}
+use Rattle.typing.specs.declared.rules.Fit.the-variants as fit
+use Rattle.typing.specs.Steps.{Types, kindNo, constantOf, leafOf, openingOf, opened, enterOf, wantedOf, usedUp, leaveOne, betweenOf, appliedOf, pairedOf, joinedOf, closesOf, fitted, leaveTwo}
+use Rattle.typing.proofs.Ranges.{sharable-is, stands-for, kept}
+
+-- ---- answers
+
+-- two ways to go on that agree where the first step is good
+pub bind-same : {A B : Type 0} (m : Answer A) {f g : A → Answer B} → ((a : A) → m ≡ good a → f a ≡ g a) → (m >>= f) ≡ (m >>= g)
+bind-same (good a) h = h a refl
+bind-same (refused n p) h = refl
+
+pub bind-assoc : {A B C : Type 0} (m : Answer A) (f : A → Answer B) (g : B → Answer C) → ((m >>= f) >>= g) ≡ (m >>= λ a. f a >>= g)
+bind-assoc (good a) f g = refl
+bind-assoc (refused n p) f g = refl
+
+-- ---- the subterms
+
+abbrev pub firstOf : Term → Term
+firstOf (var i) = var i
+firstOf (lvar i) = lvar i
+firstOf (fun t e) = e
+firstOf (app f a) = f
+firstOf (lfun t e) = e
+firstOf (lapp f a) = f
+firstOf (pair t a b) = a
+firstOf (proj a e) = a
+firstOf (fix t e) = e
+firstOf (con p t) = con p t
+
+abbrev pub secondOf : Term → Term
+secondOf (var i) = var i
+secondOf (lvar i) = lvar i
+secondOf (fun t e) = e
+secondOf (app f a) = a
+secondOf (lfun t e) = e
+secondOf (lapp f a) = a
+secondOf (pair t a b) = b
+secondOf (proj a e) = e
+secondOf (fix t e) = e
+secondOf (con p t) = con p t
+
+-- ---- the rules on one record
+
+pop-is : (st : Stack) → drop 1 st ≡ pop st
+pop-is [] = refl
+pop-is (b ∷ st) = refl
+
+pop-two : (st : Stack) → drop 2 st ≡ pop (pop st)
+pop-two [] = refl
+pop-two (b ∷ []) = refl
+pop-two (b ∷ d ∷ st) = refl
+
+fit-test : (b : Bool) (t n : ℕ) (st : Stack) → fitted (cond b (fit.Type t) fit.Misfit) 0 n st ≡ (need b 12 n >>= λ _. found t st)
+fit-test true t n st = refl
+fit-test false t n st = refl
+
+app-end : (q : TyRec) (u n : ℕ) (st : Stack) → fitted (appliedOf q 3 u) 0 n st ≡ (sharableArrow q n >>= λ τ. need (eqb u (τ .left)) 12 n >>= λ _. found (τ .right) st)
+unfolding appliedOf
+app-end rec01 u n st = refl
+app-end (rec02 a b) u n st = refl
+app-end (rec03 a b) u n st = fit-test (eqb u a) b n st
+app-end (rec04 a b) u n st = refl
+
+lapp-end : (q : TyRec) (u n : ℕ) (st : Stack) → fitted (appliedOf q 4 u) 0 n st ≡ (linearArrow q n >>= λ τ. need (eqb u (τ .left)) 12 n >>= λ _. found (τ .right) st)
+unfolding appliedOf
+lapp-end rec01 u n st = refl
+lapp-end (rec02 a b) u n st = refl
+lapp-end (rec03 a b) u n st = refl
+lapp-end (rec04 a b) u n st = fit-test (eqb u a) b n st
+
+pair-tests : (x y : Bool) (t n : ℕ) (st : Stack) → fitted (cond x (cond y (fit.Type t) fit.Misfit) fit.Misfit) 0 n st ≡ (need x 12 n >>= λ _. need y 12 n >>= λ _. found t st)
+pair-tests true y t n st = fit-test y t n st
+pair-tests false y t n st = refl
+
+-- ---- the walk after a node's first subterm, in the code's steps
+
+abbrev pub after : Types → Table → Term → ℕ → Found → Answer Found
+after R Θ (var i) n x = good x
+after R Θ (lvar i) n x = good x
+after R Θ (fun t e) n x = leaveOne R 0x13 t n x
+after R Θ (app f a) n x = betweenOf R 0x14 n x >>= λ m. walk Θ a (n + 1 + nodes f) (m .stack) >>= leaveTwo R 0x14 0 n (m .type)
+after R Θ (lfun t e) n x = leaveOne R 0x15 t n x
+after R Θ (lapp f a) n x = betweenOf R 0x16 n x >>= λ m. walk Θ a (n + 1 + nodes f) (m .stack) >>= leaveTwo R 0x16 0 n (m .type)
+after R Θ (pair t a b) n x = betweenOf R 0x17 n x >>= λ m. walk Θ b (n + 1 + nodes a) (m .stack) >>= leaveTwo R 0x17 t n (m .type)
+after R Θ (proj a e) n x = betweenOf R 0x18 n x >>= λ m. walk Θ e (n + 1 + nodes a) (m .stack) >>= leaveTwo R 0x18 0 n (m .type)
+after R Θ (fix t e) n x = leaveOne R 0x19 t n x
+after R Θ (con p t) n x = good x
+
+-- ---- each kind of node
+
+module _ (R : Types) (Θ : Table) (ok : TableOk Θ) (same : (t : ℕ) → t < length Θ → R t ≡ recAt Θ t) (n : ℕ) where
+  constant-walk : (p t : ℕ) (st : Stack) → t < length Θ → constantOf R p t n st ≡ walk Θ (con p t) n st
+  unfolding constantOf
+  constant-walk p t st h = rw (stands-for Θ ok R same (partAt p .type) t h)
+
+  module _ (go : ℕ → Stack → Answer Found) where
+    fun-steps : (q : TyRec) (t : ℕ) (st : Stack) → R t ≡ q
+        → (sharableArrow q n >>= λ τ. go (n + 1) (shared (τ .left) ∷ st) >>= λ r. need (eqb (r .type) (τ .right)) 12 n >>= λ _. found t (pop (r .stack)))
+        ≡ (opened (openingOf 0x13 t q) t n st >>= λ o. go (n + 1) (o .stack) >>= leaveOne R 0x13 t n)
+    unfolding openingOf leaveOne usedUp wantedOf
+    fun-steps rec01 t st e = refl
+    fun-steps (rec02 a b) t st e = refl
+    fun-steps (rec03 a b) t st e = bind-same (go (n + 1) (shared a ∷ st)) (λ r h. rw (e, pop-is (r .stack)))
+    fun-steps (rec04 a b) t st e = refl
+
+    lfun-steps : (q : TyRec) (t : ℕ) (st : Stack) → R t ≡ q
+        → (linearArrow q n >>= λ τ. go (n + 1) (linear (τ .left) false ∷ st) >>= λ r. need (topUsed (r .stack)) 14 n >>= λ _. need (eqb (r .type) (τ .right)) 12 n >>= λ _. found t (pop (r .stack)))
+        ≡ (opened (openingOf 0x15 t q) t n st >>= λ o. go (n + 1) (o .stack) >>= leaveOne R 0x15 t n)
+    unfolding openingOf leaveOne usedUp wantedOf
+    lfun-steps rec01 t st e = refl
+    lfun-steps (rec02 a b) t st e = refl
+    lfun-steps (rec03 a b) t st e = refl
+    lfun-steps (rec04 a b) t st e = bind-same (go (n + 1) (linear a false ∷ st)) (λ r h. rw (e, pop-is (r .stack)))
+
+    fix-steps : (q : TyRec) (t : ℕ) (st : Stack)
+        → (need (leb (kindNo q) 2) 12 n >>= λ _. go (n + 1) (shared t ∷ st) >>= λ r. need (eqb (r .type) t) 12 n >>= λ _. found t (pop (r .stack)))
+        ≡ (opened (openingOf 0x19 t q) t n st >>= λ o. go (n + 1) (o .stack) >>= leaveOne R 0x19 t n)
+    unfolding openingOf leaveOne usedUp wantedOf
+    fix-steps rec01 t st = bind-same (go (n + 1) (shared t ∷ st)) (λ r h. rw (pop-is (r .stack)))
+    fix-steps (rec02 a b) t st = bind-same (go (n + 1) (shared t ∷ st)) (λ r h. rw (pop-is (r .stack)))
+    fix-steps (rec03 a b) t st = refl
+    fix-steps (rec04 a b) t st = refl
+
+  app-steps : (f a : Term) (st : Stack) → Ranged Θ f → Numbers st (length Θ)
+      → walk Θ (app f a) n st ≡ (enterOf R 0x14 0 n st >>= λ o. walk Θ f (n + 1) (o .stack) >>= after R Θ (app f a) n)
+  unfolding openingOf betweenOf joinedOf closesOf
+  app-steps f a st r k =
+      bind-same (walk Θ f (n + 1) st) λ x h.
+      bind-same (walk Θ a (n + 1 + nodes f) (x .stack)) λ y g.
+      rw (same (x .type) (kept Θ ok f r (n + 1) st k x h .type-in)) (sym (app-end (recAt Θ (x .type)) (y .type) n (y .stack)))
+
+  lapp-steps : (f a : Term) (st : Stack) → Ranged Θ f → Numbers st (length Θ)
+      → walk Θ (lapp f a) n st ≡ (enterOf R 0x16 0 n st >>= λ o. walk Θ f (n + 1) (o .stack) >>= after R Θ (lapp f a) n)
+  unfolding openingOf betweenOf joinedOf closesOf
+  lapp-steps f a st r k =
+      bind-same (walk Θ f (n + 1) st) λ x h.
+      bind-same (walk Θ a (n + 1 + nodes f) (x .stack)) λ y g.
+      rw (same (x .type) (kept Θ ok f r (n + 1) st k x h .type-in)) (sym (lapp-end (recAt Θ (x .type)) (y .type) n (y .stack)))
+
+  pair-rest : (q : TyRec) (t : ℕ) (a b : Term) (st : Stack) → R t ≡ q
+      → (product q n >>= λ τ. walk Θ a (n + 1) st >>= λ x. walk Θ b (n + 1 + nodes a) (x .stack) >>= λ y. need (eqb (x .type) (τ .left)) 12 n >>= λ _. need (eqb (y .type) (τ .right)) 12 n >>= λ _. found t (y .stack))
+      ≡ (opened (openingOf 0x17 t q) t n st >>= λ o. walk Θ a (n + 1) (o .stack) >>= after R Θ (pair t a b) n)
+  unfolding openingOf betweenOf joinedOf closesOf pairedOf
+  pair-rest rec01 t a b st e = refl
+  pair-rest (rec02 u v) t a b st e =
+      bind-same (walk Θ a (n + 1) st) λ x h.
+      bind-same (walk Θ b (n + 1 + nodes a) (x .stack)) λ y g.
+      rw e (sym (pair-tests (eqb (x .type) u) (eqb (y .type) v) t n (y .stack)))
+  pair-rest (rec03 u v) t a b st e = refl
+  pair-rest (rec04 u v) t a b st e = refl
+
+  proj-rest : (q : TyRec) (a e : Term) (x : Found) → R (x .type) ≡ q
+      → (product q n >>= λ τ. walk Θ e (n + 1 + nodes a) (shared (τ .right) ∷ shared (τ .left) ∷ x .stack) >>= λ y. found (y .type) (pop (pop (y .stack)))) ≡ after R Θ (proj a e) n x
+  unfolding betweenOf joinedOf closesOf
+  proj-rest rec01 a e x h = rw h
+  proj-rest (rec02 u v) a e x h = rw h (bind-same (walk Θ e (n + 1 + nodes a) (shared v ∷ shared u ∷ x .stack)) (λ y g. rw (pop-two (y .stack))))
+  proj-rest (rec03 u v) a e x h = rw h
+  proj-rest (rec04 u v) a e x h = rw h
+
+  proj-steps : (a e : Term) (st : Stack) → Ranged Θ a → Numbers st (length Θ)
+      → walk Θ (proj a e) n st ≡ (enterOf R 0x18 0 n st >>= λ o. walk Θ a (n + 1) (o .stack) >>= after R Θ (proj a e) n)
+  unfolding openingOf
+  proj-steps a e st r k =
+      bind-same (walk Θ a (n + 1) st) λ x h.
+      proj-rest (recAt Θ (x .type)) a e x (same (x .type) (kept Θ ok a r (n + 1) st k x h .type-in))
+
+-- ---- a node by its record
+
+module _ (R : Types) (Θ : Table) (ok : TableOk Θ) (same : (t : ℕ) → t < length Θ → R t ≡ recAt Θ t) (at n : ℕ) (st : Stack) (k : Numbers st (length Θ)) where
+  -- without subterms
+  pub walk-leaf : (e : Term) → Ranged Θ e → nodeOf e at .subterms ≡ 0 → leafOf R (nodeOf e at .kind) (nodeOf e at .first) (nodeOf e at .second) n st ≡ walk Θ e n st
+  unfolding leafOf
+  walk-leaf (var i) r z = refl
+  walk-leaf (lvar i) r z = refl
+  walk-leaf (fun t e) r z = absurd (omega arith)
+  walk-leaf (app f a) r z = absurd (omega arith)
+  walk-leaf (lfun t e) r z = absurd (omega arith)
+  walk-leaf (lapp f a) r z = absurd (omega arith)
+  walk-leaf (pair t a b) r z = absurd (omega arith)
+  walk-leaf (proj a e) r z = absurd (omega arith)
+  walk-leaf (fix t e) r z = absurd (omega arith)
+  walk-leaf (con p t) r z = constant-walk R Θ ok same n p t st r
+
+  -- with subterms: entering, the first subterm, and what comes after it
+  pub walk-steps : (e : Term) → Ranged Θ e → ¬ (nodeOf e at .subterms ≡ 0)
+      → walk Θ e n st ≡ (enterOf R (nodeOf e at .kind) (nodeOf e at .first) n st >>= λ o. walk Θ (firstOf e) (n + 1) (o .stack) >>= after R Θ e n)
+  walk-steps (var i) r d = absurd (d refl)
+  walk-steps (lvar i) r d = absurd (d refl)
+  walk-steps (fun t e) r d = rw (← same t (r .0)) (fun-steps R Θ ok same n (walk Θ e) (R t) t st refl)
+  walk-steps (app f a) r d = app-steps R Θ ok same n f a st (r .0) k
+  walk-steps (lfun t e) r d = rw (← same t (r .0)) (lfun-steps R Θ ok same n (walk Θ e) (R t) t st refl)
+  walk-steps (lapp f a) r d = lapp-steps R Θ ok same n f a st (r .0) k
+  walk-steps (pair t a b) r d = rw (← same t (r .0)) (pair-rest R Θ ok same n (R t) t a b st refl)
+  walk-steps (proj a e) r d = proj-steps R Θ ok same n a e st (r .0) k
+  walk-steps (fix t e) r d = rw (← sharable-is Θ ok t, ← same t (r .0)) (fix-steps R Θ ok same n (walk Θ e) (R t) t st)
+  walk-steps (con p t) r d = absurd (d refl)
+
+module _ (R : Types) (Θ : Table) (at n : ℕ) (x : Found) where
+  pub after-one : (e : Term) → nodeOf e at .subterms ≡ 1 → leaveOne R (nodeOf e at .kind) (nodeOf e at .first) n x ≡ after R Θ e n x
+  after-one (var i) z = absurd (omega arith)
+  after-one (lvar i) z = absurd (omega arith)
+  after-one (fun t e) z = refl
+  after-one (app f a) z = absurd (omega arith)
+  after-one (lfun t e) z = refl
+  after-one (lapp f a) z = absurd (omega arith)
+  after-one (pair t a b) z = absurd (omega arith)
+  after-one (proj a e) z = absurd (omega arith)
+  after-one (fix t e) z = refl
+  after-one (con p t) z = absurd (omega arith)
+
+  pub after-two : (e : Term) → ¬ (nodeOf e at .subterms ≡ 0) → ¬ (nodeOf e at .subterms ≡ 1)
+      → (betweenOf R (nodeOf e at .kind) n x >>= λ m. walk Θ (secondOf e) (n + 1 + nodes (firstOf e)) (m .stack) >>= leaveTwo R (nodeOf e at .kind) (nodeOf e at .first) n (m .type))
+      ≡ after R Θ e n x
+  after-two (var i) d f = absurd (d refl)
+  after-two (lvar i) d f = absurd (d refl)
+  after-two (fun t e) d f = absurd (f refl)
+  after-two (app g a) d f = refl
+  after-two (lfun t e) d f = absurd (f refl)
+  after-two (lapp g a) d f = refl
+  after-two (pair t a b) d f = refl
+  after-two (proj a e) d f = refl
+  after-two (fix t e) d f = absurd (f refl)
+  after-two (con p t) d f = absurd (d refl)

@@ -1,0 +1,52 @@
+-- What the walk may take for granted at an offset of a sheet that has been read. Assumes nothing.
+use Prim.Native.Nat.{ℕ, _+_, _*_, _≤_, _<_}
+use mathlib.Core.Path.{_≡_}
+use mathlib.Core.List.{List}
+use lib.ListN.{length}
+use Rattle.calculus.specs.Answer.{Answer, good}
+use Rattle.calculus.specs.Types.{Table, recAt}
+use Rattle.calculus.specs.Terms.{Term, nodes}
+use Rattle.calculus.specs.Read.{Sheet, readSheet}
+use Rattle.calculus.specs.Write.{tableBytes, termBytes}
+use Rattle.calculus.specs.Laid.{TableOk, Stands, Ranged, depth}
+use Rattle.calculus.specs.Walk.{Stack, walk}
+use Rattle.records.specs.Forms.{recIn}
+use Rattle.sheet_theorems.proofs.Complete.{Numbers}
+use Rattle.typing.specs.declared.Checked.{Checked}
+use Rattle.typing.specs.declared.Verdict.{Verdict}
+use Rattle.typing.specs.declared.Verdict.the-variants as verdict
+use Rattle.typing.specs.Verdicts.{Says}
+
+-- a term stands at an offset, of a sheet that is its own table of types; a level of the term binds two variables at most
+pub record Fits (s : List ℕ) (at node : ℕ) (Θ : Table) (e : Term) (st : Stack) : Type 0 where
+  pub table : TableOk Θ
+  pub types : (t : ℕ) → t < length Θ → recIn s t ≡ recAt Θ t
+  pub stands : Stands s at e
+  pub ranged : Ranged Θ e
+  pub numbers : Numbers st (length Θ)
+  pub room : length st + 2 * depth e ≤ 128
+  pub few : node + nodes e ≤ 2048
+
+-- some term does
+pub record Ready (s : List ℕ) (at node : ℕ) (st : Stack) : Type 0 where
+  pub table : Table
+  pub term : Term
+  pub fits : Fits s at node table term st
+
+-- the walk's verdict on whichever term stands there
+abbrev pub Walked : List ℕ → ℕ → ℕ → Stack → Checked → Type 0
+Walked s at node st c = (Θ : Table) (e : Term) → Fits s at node Θ e st → Says c (walk Θ e node st) (at + length (termBytes e)) (node + nodes e)
+
+-- a verdict that is fine has at most so many binders
+abbrev pub HoldsIn : ℕ → Verdict → ℕ → Type 0
+HoldsIn m (verdict.Fine t x y) count = count ≤ m
+HoldsIn m (verdict.Refused r) count = Unit {0}
+
+abbrev pub Holds : ℕ → Checked → Type 0
+Holds m c = HoldsIn m (c .verdict) (c .binders .count)
+
+-- a sheet that has been read, whose term starts at an offset
+pub record Read (s : List ℕ) (at : ℕ) : Type 0 where
+  pub sheet : Sheet
+  pub good : readSheet s ≡ Answer.good sheet
+  pub start : at ≡ length (tableBytes (sheet .table))

@@ -1,0 +1,58 @@
+//! Calls the proved translator from Rust: prints P3's full and lean netlist in hex, or the refusal.
+
+extern "C" {
+    fn deltawobble_translate(
+        sheet: *const u8,
+        sheet_len: usize,
+        out: *mut u8,
+        out_len: usize,
+        work: *mut u16,
+        work_len: usize,
+        lean: bool,
+    ) -> u64;
+}
+
+/// A refusal's number and place.
+struct Refusal(u32, u32);
+
+/// The bytes of a sheet's netlist. 41,344 bytes of output always do.
+fn translate(sheet: &[u8], lean: bool) -> Result<Vec<u8>, Refusal> {
+    let mut out = vec![0u8; 41_344];
+    let mut work = vec![0u16; 32_768];
+    let (room, memory) = (out.len(), work.len());
+    // the pointers and lengths are those of slices that live through the call
+    let answer = unsafe {
+        deltawobble_translate(
+            sheet.as_ptr(),
+            sheet.len(),
+            out.as_mut_ptr(),
+            room,
+            work.as_mut_ptr(),
+            memory,
+            lean,
+        )
+    };
+    match ((answer >> 32) as u32, answer as u32) {
+        (0, length) => {
+            out.truncate(length as usize);
+            Ok(out)
+        }
+        (number, place) => Err(Refusal(number, place)),
+    }
+}
+
+fn main() {
+    let sheet = [
+        0x01, 0x03, 0x00, 0x00, 0x04, 0x01, 0x00, 0x16, 0x15, 0x02, 0x14, 0x12, 0x00, 0x1A, 0x00,
+        0x00, 0x1A, 0x01, 0x01,
+    ];
+    for (name, lean) in [("full", false), ("lean", true)] {
+        match translate(&sheet, lean) {
+            Ok(netlist) => {
+                let hex: Vec<String> = netlist.iter().map(|byte| format!(" {byte:02x}")).collect();
+                println!("{name}{}", hex.concat());
+            }
+            Err(Refusal(number, place)) => println!("{name} refused {number} {place}"),
+        }
+    }
+}
