@@ -12,7 +12,7 @@ use Rattle.calculus.specs.Read.{Sheet, readSheet}
 use Rattle.calculus.specs.Walk.{Found, walk}
 use Rattle.calculus.specs.Net.{Net, make, netOf, netBytes}
 use Rattle.calculus.specs.Translate.{full, answer, asked, saidOf, outOf}
-use Rattle.typing.specs.Verdicts.{typeOf, checkOf}
+use Rattle.typing.specs.Answers.{typeOf, checkOf}
 use Rattle.translator.specs.Said.{netAnswer, askedAnswer, Says, Keeps}
 use Rattle.translator.specs.declared.Answer.the-variants as answer
 

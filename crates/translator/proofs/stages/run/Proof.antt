@@ -1,0 +1,57 @@
+use borrow.Author.Needs.{needs}
+use Rattle.translator.proofs.stages.run.Statement.{statement}
+use Rattle.translator.proofs.stages.run.Tie as tie
+use Rattle.translator.proofs.stages.run.Reads as reads
+use Rattle.translator.proofs.stages.run.Lts as lts
+use Rattle.sheet.proofs.read.Reads as read-reads
+use Rattle.translator.proofs.stages.checked.Reads as checked-reads
+
+-- src/stages.rt:53:9
+read-requires : tie.Need-read-requires
+read-requires c κs = search needs
+
+-- src/stages.rt:57:26
+enum-known-verdict : tie.Need-enum-known-verdict
+enum-known-verdict c = search needs
+
+-- src/stages.rt:58:26
+enum-known-verdict-2 : tie.Need-enum-known-verdict-2
+enum-known-verdict-2 c = search needs
+
+-- src/stages.rt:58:58
+slice-aggregate-checked : tie.Need-slice-aggregate-checked
+slice-aggregate-checked c = search needs
+
+-- src/stages.rt:58:43
+checked-requires : tie.Need-checked-requires
+checked-requires c κs = ?
+
+-- src/stages.rt:48:1
+returns : tie.Need-returns
+returns c = ?
+
+-- src/stages.rt:48:1
+same-length : tie.Need-same-length
+same-length c = search needs
+
+-- src/stages.rt:48:1
+same-length-2 : tie.Need-same-length-2
+same-length-2 c = search needs
+
+-- src/stages.rt:48:1
+returns-2 : tie.Need-returns-2
+returns-2 c = search needs
+
+pub run-spec : {M : Type 1} → statement M
+run-spec =
+    tie.close
+    (tie.spec
+    read-requires
+    enum-known-verdict
+    enum-known-verdict-2
+    slice-aggregate-checked
+    checked-requires
+    returns
+    same-length
+    same-length-2
+    returns-2)
