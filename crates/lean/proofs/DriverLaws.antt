@@ -1,18 +1,16 @@
 -- The table of drivers on a netlist that stands in the memory: an input has none just where it is a pin. Assumes nothing.
-use Prim.Native.Nat.{ℕ, zero, suc, _+_, _≤_, _<_}
-use mathlib.Core.Path.{_≡_, refl, sym, ap, _∙_, subst}
-use mathlib.Core.Bool.{Bool, true, false, cond}
-use mathlib.Core.List.{List, [], _∷_}
+use Prim.Native.Nat.{ℕ, _+_, _≤_, _<_}
+use mathlib.Core.Path.{_≡_, refl, sym, _∙_, subst}
+use mathlib.Core.Bool.{Bool, true, false}
+use mathlib.Core.List.{List}
 use native.Mathlib.Omega.{arith}
 use native.Mathlib.Decide.{ℕ-discrete}
 use lib.Dec.{T, eqb}
-use lib.ListN.{length, getD}
+use lib.ListN.{getD}
 use borrow.Author.Tests.{ne-eqb, eq-eqb}
-use Rattle.laws.proofs.Tests.{by-eqb, T-is, is-false}
-use Rattle.calculus.specs.Net.{Interface, Element, Wire, Net}
+use Rattle.calculus.specs.Net.{Net}
 use Rattle.calculus.specs.Lean.{driver, isPin, back, root}
-use Rattle.calculus.specs.Record.{All}
-use Rattle.calculus.specs.Formed.{targets, ins, made, isOut, Rising, Formed}
+use Rattle.calculus.specs.Formed.{targets, made, isOut, Rising}
 use Rattle.circuit_theorems.proofs.Lists.{all-map}
 use Rattle.circuit_theorems.proofs.Terminals.{pointIn, made-high, made-one, tiled-rising, out-high, point-made, driver-is, driver-fed, driver-any, pin-ins, no-ins}
 use Rattle.circuit_theorems.proofs.Drive.{driver-none}

@@ -1,7 +1,7 @@
 -- Room for a whole lean netlist is room for its elements, wires and pins, one after the other. Assumes nothing.
-use Prim.Native.Nat.{ℕ, _+_, _≤_, _<_}
+use Prim.Native.Nat.{ℕ, _+_, _≤_}
 use mathlib.Core.Path.{_≡_, refl, sym, ap, _∙_}
-use mathlib.Core.List.{List, [], _∷_, _++_}
+use mathlib.Core.List.{List, _++_}
 use native.Mathlib.Omega.{arith}
 use lib.ListN.{length, length-append}
 use lib.Seq.{sets}
@@ -11,7 +11,7 @@ use Rattle.memory.specs.Map.{region, netIn}
 use Rattle.netlist.proofs.InMemory.{kind-here}
 use Rattle.lean.specs.InMemory.{keptRow, wireRow, pinRow}
 use Rattle.lean.specs.Fitting.{Fits, RowFits, PinsFit}
-use Rattle.lean.proofs.RowLaws.{Writing, writing-start, writing-step}
+use Rattle.lean.proofs.RowLaws.{writing-start, writing-step}
 use Rattle.lean.proofs.LeanLaws.{lean-bytes, driven, kinds-low, pins-low}
 
 module _ (w : List ℕ) (e k p room : ℕ) (f : Fits w e k p room) where

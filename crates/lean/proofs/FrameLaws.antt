@@ -1,18 +1,17 @@
 -- The netlist in the memory stays where only the table of roots changes. Assumes nothing.
-use Prim.Native.Nat.{ℕ, zero, suc, _+_, _≤_, _<_}
-use mathlib.Core.Path.{_≡_, refl, sym, ap, _∙_, subst}
-use mathlib.Core.List.{List, [], _∷_, map}
+use Prim.Native.Nat.{ℕ, _+_, _≤_, _<_}
+use mathlib.Core.Path.{_≡_, refl, sym, ap, _∙_}
+use mathlib.Core.List.{List, [], _∷_}
 use native.Mathlib.Omega.{arith}
 use native.Mathlib.Decide.{decLe}
-use lib.ListN.{length, getD, take, drop}
 use Rattle.laws.proofs.Regions.{region-ext}
-use Rattle.calculus.specs.Net.{Interface, Element, Wire, Net}
+use Rattle.calculus.specs.Net.{Net}
 use Rattle.calculus.specs.Record.{All}
-use Rattle.calculus.specs.Formed.{targets, ins, made, Tiled, Formed}
+use Rattle.calculus.specs.Formed.{targets}
 use Rattle.calculus.specs.Lean.{driver}
 use Rattle.circuit_theorems.proofs.Lists.{all-map}
 use Rattle.circuit_theorems.proofs.Terminals.{each-target, made-high, tiled-rising}
-use Rattle.memory.specs.Map.{region, elementsFrom, wiresFrom, terminalOf, netIn, Ready}
+use Rattle.memory.specs.Map.{region, wiresFrom, netIn, Ready}
 use Rattle.lean.specs.Table.{Within}
 
 wires-to : (w is : List ℕ) (P : ℕ → Type 0) → All (λ x. P (x .to)) (wiresFrom w is) → All P is

@@ -1,17 +1,16 @@
 -- Laws of elements that their kinds tell: the terminals that they take. Assumes nothing.
 use Prim.Native.Nat.{ℕ, zero, suc, _+_, _≤_, _<_}
-use mathlib.Core.Path.{_≡_, refl, sym, ap, _∙_}
+use mathlib.Core.Path.{_≡_, refl}
 use mathlib.Core.Bool.{Bool, true, false, cond}
 use mathlib.Core.List.{List, [], _∷_}
 use native.Mathlib.Omega.{arith}
 use native.Mathlib.Numerals.{add-one}
 use lib.Dec.{eqb}
 use borrow.Author.Tests.{ne-eqb, eq-eqb}
-use lib.ListN.{length, getD, take, drop, length-take, length-drop}
-use lib.Seq.{drop-cons, getD-take, getD-drop, length-take-le}
+use lib.ListN.{length, getD, drop}
+use lib.Seq.{drop-cons, getD-take, getD-drop}
 use Rattle.laws.proofs.Regions.{drop-past}
 use Rattle.calculus.specs.Terms.{partAt}
-use Rattle.calculus.specs.Net.{Element, point, part}
 use Rattle.calculus.specs.Formed.{Tiled}
 use Rattle.memory.specs.Map.{region, elementsFrom}
 use Rattle.netlist.specs.Elements.{after, afterAll}

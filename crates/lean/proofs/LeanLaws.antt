@@ -1,26 +1,25 @@
 -- The tables of drivers and roots in the working memory give the lean netlist of the definition. Assumes nothing.
 use Prim.Native.Nat.{ℕ, zero, suc, _+_, _*_, _≤_, _<_}
-use mathlib.Core.Path.{_≡_, refl, sym, ap, _∙_, subst}
-use mathlib.Core.Bool.{Bool, true, false, cond, not, _&&_, _||_}
+use mathlib.Core.Path.{_≡_, refl, ap, _∙_, subst}
+use mathlib.Core.Bool.{Bool, true, false, cond, _||_}
 use mathlib.Core.List.{List, [], _∷_, _++_, map}
 use native.Mathlib.Omega.{arith}
-use native.Mathlib.Nat.{le-refl}
 use lib.Dec.{T, eqb, eqb-refl}
 use lib.ListN.{length, getD, length-append, length-map}
-use borrow.Author.Tests.{ne-eqb, eq-eqb, eqb-false}
-use Rattle.laws.proofs.Tests.{by-eqb, or-left, or-right, T-is}
+use borrow.Author.Tests.{eqb-false}
+use Rattle.laws.proofs.Tests.{or-left, or-right, T-is}
 use Rattle.calculus.specs.Terms.{partAt}
-use Rattle.calculus.specs.Net.{Terminal, inp, out, Interface, Element, point, part, Wire, Net, partSide, elementBytes, wireBytes, pinBytes, netBytes}
-use Rattle.calculus.specs.Lean.{driver, isPin, root, kept, keep, toInputs, toElement, leanWires, leanPin, lean}
+use Rattle.calculus.specs.Net.{Terminal, inp, out, Element, point, part, Net, partSide, netBytes}
+use Rattle.calculus.specs.Lean.{driver, isPin, root, keep, toInputs, toElement, leanWires, leanPin, lean}
 use Rattle.calculus.specs.Record.{All}
 use Rattle.calculus.specs.Formed.{is, ins, made, isOut, Shown}
-use Rattle.memory.specs.Map.{region, elementsFrom, terminalOf, netIn, Ready}
+use Rattle.memory.specs.Map.{region, terminalOf, netIn}
 use Rattle.netlist.specs.Said.{wire}
 use Rattle.netlist.specs.Elements.{afterAll}
 use Rattle.netlist.proofs.InMemory.{region-length, region-at}
 use Rattle.netlist.proofs.Records as records
 use Rattle.lean.specs.Table.{entry, Whole}
-use Rattle.lean.specs.InMemory.{undriven, keptIn, keepIn, inputIn, inputsIn, elementIn, wiresIn, pinIn, keptRow, wireRow, pinRow}
+use Rattle.lean.specs.InMemory.{undriven, keepIn, inputIn, inputsIn, elementIn, wiresIn, pinIn, keptRow, wireRow, pinRow}
 use Rattle.lean.specs.Fitting.{Driven, LowPin}
 use Rattle.lean.proofs.KindLaws.{tiled-after}
 use Rattle.lean.proofs.SumLaws.{rowsSize}

@@ -9,3 +9,4 @@ pub mod RowLaws
 pub mod SumLaws
 pub mod LeanLaws
 pub mod FitLaws
+pub mod Determined

@@ -1,22 +1,21 @@
 -- Going back from an output: where it is settled, or comes round. Assumes nothing.
 use Prim.Native.Nat.{ℕ, zero, suc, _+_, _-_, _*_, _≤_, _<_, min}
 use mathlib.Core.Path.{_≡_, refl, sym, ap, _∙_, subst}
-use mathlib.Core.Logic.{_⊎_, ⊎-elim}
-use mathlib.Core.Bool.{Bool, true, false}
+use mathlib.Core.Logic.{⊎-elim}
 use mathlib.Core.List.{List, [], _∷_}
 use native.Mathlib.Omega.{arith}
 use native.Mathlib.Numerals.{add-one}
 use native.Mathlib.Nat.{le-antisymm, le-refl, min-eq-left}
 use native.Mathlib.Decide.{ℕ-discrete}
 use lib.Dec.{T}
-use lib.ListN.{length, getD}
+use lib.ListN.{getD}
 use Rattle.calculus.specs.Terms.{partAt}
 use Rattle.calculus.specs.Net.{Element, point, part, Net}
 use Rattle.calculus.specs.Lean.{pointCount, back, backs, lowest, root}
 use Rattle.calculus.specs.Formed.{isOut, Rising}
 use Rattle.circuit_theorems.proofs.Rings.{Round, count}
 use Rattle.circuit_theorems.proofs.RootLaws.{lowest-is, backs-back, still, root-steps, ring-reached, ring-le, root-lowest}
-use Rattle.memory.specs.Map.{netIn, Ready}
+use Rattle.memory.specs.Map.{netIn}
 use Rattle.lean.specs.Table.{entry, Partly, Comes, Met}
 use Rattle.lean.proofs.DriverLaws.{rising}
 use Rattle.lean.proofs.SettleLaws.{back-below}

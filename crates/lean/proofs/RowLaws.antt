@@ -1,17 +1,17 @@
 -- Records written one after the other: what is written and what is still to come make the whole. Assumes nothing.
 use Prim.Native.Nat.{ℕ, zero, suc, _+_, _-_, _*_, _≤_, _<_}
 use mathlib.Core.Path.{_≡_, refl, sym, ap, _∙_, subst}
-use mathlib.Core.Bool.{Bool, true, false, cond, not, _&&_}
-use mathlib.Core.List.{List, [], _∷_, _++_, map, append-assoc}
+use mathlib.Core.Bool.{Bool, true, false, cond, _&&_}
+use mathlib.Core.List.{List, [], _∷_, _++_, append-assoc}
 use native.Mathlib.Omega.{arith}
 use native.Mathlib.Decide.{ℕ-discrete}
-use lib.Dec.{T, eqb}
+use lib.Dec.{eqb}
 use lib.ListN.{length, getD, drop, length-append}
 use lib.Seq.{sets, length-sets}
 use borrow.Author.Tests.{ne-eqb, eq-eqb}
 use Rattle.laws.proofs.Regions.{sets-append}
 use Rattle.calculus.specs.Terms.{partAt}
-use Rattle.calculus.specs.Net.{Terminal, inp, out, Element, point, part, Wire, elementBytes, wireBytes, pinBytes}
+use Rattle.calculus.specs.Net.{Element, point, part, Wire, elementBytes, wireBytes, pinBytes}
 use Rattle.memory.specs.Map.{region, elementsFrom, terminalOf}
 use Rattle.netlist.specs.Elements.{after, afterAll}
 use Rattle.netlist.proofs.Elements.{kinds-append, after-rises}

@@ -1,20 +1,20 @@
 -- One output more is settled: the table stays partly done. Assumes nothing.
-use Prim.Native.Nat.{ℕ, zero, suc, _+_, _-_, _≤_, _<_}
+use Prim.Native.Nat.{ℕ, _+_, _-_, _<_}
 use mathlib.Core.Path.{_≡_, refl, sym, ap, _∙_, subst}
 use mathlib.Core.Bool.{Bool, true, false, cond}
-use mathlib.Core.List.{List, [], _∷_}
+use mathlib.Core.List.{List}
 use native.Mathlib.Omega.{arith}
 use native.Mathlib.Decide.{ℕ-discrete}
 use lib.Dec.{T}
-use lib.ListN.{length, getD, set}
+use lib.ListN.{getD, set}
 use Rattle.laws.proofs.Tests.{false-not-T}
 use Rattle.calculus.specs.Net.{Net}
-use Rattle.calculus.specs.Lean.{back, backs, root}
+use Rattle.calculus.specs.Lean.{root}
 use Rattle.calculus.specs.Formed.{isOut}
 use Rattle.circuit_theorems.proofs.RootLaws.{root-reached, root-back}
 use Rattle.circuit_theorems.proofs.BackLaws.{back-out, backs-out}
 use Rattle.memory.specs.Map.{netIn, Ready}
-use Rattle.lean.specs.Table.{entry, Within, Partly, Settled, Rooted}
+use Rattle.lean.specs.Table.{entry, Within, Partly, Met, Settled, Rooted}
 use Rattle.lean.proofs.TableLaws.{within-none, within-then, within-set, entry-same, entry-other}
 use Rattle.lean.proofs.FrameLaws.{net-same}
 use Rattle.lean.proofs.DriverLaws.{output-below}
@@ -64,6 +64,10 @@ module _ (w : List ℕ) (e k p : ℕ) (q : Partly w e k p) where
     -- its root is entered
     pub partly-set : Partly (set w (19072 + o) (root m o)) e k p
     partly-set = partly-of w e k p (q .ready) (set w (19072 + o) (root m o)) (within-set w o (root m o) (output-below w e k p (q .ready) o t)) set-other set-says
+
+-- what is met on the way back from o has the same root
+pub met-root : (w : List ℕ) (e k p o x r : ℕ) → Met w e k p o x → r ≡ root (netIn w e k p) x → r ≡ root (netIn w e k p) o
+met-root w e k p o x r m z = z ∙ m .same
 
 -- ---- from o back, each gets the root r; x is next
 

@@ -1,16 +1,14 @@
 -- The table as it starts: each entry is right or not settled. Assumes nothing.
-use Prim.Native.Nat.{ℕ, zero, suc, _+_, _-_, _≤_, _<_}
+use Prim.Native.Nat.{ℕ, _+_, _-_, _≤_, _<_}
 use mathlib.Core.Path.{_≡_, refl, sym, ap, _∙_, subst}
 use mathlib.Core.Bool.{Bool, true, false, cond, _||_}
 use mathlib.Core.List.{List, [], _∷_}
 use native.Mathlib.Omega.{arith}
-use native.Mathlib.Decide.{ℕ-discrete}
 use lib.Dec.{T, eqb, eqb→eq, eqb-refl}
 use lib.ListN.{length, getD, set, length-set}
-use borrow.Author.Tests.{ne-eqb, eq-eqb}
 use Rattle.laws.proofs.Tests.{by-eqb, or-elim, or-left, or-right}
 use Rattle.calculus.specs.Terms.{partAt}
-use Rattle.calculus.specs.Net.{Element, point, part, Net}
+use Rattle.calculus.specs.Net.{point, part, Net}
 use Rattle.calculus.specs.Lean.{back, root}
 use Rattle.calculus.specs.Record.{All}
 use Rattle.calculus.specs.Formed.{isOut}

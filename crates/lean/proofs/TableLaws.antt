@@ -1,14 +1,13 @@
 -- Laws of a memory that changes in the table of roots only. Assumes nothing.
-use Prim.Native.Nat.{ℕ, _+_, _-_, _≤_, _<_}
+use Prim.Native.Nat.{ℕ, _+_, _≤_, _<_}
 use mathlib.Core.Path.{_≡_, refl, sym, ap, _∙_, subst}
 use mathlib.Core.Logic.{_≢_}
-use mathlib.Core.List.{List, [], _∷_}
+use mathlib.Core.List.{List, _∷_}
 use native.Mathlib.Omega.{arith}
 use native.Mathlib.Decide.{ℕ-discrete}
 use lib.ListN.{length, getD, set, drop, length-set}
 use lib.Seq.{getD-set-same, getD-set-other}
 use borrow.Author.Tests.{ne-eqb, eq-eqb}
-use Rattle.calculus.specs.Terms.{partAt}
 use Rattle.memory.specs.Map.{region}
 use Rattle.netlist.specs.Elements.{after, afterAll}
 use Rattle.lean.specs.Table.{outputOf, entry, Within, firstOf, started}

@@ -1,7 +1,7 @@
 -- What a writer of records asks of the working memory and of the room in the output. Assumes nothing.
 use Prim.Native.Nat.{ℕ, _+_, _≤_, _<_}
 use mathlib.Core.Path.{_≡_}
-use mathlib.Core.List.{List, [], _∷_}
+use mathlib.Core.List.{List}
 use lib.ListN.{length, getD}
 use Rattle.calculus.specs.Net.{Terminal, inp, out, netBytes}
 use Rattle.calculus.specs.Lean.{lean}

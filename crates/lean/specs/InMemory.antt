@@ -1,12 +1,12 @@
 -- The lean netlist as the tables of drivers and roots in the working memory give it. Assumes nothing.
 use Prim.Native.Nat.{ℕ, zero, suc, _+_}
-use mathlib.Core.Bool.{Bool, true, false, not, _&&_, cond}
+use mathlib.Core.Bool.{Bool, true, not, _&&_, cond}
 use mathlib.Core.List.{List, [], _∷_, _++_, map}
-use lib.ListN.{length, getD}
+use lib.ListN.{getD}
 use lib.Dec.{eqb}
 use Rattle.calculus.specs.Terms.{partAt}
-use Rattle.calculus.specs.Net.{Terminal, inp, out, Interface, Element, point, part, Wire, elementBytes, wireBytes, pinBytes}
-use Rattle.memory.specs.Map.{region, elementsFrom, terminalOf}
+use Rattle.calculus.specs.Net.{Terminal, inp, out, Element, point, part, Wire, elementBytes, wireBytes, pinBytes}
+use Rattle.memory.specs.Map.{elementsFrom, terminalOf}
 use Rattle.lean.specs.Table.{entry}
 
 -- input i has no driver

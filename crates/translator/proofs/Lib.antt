@@ -1,3 +1,4 @@
 pub mod Numbers
 pub mod Demands
 pub mod WriteLaws
+pub mod StageLaws

@@ -22,6 +22,12 @@ netAnswer m room = do
   _ ← need (leb (length (netBytes m)) room) 17 (length (netBytes m))
   good (netBytes m)
 
+-- the netlist asked for, once there is a full one
+unfoldable pub askedAnswer : Bool → Answer Net → ℕ → Answer (List ℕ)
+askedAnswer wantLean a room = do
+  m ← a
+  netAnswer (asked wantLean m) room
+
 -- an answer and what it leaves of the output are those of `a`
 pub record Says (r : code.Answer) (before after : List ℕ) (a : Answer (List ℕ)) : Type 0 where
   pub said : saidAnswer r ≡ saidOf a

@@ -13,7 +13,7 @@ use Rattle.calculus.specs.Walk.{Found, walk}
 use Rattle.sheet_theorems.proofs.Exact.{exact}
 use Rattle.typing.specs.declared.Typing.{Typing}
 use Rattle.typing.specs.declared.Typing.the-variants as typing
-use Rattle.typing.specs.Verdicts.{saidTyping, checkOf}
+use Rattle.typing.specs.Answers.{saidTyping, checkOf}
 
 -- ---- two answers that the contract of `check` allows are equal
 

@@ -10,8 +10,9 @@ use Rattle.sheet_theorems.proofs.Standing.{sheet-stands}
 use Rattle.typing.specs.declared.Verdict.the-variants as verdict
 use Rattle.typing.specs.declared.Refusal.{Refusal}
 use Rattle.typing.specs.declared.Checked.{Checked}
-use Rattle.typing.specs.Verdicts.{said, checkOf}
-use Rattle.typing.specs.Fits.{Fits, Walked, Read}
+use Rattle.typing.specs.Verdicts.{said}
+use Rattle.typing.specs.Answers.{checkOf, Read}
+use Rattle.typing.specs.Fits.{Fits, Walked}
 use Rattle.typing.proofs.VerdictLaws.{said-fine, said-refused}
 use Rattle.typing.proofs.Ranges.{sheet-types}
 

@@ -3,11 +3,9 @@ use Prim.Native.Nat.{ℕ, _+_, _*_, _≤_, _<_}
 use mathlib.Core.Path.{_≡_}
 use mathlib.Core.List.{List}
 use lib.ListN.{length}
-use Rattle.calculus.specs.Answer.{Answer, good}
 use Rattle.calculus.specs.Types.{Table, recAt}
 use Rattle.calculus.specs.Terms.{Term, nodes}
-use Rattle.calculus.specs.Read.{Sheet, readSheet}
-use Rattle.calculus.specs.Write.{tableBytes, termBytes}
+use Rattle.calculus.specs.Write.{termBytes}
 use Rattle.calculus.specs.Laid.{TableOk, Stands, Ranged, depth}
 use Rattle.calculus.specs.Walk.{Stack, walk}
 use Rattle.records.specs.Forms.{recIn}
@@ -44,9 +42,3 @@ HoldsIn m (verdict.Refused r) count = Unit {0}
 
 abbrev pub Holds : ℕ → Checked → Type 0
 Holds m c = HoldsIn m (c .verdict) (c .binders .count)
-
--- a sheet that has been read, whose term starts at an offset
-pub record Read (s : List ℕ) (at : ℕ) : Type 0 where
-  pub sheet : Sheet
-  pub good : readSheet s ≡ Answer.good sheet
-  pub start : at ≡ length (tableBytes (sheet .table))

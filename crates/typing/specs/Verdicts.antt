@@ -1,17 +1,13 @@
 -- What the walk's verdict says: a type number with the binders, or a refusal; and where a term ends. Assumes nothing.
 use Prim.Native.Nat.{ℕ}
 use mathlib.Core.Path.{_≡_}
-use mathlib.Core.List.{List, []}
-use Rattle.calculus.specs.Answer.{Answer, good, refused, _>>=_}
-use Rattle.calculus.specs.Read.{Sheet, readSheet}
-use Rattle.calculus.specs.Walk.{Stack, Found, found, walk}
+use Rattle.calculus.specs.Answer.{Answer, refused, _>>=_}
+use Rattle.calculus.specs.Walk.{Stack, Found, found}
 use Rattle.binders.specs.Stacks.{stackOf}
 use Rattle.binders.specs.declared.Binders.{Binders}
 use Rattle.typing.specs.declared.Verdict.{Verdict}
 use Rattle.typing.specs.declared.Verdict.the-variants as verdict
 use Rattle.typing.specs.declared.Checked.{Checked}
-use Rattle.typing.specs.declared.Typing.{Typing}
-use Rattle.typing.specs.declared.Typing.the-variants as typing
 
 abbrev pub saidVerdict : Verdict → Stack → Answer Found
 saidVerdict (verdict.Fine t next count) st = found t st
@@ -40,17 +36,3 @@ pub record Says (c : Checked) (a : Answer Found) (next count : ℕ) : Type 0 whe
 pub record Follows (x c : Checked) (f : Found → Answer Found) : Type 0 where
   pub answer : said c ≡ (said x >>= f)
   pub ends : (next count : ℕ) → EndsAt (x .verdict) next count → EndsAt (c .verdict) next count
-
--- ---- the sheet
-
-abbrev pub saidTyping : Typing → Answer ℕ
-saidTyping (typing.Type t) = good t
-saidTyping (typing.Refused r) = refused (r .number) (r .place)
-
--- the type number of a sheet's term
-abbrev pub typeOf : Sheet → Answer ℕ
-typeOf σ = walk (σ .table) (σ .term) 0 [] >>= λ r. good (r .type)
-
--- the reader, then the walk
-unfoldable pub checkOf : List ℕ → Answer ℕ
-checkOf s = readSheet s >>= typeOf

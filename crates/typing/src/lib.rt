@@ -10,8 +10,9 @@ ghost use Prim.Native.Nat.{_+_, _<_, _≤_};
 ghost use Rattle.records.specs.Forms.{recIn};
 ghost use Rattle.binders.specs.Stacks.{stackOf, saidUse};
 ghost use Rattle.typing.specs.Steps.{leafOf, enterOf, usedUp, leaveOne, betweenOf, leaveTwo};
-ghost use Rattle.typing.specs.Verdicts.{stoppedOf, fineOf, Says, Follows, saidTyping, checkOf};
-ghost use Rattle.typing.specs.Fits.{Ready, Walked, Holds, Read};
+ghost use Rattle.typing.specs.Verdicts.{stoppedOf, fineOf, Says, Follows};
+ghost use Rattle.typing.specs.Answers.{saidTyping, checkOf, Read};
+ghost use Rattle.typing.specs.Fits.{Ready, Walked, Holds};
 
 mod rules;
 
@@ -33,6 +34,7 @@ pub struct Checked {
     pub binders: Binders,
 }
 
+// Refused at a place, with the binders as they are.
 fn stopped(number: u8, place: usize, b: Binders) -> Checked
     ensures { λ r. ⌜ r ≡ stoppedOf number place b ⌝ }
 {
@@ -42,6 +44,7 @@ fn stopped(number: u8, place: usize, b: Binders) -> Checked
     }
 }
 
+// A term of type `ty` that ends at `next`, `count` nodes up to there.
 fn fine(ty: u8, next: usize, count: usize, b: Binders) -> Checked
     ensures { λ r. ⌜ r ≡ fineOf ty next count b ⌝ }
 {
@@ -53,6 +56,7 @@ fn fine(ty: u8, next: usize, count: usize, b: Binders) -> Checked
 
 // ---- leaves
 
+// The verdict on a leaf, node `node`.
 fn settled(u: Use, next: usize, node: usize, b: Binders) -> Checked
     requires { ⌜ node < 2048 ⌝ }
     ensures { λ r. ⌜ Says r (saidUse u (stackOf b) node) next (node + 1) ⌝ }
@@ -83,6 +87,7 @@ fn leaf(s: &[u8], n: Node, node: usize, b: Binders) -> Checked
 
 // ---- entering a node
 
+// 12 if the written type has the wrong shape; a function and a fixed point bind their variable.
 fn enter(s: &[u8], n: Node, node: usize, b: Binders) -> Checked
     requires { ⌜ (b .count < 128) × (node < 2048) ⌝ }
     ensures { λ r. ⌜ Says r (enterOf (recIn (now (s .entry))) (n .kind) (n .first) node (stackOf b)) (n .next) (node + 1) ⌝ }
@@ -152,6 +157,7 @@ fn between(s: &[u8], kind: u8, node: usize, first: Checked) -> Checked
 
 // ---- leaving a node with two subterms
 
+// 12 if the types of the subterms, a and that of y, do not fit; a projection's variables go out of scope.
 fn leave_two(s: &[u8], n: Node, node: usize, a: u8, y: Checked) -> Checked
     ensures { λ r. ⌜ Follows y r (leaveTwo (recIn (now (s .entry))) (n .kind) (n .first) node a) ⌝ }
 {
@@ -172,6 +178,8 @@ fn leave_two(s: &[u8], n: Node, node: usize, a: u8, y: Checked) -> Checked
 
 // ---- the walk
 
+// The term at an offset, node `node`, under the binders in scope. Each subterm has fewer bytes left, and there are at most 64 levels.
+// The binders go through the first subterm into the second with their marks.
 fn walk(s: &[u8], at: usize, node: usize, b: Binders) -> Checked
     requires { ⌜ Ready (now s) at node (stackOf b) ⌝ }
     ensures { λ r. ⌜ Walked (now (s .entry)) at node (stackOf b) r ⌝ }

@@ -2,7 +2,7 @@
 use sheet::Verdict;
 use typing::Typing;
 ghost use Prim.Native.Nat.{_<_};
-ghost use Rattle.typing.specs.Fits.{Read};
+ghost use Rattle.typing.specs.Answers.{Read};
 
 fn refused(number: u8, place: usize) {
     io::write_all(1, b"refused ");

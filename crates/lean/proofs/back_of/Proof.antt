@@ -1,3 +1,4 @@
+-- An output that is not settled is at least 1, and its step back is an output. Assumes nothing.
 use borrow.Author.Needs.{needs}
 use native.Mathlib.Omega.{arith}
 use Prim.Native.Nat.{_<_, _≤_, _-_}
@@ -5,8 +6,6 @@ use lib.ListN.{length}
 use Rattle.lean.proofs.DriverLaws.{output-below}
 use Rattle.lean.proofs.back_of.Statement.{statement}
 use Rattle.lean.proofs.back_of.Tie as tie
-use Rattle.lean.proofs.back_of.Reads as reads
-use Rattle.lean.proofs.back_of.Lts as lts
 
 -- x is at least 1 and below 8,192
 sub-result : tie.Need-sub-result

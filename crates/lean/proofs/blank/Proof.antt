@@ -1,17 +1,11 @@
--- The invariant: the entries before i are 0, and the others as they were.
-use borrow.Author.Needs.{needs}
+-- The invariant: the entries before i are 0, and the others as they were. Assumes nothing.
 use native.Mathlib.Omega.{arith}
-use native.Mathlib.Decide.{ℕ-discrete}
-use mathlib.Core.Path.{_≡_, refl, sym, _∙_, ap}
-use mathlib.Core.List.{List}
-use Prim.Native.Nat.{ℕ, _≤_, _<_, _-_, _+_}
-use lib.ListN.{length, set}
+use mathlib.Core.Path.{_≡_}
+use Prim.Native.Nat.{ℕ, _≤_, _<_, _-_}
 use Rattle.lean.specs.Table.{entry, Within}
 use Rattle.lean.proofs.TableLaws.{within-none, within-then, within-set, blank-more}
 use Rattle.lean.proofs.blank.Statement.{statement}
 use Rattle.lean.proofs.blank.Tie as tie
-use Rattle.lean.proofs.blank.Reads as reads
-use Rattle.lean.proofs.blank.Lts as lts
 
 abbrev Inv-loop : tie.InvT-loop
 Inv-loop work₀ i₀ work i = (i ≤ 8192) × (Within work₀ work × ((x : ℕ) → x < i → entry work x ≡ 0))

@@ -1,24 +1,13 @@
 -- By the lengths of one element's records. Assumes nothing.
 use borrow.Author.Needs.{needs}
 use native.Mathlib.Omega.{arith}
-use mathlib.Core.Path.{_≡_, refl, ap, sym, _∙_, subst}
-use mathlib.Core.List.{List, [], _∷_}
-use Prim.Native.Nat.{ℕ, _≤_, _<_, _-_, _+_}
-use lib.ListN.{length, getD}
+use mathlib.Core.Path.{_≡_, sym, _∙_}
 use Rattle.netlist.proofs.PartInputs.{inputs-few}
-use Rattle.calculus.specs.Net.{wireBytes}
 use Rattle.calculus.specs.Terms.{partAt}
-use Rattle.lean.specs.InMemory.{inputsIn}
 use Rattle.lean.proofs.KindLaws.{point-low, part-low}
 use Rattle.lean.proofs.RowLaws.{inputs-most, input-most, size-part, size-gone, size-point}
-use Rattle.lean.proofs.inputs_of.Reads as inputs-of-reads
-use Rattle.lean.proofs.inputs_size.Reads as inputs-size-reads
-use Rattle.lean.proofs.is_kept.Reads as is-kept-reads
-use Rattle.lean.proofs.input_size.Reads as input-size-reads
 use Rattle.lean.proofs.element_size.Statement.{statement}
 use Rattle.lean.proofs.element_size.Tie as tie
-use Rattle.lean.proofs.element_size.Reads as reads
-use Rattle.lean.proofs.element_size.Lts as lts
 
 inputs-size-requires : tie.Need-inputs-size-requires
 inputs-size-requires c κs =

@@ -1,6 +1,6 @@
-use borrow.Author.Needs.{needs}
+-- By the kind, and by whether the input has a driver. Assumes nothing.
 use native.Mathlib.Omega.{arith}
-use mathlib.Core.Path.{_≡_, sym, _∙_}
+use mathlib.Core.Path.{_≡_, _∙_}
 use mathlib.Core.Logic.{⊎-elim}
 use Prim.Native.Nat.{_<_}
 use Rattle.lean.specs.Table.{outputOf}
@@ -8,9 +8,6 @@ use Rattle.lean.proofs.KindLaws.{output-low, first-low}
 use Rattle.lean.proofs.TableLaws.{first-loose, first-pin, first-part}
 use Rattle.lean.proofs.first_of.Statement.{statement}
 use Rattle.lean.proofs.first_of.Tie as tie
-use Rattle.lean.proofs.first_of.Reads as reads
-use Rattle.lean.proofs.first_of.Lts as lts
-use Rattle.lean.proofs.output_of.Reads as output-of-reads
 
 output-of-requires : tie.Need-output-of-requires
 output-of-requires c κs = let s = c .before in let h : s .args .at < 8192 = first-low (s .args .kind) (s .args .at) _ (s .pre .1) in omega arith

@@ -1,13 +1,10 @@
 -- A wire is 5 bytes. Assumes nothing.
 use borrow.Author.Needs.{needs}
-use native.Mathlib.Omega.{arith}
 use mathlib.Core.Path.{sym, ap}
 use lib.ListN.{length}
 use Rattle.lean.proofs.RowLaws.{input-none, input-driven}
 use Rattle.lean.proofs.input_size.Statement.{statement}
 use Rattle.lean.proofs.input_size.Tie as tie
-use Rattle.lean.proofs.input_size.Reads as reads
-use Rattle.lean.proofs.input_size.Lts as lts
 
 returns : tie.Need-returns
 returns c = let a = c .before .before .args in sym (ap length (input-none (a .work .now) (a .i) (c .if1 .taken)))

@@ -1,17 +1,14 @@
 -- The invariant: with the bytes of the wires that are still to come, the sum is that of all. Assumes nothing.
 use borrow.Author.Needs.{needs}
 use native.Mathlib.Omega.{arith}
-use mathlib.Core.Path.{_≡_, refl, ap, sym, _∙_}
-use Prim.Native.Nat.{ℕ, _≤_, _<_, _-_, _+_}
-use lib.ListN.{length, length-append}
+use mathlib.Core.Path.{_≡_, ap}
+use Prim.Native.Nat.{_≤_, _-_, _+_}
+use lib.ListN.{length}
 use Rattle.calculus.specs.Net.{wireBytes}
 use Rattle.lean.specs.InMemory.{inputIn, inputsIn}
 use Rattle.lean.proofs.RowLaws.{inputs-start, inputs-sum, inputs-end, inputs-most}
-use Rattle.lean.proofs.input_size.Reads as input-size-reads
 use Rattle.lean.proofs.inputs_size.Statement.{statement}
 use Rattle.lean.proofs.inputs_size.Tie as tie
-use Rattle.lean.proofs.inputs_size.Reads as reads
-use Rattle.lean.proofs.inputs_size.Lts as lts
 
 abbrev Inv-loop : tie.InvT-loop
 Inv-loop work count first sum₀ i₀ sum i =

@@ -1,12 +1,9 @@
 -- The entry of the output is compared. Assumes nothing.
-use borrow.Author.Needs.{needs}
 use native.Mathlib.Omega.{arith}
 use Prim.Native.Nat.{_+_}
 use mathlib.Core.Path.{refl}
 use Rattle.lean.proofs.is_kept.Statement.{statement}
 use Rattle.lean.proofs.is_kept.Tie as tie
-use Rattle.lean.proofs.is_kept.Reads as reads
-use Rattle.lean.proofs.is_kept.Lts as lts
 
 cast-result : tie.Need-cast-result
 cast-result c = omega (arith, c .shared-slice-known .given (19072 + (c .before .args .n + 1)))

@@ -1,22 +1,16 @@
 -- The invariant: with the bytes of the elements that are still to come, the sum is that of all. Assumes nothing.
-use borrow.Author.Needs.{needs}
 use native.Mathlib.Omega.{arith}
-use mathlib.Core.Path.{_≡_, refl, ap, sym, _∙_, subst}
-use mathlib.Core.List.{List, [], _∷_, _++_}
+use mathlib.Core.Path.{refl, ap, sym, _∙_}
+use mathlib.Core.List.{List}
 use Prim.Native.Nat.{ℕ, _≤_, _<_, _-_, _+_, _*_}
-use lib.ListN.{length, getD, drop}
+use lib.ListN.{length, getD}
 use Rattle.memory.specs.Map.{region}
-use Rattle.netlist.specs.Elements.{after}
 use Rattle.netlist.proofs.InMemory.{region-length}
 use Rattle.lean.proofs.KindLaws.{first-low, output-low, after-output}
 use Rattle.lean.proofs.SumLaws.{rowsSize, rows-most, Summing, summing-low, summing-most, summing-step, summing-end}
 use Rattle.lean.proofs.LeanLaws.{lean-length, kinds-low}
-use Rattle.lean.proofs.element_size.Reads as element-size-reads
-use Rattle.lean.proofs.output_of.Reads as output-of-reads
 use Rattle.lean.proofs.lean_length.Statement.{statement}
 use Rattle.lean.proofs.lean_length.Tie as tie
-use Rattle.lean.proofs.lean_length.Reads as reads
-use Rattle.lean.proofs.lean_length.Lts as lts
 
 abbrev Inv-loop : tie.InvT-loop
 Inv-loop work elements wires pins sum₀ n₀ i₀ sum n i =

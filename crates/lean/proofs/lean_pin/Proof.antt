@@ -1,10 +1,8 @@
 -- An input stays, an output is looked up. Assumes nothing.
 use borrow.Author.Needs.{needs}
 use native.Mathlib.Omega.{arith}
-use mathlib.Core.Path.{_≡_, refl, ap, sym, _∙_, subst}
-use mathlib.Core.List.{List, [], _∷_}
-use Prim.Native.Nat.{ℕ, _≤_, _<_, _-_, _+_}
-use lib.ListN.{length, getD}
+use mathlib.Core.Path.{_≡_, ap, sym, _∙_, subst}
+use Prim.Native.Nat.{_<_}
 use Rattle.netlist.specs.Said.{saidTerminal}
 use Rattle.calculus.specs.Net.{out}
 use Rattle.memory.specs.Map.{terminalOf}
@@ -12,8 +10,6 @@ use Rattle.lean.specs.InMemory.{pinIn}
 use Rattle.lean.specs.Fitting.{LowPin}
 use Rattle.lean.proofs.lean_pin.Statement.{statement}
 use Rattle.lean.proofs.lean_pin.Tie as tie
-use Rattle.lean.proofs.lean_pin.Reads as reads
-use Rattle.lean.proofs.lean_pin.Lts as lts
 
 shared-slice-read-t11 : tie.Need-shared-slice-read-t11
 shared-slice-read-t11 c =

@@ -1,7 +1,7 @@
+-- The invariant: x is so many steps back from o, and some steps back from the mark. An output that is met again comes round, and so does what is 8,192 steps back. Assumes nothing.
 use native.Mathlib.Omega.{arith}
 use Prim.Native.Nat.{ℕ, _<_, _≤_, _+_, _-_}
-use mathlib.Core.Path.{_≡_, sym, subst}
-use lib.ListN.{length}
+use mathlib.Core.Path.{sym, subst}
 use Rattle.memory.specs.Map.{netIn}
 use Rattle.lean.proofs.DriverLaws.{output-below}
 use Rattle.lean.proofs.RoundLaws.{Going, going-start, going-step, going-mark, met-settled, met-mark, met-end}

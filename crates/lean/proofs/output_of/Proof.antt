@@ -1,30 +1,23 @@
+-- By the kind. Assumes nothing.
 use borrow.Author.Needs.{needs}
 use native.Mathlib.Omega.{arith}
 use Rattle.netlist.proofs.PartInputs.{inputs-few}
 use Rattle.lean.proofs.KindLaws.{point-kind, part-kind}
 use Rattle.lean.proofs.output_of.Statement.{statement}
 use Rattle.lean.proofs.output_of.Tie as tie
-use Rattle.lean.proofs.output_of.Reads as reads
-use Rattle.lean.proofs.output_of.Lts as lts
-use Rattle.lean.proofs.inputs_of.Reads as inputs-of-reads
 
--- src/lib.rt:29:24
 add-result : tie.Need-add-result
 add-result c = search needs
 
--- src/lib.rt:29:45
 inputs-of-requires : tie.Need-inputs-of-requires
 inputs-of-requires c κs = search needs
 
--- src/lib.rt:29:40
 add-result-2 : tie.Need-add-result-2
 add-result-2 c = let e = c .inputs-of .ensures in let h = inputs-few (c .before .before .args .kind) in omega arith
 
--- src/lib.rt:25:1
 returns : tie.Need-returns
 returns c = point-kind _ _ _ (c .if1 .taken)
 
--- src/lib.rt:25:1
 returns-2 : tie.Need-returns-2
 returns-2 c = rw (c .inputs-of .ensures) (part-kind _ _ _ (c .before .if1 .left))
 

@@ -1,21 +1,13 @@
 -- The invariant: what is written and the records that are still to come make the whole. Assumes nothing.
-use borrow.Author.Needs.{needs}
 use native.Mathlib.Omega.{arith}
-use mathlib.Core.Path.{_≡_, refl, ap, sym, _∙_, subst}
 use mathlib.Core.List.{List}
 use Prim.Native.Nat.{ℕ, _≤_, _<_, _-_, _+_}
 use lib.ListN.{length, getD}
-use Rattle.netlist.specs.Elements.{after}
-use Rattle.lean.specs.Table.{outputOf}
 use Rattle.lean.specs.InMemory.{keptRow}
 use Rattle.lean.proofs.KindLaws.{first-low, output-low, after-output}
 use Rattle.lean.proofs.RowLaws.{kept-none, kept-first, Row, row-start, row-low, row-fits, row-step, row-end}
-use Rattle.lean.proofs.put_kept.Reads as put-kept-reads
-use Rattle.lean.proofs.output_of.Reads as output-of-reads
 use Rattle.lean.proofs.put_elements.Statement.{statement}
 use Rattle.lean.proofs.put_elements.Tie as tie
-use Rattle.lean.proofs.put_elements.Reads as reads
-use Rattle.lean.proofs.put_elements.Lts as lts
 
 abbrev Inv-loop : tie.InvT-loop
 Inv-loop work elements out₀ from at₀ n₀ i₀ out at n i = (i ≤ elements) × Row (keptRow work) work elements out₀ from out at n i

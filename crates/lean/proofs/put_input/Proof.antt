@@ -1,11 +1,9 @@
 -- By whether the input has a driver. Assumes nothing.
 use borrow.Author.Needs.{needs}
 use native.Mathlib.Omega.{arith}
-use mathlib.Core.Path.{_≡_, refl, ap, sym, _∙_, subst}
-use mathlib.Core.List.{List, [], _∷_}
-use Prim.Native.Nat.{ℕ, _≤_, _<_, _-_, _+_}
-use lib.ListN.{length, getD}
-use lib.Seq.{sets}
+use mathlib.Core.Path.{refl}
+use Prim.Native.Nat.{_<_}
+use lib.ListN.{getD}
 use Rattle.lean.proofs.RowLaws.{input-none, input-driven}
 use Rattle.netlist.proofs.put_wire.Reads as put-wire-reads
 use Rattle.lean.proofs.put_input.Statement.{statement}

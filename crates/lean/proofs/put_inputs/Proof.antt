@@ -1,18 +1,14 @@
 -- The invariant: what is written and the wires that are still to come make the whole. Assumes nothing.
-use borrow.Author.Needs.{needs}
 use native.Mathlib.Omega.{arith}
-use mathlib.Core.Path.{_≡_, refl, ap, sym, _∙_, subst}
+use mathlib.Core.Path.{sym, subst}
 use mathlib.Core.List.{List}
-use Prim.Native.Nat.{ℕ, _≤_, _<_, _-_, _+_}
+use Prim.Native.Nat.{ℕ, _≤_, _-_, _+_}
 use lib.ListN.{length}
 use Rattle.calculus.specs.Net.{wireBytes}
 use Rattle.lean.specs.InMemory.{inputIn, inputsIn}
 use Rattle.lean.proofs.RowLaws.{Writing, writing-start, writing-fits, writing-step, writing-end, inputs-start, inputs-first, inputs-end}
-use Rattle.lean.proofs.put_input.Reads as put-input-reads
 use Rattle.lean.proofs.put_inputs.Statement.{statement}
 use Rattle.lean.proofs.put_inputs.Tie as tie
-use Rattle.lean.proofs.put_inputs.Reads as reads
-use Rattle.lean.proofs.put_inputs.Lts as lts
 
 abbrev Inv-loop : tie.InvT-loop
 Inv-loop work count first out₀ from at₀ i₀ out at i =

@@ -1,18 +1,11 @@
 -- By the rows of one element. Assumes nothing.
 use borrow.Author.Needs.{needs}
 use native.Mathlib.Omega.{arith}
-use mathlib.Core.Path.{_≡_, refl, ap, sym, _∙_, subst}
-use mathlib.Core.List.{List, [], _∷_}
-use Prim.Native.Nat.{ℕ, _≤_, _<_, _-_, _+_}
-use lib.ListN.{length}
-use lib.Seq.{sets}
+use mathlib.Core.Path.{refl, sym, _∙_}
 use Rattle.lean.proofs.KindLaws.{point-low, part-low}
 use Rattle.lean.proofs.RowLaws.{kept-part, kept-point, kept-gone}
-use Rattle.lean.proofs.is_kept.Reads as is-kept-reads
 use Rattle.lean.proofs.put_kept.Statement.{statement}
 use Rattle.lean.proofs.put_kept.Tie as tie
-use Rattle.lean.proofs.put_kept.Reads as reads
-use Rattle.lean.proofs.put_kept.Lts as lts
 
 cast-put-part-2 : tie.Need-cast-put-part-2
 cast-put-part-2 c =

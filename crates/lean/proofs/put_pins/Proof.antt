@@ -1,20 +1,14 @@
 -- The invariant: what is written and the pins that are still to come make the whole. Assumes nothing.
-use borrow.Author.Needs.{needs}
 use native.Mathlib.Omega.{arith}
-use mathlib.Core.Path.{_≡_, refl, ap, sym, _∙_, subst}
-use mathlib.Core.List.{List, [], _∷_, _++_}
-use Prim.Native.Nat.{ℕ, _≤_, _<_, _-_, _+_, _*_}
+use mathlib.Core.List.{List, [], _∷_}
+use Prim.Native.Nat.{ℕ, _≤_, _-_, _+_}
 use lib.ListN.{length, getD, drop}
 use Rattle.calculus.specs.Net.{pinBytes}
 use Rattle.memory.specs.Map.{region, terminalOf}
-use Rattle.netlist.specs.Said.{saidTerminal}
 use Rattle.lean.specs.InMemory.{pinIn, pinRow}
 use Rattle.lean.proofs.RowLaws.{Writing, writing-start, writing-fits, writing-step, writing-end, pins-first, pins-end}
-use Rattle.lean.proofs.lean_pin.Reads as lean-pin-reads
 use Rattle.lean.proofs.put_pins.Statement.{statement}
 use Rattle.lean.proofs.put_pins.Tie as tie
-use Rattle.lean.proofs.put_pins.Reads as reads
-use Rattle.lean.proofs.put_pins.Lts as lts
 
 abbrev Inv-loop : tie.InvT-loop
 Inv-loop work pins out₀ from at₀ i₀ out at i =

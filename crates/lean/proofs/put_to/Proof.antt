@@ -1,21 +1,11 @@
 -- By the rows of one element. Assumes nothing.
 use borrow.Author.Needs.{needs}
 use native.Mathlib.Omega.{arith}
-use mathlib.Core.Path.{_≡_, refl, ap, sym, _∙_, subst}
-use mathlib.Core.List.{List, [], _∷_}
-use Prim.Native.Nat.{ℕ, _≤_, _<_, _-_, _+_}
-use lib.ListN.{length, getD}
-use Rattle.calculus.specs.Net.{wireBytes}
-use Rattle.lean.specs.InMemory.{inputsIn}
+use mathlib.Core.Path.{refl, sym, _∙_}
 use Rattle.lean.proofs.KindLaws.{point-low, part-low}
 use Rattle.lean.proofs.RowLaws.{wire-part, wire-gone, wire-pin, wire-point}
-use Rattle.lean.proofs.inputs_of.Reads as inputs-of-reads
-use Rattle.lean.proofs.put_inputs.Reads as put-inputs-reads
-use Rattle.lean.proofs.is_kept.Reads as is-kept-reads
 use Rattle.lean.proofs.put_to.Statement.{statement}
 use Rattle.lean.proofs.put_to.Tie as tie
-use Rattle.lean.proofs.put_to.Reads as reads
-use Rattle.lean.proofs.put_to.Lts as lts
 
 put-inputs-requires : tie.Need-put-inputs-requires
 put-inputs-requires c κs =

@@ -1,9 +1,10 @@
+-- The invariant: the table is partly done, and what stands before o is settled. The measure is what is left of 8,192. Assumes nothing.
 use native.Mathlib.Omega.{arith}
-use Prim.Native.Nat.{ℕ, _<_, _≤_, _+_, _-_}
-use mathlib.Core.Path.{_≡_, refl, sym, ap, _∙_, subst}
+use Prim.Native.Nat.{ℕ, _<_, _≤_, _-_}
+use mathlib.Core.Path.{_≡_, sym, subst}
 use mathlib.Core.List.{List}
 use borrow.Author.Count.{below-more}
-use Rattle.lean.specs.Table.{entry, Within, Partly, started}
+use Rattle.lean.specs.Table.{entry, Within, Partly}
 use Rattle.lean.proofs.TableLaws.{within-none, within-then}
 use Rattle.lean.proofs.FrameLaws.{ready-same}
 use Rattle.lean.proofs.StartLaws.{kinds-low, started-partly, started-all}

@@ -1,8 +1,8 @@
+-- The invariant: x is so many steps back from o, and low is the lowest up to x. Assumes nothing.
 use native.Mathlib.Omega.{arith}
 use native.Mathlib.Nat.{min-eq-left, min-eq-right, le-of-lt}
-use Prim.Native.Nat.{ℕ, _<_, _≤_, _+_, _-_, min}
+use Prim.Native.Nat.{ℕ, _<_, _-_, min}
 use mathlib.Core.Path.{_≡_, refl, sym, ap, _∙_, subst}
-use lib.ListN.{length}
 use Rattle.memory.specs.Map.{netIn}
 use Rattle.lean.proofs.DriverLaws.{output-below}
 use Rattle.lean.proofs.RoundLaws.{Rounding, rounding-start, rounding-step, round-settled, round-back, round-end}

@@ -1,14 +1,12 @@
+-- The invariant: x has the same root as o, and o is settled, but at the start. Assumes nothing.
 use native.Mathlib.Omega.{arith}
 use Prim.Native.Nat.{ℕ, _<_, _≤_, _+_, _-_}
-use mathlib.Core.Path.{_≡_, sym, subst}
+use mathlib.Core.Path.{sym, subst}
 use lib.ListN.{length, set}
 use Rattle.lean.proofs.DriverLaws.{output-below}
 use Rattle.lean.proofs.SettleLaws.{Settling, settling-start, settling-step, settled-met, settled-end}
 use Rattle.lean.proofs.settle.Statement.{statement}
 use Rattle.lean.proofs.settle.Tie as tie
-use Rattle.lean.proofs.settle.Reads as reads
-use Rattle.lean.proofs.settle.Lts as lts
-use Rattle.lean.proofs.back_of.Reads as back-of-reads
 
 abbrev Inv-loop : tie.InvT-loop
 Inv-loop work₀ elements wires pins o r x₀ left₀ work x left =

@@ -1,18 +1,14 @@
+-- The invariant: what is written and the elements that are still to come make the table as it starts. Assumes nothing.
 use native.Mathlib.Omega.{arith}
-use mathlib.Core.Path.{_≡_, refl, sym, _∙_, ap, subst}
-use Prim.Native.Nat.{ℕ, _≤_, _<_, _-_, _+_}
+use mathlib.Core.Path.{refl, sym, subst}
+use Prim.Native.Nat.{ℕ, _≤_, _-_, _+_}
 use mathlib.Core.List.{List}
-use lib.ListN.{length, drop, getD, set}
-use Rattle.memory.specs.Map.{region}
-use Rattle.netlist.specs.Elements.{afterAll}
-use Rattle.lean.specs.Table.{outputOf, Within, started, firstOf}
+use lib.ListN.{getD, set}
+use Rattle.lean.specs.Table.{outputOf, firstOf}
 use Rattle.lean.proofs.KindLaws.{region-end}
 use Rattle.lean.proofs.TableLaws.{within-none, Starting, starting-low, starting-next}
 use Rattle.lean.proofs.start.Statement.{statement}
 use Rattle.lean.proofs.start.Tie as tie
-use Rattle.lean.proofs.start.Reads as reads
-use Rattle.lean.proofs.start.Lts as lts
-use Rattle.lean.proofs.start_one.Reads as start-one-reads
 
 abbrev Inv-loop : tie.InvT-loop
 Inv-loop work₀ elements at₀ i₀ work at i = (i ≤ elements) × Starting work₀ elements work at i

@@ -1,13 +1,10 @@
+-- The output is below 8,192. Assumes nothing.
 use borrow.Author.Needs.{needs}
 use native.Mathlib.Omega.{arith}
 use Prim.Native.Nat.{_<_}
 use Rattle.lean.proofs.KindLaws.{output-low, first-low, after-output}
 use Rattle.lean.proofs.start_one.Statement.{statement}
 use Rattle.lean.proofs.start_one.Tie as tie
-use Rattle.lean.proofs.start_one.Reads as reads
-use Rattle.lean.proofs.start_one.Lts as lts
-use Rattle.lean.proofs.first_of.Reads as first-of-reads
-use Rattle.lean.proofs.output_of.Reads as output-of-reads
 
 output-of-requires : tie.Need-output-of-requires
 output-of-requires c κs =

@@ -1,15 +1,9 @@
 -- Elements, wires and pins, one after the other. Assumes nothing.
-use borrow.Author.Needs.{needs}
 use mathlib.Core.Path.{_∙_}
 use lib.ListN.{length}
 use Rattle.lean.proofs.FitLaws.{elements-fit, wires-fit, pins-fit, written}
 use Rattle.lean.proofs.write_lean.Statement.{statement}
 use Rattle.lean.proofs.write_lean.Tie as tie
-use Rattle.lean.proofs.write_lean.Reads as reads
-use Rattle.lean.proofs.write_lean.Lts as lts
-use Rattle.lean.proofs.put_elements.Reads as put-elements-reads
-use Rattle.lean.proofs.put_pins.Reads as put-pins-reads
-use Rattle.lean.proofs.put_wires.Reads as put-wires-reads
 
 put-elements-requires : tie.Need-put-elements-requires
 put-elements-requires c κs =

@@ -1,0 +1,66 @@
+-- Each public function's contract determines its result, and the memory or the output that it writes: two results that it allows for one
+-- call are equal. Assumes nothing.
+use mathlib.Core.Path.{_≡_, ap, sym, _∙_}
+use mathlib.Core.Bool.{cond}
+use mathlib.Core.List.{List}
+use Prim.Native.Nat.{ℕ, _+_, _-_, _<_}
+use native.Mathlib.Omega.{arith}
+use native.Mathlib.Decide.{decLe}
+use lib.ListN.{getD}
+use lib.Seq.{ext-getD}
+use contract.Lifetimes.{Lfts}
+use denote.Triple.Clauses.{AtExit}
+use borrow.Fn.Kind.{PK, RK}
+use borrow.Fn.Kinds.{Out, Dens, resT, endedOf}
+use Rattle.calculus.specs.Net.{Net}
+use Rattle.calculus.specs.Lean.{root}
+use Rattle.calculus.specs.Formed.{isOut}
+use Rattle.lean.specs.Table.{entry, Rooted}
+use Rattle.lean.proofs.roots.Kinds as roots
+use Rattle.lean.proofs.roots.Reads as roots-reads
+use Rattle.lean.proofs.lean_length.Kinds as lean-length
+use Rattle.lean.proofs.lean_length.Reads as lean-length-reads
+use Rattle.lean.proofs.write_lean.Kinds as write-lean
+use Rattle.lean.proofs.write_lean.Reads as write-lean-reads
+
+module _ {n : ℕ} (ps : List (PK n)) (r : RK n) (Post : Out n ps r) where
+  -- the result
+  abbrev Result : Type 0
+  Result = (κs : Lfts n) (a : Dens κs ps) (x y : resT r κs .Denot) (s t : AtExit (endedOf n ps r) κs) → Post κs a x s → Post κs a y t → x ≡ y
+
+  -- what a lent slice holds as the function returns
+  abbrev Left : ((κs : Lfts n) → AtExit (endedOf n ps r) κs → List ℕ) → Type 0
+  Left held = (κs : Lfts n) (a : Dens κs ps) (x y : resT r κs .Denot) (s t : AtExit (endedOf n ps r) κs) → Post κs a x s → Post κs a y t → held κs s ≡ held κs t
+
+  -- both
+  abbrev Results : ((κs : Lfts n) → AtExit (endedOf n ps r) κs → List ℕ) → Type 0
+  Results held =
+      (κs : Lfts n) (a : Dens κs ps) (x y : resT r κs .Denot) (s t : AtExit (endedOf n ps r) κs) → Post κs a x s → Post κs a y t
+      → (x ≡ y) × (held κs s ≡ held κs t)
+
+-- below the table, in it, and above it
+one-memory : (w u v : List ℕ) (e k p : ℕ) → Rooted w u e k p → Rooted w v e k p → u ≡ v
+one-memory w u v e k p a b = ext-getD 0 u v (a .within .size ∙ sym (b .within .size)) (λ i _. at i)
+  where
+    inside : (x : ℕ) → x < 8192 → entry u x ≡ entry v x
+    inside x h =
+        a .whole .table x h ∙ ap (λ (m : Net). cond (isOut (m .elements) x) (root m x) 0) (a .net ∙ sym (b .net)) ∙ sym (b .whole .table x h)
+
+    at : (i : ℕ) → getD u i 0 ≡ getD v i 0
+    at i =
+        elim (decLe 19072 i) [
+          | no l ↦ a .within .below i (omega arith) ∙ sym (b .within .below i (omega arith))
+          | yes l ↦ elim (decLe 27264 i) [
+            | yes h ↦ a .within .above i h ∙ sym (b .within .above i h)
+            | no h ↦ let z : 19072 + (i - 19072) ≡ i = omega arith in rw z at (inside (i - 19072) (omega arith))
+          ]
+        ]
+
+pub roots-determined : Left roots.ps roots.r roots-reads.Post (λ κs s. s .0 .now)
+roots-determined κs a x y s t f g = one-memory _ _ _ _ _ _ f g
+
+pub lean-length-determined : Result lean-length.ps lean-length.r lean-length-reads.Post
+lean-length-determined κs a x y s t f g = f ∙ sym g
+
+pub write-lean-determined : Results write-lean.ps write-lean.r write-lean-reads.Post (λ κs s. s .1 .0 .now)
+write-lean-determined κs a x y s t f g = (f .0 ∙ sym (g .0), f .1 ∙ sym (g .1))
