@@ -12,7 +12,14 @@ ghost use Rattle.translator.specs.Said.{Says, Keeps, askedAnswer};
 ghost use Rattle.translator.specs.Stages.{Reads, Typed, Few};
 
 // The netlist is made and written: 17.
-fn made(sheet: &[u8], sizes: &[u8], out: &mut [u8], work: &mut [u16], lean: bool, start: usize) -> Answer
+fn made(
+    sheet: &[u8],
+    sizes: &[u8],
+    out: &mut [u8],
+    work: &mut [u16],
+    lean: bool,
+    start: usize,
+) -> Answer
     requires { ⌜ (32768 ≤ length (now work)) × (Few (now sheet) (now sizes) start) ⌝ }
     ensures { λ r. ⌜ (Says r (now (out .entry)) (now (out .exit)) (askedAnswer lean (full (now (sheet .entry))) (length (now (out .entry)))))
         × (Keeps (now (work .entry)) (now (work .exit))) ⌝ }
@@ -28,7 +35,15 @@ fn made(sheet: &[u8], sizes: &[u8], out: &mut [u8], work: &mut [u16], lean: bool
 }
 
 // The terminals are counted before anything is made: 16.
-fn counted(sheet: &[u8], sizes: &[u8], out: &mut [u8], work: &mut [u16], lean: bool, nodes: usize, start: usize) -> Answer
+fn counted(
+    sheet: &[u8],
+    sizes: &[u8],
+    out: &mut [u8],
+    work: &mut [u16],
+    lean: bool,
+    nodes: usize,
+    start: usize,
+) -> Answer
     requires { ⌜ (32768 ≤ length (now work)) × (Typed (now sheet) (now sizes) nodes start) ⌝ }
     ensures { λ r. ⌜ (Says r (now (out .entry)) (now (out .exit)) (askedAnswer lean (full (now (sheet .entry))) (length (now (out .entry)))))
         × (Keeps (now (work .entry)) (now (work .exit))) ⌝ }
@@ -40,7 +55,15 @@ fn counted(sheet: &[u8], sizes: &[u8], out: &mut [u8], work: &mut [u16], lean: b
 }
 
 // The typing walk: 10 to 15.
-fn checked(sheet: &[u8], sizes: &[u8], out: &mut [u8], work: &mut [u16], lean: bool, nodes: usize, start: usize) -> Answer
+fn checked(
+    sheet: &[u8],
+    sizes: &[u8],
+    out: &mut [u8],
+    work: &mut [u16],
+    lean: bool,
+    nodes: usize,
+    start: usize,
+) -> Answer
     requires { ⌜ (32768 ≤ length (now work)) × (Reads (now sheet) (now sizes) nodes start) ⌝ }
     ensures { λ r. ⌜ (Says r (now (out .entry)) (now (out .exit)) (askedAnswer lean (full (now (sheet .entry))) (length (now (out .entry)))))
         × (Keeps (now (work .entry)) (now (work .exit))) ⌝ }
