@@ -88,10 +88,12 @@ fn end_of(n: usize, input: bool) -> u16
     requires { ⌜ n + 1 < 8192 ⌝ }
     ensures { λ r. ⌜ r ≡ endOf n input ⌝ }
 {
+    let first = n as u16;
+    let second = (n + 1) as u16;
     if input {
-        netlist::code_of(Terminal::Input(In(n as u16)))
+        netlist::code_of(Terminal::Input(In(first)))
     } else {
-        netlist::code_of(Terminal::Output(Out((n + 1) as u16)))
+        netlist::code_of(Terminal::Output(Out(second)))
     }
 }
 

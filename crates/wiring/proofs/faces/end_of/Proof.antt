@@ -6,23 +6,23 @@ use Rattle.wiring.proofs.faces.end_of.Reads as reads
 use Rattle.wiring.proofs.faces.end_of.Lts as lts
 use Rattle.netlist.proofs.code_of.Reads as code-of-reads
 
--- src/faces.rt:92:45
-cast-t5 : tie.Need-cast-t5
-cast-t5 c = search needs
+-- src/faces.rt:91:17
+cast-first : tie.Need-cast-first
+cast-first c = search needs
 
--- src/faces.rt:92:9
+-- src/faces.rt:92:19
+add-second : tie.Need-add-second
+add-second c = search needs
+
+-- src/faces.rt:92:18
+cast-second : tie.Need-cast-second
+cast-second c = search needs
+
+-- src/faces.rt:94:9
 code-of-requires : tie.Need-code-of-requires
 code-of-requires c κs = search needs
 
--- src/faces.rt:94:48
-add-t8 : tie.Need-add-t8
-add-t8 c = search needs
-
--- src/faces.rt:94:47
-cast-t9 : tie.Need-cast-t9
-cast-t9 c = search needs
-
--- src/faces.rt:94:9
+-- src/faces.rt:96:9
 code-of-requires-2 : tie.Need-code-of-requires-2
 code-of-requires-2 c κs = search needs
 
@@ -39,4 +39,11 @@ returns-2 c =
 pub end-of-spec : {M : Type 1} → statement M
 end-of-spec =
     tie.close
-    (tie.spec cast-t5 code-of-requires add-t8 cast-t9 code-of-requires-2 returns returns-2)
+    (tie.spec
+    cast-first
+    add-second
+    cast-second
+    code-of-requires
+    code-of-requires-2
+    returns
+    returns-2)
