@@ -1,4 +1,4 @@
-pub mod Numbers
+pub mod Places
 pub mod Demands
 pub mod WriteLaws
 pub mod StageLaws
