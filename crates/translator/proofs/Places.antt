@@ -8,7 +8,7 @@ use native.Mathlib.Omega.{arith}
 use native.Mathlib.Nat.{le-refl}
 use lib.Dec.{T, leb, ltb, eqb, leb→le, ltb→lt}
 use lib.ListN.{length}
-use borrow.Author.Tests.{leb-false}
+use borrow.Author.Tests.{leb-false, eqb-false}
 use Rattle.calculus.specs.Answer.{Answer, good, refused, _>>=_, need}
 use Rattle.calculus.specs.Types.{size, tyOf, tysFrom, sharable, tyEq, TyRec, rec01, rec02, rec03, rec04, Table, recAt, tree}
 use Rattle.calculus.specs.Terms.{Term, var, lvar, fun, app, lfun, lapp, pair, proj, fix, con, nodes, parts, partAt}
@@ -47,50 +47,64 @@ Any a = Unit {0}
 
 -- ---- reading
 
--- an offset of the sheet, or its length
-abbrev Offset : List ℕ → ℕ → ℕ → Type 0
-Offset s number place = (3 ≤ number) × (number ≤ 9) × (place ≤ length s)
+-- an offset of the sheet; 3 may stand at its length too
+pub record Offset (s : List ℕ) (number place : ℕ) : Type 0 where
+  pub from : 3 ≤ number
+  pub to : number ≤ 9
+  pub within : place ≤ length s
+  pub inside : (number ≡ 3 → ⊥) → place < length s
 
 module _ (s : List ℕ) where
-  check-places : (Θ : Table) (r : TyRec) (at : ℕ) → at ≤ length s → Judged (Offset s) Any (checkType Θ r at)
+  -- a record that is due or cut short
+  cut : (at : ℕ) → at ≤ length s → Offset s 3 at
+  cut at i = record { from = omega arith; to = omega arith; within = i; inside = λ e. absurd (e refl) }
+
+  -- a record that is there
+  there : (number at : ℕ) → 3 ≤ number → number ≤ 9 → at < length s → Offset s number at
+  there number at a b i = record { from = a; to = b; within = omega arith; inside = λ _. i }
+
+  check-places : (Θ : Table) (r : TyRec) (at : ℕ) → at < length s → Judged (Offset s) Any (checkType Θ r at)
   check-places Θ r at i =
-      of-need (known Θ r) 5 at _ (λ _. (omega arith, omega arith, i)) λ _.
-      of-need (formed Θ r) 6 at _ (λ _. (omega arith, omega arith, i)) λ _.
-      of-need (not (repeated Θ r)) 7 at _ (λ _. (omega arith, omega arith, i)) λ _.
-      of-last (leb (size (tyOf (tysFrom [] Θ) r)) 128) 8 at (omega arith, omega arith, i)
+      of-need (known Θ r) 5 at _ (λ _. there 5 at (omega arith) (omega arith) i) λ _.
+      of-need (formed Θ r) 6 at _ (λ _. there 6 at (omega arith) (omega arith) i) λ _.
+      of-need (not (repeated Θ r)) 7 at _ (λ _. there 7 at (omega arith) (omega arith) i) λ _.
+      of-last (leb (size (tyOf (tysFrom [] Θ) r)) 128) 8 at (there 8 at (omega arith) (omega arith) i)
 
   abbrev Listed : Table × ℕ → Type 0
   Listed r = r .1 ≤ length s
 
   type-places : (k : Kind) (more : ℕ) (Θ : Table) (at : ℕ) (go : Table → ℕ → Answer (Table × ℕ)) → at ≤ length s
-      → ((Φ : Table) (next : ℕ) → next ≤ length s → Judged (Offset s) Listed (go Φ next)) → Judged (Offset s) Listed (typeAt k more s Θ at go)
+      → ((Φ : Table) (next : ℕ) → at < next → next ≤ length s → Judged (Offset s) Listed (go Φ next)) → Judged (Offset s) Listed (typeAt k more s Θ at go)
   type-places unknown more Θ at go i h = value i
   type-places (node k) more Θ at go i h = value i
   type-places (type k) more Θ at go i h =
-      of-need (leb (at + 1 + typeBody k) (length s)) 3 at _ (λ _. (omega arith, omega arith, i)) λ w.
-      of-need (ltb 0 more) 8 at _ (λ _. (omega arith, omega arith, i)) λ _.
-      of-bind (checkType Θ (typeRec k (byte s (at + 1)) (byte s (at + 2))) at) _ (check-places Θ (typeRec k (byte s (at + 1)) (byte s (at + 2))) at i) λ u _ _.
-      h _ _ (leb→le (at + 1 + typeBody k) (length s) w)
+      of-need (leb (at + 1 + typeBody k) (length s)) 3 at _ (λ _. cut at i) λ w.
+      let j = leb→le (at + 1 + typeBody k) (length s) w in
+      let l : at < length s = omega arith in
+      of-need (ltb 0 more) 8 at _ (λ _. there 8 at (omega arith) (omega arith) l) λ _.
+      of-bind (checkType Θ (typeRec k (byte s (at + 1)) (byte s (at + 2))) at) _ (check-places Θ (typeRec k (byte s (at + 1)) (byte s (at + 2))) at l) λ u _ _.
+      h _ _ (omega arith) j
 
   types-places : (more : ℕ) (Θ : Table) (at : ℕ) → at ≤ length s → Judged (Offset s) Listed (readTypes more s Θ at)
   unfolding readTypes
-  types-places zero Θ at i = type-places (kindOf (byte s at)) zero Θ at _ i (λ Φ next _. refusal {number = 8} (omega arith, omega arith, i))
-  types-places (suc more) Θ at i = type-places (kindOf (byte s at)) (suc more) Θ at _ i (λ Φ next j. types-places more Φ next j)
+  types-places zero Θ at i = type-places (kindOf (byte s at)) zero Θ at _ i (λ Φ next a j. refusal (there 8 at (omega arith) (omega arith) (omega arith)))
+  types-places (suc more) Θ at i = type-places (kindOf (byte s at)) (suc more) Θ at _ i (λ Φ next a j. types-places more Φ next j)
 
-  kind-places : (k : Kind) (at : ℕ) → at ≤ length s → Judged (Offset s) Any (nodeKind k at)
-  kind-places unknown at i = refusal {number = 4} (omega arith, omega arith, i)
-  kind-places (type k) at i = refusal {number = 4} (omega arith, omega arith, i)
+  kind-places : (k : Kind) (at : ℕ) → at < length s → Judged (Offset s) Any (nodeKind k at)
+  kind-places unknown at i = refusal (there 4 at (omega arith) (omega arith) i)
+  kind-places (type k) at i = refusal (there 4 at (omega arith) (omega arith) i)
   kind-places (node k) at i = value tt
 
   head-places : (more types at n : ℕ) → at ≤ length s → Judged (Offset s) (λ k. at + 1 + nodeBody k ≤ length s) (headAt more s types at n)
   unfolding headAt
   head-places more types at n i =
-      of-need (ltb at (length s)) 3 at _ (λ _. (omega arith, omega arith, i)) λ _.
-      of-bind (nodeKind (kindOf (byte s at)) at) _ (kind-places (kindOf (byte s at)) at i) λ k _ _.
-      of-need (leb (at + 1 + nodeBody k) (length s)) 3 at _ (λ _. (omega arith, omega arith, i)) λ w.
-      of-need (ltb n 2048) 8 at _ (λ _. (omega arith, omega arith, i)) λ _.
-      of-need (ltb 0 more) 8 at _ (λ _. (omega arith, omega arith, i)) λ _.
-      of-need (eqb (nodeTyped k) 0 || ltb (byte s (at + nodeTyped k)) types) 5 at _ (λ _. (omega arith, omega arith, i)) λ _.
+      of-need (ltb at (length s)) 3 at _ (λ _. cut at i) λ v.
+      let l = ltb→lt at (length s) v in
+      of-bind (nodeKind (kindOf (byte s at)) at) _ (kind-places (kindOf (byte s at)) at l) λ k _ _.
+      of-need (leb (at + 1 + nodeBody k) (length s)) 3 at _ (λ _. cut at i) λ w.
+      of-need (ltb n 2048) 8 at _ (λ _. there 8 at (omega arith) (omega arith) l) λ _.
+      of-need (ltb 0 more) 8 at _ (λ _. there 8 at (omega arith) (omega arith) l) λ _.
+      of-need (eqb (nodeTyped k) 0 || ltb (byte s (at + nodeTyped k)) types) 5 at _ (λ _. there 5 at (omega arith) (omega arith) l) λ _.
       value (leb→le (at + 1 + nodeBody k) (length s) w)
 
   abbrev Ends : Got → Type 0
@@ -118,7 +132,7 @@ module _ (s : List ℕ) where
 
   term-places : (more types at n : ℕ) → at ≤ length s → Judged (Offset s) Ends (readTerm more s types at n)
   unfolding readTerm
-  term-places zero types at n i = of-bind (headAt zero s types at n) _ (head-places zero types at n i) λ k _ _. refusal {number = 8} (omega arith, omega arith, i)
+  term-places zero types at n i = of-bind (headAt zero s types at n) _ (head-places zero types at n i) λ k _ j. refusal (there 8 at (omega arith) (omega arith) (omega arith))
   term-places (suc more) types at n i =
       of-bind (headAt (suc more) s types at n) _ (head-places (suc more) types at n i) λ k _ j.
       node-places (at + 1 + nodeBody k) (n + 1) _ j (λ a c l. term-places more types a c l) k (byte s (at + 1)) (byte s (at + 2))
@@ -130,18 +144,25 @@ pub record ReadPlace (s : List ℕ) (number place : ℕ) : Type 0 where
   -- an offset of the sheet, or its length
   pub within : place ≤ length s
   pub few : place ≤ 16384
+  -- only 3 stands at its length
+  pub inside : (number ≡ 3 → ⊥) → place < length s
   -- a sheet that is too long is refused as a whole
   pub whole : number ≡ 2 → place ≡ 0
+
+long : (s : List ℕ) → leb (length s) 16384 ≡ false → ReadPlace s 2 0
+long s f = let l = leb-false (length s) 16384 f in record { from = omega arith; to = omega arith; within = omega arith; few = omega arith; inside = λ _. omega arith; whole = λ _. refl }
+
+short : (s : List ℕ) (number place : ℕ) → length s ≤ 16384 → Offset s number place → ReadPlace s number place
+short s number place l o = record { from = omega arith; to = o .to; within = o .within; few = omega arith; inside = o .inside; whole = λ e. absurd (omega arith) }
 
 pub read-places : (s : List ℕ) → Judged (ReadPlace s) Any (readSheet s)
 unfolding readSheet
 read-places s =
-    of-need (leb (length s) 16384) 2 0 _ (λ _. record { from = omega arith; to = omega arith; within = omega arith; few = omega arith; whole = λ _. refl }) λ w.
-    let short = leb→le (length s) 16384 w in
-    weaker (λ number place o. record { from = omega arith; to = omega arith; within = o .2; few = omega arith; whole = λ e. absurd (omega arith) })
+    of-need (leb (length s) 16384) 2 0 _ (long s) λ w.
+    weaker (λ number place o. short s number place (leb→le (length s) 16384 w) o)
     (of-bind (readTypes 256 s [] 0) _ (types-places s 256 [] 0 (omega arith)) λ r _ i.
     of-bind (readTerm 64 s (length (r .0)) (r .1) 0) _ (term-places s 64 (length (r .0)) (r .1) 0 i) λ e _ j.
-    of-need (eqb (e .next) (length s)) 9 (e .next) _ (λ _. (omega arith, omega arith, j)) λ _. value tt)
+    of-need (eqb (e .next) (length s)) 9 (e .next) _ (λ f. let d = eqb-false (e .next) (length s) f in there s 9 (e .next) (omega arith) (omega arith) (omega arith)) λ _. value tt)
 
 -- ---- the walk
 
