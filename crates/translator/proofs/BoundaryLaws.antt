@@ -17,7 +17,7 @@ use Rattle.translator.specs.Said.{saidAnswer, called}
 use Rattle.translator.specs.Boundary.{packed, Packs}
 use Rattle.translator.specs.declared.Answer as code
 use Rattle.translator.specs.declared.Answer.the-variants as answer
-use Rattle.translator.proofs.Places.{Judged, refusal, CallPlace, call-places}
+use Rattle.translator.proofs.Places.{Judged, value, refusal, CallPlace, call-places}
 
 -- ---- a call
 
@@ -39,6 +39,19 @@ module _ (b : Bool) (s out work : List ℕ) (r : code.Answer) (o w : List ℕ) (
     wrote = ap (λ (c : Call). c .out) e;
     kept = ap (λ (c : Call). c .work) e;
   }
+
+-- the number tells what a call said: two that pack to one number are the same
+same-packed : {room room′ : ℕ} {a a′ : Answer ℕ} → Judged (CallPlace room) (λ n. (n ≤ 41344) × (n ≤ room)) a → Judged (CallPlace room′) (λ n. (n ≤ 41344) × (n ≤ room′)) a′ → packed a ≡ packed a′ → a ≡ a′
+same-packed (value h) (value k) e = ap good e
+same-packed (value h) (refusal k) e = absurd (omega arith)
+same-packed (refusal h) (value k) e = absurd (omega arith)
+same-packed (refusal {number = i} {place = p} h) (refusal {number = j} {place = q} k) e =
+    let a : i ≡ j = omega arith in
+    let b : p ≡ q = omega arith in
+    rw (a, b)
+
+pub packed-tells : (b b′ : Bool) (s s′ out out′ work work′ : List ℕ) → packed (call b s out work .said) ≡ packed (call b′ s′ out′ work′ .said) → call b s out work .said ≡ call b′ s′ out′ work′ .said
+packed-tells b b′ s s′ out out′ work work′ e = same-packed (call-places b s out work) (call-places b′ s′ out′ work′) e
 
 -- ---- a stretch
 
