@@ -1,21 +1,19 @@
 -- The contracts of the public functions determine what they answer: two results that one allows for a call that it asks for are equal.
 -- Of the working memory, `make_net` determines the netlist and what follows from 32,768 on; behind its lists the memory may hold anything.
 -- Assumes nothing.
-use Prim.Native.Nat.{ℕ, suc, _+_, _≤_}
+use Prim.Native.Nat.{ℕ, suc, _+_}
 use mathlib.Core.Path.{_≡_, refl, sym, ap, ap₂, _∙_}
-use mathlib.Core.Bool.{Bool, cond}
 use mathlib.Core.List.{List, [], _∷_}
 use native.Mathlib.Omega.{arith}
 use lib.Dec.{eqb}
 use lib.ListN.{length, drop, length-map}
 use contract.Lifetimes.{Lfts}
 use denote.Triple.Clauses.{AtExit}
-use borrow.Fn.Kind.{PK, RK}
-use borrow.Fn.Kinds.{In, Out, Dens, resT, endedOf}
+use borrow.Fn.Kinds.{Dens, resT, endedOf}
 use Rattle.laws.proofs.Tests.{on-cond}
 use Rattle.calculus.specs.Terms.{partAt}
 use Rattle.calculus.specs.Net.{Element, point, part, Net}
-use Rattle.memory.specs.Map.{region, elementsFrom, wiresFrom, terminalOf, netIn, Ready}
+use Rattle.memory.specs.Map.{region, elementsFrom, terminalOf, netIn}
 use Rattle.netlist.proofs.InMemory.{wires-count}
 use Rattle.wiring.specs.declared.Counts.{Counts}
 use Rattle.wiring.specs.Whole.{Stands}
