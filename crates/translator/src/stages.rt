@@ -9,7 +9,8 @@ ghost use Prim.Native.Nat.{_≤_};
 ghost use lib.ListN.{length};
 ghost use Rattle.calculus.specs.Translate.{full};
 ghost use Rattle.translator.specs.Said.{Says, Keeps, askedAnswer};
-ghost use Rattle.translator.specs.Stages.{Reads, Typed, Few};
+ghost use Rattle.wiring.specs.Whole.{Read, Accepted};
+ghost use Rattle.translator.specs.Stages.{Typed};
 
 // The netlist is made and written: 17.
 fn made(
@@ -20,7 +21,7 @@ fn made(
     lean: bool,
     start: usize,
 ) -> Answer
-    requires { ⌜ (32768 ≤ length (now work)) × (Few (now sheet) (now sizes) start) ⌝ }
+    requires { ⌜ Accepted (now sheet) (now sizes) (now work) start ⌝ }
     ensures { λ r. ⌜ (Says r (now (out .entry)) (now (out .exit)) (askedAnswer lean (full (now (sheet .entry))) (length (now (out .entry)))))
         × (Keeps (now (work .entry)) (now (work .exit))) ⌝ }
 {
@@ -44,7 +45,7 @@ fn counted(
     nodes: usize,
     start: usize,
 ) -> Answer
-    requires { ⌜ (32768 ≤ length (now work)) × (Typed (now sheet) (now sizes) nodes start) ⌝ }
+    requires { ⌜ (32768 ≤ length (now work)) × (Typed (now sheet) (now sizes) start nodes) ⌝ }
     ensures { λ r. ⌜ (Says r (now (out .entry)) (now (out .exit)) (askedAnswer lean (full (now (sheet .entry))) (length (now (out .entry)))))
         × (Keeps (now (work .entry)) (now (work .exit))) ⌝ }
 {
@@ -64,7 +65,7 @@ fn checked(
     nodes: usize,
     start: usize,
 ) -> Answer
-    requires { ⌜ (32768 ≤ length (now work)) × (Reads (now sheet) (now sizes) nodes start) ⌝ }
+    requires { ⌜ (32768 ≤ length (now work)) × (Read (now sheet) (now sizes) start nodes) ⌝ }
     ensures { λ r. ⌜ (Says r (now (out .entry)) (now (out .exit)) (askedAnswer lean (full (now (sheet .entry))) (length (now (out .entry)))))
         × (Keeps (now (work .entry)) (now (work .exit))) ⌝ }
 {
