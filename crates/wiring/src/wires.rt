@@ -42,12 +42,13 @@ pub fn connect(work: &mut [u16], a: usize, f: usize, n: usize, count: usize)
     requires { ⌜ Apart (now work) a f n count ⌝ }
     ensures { λ _. ⌜ now (work .exit) ≡ links (now (work .entry)) count (region (now (work .entry)) a n) (region (now (work .entry)) f n) ⌝ }
 {
-    let mut i: usize = 0;
-    while i < n {
+    let mut left = n;
+    while left > 0 {
+        let i = n - left;
         let x = work[a + i];
         let y = work[f + i];
         link(work, x, y, count + i);
-        i = i + 1;
+        left = left - 1;
     }
 }
 

@@ -12,17 +12,22 @@ use Rattle.wiring.proofs.wires.connect.Statement.{statement}
 use Rattle.wiring.proofs.wires.connect.Tie as tie
 
 abbrev Inv-loop : tie.InvT-loop
-Inv-loop work₀ a f n count i₀ work i = (i ≤ n) × (length work ≡ length work₀) × (links work (count + i) (drop i (region work₀ a n)) (drop i (region work₀ f n)) ≡ links work₀ count (region work₀ a n) (region work₀ f n))
+Inv-loop work₀ a f n count left₀ work left = (left ≤ n) × (length work ≡ length work₀)
+    × (links work (count + (n - left)) (drop (n - left) (region work₀ a n)) (drop (n - left) (region work₀ f n)) ≡ links work₀ count (region work₀ a n) (region work₀ f n))
     × ((j : ℕ) → 13824 ≤ j → getD work j 0 ≡ getD work₀ j 0)
 
 abbrev μ-loop : tie.MeasureT-loop
-μ-loop work₀ a f n count i₀ work i = n - i
+μ-loop work₀ a f n count left₀ work left = left
 
 loop-holds : tie.Need-loop-holds Inv-loop μ-loop
 loop-holds c =
     let a = c .before .args in
     let w = a .work .now in
-    (omega arith, refl, links-start (region w (a .a) (a .n)) (region w (a .f) (a .n)) w (a .count), λ j h. refl)
+    let e : a .n - a .n ≡ 0 = omega arith in
+    (omega arith, refl, rw e (links-start (region w (a .a) (a .n)) (region w (a .f) (a .n)) w (a .count)), λ j h. refl)
+
+sub-i : tie.Need-sub-i Inv-loop μ-loop
+sub-i c = omega arith
 
 add-x : tie.Need-add-x Inv-loop μ-loop
 add-x c = omega arith
@@ -50,13 +55,14 @@ link-requires c κs =
     let a = c .before .before .before .before .before .before .args in
     let l = c .before .before .before .before .loop in
     let p = c .before .before .before .before .before .before .pre in
-    let lt : l .i < a .n = c .before .before .before .loop-test .taken in
-    let ea = l .inv .3 (a .a + l .i) (omega (arith, p .high-a)) in
-    let ef = l .inv .3 (a .f + l .i) (omega (arith, p .high-f)) in
-    (omega (arith, p .size), rw ea (p .low-a (l .i) lt), rw ef (p .low-f (l .i) lt), omega (arith, p .few))
+    let i = a .n - l .left in
+    let lt : i < a .n = omega (arith, c .before .before .before .loop-test .taken) in
+    let ea = l .inv .3 (a .a + i) (omega (arith, p .high-a)) in
+    let ef = l .inv .3 (a .f + i) (omega (arith, p .high-f)) in
+    (omega (arith, p .size), rw ea (p .low-a i lt), rw ef (p .low-f i lt), omega (arith, p .few))
 
-add-i : tie.Need-add-i Inv-loop μ-loop
-add-i c = omega arith
+sub-left : tie.Need-sub-left Inv-loop μ-loop
+sub-left c = omega arith
 
 loop-less : tie.Need-loop-less Inv-loop μ-loop
 loop-less c = omega arith
@@ -67,13 +73,15 @@ loop-again c =
     let l = c .before .before .before .before .before .before .before .loop in
     let p = c .before .before .before .before .before .before .before .before .before .pre in
     let w = a .work .now in
-    let lt : l .i < a .n = c .before .before .before .before .before .before .loop-test .taken in
-    let ea = l .inv .3 (a .a + l .i) (omega (arith, p .high-a)) in
-    let ef = l .inv .3 (a .f + l .i) (omega (arith, p .high-f)) in
+    let i = a .n - l .left in
+    let lt : i < a .n = omega (arith, c .before .before .before .before .before .before .loop-test .taken) in
+    let again : a .n - (l .left - 1) ≡ i + 1 = omega (arith, c .before .before .before .before .before .before .loop-test .taken) in
+    let ea = l .inv .3 (a .a + i) (omega (arith, p .high-a)) in
+    let ef = l .inv .3 (a .f + i) (omega (arith, p .high-f)) in
     let la = region-length w (a .a) (a .n) (p .in-a) in
     let lf = region-length w (a .f) (a .n) (p .in-f) in
     let e = c .before .before .link .ensures in
-    (omega arith, c .before .before .link .kept .0 ∙ l .inv .1, rw e (links-again (region w (a .a) (a .n)) (region w (a .f) (a .n)) (l .work) (a .count) (l .i) (l .inv .2) (omega arith) (omega arith) _ _ (ea ∙ sym (region-at w (a .a) (a .n) (l .i) lt)) (ef ∙ sym (region-at w (a .f) (a .n) (l .i) lt))), λ j h. rw e (linked-high (l .work) (a .count + l .i) _ _ j (rw ea (p .low-a (l .i) lt)) (rw ef (p .low-f (l .i) lt)) (omega (arith, p .few)) h) ∙ l .inv .3 j h)
+    (omega arith, c .before .before .link .kept .0 ∙ l .inv .1, rw (e, again) (links-again (region w (a .a) (a .n)) (region w (a .f) (a .n)) (l .work) (a .count) i (l .inv .2) (omega arith) (omega arith) _ _ (ea ∙ sym (region-at w (a .a) (a .n) i lt)) (ef ∙ sym (region-at w (a .f) (a .n) i lt))), λ j h. rw e (linked-high (l .work) (a .count + i) _ _ j (rw ea (p .low-a i lt)) (rw ef (p .low-f i lt)) (omega (arith, p .few)) h) ∙ l .inv .3 j h)
 
 same-length : tie.Need-same-length Inv-loop μ-loop
 same-length c = omega arith
@@ -83,7 +91,7 @@ returns c =
     let a = c .before .before .before .args in
     let l = c .before .loop in
     let w = a .work .now in
-    links-end (region w (a .a) (a .n)) (region w (a .f) (a .n)) (l .work) (a .count) (l .i) (l .inv .2) (omega (arith, region-length w (a .a) (a .n) (c .before .before .before .pre .in-a)))
+    links-end (region w (a .a) (a .n)) (region w (a .f) (a .n)) (l .work) (a .count) (a .n - l .left) (l .inv .2) (omega (arith, region-length w (a .a) (a .n) (c .before .before .before .pre .in-a)))
 
 pub connect-spec : {M : Type 1} → statement M
 connect-spec =
@@ -92,6 +100,7 @@ connect-spec =
     Inv-loop
     μ-loop
     loop-holds
+    sub-i
     add-x
     mul-x
     slice-read-x
@@ -100,7 +109,7 @@ connect-spec =
     slice-read-y
     add-link
     link-requires
-    add-i
+    sub-left
     loop-less
     loop-again
     same-length
