@@ -13,12 +13,19 @@ fn wide(x: u8) -> usize
     x as usize
 }
 
-// From 0, for each byte: times 257, and one more than the byte, below the largest prime of 32 bits.
+// One step of a checksum: times 257, and one more than the number, below the largest prime of 32 bits.
+fn step(sum: u64, x: u64) -> u64
+    requires { ⌜ (sum < 4294967291) × (x < 65536) ⌝ }
+    ensures { λ r. ⌜ r < 4294967291 ⌝ }
+{
+    (sum * 257 + x + 1) % 4294967291
+}
+
 fn checksum(bytes: &[u8]) -> u64 {
     let mut sum: u64 = 0;
     let mut i: usize = 0;
     while i < bytes.len() {
-        sum = (sum * 257 + bytes[i] as u64 + 1) % 4294967291;
+        sum = step(sum, bytes[i] as u64);
         i = i + 1;
     }
     sum

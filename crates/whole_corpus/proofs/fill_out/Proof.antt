@@ -1,0 +1,62 @@
+use Rattle.whole_corpus.proofs.fill_out.Statement.{statement}
+use Rattle.whole_corpus.proofs.fill_out.Tie as tie
+use Rattle.whole_corpus.proofs.fill_out.Reads as reads
+use Rattle.whole_corpus.proofs.fill_out.Lts as lts
+
+abbrev Inv-loop : tie.InvT-loop
+Inv-loop out₀ i₀ out i = ?
+
+abbrev μ-loop : tie.MeasureT-loop
+μ-loop out₀ i₀ out i = ?
+
+-- src/main.rt:15:5
+loop-holds : tie.Need-loop-holds Inv-loop μ-loop
+loop-holds c = ?
+
+-- src/main.rt:16:19
+add-out : tie.Need-add-out Inv-loop μ-loop
+add-out c = ?
+
+-- src/main.rt:16:18
+cast-out : tie.Need-cast-out Inv-loop μ-loop
+cast-out c = ?
+
+-- src/main.rt:16:9
+slice-write-out : tie.Need-slice-write-out Inv-loop μ-loop
+slice-write-out c = ?
+
+-- src/main.rt:17:13
+add-i : tie.Need-add-i Inv-loop μ-loop
+add-i c = ?
+
+-- src/main.rt:15:5
+loop-less : tie.Need-loop-less Inv-loop μ-loop
+loop-less c = ?
+
+-- src/main.rt:15:5
+loop-again : tie.Need-loop-again Inv-loop μ-loop
+loop-again c = ?
+
+-- src/main.rt:13:1
+same-length : tie.Need-same-length Inv-loop μ-loop
+same-length c = ?
+
+-- src/main.rt:13:1
+returns : tie.Need-returns Inv-loop μ-loop
+returns c = ?
+
+pub fill-out-spec : {M : Type 1} → statement M
+fill-out-spec =
+    tie.close
+    (tie.spec
+    Inv-loop
+    μ-loop
+    loop-holds
+    add-out
+    cast-out
+    slice-write-out
+    add-i
+    loop-less
+    loop-again
+    same-length
+    returns)
