@@ -1,0 +1,247 @@
+-- Counting node by node: a term's bytes are its first record's and then its subterms', and so are its terminals. Assumes nothing.
+use Prim.Native.Nat.{ℕ, zero, suc, _+_, _*_, _-_, _≤_, _<_}
+use mathlib.Core.Path.{_≡_, refl, sym, ap, ap₂, _∙_, subst}
+use mathlib.Core.List.{List, [], _∷_, _++_, append-assoc, append-nil}
+use native.Mathlib.Omega.{arith}
+use lib.ListN.{length, getD, drop, length-append}
+use Rattle.calculus.specs.Types.{Ty, bit, size, TyRec, rec01, rec02, rec03, rec04, Table, recAt, tree}
+use Rattle.calculus.specs.Terms.{Term, var, lvar, fun, app, lfun, lapp, pair, proj, fix, con, nodes, partAt}
+use Rattle.calculus.specs.Write.{termBytes}
+use Rattle.calculus.specs.Laid.{Agrees, Below, TableOk, Stands, Ranged}
+use Rattle.calculus.specs.Net.{leftOf, make}
+use Rattle.calculus.specs.Record.{All}
+use Rattle.records.specs.Record.{recordAt}
+use Rattle.records.specs.Heads.{nodeOf}
+use Rattle.records.specs.Forms.{recIn}
+use Rattle.records.specs.declared.Node.{Node}
+use Rattle.records.specs.declared.Record.{Record}
+use Rattle.records.specs.declared.Record.the-variants as rec
+use Rattle.records.proofs.Laws.{stands-record}
+use Rattle.sheet_theorems.proofs.Bytes.{behind}
+use Rattle.sheet_theorems.proofs.TypeOffsets.{tree-zero}
+use Rattle.circuit_theorems.specs.Terminals.{terminals}
+use Rattle.circuit_theorems.proofs.Bounds.{next-is, terminals-few}
+use Rattle.circuit_theorems.proofs.Lists.{all-append}
+use Rattle.wiring.specs.Faces.{sidesOf, Knows}
+use Rattle.wiring.specs.Walk.{boundIn}
+use Rattle.wiring.specs.Count.{ownIn, Counting, rowBytes, rowNodes, rowTerminals, Row}
+
+-- ---- one node
+
+abbrev subs : Term → List Term
+subs (var i) = []
+subs (lvar i) = []
+subs (fun t e) = e ∷ []
+subs (app f a) = f ∷ a ∷ []
+subs (lfun t e) = e ∷ []
+subs (lapp f a) = f ∷ a ∷ []
+subs (pair t a b) = a ∷ b ∷ []
+subs (proj a e) = a ∷ e ∷ []
+subs (fix t e) = e ∷ []
+subs (con p t) = []
+
+abbrev headBytes : Term → List ℕ
+headBytes (var i) = 0x11 ∷ i ∷ []
+headBytes (lvar i) = 0x12 ∷ i ∷ []
+headBytes (fun t e) = 0x13 ∷ t ∷ []
+headBytes (app f a) = 0x14 ∷ []
+headBytes (lfun t e) = 0x15 ∷ t ∷ []
+headBytes (lapp f a) = 0x16 ∷ []
+headBytes (pair t a b) = 0x17 ∷ t ∷ []
+headBytes (proj a e) = 0x18 ∷ []
+headBytes (fix t e) = 0x19 ∷ t ∷ []
+headBytes (con p t) = 0x1A ∷ p ∷ t ∷ []
+
+-- its own terminals
+abbrev pub own : Table → Term → ℕ
+own Θ (var i) = 0
+own Θ (lvar i) = 0
+own Θ (fun t e) = 2 * size (leftOf (tree Θ t))
+own Θ (app f a) = 0
+own Θ (lfun t e) = 2 * size (leftOf (tree Θ t))
+own Θ (lapp f a) = 0
+own Θ (pair t a b) = 0
+own Θ (proj a e) = 0
+own Θ (fix t e) = 2 * size (tree Θ t)
+own Θ (con p t) = partAt p .inputs + 1
+
+last-one : (p xs : List ℕ) → p ++ xs ≡ p ++ (xs ++ [])
+last-one p xs = ap (λ (l : List ℕ). p ++ l) (sym (append-nil xs))
+
+last-two : (p xs ys : List ℕ) → p ++ (xs ++ ys) ≡ p ++ (xs ++ (ys ++ []))
+last-two p xs ys = ap (λ (l : List ℕ). p ++ (xs ++ l)) (sym (append-nil ys))
+
+term-split : (e : Term) → termBytes e ≡ headBytes e ++ rowBytes (subs e)
+term-split (var i) = refl
+term-split (lvar i) = refl
+term-split (fun t e) = last-one (0x13 ∷ t ∷ []) (termBytes e)
+term-split (app f a) = last-two (0x14 ∷ []) (termBytes f) (termBytes a)
+term-split (lfun t e) = last-one (0x15 ∷ t ∷ []) (termBytes e)
+term-split (lapp f a) = last-two (0x16 ∷ []) (termBytes f) (termBytes a)
+term-split (pair t a b) = last-two (0x17 ∷ t ∷ []) (termBytes a) (termBytes b)
+term-split (proj a e) = last-two (0x18 ∷ []) (termBytes a) (termBytes e)
+term-split (fix t e) = last-one (0x19 ∷ t ∷ []) (termBytes e)
+term-split (con p t) = refl
+
+head-next : (e : Term) (at : ℕ) → at + length (headBytes e) ≡ nodeOf e at .next
+head-next (var i) at = omega arith
+head-next (lvar i) at = omega arith
+head-next (fun t e) at = omega arith
+head-next (app f a) at = omega arith
+head-next (lfun t e) at = omega arith
+head-next (lapp f a) at = omega arith
+head-next (pair t a b) at = omega arith
+head-next (proj a e) at = omega arith
+head-next (fix t e) at = omega arith
+head-next (con p t) at = omega arith
+
+node-count : (e : Term) → nodes e ≡ suc (rowNodes (subs e))
+node-count (var i) = refl
+node-count (lvar i) = refl
+node-count (fun t e) = omega arith
+node-count (app f a) = omega arith
+node-count (lfun t e) = omega arith
+node-count (lapp f a) = omega arith
+node-count (pair t a b) = omega arith
+node-count (proj a e) = omega arith
+node-count (fix t e) = omega arith
+node-count (con p t) = refl
+
+own-split : (Θ : Table) (e : Term) → terminals Θ e ≡ own Θ e + rowTerminals Θ (subs e)
+own-split Θ (var i) = refl
+own-split Θ (lvar i) = refl
+own-split Θ (fun t e) = omega arith
+own-split Θ (app f a) = omega arith
+own-split Θ (lfun t e) = omega arith
+own-split Θ (lapp f a) = omega arith
+own-split Θ (pair t a b) = omega arith
+own-split Θ (proj a e) = omega arith
+own-split Θ (fix t e) = omega arith
+own-split Θ (con p t) = omega arith
+
+subs-ranged : (Θ : Table) (e : Term) → Ranged Θ e → All (Ranged Θ) (subs e)
+subs-ranged Θ (var i) r = tt
+subs-ranged Θ (lvar i) r = tt
+subs-ranged Θ (fun t e) r = (r .1, tt)
+subs-ranged Θ (app f a) r = (r .0, (r .1, tt))
+subs-ranged Θ (lfun t e) r = (r .1, tt)
+subs-ranged Θ (lapp f a) r = (r .0, (r .1, tt))
+subs-ranged Θ (pair t a b) r = (r .1, (r .2, tt))
+subs-ranged Θ (proj a e) r = (r .0, (r .1, tt))
+subs-ranged Θ (fix t e) r = (r .1, tt)
+subs-ranged Θ (con p t) r = tt
+
+-- ---- its own terminals, by its record
+
+left-of : (Θ : Table) (sizes : List ℕ) (t : ℕ) (q : TyRec) → ((u : ℕ) → u < length Θ → getD sizes u 0 ≡ size (tree Θ u)) → TableOk Θ → t < length Θ
+    → Agrees Θ q (tree Θ t) → Below t q → getD sizes (sidesOf q .left) 0 ≡ size (leftOf (tree Θ t))
+left-of Θ sizes t rec01 f ok h a b = f 0 (omega arith) ∙ ap size (tree-zero Θ ok) ∙ sym (ap (λ (τ : Ty). size (leftOf τ)) a)
+left-of Θ sizes t (rec02 l r) f ok h a b = f l (omega (arith, b .0)) ∙ sym (ap (λ (τ : Ty). size (leftOf τ)) (a .0))
+left-of Θ sizes t (rec03 l r) f ok h a b = f l (omega (arith, b .0)) ∙ sym (ap (λ (τ : Ty). size (leftOf τ)) (a .0))
+left-of Θ sizes t (rec04 l r) f ok h a b = f l (omega (arith, b .0)) ∙ sym (ap (λ (τ : Ty). size (leftOf τ)) (a .0))
+
+module _ {s sizes : List ℕ} {Θ : Table} (K : Knows s sizes Θ) where
+  left-size : (t : ℕ) → t < length Θ → 2 * getD sizes (sidesOf (recIn s t) .left) 0 ≡ 2 * size (leftOf (tree Θ t))
+  left-size t h = ap (λ (k : ℕ). 2 * k) (ap (λ (q : TyRec). getD sizes (sidesOf q .left) 0) (K .records t h) ∙ left-of Θ sizes t (recAt Θ t) (K .sized) (K .ok) h (K .ok .agrees t) (K .ok .earlier t h))
+
+  pub own-is : (e : Term) (at : ℕ) → Ranged Θ e → ownIn s sizes (nodeOf e at) ≡ own Θ e
+  unfolding ownIn
+  own-is (var i) at r = refl
+  own-is (lvar i) at r = refl
+  own-is (fun t e) at r = left-size t (r .0)
+  own-is (app f a) at r = refl
+  own-is (lfun t e) at r = left-size t (r .0)
+  own-is (lapp f a) at r = refl
+  own-is (pair t a b) at r = refl
+  own-is (proj a e) at r = refl
+  own-is (fix t e) at r = ap (λ (k : ℕ). 2 * k) (K .sized t (r .0))
+  own-is (con p t) at r = refl
+
+-- ---- a row of terms
+
+bytes-append : (xs ys : List Term) → rowBytes (xs ++ ys) ≡ rowBytes xs ++ rowBytes ys
+bytes-append [] ys = refl
+bytes-append (e ∷ xs) ys = ap (λ (l : List ℕ). termBytes e ++ l) (bytes-append xs ys) ∙ sym (append-assoc (termBytes e) (rowBytes xs) (rowBytes ys))
+
+nodes-append : (xs ys : List Term) → rowNodes (xs ++ ys) ≡ rowNodes xs + rowNodes ys
+nodes-append [] ys = omega arith
+nodes-append (e ∷ xs) ys = omega (arith, nodes-append xs ys)
+
+terminals-append : (Θ : Table) (xs ys : List Term) → rowTerminals Θ (xs ++ ys) ≡ rowTerminals Θ xs + rowTerminals Θ ys
+terminals-append Θ [] ys = omega arith
+terminals-append Θ (e ∷ xs) ys = omega (arith, terminals-append Θ xs ys)
+
+-- the first node of a row, and the row behind it
+pub record Next (Θ : Table) (s : List ℕ) (whole : Term) (at left total : ℕ) : Type 0 where
+  pub term : Term
+  pub stands : Stands s at term
+  pub ranged : Ranged Θ term
+  pub few : total + own Θ term ≤ terminals Θ whole
+  pub then : Row Θ s whole (nodeOf term at .next) (left - 1) (total + own Θ term)
+
+next-of : (Θ : Table) (s : List ℕ) (whole : Term) (at left total : ℕ) (row : List Term) (rest : List ℕ) → drop at s ≡ rowBytes row ++ rest → All (Ranged Θ) row → left ≡ rowNodes row
+    → total + rowTerminals Θ row ≡ terminals Θ whole → 0 < left → Next Θ s whole at left total
+next-of Θ s whole at left total [] rest h r c u p = absurd (omega arith)
+next-of Θ s whole at left total (e ∷ es) rest h r c u p =
+    let h₁ : drop at s ≡ termBytes e ++ (rowBytes es ++ rest) = h ∙ append-assoc (termBytes e) (rowBytes es) rest in
+    let h₂ : drop at s ≡ headBytes e ++ (rowBytes (subs e ++ es) ++ rest) =
+    h₁ ∙ ap (λ (l : List ℕ). l ++ (rowBytes es ++ rest)) (term-split e) ∙ append-assoc (headBytes e) (rowBytes (subs e)) (rowBytes es ++ rest)
+    ∙ ap (λ (l : List ℕ). headBytes e ++ l) (sym (append-assoc (rowBytes (subs e)) (rowBytes es) rest) ∙ ap (λ (l : List ℕ). l ++ rest) (sym (bytes-append (subs e) es))) in
+    let n = node-count e in
+    let o = own-split Θ e in
+    record {
+      term = e;
+      stands = record { rest = rowBytes es ++ rest; here = h₁ };
+      ranged = r .0;
+      few = omega arith;
+      then = record {
+        row = subs e ++ es;
+        rest = rest;
+        here = subst (λ (k : ℕ). drop k s ≡ rowBytes (subs e ++ es) ++ rest) (head-next e at) (behind s (headBytes e) (rowBytes (subs e ++ es) ++ rest) at h₂);
+        ranged = all-append (Ranged Θ) (subs e) es (subs-ranged Θ e (r .0)) (r .1);
+        count = omega (arith, nodes-append (subs e) es);
+        sum = omega (arith, terminals-append Θ (subs e) es);
+      };
+    }
+
+end-of : (Θ : Table) (whole : Term) (row : List Term) (total : ℕ) → 0 ≡ rowNodes row → total + rowTerminals Θ row ≡ terminals Θ whole → total ≡ terminals Θ whole
+end-of Θ whole [] total c u = omega arith
+end-of Θ whole (e ∷ es) total c u = absurd (omega (arith, node-count e))
+
+module _ {s sizes : List ℕ} {from count : ℕ} (q : Counting s sizes from count) where
+  pub row-start : Row (q .table) s (q .term) from count 0
+  row-start = record {
+    row = q .term ∷ [];
+    rest = q .stands .rest;
+    here = q .stands .here ∙ ap (λ (l : List ℕ). l ++ q .stands .rest) (sym (append-nil (termBytes (q .term))));
+    ranged = (q .ranged, tt);
+    count = omega (arith, q .nodes-are);
+    sum = omega arith;
+  }
+
+  pub row-few : terminals (q .table) (q .term) ≤ 524288
+  row-few = omega (arith, terminals-few (q .table) (q .term) (q .knows .ok .small), q .nodes-are, q .few)
+
+  module _ {at left total : ℕ} (R : Row (q .table) s (q .term) at left total) where
+    pub row-next : 0 < left → Next (q .table) s (q .term) at left total
+    row-next h = next-of (q .table) s (q .term) at left total (R .row) (R .rest) (R .here) (R .ranged) (R .count) (R .sum) h
+
+    pub row-end : left ≡ 0 → total ≡ make (q .table) (q .term) [] 0 .next
+    row-end e = end-of (q .table) (q .term) (R .row) total (sym e ∙ R .count) (R .sum) ∙ omega (arith, next-is (q .table) (q .term) [] 0)
+
+    module _ (h : 0 < left) {k : Record} (e : k ≡ recordAt s at) where
+      pub row-node : k ≡ rec.Node (nodeOf (row-next h .term) at)
+      row-node = e ∙ stands-record s at (row-next h .term) (row-next h .stands)
+
+      module _ {node : Node} (g : k ≡ rec.Node node) where
+        row-is : node ≡ nodeOf (row-next h .term) at
+        row-is = let z : rec.Node node ≡ rec.Node (nodeOf (row-next h .term) at) = sym g ∙ row-node in cc
+
+        row-own : ownIn s sizes node ≡ own (q .table) (row-next h .term)
+        row-own = ap (ownIn s sizes) row-is ∙ own-is (q .knows) (row-next h .term) at (row-next h .ranged)
+
+        pub row-room : total + ownIn s sizes node ≤ 524288
+        row-room = omega (arith, row-few, row-next h .few, row-own)
+
+        pub row-then : Row (q .table) s (q .term) (node .next) (left - 1) (total + ownIn s sizes node)
+        row-then = rw (row-own, ap (λ (x : Node). x .next) row-is) (row-next h .then)

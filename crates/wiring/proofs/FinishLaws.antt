@@ -1,0 +1,304 @@
+-- After both subterms: the rest of an application's function, both parts of a pair, a projection's body. Assumes nothing.
+use Prim.Native.Nat.{ℕ, _+_, _*_, _-_, _≤_, _<_}
+use mathlib.Core.Path.{_≡_, refl, sym, ap, ap₂, _∙_, subst}
+use mathlib.Core.Logic.{_⊎_, inl, inr, ⊎-elim}
+use mathlib.Core.Bool.{Bool, true, false, not, cond}
+use mathlib.Core.List.{List, [], _∷_, _++_, map, map-append, append-assoc, append-nil}
+use native.Mathlib.Omega.{arith}
+use borrow.Author.Tests.{eq-eqb, ne-eqb}
+use lib.Dec.{eqb}
+use lib.ListN.{length, getD, take, drop, length-append, length-map, length-drop, take-append-drop}
+use lib.Seq.{sets, length-take-le}
+use Rattle.calculus.specs.Types.{Ty, bit, size, Table, tree}
+use Rattle.calculus.specs.Write.{termBytes}
+use Rattle.calculus.specs.Net.{turns, Interface, Wire, Made, make, leftOf, rightOf, join, madeApp, madePair, madeProj}
+use Rattle.records.specs.Heads.{nodeOf}
+use Rattle.records.specs.Forms.{recIn}
+use Rattle.records.specs.declared.Node.{Node}
+use Rattle.memory.specs.Map.{region, code, kindOf}
+use Rattle.circuit_theorems.specs.Drive.{driveAll}
+use Rattle.circuit_theorems.proofs.Bounds.{join-length}
+use Rattle.circuit_theorems.proofs.Drive.{drive-append}
+use Rattle.circuit_theorems.proofs.Drivers.{dir, dirs, dirs-left, opposite, turns-size}
+use Rattle.wiring.specs.declared.State.{State}
+use Rattle.wiring.specs.declared.Built.{Built}
+use Rattle.wiring.specs.Faces.{sidesOf, Knows}
+use Rattle.wiring.specs.Wires.{links, Apart}
+use Rattle.wiring.specs.Store.{Store, Holds, atStack, atBinders, target, moreWires, after}
+use Rattle.wiring.specs.Walk.{Asks, madeOf, Leaves, Here, betweenIn, middle, appliedIn, finishedIn, finished, Finishable}
+use Rattle.wiring.specs.Nodes.{Applied, Paired, Projected, Twofold}
+use Rattle.wiring.proofs.StoreLaws.{cut-binders}
+use Rattle.wiring.proofs.NodeLaws.{Sided, sided-at}
+use Rattle.wiring.proofs.JoinLaws.{Part, wired-apart, wired-holds, moved-holds}
+use Rattle.wiring.proofs.TwoLaws as two
+
+-- a list, then another, are one
+more : {A : Type 0} (g : A → ℕ) (l : List ℕ) (a b : List A) → (l ++ map g a) ++ map g b ≡ l ++ map g (a ++ b)
+more g l a b = append-assoc l (map g a) (map g b) ∙ ap (λ (r : List ℕ). l ++ r) (sym (map-append g a b))
+
+-- two terms made one after the other, with one interface of both
+both-made : {w : List ℕ} (m : Store) (x y : Made) (ws : List Wire) (τ : Ty) (side : Interface) (stack : List ℕ) (next : ℕ) → stack ≡ m .stack ++ map code side
+    → Holds w (record { drivers = driveAll ws (driveAll (y .wires) (driveAll (x .wires) (m .drivers))); targets = ((m .targets ++ map target (x .wires)) ++ map target (y .wires)) ++ map target ws; kinds = (m .kinds ++ map kindOf (x .elements)) ++ map kindOf (y .elements); stack = stack; binders = m .binders; rest = m .rest })
+    → Holds w (after m (record { elements = x .elements ++ y .elements; wires = (x .wires ++ y .wires) ++ ws; type = τ; side = side; next = next }))
+both-made {w} m x y ws τ side stack next es H =
+    let ed : driveAll ws (driveAll (y .wires) (driveAll (x .wires) (m .drivers))) ≡ driveAll ((x .wires ++ y .wires) ++ ws) (m .drivers) =
+    sym (drive-append (x .wires ++ y .wires) ws (m .drivers) ∙ ap (driveAll ws) (drive-append (x .wires) (y .wires) (m .drivers))) in
+    let et : ((m .targets ++ map target (x .wires)) ++ map target (y .wires)) ++ map target ws ≡ m .targets ++ map target ((x .wires ++ y .wires) ++ ws) =
+    ap (λ (l : List ℕ). l ++ map target ws) (more target (m .targets) (x .wires) (y .wires)) ∙ more target (m .targets) (x .wires ++ y .wires) ws in
+    subst (λ (z : Store). Holds w z)
+    (ap₂ (λ (ds ts : List ℕ). record { drivers = ds; targets = ts; kinds = m .kinds ++ map kindOf (x .elements ++ y .elements); stack = m .stack ++ map code side; binders = m .binders; rest = m .rest }) ed et)
+    (subst (λ (z : Store). Holds w z)
+    (ap₂ (λ (ks ss : List ℕ). record { drivers = driveAll ws (driveAll (y .wires) (driveAll (x .wires) (m .drivers))); targets = ((m .targets ++ map target (x .wires)) ++ map target (y .wires)) ++ map target ws; kinds = ks; stack = ss; binders = m .binders; rest = m .rest }) (more kindOf (m .kinds) (x .elements) (y .elements)) es)
+    H)
+
+no-wires : {w : List ℕ} (m : Store) → Holds w m → Holds w (moreWires m [])
+no-wires {w} m H = subst (λ (l : List ℕ). Holds w (record { drivers = m .drivers; targets = l; kinds = m .kinds; stack = m .stack; binders = m .binders; rest = m .rest })) (sym (append-nil (m .targets))) H
+
+forget-by : (c : Bool) (xs us vs : List ℕ) {v : List ℕ} (k : Store) → k .binders ≡ cond c ((xs ++ us) ++ vs) xs → Holds v k → Holds v (atBinders k xs)
+forget-by true xs us vs k e G = cut-binders G xs (us ++ vs) (e ∙ append-assoc xs us vs)
+forget-by false xs us vs k e G = cut-binders G xs [] (e ∙ sym (append-nil xs))
+
+module _ {s sizes w : List ℕ} {node : Node} {st : State} (q : Here s sizes w node st) (h2 : node .subterms ≡ 2)
+    {f : Built} {w₁ : List ℕ} (L : Leaves (two.first-asks q h2) f w₁) {r : State} {w₂ : List ℕ} (er : r ≡ middle node st f) (ew : w₂ ≡ betweenIn s sizes w₁ node st f)
+    {b : Built} {w₃ : List ℕ} (K : Leaves (two.second-asks q h2 L er ew) b w₃)
+  where
+    abbrev Q : Asks s sizes w (q .at) st
+    Q = q .asks
+
+    abbrev m : Store
+    m = Q .store
+
+    abbrev x : Made
+    x = two.x q h2
+
+    abbrev y : Made
+    y = two.y q h2
+
+    abbrev full : Store
+    full = after (two.store₂ q h2 L) y
+
+    abbrev T : Twofold (Q .table) s (q .at) (st .next) (Q .env) (Q .term) (Q .type)
+    T = two.both q h2
+
+    H : Holds w₃ full
+    H = two.second-holds q h2 L er ew K
+
+    abbrev App : Type 0
+    App = Applied (Q .table) s (q .at) (st .next) (Q .env) (Q .term) (Q .type) x y (T .type) (T .env₂) (T .type₂)
+
+    abbrev Pair : Type 0
+    Pair = Paired (Q .table) s (q .at) (st .next) (Q .env) (Q .term) (Q .type) x y (T .type) (T .env₂) (T .type₂)
+
+    abbrev Proj : Type 0
+    Proj = Projected (Q .table) s (q .at) (st .next) (Q .env) (Q .term) (Q .type) x y (T .type) (T .env₂) (T .type₂)
+
+    len-f : f .len ≡ length (x .side)
+    len-f = two.first-left q h2 L .3
+
+    len-b : b .len ≡ length (y .side)
+    len-b = two.second-left q h2 L er ew K .3
+
+    -- the second's interface stands above the first's
+    low-length : length (m .stack ++ map code (x .side)) ≡ st .top + f .len
+    low-length = omega (arith, length-append (m .stack) (map code (x .side)), length-map (x .side) code, Q .top, len-f)
+
+    whole-length : length ((m .stack ++ map code (x .side)) ++ map code (y .side)) ≡ st .top + f .len + b .len
+    whole-length = omega (arith, length-append (m .stack ++ map code (x .side)) (map code (y .side)), length-map (y .side) code, low-length, len-b)
+
+    abbrev second-part : Part full (m .stack ++ map code (x .side)) (map code (y .side))
+    second-part = record { above = []; is = ap (λ (l : List ℕ). (m .stack ++ map code (x .side)) ++ l) (sym (append-nil (map code (y .side)))) }
+
+    abbrev below-part : Part full (m .stack) []
+    below-part = record { above = map code (x .side) ++ map code (y .side); is = append-assoc (m .stack) (map code (x .side)) (map code (y .side)) }
+
+    -- binders of the halves are forgotten
+    forget : {v : List ℕ} (k : Store) → k .binders ≡ two.binders₂ q h2 L → Holds v k → Holds v (atBinders k (m .binders))
+    forget k e G = forget-by (eqb (node .kind) 0x18) (m .binders) _ _ k e G
+
+    -- ---- a pair
+
+    pair-holds : Pair → Holds w₃ (after m (madeOf Q))
+    pair-holds z =
+        subst (λ (k : Made). Holds w₃ (after m k)) (sym (z .is))
+        (subst (λ (ws : List Wire). Holds w₃ (after m (record { elements = x .elements ++ y .elements; wires = ws; type = Q .type; side = x .side ++ y .side; next = y .next }))) (append-nil (x .wires ++ y .wires))
+        (both-made m x y [] (Q .type) (x .side ++ y .side) ((m .stack ++ map code (x .side)) ++ map code (y .side)) (y .next) (more code (m .stack) (x .side) (y .side))
+        (no-wires (atBinders full (m .binders)) (forget full refl H))))
+
+    -- ---- a projection
+
+    abbrev moved : List ℕ
+    moved = sets w₃ (18944 + st .top) (region w₃ (18944 + st .top + f .len) (b .len))
+
+    proj-holds : Proj → Holds moved (after m (madeOf Q))
+    proj-holds z =
+        let M : Holds moved (atStack full (m .stack ++ map code (y .side))) = moved-holds H second-part below-part (18944 + st .top + f .len) (18944 + st .top) (b .len) (omega (arith, low-length)) (omega (arith, Q .top)) (omega arith) (length-map (y .side) code ∙ sym len-b) in
+        subst (λ (k : Made). Holds moved (after m k)) (sym (z .is))
+        (subst (λ (ws : List Wire). Holds moved (after m (record { elements = x .elements ++ y .elements; wires = ws; type = y .type; side = y .side; next = y .next }))) (append-nil (x .wires ++ y .wires))
+        (both-made m x y [] (y .type) (y .side) (m .stack ++ map code (y .side)) (y .next) refl
+        (no-wires (atStack (atBinders full (m .binders)) (m .stack ++ map code (y .side))) (forget (atStack full (m .stack ++ map code (y .side))) refl M))))
+
+    -- ---- an application
+
+    module _ (z : App) where
+      abbrev α : Ty
+      α = leftOf (x .type)
+
+      abbrev start : Interface
+      start = take (size α) (x .side)
+
+      abbrev end : Interface
+      end = drop (size α) (x .side)
+
+      left-is : α ≡ T .type₂
+      left-is = ap leftOf (two.first-type q h2) ∙ z .left
+
+      size-is : size α ≡ b .len
+      size-is = ap size left-is ∙ sym (two.second-length q h2) ∙ sym len-b
+
+      turned : dirs (x .side) ≡ turns true (T .type₂) ++ turns false (Q .type)
+      turned = two.first-dirs q h2 ∙ z .turned
+
+      fits : b .len ≤ f .len
+      fits = omega (arith, ap length turned, length-map (x .side) dir, length-append (turns true (T .type₂)) (turns false (Q .type)), turns-size true (T .type₂), len-f, size-is, ap size left-is)
+
+      start-length : length start ≡ b .len
+      start-length = length-take-le (size α) (x .side) (omega (arith, fits, len-f, size-is)) ∙ size-is
+
+      start-dirs : dirs start ≡ turns true α
+      start-dirs = dirs-left true α (turns false (Q .type)) (x .side) (turned ∙ ap (λ (τ : Ty). turns true τ ++ turns false (Q .type)) (sym left-is))
+
+      across : dirs start ≡ map not (dirs (y .side))
+      across = opposite α (y .side) start (two.second-dirs q h2 ∙ ap (turns false) (sym left-is)) start-dirs
+
+      abbrev js : List Wire
+      js = join (y .side) start
+
+      app-wires : length (madeOf Q .wires) ≡ length (x .wires) + length (y .wires) + b .len
+      app-wires = omega (arith, ap (λ (k : Made). length (k .wires)) (z .is), length-append (x .wires ++ y .wires) js, length-append (x .wires) (y .wires), join-length (y .side) start across, len-b)
+
+      wires-b : b .wires ≡ st .wires + length (x .wires) + length (y .wires)
+      wires-b = two.second-left q h2 L er ew K .6
+
+      few : b .wires + b .len ≤ 5632
+      few = omega (arith, Q .few-wires, app-wires, wires-b)
+
+      wires-at : b .wires ≡ length (full .targets)
+      wires-at = omega (arith, wires-b, Q .wires, length-append (m .targets ++ map target (x .wires)) (map target (y .wires)), length-append (m .targets) (map target (x .wires)), length-map (x .wires) target, length-map (y .wires) target)
+
+      -- the function's interface: the start, wired, and the rest
+      halves : map code (x .side) ≡ map code start ++ map code end
+      halves = ap (map code) (sym (take-append-drop (size α) (x .side))) ∙ map-append code start end
+
+      whole : full .stack ≡ m .stack ++ (map code start ++ (map code end ++ map code (y .side)))
+      whole = append-assoc (m .stack) (map code (x .side)) (map code (y .side))
+          ∙ ap (λ (l : List ℕ). m .stack ++ l) (ap (λ (l : List ℕ). l ++ map code (y .side)) halves ∙ append-assoc (map code start) (map code end) (map code (y .side)))
+
+      abbrev start-part : Part full (m .stack) (map code start)
+      start-part = record { above = map code end ++ map code (y .side); is = whole }
+
+      pub app-apart : Apart w₃ (18944 + st .top + f .len) (18944 + st .top) (b .len) (b .wires)
+      app-apart = wired-apart H (y .side) start second-part start-part (18944 + st .top + f .len) (18944 + st .top) (b .len) (b .wires) (omega (arith, low-length)) (omega (arith, Q .top)) (sym len-b) start-length wires-at few
+
+      abbrev v : List ℕ
+      v = links w₃ (b .wires) (region w₃ (18944 + st .top + f .len) (b .len)) (region w₃ (18944 + st .top) (b .len))
+
+      app-wired : Holds v (moreWires full js)
+      app-wired = wired-holds H (y .side) start second-part start-part (18944 + st .top + f .len) (18944 + st .top) (b .len) (b .wires) (omega (arith, low-length)) (omega (arith, Q .top)) (sym len-b) start-length wires-at few across
+
+      end-length : length end ≡ f .len - b .len
+      end-length = omega (arith, length-drop (size α) (x .side), len-f, size-is)
+
+      app-moved : Holds (appliedIn w₃ (18944 + st .top) (f .len) (b .len) (b .wires)) (atStack (moreWires full js) (m .stack ++ map code end))
+      unfolding appliedIn
+      app-moved =
+          let ep : Part (moreWires full js) (m .stack ++ map code start) (map code end) = record { above = map code (y .side); is = whole ∙ sym (append-assoc (m .stack) (map code start) (map code end ++ map code (y .side))) } in
+          let bp : Part (moreWires full js) (m .stack) [] = record { above = map code start ++ (map code end ++ map code (y .side)); is = whole } in
+          moved-holds app-wired ep bp (18944 + st .top + b .len) (18944 + st .top) (f .len - b .len)
+          (omega (arith, length-append (m .stack) (map code start), length-map start code, start-length, Q .top)) (omega (arith, Q .top)) (omega arith) (length-map end code ∙ end-length)
+
+      app-holds : Holds (appliedIn w₃ (18944 + st .top) (f .len) (b .len) (b .wires)) (after m (madeOf Q))
+      app-holds =
+          let u = appliedIn w₃ (18944 + st .top) (f .len) (b .len) (b .wires) in
+          subst (λ (k : Made). Holds u (after m k)) (sym (z .is))
+          (both-made m x y js (rightOf (x .type)) end (m .stack ++ map code end) (y .next) refl (forget (atStack (moreWires full js) (m .stack ++ map code end)) refl app-moved))
+
+    -- ---- all three
+
+    kind-is : node .kind ≡ nodeOf (Q .term) (q .at) .kind
+    kind-is = two.kind-is q h2
+
+    pub finish-ready : Finishable w₃ node (st .top) f b
+    finish-ready = record {
+      memory = H .size;
+      small = (two.first-small q h2 L, omega (arith, len-b, two.second-length q h2, ap size (two.second-left q h2 L er ew K .2), Q .knows .ok .small (b .ty)), omega (arith, two.second-left q h2 L er ew K .6, two.two-wires q h2, Q .few-wires));
+      height = omega (arith, whole-length, H .stack .fits);
+      apart = λ h₁ h₂. ⊎-elim (λ z. (fits z, app-apart z)) (⊎-elim (λ z. absurd (h₂ (kind-is ∙ z .pair))) (λ z. absurd (h₁ (kind-is ∙ z .proj)))) (T .sort);
+    }
+
+    past-is : b .past ≡ q .at + length (termBytes (Q .term))
+    past-is = omega (arith, two.second-left q h2 L er ew K .0, two.first-left q h2 L .0, T .bytes, two.next-at q h2)
+
+    elements-is : b .elements ≡ st .elements + length (madeOf Q .elements)
+    elements-is = omega (arith, two.second-left q h2 L er ew K .5, two.two-count q h2)
+
+    next-is : b .next ≡ madeOf Q .next
+    next-is = two.second-left q h2 L er ew K .4 ∙ sym (two.two-next q h2)
+
+    pub finish-leaves : Leaves Q (finished s node f b) (finishedIn w₃ node (st .top) f b)
+    unfolding finished finishedIn
+    finish-leaves = ⊎-elim applied (⊎-elim paired projected) (T .sort)
+      where
+        applied : App → Leaves Q (finished s node f b) (finishedIn w₃ node (st .top) f b)
+        applied z =
+            let e₁ = ne-eqb (node .kind) 0x18 (λ k. z .not-proj (sym kind-is ∙ k)) in
+            let e₂ = ne-eqb (node .kind) 0x17 (λ k. z .not-pair (sym kind-is ∙ k)) in
+            let S = sided-at (Q .knows) (f .ty) (two.first-left q h2 L .1) (λ k. z .arrow (sym (two.first-left q h2 L .2) ∙ k)) in
+            let t = sidesOf (recIn s (f .ty)) .right in
+            let tn : t < length (Q .table) = omega (arith, S .right-below, two.first-left q h2 L .1) in
+            let tt′ : tree (Q .table) t ≡ Q .type = sym (S .right) ∙ ap rightOf (two.first-left q h2 L .2) ∙ z .right in
+            record {
+              holds = subst (λ (c : Bool). Holds (cond c moved (cond (eqb (node .kind) 0x17) w₃ (appliedIn w₃ (18944 + st .top) (f .len) (b .len) (b .wires)))) (after m (madeOf Q))) (sym e₁)
+                  (subst (λ (c : Bool). Holds (cond c w₃ (appliedIn w₃ (18944 + st .top) (f .len) (b .len) (b .wires))) (after m (madeOf Q))) (sym e₂) (app-holds z));
+              past = past-is;
+              named = subst (λ (c : Bool). cond c (b .ty) (cond (eqb (node .kind) 0x17) (node .first) t) < length (Q .table)) (sym e₁) (subst (λ (c : Bool). cond c (node .first) t < length (Q .table)) (sym e₂) tn);
+              type = subst (λ (c : Bool). tree (Q .table) (cond c (b .ty) (cond (eqb (node .kind) 0x17) (node .first) t)) ≡ Q .type) (sym e₁) (subst (λ (c : Bool). tree (Q .table) (cond c (node .first) t) ≡ Q .type) (sym e₂) tt′);
+              len = ap (λ (c : Bool). cond c (b .len) (cond (eqb (node .kind) 0x17) (f .len + b .len) (f .len - b .len))) e₁ ∙ ap (λ (c : Bool). cond c (f .len + b .len) (f .len - b .len)) e₂ ∙ sym (end-length z) ∙ ap (λ (k : Made). length (k .side)) (sym (z .is));
+              next = next-is;
+              elements = elements-is;
+              wires = ap (λ (c : Bool). cond c (b .wires) (cond (eqb (node .kind) 0x17) (b .wires) (b .wires + b .len))) e₁ ∙ ap (λ (c : Bool). cond c (b .wires) (b .wires + b .len)) e₂ ∙ omega (arith, wires-b z, app-wires z);
+            }
+
+        paired : Pair → Leaves Q (finished s node f b) (finishedIn w₃ node (st .top) f b)
+        paired z =
+            let e₂ = eq-eqb (node .kind) 0x17 (kind-is ∙ z .pair) in
+            let e₁ = ne-eqb (node .kind) 0x18 (λ k. omega (arith, kind-is, z .pair)) in
+            let t = sidesOf (recIn s (f .ty)) .right in
+            let en : node .first ≡ nodeOf (Q .term) (q .at) .first = ap (λ (k : Node). k .first) (q .is) in
+            let tn : node .first < length (Q .table) = subst (λ (k : ℕ). k < length (Q .table)) (sym en) (z .first) in
+            let tt′ : tree (Q .table) (node .first) ≡ Q .type = ap (tree (Q .table)) en ∙ z .is-type in
+            record {
+              holds = subst (λ (c : Bool). Holds (cond c moved (cond (eqb (node .kind) 0x17) w₃ (appliedIn w₃ (18944 + st .top) (f .len) (b .len) (b .wires)))) (after m (madeOf Q))) (sym e₁)
+                  (subst (λ (c : Bool). Holds (cond c w₃ (appliedIn w₃ (18944 + st .top) (f .len) (b .len) (b .wires))) (after m (madeOf Q))) (sym e₂) (pair-holds z));
+              past = past-is;
+              named = subst (λ (c : Bool). cond c (b .ty) (cond (eqb (node .kind) 0x17) (node .first) t) < length (Q .table)) (sym e₁) (subst (λ (c : Bool). cond c (node .first) t < length (Q .table)) (sym e₂) tn);
+              type = subst (λ (c : Bool). tree (Q .table) (cond c (b .ty) (cond (eqb (node .kind) 0x17) (node .first) t)) ≡ Q .type) (sym e₁) (subst (λ (c : Bool). tree (Q .table) (cond c (node .first) t) ≡ Q .type) (sym e₂) tt′);
+              len = ap (λ (c : Bool). cond c (b .len) (cond (eqb (node .kind) 0x17) (f .len + b .len) (f .len - b .len))) e₁ ∙ ap (λ (c : Bool). cond c (f .len + b .len) (f .len - b .len)) e₂ ∙ omega (arith, len-f, len-b, length-append (x .side) (y .side), ap (λ (k : Made). length (k .side)) (z .is));
+              next = next-is;
+              elements = elements-is;
+              wires = ap (λ (c : Bool). cond c (b .wires) (cond (eqb (node .kind) 0x17) (b .wires) (b .wires + b .len))) e₁ ∙ ap (λ (c : Bool). cond c (b .wires) (b .wires + b .len)) e₂ ∙ omega (arith, two.second-left q h2 L er ew K .6, ap (λ (k : Made). length (k .wires)) (z .is), length-append (x .wires) (y .wires));
+            }
+
+        projected : Proj → Leaves Q (finished s node f b) (finishedIn w₃ node (st .top) f b)
+        projected z =
+            let e₁ = eq-eqb (node .kind) 0x18 (kind-is ∙ z .proj) in
+            let t = sidesOf (recIn s (f .ty)) .right in
+            record {
+              holds = subst (λ (c : Bool). Holds (cond c moved (cond (eqb (node .kind) 0x17) w₃ (appliedIn w₃ (18944 + st .top) (f .len) (b .len) (b .wires)))) (after m (madeOf Q))) (sym e₁) (proj-holds z);
+              past = past-is;
+              named = subst (λ (c : Bool). cond c (b .ty) (cond (eqb (node .kind) 0x17) (node .first) t) < length (Q .table)) (sym e₁) (two.second-left q h2 L er ew K .1);
+              type = subst (λ (c : Bool). tree (Q .table) (cond c (b .ty) (cond (eqb (node .kind) 0x17) (node .first) t)) ≡ Q .type) (sym e₁) (two.second-left q h2 L er ew K .2 ∙ z .same);
+              len = ap (λ (c : Bool). cond c (b .len) (cond (eqb (node .kind) 0x17) (f .len + b .len) (f .len - b .len))) e₁ ∙ len-b ∙ ap (λ (k : Made). length (k .side)) (sym (z .is));
+              next = next-is;
+              elements = elements-is;
+              wires = ap (λ (c : Bool). cond c (b .wires) (cond (eqb (node .kind) 0x17) (b .wires) (b .wires + b .len))) e₁ ∙ omega (arith, two.second-left q h2 L er ew K .6, ap (λ (k : Made). length (k .wires)) (z .is), length-append (x .wires) (y .wires));
+            }

@@ -1,0 +1,14 @@
+mod TurnLaws
+mod RunLaws
+mod LinkLaws
+mod StoreLaws
+mod NodeLaws
+mod LeafLaws
+mod BindLaws
+mod JoinLaws
+mod OneLaws
+mod TwoLaws
+mod FinishLaws
+mod StepLaws
+mod CountLaws
+mod FullLaws

@@ -1,0 +1,316 @@
+-- A typed term with one subterm or two, by its derivation. Assumes nothing.
+use Prim.Native.Nat.{ℕ, zero, suc, _+_, _*_, _≤_, _<_}
+use mathlib.Core.Path.{_≡_, refl, sym, ap, ap₂, _∙_, subst}
+use mathlib.Core.Logic.{_⊎_, inl, inr}
+use mathlib.Core.Bool.{Bool, true, false, not, cond}
+use mathlib.Core.List.{List, [], _∷_, _++_, map}
+use native.Mathlib.Omega.{arith}
+use lib.Dec.{T, eqb}
+use lib.ListN.{length, getD, take, drop, length-append}
+use lib.Seq.{take-at, drop-at}
+use Rattle.calculus.specs.Types.{Ty, bit, prod, arrow, lolli, size, sharable, TyRec, rec01, rec02, rec03, rec04, Table, recAt, tree}
+use Rattle.calculus.specs.Terms.{Term, var, lvar, fun, app, lfun, lapp, pair, proj, fix, con}
+use Rattle.calculus.specs.Write.{termBytes}
+use Rattle.calculus.specs.Laid.{Agrees, Below, TableOk, Stands, Ranged, depth}
+use Rattle.calculus.specs.Rules.{Ctx, many, once, away, Split, split-end, split-many, split-first, split-second, split-away, InΓ, in-here, in-many, in-away, IsΔ, is-here, is-many, is-away, Typed, Var, LVar, →I, →E, ⊸I, ⊸E, ×I, ×E, Fix, Con}
+use Rattle.calculus.specs.Net.{Interface, turns, outSide, inSide, points, Bound, Made, leftOf, rightOf, binder, madePair, firstHalf, secondHalf, make}
+use Rattle.records.specs.Heads.{nodeOf}
+use Rattle.records.specs.Forms.{recIn}
+use Rattle.sheet_theorems.proofs.Standing.{fun-body, lfun-body, fix-body, app-function, app-argument, lapp-function, lapp-argument, pair-first, pair-second, proj-pair, proj-body}
+use Rattle.circuit_theorems.proofs.Drivers.{dir, dirs, Fits, Env, env-end, env-many, env-once, env-away, turns-size, dirs-left, term-driven}
+use Rattle.wiring.specs.Faces.{sidesOf, Knows}
+use Rattle.wiring.specs.Walk.{boundIn}
+use Rattle.wiring.specs.Nodes.{funOf, Binding, Applied, Paired, Projected, Twofold, Variable, Constant}
+
+-- ---- the sides of a type, by its record
+
+pub record Sided (Θ : Table) (t l r : ℕ) : Type 0 where
+  pub left-below : l < t
+  pub right-below : r < t
+  pub left : leftOf (tree Θ t) ≡ tree Θ l
+  pub right : rightOf (tree Θ t) ≡ tree Θ r
+
+sided-of : (Θ : Table) (t : ℕ) (q : TyRec) → Agrees Θ q (tree Θ t) → Below t q → (tree Θ t ≡ bit → ⊥) → Sided Θ t (sidesOf q .left) (sidesOf q .right)
+sided-of Θ t rec01 a b f = absurd (f a)
+sided-of Θ t (rec02 l r) a b f = record { left-below = b .0; right-below = b .1; left = ap leftOf (a .0); right = ap rightOf (a .0) }
+sided-of Θ t (rec03 l r) a b f = record { left-below = b .0; right-below = b .1; left = ap leftOf (a .0); right = ap rightOf (a .0) }
+sided-of Θ t (rec04 l r) a b f = record { left-below = b .0; right-below = b .1; left = ap leftOf (a .0); right = ap rightOf (a .0) }
+
+pub sided-at : {s sizes : List ℕ} {Θ : Table} → Knows s sizes Θ → (t : ℕ) → t < length Θ → (tree Θ t ≡ bit → ⊥) → Sided Θ t (sidesOf (recIn s t) .left) (sidesOf (recIn s t) .right)
+sided-at {Θ = Θ} K t h f = rw (K .records t h) (sided-of Θ t (recAt Θ t) (K .ok .agrees t) (K .ok .earlier t h) f)
+
+-- ---- binders' interfaces and contexts
+
+pub split-env : {Γ Γ₁ Γ₂ : Ctx} {env : List Bound} → Split Γ Γ₁ Γ₂ → Env Γ env → Env Γ₁ env × Env Γ₂ env
+split-env split-end env-end = (env-end, env-end)
+split-env (split-many z) (env-many h f v) = let (p, q) = split-env z v in (env-many h f p, env-many h f q)
+split-env (split-first z) (env-once f v) = let (p, q) = split-env z v in (env-once f p, env-away q)
+split-env (split-second z) (env-once f v) = let (p, q) = split-env z v in (env-away p, env-once f q)
+split-env (split-away z) (env-away v) = let (p, q) = split-env z v in (env-away p, env-away q)
+
+dirs-out : (ts : List Bool) (n : ℕ) → dirs (outSide ts n) ≡ ts
+dirs-out [] n = refl
+dirs-out (false ∷ ts) n = ap (λ (r : List Bool). false ∷ r) (dirs-out ts (n + 2))
+dirs-out (true ∷ ts) n = ap (λ (r : List Bool). true ∷ r) (dirs-out ts (n + 2))
+
+binder-fits : (τ α : Ty) (n : ℕ) → α ≡ τ → Fits τ (binder α n)
+binder-fits τ α n e = record { type = e; dirs = dirs-out (turns false α) n ∙ ap (turns false) e }
+
+dirs-drop : (k : ℕ) (s : Interface) → dirs (drop k s) ≡ drop k (dirs s)
+dirs-drop zero s = refl
+dirs-drop (suc k) [] = refl
+dirs-drop (suc k) (x ∷ s) = dirs-drop k s
+
+halves-fit : (θ₁ θ₂ : Ty) (a : Made) → a .type ≡ prod θ₁ θ₂ → dirs (a .side) ≡ turns false (prod θ₁ θ₂) → Fits θ₁ (firstHalf a) × Fits θ₂ (secondHalf a)
+halves-fit θ₁ θ₂ a et ed = (
+  record { type = ap leftOf et; dirs = rw et (dirs-left false θ₁ (turns false θ₂) (a .side) ed) },
+  record {
+    type = ap rightOf et;
+    dirs = rw et (dirs-drop (size θ₁) (a .side) ∙ ap (drop (size θ₁)) ed ∙ drop-at (turns false θ₁) (turns false θ₂) (size θ₁) (turns-size false θ₁));
+  },
+)
+
+not-arrow : {τ θ ρ : Ty} → τ ≡ arrow θ ρ → τ ≡ bit → ⊥
+not-arrow p q = let z : arrow _ _ ≡ bit = sym p ∙ q in let n : _≡_ {A = ℕ} 0 1 = cc in omega arith
+
+not-lolli : {τ θ ρ : Ty} → τ ≡ lolli θ ρ → τ ≡ bit → ⊥
+not-lolli p q = let z : lolli _ _ ≡ bit = sym p ∙ q in let n : _≡_ {A = ℕ} 0 1 = cc in omega arith
+
+not-prod : {τ θ ρ : Ty} → τ ≡ prod θ ρ → τ ≡ bit → ⊥
+not-prod p q = let z : prod _ _ ≡ bit = sym p ∙ q in let n : _≡_ {A = ℕ} 0 1 = cc in omega arith
+
+-- ---- one subterm
+
+module _ {s sizes : List ℕ} {Θ : Table} (K : Knows s sizes Θ) (at n : ℕ) (env : List Bound) where
+  pub binding : {Γ : Ctx} {e : Term} {τ : Ty} → Typed Θ Γ e τ → Stands s at e → Ranged Θ e → Env Γ env → nodeOf e at .subterms ≡ 1 → Binding Θ s at n env e τ
+  binding (Var x) st rg v h = absurd (omega arith)
+  binding (LVar x) st rg v h = absurd (omega arith)
+  binding (→I {t = t} {e = e} {θ = θ} {τ = τ} eτ sh d) st rg v h =
+      let S = sided-at K t (rg .0) (not-arrow eτ) in
+      let b = sidesOf (recIn s t) .left in
+      let eb : tree Θ b ≡ θ = sym (S .left) ∙ ap leftOf eτ in
+      record {
+        body = e;
+        bound = b;
+        named = omega (arith, S .left-below, rg .0);
+        context = many θ ∷ _;
+        type = τ;
+        typed = d;
+        fits = env-many sh (binder-fits θ (tree Θ b) n eb) v;
+        stands = rw two (fun-body st);
+        ranged = rg .1;
+        deep = refl;
+        bytes = omega arith;
+        number = refl;
+        first = rg .0;
+        is-type = eτ;
+        is = inr ((λ z. omega arith), ap (λ (ρ : Ty). funOf (leftOf (tree Θ t)) ρ n (make Θ e (binder (leftOf (tree Θ t)) n ∷ env) (n + 2 * size (leftOf (tree Θ t))))) eτ ∙ ap (λ (α : Ty). funOf α (arrow θ τ) n (make Θ e (binder α n ∷ env) (n + 2 * size α))) (S .left));
+      }
+    where
+      two : at + 1 + 1 ≡ at + 2
+      two = omega arith
+  binding (⊸I {t = t} {e = e} {κ = κ} {τ = τ} eτ ar d) st rg v h =
+      let S = sided-at K t (rg .0) (not-lolli eτ) in
+      let b = sidesOf (recIn s t) .left in
+      let eb : tree Θ b ≡ κ = sym (S .left) ∙ ap leftOf eτ in
+      record {
+        body = e;
+        bound = b;
+        named = omega (arith, S .left-below, rg .0);
+        context = once κ ∷ _;
+        type = τ;
+        typed = d;
+        fits = env-once (binder-fits κ (tree Θ b) n eb) v;
+        stands = rw two (lfun-body st);
+        ranged = rg .1;
+        deep = refl;
+        bytes = omega arith;
+        number = refl;
+        first = rg .0;
+        is-type = eτ;
+        is = inr ((λ z. omega arith), ap (λ (ρ : Ty). funOf (leftOf (tree Θ t)) ρ n (make Θ e (binder (leftOf (tree Θ t)) n ∷ env) (n + 2 * size (leftOf (tree Θ t))))) eτ ∙ ap (λ (α : Ty). funOf α (lolli κ τ) n (make Θ e (binder α n ∷ env) (n + 2 * size α))) (S .left));
+      }
+    where
+      two : at + 1 + 1 ≡ at + 2
+      two = omega arith
+  binding (Fix {t = t} {e = e} {θ = θ} eτ sh d) st rg v h = record {
+    body = e;
+    bound = t;
+    named = rg .0;
+    context = many θ ∷ _;
+    type = θ;
+    typed = d;
+    fits = env-many sh (binder-fits θ (tree Θ t) n eτ) v;
+    stands = rw two (fix-body st);
+    ranged = rg .1;
+    deep = refl;
+    bytes = omega arith;
+    number = refl;
+    first = rg .0;
+    is-type = eτ;
+    is = inl (refl, sym eτ, refl);
+  }
+    where
+      two : at + 1 + 1 ≡ at + 2
+      two = omega arith
+  binding (→E z d c) st rg v h = absurd (omega arith)
+  binding (⊸E z d c) st rg v h = absurd (omega arith)
+  binding (×I z eτ s₁ s₂ d c) st rg v h = absurd (omega arith)
+  binding (×E z s₁ s₂ d c) st rg v h = absurd (omega arith)
+  binding (Con p e z) st rg v h = absurd (omega arith)
+
+  -- ---- two subterms
+
+  pub twofold : {Γ : Ctx} {e : Term} {τ : Ty} → Typed Θ Γ e τ → Stands s at e → Ranged Θ e → Env Γ env → nodeOf e at .subterms ≡ 2 → Twofold Θ s at n env e τ
+  twofold (Var x) st rg v h = absurd (omega arith)
+  twofold (LVar x) st rg v h = absurd (omega arith)
+  twofold (→I eτ sh d) st rg v h = absurd (omega arith)
+  twofold (⊸I eτ ar d) st rg v h = absurd (omega arith)
+  twofold (Fix eτ sh d) st rg v h = absurd (omega arith)
+  twofold (Con p e z) st rg v h = absurd (omega arith)
+  twofold (→E {f = f} {a = a} {θ = θ} {τ = τ} z d c) st rg v h =
+      let (p, q) = split-env z v in
+      record {
+        first = f;
+        second = a;
+        stands-first = rw one (app-function st);
+        stands-second = rw one (app-argument st);
+        ranged-first = rg .0;
+        ranged-second = rg .1;
+        deep-first = omega arith;
+        deep-second = omega arith;
+        bytes = omega (arith, length-append (termBytes f) (termBytes a));
+        context = _;
+        type = arrow θ τ;
+        typed = d;
+        fits = p;
+        context₂ = _;
+        type₂ = θ;
+        env₂ = env;
+        typed₂ = c;
+        fits₂ = q;
+        sort = inl (record { not-pair = λ z. omega arith; not-proj = λ z. omega arith; same = refl; arrow = not-arrow refl; left = refl; right = refl; turned = refl; is = refl });
+      }
+    where
+      one : at + 1 + 0 ≡ at + 1
+      one = omega arith
+  twofold (⊸E {f = f} {a = a} {κ = κ} {τ = τ} z d c) st rg v h =
+      let (p, q) = split-env z v in
+      record {
+        first = f;
+        second = a;
+        stands-first = rw one (lapp-function st);
+        stands-second = rw one (lapp-argument st);
+        ranged-first = rg .0;
+        ranged-second = rg .1;
+        deep-first = omega arith;
+        deep-second = omega arith;
+        bytes = omega (arith, length-append (termBytes f) (termBytes a));
+        context = _;
+        type = lolli κ τ;
+        typed = d;
+        fits = p;
+        context₂ = _;
+        type₂ = κ;
+        env₂ = env;
+        typed₂ = c;
+        fits₂ = q;
+        sort = inl (record { not-pair = λ z. omega arith; not-proj = λ z. omega arith; same = refl; arrow = not-lolli refl; left = refl; right = refl; turned = refl; is = refl });
+      }
+    where
+      one : at + 1 + 0 ≡ at + 1
+      one = omega arith
+  twofold (×I {t = t} {a = a} {b = b} {θ₁ = θ₁} {θ₂ = θ₂} z eτ s₁ s₂ d c) st rg v h =
+      let (p, q) = split-env z v in
+      record {
+        first = a;
+        second = b;
+        stands-first = rw two (pair-first st);
+        stands-second = rw two (pair-second st);
+        ranged-first = rg .1;
+        ranged-second = rg .2;
+        deep-first = omega arith;
+        deep-second = omega arith;
+        bytes = omega (arith, length-append (termBytes a) (termBytes b));
+        context = _;
+        type = θ₁;
+        typed = d;
+        fits = p;
+        context₂ = _;
+        type₂ = θ₂;
+        env₂ = env;
+        typed₂ = c;
+        fits₂ = q;
+        sort = inr (inl (record { pair = refl; same = refl; first = rg .0; is-type = eτ; is = ap (λ (ρ : Ty). madePair ρ (make Θ a env n) (make Θ b env (make Θ a env n .next))) eτ }));
+      }
+    where
+      two : at + 1 + 1 ≡ at + 2
+      two = omega arith
+  twofold (×E {a = a} {e = e} {θ₁ = θ₁} {θ₂ = θ₂} {τ = τ} z s₁ s₂ d c) st rg v h =
+      let (p, q) = split-env z v in
+      let x = make Θ a env n in
+      let D = term-driven d env p n in
+      let (h₁, h₂) = halves-fit θ₁ θ₂ x (D .type) (D .dirs) in
+      record {
+        first = a;
+        second = e;
+        stands-first = rw one (proj-pair st);
+        stands-second = rw one (proj-body st);
+        ranged-first = rg .0;
+        ranged-second = rg .1;
+        deep-first = omega arith;
+        deep-second = omega arith;
+        bytes = omega (arith, length-append (termBytes a) (termBytes e));
+        context = _;
+        type = prod θ₁ θ₂;
+        typed = d;
+        fits = p;
+        context₂ = many θ₂ ∷ many θ₁ ∷ _;
+        type₂ = τ;
+        env₂ = secondHalf x ∷ firstHalf x ∷ env;
+        typed₂ = c;
+        fits₂ = env-many s₂ h₂ (env-many s₁ h₁ q);
+        sort = inr (inr (record { proj = refl; halves = refl; product = not-prod refl; sum = refl; same = refl; is = refl }));
+      }
+    where
+      one : at + 1 + 0 ≡ at + 1
+      one = omega arith
+
+-- ---- variables are bound
+
+pub shared-bound : {Γ : Ctx} {env : List Bound} {i : ℕ} {θ : Ty} → InΓ Γ i θ → Env Γ env → i < length env
+shared-bound (in-here z) (env-many h f v) = omega arith
+shared-bound (in-many x) (env-many h f v) = omega (arith, shared-bound x v)
+shared-bound (in-away x) (env-away v) = omega (arith, shared-bound x v)
+
+pub linear-bound : {Γ : Ctx} {env : List Bound} {i : ℕ} {κ : Ty} → IsΔ Γ i κ → Env Γ env → i < length env
+linear-bound (is-here z) (env-once f v) = omega arith
+linear-bound (is-many x) (env-many h f v) = omega (arith, linear-bound x v)
+linear-bound (is-away x) (env-away v) = omega (arith, linear-bound x v)
+
+-- ---- no subterm
+
+module _ {Θ : Table} (s : List ℕ) (at n : ℕ) (env : List Bound) where
+  pub variable : {Γ : Ctx} {e : Term} {τ : Ty} → Typed Θ Γ e τ → Env Γ env → nodeOf e at .subterms ≡ 0 → (nodeOf e at .kind ≡ 0x1A → ⊥) → Variable Θ s at n env e τ
+  variable (Var x) v h f = record { bound = shared-bound x v; is = refl; bytes = omega arith; shallow = refl }
+  variable (LVar x) v h f = record { bound = linear-bound x v; is = refl; bytes = omega arith; shallow = refl }
+  variable (→I eτ sh d) v h f = absurd (omega arith)
+  variable (⊸I eτ ar d) v h f = absurd (omega arith)
+  variable (Fix eτ sh d) v h f = absurd (omega arith)
+  variable (→E z d c) v h f = absurd (omega arith)
+  variable (⊸E z d c) v h f = absurd (omega arith)
+  variable (×I z eτ s₁ s₂ d c) v h f = absurd (omega arith)
+  variable (×E z s₁ s₂ d c) v h f = absurd (omega arith)
+  variable (Con p e z) v h f = absurd (f refl)
+
+  pub constant : {Γ : Ctx} {e : Term} {τ : Ty} → Typed Θ Γ e τ → Ranged Θ e → nodeOf e at .kind ≡ 0x1A → Constant Θ s at n env e τ
+  constant (Var x) rg f = absurd (omega arith)
+  constant (LVar x) rg f = absurd (omega arith)
+  constant (→I eτ sh d) rg f = absurd (omega arith)
+  constant (⊸I eτ ar d) rg f = absurd (omega arith)
+  constant (Fix eτ sh d) rg f = absurd (omega arith)
+  constant (→E z d c) rg f = absurd (omega arith)
+  constant (⊸E z d c) rg f = absurd (omega arith)
+  constant (×I z eτ s₁ s₂ d c) rg f = absurd (omega arith)
+  constant (×E z s₁ s₂ d c) rg f = absurd (omega arith)
+  constant (Con p e z) rg f = record { known = p; named = rg; is-type = e; is = refl; bytes = omega arith; shallow = refl }

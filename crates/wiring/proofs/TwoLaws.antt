@@ -1,0 +1,365 @@
+-- An application, a pair and a projection: the first subterm, and the second. Assumes nothing.
+use Prim.Native.Nat.{ℕ, zero, suc, _+_, _*_, _-_, _≤_, _<_}
+use mathlib.Core.Path.{_≡_, refl, sym, ap, ap₂, _∙_, subst}
+use mathlib.Core.Logic.{_⊎_, inl, inr, ⊎-elim}
+use mathlib.Core.Bool.{Bool, true, false, not, cond}
+use mathlib.Core.List.{List, [], _∷_, _++_, map, map-append, append-assoc, append-nil}
+use native.Mathlib.Omega.{arith}
+use borrow.Author.Tests.{eq-eqb, ne-eqb}
+use lib.Dec.{eqb}
+use lib.ListN.{length, getD, take, drop, length-append, length-map, length-drop, take-append-drop}
+use lib.Seq.{sets, take-all, length-take-le, take-at, drop-at, drop-append-seam, drop-drop}
+use Rattle.calculus.specs.Types.{Ty, bit, size, Table, tree}
+use Rattle.calculus.specs.Terms.{Term, var, lvar, fun, app, lfun, lapp, pair, proj, fix, con}
+use Rattle.calculus.specs.Write.{termBytes}
+use Rattle.calculus.specs.Laid.{Stands, Ranged, depth}
+use Rattle.calculus.specs.Net.{turns, Interface, Bound, Made, make, leftOf, rightOf, join, madeApp, madePair, madeProj, firstHalf, secondHalf}
+use Rattle.records.specs.Heads.{nodeOf}
+use Rattle.records.specs.Forms.{recIn}
+use Rattle.records.specs.declared.Node.{Node}
+use Rattle.memory.specs.Map.{region, code, kindOf}
+use Rattle.sheet_theorems.proofs.Standing.{stands-in}
+use Rattle.circuit_theorems.specs.Drive.{driveAll}
+use Rattle.circuit_theorems.specs.Terminals.{terminals}
+use Rattle.circuit_theorems.proofs.Bounds.{next-is, made-side, made-type, join-length}
+use Rattle.circuit_theorems.proofs.Drive.{drive-append}
+use Rattle.circuit_theorems.proofs.Drivers.{dirs, term-driven, Env}
+use Rattle.wiring.specs.declared.State.{State}
+use Rattle.wiring.specs.declared.Built.{Built}
+use Rattle.wiring.specs.Faces.{sidesOf, Knows}
+use Rattle.wiring.specs.Store.{Store, Holds, atBinders, target, after}
+use Rattle.wiring.specs.Walk.{OfStack, BoundAt, Binds, Asks, madeOf, Leaves, Here, halved, betweenIn, middle, Between}
+use Rattle.wiring.specs.Nodes.{Applied, Paired, Projected, Twofold}
+use Rattle.wiring.proofs.StoreLaws.{push-binders}
+use Rattle.wiring.proofs.NodeLaws.{Sided, sided-at, twofold}
+use Rattle.wiring.proofs.BindLaws.{binds-grow, binds-push, bound-grows}
+
+depth-some : (e : Term) → 0 < depth e
+depth-some (var i) = omega arith
+depth-some (lvar i) = omega arith
+depth-some (fun t e) = omega arith
+depth-some (app f a) = omega arith
+depth-some (lfun t e) = omega arith
+depth-some (lapp f a) = omega arith
+depth-some (pair t a b) = omega arith
+depth-some (proj a e) = omega arith
+depth-some (fix t e) = omega arith
+depth-some (con p t) = omega arith
+
+map-take : (k : ℕ) (side : Interface) → map code (take k side) ≡ take k (map code side)
+map-take zero side = refl
+map-take (suc k) [] = refl
+map-take (suc k) (t ∷ side) = ap (λ (l : List ℕ). code t ∷ l) (map-take k side)
+
+map-drop : (k : ℕ) (side : Interface) → map code (drop k side) ≡ drop k (map code side)
+map-drop zero side = refl
+map-drop (suc k) [] = refl
+map-drop (suc k) (t ∷ side) = map-drop k side
+
+-- the two parts of an interface that stands on top of the stack
+front-region : (stack : List ℕ) (side : Interface) (top k : ℕ) → length stack ≡ top → map code (take k side) ≡ region (stack ++ map code side) top k
+front-region stack side top k e = map-take k side ∙ ap (take k) (sym (drop-at stack (map code side) top e))
+
+back-region : (stack : List ℕ) (side : Interface) (top k m : ℕ) → length stack ≡ top → length side ≡ k + m → map code (drop k side) ≡ region (stack ++ map code side) (top + k) m
+back-region stack side top k m e el =
+    let z : length (map code (drop k side)) ≤ m = omega (arith, length-map (drop k side) code, length-drop k side) in
+    sym (take-all m (map code (drop k side)) z)
+    ∙ ap (take m) (map-drop k side ∙ ap (drop k) (sym (drop-at stack (map code side) top e)) ∙ drop-drop k top (stack ++ map code side))
+
+module _ {s sizes w : List ℕ} {node : Node} {st : State} (q : Here s sizes w node st) (two : node .subterms ≡ 2) where
+  abbrev pub Q : Asks s sizes w (q .at) st
+  Q = q .asks
+
+  abbrev pub Θ : Table
+  Θ = Q .table
+
+  abbrev pub n : ℕ
+  n = st .next
+
+  pub both : Twofold Θ s (q .at) n (Q .env) (Q .term) (Q .type)
+  both = twofold (Q .knows) (q .at) n (Q .env) (Q .typed) (Q .stands) (Q .ranged) (Q .fits) (rw (q .is) at two)
+
+  abbrev pub x : Made
+  x = make Θ (both .first) (Q .env) n
+
+  abbrev pub y : Made
+  y = make Θ (both .second) (both .env₂) (x .next)
+
+  abbrev pub Sort : Type 0
+  Sort = Applied Θ s (q .at) n (Q .env) (Q .term) (Q .type) x y (both .type) (both .env₂) (both .type₂)
+      ⊎ (Paired Θ s (q .at) n (Q .env) (Q .term) (Q .type) x y (both .type) (both .env₂) (both .type₂)
+      ⊎ Projected Θ s (q .at) n (Q .env) (Q .term) (Q .type) x y (both .type) (both .env₂) (both .type₂))
+
+  pub kind-is : node .kind ≡ nodeOf (Q .term) (q .at) .kind
+  kind-is = ap (λ (z : Node). z .kind) (q .is)
+
+  -- what holds of all three sorts
+  pub two-next : madeOf Q .next ≡ y .next
+  two-next = ⊎-elim (λ z. ap (λ (m : Made). m .next) (z .is)) (⊎-elim (λ z. ap (λ (m : Made). m .next) (z .is)) (λ z. ap (λ (m : Made). m .next) (z .is))) (both .sort)
+
+  pub two-elements : madeOf Q .elements ≡ x .elements ++ y .elements
+  two-elements = ⊎-elim (λ z. ap (λ (m : Made). m .elements) (z .is)) (⊎-elim (λ z. ap (λ (m : Made). m .elements) (z .is)) (λ z. ap (λ (m : Made). m .elements) (z .is))) (both .sort)
+
+  pub two-count : length (madeOf Q .elements) ≡ length (x .elements) + length (y .elements)
+  two-count = ap length two-elements ∙ length-append (x .elements) (y .elements)
+
+  pub two-wires : length (x .wires) + length (y .wires) ≤ length (madeOf Q .wires)
+  two-wires =
+      let e = length-append (x .wires) (y .wires) in
+      ⊎-elim (λ z. omega (arith, ap (λ (m : Made). length (m .wires)) (z .is), length-append (x .wires ++ y .wires) (join (y .side) (take (size (leftOf (x .type))) (x .side)))))
+      (⊎-elim (λ z. omega (arith, ap (λ (m : Made). length (m .wires)) (z .is))) (λ z. omega (arith, ap (λ (m : Made). length (m .wires)) (z .is)))) (both .sort)
+
+  first-next : x .next ≤ y .next
+  first-next = omega (arith, next-is Θ (both .second) (both .env₂) (x .next))
+
+  pub next-at : node .next ≡ nodeOf (Q .term) (q .at) .next
+  next-at = ap (λ (z : Node). z .next) (q .is)
+
+  -- ---- the first
+
+  pub first-asks : Asks s sizes w (node .next) st
+  first-asks = record {
+    table = Θ;
+    knows = Q .knows;
+    term = both .first;
+    stands = subst (λ (k : ℕ). Stands s k (both .first)) (sym next-at) (both .stands-first);
+    ranged = both .ranged-first;
+    context = both .context;
+    type = both .type;
+    typed = both .typed;
+    env = Q .env;
+    fits = both .fits;
+    store = Q .store;
+    holds = Q .holds;
+    elements = Q .elements;
+    wires = Q .wires;
+    top = Q .top;
+    binds = Q .binds;
+    few = omega (arith, Q .few, two-next, first-next);
+    few-elements = omega (arith, Q .few-elements, two-count);
+    few-wires = omega (arith, Q .few-wires, two-wires);
+    deep = omega (arith, Q .deep, both .deep-first);
+    scoped = omega (arith, Q .scoped, both .deep-first);
+  }
+
+  pub first-type : x .type ≡ both .type
+  first-type = made-type (both .typed) (Q .env) (both .fits) n
+
+  pub first-length : length (x .side) ≡ size (both .type)
+  first-length = made-side (both .typed) (Q .env) (both .fits) n ∙ ap size first-type
+
+  module _ {f : Built} {w₁ : List ℕ} (L : Leaves first-asks f w₁) where
+    pub first-holds : Holds w₁ (after (Q .store) x)
+    unfolding first-asks
+    first-holds = L .holds
+
+    pub first-left : (f .past ≡ node .next + length (termBytes (both .first))) × (f .ty < length Θ) × (tree Θ (f .ty) ≡ both .type) × (f .len ≡ length (x .side)) × (f .next ≡ x .next)
+        × (f .elements ≡ st .elements + length (x .elements)) × (f .wires ≡ st .wires + length (x .wires))
+    unfolding first-asks
+    first-left = (L .past, L .named, L .type, L .len, L .next, L .elements, L .wires)
+
+    -- the second stands past the first record
+    pub first-past : (node .next ≤ f .past) × (f .past < length s)
+    first-past = (
+      omega (arith, first-left .0),
+      stands-in (subst (λ (k : ℕ). Stands s k (both .second)) (sym (first-left .0 ∙ ap (λ (k : ℕ). k + length (termBytes (both .first))) next-at)) (both .stands-second)),
+    )
+
+    pub first-small : f .len ≤ 128
+    first-small = omega (arith, first-left .3, first-length, ap size (first-left .2), Q .knows .ok .small (f .ty))
+
+    pub between-asks : Between sizes w₁ st f
+    between-asks = record {
+      all = Q .knows .all;
+      memory = first-holds .size;
+      small = (omega (arith, Q .deep), first-small, omega (arith, Q .scoped, both .deep-first, depth-some (both .first)));
+    }
+
+    -- ---- between
+
+    abbrev pub left : ℕ
+    left = sidesOf (recIn s (f .ty)) .left
+
+    abbrev pub right : ℕ
+    right = sidesOf (recIn s (f .ty)) .right
+
+    abbrev pub bound : List ℕ
+    bound = Q .store .binders ++ left ∷ (2 * st .top) ∷ []
+
+    abbrev pub both-bound : List ℕ
+    both-bound = bound ++ right ∷ (2 * (st .top + getD sizes left 0)) ∷ []
+
+    abbrev pub binders₂ : List ℕ
+    binders₂ = cond (eqb (node .kind) 0x18) both-bound (Q .store .binders)
+
+    abbrev pub store₂ : Store
+    store₂ = atBinders (after (Q .store) x) binders₂
+
+    scope-few : st .scope + 2 ≤ 128
+    scope-few = omega (arith, Q .scoped, both .deep-first, depth-some (both .first))
+
+    halved-holds : Holds (halved s sizes w₁ (f .ty) (st .scope) (st .top)) (atBinders (after (Q .store) x) both-bound)
+    unfolding halved
+    halved-holds =
+        let c = Q .binds .count in
+        let P = push-binders first-holds (left ∷ (2 * st .top) ∷ []) (27392 + 2 * st .scope) (omega arith) (omega (arith, scope-few)) in
+        push-binders P (right ∷ (2 * (st .top + getD sizes left 0)) ∷ []) (27392 + 2 * (st .scope + 1))
+        (omega (arith, length-append (Q .store .binders) (left ∷ (2 * st .top) ∷ []))) (omega (arith, scope-few, length-append (Q .store .binders) (left ∷ (2 * st .top) ∷ [])))
+
+    pub between-holds : (w₂ : List ℕ) → w₂ ≡ betweenIn s sizes w₁ node st f → Holds w₂ store₂
+    unfolding betweenIn
+    between-holds w₂ e = rw e (by (eqb (node .kind) 0x18))
+      where
+        by : (c : Bool) → Holds (cond c (halved s sizes w₁ (f .ty) (st .scope) (st .top)) w₁) (atBinders (after (Q .store) x) (cond c both-bound (Q .store .binders)))
+        by true = halved-holds
+        by false = first-holds
+
+    -- the halves of a projection
+    module _ (z : Projected Θ s (q .at) n (Q .env) (Q .term) (Q .type) x y (both .type) (both .env₂) (both .type₂)) where
+      sided : Sided Θ (f .ty) left right
+      sided = sided-at (Q .knows) (f .ty) (first-left .1) (λ e. z .product (sym (first-left .2) ∙ e))
+
+      left-is : leftOf (x .type) ≡ tree Θ left
+      left-is = ap leftOf (first-type ∙ sym (first-left .2)) ∙ sided .left
+
+      right-is : rightOf (x .type) ≡ tree Θ right
+      right-is = ap rightOf (first-type ∙ sym (first-left .2)) ∙ sided .right
+
+      left-size : getD sizes left 0 ≡ size (leftOf (x .type))
+      left-size = Q .knows .sized left (omega (arith, sided .left-below, first-left .1)) ∙ ap size (sym left-is)
+
+      sum : length (x .side) ≡ size (leftOf (x .type)) + size (rightOf (x .type))
+      sum = first-length ∙ z .sum ∙ ap₂ _+_ (ap (λ (τ : Ty). size (leftOf τ)) (sym first-type)) (ap (λ (τ : Ty). size (rightOf τ)) (sym first-type))
+
+      long : length (Q .store .stack ++ map code (x .side)) ≡ st .top + length (x .side)
+      long = length-append (Q .store .stack) (map code (x .side)) ∙ ap₂ _+_ (Q .top) (length-map (x .side) code)
+
+      first-bound : BoundAt Θ (Q .store .stack ++ map code (x .side)) left (2 * st .top) (firstHalf x)
+      first-bound = record {
+        named = omega (arith, sided .left-below, first-left .1);
+        type = left-is;
+        side = inr (record {
+          height = st .top;
+          is = refl;
+          below = omega (arith, long, sum, ap size left-is);
+          shown = front-region (Q .store .stack) (x .side) (st .top) (size (leftOf (x .type))) (Q .top) ∙ ap (λ (τ : Ty). region (Q .store .stack ++ map code (x .side)) (st .top) (size τ)) left-is;
+        });
+      }
+
+      second-bound : BoundAt Θ (Q .store .stack ++ map code (x .side)) right (2 * (st .top + getD sizes left 0)) (secondHalf x)
+      second-bound = record {
+        named = omega (arith, sided .right-below, first-left .1);
+        type = right-is;
+        side = inr (record {
+          height = st .top + size (leftOf (x .type));
+          is = ap (λ (k : ℕ). 2 * (st .top + k)) left-size;
+          below = omega (arith, long, sum, ap size right-is);
+          shown = back-region (Q .store .stack) (x .side) (st .top) (size (leftOf (x .type))) (size (rightOf (x .type))) (Q .top) sum
+              ∙ ap (λ (τ : Ty). region (Q .store .stack ++ map code (x .side)) (st .top + size (leftOf (x .type))) (size τ)) right-is;
+        });
+      }
+
+      halves-bind : Binds Θ (Q .store .stack ++ map code (x .side)) both-bound (st .scope + 2) (secondHalf x ∷ firstHalf x ∷ Q .env)
+      halves-bind =
+          let e : st .scope + 1 + 1 ≡ st .scope + 2 = omega arith in
+          subst (λ (k : ℕ). Binds Θ (Q .store .stack ++ map code (x .side)) both-bound k (secondHalf x ∷ firstHalf x ∷ Q .env)) e
+          (binds-push bound (binds-push (Q .store .binders) (binds-grow (map code (x .side)) (Q .binds)) left (2 * st .top) (firstHalf x) first-bound) right (2 * (st .top + getD sizes left 0)) (secondHalf x) second-bound)
+
+    same-binds : (node .kind ≡ 0x18 → ⊥) → both .env₂ ≡ Q .env → Binds Θ (Q .store .stack ++ map code (x .side)) binders₂ (cond (eqb (node .kind) 0x18) (st .scope + 2) (st .scope)) (both .env₂)
+    same-binds h e =
+        subst (λ (c : Bool). Binds Θ (Q .store .stack ++ map code (x .side)) (cond c both-bound (Q .store .binders)) (cond c (st .scope + 2) (st .scope)) (both .env₂)) (sym (ne-eqb (node .kind) 0x18 h))
+        (subst (Binds Θ (Q .store .stack ++ map code (x .side)) (Q .store .binders) (st .scope)) (sym e) (binds-grow (map code (x .side)) (Q .binds)))
+
+    pub two-binds : Binds Θ (Q .store .stack ++ map code (x .side)) binders₂ (cond (eqb (node .kind) 0x18) (st .scope + 2) (st .scope)) (both .env₂)
+    two-binds = ⊎-elim (λ z. same-binds (λ k. z .not-proj (sym kind-is ∙ k)) (z .same))
+        (⊎-elim (λ z. same-binds (λ k. omega (arith, kind-is, z .pair)) (z .same))
+        (λ z. subst (λ (c : Bool). Binds Θ (Q .store .stack ++ map code (x .side)) (cond c both-bound (Q .store .binders)) (cond c (st .scope + 2) (st .scope)) (both .env₂)) (sym (eq-eqb (node .kind) 0x18 (kind-is ∙ z .proj)))
+        (subst (Binds Θ (Q .store .stack ++ map code (x .side)) both-bound (st .scope + 2)) (sym (z .halves)) (halves-bind z)))) (both .sort)
+
+    -- ---- the second
+
+    module _ {r : State} {w₂ : List ℕ} (er : r ≡ middle node st f) (ew : w₂ ≡ betweenIn s sizes w₁ node st f) where
+      middle-is : (r .next ≡ x .next) × (r .elements ≡ st .elements + length (x .elements)) × (r .wires ≡ st .wires + length (x .wires)) × (r .top ≡ st .top + length (x .side)) × (r .scope ≡ cond (eqb (node .kind) 0x18) (st .scope + 2) (st .scope))
+      unfolding middle
+      middle-is =
+          let l = first-left in (
+            ap (λ (k : State). k .next) er ∙ l .4,
+            ap (λ (k : State). k .elements) er ∙ l .5,
+            ap (λ (k : State). k .wires) er ∙ l .6,
+            ap (λ (k : State). k .top) er ∙ ap (λ (k : ℕ). st .top + k) (l .3),
+            ap (λ (k : State). k .scope) er,
+          )
+
+      scope-most : r .scope ≤ st .scope + 2
+      scope-most = rw (middle-is .4) (by (eqb (node .kind) 0x18))
+        where
+          by : (c : Bool) → cond c (st .scope + 2) (st .scope) ≤ st .scope + 2
+          by true = omega arith
+          by false = omega arith
+
+      pub second-is : make Θ (both .second) (both .env₂) (r .next) ≡ y
+      second-is = ap (make Θ (both .second) (both .env₂)) (middle-is .0)
+
+      pub second-asks : Asks s sizes w₂ (f .past) r
+      second-asks = record {
+        table = Θ;
+        knows = Q .knows;
+        term = both .second;
+        stands = subst (λ (k : ℕ). Stands s k (both .second)) (sym (first-left .0 ∙ ap (λ (k : ℕ). k + length (termBytes (both .first))) next-at)) (both .stands-second);
+        ranged = both .ranged-second;
+        context = both .context₂;
+        type = both .type₂;
+        typed = both .typed₂;
+        env = both .env₂;
+        fits = both .fits₂;
+        store = store₂;
+        holds = between-holds w₂ ew;
+        elements = second-elements;
+        wires = second-wires;
+        top = second-top;
+        binds = subst (λ (k : ℕ). Binds Θ (Q .store .stack ++ map code (x .side)) binders₂ k (both .env₂)) (sym (middle-is .4)) two-binds;
+        few = omega (arith, Q .few, two-next, ap (λ (m : Made). m .next) second-is);
+        few-elements = omega (arith, Q .few-elements, two-count, ap (λ (m : Made). length (m .elements)) second-is, middle-is .1);
+        few-wires = omega (arith, Q .few-wires, two-wires, ap (λ (m : Made). length (m .wires)) second-is, middle-is .2);
+        deep = omega (arith, Q .deep, both .deep-second, middle-is .3, first-left .3, first-small);
+        scoped = omega (arith, Q .scoped, both .deep-second, scope-most);
+      }
+        where
+          second-elements : length (Q .store .kinds ++ map kindOf (x .elements)) ≡ r .elements
+          second-elements = omega (arith, length-append (Q .store .kinds) (map kindOf (x .elements)), length-map (x .elements) kindOf, Q .elements, middle-is .1)
+
+          second-wires : length (Q .store .targets ++ map target (x .wires)) ≡ r .wires
+          second-wires = omega (arith, length-append (Q .store .targets) (map target (x .wires)), length-map (x .wires) target, Q .wires, middle-is .2)
+
+          second-top : length (Q .store .stack ++ map code (x .side)) ≡ r .top
+          second-top = omega (arith, length-append (Q .store .stack) (map code (x .side)), length-map (x .side) code, Q .top, middle-is .3)
+
+      module _ {b : Built} {w₃ : List ℕ} (K : Leaves second-asks b w₃) where
+        pub second-holds : Holds w₃ (after store₂ y)
+        unfolding second-asks
+        second-holds = rw second-is at (K .holds)
+
+        pub second-left : (b .past ≡ f .past + length (termBytes (both .second))) × (b .ty < length Θ) × (tree Θ (b .ty) ≡ both .type₂) × (b .len ≡ length (y .side)) × (b .next ≡ y .next)
+            × (b .elements ≡ st .elements + length (x .elements) + length (y .elements)) × (b .wires ≡ st .wires + length (x .wires) + length (y .wires))
+        unfolding second-asks
+        second-left = (
+          K .past,
+          K .named,
+          K .type,
+          K .len ∙ ap (λ (m : Made). length (m .side)) second-is,
+          K .next ∙ ap (λ (m : Made). m .next) second-is,
+          omega (arith, K .elements, ap (λ (m : Made). length (m .elements)) second-is, middle-is .1),
+          omega (arith, K .wires, ap (λ (m : Made). length (m .wires)) second-is, middle-is .2),
+        )
+
+  pub second-type : y .type ≡ both .type₂
+  second-type = made-type (both .typed₂) (both .env₂) (both .fits₂) (x .next)
+
+  pub second-length : length (y .side) ≡ size (both .type₂)
+  second-length = made-side (both .typed₂) (both .env₂) (both .fits₂) (x .next) ∙ ap size second-type
+
+  pub first-dirs : dirs (x .side) ≡ turns false (both .type)
+  first-dirs = term-driven (both .typed) (Q .env) (both .fits) n .dirs
+
+  pub second-dirs : dirs (y .side) ≡ turns false (both .type₂)
+  second-dirs = term-driven (both .typed₂) (both .env₂) (both .fits₂) (x .next) .dirs
