@@ -55,30 +55,28 @@ fn sum_work(work: &[u16]) -> u64 {
     sum
 }
 
-fn answer(number: u8, value: usize) {
+fn fields(number: u8, value: usize, out: &[u8], work: &[u16]) {
     io::print_decimal(1, number as u64);
     io::write_all(1, b" ");
     io::print_decimal(1, value as u64);
-}
-
-// One call, and what it leaves. The output is filled before and after: a call changes only what it writes.
-fn call(sheet: &[u8], out: &mut [u8], work: &mut [u16], lean: bool) {
-    fill_work(work);
-    let mut changed: usize = 0;
-    match translator::translate(sheet, out, work, lean) {
-        Answer::Written(n) => {
-            answer(0, n);
-            changed = n;
-        }
-        Answer::Refused(number, place) => {
-            answer(number, place);
-        }
-    }
     io::write_all(1, b" ");
     io::print_decimal(1, sum_out(out));
     io::write_all(1, b" ");
     io::print_decimal(1, sum_work(work));
-    fill_out(&mut out[..changed]);
+}
+
+// One call, and what it leaves. The output is filled before, and what the call has written is filled again.
+fn call(sheet: &[u8], out: &mut [u8], work: &mut [u16], lean: bool) {
+    fill_work(work);
+    match translator::translate(sheet, out, work, lean) {
+        Answer::Written(n) => {
+            fields(0, n, out, work);
+            fill_out(&mut out[..n]);
+        }
+        Answer::Refused(number, place) => {
+            fields(number, place, out, work);
+        }
+    }
 }
 
 fn line(sheet: &[u8], out: &mut [u8], work: &mut [u16]) {
