@@ -9,7 +9,7 @@ use lib.Seq.{take-append-le, drop-append-le, getD-append-add}
 use Rattle.calculus.specs.Types.{Ty, Table, tree, size}
 use Rattle.calculus.specs.Net.{Interface, Bound, unbound}
 use Rattle.memory.specs.Map.{region}
-use Rattle.wiring.specs.Walk.{OfPoints, OfStack, BoundAt, slot, Binds}
+use Rattle.wiring.specs.Asks.{OfPoints, OfStack, BoundAt, slot, Binds}
 
 region-append : (xs ys : List ℕ) (h n : ℕ) → h + n ≤ length xs → region (xs ++ ys) h n ≡ region xs h n
 region-append xs ys h n l =

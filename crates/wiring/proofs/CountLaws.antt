@@ -22,8 +22,8 @@ use Rattle.sheet_theorems.proofs.TypeOffsets.{tree-zero}
 use Rattle.circuit_theorems.specs.Terminals.{terminals}
 use Rattle.circuit_theorems.proofs.Bounds.{next-is, terminals-few}
 use Rattle.circuit_theorems.proofs.Lists.{all-append}
-use Rattle.wiring.specs.Faces.{sidesOf, Knows}
-use Rattle.wiring.specs.Walk.{boundIn}
+use Rattle.wiring.specs.Sides.{sidesOf, Knows}
+use Rattle.wiring.specs.Asks.{boundIn}
 use Rattle.wiring.specs.Count.{ownIn, Counting, rowBytes, rowNodes, rowTerminals, Row}
 
 -- ---- one node

@@ -20,12 +20,12 @@ use Rattle.circuit_theorems.specs.Drive.{driveAll}
 use Rattle.circuit_theorems.proofs.Bounds.{join-length}
 use Rattle.circuit_theorems.proofs.Drive.{drive-append}
 use Rattle.circuit_theorems.proofs.Drivers.{dir, dirs, dirs-left, opposite, turns-size}
-use Rattle.wiring.specs.declared.State.{State}
-use Rattle.wiring.specs.declared.Built.{Built}
-use Rattle.wiring.specs.Faces.{sidesOf, Knows}
-use Rattle.wiring.specs.Wires.{links, Apart}
+use Rattle.wiring.specs.declared.walk.State.{State}
+use Rattle.wiring.specs.declared.walk.Built.{Built}
+use Rattle.wiring.specs.Sides.{sidesOf, Knows}
+use Rattle.wiring.specs.Links.{links, Apart}
 use Rattle.wiring.specs.Store.{Store, Holds, atStack, atBinders, target, moreWires, after}
-use Rattle.wiring.specs.Walk.{Asks, madeOf, Leaves, Here, betweenIn, middle, appliedIn, finishedIn, finished, Finishable}
+use Rattle.wiring.specs.Asks.{Asks, madeOf, Leaves, Here, betweenIn, middle, appliedIn, finishedIn, finished, Finishable}
 use Rattle.wiring.specs.Nodes.{Applied, Paired, Projected, Twofold}
 use Rattle.wiring.proofs.StoreLaws.{cut-binders}
 use Rattle.wiring.proofs.NodeLaws.{Sided, sided-at}

@@ -39,14 +39,15 @@ use Rattle.circuit_theorems.proofs.Forming.{Whole}
 use Rattle.circuit_theorems.proofs.Main.{Accepts, accepts, formed}
 use Rattle.circuit_theorems.proofs.Drive.{mem-driver, table-list}
 use Rattle.circuit_theorems.proofs.Bounds.{few-elements, few-wires, few-pins, names}
-use Rattle.wiring.specs.declared.State.{State}
-use Rattle.wiring.specs.declared.Built.{Built}
+use Rattle.wiring.specs.declared.walk.State.{State}
+use Rattle.wiring.specs.declared.walk.Built.{Built}
 use Rattle.wiring.specs.declared.Counts.{Counts}
-use Rattle.wiring.specs.Faces.{Knows}
+use Rattle.wiring.specs.Sides.{Knows}
 use Rattle.wiring.specs.Store.{Store, Lies, Holds, target, after}
-use Rattle.wiring.specs.Walk.{Binds, Asks, Leaves}
+use Rattle.wiring.specs.Asks.{Binds, Asks, Leaves}
 use Rattle.wiring.specs.Count.{Counting}
 use Rattle.wiring.specs.Whole.{Read, Accepted, Stands}
+use Rattle.wiring.proofs.LinkLaws.{terminal-back}
 use Rattle.wiring.proofs.StoreLaws.{sets-at, lies-region}
 
 -- ---- a read sheet
@@ -95,14 +96,6 @@ elements-back (part p i ∷ es) n e t k =
     let f = ne-eqb p 7 (λ z. omega (arith, k .0)) in
     ap (λ (b : Bool). cond b (point n ∷ elementsFrom (map kindOf es) (n + 2)) (part p n ∷ elementsFrom (map kindOf es) (n + partAt p .inputs + 1))) f
     ∙ ap₂ (λ (x : Element) (l : List Element). x ∷ l) (ap (part p) (sym (t .0))) (elements-back es (n + partAt p .inputs + 1) e (t .1) (k .1))
-
-terminal-back : (t : Terminal) → terminalOf (code t) ≡ t
-terminal-back (inp i) =
-    let h : (2 * i) / 2 ≡ i = omega arith in
-    ap (λ (b : Bool). cond b (inp ((2 * i) / 2)) (out ((2 * i) / 2))) (eq-eqb ((2 * i) % 2) 0 (omega arith)) ∙ ap inp h
-terminal-back (out o) =
-    let h : (2 * o + 1) / 2 ≡ o = omega arith in
-    ap (λ (b : Bool). cond b (inp ((2 * o + 1) / 2)) (out ((2 * o + 1) / 2))) (ne-eqb ((2 * o + 1) % 2) 0 (λ z. omega arith)) ∙ ap out h
 
 pins-back : (side : Interface) → map terminalOf (map code side) ≡ side
 pins-back [] = refl

@@ -11,7 +11,7 @@ use Rattle.calculus.specs.Record.{All}
 use Rattle.memory.specs.Map.{region, code}
 use Rattle.circuit_theorems.proofs.Drivers.{dirs}
 use Rattle.circuit_theorems.proofs.Lists.{all-left, all-right}
-use Rattle.wiring.specs.Wires.{links, Apart}
+use Rattle.wiring.specs.Links.{links, Apart}
 use Rattle.wiring.specs.Store.{Store, Lies, Low, Holds, atStack, moreWires}
 use Rattle.wiring.proofs.RunLaws.{region-length, region-at}
 use Rattle.wiring.proofs.StoreLaws.{lies-region, cut-stack, push-stack, links-hold}

@@ -21,11 +21,11 @@ use Rattle.memory.specs.Map.{region, code}
 use Rattle.circuit_theorems.proofs.Bounds.{made-type, made-side}
 use Rattle.circuit_theorems.proofs.Counts.{part-inputs}
 use Rattle.circuit_theorems.proofs.Drivers.{turns-size}
-use Rattle.wiring.specs.declared.State.{State}
-use Rattle.wiring.specs.declared.Built.{Built}
-use Rattle.wiring.specs.Faces.{Knows, Named, face}
+use Rattle.wiring.specs.declared.walk.State.{State}
+use Rattle.wiring.specs.declared.walk.Built.{Built}
+use Rattle.wiring.specs.Sides.{Knows, Named, face}
 use Rattle.wiring.specs.Store.{Store, Lies, Low, Holds, moreKinds, atStack, after}
-use Rattle.wiring.specs.Walk.{OfPoints, OfStack, BoundAt, shown, Showable, slot, Binds, Asks, madeOf, Leaves, Here}
+use Rattle.wiring.specs.Asks.{OfPoints, OfStack, BoundAt, shown, Showable, slot, Binds, Asks, madeOf, Leaves, Here}
 use Rattle.wiring.specs.Nodes.{Variable, Constant}
 use Rattle.wiring.proofs.RunLaws.{face-length, region-length, region-at, part-length}
 use Rattle.wiring.proofs.StoreLaws.{push-kinds, push-stack}

@@ -18,8 +18,8 @@ use Rattle.records.specs.Heads.{nodeOf}
 use Rattle.records.specs.Forms.{recIn}
 use Rattle.sheet_theorems.proofs.Standing.{fun-body, lfun-body, fix-body, app-function, app-argument, lapp-function, lapp-argument, pair-first, pair-second, proj-pair, proj-body}
 use Rattle.circuit_theorems.proofs.Drivers.{dir, dirs, Fits, Env, env-end, env-many, env-once, env-away, turns-size, dirs-left, term-driven}
-use Rattle.wiring.specs.Faces.{sidesOf, Knows}
-use Rattle.wiring.specs.Walk.{boundIn}
+use Rattle.wiring.specs.Sides.{sidesOf, Knows}
+use Rattle.wiring.specs.Asks.{boundIn}
 use Rattle.wiring.specs.Nodes.{funOf, Binding, Applied, Paired, Projected, Twofold, Variable, Constant}
 
 -- ---- the sides of a type, by its record

@@ -23,12 +23,12 @@ use Rattle.circuit_theorems.proofs.Bounds.{next-is, made-side, made-type, join-
 use Rattle.circuit_theorems.proofs.Drive.{drive-append}
 use Rattle.circuit_theorems.proofs.Drivers.{turns-size, dirs, dirs-in, term-driven, Env}
 use Rattle.circuit_theorems.proofs.Lists.{all-left, all-right}
-use Rattle.wiring.specs.declared.State.{State}
-use Rattle.wiring.specs.declared.Built.{Built}
-use Rattle.wiring.specs.Faces.{Knows, Named, face}
-use Rattle.wiring.specs.Wires.{links, Apart}
+use Rattle.wiring.specs.declared.walk.State.{State}
+use Rattle.wiring.specs.declared.walk.Built.{Built}
+use Rattle.wiring.specs.Sides.{Knows, Named, face}
+use Rattle.wiring.specs.Links.{links, Apart}
 use Rattle.wiring.specs.Store.{Store, Low, Holds, moreKinds, atStack, atBinders, target, moreWires, after}
-use Rattle.wiring.specs.Walk.{OfPoints, BoundAt, Binds, Asks, madeOf, Leaves, Here, boundIn, opened, inner, Opened, looped, closedIn, closed, Closable}
+use Rattle.wiring.specs.Asks.{OfPoints, BoundAt, Binds, Asks, madeOf, Leaves, Here, boundIn, opened, inner, Opened, looped, closedIn, closed, Closable}
 use Rattle.wiring.specs.Nodes.{funOf, Binding}
 use Rattle.wiring.proofs.RunLaws.{face-length}
 use Rattle.wiring.proofs.StoreLaws.{push-kinds, push-stack, push-binders, cut-stack, cut-binders, lies-region, links-hold}

@@ -12,7 +12,7 @@ use lib.Seq.{sets, drop-cons, getD-drop, getD-take, getD-set-other, length-take-
 use Rattle.laws.proofs.Regions.{drop-past}
 use Rattle.calculus.specs.Net.{Terminal, inp, out, partSide}
 use Rattle.memory.specs.Map.{region, code}
-use Rattle.wiring.specs.Faces.{endOf, face}
+use Rattle.wiring.specs.Sides.{endOf, face}
 
 pub run-start : (vs w : List ℕ) (to : ℕ) → sets w (to + 0) (drop 0 vs) ≡ sets w to vs
 run-start vs w to = rw add-zero

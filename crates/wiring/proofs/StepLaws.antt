@@ -18,8 +18,8 @@ use Rattle.records.specs.declared.Record.{Record}
 use Rattle.records.specs.declared.Record.the-variants as rec
 use Rattle.records.proofs.Laws.{stands-record, node-next}
 use Rattle.sheet_theorems.proofs.Standing.{stands-end, term-nonempty}
-use Rattle.wiring.specs.declared.State.{State}
-use Rattle.wiring.specs.Walk.{Asks, Here}
+use Rattle.wiring.specs.declared.walk.State.{State}
+use Rattle.wiring.specs.Asks.{Asks, Here}
 
 subterms-of : (e : Term) (at : ℕ) → (nodeOf e at .subterms ≡ 0 → ⊥) → (nodeOf e at .subterms ≡ 1 → ⊥) → nodeOf e at .subterms ≡ 2
 subterms-of (var i) at f g = absurd (f refl)

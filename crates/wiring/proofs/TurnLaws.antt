@@ -13,8 +13,8 @@ use Rattle.calculus.specs.Laid.{Agrees, Below, TableOk}
 use Rattle.calculus.specs.Net.{turns}
 use Rattle.records.specs.Forms.{recIn}
 use Rattle.circuit_theorems.proofs.Drivers.{turns-size}
-use Rattle.wiring.specs.declared.Sides.{Sides}
-use Rattle.wiring.specs.Faces.{sidesOf, Knows, Named}
+use Rattle.wiring.specs.declared.faces.Sides.{Sides}
+use Rattle.wiring.specs.Sides.{sidesOf, Knows, Named}
 
 -- ---- type records
 

@@ -24,11 +24,11 @@ use Rattle.circuit_theorems.specs.Terminals.{terminals}
 use Rattle.circuit_theorems.proofs.Bounds.{next-is, made-side, made-type, join-length}
 use Rattle.circuit_theorems.proofs.Drive.{drive-append}
 use Rattle.circuit_theorems.proofs.Drivers.{dirs, term-driven, Env}
-use Rattle.wiring.specs.declared.State.{State}
-use Rattle.wiring.specs.declared.Built.{Built}
-use Rattle.wiring.specs.Faces.{sidesOf, Knows}
+use Rattle.wiring.specs.declared.walk.State.{State}
+use Rattle.wiring.specs.declared.walk.Built.{Built}
+use Rattle.wiring.specs.Sides.{sidesOf, Knows}
 use Rattle.wiring.specs.Store.{Store, Holds, atBinders, target, after}
-use Rattle.wiring.specs.Walk.{OfStack, BoundAt, Binds, Asks, madeOf, Leaves, Here, halved, betweenIn, middle, Between}
+use Rattle.wiring.specs.Asks.{OfStack, BoundAt, Binds, Asks, madeOf, Leaves, Here, halved, betweenIn, middle, Between}
 use Rattle.wiring.specs.Nodes.{Applied, Paired, Projected, Twofold}
 use Rattle.wiring.proofs.StoreLaws.{push-binders}
 use Rattle.wiring.proofs.NodeLaws.{Sided, sided-at, twofold}

@@ -5,8 +5,8 @@ use Rattle.wiring.proofs.make_net.Statement.{statement}
 use Rattle.wiring.proofs.make_net.Tie as tie
 use Rattle.wiring.proofs.make_net.Reads as reads
 use Rattle.wiring.proofs.make_net.Lts as lts
-use Rattle.wiring.proofs.fill.Reads as fill-reads
-use Rattle.wiring.proofs.make.Reads as make-reads
+use Rattle.wiring.proofs.wires.fill.Reads as fill-reads
+use Rattle.wiring.proofs.walk.make.Reads as make-reads
 
 -- src/lib.rt:594:5
 fill-requires : tie.Need-fill-requires

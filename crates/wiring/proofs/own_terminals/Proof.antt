@@ -11,9 +11,9 @@ use Rattle.wiring.proofs.own_terminals.Statement.{statement}
 use Rattle.wiring.proofs.own_terminals.Tie as tie
 use Rattle.wiring.proofs.own_terminals.Reads as reads
 use Rattle.wiring.proofs.own_terminals.Lts as lts
-use Rattle.wiring.proofs.bound.Reads as bound-reads
-use Rattle.wiring.proofs.inputs_of.Reads as inputs-of-reads
-use Rattle.wiring.proofs.size_of.Reads as size-of-reads
+use Rattle.wiring.proofs.walk.bound.Reads as bound-reads
+use Rattle.wiring.proofs.faces.inputs_of.Reads as inputs-of-reads
+use Rattle.wiring.proofs.faces.size_of.Reads as size-of-reads
 
 -- src/lib.rt:548:16
 inputs-of-requires : tie.Need-inputs-of-requires
