@@ -1,17 +1,17 @@
 -- A record lies within its netlist, and its line takes at most 80 bytes. Assumes nothing.
-use mathlib.Core.Path.{_≡_, ap, sym}
+use mathlib.Core.Path.{_≡_}
 use mathlib.Core.Bool.{Bool, true, false, cond}
-use mathlib.Core.List.{List, [], _∷_, _++_}
-use Prim.Native.Nat.{ℕ, _+_, _*_, _≤_}
+use mathlib.Core.List.{List, [], _∷_}
+use Prim.Native.Nat.{ℕ, _+_, _≤_}
 use native.Mathlib.Omega.{arith}
 use lib.Dec.{eqb}
-use lib.ListN.{length, getD, drop, length-append}
+use lib.ListN.{length, getD, length-append}
 use Rattle.calculus.specs.Terms.{partAt}
 use Rattle.calculus.specs.Listing.{Text, line, names}
 use Rattle.netlist.proofs.PartInputs.{inputs-few}
 use Rattle.lines.specs.Figure.{figure, figures}
 use Rattle.lines.specs.OneLine.{pointLine, partLine, wiredLine, pinLine}
-use Rattle.lines.specs.InBytes.{numberAt, sizeOf, sizeAt, textOf, lineAt}
+use Rattle.lines.specs.InBytes.{sizeAt, textOf, lineAt}
 use Rattle.lines.proofs.Decimal.{figure-few, figures-few}
 use Rattle.lines.proofs.Standing.{size-whole, size-room}
 use Rattle.lines.proofs.Texts.{point-text, part-text, wire-text, pin-text, name-short}

@@ -15,7 +15,8 @@ fn room_for_a_line(text: &[u8], used: usize) -> usize
     0
 }
 
-// The line of each record of a netlist. All of its bytes are records: none is of length 0.
+// The line of each record of a netlist, which gives the definition's text (`net-read` of lines/proofs/Whole). All of its bytes are
+// records, so that none is of length 0.
 fn records(net: &[u8], text: &mut [u8])
     requires { ⌜ 80 ≤ length (now text) ⌝ }
 {

@@ -1,4 +1,5 @@
-// Reads packed sheets from standard input, and prints a line for each: its full netlist's length and checksum, and a short one's bytes; or its refusal.
+// Reads packed sheets from standard input, and prints a line for each: the length and the checksum of its full netlist, and the bytes of a
+// short one; or its refusal. Its input was made by 'second pack making 11 4200 600000'.
 use translator::Answer;
 ghost use Prim.Native.Nat.{_<_};
 

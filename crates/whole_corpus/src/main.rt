@@ -1,5 +1,5 @@
 // Reads packed calls from standard input, and prints a line for each: for the full, then the lean netlist, the answer and the checksums of
-// output and memory after the call.
+// output and memory after the call. Its input was made by 'second pack whole 12 5200 700000'.
 use translator::Answer;
 ghost use Prim.Native.Nat.{_<_};
 
