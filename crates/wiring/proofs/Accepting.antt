@@ -1,10 +1,9 @@
 -- A sheet that is read, walked and counted is accepted: what `make_net` asks for. Assumes nothing.
 use Prim.Native.Nat.{ℕ, _≤_}
 use mathlib.Core.Path.{_≡_, refl}
-use mathlib.Core.Bool.{true}
 use mathlib.Core.List.{List, []}
 use borrow.Author.Tests.{le-leb}
-use lib.Dec.{T, leb}
+use lib.Dec.{leb}
 use lib.ListN.{length}
 use Rattle.calculus.specs.Answer.{good}
 use Rattle.calculus.specs.Read.{Sheet, readSheet}

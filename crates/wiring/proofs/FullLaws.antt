@@ -1,11 +1,10 @@
 -- A read sheet: its table, its term, and the root's place; a netlist that the memory holds is read back as itself. Assumes nothing.
-use Prim.Native.Nat.{ℕ, zero, suc, _+_, _*_, _/_, _%_, _≤_, _<_}
+use Prim.Native.Nat.{ℕ, zero, suc, _+_, _≤_, _<_}
 use mathlib.Core.Path.{_≡_, refl, sym, ap, ap₂, _∙_, subst}
-use mathlib.Core.Bool.{Bool, true, false, cond}
+use mathlib.Core.Bool.{Bool, cond}
 use mathlib.Core.List.{List, [], _∷_, _++_, map, append-nil, List·Memᴰ, List·Memᴰ·head, List·Memᴰ·tail}
 use native.Mathlib.Omega.{arith}
-use borrow.Author.Tests.{eq-eqb, ne-eqb}
-use lib.Dec.{eqb, lit≤}
+use borrow.Author.Tests.{ne-eqb}
 use lib.ListN.{length, getD, drop, replicate, length-map, length-replicate}
 use lib.Seq.{sets, length-sets}
 use Rattle.laws.proofs.Regions.{sets-drop}
@@ -15,21 +14,19 @@ use Rattle.calculus.specs.Types.{size, tree}
 use Rattle.calculus.specs.Terms.{nodes, partAt}
 use Rattle.calculus.specs.Read.{Sheet, readSheet}
 use Rattle.calculus.specs.Write.{tableBytes}
-use Rattle.calculus.specs.Laid.{Laid, depth}
 use Rattle.calculus.specs.Laid as laid-as
-use Rattle.calculus.specs.Net.{Terminal, inp, out, Interface, Element, point, part, Wire, Net, Made, make, netOf}
+use Rattle.calculus.specs.Net.{Terminal, Interface, Element, point, part, Wire, Net, Made, make, netOf}
 use Rattle.calculus.specs.Lean.{driver}
 use Rattle.calculus.specs.Record.{All}
 use Rattle.calculus.specs.Formed.{Tiled, targets, Formed}
 use Rattle.calculus.specs.Translate.{full}
-use Rattle.memory.specs.Map.{region, kindOf, elementsFrom, wiresFrom, code, terminalOf, netIn, Ready}
+use Rattle.memory.specs.Map.{region, kindOf, elementsFrom, wiresFrom, code, terminalOf, netIn}
 use Rattle.netlist.specs.Elements.{Known}
 use Rattle.netlist.proofs.KnownParts.{made-known}
 use Rattle.sheet_theorems.proofs.Laying.{laid}
 use Rattle.sheet_theorems.proofs.Standing.{sheet-stands}
 use Rattle.sheet.specs.Tables.{sizesOf}
 use Rattle.sheet.proofs.TableLaws.{size-at, sizes-length}
-use Rattle.sheet.proofs.Told.{Told}
 use Rattle.typing.proofs.Ranges.{sheet-types}
 use Rattle.circuit_theorems.specs.Drive.{driveAll}
 use Rattle.circuit_theorems.proofs.Drivers.{env-end}
@@ -44,7 +41,7 @@ use Rattle.wiring.specs.declared.walk.Built.{Built}
 use Rattle.wiring.specs.declared.Counts.{Counts}
 use Rattle.wiring.specs.Sides.{Knows}
 use Rattle.wiring.specs.Store.{Store, Lies, Holds, target, after}
-use Rattle.wiring.specs.Asks.{Binds, Asks, Leaves}
+use Rattle.wiring.specs.Asks.{Asks, Leaves}
 use Rattle.wiring.specs.Count.{Counting}
 use Rattle.wiring.specs.Whole.{Read, Accepted, Stands}
 use Rattle.wiring.proofs.LinkLaws.{terminal-back}

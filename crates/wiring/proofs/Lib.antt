@@ -13,3 +13,4 @@ pub mod StepLaws
 pub mod CountLaws
 pub mod FullLaws
 pub mod Accepting
+pub mod Determined

@@ -1,24 +1,20 @@
 -- Laws of what the working memory holds: a run of stores behind a list makes it longer and leaves the others; what is behind a list may be
 -- forgotten; wires make drivers and targets. Assumes nothing.
-use Prim.Native.Nat.{ℕ, zero, suc, _+_, _*_, _-_, _/_, _%_, _≤_, _<_}
-use mathlib.Core.Path.{_≡_, refl, sym, ap, ap₂, _∙_, subst}
-use mathlib.Core.Bool.{Bool, true, false, not, cond, true≢false, false≢true}
-use mathlib.Core.Logic.{_⊎_, inl, inr, ⊎-elim}
-use mathlib.Core.List.{List, [], _∷_, _++_, map, append-assoc, append-nil, cons≢nil, nil≢cons, head-eq-of-cons-eq, tail-eq-of-cons-eq}
+use Prim.Native.Nat.{ℕ, zero, suc, _+_, _*_, _-_, _≤_, _<_}
+use mathlib.Core.Path.{_≡_, sym, ap, _∙_, subst}
+use mathlib.Core.Bool.{not, true≢false, false≢true}
+use mathlib.Core.List.{List, [], _∷_, _++_, map, append-assoc, append-nil, nil≢cons, head-eq-of-cons-eq, tail-eq-of-cons-eq}
 use native.Mathlib.Omega.{arith}
 use native.Mathlib.Decide.{decLe, ℕ-discrete}
-use native.Mathlib.Numerals.{add-one}
-use borrow.Author.Tests.{eq-eqb, ne-eqb}
-use lib.Dec.{eqb}
-use lib.ListN.{length, getD, set, take, drop, length-append, length-set, List·getD-append}
-use lib.Seq.{sets, length-sets, getD-set-same, getD-set-other, getD-append-add, drop-set-lt, ext-getD, getD-take, getD-drop}
+use lib.ListN.{length, getD, set, length-append, length-set, List·getD-append}
+use lib.Seq.{sets, length-sets, getD-set-same, getD-set-other, getD-append-add, drop-set-lt, ext-getD}
 use Rattle.laws.proofs.Regions.{sets-before, sets-outside, sets-drop}
-use Rattle.calculus.specs.Net.{Terminal, inp, out, Interface, Wire, join}
+use Rattle.calculus.specs.Net.{inp, out, Interface, Wire, join}
 use Rattle.calculus.specs.Record.{All}
 use Rattle.memory.specs.Map.{region, code}
 use Rattle.circuit_theorems.specs.Drive.{driveAll}
 use Rattle.circuit_theorems.proofs.Lists.{all-append, all-left}
-use Rattle.circuit_theorems.proofs.Drivers.{dir, dirs}
+use Rattle.circuit_theorems.proofs.Drivers.{dirs}
 use Rattle.wiring.specs.Links.{wired, linked, links}
 use Rattle.wiring.specs.Store.{Store, Lies, Low, Holds, moreKinds, atStack, atBinders, target, moreWires}
 use Rattle.wiring.proofs.LinkLaws.{linked-codes}

@@ -1,9 +1,9 @@
 -- A node with one subterm or two, as the walk meets it: its subterms with their types and binders, and what it makes of them. Assumes nothing.
-use Prim.Native.Nat.{ℕ, suc, _+_, _*_, _≤_, _<_}
+use Prim.Native.Nat.{ℕ, suc, _+_, _*_, _<_}
 use mathlib.Core.Path.{_≡_}
 use mathlib.Core.Logic.{_⊎_}
 use mathlib.Core.Bool.{true, false}
-use mathlib.Core.List.{List, [], _∷_, _++_}
+use mathlib.Core.List.{List, _∷_, _++_}
 use lib.ListN.{length, getD}
 use Rattle.calculus.specs.Types.{Ty, bit, size, Table, tree}
 use Rattle.calculus.specs.Terms.{Term}

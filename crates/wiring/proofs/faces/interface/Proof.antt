@@ -1,25 +1,19 @@
 use mathlib.Core.Bool.{Bool, Bool·beq}
 use Rattle.wiring.specs.Sides.{endOf}
 -- `wiring::interface` meets its contract: what is still to be stored, stored over what stands, is the whole. Assumes nothing.
-use borrow.Author.Needs.{needs}
 use native.Mathlib.Omega.{arith}
-use Prim.Native.Nat.{ℕ, _+_, _*_, _-_, _≤_, _<_}
+use Prim.Native.Nat.{_+_, _*_, _-_, _≤_}
 use mathlib.Core.Path.{_≡_, refl, sym, ap, _∙_}
 use mathlib.Core.Bool.{false}
 use lib.ListN.{length, drop, length-set}
 use lib.Seq.{sets}
-use Rattle.calculus.specs.Types.{tree, size}
+use Rattle.calculus.specs.Types.{tree}
 use Rattle.calculus.specs.Net.{turns}
 use Rattle.circuit_theorems.proofs.Drivers.{turns-size}
 use Rattle.wiring.specs.Sides.{Named, face}
 use Rattle.wiring.proofs.RunLaws.{run-start, run-again, run-end, face-length, face-at}
 use Rattle.wiring.proofs.faces.interface.Statement.{statement}
 use Rattle.wiring.proofs.faces.interface.Tie as tie
-use Rattle.wiring.proofs.faces.interface.Reads as reads
-use Rattle.wiring.proofs.faces.interface.Lts as lts
-use Rattle.wiring.proofs.faces.end_of.Reads as end-of-reads
-use Rattle.wiring.proofs.faces.size_of.Reads as size-of-reads
-use Rattle.wiring.proofs.faces.turned.Reads as turned-reads
 
 abbrev Inv-loop : tie.InvT-loop
 Inv-loop s sizes work₀ to t n output l j₀ work j = (j ≤ l) × (length work ≡ length work₀)
@@ -28,64 +22,52 @@ Inv-loop s sizes work₀ to t n output l j₀ work j = (j ≤ l) × (length work
 abbrev μ-loop : tie.MeasureT-loop
 μ-loop s sizes work₀ to t n output l j₀ work j = l - j
 
--- src/lib.rt:188:9
 size-of-requires : tie.Need-size-of-requires Inv-loop μ-loop
 size-of-requires c κs =
     c .before .before .before .pre .0 .knows .all
 
--- src/lib.rt:190:5
 loop-holds : tie.Need-loop-holds Inv-loop μ-loop
 loop-holds c =
     let a = c .before .before .before .before .args in
     (omega arith, refl, λ q. run-start (face (a .output) (turns false (tree (q .table) (a .t))) (a .n)) (a .work .now) (a .to))
 
--- src/lib.rt:191:28
 mul-end-of : tie.Need-mul-end-of Inv-loop μ-loop
 mul-end-of c =
     omega (arith, c .before .before .size-of .ensures, c .before .before .before .before .before .before .pre .2)
 
--- src/lib.rt:191:24
 add-end-of : tie.Need-add-end-of Inv-loop μ-loop
 add-end-of c =
     omega (arith, c .before .before .size-of .ensures, c .before .before .before .before .before .before .pre .2)
 
--- src/lib.rt:191:35
 turned-requires : tie.Need-turned-requires Inv-loop μ-loop
 turned-requires c κs =
     c .before .before .before .before .before .before .pre .0
 
--- src/lib.rt:191:13
 end-of-requires : tie.Need-end-of-requires Inv-loop μ-loop
 end-of-requires c κs =
     let lt = c .before .loop-test .taken in
     omega (arith, c .before .before .before .size-of .ensures, c .before .before .before .before .before .before .before .pre .2)
 
--- src/lib.rt:192:14
 add-work : tie.Need-add-work Inv-loop μ-loop
 add-work c =
     omega (arith, c .before .before .before .before .size-of .ensures, c .before .before .before .before .before .before .before .before .pre .1)
 
--- src/lib.rt:192:9
 mul-work : tie.Need-mul-work Inv-loop μ-loop
 mul-work c =
     omega (arith, c .before .before .before .before .size-of .ensures, c .before .before .before .before .before .before .before .before .pre .1)
 
--- src/lib.rt:192:9
 slice-write-work : tie.Need-slice-write-work Inv-loop μ-loop
 slice-write-work c =
     let e = c .before .before .before .loop .inv .1 in
     let lt = c .before .before .loop-test .taken in
     omega (arith, c .before .before .before .before .size-of .ensures, c .before .before .before .before .before .before .before .before .pre .1)
 
--- src/lib.rt:193:13
 add-j : tie.Need-add-j Inv-loop μ-loop
 add-j c = omega arith
 
--- src/lib.rt:190:5
 loop-less : tie.Need-loop-less Inv-loop μ-loop
 loop-less c = omega arith
 
--- src/lib.rt:190:5
 loop-again : tie.Need-loop-again Inv-loop μ-loop
 loop-again c =
     let a = c .before .before .before .before .before .before .before .before .args in
@@ -101,11 +83,9 @@ loop-again c =
           (c .end-of .ensures ∙ ap (λ (b : Bool). endOf (a .n + 2 * l .j) (Bool·beq b (a .output))) (c .before .turned .ensures q (omega arith)) ∙ sym (face-at (a .output) bs (a .n) (l .j) (omega arith))),
     )
 
--- src/lib.rt:183:1
 same-length : tie.Need-same-length Inv-loop μ-loop
 same-length c = omega arith
 
--- src/lib.rt:183:1
 returns : tie.Need-returns Inv-loop μ-loop
 returns c =
     let a = c .before .before .before .before .before .before .args in

@@ -1,49 +1,37 @@
 use Rattle.records.specs.Forms.{saidForm}
-use mathlib.Core.Path.{_≡_, refl, sym, ap, _∙_}
+use mathlib.Core.Path.{sym, ap, _∙_}
 use Rattle.wiring.specs.Sides.{sidesOf}
 use borrow.Author.Needs.{needs}
 use Rattle.wiring.proofs.faces.sides_at.Statement.{statement}
 use Rattle.wiring.proofs.faces.sides_at.Tie as tie
-use Rattle.wiring.proofs.faces.sides_at.Reads as reads
-use Rattle.wiring.proofs.faces.sides_at.Lts as lts
-use Rattle.records.proofs.type_at.Reads as type-at-reads
 
--- src/lib.rt:113:11
 type-at-requires : tie.Need-type-at-requires
 type-at-requires c κs = search needs
 
--- src/lib.rt:114:22
 enum-told : tie.Need-enum-told
 enum-told c = search needs
 
--- src/lib.rt:119:23
 enum-known-left : tie.Need-enum-known-left
 enum-known-left c = search needs
 
--- src/lib.rt:124:21
 enum-known-left-2 : tie.Need-enum-known-left-2
 enum-known-left-2 c = search needs
 
--- src/lib.rt:129:22
 enum-known-left-3 : tie.Need-enum-known-left-3
 enum-known-left-3 c = search needs
 
--- src/lib.rt:110:1
 returns : tie.Need-returns
 returns c =
     sym (ap (λ f. sidesOf (saidForm f)) (c .enum-told .given .1)) ∙ ap sidesOf (c .before .before .type-at .ensures)
 
--- src/lib.rt:110:1
 returns-2 : tie.Need-returns-2
 returns-2 c =
     sym (ap (λ f. sidesOf (saidForm f)) (c .before .left .given .1)) ∙ ap sidesOf (c .before .before .before .type-at .ensures)
 
--- src/lib.rt:110:1
 returns-3 : tie.Need-returns-3
 returns-3 c =
     sym (ap (λ f. sidesOf (saidForm f)) (c .before .left2 .given .1)) ∙ ap sidesOf (c .before .before .before .type-at .ensures)
 
--- src/lib.rt:110:1
 returns-4 : tie.Need-returns-4
 returns-4 c =
     sym (ap (λ f. sidesOf (saidForm f)) (c .before .left3 .given .1)) ∙ ap sidesOf (c .before .before .before .type-at .ensures)

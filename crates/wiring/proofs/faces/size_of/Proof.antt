@@ -1,23 +1,16 @@
 use borrow.Author.Needs.{needs}
 use Rattle.wiring.proofs.faces.size_of.Statement.{statement}
 use Rattle.wiring.proofs.faces.size_of.Tie as tie
-use Rattle.wiring.proofs.faces.size_of.Reads as reads
-use Rattle.wiring.proofs.faces.size_of.Lts as lts
-use Rattle.records.proofs.wide.Reads as wide-reads
 
--- src/lib.rt:141:25
 wide-requires : tie.Need-wide-requires
 wide-requires c κs = search needs
 
--- src/lib.rt:141:19
 shared-slice-read-wide : tie.Need-shared-slice-read-wide
 shared-slice-read-wide c = search needs
 
--- src/lib.rt:141:5
 wide-requires-2 : tie.Need-wide-requires-2
 wide-requires-2 c κs = search needs
 
--- src/lib.rt:137:1
 returns : tie.Need-returns
 returns c =
     rw (c .before .before .wide .ensures) at (c .wide2 .ensures)

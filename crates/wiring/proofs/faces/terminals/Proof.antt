@@ -1,8 +1,7 @@
 -- `wiring::faces::terminals` meets its contract: what is still to be stored, stored over what stands, is the whole. Assumes nothing.
-use borrow.Author.Needs.{needs}
 use native.Mathlib.Omega.{arith}
-use Prim.Native.Nat.{ℕ, _+_, _-_, _≤_, _<_}
-use mathlib.Core.Path.{_≡_, refl, sym, ap, _∙_}
+use Prim.Native.Nat.{_+_, _-_, _≤_, _<_}
+use mathlib.Core.Path.{_≡_, refl, _∙_}
 use mathlib.Core.List.{map}
 use lib.ListN.{length, drop, length-set}
 use lib.Seq.{sets}
@@ -11,9 +10,6 @@ use Rattle.memory.specs.Map.{code}
 use Rattle.wiring.proofs.RunLaws.{run-start, run-again, run-end, part-length, part-input, part-output}
 use Rattle.wiring.proofs.faces.terminals.Statement.{statement}
 use Rattle.wiring.proofs.faces.terminals.Tie as tie
-use Rattle.wiring.proofs.faces.terminals.Reads as reads
-use Rattle.wiring.proofs.faces.terminals.Lts as lts
-use Rattle.netlist.proofs.code_of.Reads as code-of-reads
 
 abbrev Inv-loop : tie.InvT-loop
 Inv-loop work₀ to k n i₀ work i = (i ≤ k) × (length work ≡ length work₀) × (sets work (to + i) (drop i (map code (partSide k n))) ≡ sets work₀ to (map code (partSide k n)))
@@ -21,45 +17,35 @@ Inv-loop work₀ to k n i₀ work i = (i ≤ k) × (length work ≡ length work�
 abbrev μ-loop : tie.MeasureT-loop
 μ-loop work₀ to k n i₀ work i = k - i
 
--- src/faces.rt:126:5
 loop-holds : tie.Need-loop-holds Inv-loop μ-loop
 loop-holds c =
     let a = c .before .args in
     (omega arith, refl, run-start (map code (partSide (a .k) (a .n))) (a .work .now) (a .to))
 
--- src/faces.rt:127:61
 add-t8 : tie.Need-add-t8 Inv-loop μ-loop
 add-t8 c = omega arith
 
--- src/faces.rt:127:60
 cast-t9 : tie.Need-cast-t9 Inv-loop μ-loop
 cast-t9 c = omega arith
 
--- src/faces.rt:127:24
 code-of-requires : tie.Need-code-of-requires Inv-loop μ-loop
 code-of-requires c κs = omega arith
 
--- src/faces.rt:127:14
 add-work : tie.Need-add-work Inv-loop μ-loop
 add-work c = omega arith
 
--- src/faces.rt:127:9
 mul-work : tie.Need-mul-work Inv-loop μ-loop
 mul-work c = omega arith
 
--- src/faces.rt:127:9
 slice-write-work : tie.Need-slice-write-work Inv-loop μ-loop
 slice-write-work c = omega arith
 
--- src/faces.rt:128:13
 add-i : tie.Need-add-i Inv-loop μ-loop
 add-i c = omega arith
 
--- src/faces.rt:126:5
 loop-less : tie.Need-loop-less Inv-loop μ-loop
 loop-less c = omega arith
 
--- src/faces.rt:126:5
 loop-again : tie.Need-loop-again Inv-loop μ-loop
 loop-again c =
     let a = c .before .before .before .before .args in
@@ -67,36 +53,28 @@ loop-again c =
     let lt : l .i < a .k = c .before .loop-test .taken in
     (omega arith, simp length-set (omega arith), run-again (map code (partSide (a .k) (a .n))) (l .work) (a .to) (l .i) (l .inv .2) (omega (arith, part-length (a .k) (a .n))) _ (c .code-of .ensures ∙ part-input (a .k) (a .n) (l .i) lt))
 
--- src/faces.rt:130:59
 add-t16 : tie.Need-add-t16 Inv-loop μ-loop
 add-t16 c = omega arith
 
--- src/faces.rt:130:58
 cast-t17 : tie.Need-cast-t17 Inv-loop μ-loop
 cast-t17 c = omega arith
 
--- src/faces.rt:130:20
 code-of-requires-2 : tie.Need-code-of-requires-2 Inv-loop μ-loop
 code-of-requires-2 c κs = omega arith
 
--- src/faces.rt:130:10
 add-work-2 : tie.Need-add-work-2 Inv-loop μ-loop
 add-work-2 c = omega arith
 
--- src/faces.rt:130:5
 mul-work-2 : tie.Need-mul-work-2 Inv-loop μ-loop
 mul-work-2 c = omega arith
 
--- src/faces.rt:130:5
 slice-write-work-2 : tie.Need-slice-write-work-2 Inv-loop μ-loop
 slice-write-work-2 c = omega arith
 
--- src/faces.rt:121:1
 same-length : tie.Need-same-length Inv-loop μ-loop
 same-length c =
     simp length-set (omega arith)
 
--- src/faces.rt:121:1
 returns : tie.Need-returns Inv-loop μ-loop
 returns c =
     let a = c .before .before .before .before .args in

@@ -2,18 +2,14 @@ use Rattle.calculus.specs.Types.{tree, size}
 -- `wiring::turned` meets its contract. The invariant: the bit sought is bit j of type t, turned once more where odd. Type numbers fall.
 -- Assumes nothing.
 use borrow.Author.Needs.{needs}
-use mathlib.Core.Path.{_≡_, refl, sym, ap, _∙_}
+use mathlib.Core.Path.{_≡_, _∙_}
 use mathlib.Core.Logic.{⊎-elim}
 use native.Mathlib.Omega.{arith}
-use Rattle.wiring.specs.Sides.{sidesOf, Knows, Named}
+use Rattle.wiring.specs.Sides.{sidesOf, Named}
 use Rattle.records.specs.Forms.{recIn}
 use Rattle.wiring.proofs.TurnLaws.{Turning, turning-start, turning-left, turning-right, turning-end, arrow-at, flat-at}
 use Rattle.wiring.proofs.faces.turned.Statement.{statement}
 use Rattle.wiring.proofs.faces.turned.Tie as tie
-use Rattle.wiring.proofs.faces.turned.Reads as reads
-use Rattle.wiring.proofs.faces.turned.Lts as lts
-use Rattle.wiring.proofs.faces.sides_at.Reads as sides-at-reads
-use Rattle.wiring.proofs.faces.size_of.Reads as size-of-reads
 
 abbrev Inv-loop : tie.InvT-loop
 Inv-loop s sizes of bit t₀ j₀ odd₀ x₀ t j odd x = (x ≡ sidesOf (recIn s t)) × ((q : Named s sizes of) → Turning (q .table) of bit t j odd)
@@ -21,27 +17,22 @@ Inv-loop s sizes of bit t₀ j₀ odd₀ x₀ t j odd x = (x ≡ sidesOf (recIn 
 abbrev μ-loop : tie.MeasureT-loop
 μ-loop s sizes of bit t₀ j₀ odd₀ x₀ t j odd x = t
 
--- src/lib.rt:153:9
 sides-at-requires : tie.Need-sides-at-requires Inv-loop μ-loop
 sides-at-requires c κs =
     search needs
 
--- src/lib.rt:154:5
 loop-holds : tie.Need-loop-holds Inv-loop μ-loop
 loop-holds c =
     (c .sides-at .ensures, λ q. turning-start (q .named))
 
--- src/lib.rt:155:13
 size-of-requires : tie.Need-size-of-requires Inv-loop μ-loop
 size-of-requires c κs =
     c .before .before .before .before .before .pre .knows .all
 
--- src/lib.rt:163:9
 sides-at-requires-2 : tie.Need-sides-at-requires-2 Inv-loop μ-loop
 sides-at-requires-2 c κs =
     search needs
 
--- src/lib.rt:154:5
 loop-less : tie.Need-loop-less Inv-loop μ-loop
 loop-less c =
     let p = c .before .before .before .before .before .before .before .before .pre in
@@ -49,7 +40,6 @@ loop-less c =
     let A = arrow-at (p .knows) (l .inv .1 p .named) (l .inv .0) (c .before .before .before .loop-test .taken) in
     ⊎-elim (λ w. omega arith) (λ w. omega arith) (c .before .if1 .came)
 
--- src/lib.rt:154:5
 loop-again : tie.Need-loop-again Inv-loop μ-loop
 loop-again c =
     let l = c .before .before .before .before .loop in
@@ -62,7 +52,6 @@ loop-again c =
           ⊎-elim (λ w. rw (w .1, w .2, w .3) (turning-left h A n e (w .0 .taken))) (λ w. rw (w .1, w .2, w .3) (turning-right h A n e (w .0 .left))) (c .before .if1 .came),
     )
 
--- src/lib.rt:145:1
 returns : tie.Need-returns Inv-loop μ-loop
 returns c =
     λ q i. turning-end (c .before .loop .inv .1 q) (flat-at (q .knows) (c .before .loop .inv .1 q .named) (c .before .loop .inv .0) (c .loop-test .left)) i

@@ -2,15 +2,13 @@
 -- Assumes nothing.
 use borrow.Author.Needs.{needs}
 use native.Mathlib.Omega.{arith}
-use mathlib.Core.Path.{_≡_, refl, sym, ap, _∙_}
-use Prim.Native.Nat.{ℕ, _+_, _-_, _<_, _≤_}
+use mathlib.Core.Path.{sym, ap, _∙_}
+use Prim.Native.Nat.{ℕ, _+_, _-_, _<_}
 use lib.ListN.{length}
 use borrow.Fn.Kinds.{In}
 use borrow.Fn.PlainCycle.{Measures, is, falls, and}
-use Rattle.calculus.specs.Types.{tree, size}
 use Rattle.records.proofs.Laws.{node-next}
 use Rattle.wiring.specs.declared.walk.State.{State}
-use Rattle.wiring.specs.Asks.{Asks, Here, boundIn}
 use Rattle.wiring.proofs.StepLaws.{is-node, here, two-subterms, no-node}
 use Rattle.wiring.proofs.OneLaws.{body-asks, close-closable, close-leaves}
 use Rattle.wiring.proofs.TwoLaws.{first-asks, first-past, between-asks, second-asks}

@@ -5,55 +5,41 @@ use lib.ListN.{length-set}
 use borrow.Author.Needs.{needs}
 use Rattle.wiring.proofs.walk.bind.Statement.{statement}
 use Rattle.wiring.proofs.walk.bind.Tie as tie
-use Rattle.wiring.proofs.walk.bind.Reads as reads
-use Rattle.wiring.proofs.walk.bind.Lts as lts
 
--- src/lib.rt:251:20
 mul-work : tie.Need-mul-work
 mul-work c = search needs
 
--- src/lib.rt:251:10
 add-work : tie.Need-add-work
 add-work c = search needs
 
--- src/lib.rt:251:5
 mul-work-2 : tie.Need-mul-work-2
 mul-work-2 c = search needs
 
--- src/lib.rt:251:5
 slice-write-work : tie.Need-slice-write-work
 slice-write-work c = search needs
 
--- src/lib.rt:252:33
 cast-work : tie.Need-cast-work
 cast-work c = search needs
 
--- src/lib.rt:252:20
 mul-work-3 : tie.Need-mul-work-3
 mul-work-3 c = search needs
 
--- src/lib.rt:252:10
 add-work-2 : tie.Need-add-work-2
 add-work-2 c = search needs
 
--- src/lib.rt:252:10
 add-work-3 : tie.Need-add-work-3
 add-work-3 c = search needs
 
--- src/lib.rt:252:5
 mul-work-4 : tie.Need-mul-work-4
 mul-work-4 c = search needs
 
--- src/lib.rt:252:5
 slice-write-work-2 : tie.Need-slice-write-work-2
 slice-write-work-2 c =
     simp length-set (omega arith)
 
--- src/lib.rt:247:1
 same-length : tie.Need-same-length
 same-length c = search needs
 
--- src/lib.rt:247:1
 returns : tie.Need-returns
 returns c =
     rw add-one

@@ -1,44 +1,32 @@
 -- `wiring::close` meets its contract. Assumes nothing.
-use native.Mathlib.Omega.{arith}
-use mathlib.Core.Path.{_≡_, refl, sym, ap, _∙_}
 use borrow.Author.Tests.{eq-eqb, ne-eqb}
 use Rattle.wiring.specs.Asks.{closed, closedIn}
 use borrow.Author.Needs.{needs}
 use Rattle.wiring.proofs.walk.close.Statement.{statement}
 use Rattle.wiring.proofs.walk.close.Tie as tie
-use Rattle.wiring.proofs.walk.close.Reads as reads
-use Rattle.wiring.proofs.walk.close.Lts as lts
-use Rattle.wiring.proofs.walk.close_loop.Reads as close-loop-reads
 
--- src/lib.rt:387:26
 add-close-loop : tie.Need-add-close-loop
 add-close-loop c = search needs
 
--- src/lib.rt:387:9
 close-loop-requires : tie.Need-close-loop-requires
 close-loop-requires c κs =
     c .before .before .before .before .pre .apart (c .before .if1 .taken)
 
--- src/lib.rt:394:20
 add-t16 : tie.Need-add-t16
 add-t16 c = search needs
 
--- src/lib.rt:388:9
 same-length : tie.Need-same-length
 same-length c = search needs
 
--- src/lib.rt:388:9
 returns : tie.Need-returns
 unfolding closed closedIn
 returns c =
     let e = eq-eqb _ _ (c .before .before .before .before .if1 .taken) in
     (rw e, rw e (c .before .before .close-loop .ensures))
 
--- src/lib.rt:400:14
 add-t17 : tie.Need-add-t17
 add-t17 c = search needs
 
--- src/lib.rt:376:1
 returns-2 : tie.Need-returns-2
 unfolding closed closedIn
 returns-2 c =

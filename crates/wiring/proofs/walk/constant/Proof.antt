@@ -1,41 +1,30 @@
 -- `wiring::constant` meets its contract: one kind behind the elements, and the part's terminals on the stack. Assumes nothing.
 use native.Mathlib.Omega.{arith}
-use mathlib.Core.Path.{_≡_, refl, sym, ap, _∙_}
+use mathlib.Core.Path.{_∙_}
 use lib.ListN.{length-set}
 use Rattle.wiring.proofs.LeafLaws.{con-room, con-leaves}
 use borrow.Author.Needs.{needs}
 use Rattle.wiring.proofs.walk.constant.Statement.{statement}
 use Rattle.wiring.proofs.walk.constant.Tie as tie
-use Rattle.wiring.proofs.walk.constant.Reads as reads
-use Rattle.wiring.proofs.walk.constant.Lts as lts
-use Rattle.wiring.proofs.faces.inputs_of.Reads as inputs-of-reads
-use Rattle.wiring.proofs.faces.terminals.Reads as terminals-reads
 
--- src/lib.rt:306:9
 inputs-of-requires : tie.Need-inputs-of-requires
 inputs-of-requires c κs = search needs
 
--- src/lib.rt:307:33
 cast-work : tie.Need-cast-work
 cast-work c = search needs
 
--- src/lib.rt:307:10
 add-work : tie.Need-add-work
 add-work c = search needs
 
--- src/lib.rt:307:5
 mul-work : tie.Need-mul-work
 mul-work c = search needs
 
--- src/lib.rt:307:5
 slice-write-work : tie.Need-slice-write-work
 slice-write-work c = search needs
 
--- src/lib.rt:308:21
 add-terminals : tie.Need-add-terminals
 add-terminals c = search needs
 
--- src/lib.rt:308:5
 terminals-requires : tie.Need-terminals-requires
 terminals-requires c κs =
     let p = c .before .before .before .before .before .pre in
@@ -43,37 +32,31 @@ terminals-requires c κs =
     let e = c .before .inputs-of .ensures in
     (simp length-set (omega (arith, p .0 .asks .holds .size)), omega arith)
 
--- src/lib.rt:312:14
 add-t16 : tie.Need-add-t16
 add-t16 c =
     let p = c .before .before .before .before .before .before .before .before .pre in
     let h = con-room (p .0) (p .1) in
     omega (arith, c .before .before .before .before .inputs-of .ensures)
 
--- src/lib.rt:313:15
 add-t15 : tie.Need-add-t15
 add-t15 c =
     let p = c .before .before .before .before .before .before .before .before .pre in
     let h = con-room (p .0) (p .1) in
     omega (arith, c .before .before .before .before .inputs-of .ensures)
 
--- src/lib.rt:313:15
 add-t21 : tie.Need-add-t21
 add-t21 c =
     let p = c .before .before .before .before .before .before .before .before .pre in
     let h = con-room (p .0) (p .1) in
     omega (arith, c .before .before .before .before .inputs-of .ensures)
 
--- src/lib.rt:314:19
 add-t22 : tie.Need-add-t22
 add-t22 c = search needs
 
--- src/lib.rt:295:1
 same-length : tie.Need-same-length
 same-length c =
     c .before .before .terminals .kept .0 ∙ simp length-set
 
--- src/lib.rt:295:1
 returns : tie.Need-returns
 returns c =
     λ q. con-leaves q (c .before .before .before .before .before .before .before .before .pre .1) (c .before .before .before .before .inputs-of .result) (c .before .before .before .before .inputs-of .ensures) _ (c .before .before .terminals .ensures)

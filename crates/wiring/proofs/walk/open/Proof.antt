@@ -1,42 +1,28 @@
 use Rattle.wiring.proofs.OneLaws.{known-at, room-at, opened-at}
 -- `wiring::open` meets its contract: three runs of stores, each behind its list. Assumes nothing.
 use native.Mathlib.Omega.{arith}
-use mathlib.Core.Path.{_≡_, refl, sym, ap, _∙_}
 use borrow.Author.Needs.{needs}
 use Rattle.wiring.proofs.walk.open.Statement.{statement}
 use Rattle.wiring.proofs.walk.open.Tie as tie
-use Rattle.wiring.proofs.walk.open.Reads as reads
-use Rattle.wiring.proofs.walk.open.Lts as lts
-use Rattle.wiring.proofs.walk.bind.Reads as bind-reads
-use Rattle.wiring.proofs.walk.bound.Reads as bound-reads
-use Rattle.wiring.proofs.wires.fill.Reads as fill-reads
-use Rattle.wiring.proofs.faces.interface.Reads as interface-reads
-use Rattle.wiring.proofs.faces.size_of.Reads as size-of-reads
 
--- src/lib.rt:352:9
 bound-requires : tie.Need-bound-requires
 bound-requires c κs = search needs
 
--- src/lib.rt:353:9
 size-of-requires : tie.Need-size-of-requires
 size-of-requires c κs = search needs
 
--- src/lib.rt:354:16
 add-fill : tie.Need-add-fill
 add-fill c = search needs
 
--- src/lib.rt:354:5
 fill-requires : tie.Need-fill-requires
 fill-requires c κs =
     let p = c .before .before .before .before .before .before .pre in
     let h = room-at (p .0) (p .1) (c .before .before .bound .result) (c .before .size-of .result) (c .before .before .bound .ensures) (c .before .size-of .ensures) in
     omega (arith, p .0 .asks .holds .size)
 
--- src/lib.rt:355:31
 add-interface : tie.Need-add-interface
 add-interface c = search needs
 
--- src/lib.rt:355:5
 interface-requires : tie.Need-interface-requires
 interface-requires c κs =
     let p = c .before .before .before .before .before .before .before .before .before .before .pre in
@@ -44,64 +30,54 @@ interface-requires c κs =
     let h = room-at (p .0) (p .1) (c .before .before .before .before .before .before .bound .result) (c .before .before .before .before .before .size-of .result) (c .before .before .before .before .before .before .bound .ensures) e in
     (known-at (p .0) (p .1) (c .before .before .before .before .before .before .bound .result) (c .before .before .before .before .before .size-of .result) (c .before .before .before .before .before .before .bound .ensures) e, omega (arith, p .0 .asks .holds .size, c .before .before .before .fill .kept .0), omega arith)
 
--- src/lib.rt:356:26
 mul-bind : tie.Need-mul-bind
 mul-bind c =
     let p = c .before .before .before .before .before .before .before .before .before .before .before .before .before .before .pre in
     let h = room-at (p .0) (p .1) (c .before .before .before .before .before .before .before .before .before .before .bound .result) (c .before .before .before .before .before .before .before .before .before .size-of .result) (c .before .before .before .before .before .before .before .before .before .before .bound .ensures) (c .before .before .before .before .before .before .before .before .before .size-of .ensures) in
     omega arith
 
--- src/lib.rt:356:26
 add-bind : tie.Need-add-bind
 add-bind c =
     let p = c .before .before .before .before .before .before .before .before .before .before .before .before .before .before .pre in
     let h = room-at (p .0) (p .1) (c .before .before .before .before .before .before .before .before .before .before .bound .result) (c .before .before .before .before .before .before .before .before .before .size-of .result) (c .before .before .before .before .before .before .before .before .before .before .bound .ensures) (c .before .before .before .before .before .before .before .before .before .size-of .ensures) in
     omega arith
 
--- src/lib.rt:356:5
 bind-requires : tie.Need-bind-requires
 bind-requires c κs =
     let p = c .before .before .before .before .before .before .before .before .before .before .before .before .before .before .pre in
     let h = room-at (p .0) (p .1) (c .before .before .before .before .before .before .before .before .before .before .bound .result) (c .before .before .before .before .before .before .before .before .before .size-of .result) (c .before .before .before .before .before .before .before .before .before .before .bound .ensures) (c .before .before .before .before .before .before .before .before .before .size-of .ensures) in
     (omega (arith, p .0 .asks .holds .size, c .before .before .before .interface .kept .1 .1 .0, c .before .before .before .before .before .before .before .fill .kept .0), h .3, omega arith)
 
--- src/lib.rt:358:22
 mul-t16 : tie.Need-mul-t16
 mul-t16 c =
     let p = c .before .before .before .before .before .before .before .before .before .before .before .before .before .before .before .before .before .pre in
     let h = room-at (p .0) (p .1) (c .before .before .before .before .before .before .before .before .before .before .before .before .before .bound .result) (c .before .before .before .before .before .before .before .before .before .before .before .before .size-of .result) (c .before .before .before .before .before .before .before .before .before .before .before .before .before .bound .ensures) (c .before .before .before .before .before .before .before .before .before .before .before .before .size-of .ensures) in
     omega arith
 
--- src/lib.rt:358:15
 add-t21 : tie.Need-add-t21
 add-t21 c =
     let p = c .before .before .before .before .before .before .before .before .before .before .before .before .before .before .before .before .before .pre in
     let h = room-at (p .0) (p .1) (c .before .before .before .before .before .before .before .before .before .before .before .before .before .bound .result) (c .before .before .before .before .before .before .before .before .before .before .before .before .size-of .result) (c .before .before .before .before .before .before .before .before .before .before .before .before .before .bound .ensures) (c .before .before .before .before .before .before .before .before .before .before .before .before .size-of .ensures) in
     omega arith
 
--- src/lib.rt:359:19
 add-t22 : tie.Need-add-t22
 add-t22 c =
     let p = c .before .before .before .before .before .before .before .before .before .before .before .before .before .before .before .before .before .pre in
     let h = room-at (p .0) (p .1) (c .before .before .before .before .before .before .before .before .before .before .before .before .before .bound .result) (c .before .before .before .before .before .before .before .before .before .before .before .before .size-of .result) (c .before .before .before .before .before .before .before .before .before .before .before .before .before .bound .ensures) (c .before .before .before .before .before .before .before .before .before .before .before .before .size-of .ensures) in
     omega arith
 
--- src/lib.rt:361:14
 add-t23 : tie.Need-add-t23
 add-t23 c =
     let p = c .before .before .before .before .before .before .before .before .before .before .before .before .before .before .before .before .before .pre in
     let h = room-at (p .0) (p .1) (c .before .before .before .before .before .before .before .before .before .before .before .before .before .bound .result) (c .before .before .before .before .before .before .before .before .before .before .before .before .size-of .result) (c .before .before .before .before .before .before .before .before .before .before .before .before .before .bound .ensures) (c .before .before .before .before .before .before .before .before .before .before .before .before .size-of .ensures) in
     omega arith
 
--- src/lib.rt:362:16
 add-t24 : tie.Need-add-t24
 add-t24 c = search needs
 
--- src/lib.rt:343:1
 same-length : tie.Need-same-length
 same-length c = search needs
 
--- src/lib.rt:343:1
 returns : tie.Need-returns
 returns c =
     λ q.

@@ -1,53 +1,40 @@
 -- `wiring::variable` meets its contract: its binder's two numbers say what is shown. Assumes nothing.
 use native.Mathlib.Omega.{arith}
 use Prim.Native.Nat.{ℕ, _+_, _*_, _-_}
-use mathlib.Core.Path.{_≡_, refl, sym, ap, _∙_}
+use mathlib.Core.Path.{_≡_, refl, ap}
 use Rattle.wiring.specs.Asks.{slot}
 use Rattle.wiring.proofs.LeafLaws.{var-scope, var-room, var-named, var-showable, var-leaves}
 use borrow.Author.Needs.{needs}
 use Rattle.wiring.proofs.walk.variable.Statement.{statement}
 use Rattle.wiring.proofs.walk.variable.Tie as tie
-use Rattle.wiring.proofs.walk.variable.Reads as reads
-use Rattle.wiring.proofs.walk.variable.Lts as lts
-use Rattle.records.proofs.wide.Reads as wide-reads
-use Rattle.wiring.proofs.walk.show.Reads as show-reads
-use Rattle.wiring.proofs.faces.size_of.Reads as size-of-reads
 
--- src/lib.rt:279:28
 sub-k : tie.Need-sub-k
 sub-k c =
     let p = c .before .before .before .before .pre in
     let h = var-scope (p .0) (p .1) (p .2) in
     omega arith
 
--- src/lib.rt:279:43
 wide-requires : tie.Need-wide-requires
 wide-requires c κs = search needs
 
--- src/lib.rt:279:28
 sub-k-2 : tie.Need-sub-k-2
 sub-k-2 c =
     let p = c .before .before .before .before .before .pre in
     let h = var-scope (p .0) (p .1) (p .2) in
     omega (arith, c .wide .ensures)
 
--- src/lib.rt:279:23
 mul-k : tie.Need-mul-k
 mul-k c = search needs
 
--- src/lib.rt:279:13
 add-k : tie.Need-add-k
 add-k c = search needs
 
--- src/lib.rt:280:14
 mul-ty : tie.Need-mul-ty
 mul-ty c = search needs
 
--- src/lib.rt:280:14
 slice-read-ty : tie.Need-slice-read-ty
 slice-read-ty c = search needs
 
--- src/lib.rt:280:14
 cast-ty : tie.Need-cast-ty
 cast-ty c =
     let p = c .before .before .before .before .before .before .pre in
@@ -55,43 +42,34 @@ cast-ty c =
     let h = var-room (p .0) (p .1) (p .2) (27392 + 2 * (c .before .before .before .before .before .before .args .st .scope - 1 - c .before .wide .result)) (ap (λ (x : ℕ). 27392 + slot (c .before .before .before .before .before .before .args .st .scope) x) e) in
     omega arith
 
--- src/lib.rt:281:22
 add-place : tie.Need-add-place
 add-place c = search needs
 
--- src/lib.rt:281:17
 mul-place : tie.Need-mul-place
 mul-place c = search needs
 
--- src/lib.rt:281:17
 slice-read-place : tie.Need-slice-read-place
 slice-read-place c = search needs
 
--- src/lib.rt:281:17
 cast-place : tie.Need-cast-place
 cast-place c =
     omega (arith, c .slice-known3 .given (27392 + 2 * (c .before .before .before .before .before .before .before .args .st .scope - 1 - c .before .before .wide .result) + 1))
 
--- src/lib.rt:282:9
 size-of-requires : tie.Need-size-of-requires
 size-of-requires c κs = search needs
 
--- src/lib.rt:283:26
 add-show : tie.Need-add-show
 add-show c = search needs
 
--- src/lib.rt:283:5
 show-requires : tie.Need-show-requires
 show-requires c κs =
     let p = c .before .before .before .before .before .before .before .before .before .pre in
     let e = c .before .before .before .before .wide .ensures in
     var-showable (p .0) (p .1) (p .2) (27392 + 2 * (c .before .before .before .before .before .before .before .before .before .args .st .scope - 1 - c .before .before .before .before .wide .result)) (ap (λ (x : ℕ). 27392 + slot (c .before .before .before .before .before .before .before .before .before .args .st .scope) x) e) _ refl
 
--- src/lib.rt:270:1
 same-length : tie.Need-same-length
 same-length c = search needs
 
--- src/lib.rt:270:1
 returns : tie.Need-returns
 returns c =
     λ q.

@@ -1,19 +1,15 @@
 -- `wiring::connect` meets its contract: the wires still to be made, made over what stands, are the whole; both interfaces stand as
 -- they were. Assumes nothing.
-use borrow.Author.Needs.{needs}
 use native.Mathlib.Omega.{arith}
 use Prim.Native.Nat.{ℕ, _+_, _-_, _≤_, _<_}
-use mathlib.Core.Path.{_≡_, refl, sym, ap, _∙_}
-use lib.ListN.{length, getD, drop, length-set}
+use mathlib.Core.Path.{_≡_, refl, sym, _∙_}
+use lib.ListN.{length, getD, drop}
 use Rattle.memory.specs.Map.{region}
-use Rattle.wiring.specs.Links.{linked, links}
+use Rattle.wiring.specs.Links.{links}
 use Rattle.wiring.proofs.LinkLaws.{linked-high, links-start, links-again, links-end}
 use Rattle.wiring.proofs.RunLaws.{region-length, region-at}
 use Rattle.wiring.proofs.wires.connect.Statement.{statement}
 use Rattle.wiring.proofs.wires.connect.Tie as tie
-use Rattle.wiring.proofs.wires.connect.Reads as reads
-use Rattle.wiring.proofs.wires.connect.Lts as lts
-use Rattle.wiring.proofs.wires.link.Reads as link-reads
 
 abbrev Inv-loop : tie.InvT-loop
 Inv-loop work₀ a f n count i₀ work i = (i ≤ n) × (length work ≡ length work₀) × (links work (count + i) (drop i (region work₀ a n)) (drop i (region work₀ f n)) ≡ links work₀ count (region work₀ a n) (region work₀ f n))
@@ -22,42 +18,33 @@ Inv-loop work₀ a f n count i₀ work i = (i ≤ n) × (length work ≡ length 
 abbrev μ-loop : tie.MeasureT-loop
 μ-loop work₀ a f n count i₀ work i = n - i
 
--- src/lib.rt:68:5
 loop-holds : tie.Need-loop-holds Inv-loop μ-loop
 loop-holds c =
     let a = c .before .args in
     let w = a .work .now in
     (omega arith, refl, links-start (region w (a .a) (a .n)) (region w (a .f) (a .n)) w (a .count), λ j h. refl)
 
--- src/lib.rt:69:22
 add-x : tie.Need-add-x Inv-loop μ-loop
 add-x c = omega arith
 
--- src/lib.rt:69:17
 mul-x : tie.Need-mul-x Inv-loop μ-loop
 mul-x c = omega arith
 
--- src/lib.rt:69:17
 slice-read-x : tie.Need-slice-read-x Inv-loop μ-loop
 slice-read-x c = omega arith
 
--- src/lib.rt:70:22
 add-y : tie.Need-add-y Inv-loop μ-loop
 add-y c = omega arith
 
--- src/lib.rt:70:17
 mul-y : tie.Need-mul-y Inv-loop μ-loop
 mul-y c = omega arith
 
--- src/lib.rt:70:17
 slice-read-y : tie.Need-slice-read-y Inv-loop μ-loop
 slice-read-y c = omega arith
 
--- src/lib.rt:71:26
 add-link : tie.Need-add-link Inv-loop μ-loop
 add-link c = omega arith
 
--- src/lib.rt:71:9
 link-requires : tie.Need-link-requires Inv-loop μ-loop
 link-requires c κs =
     let a = c .before .before .before .before .before .before .args in
@@ -68,15 +55,12 @@ link-requires c κs =
     let ef = l .inv .3 (a .f + l .i) (omega (arith, p .high-f)) in
     (omega (arith, p .size), rw ea (p .low-a (l .i) lt), rw ef (p .low-f (l .i) lt), omega (arith, p .few))
 
--- src/lib.rt:72:13
 add-i : tie.Need-add-i Inv-loop μ-loop
 add-i c = omega arith
 
--- src/lib.rt:68:5
 loop-less : tie.Need-loop-less Inv-loop μ-loop
 loop-less c = omega arith
 
--- src/lib.rt:68:5
 loop-again : tie.Need-loop-again Inv-loop μ-loop
 loop-again c =
     let a = c .before .before .before .before .before .before .before .before .before .args in
@@ -91,11 +75,9 @@ loop-again c =
     let e = c .before .before .link .ensures in
     (omega arith, c .before .before .link .kept .0 ∙ l .inv .1, rw e (links-again (region w (a .a) (a .n)) (region w (a .f) (a .n)) (l .work) (a .count) (l .i) (l .inv .2) (omega arith) (omega arith) _ _ (ea ∙ sym (region-at w (a .a) (a .n) (l .i) lt)) (ef ∙ sym (region-at w (a .f) (a .n) (l .i) lt))), λ j h. rw e (linked-high (l .work) (a .count + l .i) _ _ j (rw ea (p .low-a (l .i) lt)) (rw ef (p .low-f (l .i) lt)) (omega (arith, p .few)) h) ∙ l .inv .3 j h)
 
--- src/lib.rt:63:1
 same-length : tie.Need-same-length Inv-loop μ-loop
 same-length c = omega arith
 
--- src/lib.rt:63:1
 returns : tie.Need-returns Inv-loop μ-loop
 returns c =
     let a = c .before .before .before .args in

@@ -1,9 +1,8 @@
 -- `wiring::copy` meets its contract: what is still to be stored, stored over what stands, is the whole; what is still to be read
 -- stands as it was. Assumes nothing.
-use borrow.Author.Needs.{needs}
 use native.Mathlib.Omega.{arith}
 use Prim.Native.Nat.{ℕ, _+_, _-_, _≤_, _<_}
-use mathlib.Core.Path.{_≡_, refl, sym, ap, _∙_}
+use mathlib.Core.Path.{_≡_, refl, sym, _∙_}
 use mathlib.Core.Logic.{_⊎_, inl, inr, ⊎-elim}
 use lib.ListN.{length, getD, drop, length-set}
 use lib.Seq.{sets}
@@ -11,8 +10,6 @@ use Rattle.memory.specs.Map.{region}
 use Rattle.wiring.proofs.RunLaws.{run-start, run-again, run-end, region-length, region-at, outside-again}
 use Rattle.wiring.proofs.wires.copy.Statement.{statement}
 use Rattle.wiring.proofs.wires.copy.Tie as tie
-use Rattle.wiring.proofs.wires.copy.Reads as reads
-use Rattle.wiring.proofs.wires.copy.Lts as lts
 
 abbrev Inv-loop : tie.InvT-loop
 Inv-loop work₀ from to n i₀ work i = (i ≤ n) × (length work ≡ length work₀) × (sets work (to + i) (drop i (region work₀ from n)) ≡ sets work₀ to (region work₀ from n))
@@ -21,45 +18,35 @@ Inv-loop work₀ from to n i₀ work i = (i ≤ n) × (length work ≡ length wo
 abbrev μ-loop : tie.MeasureT-loop
 μ-loop work₀ from to n i₀ work i = n - i
 
--- src/lib.rt:82:5
 loop-holds : tie.Need-loop-holds Inv-loop μ-loop
 loop-holds c =
     let a = c .args in
     (omega arith, refl, run-start (region (a .work .now) (a .from) (a .n)) (a .work .now) (a .to), λ j h. refl)
 
--- src/lib.rt:83:22
 add-x : tie.Need-add-x Inv-loop μ-loop
 add-x c = omega arith
 
--- src/lib.rt:83:17
 mul-x : tie.Need-mul-x Inv-loop μ-loop
 mul-x c = omega arith
 
--- src/lib.rt:83:17
 slice-read-x : tie.Need-slice-read-x Inv-loop μ-loop
 slice-read-x c = omega arith
 
--- src/lib.rt:84:14
 add-work : tie.Need-add-work Inv-loop μ-loop
 add-work c = omega arith
 
--- src/lib.rt:84:9
 mul-work : tie.Need-mul-work Inv-loop μ-loop
 mul-work c = omega arith
 
--- src/lib.rt:84:9
 slice-write-work : tie.Need-slice-write-work Inv-loop μ-loop
 slice-write-work c = omega arith
 
--- src/lib.rt:85:13
 add-i : tie.Need-add-i Inv-loop μ-loop
 add-i c = omega arith
 
--- src/lib.rt:82:5
 loop-less : tie.Need-loop-less Inv-loop μ-loop
 loop-less c = omega arith
 
--- src/lib.rt:82:5
 loop-again : tie.Need-loop-again Inv-loop μ-loop
 loop-again c =
     let a = c .before .before .before .args in
@@ -70,11 +57,9 @@ loop-again c =
     let apart : (a .from + l .i < a .to) ⊎ (a .to + l .i ≤ a .from + l .i) = ⊎-elim (λ h. inr (omega arith)) (λ h. inl (omega arith)) (c .before .before .before .pre .2) in
     (omega arith, simp length-set (omega arith), run-again vs (l .work) (a .to) (l .i) (l .inv .2) (omega (arith, region-length w (a .from) (a .n) (c .before .before .before .pre .0))) _ (l .inv .3 (a .from + l .i) apart ∙ sym (region-at w (a .from) (a .n) (l .i) lt)), outside-again w (l .work) (a .to) (l .i) _ (l .inv .3))
 
--- src/lib.rt:77:1
 same-length : tie.Need-same-length Inv-loop μ-loop
 same-length c = omega arith
 
--- src/lib.rt:77:1
 returns : tie.Need-returns Inv-loop μ-loop
 returns c =
     let a = c .before .before .args in

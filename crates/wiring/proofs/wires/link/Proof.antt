@@ -1,6 +1,5 @@
 -- `wiring::wires::link` meets its contract: by the two terminals. Assumes nothing.
-use native.Mathlib.Omega.{arith}
-use mathlib.Core.Path.{_≡_, refl, sym, ap, _∙_}
+use mathlib.Core.Path.{sym, ap, _∙_}
 use Rattle.calculus.specs.Net.{number}
 use Rattle.netlist.specs.Said.{saidTerminal}
 use Rattle.wiring.specs.Links.{linked}
@@ -8,28 +7,19 @@ use Rattle.wiring.proofs.LinkLaws.{low-number}
 use borrow.Author.Needs.{needs}
 use Rattle.wiring.proofs.wires.link.Statement.{statement}
 use Rattle.wiring.proofs.wires.link.Tie as tie
-use Rattle.wiring.proofs.wires.link.Reads as reads
-use Rattle.wiring.proofs.wires.link.Lts as lts
-use Rattle.netlist.proofs.terminal_of.Reads as terminal-of-reads
-use Rattle.wiring.proofs.wires.wire.Reads as wire-reads
 
--- src/wires.rt:28:11
 terminal-of-requires : tie.Need-terminal-of-requires
 terminal-of-requires c κs = search needs
 
--- src/wires.rt:29:26
 enum-known-from : tie.Need-enum-known-from
 enum-known-from c = search needs
 
--- src/wires.rt:29:41
 terminal-of-requires-2 : tie.Need-terminal-of-requires-2
 terminal-of-requires-2 c κs = search needs
 
--- src/wires.rt:30:29
 enum-known-to : tie.Need-enum-known-to
 enum-known-to c = search needs
 
--- src/wires.rt:30:36
 wire-requires : tie.Need-wire-requires
 wire-requires c κs =
     let p = c .before .before .before .before .before .before .before .before .before .before .pre in
@@ -39,19 +29,15 @@ wire-requires c κs =
 enum-told : tie.Need-enum-told
 enum-told c = search needs
 
--- src/wires.rt:33:25
 enum-known-to-2 : tie.Need-enum-known-to-2
 enum-known-to-2 c = search needs
 
--- src/wires.rt:33:38
 terminal-of-requires-3 : tie.Need-terminal-of-requires-3
 terminal-of-requires-3 c κs = search needs
 
--- src/wires.rt:34:30
 enum-known-from-2 : tie.Need-enum-known-from-2
 enum-known-from-2 c = search needs
 
--- src/wires.rt:34:39
 wire-requires-2 : tie.Need-wire-requires-2
 wire-requires-2 c κs =
     let p = c .before .before .before .before .before .before .before .before .before .before .pre in
@@ -61,11 +47,9 @@ wire-requires-2 c κs =
 enum-told-2 : tie.Need-enum-told-2
 enum-told-2 c = search needs
 
--- src/wires.rt:24:1
 same-length : tie.Need-same-length
 same-length c = search needs
 
--- src/wires.rt:24:1
 returns : tie.Need-returns
 unfolding linked
 returns c =
@@ -73,7 +57,6 @@ returns c =
     let ef = sym (c .before .before .before .before .before .before .before .terminal-of2 .ensures) ∙ ap saidTerminal (c .before .before .before .before .before .to .given .1) in
     rw (ea, ef) (c .before .before .wire .ensures)
 
--- src/wires.rt:24:1
 returns-2 : tie.Need-returns-2
 unfolding linked
 returns-2 c =
@@ -81,11 +64,9 @@ returns-2 c =
     let ef = sym (c .before .before .terminal-of2 .ensures) ∙ ap saidTerminal (c .enum-told .given .1) in
     rw (ea, ef)
 
--- src/wires.rt:24:1
 same-length-2 : tie.Need-same-length-2
 same-length-2 c = search needs
 
--- src/wires.rt:24:1
 returns-3 : tie.Need-returns-3
 unfolding linked
 returns-3 c =
@@ -93,7 +74,6 @@ returns-3 c =
     let ef = sym (c .before .before .before .before .before .before .before .terminal-of3 .ensures) ∙ ap saidTerminal (c .before .before .before .before .before .from2 .given .1) in
     rw (ea, ef) (c .before .before .wire2 .ensures)
 
--- src/wires.rt:24:1
 returns-4 : tie.Need-returns-4
 unfolding linked
 returns-4 c =
