@@ -69,7 +69,7 @@ wrote : (b : Bool) (s out work : List ℕ) (a : Answer (List ℕ)) → answer (l
 wrote b s out work (good bytes) e h = (bytes, refl, went b s (length work) (length out) bytes e .fits, refl)
 wrote b s out work (refused number place) e h = (h .0, h .1, refl)
 
-too-small : (b : Bool) (s : List ℕ) (memory room : ℕ) → memory < 32768 → answer memory b s room ≡ refused 1 0
+pub too-small : (b : Bool) (s : List ℕ) (memory room : ℕ) → memory < 32768 → answer memory b s room ≡ refused 1 0
 unfolding answer
 too-small b s memory room h = rw (lt-leb 32768 memory h)
 
@@ -80,7 +80,7 @@ work-clears : (work : List ℕ) → 32768 ≤ length work → Cleared 32768 work
 unfolding workOf
 work-clears work h = rw (le-leb 32768 (length work) h) (zeroed-clears 32768 work h)
 
-work-stays : (work : List ℕ) → length work < 32768 → workOf work ≡ work
+pub work-stays : (work : List ℕ) → length work < 32768 → workOf work ≡ work
 unfolding workOf
 work-stays work h = rw (lt-leb 32768 (length work) h)
 

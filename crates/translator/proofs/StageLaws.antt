@@ -11,9 +11,12 @@ use Rattle.calculus.proofs.Answers.{refused≢good, good-inj, on-bind}
 use Rattle.calculus.specs.Read.{Sheet, readSheet}
 use Rattle.calculus.specs.Walk.{Found, walk}
 use Rattle.calculus.specs.Net.{Net, make, netOf, netBytes}
-use Rattle.calculus.specs.Translate.{full, answer, asked, saidOf, outOf}
-use Rattle.typing.specs.Verdicts.{typeOf, checkOf}
-use Rattle.translator.specs.Said.{netAnswer, askedAnswer, Says, Keeps}
+use Rattle.calculus.specs.Translate.{full, answer, asked, saidOf, outOf, workOf, zeroed, Call, call}
+use Rattle.memory.proofs.Zeroed.{zeroed-same}
+use Rattle.typing.specs.Answers.{typeOf, checkOf}
+use Rattle.translator.specs.Said.{netAnswer, askedAnswer, Says, Keeps, called}
+use Rattle.translator.specs.declared.Answer as code
+use Rattle.translator.proofs.Demands.{too-small, work-stays}
 use Rattle.translator.specs.declared.Answer.the-variants as answer
 
 -- ---- refusals pass through
@@ -73,7 +76,7 @@ module _ (s : List ℕ) where
 
 -- ---- the netlist asked for
 
-pub asked-net : (b : Bool) (a : Answer Net) (m : Net) (room : ℕ) → a ≡ good m → askedAnswer b a room ≡ netAnswer (asked b m) room
+asked-net : (b : Bool) (a : Answer Net) (m : Net) (room : ℕ) → a ≡ good m → askedAnswer b a room ≡ netAnswer (asked b m) room
 unfolding askedAnswer
 asked-net b a m room e = rw e
 
@@ -81,10 +84,20 @@ pub answer-asked : (memory : ℕ) (b : Bool) (s : List ℕ) (room : ℕ) → 327
 unfolding answer askedAnswer netAnswer
 answer-asked memory b s room h = rw (le-leb 32768 memory h)
 
--- ---- nothing changes
+-- a netlist that was written is the one asked for
+pub asked-says : (b : Bool) (s out after : List ℕ) (r : code.Answer) (m n : Net) → full s ≡ good m → n ≡ asked b m
+    → Says r out after (netAnswer n (length out)) → Says r out after (askedAnswer b (full s) (length out))
+asked-says b s out after r m n e f h = rw (asked-net b (full s) m (length out) e, ← f) h
 
-pub keeps-same : (w : List ℕ) → Keeps w w
-keeps-same w = record { same-length = refl; later = refl }
+-- ---- the whole call
 
-pub keeps-then : {u v w : List ℕ} → Keeps u v → Keeps v w → Keeps u w
-keeps-then p q = record { same-length = q .same-length ∙ p .same-length; later = q .later ∙ p .later }
+pub call-small : (b : Bool) (s out work : List ℕ) → length work < 32768 → called (answer.Refused 1 0) out work ≡ call b s out work
+unfolding call
+call-small b s out work h = rw (too-small b s (length work) (length out) h, work-stays work h)
+
+-- after the stages, the working memory is cleared
+pub call-run : (b : Bool) (s out work : List ℕ) (r : code.Answer) (after mid : List ℕ) → 32768 ≤ length work
+    → Says r out after (askedAnswer b (full s) (length out)) → Keeps work mid → called r after (zeroed 32768 mid) ≡ call b s out work
+unfolding call workOf
+call-run b s out work r after mid h a k =
+    rw (answer-asked (length work) b s (length out) h, le-leb 32768 (length work) h, a .said, a .wrote, zeroed-same 32768 mid work k)

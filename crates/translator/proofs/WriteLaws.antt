@@ -37,9 +37,6 @@ module _ (m : Net) (out : List ℕ) where
 
 -- a change within the table of roots keeps what lies behind it
 pub within-keeps : (w w′ : List ℕ) → Within w w′ → Keeps w w′
-within-keeps w w′ h = record {
-  same-length = h .size;
-  later =
-      ext-getD 0 (drop 32768 w′) (drop 32768 w) (length-drop 32768 w′ ∙ ap (λ (n : ℕ). n - 32768) (h .size) ∙ sym (length-drop 32768 w))
-      (λ i l. getD-drop 32768 w′ i 0 ∙ h .above (32768 + i) (omega arith) ∙ sym (getD-drop 32768 w i 0));
-}
+within-keeps w w′ h =
+    ext-getD 0 (drop 32768 w′) (drop 32768 w) (length-drop 32768 w′ ∙ ap (λ (n : ℕ). n - 32768) (h .size) ∙ sym (length-drop 32768 w))
+    (λ i l. getD-drop 32768 w′ i 0 ∙ h .above (32768 + i) (omega arith) ∙ sym (getD-drop 32768 w i 0))

@@ -33,10 +33,9 @@ pub record Says (r : code.Answer) (before after : List ℕ) (a : Answer (List �
   pub said : saidAnswer r ≡ saidOf a
   pub wrote : after ≡ outOf a before
 
--- the working memory from number 32,768 on
-pub record Keeps (work after : List ℕ) : Type 0 where
-  pub same-length : length after ≡ length work
-  pub later : drop 32768 after ≡ drop 32768 work
+-- the working memory from number 32,768 on is as it was
+abbrev pub Keeps : List ℕ → List ℕ → Type 0
+Keeps work after = drop 32768 after ≡ drop 32768 work
 
 -- what a call leaves
 abbrev pub called : code.Answer → List ℕ → List ℕ → Call

@@ -1,26 +1,12 @@
--- What each stage of a call knows of the sheet. Assumes nothing.
-use Prim.Native.Nat.{ℕ, _≤_}
+-- What the stages of a call know of the sheet once the walk has accepted its term. Assumes nothing.
+use Prim.Native.Nat.{ℕ}
 use mathlib.Core.Path.{_≡_}
 use mathlib.Core.List.{List, []}
 use Rattle.calculus.specs.Answer.{good}
 use Rattle.calculus.specs.Walk.{Found, walk}
-use Rattle.calculus.specs.Net.{make}
-use Rattle.sheet.proofs.Told.{Told}
+use Rattle.wiring.specs.Whole.{Read}
 
--- the sheet has been read
-pub record Reads (s sizes : List ℕ) (nodes start : ℕ) : Type 0 where
-  pub types : ℕ
-  pub told : Told s sizes types nodes start
-
--- .. and the walk has accepted its term
-pub record Typed (s sizes : List ℕ) (nodes start : ℕ) : Type 0 where
-  pub types : ℕ
-  pub told : Told s sizes types nodes start
+pub record Typed (s sizes : List ℕ) (start nodes : ℕ) : Type 0 where
+  pub read : Read s sizes start nodes
   pub found : Found
-  pub walked : walk (told .sheet .table) (told .sheet .term) 0 [] ≡ good found
-
--- .. and it makes at most 8,192 terminals
-pub record Few (s sizes : List ℕ) (start : ℕ) : Type 0 where
-  pub nodes : ℕ
-  pub typed : Typed s sizes nodes start
-  pub few : make (typed .told .sheet .table) (typed .told .sheet .term) [] 0 .next ≤ 8192
+  pub walked : walk (read .told .sheet .table) (read .told .sheet .term) 0 [] ≡ good found

@@ -9,11 +9,19 @@ ghost use Prim.Native.Nat.{_≤_};
 ghost use lib.ListN.{length};
 ghost use Rattle.calculus.specs.Translate.{full};
 ghost use Rattle.translator.specs.Said.{Says, Keeps, askedAnswer};
-ghost use Rattle.translator.specs.Stages.{Reads, Typed, Few};
+ghost use Rattle.wiring.specs.Whole.{Read, Accepted};
+ghost use Rattle.translator.specs.Stages.{Typed};
 
 // The netlist is made and written: 17.
-fn made(sheet: &[u8], sizes: &[u8], out: &mut [u8], work: &mut [u16], lean: bool, start: usize) -> Answer
-    requires { ⌜ (32768 ≤ length (now work)) × (Few (now sheet) (now sizes) start) ⌝ }
+fn made(
+    sheet: &[u8],
+    sizes: &[u8],
+    out: &mut [u8],
+    work: &mut [u16],
+    lean: bool,
+    start: usize,
+) -> Answer
+    requires { ⌜ Accepted (now sheet) (now sizes) (now work) start ⌝ }
     ensures { λ r. ⌜ (Says r (now (out .entry)) (now (out .exit)) (askedAnswer lean (full (now (sheet .entry))) (length (now (out .entry)))))
         × (Keeps (now (work .entry)) (now (work .exit))) ⌝ }
 {
@@ -28,8 +36,16 @@ fn made(sheet: &[u8], sizes: &[u8], out: &mut [u8], work: &mut [u16], lean: bool
 }
 
 // The terminals are counted before anything is made: 16.
-fn counted(sheet: &[u8], sizes: &[u8], out: &mut [u8], work: &mut [u16], lean: bool, nodes: usize, start: usize) -> Answer
-    requires { ⌜ (32768 ≤ length (now work)) × (Typed (now sheet) (now sizes) nodes start) ⌝ }
+fn counted(
+    sheet: &[u8],
+    sizes: &[u8],
+    out: &mut [u8],
+    work: &mut [u16],
+    lean: bool,
+    nodes: usize,
+    start: usize,
+) -> Answer
+    requires { ⌜ (32768 ≤ length (now work)) × (Typed (now sheet) (now sizes) start nodes) ⌝ }
     ensures { λ r. ⌜ (Says r (now (out .entry)) (now (out .exit)) (askedAnswer lean (full (now (sheet .entry))) (length (now (out .entry)))))
         × (Keeps (now (work .entry)) (now (work .exit))) ⌝ }
 {
@@ -40,8 +56,16 @@ fn counted(sheet: &[u8], sizes: &[u8], out: &mut [u8], work: &mut [u16], lean: b
 }
 
 // The typing walk: 10 to 15.
-fn checked(sheet: &[u8], sizes: &[u8], out: &mut [u8], work: &mut [u16], lean: bool, nodes: usize, start: usize) -> Answer
-    requires { ⌜ (32768 ≤ length (now work)) × (Reads (now sheet) (now sizes) nodes start) ⌝ }
+fn checked(
+    sheet: &[u8],
+    sizes: &[u8],
+    out: &mut [u8],
+    work: &mut [u16],
+    lean: bool,
+    nodes: usize,
+    start: usize,
+) -> Answer
+    requires { ⌜ (32768 ≤ length (now work)) × (Read (now sheet) (now sizes) start nodes) ⌝ }
     ensures { λ r. ⌜ (Says r (now (out .entry)) (now (out .exit)) (askedAnswer lean (full (now (sheet .entry))) (length (now (out .entry)))))
         × (Keeps (now (work .entry)) (now (work .exit))) ⌝ }
 {

@@ -11,3 +11,4 @@ mod TwoLaws
 mod FinishLaws
 mod StepLaws
 mod CountLaws
+mod FullLaws

@@ -4,3 +4,4 @@ pub mod Store
 pub mod Walk
 pub mod Nodes
 pub mod Count
+pub mod Whole

@@ -1,9 +1,12 @@
 // The making walk: the elements, the wires and the interface of a term, in the working memory.
 use memory::BINDERS;
+use memory::DRIVERS;
 use memory::ELEMENTS;
+use memory::NONE;
 use memory::POINT;
 use memory::STACK;
 use memory::TARGETS;
+use memory::TERMINALS;
 use records::Form;
 use records::Node;
 use records::Record;
@@ -16,12 +19,16 @@ ghost use lib.ListN.{length, getD, take, drop, replicate};
 ghost use lib.Seq.{sets};
 ghost use Rattle.calculus.specs.Types.{tree, size};
 ghost use Rattle.calculus.specs.Terms.{partAt};
-ghost use Rattle.calculus.specs.Net.{turns, partSide, make};
+ghost use Rattle.calculus.specs.Net.{turns, partSide, make, Net};
+ghost use Rattle.calculus.specs.Answer.{good};
+ghost use Rattle.calculus.specs.Read.{Sheet, readSheet};
+ghost use Rattle.calculus.specs.Translate.{full};
 ghost use Rattle.records.specs.Forms.{recIn};
 ghost use Rattle.memory.specs.Map.{region, code};
 ghost use Rattle.wiring.specs.Wires.{wired, linked, links, Apart};
 ghost use Rattle.wiring.specs.Walk.{Asks, Here, Leaves, Showable, shown, boundIn, Opened, looped, closed, closedIn, Closable, halved, Between, middle, betweenIn, appliedIn, Finishable, finished, finishedIn};
-ghost use Rattle.wiring.specs.Count.{ownIn, Counting};
+ghost use Rattle.wiring.specs.Count.{ownIn};
+ghost use Rattle.wiring.specs.Whole.{Read, Accepted, Stands};
 ghost use Rattle.wiring.specs.Faces.{sidesOf, Knows, Named, endOf, face};
 ghost use mathlib.Core.Bool.{false};
 
@@ -553,10 +560,10 @@ fn own_terminals(s: &[u8], sizes: &[u8], node: Node) -> usize
     0
 }
 
-// The terminals of the term at an offset, which has so many nodes. They can be more than 8,192.
+// The terminals of a read sheet's term, which begins at an offset and has so many nodes. They can be more than 8,192.
 pub fn count(s: &[u8], sizes: &[u8], from: usize, nodes: usize) -> usize
-    requires { ⌜ Counting (now s) (now sizes) from nodes ⌝ }
-    ensures { λ r. ⌜ ((q : Counting (now (s .entry)) (now (sizes .entry)) from nodes) → r ≡ make (q .table) (q .term) [] 0 .next) ⌝ }
+    requires { ⌜ Read (now s) (now sizes) from nodes ⌝ }
+    ensures { λ r. ⌜ ((σ : Sheet) → readSheet (now (s .entry)) ≡ good σ → r ≡ make (σ .table) (σ .term) [] 0 .next) ⌝ }
 {
     let mut at = from;
     let mut left = nodes;
@@ -570,4 +577,32 @@ pub fn count(s: &[u8], sizes: &[u8], from: usize, nodes: usize) -> usize
         left = left - 1;
     }
     total
+}
+
+// The numbers of elements, wires and pins that stand in the working memory.
+pub struct Counts {
+    pub elements: usize,
+    pub wires: usize,
+    pub pins: usize,
+}
+
+// The full netlist of an accepted sheet, whose term begins at an offset, made in the working memory.
+pub fn make_net(s: &[u8], sizes: &[u8], work: &mut [u16], at: usize) -> Counts
+    requires { ⌜ Accepted (now s) (now sizes) (now work) at ⌝ }
+    ensures { λ r. ⌜ ((m : Net) → full (now (s .entry)) ≡ good m → Stands m r (now (work .entry)) (now (work .exit))) ⌝ }
+{
+    fill(work, DRIVERS, TERMINALS, NONE);
+    let start = State {
+        next: 0,
+        elements: 0,
+        wires: 0,
+        top: 0,
+        scope: 0,
+    };
+    let r = make(s, sizes, work, at, start);
+    Counts {
+        elements: r.elements,
+        wires: r.wires,
+        pins: r.len,
+    }
 }

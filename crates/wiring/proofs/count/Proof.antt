@@ -1,3 +1,4 @@
+use Rattle.wiring.proofs.FullLaws.{counting}
 -- `wiring::count` meets its contract. The invariant: a row of terms stands at the offset, whose terminals are those still to be counted.
 -- Assumes nothing.
 use borrow.Author.Needs.{needs}
@@ -37,17 +38,21 @@ enum-known-node c =
 -- src/lib.rt:566:13
 returns : tie.Need-returns Inv-loop μ-loop
 returns c =
-    λ q. absurd (no-node (c .before .record-at .result) (c .match .keys2) (row-node q (c .before .before .before .loop .inv q) (c .before .before .loop-test .taken) (c .before .record-at .ensures)))
+    λ σ h.
+    let q = counting (c .before .before .before .before .before .before .pre) σ h in
+    absurd (no-node (c .before .record-at .result) (c .match .keys2) (row-node q (c .before .before .before .loop .inv q) (c .before .before .loop-test .taken) (c .before .record-at .ensures)))
 
 -- src/lib.rt:569:25
 own-terminals-requires : tie.Need-own-terminals-requires Inv-loop μ-loop
 own-terminals-requires c κs =
-    c .before .before .before .before .before .before .before .before .pre .knows .all
+    let p = c .before .before .before .before .before .before .before .before .pre in
+    counting p (p .told .sheet) (p .told .is) .knows .all
 
 -- src/lib.rt:569:17
 add-total : tie.Need-add-total Inv-loop μ-loop
 add-total c =
-    let q = c .before .before .before .before .before .before .before .before .before .pre in
+    let p = c .before .before .before .before .before .before .before .before .before .pre in
+    let q = counting p (p .told .sheet) (p .told .is) in
     let r = row-room q (c .before .before .before .before .before .before .loop .inv q) (c .before .before .before .before .before .loop-test .taken) (c .before .before .before .before .record-at .ensures) (c .before .before .node .given .1) in
     omega (arith, c .own-terminals .ensures)
 
@@ -69,7 +74,7 @@ loop-again c =
 -- src/lib.rt:557:1
 returns-2 : tie.Need-returns-2 Inv-loop μ-loop
 returns-2 c =
-    λ q. row-end q (c .before .loop .inv q) (omega arith)
+    λ σ h. row-end (counting (c .before .before .before .before .pre) σ h) (c .before .loop .inv (counting (c .before .before .before .before .pre) σ h)) (omega arith)
 
 pub count-spec : {M : Type 1} → statement M
 count-spec =
