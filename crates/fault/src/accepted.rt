@@ -5,8 +5,10 @@ use crate::text::put;
 use crate::text::put_count;
 use translator::Answer;
 ghost use mathlib.Core.Path.{_≡_};
-ghost use Prim.Native.Nat.{_≤_};
-ghost use lib.ListN.{length};
+ghost use Prim.Native.Nat.{_≤_, max};
+ghost use lib.ListN.{length, take};
+ghost use Rattle.fault.specs.Deep.{Measured, DepthOf};
+ghost use Rattle.fault.specs.Netlists.{one, countOf, Counted};
 
 const MOST_DEPTH: usize = 64;
 
@@ -18,13 +20,15 @@ pub struct Deep {
     pub depth: usize,
 }
 
-fn larger(a: usize, b: usize) -> usize {
+fn larger(a: usize, b: usize) -> usize
+    ensures { λ r. ⌜ r ≡ max a b ⌝ }
+{
     if a < b { b } else { a }
 }
 
 // The term at an offset. `more` is how many levels of depth there may still be.
 fn depth_at(s: &[u8], at: usize, more: usize) -> Deep
-    ensures { λ r. ⌜ r .depth ≤ more ⌝ }
+    ensures { λ r. ⌜ Measured (now (s .entry)) at more (r .next) (r .depth) ⌝ }
 {
     if more == 0 {
         return Deep { next: at, depth: 0 };
@@ -51,6 +55,21 @@ fn depth_at(s: &[u8], at: usize, more: usize) -> Deep
     }
 }
 
+// The depth of a sheet's term; 0 where the sheet is refused.
+fn depth(s: &[u8]) -> usize
+    ensures { λ r. ⌜ DepthOf (now (s .entry)) r ⌝ }
+{
+    let r = sheet::read(s);
+    let verdict = r.verdict;
+    match verdict {
+        Verdict::Read(_, _, start) => {
+            let deep = depth_at(s, start, MOST_DEPTH);
+            deep.depth
+        }
+        Verdict::Refused(_, _) => 0,
+    }
+}
+
 fn put_sheet(text: &mut [u8], at: usize, s: &[u8]) -> usize
     requires { ⌜ at ≤ length (now text) ⌝ }
     ensures { λ r. ⌜ r ≤ length (now (text .entry)) ⌝ }
@@ -58,10 +77,9 @@ fn put_sheet(text: &mut [u8], at: usize, s: &[u8]) -> usize
     let r = sheet::read(s);
     let verdict = r.verdict;
     match verdict {
-        Verdict::Read(types, nodes, start) => {
-            let deep = depth_at(s, start, MOST_DEPTH);
+        Verdict::Read(types, nodes, _) => {
             let first = put_count(text, at, b"nodes ", nodes);
-            let second = put_count(text, first, b"depth ", deep.depth);
+            let second = put_count(text, first, b"depth ", depth(s));
             put_count(text, second, b"types ", types)
         }
         Verdict::Refused(_, _) => at,
@@ -71,15 +89,26 @@ fn put_sheet(text: &mut [u8], at: usize, s: &[u8]) -> usize
 // ---- its netlists
 
 // The first n bytes, or all where there are not so many.
-fn first(out: &[u8], n: usize) -> &[u8] {
+fn first(out: &[u8], n: usize) -> &[u8]
+    ensures { λ r. ⌜ now r ≡ take n (now (out .entry)) ⌝ }
+{
     if out.len() < n {
         return out;
     }
     &out[..n]
 }
 
+// 1 where a record's first byte is the kind.
+fn one(first: u8, kind: u8) -> usize
+    ensures { λ r. ⌜ r ≡ one kind first ⌝ }
+{
+    if first == kind { 1 } else { 0 }
+}
+
 // How many records of a kind stand in a netlist.
-fn count(net: &[u8], kind: u8) -> usize {
+fn count(net: &[u8], kind: u8) -> usize
+    ensures { λ r. ⌜ r ≡ countOf kind (now (net .entry)) ⌝ }
+{
     let mut n: usize = 0;
     let mut at: usize = 0;
     while at < net.len() {
@@ -87,9 +116,7 @@ fn count(net: &[u8], kind: u8) -> usize {
         if size == 0 {
             return n;
         }
-        if net[at] == kind {
-            n = n + 1;
-        }
+        n = n + one(net[at], kind);
         at = at + size;
     }
     n
@@ -103,7 +130,9 @@ pub struct Counts {
     pub pins: usize,
 }
 
-fn tally(net: &[u8]) -> Counts {
+fn tally(net: &[u8]) -> Counts
+    ensures { λ r. ⌜ Counted (now (net .entry)) (r .parts) (r .points) (r .wires) (r .pins) ⌝ }
+{
     Counts {
         parts: count(net, 0x22),
         points: count(net, 0x21),

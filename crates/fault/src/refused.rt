@@ -46,6 +46,16 @@ fn put_from(text: &mut [u8], at: usize, s: &[u8], place: usize) -> usize
     put(text, end, b"\n")
 }
 
+// Where the bytes before an offset are shown from.
+fn start_before(place: usize) -> usize
+    ensures { λ r. ⌜ r ≤ place ⌝ }
+{
+    if MOST_BEFORE < place {
+        return place - MOST_BEFORE;
+    }
+    0
+}
+
 fn put_before(text: &mut [u8], at: usize, s: &[u8], place: usize) -> usize
     requires { ⌜ at ≤ length (now text) ⌝ }
     ensures { λ r. ⌜ r ≤ length (now (text .entry)) ⌝ }
@@ -56,7 +66,7 @@ fn put_before(text: &mut [u8], at: usize, s: &[u8], place: usize) -> usize
     if s.len() < place {
         return at;
     }
-    let first = if MOST_BEFORE < place { place - MOST_BEFORE } else { 0 };
+    let first = start_before(place);
     let head = put(text, at, b"before it, from offset ");
     let colon = put_number(text, head, first);
     let mid = put(text, colon, b":");
@@ -109,19 +119,28 @@ fn holds(outer: Bounds, inner: Bounds) -> bool
     inner.size <= outer.size - gap
 }
 
+// The line of a node whose stretch holds a part of the sheet; nothing of another.
+fn put_holder(text: &mut [u8], at: usize, s: &[u8], node: usize, part: Bounds) -> usize
+    requires { ⌜ at ≤ length (now text) ⌝ }
+    ensures { λ r. ⌜ r ≤ length (now (text .entry)) ⌝ }
+{
+    let own = sheet::stretch_bounds(s, node);
+    if !holds(own, part) {
+        return at;
+    }
+    put_node(text, at, node, byte_at(s, own.start))
+}
+
 // The lines of the nodes above a node, from the root down: those before it whose stretch holds its stretch.
 fn put_chain(text: &mut [u8], from: usize, s: &[u8], node: usize) -> usize
     requires { ⌜ from ≤ length (now text) ⌝ }
     ensures { λ r. ⌜ r ≤ length (now (text .entry)) ⌝ }
 {
-    let inner = sheet::stretch_bounds(s, node);
+    let part = sheet::stretch_bounds(s, node);
     let mut at = from;
     let mut j: usize = 0;
     while j < node {
-        let outer = sheet::stretch_bounds(s, j);
-        if holds(outer, inner) {
-            at = put_node(text, at, j, byte_at(s, outer.start));
-        }
+        at = put_holder(text, at, s, j, part);
         j = j + 1;
     }
     at
