@@ -7,7 +7,10 @@ use native.Mathlib.Omega.{arith}
 use native.Mathlib.Nat.{le-max-left, le-max-right}
 use lib.ListN.{length, length-append}
 use Rattle.calculus.specs.Terms.{Term, var, lvar, fun, app, lfun, lapp, pair, proj, fix, con}
-use Rattle.calculus.specs.Write.{termBytes}
+use Rattle.calculus.specs.Answer.{good, refused}
+use Rattle.calculus.proofs.Answers.{refused≢good, good-inj}
+use Rattle.calculus.specs.Read.{Sheet, readSheet}
+use Rattle.calculus.specs.Write.{termBytes, tableBytes}
 use Rattle.calculus.specs.Laid.{Stands, depth}
 use types.Run.{OneOf}
 use denote.Enum.Declared.{tagOf}
@@ -19,7 +22,10 @@ use Rattle.records.specs.declared.Node.{Node}
 use Rattle.records.specs.declared.Record.{Record}
 use Rattle.records.specs.declared.Record.the-variants as rec
 use Rattle.sheet_theorems.proofs.Standing.{fun-body, app-function, app-argument, lfun-body, lapp-function, lapp-argument, pair-first, pair-second, proj-pair, proj-body, fix-body}
-use Rattle.fault.specs.Deep.{Measured}
+use Rattle.sheet_theorems.proofs.Standing.{sheet-stands}
+use Rattle.sheet_theorems.proofs.Laying.{laid}
+use Rattle.sheet.proofs.Told.{Told}
+use Rattle.fault.specs.Deep.{Measured, DepthOf}
 
 pub deep-some : (e : Term) → 1 ≤ depth e
 deep-some (var i) = omega arith
@@ -84,21 +90,37 @@ module _ (s : List ℕ) (at : ℕ) where
   double (lvar i) y z h = absurd (y refl)
   double (fun t e) y z h = absurd (z refl)
   double (app f a) y z h = record {
-    first = f; second = a; stands-first = moved _ (omega arith) (app-function h); stands-second = moved _ (omega arith) (app-argument h);
-    end = omega (arith, both-bytes f a); deep = refl;
+    first = f;
+    second = a;
+    stands-first = moved _ (omega arith) (app-function h);
+    stands-second = moved _ (omega arith) (app-argument h);
+    end = omega (arith, both-bytes f a);
+    deep = refl;
   }
   double (lfun t e) y z h = absurd (z refl)
   double (lapp f a) y z h = record {
-    first = f; second = a; stands-first = moved _ (omega arith) (lapp-function h); stands-second = moved _ (omega arith) (lapp-argument h);
-    end = omega (arith, both-bytes f a); deep = refl;
+    first = f;
+    second = a;
+    stands-first = moved _ (omega arith) (lapp-function h);
+    stands-second = moved _ (omega arith) (lapp-argument h);
+    end = omega (arith, both-bytes f a);
+    deep = refl;
   }
   double (pair t a b) y z h = record {
-    first = a; second = b; stands-first = moved _ (omega arith) (pair-first h); stands-second = moved _ (omega arith) (pair-second h);
-    end = omega (arith, both-bytes a b); deep = refl;
+    first = a;
+    second = b;
+    stands-first = moved _ (omega arith) (pair-first h);
+    stands-second = moved _ (omega arith) (pair-second h);
+    end = omega (arith, both-bytes a b);
+    deep = refl;
   }
   double (proj a e) y z h = record {
-    first = a; second = e; stands-first = moved _ (omega arith) (proj-pair h); stands-second = moved _ (omega arith) (proj-body h);
-    end = omega (arith, both-bytes a e); deep = refl;
+    first = a;
+    second = e;
+    stands-first = moved _ (omega arith) (proj-pair h);
+    stands-second = moved _ (omega arith) (proj-body h);
+    end = omega (arith, both-bytes a e);
+    deep = refl;
   }
   double (fix t e) y z h = absurd (z refl)
   double (con p t) y z h = absurd (y refl)
@@ -162,3 +184,15 @@ module _ (s : List ℕ) (at : ℕ) where
               let v1 = v .1 in
               let x = o .end in
               (omega arith, omega arith)
+
+-- ---- the term of a sheet
+
+pub sheet-deep : (s : List ℕ) {sizes : List ℕ} {types n start next deep : ℕ} → Told s sizes types n start → Measured s start 64 next deep → DepthOf s deep
+sheet-deep s {sizes} {types} {n} {start} t m σ e =
+    let l = laid s σ e in
+    let q : t .sheet ≡ σ = good-inj (sym (t .is) ∙ e) in
+    let p : length (tableBytes (σ .table)) ≡ start = sym (t .start-is ∙ ap (λ (σ : Sheet). length (tableBytes (σ .table))) q) in
+    m .right (σ .term) (subst (λ (x : ℕ). Stands s x (σ .term)) p (sheet-stands l)) (l .deep) .1
+
+pub no-sheet-deep : (s : List ℕ) (number place : ℕ) → readSheet s ≡ refused number place → DepthOf s 0
+no-sheet-deep s number place h σ e = absurd (refused≢good (sym h ∙ e))

@@ -1,8 +1,8 @@
 // What an accepted sheet's report counts.
-use records::Record;
-use sheet::Verdict;
 use crate::text::put;
 use crate::text::put_count;
+use records::Record;
+use sheet::Verdict;
 use translator::Answer;
 ghost use mathlib.Core.Path.{_≡_};
 ghost use Prim.Native.Nat.{_≤_, max};

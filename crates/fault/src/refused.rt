@@ -1,7 +1,11 @@
 // What a refused sheet's report shows: the rule, and the bytes or the nodes around the place.
+use crate::text::put;
+use crate::text::put_byte;
+use crate::text::put_count;
+use crate::text::put_number;
+use crate::words::put_kind;
+use crate::words::put_rule;
 use sheet::Bounds;
-use crate::text::{put, put_byte, put_count, put_number};
-use crate::words::{put_kind, put_rule};
 ghost use mathlib.Core.Path.{_≡_};
 ghost use Prim.Native.Nat.{_≤_};
 ghost use lib.ListN.{length, getD};

@@ -1,36 +1,20 @@
+-- `fault::accepted::depth` meets its contract: the term of a sheet that is read stands behind the types, and is no deeper than 64. Assumes nothing.
 use borrow.Author.Needs.{needs}
+use Rattle.sheet.proofs.Told.{told, untold}
+use Rattle.fault.proofs.DeepLaws.{sheet-deep, no-sheet-deep}
 use Rattle.fault.proofs.accepted.depth.Statement.{statement}
 use Rattle.fault.proofs.accepted.depth.Tie as tie
-use Rattle.fault.proofs.accepted.depth.Reads as reads
-use Rattle.fault.proofs.accepted.depth.Lts as lts
-use Rattle.fault.proofs.accepted.depth_at.Reads as depth-at-reads
-use Rattle.sheet.proofs.read.Reads as read-reads
 
--- src/accepted.rt:62:9
-read-requires : tie.Need-read-requires
-read-requires c κs = search needs
-
--- src/accepted.rt:65:29
-enum-known-verdict : tie.Need-enum-known-verdict
-enum-known-verdict c = search needs
-
--- src/accepted.rt:66:17
-depth-at-requires : tie.Need-depth-at-requires
-depth-at-requires c κs = search needs
-
--- src/accepted.rt:69:35
-enum-told : tie.Need-enum-told
-enum-told c = search needs
-
--- src/accepted.rt:59:1
 returns : tie.Need-returns
-returns c = ?
+returns c =
+    let x = c .before in
+    let r = x .before .before .before .read in
+    sheet-deep _ (told _ (r .result) _ _ _ (r .ensures) (x .before .verdict .given .1)) (c .depth-at .ensures)
 
--- src/accepted.rt:59:1
 returns-2 : tie.Need-returns-2
-returns-2 c = ?
+returns-2 c = no-sheet-deep _ _ _ (untold _ _ _ _ (c .before .before .read .ensures) (c .enum-told .given .1))
 
 pub depth-spec : {M : Type 1} → statement M
 depth-spec =
     tie.close
-    (tie.spec read-requires enum-known-verdict depth-at-requires enum-told returns returns-2)
+    (tie.spec (λ c κs. search needs) (λ c. search needs) (λ c κs. search needs) (λ c. search needs) returns returns-2)

@@ -1,47 +1,22 @@
+-- `fault::refused::put_chain` meets its contract. The measure is the nodes left. Assumes nothing.
+use Prim.Native.Nat.{_≤_, _-_}
+use mathlib.Core.Path.{_≡_}
+use borrow.Author.Needs.{needs}
+use lib.ListN.{length}
 use Rattle.fault.proofs.refused.put_chain.Statement.{statement}
 use Rattle.fault.proofs.refused.put_chain.Tie as tie
-use Rattle.fault.proofs.refused.put_chain.Reads as reads
-use Rattle.fault.proofs.refused.put_chain.Lts as lts
-use Rattle.fault.proofs.refused.put_holder.Reads as put-holder-reads
-use Rattle.sheet.proofs.stretch_bounds.Reads as stretch-bounds-reads
 
 abbrev Inv-loop : tie.InvT-loop
-Inv-loop text₀ from s node part at₀ j₀ text at j = ?
+Inv-loop text₀ from s node part at₀ j₀ text at j = (at ≤ length text₀) × (length text ≡ length text₀)
 
 abbrev μ-loop : tie.MeasureT-loop
-μ-loop text₀ from s node part at₀ j₀ text at j = ?
+μ-loop text₀ from s node part at₀ j₀ text at j = node - j
 
--- src/refused.rt:139:9
-stretch-bounds-requires : tie.Need-stretch-bounds-requires Inv-loop μ-loop
-stretch-bounds-requires c κs = ?
-
--- src/refused.rt:142:5
 loop-holds : tie.Need-loop-holds Inv-loop μ-loop
-loop-holds c = ?
+loop-holds c = search needs
 
--- src/refused.rt:143:9
-put-holder-requires : tie.Need-put-holder-requires Inv-loop μ-loop
-put-holder-requires c κs = ?
-
--- src/refused.rt:144:13
-add-j : tie.Need-add-j Inv-loop μ-loop
-add-j c = ?
-
--- src/refused.rt:142:5
-loop-less : tie.Need-loop-less Inv-loop μ-loop
-loop-less c = ?
-
--- src/refused.rt:142:5
 loop-again : tie.Need-loop-again Inv-loop μ-loop
-loop-again c = ?
-
--- src/refused.rt:135:1
-same-length : tie.Need-same-length Inv-loop μ-loop
-same-length c = ?
-
--- src/refused.rt:135:1
-returns : tie.Need-returns Inv-loop μ-loop
-returns c = ?
+loop-again c = search needs
 
 pub put-chain-spec : {M : Type 1} → statement M
 put-chain-spec =
@@ -49,11 +24,11 @@ put-chain-spec =
     (tie.spec
     Inv-loop
     μ-loop
-    stretch-bounds-requires
+    (λ c κs. search needs)
     loop-holds
-    put-holder-requires
-    add-j
-    loop-less
+    (λ c κs. search needs)
+    (λ c. search needs)
+    (λ c. search needs)
     loop-again
-    same-length
-    returns)
+    (λ c. search needs)
+    (λ c. search needs))
