@@ -1,3 +1,4 @@
+-- `records::body` meets its contract: a byte within the body is read, and past it stands 0. Assumes nothing.
 use borrow.Author.Needs.{needs}
 use mathlib.Core.Path.{sym, refl, _∙_}
 use lib.Seq.{getD-drop, getD-take}

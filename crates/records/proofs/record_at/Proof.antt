@@ -1,3 +1,5 @@
+-- `records::record_at` meets its contract: by the tests of the offset, the kind and the body that the code makes in this order.
+-- Assumes nothing.
 use borrow.Author.Tests.{le-leb, lt-leb}
 use mathlib.Core.Path.{_∙_, sym}
 use Rattle.records.specs.Record.{recordAt}

@@ -1,3 +1,4 @@
+-- `records::shape_of` meets its contract: each arm of the match is a run of entries in the table of kinds. Assumes nothing.
 use mathlib.Core.Logic.{⊎-elim, inl, inr}
 use mathlib.Core.Path.{_≡_, sym, refl}
 use native.Mathlib.Omega.{arith}

@@ -1,6 +1,6 @@
-use Rattle.wiring.proofs.FullLaws.{counting}
 -- `wiring::count` meets its contract. The invariant: a row of terms stands at the offset, whose terminals are those still to be counted.
 -- Assumes nothing.
+use Rattle.wiring.proofs.FullLaws.{counting}
 use borrow.Author.Needs.{needs}
 use native.Mathlib.Omega.{arith}
 use Rattle.wiring.specs.Count.{Counting, Row}

@@ -1,6 +1,6 @@
+-- `wiring::interface` meets its contract: what is still to be stored, stored over what stands, is the whole. Assumes nothing.
 use mathlib.Core.Bool.{Bool, Bool·beq}
 use Rattle.wiring.specs.Sides.{endOf}
--- `wiring::interface` meets its contract: what is still to be stored, stored over what stands, is the whole. Assumes nothing.
 use native.Mathlib.Omega.{arith}
 use Prim.Native.Nat.{_+_, _*_, _-_, _≤_}
 use mathlib.Core.Path.{_≡_, refl, sym, ap, _∙_}

@@ -1,6 +1,6 @@
-use Rattle.calculus.specs.Types.{tree, size}
 -- `wiring::turned` meets its contract. The invariant: the bit sought is bit j of type t, turned once more where odd. Type numbers fall.
 -- Assumes nothing.
+use Rattle.calculus.specs.Types.{tree, size}
 use borrow.Author.Needs.{needs}
 use mathlib.Core.Path.{_≡_, _∙_}
 use mathlib.Core.Logic.{⊎-elim}

@@ -1,5 +1,5 @@
-use Rattle.wiring.proofs.OneLaws.{known-at, room-at, opened-at}
 -- `wiring::open` meets its contract: three runs of stores, each behind its list. Assumes nothing.
+use Rattle.wiring.proofs.OneLaws.{known-at, room-at, opened-at}
 use native.Mathlib.Omega.{arith}
 use borrow.Author.Needs.{needs}
 use Rattle.wiring.proofs.walk.open.Statement.{statement}
