@@ -1,3 +1,4 @@
+-- `wiring::faces::sides_at` meets its contract: by the form of the record. Assumes nothing.
 use Rattle.records.specs.Forms.{saidForm}
 use mathlib.Core.Path.{sym, ap, _∙_}
 use Rattle.wiring.specs.Sides.{sidesOf}

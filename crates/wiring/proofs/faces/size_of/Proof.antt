@@ -1,3 +1,4 @@
+-- `wiring::faces::size_of` meets its contract: the table has 256 entries. Assumes nothing.
 use borrow.Author.Needs.{needs}
 use Rattle.wiring.proofs.faces.size_of.Statement.{statement}
 use Rattle.wiring.proofs.faces.size_of.Tie as tie

@@ -1,3 +1,4 @@
+-- `wiring::wires::wire` meets its contract: one entry of the drivers and one of the targets. Assumes nothing.
 use native.Mathlib.Omega.{arith}
 use lib.ListN.{length-set}
 use borrow.Author.Needs.{needs}
