@@ -4,3 +4,4 @@ pub mod Determined
 pub mod BoundaryLaws
 pub mod WriteLaws
 pub mod StageLaws
+pub mod Written

@@ -2,7 +2,7 @@
 use borrow.Author.Needs.{needs}
 use mathlib.Core.Path.{sym}
 use lib.Seq.{length-take-le}
-use Rattle.making_corpus.proofs.Written.{written-within}
+use Rattle.translator.proofs.Written.{written-within}
 use Rattle.making_corpus.proofs.line.Statement.{statement}
 use Rattle.making_corpus.proofs.line.Tie as tie
 

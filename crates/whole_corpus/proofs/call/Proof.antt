@@ -2,7 +2,7 @@
 use borrow.Author.Needs.{needs}
 use mathlib.Core.Path.{sym}
 use lib.Seq.{length-take-le}
-use Rattle.whole_corpus.proofs.Written.{written-within}
+use Rattle.translator.proofs.Written.{written-within}
 use Rattle.whole_corpus.proofs.call.Statement.{statement}
 use Rattle.whole_corpus.proofs.call.Tie as tie
 
