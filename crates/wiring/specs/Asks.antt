@@ -142,6 +142,10 @@ looped w at l k =
 unfoldable pub closedIn : List ℕ → Node → ℕ → ℕ → Built → List ℕ
 closedIn w node top l r = cond (eqb (node .kind) 0x19) (looped w (18944 + top) l (r .wires)) w
 
+-- the same, with another type, another interface and more wires
+abbrev pub shownAs : Built → ℕ → ℕ → ℕ → Built
+shownAs r ty len wires = record { past = r .past; ty = ty; len = len; next = r .next; elements = r .elements; wires = wires }
+
 unfoldable pub closed : Node → ℕ → Built → Built
 closed node l r = record {
   past = r .past;

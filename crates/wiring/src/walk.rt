@@ -14,7 +14,7 @@ ghost use lib.ListN.{length, getD};
 ghost use lib.Seq.{sets};
 ghost use Rattle.wiring.specs.Links.{Apart};
 ghost use Rattle.wiring.specs.Sides.{Named};
-ghost use Rattle.wiring.specs.Asks.{Asks, Here, Leaves, Showable, shown, boundIn, Opened, looped, closed, closedIn, Closable, halved, Between, middle, betweenIn, appliedIn, Finishable, finished, finishedIn};
+ghost use Rattle.wiring.specs.Asks.{Asks, Here, Leaves, Showable, shown, boundIn, Opened, looped, shownAs, closed, closedIn, Closable, halved, Between, middle, betweenIn, appliedIn, Finishable, finished, finishedIn};
 
 // The next free terminal, the numbers of elements and wires made, the height of the stack and the number of binders in scope.
 pub struct State {
@@ -163,36 +163,33 @@ fn close_loop(work: &mut [u16], at: usize, l: usize, wires: usize)
     wires::copy(work, at + l, at, l);
 }
 
+// The same, with another type, another interface and more wires.
+fn shown_as(r: Built, ty: u8, len: usize, wires: usize) -> Built
+    ensures { λ b. ⌜ b ≡ shownAs r ty len wires ⌝ }
+{
+    Built {
+        past: r.past,
+        ty,
+        len,
+        next: r.next,
+        elements: r.elements,
+        wires,
+    }
+}
+
 // After the body, whose interface stands above the input interface: of a function both are the result, of a fixed point the body's.
 fn close(work: &mut [u16], node: Node, top: usize, l: usize, r: Built) -> Built
     requires { ⌜ Closable (now work) node top l r ⌝ }
     ensures { λ b. ⌜ (b ≡ closed node l r) × (now (work .exit) ≡ closedIn (now (work .entry)) node top l r) ⌝ }
 {
     let ty = node.first;
-    let past = r.past;
-    let next = r.next;
-    let elements = r.elements;
-    let wires = r.wires;
     let len = r.len;
+    let wires = r.wires;
     if node.kind == 0x19 {
         close_loop(work, STACK + top, l, wires);
-        return Built {
-            past,
-            ty,
-            len: l,
-            next,
-            elements,
-            wires: wires + l,
-        };
+        return shown_as(r, ty, l, wires + l);
     }
-    Built {
-        past,
-        ty,
-        len: l + len,
-        next,
-        elements,
-        wires,
-    }
+    shown_as(r, ty, l + len, wires)
 }
 
 // The halves of a product of type t, whose interface stands at height `top`, are bound: the second is the nearer.
@@ -255,42 +252,18 @@ fn finish(s: &[u8], work: &mut [u16], node: Node, top: usize, f: Built, x: Built
     let first = node.first;
     let l = f.len;
     let of = f.ty;
-    let past = x.past;
     let ty = x.ty;
     let len = x.len;
-    let next = x.next;
-    let elements = x.elements;
     let wires = x.wires;
     if node.kind == 0x18 {
         wires::copy(work, STACK + top + l, STACK + top, len);
-        return Built {
-            past,
-            ty,
-            len,
-            next,
-            elements,
-            wires,
-        };
+        return shown_as(x, ty, len, wires);
     }
     if node.kind == 0x17 {
-        return Built {
-            past,
-            ty: first,
-            len: l + len,
-            next,
-            elements,
-            wires,
-        };
+        return shown_as(x, first, l + len, wires);
     }
     apply(work, STACK + top, l, len, wires);
-    Built {
-        past,
-        ty: faces::sides_at(s, of).right,
-        len: l - len,
-        next,
-        elements,
-        wires: wires + len,
-    }
+    shown_as(x, faces::sides_at(s, of).right, l - len, wires + len)
 }
 
 // The walk: what a term makes, its interface on the stack at the height on entry. The falling number is the bytes left.

@@ -1,4 +1,4 @@
--- `wiring::close` meets its contract. Assumes nothing.
+-- `wiring::walk::close` meets its contract: by the kind. Assumes nothing.
 use borrow.Author.Tests.{eq-eqb, ne-eqb}
 use Rattle.wiring.specs.Asks.{closed, closedIn}
 use borrow.Author.Needs.{needs}
@@ -12,8 +12,11 @@ close-loop-requires : tie.Need-close-loop-requires
 close-loop-requires c κs =
     c .before .before .before .before .pre .apart (c .before .if1 .taken)
 
-add-t16 : tie.Need-add-t16
-add-t16 c = search needs
+add-shown-as : tie.Need-add-shown-as
+add-shown-as c = search needs
+
+shown-as-requires : tie.Need-shown-as-requires
+shown-as-requires c κs = search needs
 
 same-length : tie.Need-same-length
 same-length c = search needs
@@ -21,19 +24,31 @@ same-length c = search needs
 returns : tie.Need-returns
 unfolding closed closedIn
 returns c =
-    let e = eq-eqb _ _ (c .before .before .before .before .if1 .taken) in
-    (rw e, rw e (c .before .before .close-loop .ensures))
+    let e = eq-eqb _ _ (c .before .before .before .before .before .if1 .taken) in
+    (rw e (c .shown-as .ensures), rw e (c .before .before .before .close-loop .ensures))
 
-add-t17 : tie.Need-add-t17
-add-t17 c = search needs
+add-shown-as-2 : tie.Need-add-shown-as-2
+add-shown-as-2 c = search needs
+
+shown-as-requires-2 : tie.Need-shown-as-requires-2
+shown-as-requires-2 c κs = search needs
 
 returns-2 : tie.Need-returns-2
 unfolding closed closedIn
 returns-2 c =
-    let e = ne-eqb _ _ (c .if1 .left) in
-    (rw e, rw e)
+    let e = ne-eqb _ _ (c .before .if1 .left) in
+    (rw e (c .shown-as2 .ensures), rw e)
 
 pub close-spec : {M : Type 1} → statement M
 close-spec =
     tie.close
-    (tie.spec add-close-loop close-loop-requires add-t16 same-length returns add-t17 returns-2)
+    (tie.spec
+    add-close-loop
+    close-loop-requires
+    add-shown-as
+    shown-as-requires
+    same-length
+    returns
+    add-shown-as-2
+    shown-as-requires-2
+    returns-2)

@@ -1,4 +1,4 @@
--- `wiring::finish` meets its contract. Assumes nothing.
+-- `wiring::walk::finish` meets its contract: by the kind. Assumes nothing.
 use native.Mathlib.Omega.{arith}
 use mathlib.Core.Path.{ap}
 use mathlib.Core.Logic.{inl}
@@ -23,24 +23,30 @@ copy-requires c κs =
     let p = c .before .before .before .before .before .pre in
     (omega (arith, p .height, p .memory), omega (arith, p .height, p .memory), inl (omega arith))
 
+shown-as-requires : tie.Need-shown-as-requires
+shown-as-requires c κs = search needs
+
 same-length : tie.Need-same-length
 same-length c = search needs
 
 returns : tie.Need-returns
 unfolding finished finishedIn
 returns c =
-    let e = eq-eqb _ _ (c .before .before .before .before .if1 .taken) in
-    (rw e, rw e (c .before .before .copy .ensures))
+    let e = eq-eqb _ _ (c .before .before .before .before .before .if1 .taken) in
+    (rw e (c .shown-as .ensures), rw e (c .before .before .before .copy .ensures))
 
-add-t23 : tie.Need-add-t23
-add-t23 c = search needs
+add-shown-as : tie.Need-add-shown-as
+add-shown-as c = search needs
+
+shown-as-requires-2 : tie.Need-shown-as-requires-2
+shown-as-requires-2 c κs = search needs
 
 returns-2 : tie.Need-returns-2
 unfolding finished finishedIn
 returns-2 c =
-    let e = ne-eqb _ _ (c .before .before .if1 .left) in
-    let g = eq-eqb _ _ (c .if2 .taken) in
-    (rw (e, g), rw (e, g))
+    let e = ne-eqb _ _ (c .before .before .before .if1 .left) in
+    let g = eq-eqb _ _ (c .before .if2 .taken) in
+    (rw (e, g) (c .shown-as2 .ensures), rw (e, g))
 
 add-apply : tie.Need-add-apply
 add-apply c = search needs
@@ -54,14 +60,16 @@ apply-requires c κs =
 sides-at-requires : tie.Need-sides-at-requires
 sides-at-requires c κs = search needs
 
-sub-t27 : tie.Need-sub-t27
-sub-t27 c =
+sub-shown-as : tie.Need-sub-shown-as
+sub-shown-as c =
     let p = c .before .before .before .before .before .before .before .before .before .before .before .pre in
-    let h = p .apart (c .before .before .before .before .before .before .before .if1 .left) (c .before .before .before .before .before .if2 .left) in
-    h .0
+    p .apart (c .before .before .before .before .before .before .before .if1 .left) (c .before .before .before .before .before .if2 .left) .0
 
-add-t29 : tie.Need-add-t29
-add-t29 c = search needs
+add-shown-as-2 : tie.Need-add-shown-as-2
+add-shown-as-2 c = search needs
+
+shown-as-requires-3 : tie.Need-shown-as-requires-3
+shown-as-requires-3 c κs = search needs
 
 same-length-2 : tie.Need-same-length-2
 same-length-2 c = search needs
@@ -69,9 +77,9 @@ same-length-2 c = search needs
 returns-3 : tie.Need-returns-3
 unfolding finished finishedIn
 returns-3 c =
-    let e = ne-eqb _ _ (c .before .before .before .before .before .before .before .if1 .left) in
-    let g = ne-eqb _ _ (c .before .before .before .before .before .if2 .left) in
-    (rw (e, g, ap (λ (x : Sides). x .right) (c .sides-at .ensures)), rw (e, g) (c .before .before .before .apply .ensures))
+    let e = ne-eqb _ _ (c .before .before .before .before .before .before .before .before .if1 .left) in
+    let g = ne-eqb _ _ (c .before .before .before .before .before .before .if2 .left) in
+    (rw (e, g) (rw (ap (λ (x : Sides). x .right) (c .before .sides-at .ensures)) at (c .shown-as3 .ensures)), rw (e, g) (c .before .before .before .before .apply .ensures))
 
 pub finish-spec : {M : Type 1} → statement M
 finish-spec =
@@ -81,14 +89,17 @@ finish-spec =
     add-copy-2
     add-copy-3
     copy-requires
+    shown-as-requires
     same-length
     returns
-    add-t23
+    add-shown-as
+    shown-as-requires-2
     returns-2
     add-apply
     apply-requires
     sides-at-requires
-    sub-t27
-    add-t29
+    sub-shown-as
+    add-shown-as-2
+    shown-as-requires-3
     same-length-2
     returns-3)
