@@ -21,27 +21,9 @@ use Rattle.sheet_theorems.proofs.Exact.{exact}
 use Rattle.circuit_theorems.proofs.Main.{accepts, driven, same-circuit}
 use Rattle.memory.proofs.Zeroed.{zeroed-length, zeroed-zeros, zeroed-later}
 use Rattle.translator.specs.Demands.{Wrote, Cleared, Demand1, Within, Derivable, Demand2, Demand3}
-use Rattle.translator.proofs.Numbers.{Numbered, of-bind, of-need, read-numbered, walk-numbered}
+use Rattle.translator.proofs.Places.{Judged, value, refusal, CallPlace, answer-places}
 
 -- ---- demand 1
-
-wider : (lo hi lo′ hi′ : ℕ) {A : Type 0} (a : Answer A) → lo′ ≤ lo → hi ≤ hi′ → Numbered lo hi a → Numbered lo′ hi′ a
-wider lo hi lo′ hi′ (good x) p q h = tt
-wider lo hi lo′ hi′ (refused n place) p q h = (omega (arith, h .0), omega (arith, h .1))
-
-full-numbered : (s : List ℕ) → Numbered 1 17 (full s)
-unfolding full
-full-numbered s =
-    of-bind 1 17 (readSheet s) _ (wider 2 9 1 17 (readSheet s) (omega arith) (omega arith) (read-numbered s)) (λ σ.
-    of-bind 1 17 (walk (σ .table) (σ .term) 0 []) _ (wider 10 15 1 17 (walk (σ .table) (σ .term) 0 []) (omega arith) (omega arith) (walk-numbered (σ .table) (σ .term) 0 [])) (λ r.
-    of-need 1 17 (leb (make (σ .table) (σ .term) [] 0 .next) 8192) 16 0 _ (omega arith) (omega arith) tt))
-
-answer-numbered : (memory : ℕ) (b : Bool) (s : List ℕ) (room : ℕ) → Numbered 1 17 (answer memory b s room)
-unfolding answer
-answer-numbered memory b s room =
-    of-need 1 17 (leb 32768 memory) 1 0 _ (omega arith) (omega arith)
-    (of-bind 1 17 (full s) _ (full-numbered s) (λ m.
-    of-need 1 17 (leb (length (netBytes (asked b m))) room) 17 (length (netBytes (asked b m))) _ (omega arith) (omega arith) tt))
 
 -- a success went through each test
 pub record Went (b : Bool) (s : List ℕ) (memory room : ℕ) (bytes : List ℕ) : Type 0 where
@@ -65,9 +47,9 @@ went b s memory room bytes e =
       fits = subst (λ (x : List ℕ). length x ≤ room) (good-inj e₃) (leb→le (length (netBytes (asked b m))) room h₃);
     }
 
-wrote : (b : Bool) (s out work : List ℕ) (a : Answer (List ℕ)) → answer (length work) b s (length out) ≡ a → Numbered 1 17 a → Wrote (saidOf a) out (outOf a out)
-wrote b s out work (good bytes) e h = (bytes, refl, went b s (length work) (length out) bytes e .fits, refl)
-wrote b s out work (refused number place) e h = (h .0, h .1, refl)
+wrote : (out : List ℕ) {a : Answer (List ℕ)} → Judged (CallPlace (length out)) (λ bytes. (length bytes ≤ 41344) × (length bytes ≤ length out)) a → Wrote (saidOf a) out (outOf a out)
+wrote out (value {a} h) = (a, refl, h .1, refl)
+wrote out (refusal h) = (h .from, h .to, h .few, h .more, refl)
 
 pub too-small : (b : Bool) (s : List ℕ) (memory room : ℕ) → memory < 32768 → answer memory b s room ≡ refused 1 0
 unfolding answer
@@ -87,7 +69,7 @@ work-stays work h = rw (lt-leb 32768 (length work) h)
 pub demand-1 : (b : Bool) (s out work : List ℕ) → Demand1 b s out work (call b s out work)
 unfolding call
 demand-1 b s out work = record {
-  wrote = wrote b s out work (answer (length work) b s (length out)) refl (answer-numbered (length work) b s (length out));
+  wrote = wrote out (answer-places (length work) b s (length out));
   small = λ h. let e = too-small b s (length work) (length out) h in (ap saidOf e, ap (λ (a : Answer (List ℕ)). outOf a out) e, work-stays work h);
   cleared = λ h. work-clears work h;
 }

@@ -1,4 +1,6 @@
-pub mod Numbers
+pub mod Places
 pub mod Demands
+pub mod Determined
+pub mod BoundaryLaws
 pub mod WriteLaws
 pub mod StageLaws

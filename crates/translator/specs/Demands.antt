@@ -17,10 +17,11 @@ use Rattle.calculus.specs.Translate.{asked, Call, call}
 
 -- ---- demand 1
 
--- a success wrote bytes to the front of the output and left the rest; a refusal has a number from 1 to 17 and wrote nothing
+-- a success wrote bytes to the front of the output and left the rest; a refusal has a number from 1 to 17 and a place, and wrote nothing;
+-- 17's place is the length needed, so more than the output has
 abbrev pub Wrote : Answer ℕ → List ℕ → List ℕ → Type 0
 Wrote (good n) out after = (bytes : List ℕ) × (length bytes ≡ n) × (n ≤ length out) × (after ≡ bytes ++ drop n out)
-Wrote (refused number place) out after = (1 ≤ number) × (number ≤ 17) × (after ≡ out)
+Wrote (refused number place) out after = (1 ≤ number) × (number ≤ 17) × (place ≤ 41344) × (number ≡ 17 → length out < place) × (after ≡ out)
 
 -- the first n numbers are 0, the later ones as they were
 pub record Cleared (n : ℕ) (work after : List ℕ) : Type 0 where

@@ -1,3 +1,4 @@
+pub mod Boundary
 pub mod Demands
 pub mod Said
 pub mod Stages

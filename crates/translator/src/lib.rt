@@ -1,4 +1,5 @@
 // The public call: a sheet to its full or its lean netlist, or one refusal.
+mod boundary;
 mod stages;
 mod write;
 

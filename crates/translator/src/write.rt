@@ -23,7 +23,8 @@ pub fn write_full(
     if out.len() < n {
         return Answer::Refused(17, n);
     }
-    Answer::Written(netlist::write_full(work, out, elements, wires, pins))
+    let length = netlist::write_full(work, out, elements, wires, pins);
+    Answer::Written(length)
 }
 
 // The lean netlist, likewise.
@@ -43,5 +44,6 @@ pub fn write_lean(
     if out.len() < n {
         return Answer::Refused(17, n);
     }
-    Answer::Written(lean::write_lean(&work[..], out, elements, wires, pins))
+    let written = lean::write_lean(&work[..], out, elements, wires, pins);
+    Answer::Written(written)
 }

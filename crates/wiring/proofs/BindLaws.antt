@@ -1,15 +1,15 @@
 -- Binders on a stack that grows: the old ones stand, and a new one is the nearest. Assumes nothing.
 use Prim.Native.Nat.{ℕ, zero, suc, _+_, _*_, _-_, _≤_, _<_}
-use mathlib.Core.Path.{_≡_, refl, sym, ap, ap₂, _∙_, subst}
+use mathlib.Core.Path.{_≡_, sym, ap, _∙_}
 use mathlib.Core.Logic.{_⊎_, inl, inr, ⊎-elim}
-use mathlib.Core.List.{List, [], _∷_, _++_, map}
+use mathlib.Core.List.{List, [], _∷_, _++_}
 use native.Mathlib.Omega.{arith}
 use lib.ListN.{length, getD, take, drop, length-append, length-drop, List·getD-append}
 use lib.Seq.{take-append-le, drop-append-le, getD-append-add}
-use Rattle.calculus.specs.Types.{Ty, Table, tree, size}
-use Rattle.calculus.specs.Net.{Interface, Bound, unbound}
+use Rattle.calculus.specs.Types.{Table, tree, size}
+use Rattle.calculus.specs.Net.{Bound, unbound}
 use Rattle.memory.specs.Map.{region}
-use Rattle.wiring.specs.Walk.{OfPoints, OfStack, BoundAt, slot, Binds}
+use Rattle.wiring.specs.Asks.{OfStack, BoundAt, slot, Binds}
 
 region-append : (xs ys : List ℕ) (h n : ℕ) → h + n ≤ length xs → region (xs ++ ys) h n ≡ region xs h n
 region-append xs ys h n l =

@@ -1,10 +1,10 @@
 -- Counting node by node: a term's bytes are its first record's and then its subterms', and so are its terminals. Assumes nothing.
-use Prim.Native.Nat.{ℕ, zero, suc, _+_, _*_, _-_, _≤_, _<_}
-use mathlib.Core.Path.{_≡_, refl, sym, ap, ap₂, _∙_, subst}
+use Prim.Native.Nat.{ℕ, suc, _+_, _*_, _-_, _≤_, _<_}
+use mathlib.Core.Path.{_≡_, refl, sym, ap, _∙_, subst}
 use mathlib.Core.List.{List, [], _∷_, _++_, append-assoc, append-nil}
 use native.Mathlib.Omega.{arith}
-use lib.ListN.{length, getD, drop, length-append}
-use Rattle.calculus.specs.Types.{Ty, bit, size, TyRec, rec01, rec02, rec03, rec04, Table, recAt, tree}
+use lib.ListN.{length, getD, drop}
+use Rattle.calculus.specs.Types.{Ty, size, TyRec, rec01, rec02, rec03, rec04, Table, recAt, tree}
 use Rattle.calculus.specs.Terms.{Term, var, lvar, fun, app, lfun, lapp, pair, proj, fix, con, nodes, partAt}
 use Rattle.calculus.specs.Write.{termBytes}
 use Rattle.calculus.specs.Laid.{Agrees, Below, TableOk, Stands, Ranged}
@@ -22,8 +22,7 @@ use Rattle.sheet_theorems.proofs.TypeOffsets.{tree-zero}
 use Rattle.circuit_theorems.specs.Terminals.{terminals}
 use Rattle.circuit_theorems.proofs.Bounds.{next-is, terminals-few}
 use Rattle.circuit_theorems.proofs.Lists.{all-append}
-use Rattle.wiring.specs.Faces.{sidesOf, Knows}
-use Rattle.wiring.specs.Walk.{boundIn}
+use Rattle.wiring.specs.Sides.{sidesOf, Knows}
 use Rattle.wiring.specs.Count.{ownIn, Counting, rowBytes, rowNodes, rowTerminals, Row}
 
 -- ---- one node

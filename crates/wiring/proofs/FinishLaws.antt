@@ -1,17 +1,17 @@
 -- After both subterms: the rest of an application's function, both parts of a pair, a projection's body. Assumes nothing.
-use Prim.Native.Nat.{ℕ, _+_, _*_, _-_, _≤_, _<_}
+use Prim.Native.Nat.{ℕ, _+_, _-_, _≤_, _<_}
 use mathlib.Core.Path.{_≡_, refl, sym, ap, ap₂, _∙_, subst}
-use mathlib.Core.Logic.{_⊎_, inl, inr, ⊎-elim}
+use mathlib.Core.Logic.{_⊎_, ⊎-elim}
 use mathlib.Core.Bool.{Bool, true, false, not, cond}
-use mathlib.Core.List.{List, [], _∷_, _++_, map, map-append, append-assoc, append-nil}
+use mathlib.Core.List.{List, [], _++_, map, map-append, append-assoc, append-nil}
 use native.Mathlib.Omega.{arith}
 use borrow.Author.Tests.{eq-eqb, ne-eqb}
 use lib.Dec.{eqb}
-use lib.ListN.{length, getD, take, drop, length-append, length-map, length-drop, take-append-drop}
+use lib.ListN.{length, take, drop, length-append, length-map, length-drop, take-append-drop}
 use lib.Seq.{sets, length-take-le}
-use Rattle.calculus.specs.Types.{Ty, bit, size, Table, tree}
+use Rattle.calculus.specs.Types.{Ty, size, tree}
 use Rattle.calculus.specs.Write.{termBytes}
-use Rattle.calculus.specs.Net.{turns, Interface, Wire, Made, make, leftOf, rightOf, join, madeApp, madePair, madeProj}
+use Rattle.calculus.specs.Net.{turns, Interface, Wire, Made, leftOf, rightOf, join}
 use Rattle.records.specs.Heads.{nodeOf}
 use Rattle.records.specs.Forms.{recIn}
 use Rattle.records.specs.declared.Node.{Node}
@@ -20,15 +20,15 @@ use Rattle.circuit_theorems.specs.Drive.{driveAll}
 use Rattle.circuit_theorems.proofs.Bounds.{join-length}
 use Rattle.circuit_theorems.proofs.Drive.{drive-append}
 use Rattle.circuit_theorems.proofs.Drivers.{dir, dirs, dirs-left, opposite, turns-size}
-use Rattle.wiring.specs.declared.State.{State}
-use Rattle.wiring.specs.declared.Built.{Built}
-use Rattle.wiring.specs.Faces.{sidesOf, Knows}
-use Rattle.wiring.specs.Wires.{links, Apart}
+use Rattle.wiring.specs.declared.walk.State.{State}
+use Rattle.wiring.specs.declared.walk.Built.{Built}
+use Rattle.wiring.specs.Sides.{sidesOf}
+use Rattle.wiring.specs.Links.{links, Apart}
 use Rattle.wiring.specs.Store.{Store, Holds, atStack, atBinders, target, moreWires, after}
-use Rattle.wiring.specs.Walk.{Asks, madeOf, Leaves, Here, betweenIn, middle, appliedIn, finishedIn, finished, Finishable}
+use Rattle.wiring.specs.Asks.{Asks, madeOf, Leaves, Here, betweenIn, middle, appliedIn, finishedIn, finished, Finishable}
 use Rattle.wiring.specs.Nodes.{Applied, Paired, Projected, Twofold}
 use Rattle.wiring.proofs.StoreLaws.{cut-binders}
-use Rattle.wiring.proofs.NodeLaws.{Sided, sided-at}
+use Rattle.wiring.proofs.NodeLaws.{sided-at}
 use Rattle.wiring.proofs.JoinLaws.{Part, wired-apart, wired-holds, moved-holds}
 use Rattle.wiring.proofs.TwoLaws as two
 

@@ -1,11 +1,10 @@
 -- A read sheet: its table, its term, and the root's place; a netlist that the memory holds is read back as itself. Assumes nothing.
-use Prim.Native.Nat.{ℕ, zero, suc, _+_, _*_, _/_, _%_, _≤_, _<_}
+use Prim.Native.Nat.{ℕ, zero, suc, _+_, _≤_, _<_}
 use mathlib.Core.Path.{_≡_, refl, sym, ap, ap₂, _∙_, subst}
-use mathlib.Core.Bool.{Bool, true, false, cond}
+use mathlib.Core.Bool.{Bool, cond}
 use mathlib.Core.List.{List, [], _∷_, _++_, map, append-nil, List·Memᴰ, List·Memᴰ·head, List·Memᴰ·tail}
 use native.Mathlib.Omega.{arith}
-use borrow.Author.Tests.{eq-eqb, ne-eqb}
-use lib.Dec.{eqb, lit≤}
+use borrow.Author.Tests.{ne-eqb}
 use lib.ListN.{length, getD, drop, replicate, length-map, length-replicate}
 use lib.Seq.{sets, length-sets}
 use Rattle.laws.proofs.Regions.{sets-drop}
@@ -15,21 +14,19 @@ use Rattle.calculus.specs.Types.{size, tree}
 use Rattle.calculus.specs.Terms.{nodes, partAt}
 use Rattle.calculus.specs.Read.{Sheet, readSheet}
 use Rattle.calculus.specs.Write.{tableBytes}
-use Rattle.calculus.specs.Laid.{Laid, depth}
 use Rattle.calculus.specs.Laid as laid-as
-use Rattle.calculus.specs.Net.{Terminal, inp, out, Interface, Element, point, part, Wire, Net, Made, make, netOf}
+use Rattle.calculus.specs.Net.{Terminal, Interface, Element, point, part, Wire, Net, Made, make, netOf}
 use Rattle.calculus.specs.Lean.{driver}
 use Rattle.calculus.specs.Record.{All}
 use Rattle.calculus.specs.Formed.{Tiled, targets, Formed}
 use Rattle.calculus.specs.Translate.{full}
-use Rattle.memory.specs.Map.{region, kindOf, elementsFrom, wiresFrom, code, terminalOf, netIn, Ready}
+use Rattle.memory.specs.Map.{region, kindOf, elementsFrom, wiresFrom, code, terminalOf, netIn}
 use Rattle.netlist.specs.Elements.{Known}
 use Rattle.netlist.proofs.KnownParts.{made-known}
 use Rattle.sheet_theorems.proofs.Laying.{laid}
 use Rattle.sheet_theorems.proofs.Standing.{sheet-stands}
 use Rattle.sheet.specs.Tables.{sizesOf}
 use Rattle.sheet.proofs.TableLaws.{size-at, sizes-length}
-use Rattle.sheet.proofs.Told.{Told}
 use Rattle.typing.proofs.Ranges.{sheet-types}
 use Rattle.circuit_theorems.specs.Drive.{driveAll}
 use Rattle.circuit_theorems.proofs.Drivers.{env-end}
@@ -39,14 +36,15 @@ use Rattle.circuit_theorems.proofs.Forming.{Whole}
 use Rattle.circuit_theorems.proofs.Main.{Accepts, accepts, formed}
 use Rattle.circuit_theorems.proofs.Drive.{mem-driver, table-list}
 use Rattle.circuit_theorems.proofs.Bounds.{few-elements, few-wires, few-pins, names}
-use Rattle.wiring.specs.declared.State.{State}
-use Rattle.wiring.specs.declared.Built.{Built}
+use Rattle.wiring.specs.declared.walk.State.{State}
+use Rattle.wiring.specs.declared.walk.Built.{Built}
 use Rattle.wiring.specs.declared.Counts.{Counts}
-use Rattle.wiring.specs.Faces.{Knows}
+use Rattle.wiring.specs.Sides.{Knows}
 use Rattle.wiring.specs.Store.{Store, Lies, Holds, target, after}
-use Rattle.wiring.specs.Walk.{Binds, Asks, Leaves}
+use Rattle.wiring.specs.Asks.{Asks, Leaves}
 use Rattle.wiring.specs.Count.{Counting}
 use Rattle.wiring.specs.Whole.{Read, Accepted, Stands}
+use Rattle.wiring.proofs.LinkLaws.{terminal-back}
 use Rattle.wiring.proofs.StoreLaws.{sets-at, lies-region}
 
 -- ---- a read sheet
@@ -95,14 +93,6 @@ elements-back (part p i ∷ es) n e t k =
     let f = ne-eqb p 7 (λ z. omega (arith, k .0)) in
     ap (λ (b : Bool). cond b (point n ∷ elementsFrom (map kindOf es) (n + 2)) (part p n ∷ elementsFrom (map kindOf es) (n + partAt p .inputs + 1))) f
     ∙ ap₂ (λ (x : Element) (l : List Element). x ∷ l) (ap (part p) (sym (t .0))) (elements-back es (n + partAt p .inputs + 1) e (t .1) (k .1))
-
-terminal-back : (t : Terminal) → terminalOf (code t) ≡ t
-terminal-back (inp i) =
-    let h : (2 * i) / 2 ≡ i = omega arith in
-    ap (λ (b : Bool). cond b (inp ((2 * i) / 2)) (out ((2 * i) / 2))) (eq-eqb ((2 * i) % 2) 0 (omega arith)) ∙ ap inp h
-terminal-back (out o) =
-    let h : (2 * o + 1) / 2 ≡ o = omega arith in
-    ap (λ (b : Bool). cond b (inp ((2 * o + 1) / 2)) (out ((2 * o + 1) / 2))) (ne-eqb ((2 * o + 1) % 2) 0 (λ z. omega arith)) ∙ ap out h
 
 pins-back : (side : Interface) → map terminalOf (map code side) ≡ side
 pins-back [] = refl

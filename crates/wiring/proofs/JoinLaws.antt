@@ -1,8 +1,8 @@
 -- Interfaces on the stack: two of them wired, and one moved down. Assumes nothing.
 use Prim.Native.Nat.{ℕ, _+_, _≤_, _<_}
-use mathlib.Core.Path.{_≡_, refl, sym, ap, ap₂, _∙_, subst}
+use mathlib.Core.Path.{_≡_, sym, ap, _∙_, subst}
 use mathlib.Core.Bool.{not}
-use mathlib.Core.List.{List, [], _∷_, _++_, map}
+use mathlib.Core.List.{List, [], _++_, map}
 use native.Mathlib.Omega.{arith}
 use lib.ListN.{length, getD, length-append, length-map}
 use lib.Seq.{sets}
@@ -11,9 +11,9 @@ use Rattle.calculus.specs.Record.{All}
 use Rattle.memory.specs.Map.{region, code}
 use Rattle.circuit_theorems.proofs.Drivers.{dirs}
 use Rattle.circuit_theorems.proofs.Lists.{all-left, all-right}
-use Rattle.wiring.specs.Wires.{links, Apart}
+use Rattle.wiring.specs.Links.{links, Apart}
 use Rattle.wiring.specs.Store.{Store, Lies, Low, Holds, atStack, moreWires}
-use Rattle.wiring.proofs.RunLaws.{region-length, region-at}
+use Rattle.wiring.proofs.RunLaws.{region-at}
 use Rattle.wiring.proofs.StoreLaws.{lies-region, cut-stack, push-stack, links-hold}
 use Rattle.wiring.proofs.LeafLaws.{low-at}
 

@@ -1,33 +1,29 @@
 -- A variable and a constant: what the memory holds once their interfaces are on the stack. Assumes nothing.
 use Prim.Native.Nat.{ℕ, zero, suc, _+_, _*_, _-_, _/_, _%_, _≤_, _<_}
-use mathlib.Core.Path.{_≡_, refl, sym, ap, ap₂, _∙_, subst}
-use mathlib.Core.Logic.{_⊎_, inl, inr, ⊎-elim}
-use mathlib.Core.Bool.{Bool, true, false, not, cond}
-use mathlib.Core.List.{List, [], _∷_, _++_, map, append-nil}
+use mathlib.Core.Path.{_≡_, refl, sym, ap, _∙_, subst}
+use mathlib.Core.Logic.{_⊎_, ⊎-elim}
+use mathlib.Core.Bool.{Bool, true, false, cond}
+use mathlib.Core.List.{List, [], _∷_, map, append-nil}
 use native.Mathlib.Omega.{arith}
 use borrow.Author.Tests.{eq-eqb, ne-eqb}
 use lib.Dec.{eqb}
-use lib.ListN.{length, getD, set, take, drop, length-map}
+use lib.ListN.{length, getD, set, length-map}
 use lib.Seq.{sets, ext-getD}
-use Rattle.calculus.specs.Types.{Ty, size, Table, tree}
-use Rattle.calculus.specs.Terms.{Term, partAt}
-use Rattle.calculus.specs.Write.{termBytes}
-use Rattle.calculus.specs.Laid.{depth}
-use Rattle.calculus.specs.Net.{Terminal, inp, out, turns, outSide, inSide, partSide, Interface, Bound, unbound, Made, madeVar, madeCon, make, part}
+use Rattle.calculus.specs.Types.{size, tree}
+use Rattle.calculus.specs.Terms.{partAt}
+use Rattle.calculus.specs.Net.{turns, outSide, inSide, partSide, Bound, unbound, Made, madeVar, madeCon}
 use Rattle.calculus.specs.Record.{All}
-use Rattle.records.specs.Heads.{nodeOf}
 use Rattle.records.specs.declared.Node.{Node}
 use Rattle.memory.specs.Map.{region, code}
 use Rattle.circuit_theorems.proofs.Bounds.{made-type, made-side}
 use Rattle.circuit_theorems.proofs.Counts.{part-inputs}
 use Rattle.circuit_theorems.proofs.Drivers.{turns-size}
-use Rattle.wiring.specs.declared.State.{State}
-use Rattle.wiring.specs.declared.Built.{Built}
-use Rattle.wiring.specs.Faces.{Knows, Named, face}
-use Rattle.wiring.specs.Store.{Store, Lies, Low, Holds, moreKinds, atStack, after}
-use Rattle.wiring.specs.Walk.{OfPoints, OfStack, BoundAt, shown, Showable, slot, Binds, Asks, madeOf, Leaves, Here}
+use Rattle.wiring.specs.declared.walk.State.{State}
+use Rattle.wiring.specs.Sides.{Named, face}
+use Rattle.wiring.specs.Store.{Low}
+use Rattle.wiring.specs.Asks.{OfPoints, OfStack, BoundAt, shown, Showable, slot, Asks, madeOf, Leaves, Here}
 use Rattle.wiring.specs.Nodes.{Variable, Constant}
-use Rattle.wiring.proofs.RunLaws.{face-length, region-length, region-at, part-length}
+use Rattle.wiring.proofs.RunLaws.{region-length, region-at, part-length}
 use Rattle.wiring.proofs.StoreLaws.{push-kinds, push-stack}
 use Rattle.wiring.proofs.NodeLaws.{variable, constant}
 

@@ -1,14 +1,16 @@
-mod TurnLaws
-mod RunLaws
-mod LinkLaws
-mod StoreLaws
-mod NodeLaws
-mod LeafLaws
-mod BindLaws
-mod JoinLaws
-mod OneLaws
-mod TwoLaws
-mod FinishLaws
-mod StepLaws
-mod CountLaws
-mod FullLaws
+pub mod TurnLaws
+pub mod RunLaws
+pub mod LinkLaws
+pub mod StoreLaws
+pub mod NodeLaws
+pub mod LeafLaws
+pub mod BindLaws
+pub mod JoinLaws
+pub mod OneLaws
+pub mod TwoLaws
+pub mod FinishLaws
+pub mod StepLaws
+pub mod CountLaws
+pub mod FullLaws
+pub mod Accepting
+pub mod Determined

@@ -1,26 +1,24 @@
 -- A typed term with one subterm or two, by its derivation. Assumes nothing.
-use Prim.Native.Nat.{ℕ, zero, suc, _+_, _*_, _≤_, _<_}
-use mathlib.Core.Path.{_≡_, refl, sym, ap, ap₂, _∙_, subst}
-use mathlib.Core.Logic.{_⊎_, inl, inr}
-use mathlib.Core.Bool.{Bool, true, false, not, cond}
-use mathlib.Core.List.{List, [], _∷_, _++_, map}
+use Prim.Native.Nat.{ℕ, zero, suc, _+_, _*_, _<_}
+use mathlib.Core.Path.{_≡_, refl, sym, ap, _∙_}
+use mathlib.Core.Logic.{inl, inr}
+use mathlib.Core.Bool.{Bool, true, false}
+use mathlib.Core.List.{List, [], _∷_}
 use native.Mathlib.Omega.{arith}
-use lib.Dec.{T, eqb}
-use lib.ListN.{length, getD, take, drop, length-append}
-use lib.Seq.{take-at, drop-at}
-use Rattle.calculus.specs.Types.{Ty, bit, prod, arrow, lolli, size, sharable, TyRec, rec01, rec02, rec03, rec04, Table, recAt, tree}
-use Rattle.calculus.specs.Terms.{Term, var, lvar, fun, app, lfun, lapp, pair, proj, fix, con}
+use lib.ListN.{length, drop, length-append}
+use lib.Seq.{drop-at}
+use Rattle.calculus.specs.Types.{Ty, bit, prod, arrow, lolli, size, TyRec, rec01, rec02, rec03, rec04, Table, recAt, tree}
+use Rattle.calculus.specs.Terms.{Term, pair, proj}
 use Rattle.calculus.specs.Write.{termBytes}
-use Rattle.calculus.specs.Laid.{Agrees, Below, TableOk, Stands, Ranged, depth}
-use Rattle.calculus.specs.Rules.{Ctx, many, once, away, Split, split-end, split-many, split-first, split-second, split-away, InΓ, in-here, in-many, in-away, IsΔ, is-here, is-many, is-away, Typed, Var, LVar, →I, →E, ⊸I, ⊸E, ×I, ×E, Fix, Con}
-use Rattle.calculus.specs.Net.{Interface, turns, outSide, inSide, points, Bound, Made, leftOf, rightOf, binder, madePair, firstHalf, secondHalf, make}
+use Rattle.calculus.specs.Laid.{Agrees, Below, Stands, Ranged}
+use Rattle.calculus.specs.Rules.{Ctx, many, once, Split, split-end, split-many, split-first, split-second, split-away, InΓ, in-here, in-many, in-away, IsΔ, is-here, is-many, is-away, Typed, Var, LVar, →I, →E, ⊸I, ⊸E, ×I, ×E, Fix, Con}
+use Rattle.calculus.specs.Net.{Interface, turns, outSide, Bound, Made, leftOf, rightOf, binder, madePair, firstHalf, secondHalf, make}
 use Rattle.records.specs.Heads.{nodeOf}
 use Rattle.records.specs.Forms.{recIn}
 use Rattle.sheet_theorems.proofs.Standing.{fun-body, lfun-body, fix-body, app-function, app-argument, lapp-function, lapp-argument, pair-first, pair-second, proj-pair, proj-body}
-use Rattle.circuit_theorems.proofs.Drivers.{dir, dirs, Fits, Env, env-end, env-many, env-once, env-away, turns-size, dirs-left, term-driven}
-use Rattle.wiring.specs.Faces.{sidesOf, Knows}
-use Rattle.wiring.specs.Walk.{boundIn}
-use Rattle.wiring.specs.Nodes.{funOf, Binding, Applied, Paired, Projected, Twofold, Variable, Constant}
+use Rattle.circuit_theorems.proofs.Drivers.{dirs, Fits, Env, env-end, env-many, env-once, env-away, turns-size, dirs-left, term-driven}
+use Rattle.wiring.specs.Sides.{sidesOf, Knows}
+use Rattle.wiring.specs.Nodes.{funOf, Binding, Twofold, Variable, Constant}
 
 -- ---- the sides of a type, by its record
 

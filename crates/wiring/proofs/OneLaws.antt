@@ -1,8 +1,8 @@
 -- A function and a fixed point: before the body and after it. Assumes nothing.
-use Prim.Native.Nat.{ℕ, zero, suc, _+_, _*_, _-_, _≤_, _<_}
+use Prim.Native.Nat.{ℕ, suc, _+_, _*_, _-_, _≤_, _<_}
 use mathlib.Core.Path.{_≡_, refl, sym, ap, ap₂, _∙_, subst}
 use mathlib.Core.Logic.{_⊎_, inl, inr, ⊎-elim}
-use mathlib.Core.Bool.{Bool, true, false, not, cond}
+use mathlib.Core.Bool.{Bool, false, not, cond}
 use mathlib.Core.List.{List, [], _∷_, _++_, map, map-append, append-assoc, append-nil}
 use native.Mathlib.Omega.{arith}
 use borrow.Author.Tests.{eq-eqb, ne-eqb}
@@ -12,27 +12,23 @@ use lib.Seq.{sets}
 use Rattle.calculus.specs.Types.{Ty, size, Table, tree}
 use Rattle.calculus.specs.Write.{termBytes}
 use Rattle.calculus.specs.Laid.{Stands, depth}
-use Rattle.calculus.specs.Net.{turns, points, inSide, Bound, binder, Made, make, madeFix, join, Wire, Interface, Element}
-use Rattle.calculus.specs.Record.{All}
+use Rattle.calculus.specs.Net.{turns, points, inSide, binder, Made, make, madeFix, join, Interface, Element}
 use Rattle.records.specs.Heads.{nodeOf}
 use Rattle.records.specs.declared.Node.{Node}
-use Rattle.memory.specs.Map.{region, code, kindOf}
+use Rattle.memory.specs.Map.{code, kindOf}
 use Rattle.circuit_theorems.specs.Drive.{driveAll}
-use Rattle.circuit_theorems.specs.Terminals.{terminals}
 use Rattle.circuit_theorems.proofs.Bounds.{next-is, made-side, made-type, join-length}
 use Rattle.circuit_theorems.proofs.Drive.{drive-append}
 use Rattle.circuit_theorems.proofs.Drivers.{turns-size, dirs, dirs-in, term-driven, Env}
-use Rattle.circuit_theorems.proofs.Lists.{all-left, all-right}
-use Rattle.wiring.specs.declared.State.{State}
-use Rattle.wiring.specs.declared.Built.{Built}
-use Rattle.wiring.specs.Faces.{Knows, Named, face}
-use Rattle.wiring.specs.Wires.{links, Apart}
-use Rattle.wiring.specs.Store.{Store, Low, Holds, moreKinds, atStack, atBinders, target, moreWires, after}
-use Rattle.wiring.specs.Walk.{OfPoints, BoundAt, Binds, Asks, madeOf, Leaves, Here, boundIn, opened, inner, Opened, looped, closedIn, closed, Closable}
+use Rattle.wiring.specs.declared.walk.State.{State}
+use Rattle.wiring.specs.declared.walk.Built.{Built}
+use Rattle.wiring.specs.Sides.{Named, face}
+use Rattle.wiring.specs.Store.{Store, Holds, atStack, target, moreWires, after}
+use Rattle.wiring.specs.Asks.{BoundAt, Binds, Asks, madeOf, Leaves, Here, boundIn, opened, inner, Opened, looped, closedIn, closed, Closable}
 use Rattle.wiring.specs.Nodes.{funOf, Binding}
 use Rattle.wiring.proofs.RunLaws.{face-length}
-use Rattle.wiring.proofs.StoreLaws.{push-kinds, push-stack, push-binders, cut-stack, cut-binders, lies-region, links-hold}
-use Rattle.wiring.proofs.LeafLaws.{face-in, face-low, low-at}
+use Rattle.wiring.proofs.StoreLaws.{push-kinds, push-stack, push-binders, cut-binders}
+use Rattle.wiring.proofs.LeafLaws.{face-in, face-low}
 use Rattle.wiring.proofs.NodeLaws.{binding}
 use Rattle.wiring.proofs.JoinLaws.{Part, wired-apart, wired-holds, moved-holds}
 use Rattle.wiring.proofs.BindLaws.{binds-grow, binds-push}

@@ -1,18 +1,18 @@
 -- A run of stores, one at each turn of a loop: what is still to be stored, stored over what stands, is the whole. Assumes nothing.
 use Prim.Native.Nat.{ℕ, zero, suc, _+_, _*_, _-_, _≤_, _<_}
-use mathlib.Core.Path.{_≡_, refl, sym, ap, _∙_}
-use mathlib.Core.Bool.{Bool, true, false, Bool·beq}
+use mathlib.Core.Path.{_≡_, refl, ap, _∙_}
+use mathlib.Core.Bool.{Bool, false, Bool·beq}
 use mathlib.Core.Logic.{_⊎_, inl, inr, ⊎-elim}
 use mathlib.Core.List.{List, [], _∷_, map}
 use native.Mathlib.Omega.{arith}
 use native.Mathlib.Nat.{add-zero}
 use native.Mathlib.Numerals.{add-one}
-use lib.ListN.{length, getD, set, take, drop, length-drop}
+use lib.ListN.{length, getD, set, drop, length-drop}
 use lib.Seq.{sets, drop-cons, getD-drop, getD-take, getD-set-other, length-take-le}
 use Rattle.laws.proofs.Regions.{drop-past}
-use Rattle.calculus.specs.Net.{Terminal, inp, out, partSide}
+use Rattle.calculus.specs.Net.{partSide}
 use Rattle.memory.specs.Map.{region, code}
-use Rattle.wiring.specs.Faces.{endOf, face}
+use Rattle.wiring.specs.Sides.{endOf, face}
 
 pub run-start : (vs w : List ℕ) (to : ℕ) → sets w (to + 0) (drop 0 vs) ≡ sets w to vs
 run-start vs w to = rw add-zero

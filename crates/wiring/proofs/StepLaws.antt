@@ -1,5 +1,5 @@
 -- The first record of a term's place, and its subterms' number. Assumes nothing.
-use Prim.Native.Nat.{ℕ, _+_, _<_, _≤_}
+use Prim.Native.Nat.{ℕ}
 use mathlib.Core.Path.{_≡_, refl, sym, ap, _∙_}
 use mathlib.Core.List.{List, [], _∷_}
 use mathlib.Core.Logic.{⊎-elim}
@@ -7,19 +7,15 @@ use types.Run.{OneOf}
 use denote.Enum.Declared.{tagOf}
 use Rattle.records.proofs.Record.{the-type}
 use native.Mathlib.Omega.{arith}
-use lib.ListN.{length}
 use Rattle.calculus.specs.Terms.{Term, var, lvar, fun, app, lfun, lapp, pair, proj, fix, con}
-use Rattle.calculus.specs.Write.{termBytes}
-use Rattle.calculus.specs.Laid.{Stands}
 use Rattle.records.specs.Record.{recordAt}
 use Rattle.records.specs.Heads.{nodeOf}
 use Rattle.records.specs.declared.Node.{Node}
 use Rattle.records.specs.declared.Record.{Record}
 use Rattle.records.specs.declared.Record.the-variants as rec
-use Rattle.records.proofs.Laws.{stands-record, node-next}
-use Rattle.sheet_theorems.proofs.Standing.{stands-end, term-nonempty}
-use Rattle.wiring.specs.declared.State.{State}
-use Rattle.wiring.specs.Walk.{Asks, Here}
+use Rattle.records.proofs.Laws.{stands-record}
+use Rattle.wiring.specs.declared.walk.State.{State}
+use Rattle.wiring.specs.Asks.{Asks, Here}
 
 subterms-of : (e : Term) (at : ℕ) → (nodeOf e at .subterms ≡ 0 → ⊥) → (nodeOf e at .subterms ≡ 1 → ⊥) → nodeOf e at .subterms ≡ 2
 subterms-of (var i) at f g = absurd (f refl)

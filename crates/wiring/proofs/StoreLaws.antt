@@ -1,26 +1,23 @@
 -- Laws of what the working memory holds: a run of stores behind a list makes it longer and leaves the others; what is behind a list may be
 -- forgotten; wires make drivers and targets. Assumes nothing.
-use Prim.Native.Nat.{ℕ, zero, suc, _+_, _*_, _-_, _/_, _%_, _≤_, _<_}
-use mathlib.Core.Path.{_≡_, refl, sym, ap, ap₂, _∙_, subst}
-use mathlib.Core.Bool.{Bool, true, false, not, cond, true≢false, false≢true}
-use mathlib.Core.Logic.{_⊎_, inl, inr, ⊎-elim}
-use mathlib.Core.List.{List, [], _∷_, _++_, map, append-assoc, append-nil, cons≢nil, nil≢cons, head-eq-of-cons-eq, tail-eq-of-cons-eq}
+use Prim.Native.Nat.{ℕ, zero, suc, _+_, _*_, _-_, _≤_, _<_}
+use mathlib.Core.Path.{_≡_, sym, ap, _∙_, subst}
+use mathlib.Core.Bool.{not, true≢false, false≢true}
+use mathlib.Core.List.{List, [], _∷_, _++_, map, append-assoc, append-nil, nil≢cons, head-eq-of-cons-eq, tail-eq-of-cons-eq}
 use native.Mathlib.Omega.{arith}
 use native.Mathlib.Decide.{decLe, ℕ-discrete}
-use native.Mathlib.Numerals.{add-one}
-use borrow.Author.Tests.{eq-eqb, ne-eqb}
-use lib.Dec.{eqb}
-use lib.ListN.{length, getD, set, take, drop, length-append, length-set, List·getD-append}
-use lib.Seq.{sets, length-sets, getD-set-same, getD-set-other, getD-append-add, drop-set-lt, ext-getD, getD-take, getD-drop}
+use lib.ListN.{length, getD, set, length-append, length-set, List·getD-append}
+use lib.Seq.{sets, length-sets, getD-set-same, getD-set-other, getD-append-add, drop-set-lt, ext-getD}
 use Rattle.laws.proofs.Regions.{sets-before, sets-outside, sets-drop}
-use Rattle.calculus.specs.Net.{Terminal, inp, out, Interface, Wire, join}
+use Rattle.calculus.specs.Net.{inp, out, Interface, Wire, join}
 use Rattle.calculus.specs.Record.{All}
 use Rattle.memory.specs.Map.{region, code}
 use Rattle.circuit_theorems.specs.Drive.{driveAll}
 use Rattle.circuit_theorems.proofs.Lists.{all-append, all-left}
-use Rattle.circuit_theorems.proofs.Drivers.{dir, dirs}
-use Rattle.wiring.specs.Wires.{wired, linked, links}
+use Rattle.circuit_theorems.proofs.Drivers.{dirs}
+use Rattle.wiring.specs.Links.{wired, linked, links}
 use Rattle.wiring.specs.Store.{Store, Lies, Low, Holds, moreKinds, atStack, atBinders, target, moreWires}
+use Rattle.wiring.proofs.LinkLaws.{linked-codes}
 use Rattle.wiring.proofs.RunLaws.{region-length, region-at}
 
 -- ---- one list
@@ -179,22 +176,6 @@ module _ {w : List ℕ} {m : Store} (H : Holds w m) where
 
 -- ---- the wires between two interfaces
 
-linked-out : (w : List ℕ) (k o i : ℕ) → linked w k (2 * o + 1) (2 * i) ≡ wired w k o i
-unfolding linked
-linked-out w k o i =
-    let e : (2 * o + 1) % 2 ≡ 1 = omega arith in
-    let eo : (2 * o + 1) / 2 ≡ o = omega arith in
-    let ei : (2 * i) / 2 ≡ i = omega arith in
-    rw (eq-eqb ((2 * o + 1) % 2) 1 e, eo, ei)
-
-linked-in : (w : List ℕ) (k o i : ℕ) → linked w k (2 * i) (2 * o + 1) ≡ wired w k o i
-unfolding linked
-linked-in w k o i =
-    let e : (2 * i) % 2 ≡ 1 → ⊥ = λ z. omega arith in
-    let eo : (2 * o + 1) / 2 ≡ o = omega arith in
-    let ei : (2 * i) / 2 ≡ i = omega arith in
-    rw (ne-eqb ((2 * i) % 2) 1 e, eo, ei)
-
 -- one wire, then the others
 then-wires : {w : List ℕ} (m : Store) (v : Wire) (ws : List Wire) → Holds w (moreWires (moreWires m (v ∷ [])) ws) → Holds w (moreWires m (v ∷ ws))
 then-wires {w} m v ws H = subst (λ (x : List ℕ). Holds w (record { drivers = driveAll ws (set (m .drivers) (v .to) (v .from)); targets = x; kinds = m .kinds; stack = m .stack; binders = m .binders; rest = m .rest })) (append-assoc (m .targets) (v .to ∷ []) (map target ws)) H
@@ -207,11 +188,11 @@ links-hold (out o ∷ a) (inp i ∷ f) w m k H d la lf e h =
     let v : Wire = record { from = o; to = i } in
     let P = push-wire H k o i e (omega arith) (omega (arith, lf .0)) in
     then-wires m v (join a f)
-    (links-hold a f (linked w k (2 * o + 1) (2 * i)) (moreWires m (v ∷ [])) (suc k) (rw (linked-out w k o i) P) (tail-eq-of-cons-eq d) (la .1) (lf .1) (omega (arith, length-append (m .targets) (i ∷ []))) (omega arith))
+    (links-hold a f (linked w k (2 * o + 1) (2 * i)) (moreWires m (v ∷ [])) (suc k) (rw (linked-codes w k (out o) (inp i)) P) (tail-eq-of-cons-eq d) (la .1) (lf .1) (omega (arith, length-append (m .targets) (i ∷ []))) (omega arith))
 links-hold (inp i ∷ a) (out o ∷ f) w m k H d la lf e h =
     let v : Wire = record { from = o; to = i } in
     let P = push-wire H k o i e (omega arith) (omega (arith, la .0)) in
     then-wires m v (join a f)
-    (links-hold a f (linked w k (2 * i) (2 * o + 1)) (moreWires m (v ∷ [])) (suc k) (rw (linked-in w k o i) P) (tail-eq-of-cons-eq d) (la .1) (lf .1) (omega (arith, length-append (m .targets) (i ∷ []))) (omega arith))
+    (links-hold a f (linked w k (2 * i) (2 * o + 1)) (moreWires m (v ∷ [])) (suc k) (rw (linked-codes w k (inp i) (out o)) P) (tail-eq-of-cons-eq d) (la .1) (lf .1) (omega (arith, length-append (m .targets) (i ∷ []))) (omega arith))
 links-hold (out o ∷ a) (out p ∷ f) w m k H d la lf e h = absurd (false≢true (head-eq-of-cons-eq d))
 links-hold (inp i ∷ a) (inp j ∷ f) w m k H d la lf e h = absurd (true≢false (head-eq-of-cons-eq d))

@@ -1,20 +1,20 @@
 -- Turned bits: an arrow turns its left side, and no bit of a sharable type is turned. Assumes nothing.
 use Prim.Native.Nat.{ℕ, _+_, _-_, _≤_, _<_}
-use mathlib.Core.Path.{_≡_, refl, sym, ap, ap₂, _∙_, subst}
+use mathlib.Core.Path.{_≡_, refl, sym, ap, ap₂, _∙_}
 use mathlib.Core.Bool.{Bool, true, false, not, _&&_, true≢false, false≢true}
-use mathlib.Core.List.{List, [], _∷_, _++_}
+use mathlib.Core.List.{List, _++_}
 use native.Mathlib.Omega.{arith}
 use lib.Dec.{T}
-use lib.ListN.{length, getD, replicate, length-append, getD-replicate, replicate-append-replicate, List·getD-append}
+use lib.ListN.{length, getD, replicate, getD-replicate, replicate-append-replicate, List·getD-append}
 use lib.Seq.{getD-append-add}
 use Rattle.laws.proofs.Tests.{and-both}
 use Rattle.calculus.specs.Types.{Ty, bit, prod, arrow, lolli, size, sharable, TyRec, rec01, rec02, rec03, rec04, Table, recAt, tree}
-use Rattle.calculus.specs.Laid.{Agrees, Below, TableOk}
+use Rattle.calculus.specs.Laid.{Agrees, Below}
 use Rattle.calculus.specs.Net.{turns}
 use Rattle.records.specs.Forms.{recIn}
 use Rattle.circuit_theorems.proofs.Drivers.{turns-size}
-use Rattle.wiring.specs.declared.Sides.{Sides}
-use Rattle.wiring.specs.Faces.{sidesOf, Knows, Named}
+use Rattle.wiring.specs.declared.faces.Sides.{Sides}
+use Rattle.wiring.specs.Sides.{sidesOf, Knows}
 
 -- ---- type records
 

@@ -1,38 +1,35 @@
 -- An application, a pair and a projection: the first subterm, and the second. Assumes nothing.
 use Prim.Native.Nat.{ℕ, zero, suc, _+_, _*_, _-_, _≤_, _<_}
 use mathlib.Core.Path.{_≡_, refl, sym, ap, ap₂, _∙_, subst}
-use mathlib.Core.Logic.{_⊎_, inl, inr, ⊎-elim}
-use mathlib.Core.Bool.{Bool, true, false, not, cond}
-use mathlib.Core.List.{List, [], _∷_, _++_, map, map-append, append-assoc, append-nil}
+use mathlib.Core.Logic.{_⊎_, inr, ⊎-elim}
+use mathlib.Core.Bool.{Bool, true, false, cond}
+use mathlib.Core.List.{List, [], _∷_, _++_, map}
 use native.Mathlib.Omega.{arith}
 use borrow.Author.Tests.{eq-eqb, ne-eqb}
 use lib.Dec.{eqb}
-use lib.ListN.{length, getD, take, drop, length-append, length-map, length-drop, take-append-drop}
-use lib.Seq.{sets, take-all, length-take-le, take-at, drop-at, drop-append-seam, drop-drop}
-use Rattle.calculus.specs.Types.{Ty, bit, size, Table, tree}
+use lib.ListN.{length, getD, take, drop, length-append, length-map, length-drop}
+use lib.Seq.{take-all, drop-at, drop-drop}
+use Rattle.calculus.specs.Types.{Ty, size, Table, tree}
 use Rattle.calculus.specs.Terms.{Term, var, lvar, fun, app, lfun, lapp, pair, proj, fix, con}
 use Rattle.calculus.specs.Write.{termBytes}
-use Rattle.calculus.specs.Laid.{Stands, Ranged, depth}
-use Rattle.calculus.specs.Net.{turns, Interface, Bound, Made, make, leftOf, rightOf, join, madeApp, madePair, madeProj, firstHalf, secondHalf}
+use Rattle.calculus.specs.Laid.{Stands, depth}
+use Rattle.calculus.specs.Net.{turns, Interface, Made, make, leftOf, rightOf, join, firstHalf, secondHalf}
 use Rattle.records.specs.Heads.{nodeOf}
 use Rattle.records.specs.Forms.{recIn}
 use Rattle.records.specs.declared.Node.{Node}
 use Rattle.memory.specs.Map.{region, code, kindOf}
 use Rattle.sheet_theorems.proofs.Standing.{stands-in}
-use Rattle.circuit_theorems.specs.Drive.{driveAll}
-use Rattle.circuit_theorems.specs.Terminals.{terminals}
-use Rattle.circuit_theorems.proofs.Bounds.{next-is, made-side, made-type, join-length}
-use Rattle.circuit_theorems.proofs.Drive.{drive-append}
-use Rattle.circuit_theorems.proofs.Drivers.{dirs, term-driven, Env}
-use Rattle.wiring.specs.declared.State.{State}
-use Rattle.wiring.specs.declared.Built.{Built}
-use Rattle.wiring.specs.Faces.{sidesOf, Knows}
+use Rattle.circuit_theorems.proofs.Bounds.{next-is, made-side, made-type}
+use Rattle.circuit_theorems.proofs.Drivers.{dirs, term-driven}
+use Rattle.wiring.specs.declared.walk.State.{State}
+use Rattle.wiring.specs.declared.walk.Built.{Built}
+use Rattle.wiring.specs.Sides.{sidesOf}
 use Rattle.wiring.specs.Store.{Store, Holds, atBinders, target, after}
-use Rattle.wiring.specs.Walk.{OfStack, BoundAt, Binds, Asks, madeOf, Leaves, Here, halved, betweenIn, middle, Between}
+use Rattle.wiring.specs.Asks.{BoundAt, Binds, Asks, madeOf, Leaves, Here, halved, betweenIn, middle, Between}
 use Rattle.wiring.specs.Nodes.{Applied, Paired, Projected, Twofold}
 use Rattle.wiring.proofs.StoreLaws.{push-binders}
 use Rattle.wiring.proofs.NodeLaws.{Sided, sided-at, twofold}
-use Rattle.wiring.proofs.BindLaws.{binds-grow, binds-push, bound-grows}
+use Rattle.wiring.proofs.BindLaws.{binds-grow, binds-push}
 
 depth-some : (e : Term) → 0 < depth e
 depth-some (var i) = omega arith

@@ -1,20 +1,19 @@
 -- Counting terminals before anything is made: node by node, in record order. Assumes nothing.
-use Prim.Native.Nat.{ℕ, suc, _+_, _*_, _≤_, _<_}
+use Prim.Native.Nat.{ℕ, _+_, _*_, _≤_}
 use mathlib.Core.Path.{_≡_}
 use mathlib.Core.Bool.{cond}
 use mathlib.Core.List.{List, [], _∷_, _++_}
-use lib.ListN.{length, getD, drop}
+use lib.ListN.{getD, drop}
 use lib.Dec.{eqb}
-use Rattle.calculus.specs.Types.{Table, tree, size}
-use Rattle.calculus.specs.Terms.{Term, var, lvar, fun, app, lfun, lapp, pair, proj, fix, con, nodes, partAt}
+use Rattle.calculus.specs.Types.{Table}
+use Rattle.calculus.specs.Terms.{Term, nodes, partAt}
 use Rattle.calculus.specs.Write.{termBytes}
 use Rattle.calculus.specs.Laid.{Stands, Ranged}
-use Rattle.calculus.specs.Net.{leftOf}
 use Rattle.calculus.specs.Record.{All}
 use Rattle.circuit_theorems.specs.Terminals.{terminals}
 use Rattle.records.specs.declared.Node.{Node}
-use Rattle.wiring.specs.Faces.{Knows}
-use Rattle.wiring.specs.Walk.{boundIn}
+use Rattle.wiring.specs.Sides.{Knows}
+use Rattle.wiring.specs.Asks.{boundIn}
 
 -- the terminals that one record makes
 unfoldable pub ownIn : List ℕ → List ℕ → Node → ℕ

@@ -1,7 +1,7 @@
-pub mod Wires
-pub mod Faces
+pub mod Links
+pub mod Sides
 pub mod Store
-pub mod Walk
+pub mod Asks
 pub mod Nodes
 pub mod Count
 pub mod Whole

@@ -1,9 +1,9 @@
 -- A node with one subterm or two, as the walk meets it: its subterms with their types and binders, and what it makes of them. Assumes nothing.
-use Prim.Native.Nat.{ℕ, suc, _+_, _*_, _≤_, _<_}
+use Prim.Native.Nat.{ℕ, suc, _+_, _*_, _<_}
 use mathlib.Core.Path.{_≡_}
 use mathlib.Core.Logic.{_⊎_}
 use mathlib.Core.Bool.{true, false}
-use mathlib.Core.List.{List, [], _∷_, _++_}
+use mathlib.Core.List.{List, _∷_, _++_}
 use lib.ListN.{length, getD}
 use Rattle.calculus.specs.Types.{Ty, bit, size, Table, tree}
 use Rattle.calculus.specs.Terms.{Term}
@@ -13,7 +13,7 @@ use Rattle.calculus.specs.Rules.{Ctx, Typed}
 use Rattle.calculus.specs.Net.{turns, points, inSide, Bound, Made, leftOf, rightOf, binder, madeApp, madePair, firstHalf, secondHalf, madeProj, madeFix, madeVar, madeCon, unbound, make}
 use Rattle.records.specs.Heads.{nodeOf}
 use Rattle.circuit_theorems.proofs.Drivers.{Env}
-use Rattle.wiring.specs.Walk.{boundIn}
+use Rattle.wiring.specs.Asks.{boundIn}
 
 -- a function of type τ that binds α, around its body
 abbrev pub funOf : Ty → Ty → ℕ → Made → Made

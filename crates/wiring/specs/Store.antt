@@ -1,9 +1,9 @@
 -- What the working memory holds while a netlist is made: lists, each at its place, with anything behind them. Assumes nothing.
 use Prim.Native.Nat.{ℕ, _+_, _≤_, _<_}
 use mathlib.Core.Path.{_≡_}
-use mathlib.Core.List.{List, [], _∷_, _++_, map}
+use mathlib.Core.List.{List, _++_, map}
 use lib.ListN.{length, getD, drop}
-use Rattle.calculus.specs.Net.{Wire, Interface, Made, Element}
+use Rattle.calculus.specs.Net.{Wire, Made}
 use Rattle.calculus.specs.Record.{All}
 use Rattle.memory.specs.Map.{kindOf, code}
 use Rattle.circuit_theorems.specs.Drive.{driveAll}

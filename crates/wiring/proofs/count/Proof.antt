@@ -3,16 +3,11 @@ use Rattle.wiring.proofs.FullLaws.{counting}
 -- Assumes nothing.
 use borrow.Author.Needs.{needs}
 use native.Mathlib.Omega.{arith}
-use mathlib.Core.Path.{_≡_, refl, sym, ap, _∙_}
 use Rattle.wiring.specs.Count.{Counting, Row}
 use Rattle.wiring.proofs.StepLaws.{no-node}
-use Rattle.wiring.proofs.CountLaws.{row-start, row-few, row-node, row-room, row-then, row-end}
+use Rattle.wiring.proofs.CountLaws.{row-start, row-node, row-room, row-then, row-end}
 use Rattle.wiring.proofs.count.Statement.{statement}
 use Rattle.wiring.proofs.count.Tie as tie
-use Rattle.wiring.proofs.count.Reads as reads
-use Rattle.wiring.proofs.count.Lts as lts
-use Rattle.records.proofs.record_at.Reads as record-at-reads
-use Rattle.wiring.proofs.own_terminals.Reads as own-terminals-reads
 
 abbrev Inv-loop : tie.InvT-loop
 Inv-loop s sizes from nodes at₀ left₀ total₀ at left total = (q : Counting s sizes from nodes) → Row (q .table) s (q .term) at left total
@@ -20,35 +15,29 @@ Inv-loop s sizes from nodes at₀ left₀ total₀ at left total = (q : Counting
 abbrev μ-loop : tie.MeasureT-loop
 μ-loop s sizes from nodes at₀ left₀ total₀ at left total = left
 
--- src/lib.rt:564:5
 loop-holds : tie.Need-loop-holds Inv-loop μ-loop
 loop-holds c =
     λ q. row-start q
 
--- src/lib.rt:565:34
 record-at-requires : tie.Need-record-at-requires Inv-loop μ-loop
 record-at-requires c κs =
     search needs
 
--- src/lib.rt:565:26
 enum-known-node : tie.Need-enum-known-node Inv-loop μ-loop
 enum-known-node c =
     search needs
 
--- src/lib.rt:566:13
 returns : tie.Need-returns Inv-loop μ-loop
 returns c =
     λ σ h.
     let q = counting (c .before .before .before .before .before .before .pre) σ h in
     absurd (no-node (c .before .record-at .result) (c .match .keys2) (row-node q (c .before .before .before .loop .inv q) (c .before .before .loop-test .taken) (c .before .record-at .ensures)))
 
--- src/lib.rt:569:25
 own-terminals-requires : tie.Need-own-terminals-requires Inv-loop μ-loop
 own-terminals-requires c κs =
     let p = c .before .before .before .before .before .before .before .before .pre in
     counting p (p .told .sheet) (p .told .is) .knows .all
 
--- src/lib.rt:569:17
 add-total : tie.Need-add-total Inv-loop μ-loop
 add-total c =
     let p = c .before .before .before .before .before .before .before .before .before .pre in
@@ -56,22 +45,18 @@ add-total c =
     let r = row-room q (c .before .before .before .before .before .before .loop .inv q) (c .before .before .before .before .before .loop-test .taken) (c .before .before .before .before .record-at .ensures) (c .before .before .node .given .1) in
     omega (arith, c .own-terminals .ensures)
 
--- src/lib.rt:570:16
 sub-left : tie.Need-sub-left Inv-loop μ-loop
 sub-left c =
     omega arith
 
--- src/lib.rt:564:5
 loop-less : tie.Need-loop-less Inv-loop μ-loop
 loop-less c =
     omega arith
 
--- src/lib.rt:564:5
 loop-again : tie.Need-loop-again Inv-loop μ-loop
 loop-again c =
     λ q. rw (c .own-terminals .ensures) (row-then q (c .before .before .before .before .before .before .loop .inv q) (c .before .before .before .before .before .loop-test .taken) (c .before .before .before .before .record-at .ensures) (c .before .before .node .given .1))
 
--- src/lib.rt:557:1
 returns-2 : tie.Need-returns-2 Inv-loop μ-loop
 returns-2 c =
     λ σ h. row-end (counting (c .before .before .before .before .pre) σ h) (c .before .loop .inv (counting (c .before .before .before .before .pre) σ h)) (omega arith)

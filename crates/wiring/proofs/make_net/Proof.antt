@@ -3,26 +3,18 @@ use Rattle.wiring.proofs.FullLaws.{root-asks, root-stands}
 use borrow.Author.Needs.{needs}
 use Rattle.wiring.proofs.make_net.Statement.{statement}
 use Rattle.wiring.proofs.make_net.Tie as tie
-use Rattle.wiring.proofs.make_net.Reads as reads
-use Rattle.wiring.proofs.make_net.Lts as lts
-use Rattle.wiring.proofs.fill.Reads as fill-reads
-use Rattle.wiring.proofs.make.Reads as make-reads
 
--- src/lib.rt:594:5
 fill-requires : tie.Need-fill-requires
 fill-requires c κs = search needs
 
--- src/lib.rt:602:9
 make-requires : tie.Need-make-requires
 make-requires c κs =
     let p = c .before .before .before .before .before .before .before .before .pre in
     root-asks p (p .net) (p .is) (c .before .before .before .fill .ensures)
 
--- src/lib.rt:590:1
 same-length : tie.Need-same-length
 same-length c = search needs
 
--- src/lib.rt:590:1
 returns : tie.Need-returns
 returns c =
     λ m ok.

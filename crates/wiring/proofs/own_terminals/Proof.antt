@@ -1,6 +1,6 @@
 -- `wiring::own_terminals` meets its contract: by the record's kind. Assumes nothing.
 use native.Mathlib.Omega.{arith}
-use mathlib.Core.Path.{_≡_, refl, sym, ap, _∙_}
+use mathlib.Core.Path.{ap, _∙_}
 use Prim.Native.Nat.{ℕ, _+_, _*_}
 use lib.ListN.{getD}
 use borrow.Author.Tests.{eq-eqb, ne-eqb}
@@ -9,47 +9,34 @@ use Rattle.wiring.specs.Count.{ownIn}
 use borrow.Author.Needs.{needs}
 use Rattle.wiring.proofs.own_terminals.Statement.{statement}
 use Rattle.wiring.proofs.own_terminals.Tie as tie
-use Rattle.wiring.proofs.own_terminals.Reads as reads
-use Rattle.wiring.proofs.own_terminals.Lts as lts
-use Rattle.wiring.proofs.bound.Reads as bound-reads
-use Rattle.wiring.proofs.inputs_of.Reads as inputs-of-reads
-use Rattle.wiring.proofs.size_of.Reads as size-of-reads
 
--- src/lib.rt:548:16
 inputs-of-requires : tie.Need-inputs-of-requires
 inputs-of-requires c κs = search needs
 
--- src/lib.rt:548:16
 add-result : tie.Need-add-result
 add-result c =
     omega (arith, c .inputs-of .ensures, part-inputs (c .before .before .before .before .before .args .node .first))
 
--- src/lib.rt:548:9
 returns : tie.Need-returns
 unfolding ownIn
 returns c =
     rw (eq-eqb _ _ (c .before .if1 .taken)) (ap (λ (k : ℕ). k + 1) (c .inputs-of .ensures))
 
--- src/lib.rt:551:35
 bound-requires : tie.Need-bound-requires
 bound-requires c κs = search needs
 
--- src/lib.rt:551:20
 size-of-requires : tie.Need-size-of-requires
 size-of-requires c κs = search needs
 
--- src/lib.rt:551:16
 mul-result : tie.Need-mul-result
 mul-result c =
     omega (arith, c .size-of .ensures, c .before .before .before .before .before .before .shared-slice-known2 .given (c .before .bound .result))
 
--- src/lib.rt:551:9
 returns-2 : tie.Need-returns-2
 unfolding ownIn
 returns-2 c =
     rw (ne-eqb _ _ (c .before .before .before .before .if1 .left), eq-eqb _ _ (c .before .before .if2 .taken)) (ap (λ (k : ℕ). 2 * k) (c .size-of .ensures ∙ ap (λ (k : ℕ). getD (c .before .before .before .before .before .before .before .before .args .sizes .now) k 0) (c .before .bound .ensures)))
 
--- src/lib.rt:543:1
 returns-3 : tie.Need-returns-3
 unfolding ownIn
 returns-3 c =

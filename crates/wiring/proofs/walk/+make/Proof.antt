@@ -1,0 +1,149 @@
+-- `wiring::make` meets its contract: by its first record, and for its subterms by the walk itself, whose bytes left fall.
+-- Assumes nothing.
+use borrow.Author.Needs.{needs}
+use native.Mathlib.Omega.{arith}
+use mathlib.Core.Path.{sym, ap, _∙_}
+use Prim.Native.Nat.{ℕ, _+_, _-_, _<_}
+use lib.ListN.{length}
+use borrow.Fn.Kinds.{In}
+use borrow.Fn.PlainCycle.{Measures, is, falls, and}
+use Rattle.records.proofs.Laws.{node-next}
+use Rattle.wiring.specs.declared.walk.State.{State}
+use Rattle.wiring.proofs.StepLaws.{is-node, here, two-subterms, no-node}
+use Rattle.wiring.proofs.OneLaws.{body-asks, close-closable, close-leaves}
+use Rattle.wiring.proofs.TwoLaws.{first-asks, first-past, between-asks, second-asks}
+use Rattle.wiring.proofs.FinishLaws.{finish-ready, finish-leaves}
+use Rattle.wiring.proofs.walk.make.Reads as make
+use Rattle.wiring.proofs.walk.make.Kinds as make-kinds
+use Rattle.wiring.proofs.walk.+make.Lts-make as make-lts
+use Rattle.records.proofs.record_at.Reads as record-at-reads
+use Rattle.wiring.proofs.walk.between.Reads as between-reads
+use Rattle.wiring.proofs.walk.close.Reads as close-reads
+use Rattle.wiring.proofs.walk.finish.Reads as finish-reads
+use Rattle.wiring.proofs.walk.leaf.Reads as leaf-reads
+use Rattle.wiring.proofs.walk.open.Reads as open-reads
+use Rattle.wiring.proofs.walk.+make.{statement}
+use Rattle.wiring.proofs.walk.+make.Tie.{close}
+
+abbrev μ-make : Measures 3 make-kinds.ps ℕ
+μ-make κs a = length (a .0 .now) - a .1 .1 .1 .0
+
+abbrev make-at : ℕ → In 3 make-kinds.ps
+make-at t = and 3 make-kinds.ps (is 3 make-kinds.ps μ-make t) make.Pre
+
+abbrev make-below : ℕ → In 3 make-kinds.ps
+make-below t = and 3 make-kinds.ps (falls 3 make-kinds.ps _<_ μ-make t) make.Pre
+
+pub +make-spec : {M : Type 1} → statement M
++make-spec = close μ-make λ t. make-lts.spec (
+  record-at-reads.Asked,
+  record-at-reads.Learnt,
+  leaf-reads.Asked,
+  leaf-reads.Learnt,
+  open-reads.Asked,
+  open-reads.Learnt,
+  make-below t,
+  make.Post,
+  close-reads.Asked,
+  close-reads.Learnt,
+  between-reads.Asked,
+  between-reads.Learnt,
+  finish-reads.Asked,
+  finish-reads.Learnt,
+)
+    (make-at t)
+    make.Post
+    (λ c κs. search needs)
+    (λ c. search needs)
+    (λ c. λ q. absurd (no-node (c .before .record-at .result) (c .match .keys2) (is-node q (c .before .record-at .ensures))))
+    (λ c κs.
+    let e = c .before .before .before .before .before .before .record-at .ensures in
+    let g = c .before .before .before .before .node .given .1 in
+    (here (c .before .before .before .before .before .before .before .before .before .before .pre .1) e g, c .before .if1 .taken))
+    (λ c. c .before .before .leaf .kept .1 .1 .0)
+    (λ c.
+    let e = c .before .before .before .before .before .before .before .before .before .record-at .ensures in
+    let g = c .before .before .before .before .before .before .before .node .given .1 in
+    λ q. c .before .before .leaf .ensures (here q e g))
+    (λ c κs.
+    let e = c .before .before .before .before .before .before .before .before .record-at .ensures in
+    let g = c .before .before .before .before .before .before .node .given .1 in
+    (here (c .before .before .before .before .before .before .before .before .before .before .before .before .pre .1) e g, c .before .if2 .taken))
+    (λ c.
+    let e = c .before .before .before .before .before .before .before .before .before .before .before .before .record-at .ensures in
+    let g = c .before .before .before .before .before .before .before .before .before .before .node .given .1 in
+    let o = c .before .before .before .«open» .ensures (here (c .before .before .before .before .before .before .before .before .before .before .before .before .before .before .before .before .pre .1) e g) in
+    omega (arith, ap (λ (x : State). x .top) (o .state)))
+    (λ c κs.
+    let e = c .before .before .before .before .before .before .before .before .before .before .before .before .before .record-at .ensures in
+    let g = c .before .before .before .before .before .before .before .before .before .before .before .node .given .1 in
+    let p = c .before .before .before .before .before .before .before .before .before .before .before .before .before .before .before .before .before .pre in
+    let o = c .before .before .before .before .«open» .ensures (here (p .1) e g) in
+    let f = node-next (c .before .before .before .before .before .before .before .before .before .before .before .before .before .before .before .before .before .args .s .now) (c .before .before .before .before .before .before .before .before .before .before .before .before .before .before .before .before .before .args .at) (sym e ∙ g) in
+    (omega (arith, p .0), body-asks (here (p .1) e g) (c .before .before .before .before .before .before .if2 .taken) o))
+    (λ c κs.
+    let e = c .before .before .before .before .before .before .before .before .before .before .before .before .before .before .before .before .before .record-at .ensures in
+    let g = c .before .before .before .before .before .before .before .before .before .before .before .before .before .before .before .node .given .1 in
+    let p = c .before .before .before .before .before .before .before .before .before .before .before .before .before .before .before .before .before .before .before .before .before .pre in
+    let h = here (p .1) e g in
+    let one = c .before .before .before .before .before .before .before .before .before .before .if2 .taken in
+    let o = c .before .before .before .before .before .before .before .before .«open» .ensures h in
+    let l = c .before .before .before .make .ensures (body-asks h one o) in
+    close-closable h one o l (c .before .before .before .before .before .before .before .before .«open» .result .top - c .before .before .before .before .before .before .before .before .before .before .before .before .before .before .before .before .before .before .before .before .before .args .st .top) (omega (arith, ap (λ (x : State). x .top) (o .state))))
+    (λ c. c .before .before .close .kept .0 ∙ c .before .before .before .before .before .before .make .kept .1 .1 .0 ∙ c .before .before .before .before .before .before .before .before .before .before .before .«open» .kept .1 .1 .0)
+    (λ c.
+    let e = c .before .before .before .before .before .before .before .before .before .before .before .before .before .before .before .before .before .before .before .before .record-at .ensures in
+    let g = c .before .before .before .before .before .before .before .before .before .before .before .before .before .before .before .before .before .before .node .given .1 in
+    λ q.
+    let h = here q e g in
+    let one = c .before .before .before .before .before .before .before .before .before .before .before .before .before .if2 .taken in
+    let o = c .before .before .before .before .before .before .before .before .before .before .before .«open» .ensures h in
+    let l = c .before .before .before .before .before .before .make .ensures (body-asks h one o) in
+    let k = c .before .before .close .ensures in
+    rw (k .0, k .1) (close-leaves h one o l (c .before .before .before .before .before .before .before .before .before .before .before .«open» .result .top - c .before .before .before .before .before .before .before .before .before .before .before .before .before .before .before .before .before .before .before .before .before .before .before .before .args .st .top) (omega (arith, ap (λ (x : State). x .top) (o .state)))))
+    (λ c κs.
+    let e = c .before .before .before .before .before .before .before .before .record-at .ensures in
+    let g = c .before .before .before .before .before .before .node .given .1 in
+    let p = c .before .before .before .before .before .before .before .before .before .before .before .before .pre in
+    let two = two-subterms (p .1) e g (c .before .before .before .if1 .left) (c .before .if2 .left) in
+    let f = node-next (c .before .before .before .before .before .before .before .before .before .before .before .before .args .s .now) (c .before .before .before .before .before .before .before .before .before .before .before .before .args .at) (sym e ∙ g) in
+    (omega (arith, p .0), first-asks (here (p .1) e g) two))
+    (λ c κs.
+    let e = c .before .before .before .before .before .before .before .before .before .before .before .before .record-at .ensures in
+    let g = c .before .before .before .before .before .before .before .before .before .before .node .given .1 in
+    let p = c .before .before .before .before .before .before .before .before .before .before .before .before .before .before .before .before .pre in
+    let h = here (p .1) e g in
+    let two = two-subterms (p .1) e g (c .before .before .before .before .before .before .before .if1 .left) (c .before .before .before .before .before .if2 .left) in
+    between-asks h two (c .before .before .before .make2 .ensures (first-asks h two)))
+    (λ c κs.
+    let e = c .before .before .before .before .before .before .before .before .before .before .before .before .before .before .before .before .record-at .ensures in
+    let g = c .before .before .before .before .before .before .before .before .before .before .before .before .before .before .node .given .1 in
+    let p = c .before .before .before .before .before .before .before .before .before .before .before .before .before .before .before .before .before .before .before .before .pre in
+    let h = here (p .1) e g in
+    let two = two-subterms (p .1) e g (c .before .before .before .before .before .before .before .before .before .before .before .if1 .left) (c .before .before .before .before .before .before .before .before .before .if2 .left) in
+    let l = c .before .before .before .before .before .before .before .make2 .ensures (first-asks h two) in
+    let f = node-next (c .before .before .before .before .before .before .before .before .before .before .before .before .before .before .before .before .before .before .before .before .args .s .now) (c .before .before .before .before .before .before .before .before .before .before .before .before .before .before .before .before .before .before .before .before .args .at) (sym e ∙ g) in
+    let b = first-past h two l in
+    (omega (arith, p .0), second-asks h two l (c .before .before .before .between .ensures .0) (c .before .before .before .between .ensures .1)))
+    (λ c κs.
+    let e = c .before .before .before .before .before .before .before .before .before .before .before .before .before .before .before .before .before .before .before .before .record-at .ensures in
+    let g = c .before .before .before .before .before .before .before .before .before .before .before .before .before .before .before .before .before .before .node .given .1 in
+    let p = c .before .before .before .before .before .before .before .before .before .before .before .before .before .before .before .before .before .before .before .before .before .before .before .before .pre in
+    let h = here (p .1) e g in
+    let two = two-subterms (p .1) e g (c .before .before .before .before .before .before .before .before .before .before .before .before .before .before .before .if1 .left) (c .before .before .before .before .before .before .before .before .before .before .before .before .before .if2 .left) in
+    let l = c .before .before .before .before .before .before .before .before .before .before .before .make2 .ensures (first-asks h two) in
+    let er = c .before .before .before .before .before .before .before .between .ensures .0 in
+    let ew = c .before .before .before .before .before .before .before .between .ensures .1 in
+    finish-ready h two l er ew (c .before .before .before .make3 .ensures (second-asks h two l er ew)))
+    (λ c. c .before .before .finish .kept .1 .0 ∙ c .before .before .before .before .before .before .make3 .kept .1 .1 .0 ∙ c .before .before .before .before .before .before .before .before .before .before .between .kept .1 .1 .0 ∙ c .before .before .before .before .before .before .before .before .before .before .before .before .before .before .make2 .kept .1 .1 .0)
+    (λ c.
+    let e = c .before .before .before .before .before .before .before .before .before .before .before .before .before .before .before .before .before .before .before .before .before .before .before .record-at .ensures in
+    let g = c .before .before .before .before .before .before .before .before .before .before .before .before .before .before .before .before .before .before .before .before .before .node .given .1 in
+    λ q.
+    let h = here q e g in
+    let two = two-subterms q e g (c .before .before .before .before .before .before .before .before .before .before .before .before .before .before .before .before .before .before .if1 .left) (c .before .before .before .before .before .before .before .before .before .before .before .before .before .before .before .before .if2 .left) in
+    let l = c .before .before .before .before .before .before .before .before .before .before .before .before .before .before .make2 .ensures (first-asks h two) in
+    let er = c .before .before .before .before .before .before .before .before .before .before .between .ensures .0 in
+    let ew = c .before .before .before .before .before .before .before .before .before .before .between .ensures .1 in
+    let k = c .before .before .finish .ensures in
+    rw (k .0, k .1) (finish-leaves h two l er ew (c .before .before .before .before .before .before .make3 .ensures (second-asks h two l er ew))))

@@ -1,0 +1,40 @@
+-- Types as the sheet's bytes and the table of sizes have them, and the codes of a binder's two interfaces. Assumes nothing.
+use Prim.Native.Nat.{ℕ, _+_, _*_, _<_}
+use mathlib.Core.Path.{_≡_}
+use mathlib.Core.Bool.{Bool, true, false, cond, Bool·beq}
+use mathlib.Core.List.{List, [], _∷_}
+use lib.ListN.{length, getD}
+use Rattle.calculus.specs.Types.{size, TyRec, rec01, rec02, rec03, rec04, Table, recAt, tree}
+use Rattle.calculus.specs.Laid.{TableOk}
+use Rattle.records.specs.Forms.{recIn}
+use Rattle.wiring.specs.declared.faces.Sides.{Sides}
+
+-- if a type record is an arrow, and its two type numbers
+abbrev pub sidesOf : TyRec → Sides
+sidesOf rec01 = record { arrow = false; left = 0; right = 0 }
+sidesOf (rec02 a b) = record { arrow = false; left = a; right = b }
+sidesOf (rec03 a b) = record { arrow = true; left = a; right = b }
+sidesOf (rec04 a b) = record { arrow = true; left = a; right = b }
+
+-- the bytes and the table of sizes are those of a table of types
+pub record Knows (s sizes : List ℕ) (Θ : Table) : Type 0 where
+  pub ok : TableOk Θ
+  pub records : (t : ℕ) → t < length Θ → recIn s t ≡ recAt Θ t
+  pub sized : (t : ℕ) → t < length Θ → getD sizes t 0 ≡ size (tree Θ t)
+  pub all : length sizes ≡ 256
+
+-- .. and t names one of its types
+pub record Named (s sizes : List ℕ) (t : ℕ) : Type 0 where
+  pub table : Table
+  pub knows : Knows s sizes table
+  pub named : t < length table
+
+-- the code of one terminal of the point whose input is n: its input, or its output
+abbrev pub endOf : ℕ → Bool → ℕ
+endOf n input = cond input (2 * n) (2 * (n + 1) + 1)
+
+-- the codes of the interface of points from terminal n on, by which bits are turned: the variable's output interface, or its input
+-- interface
+abbrev pub face : Bool → List Bool → ℕ → List ℕ
+face output [] n = []
+face output (b ∷ bs) n = endOf n (Bool·beq b output) ∷ face output bs (n + 2)

@@ -1,0 +1,327 @@
+// The making walk: what a term makes, its interface on a stack in the working memory.
+use crate::faces;
+use crate::wires;
+use memory::BINDERS;
+use memory::ELEMENTS;
+use memory::POINT;
+use memory::STACK;
+use records::Node;
+use records::Record;
+ghost use mathlib.Core.Path.{_≡_};
+ghost use mathlib.Core.List.{_∷_, []};
+ghost use Prim.Native.Nat.{_+_, _*_, _≤_, _<_};
+ghost use lib.ListN.{length, getD};
+ghost use lib.Seq.{sets};
+ghost use Rattle.wiring.specs.Links.{Apart};
+ghost use Rattle.wiring.specs.Sides.{Named};
+ghost use Rattle.wiring.specs.Asks.{Asks, Here, Leaves, Showable, shown, boundIn, Opened, looped, closed, closedIn, Closable, halved, Between, middle, betweenIn, appliedIn, Finishable, finished, finishedIn};
+
+// The next free terminal, the numbers of elements and wires made, the height of the stack and the number of binders in scope.
+pub struct State {
+    pub next: usize,
+    pub elements: usize,
+    pub wires: usize,
+    pub top: usize,
+    pub scope: usize,
+}
+
+// What a term leaves: the offset past it, its type, the length of its interface at the height on entry, and the numbers after it.
+pub struct Built {
+    pub past: usize,
+    pub ty: u8,
+    pub len: usize,
+    pub next: usize,
+    pub elements: usize,
+    pub wires: usize,
+}
+
+// The binder number k, counted from the outermost: its type, and where its interface is.
+fn bind(work: &mut [u16], k: usize, t: u8, place: usize)
+    requires { ⌜ (32768 ≤ length (now work)) × (k < 128) × (place < 65536) ⌝ }
+    ensures { λ _. ⌜ now (work .exit) ≡ sets (now (work .entry)) (27392 + 2 * k) (t ∷ place ∷ []) ⌝ }
+{
+    work[BINDERS + 2 * k] = t as u16;
+    work[BINDERS + 2 * k + 1] = place as u16;
+}
+
+// The output interface of a binder of type t: that of points, or numbers further down on the stack.
+fn show(s: &[u8], sizes: &[u8], work: &mut [u16], to: usize, t: u8, place: usize)
+    requires { ⌜ Showable (now s) (now sizes) (length (now work)) to t place ⌝ }
+    ensures { λ _. ⌜ ((q : Named (now (s .entry)) (now (sizes .entry)) t)
+        → now (work .exit) ≡ sets (now (work .entry)) to (shown (q .table) (getD (now (sizes .entry)) t 0) (now (work .entry)) t place)) ⌝ }
+{
+    let n = place / 2;
+    if place % 2 == 1 {
+        faces::interface(s, sizes, work, to, t, n, true);
+    } else {
+        wires::copy(work, STACK + n, to, faces::size_of(sizes, t));
+    }
+}
+
+// A variable: its binder's output interface.
+fn variable(s: &[u8], sizes: &[u8], work: &mut [u16], node: Node, st: State) -> Built
+    requires { ⌜ (Here (now s) (now sizes) (now work) node st) × (node .subterms ≡ 0) × (node .kind ≡ 0x1A → ⊥) ⌝ }
+    ensures { λ r. ⌜ ((q : Here (now (s .entry)) (now (sizes .entry)) (now (work .entry)) node st) → Leaves (q .asks) r (now (work .exit))) ⌝ }
+{
+    let past = node.next;
+    let next = st.next;
+    let elements = st.elements;
+    let wires = st.wires;
+    let top = st.top;
+    let k = BINDERS + 2 * (st.scope - 1 - records::wide(node.first));
+    let ty = work[k] as u8;
+    let place = work[k + 1] as usize;
+    let len = faces::size_of(sizes, ty);
+    show(s, sizes, work, STACK + top, ty, place);
+    Built {
+        past,
+        ty,
+        len,
+        next,
+        elements,
+        wires,
+    }
+}
+
+// A constant: its part.
+fn constant(s: &[u8], sizes: &[u8], work: &mut [u16], node: Node, st: State) -> Built
+    requires { ⌜ (Here (now s) (now sizes) (now work) node st) × (node .kind ≡ 0x1A) ⌝ }
+    ensures { λ r. ⌜ ((q : Here (now (s .entry)) (now (sizes .entry)) (now (work .entry)) node st) → Leaves (q .asks) r (now (work .exit))) ⌝ }
+{
+    let past = node.next;
+    let ty = node.second;
+    let part = node.first;
+    let next = st.next;
+    let elements = st.elements;
+    let wires = st.wires;
+    let top = st.top;
+    let k = faces::inputs_of(part);
+    work[ELEMENTS + elements] = part as u16;
+    faces::terminals(work, STACK + top, k, next);
+    Built {
+        past,
+        ty,
+        len: k + 1,
+        next: next + k + 1,
+        elements: elements + 1,
+        wires,
+    }
+}
+
+fn leaf(s: &[u8], sizes: &[u8], work: &mut [u16], node: Node, st: State) -> Built
+    requires { ⌜ (Here (now s) (now sizes) (now work) node st) × (node .subterms ≡ 0) ⌝ }
+    ensures { λ r. ⌜ ((q : Here (now (s .entry)) (now (sizes .entry)) (now (work .entry)) node st) → Leaves (q .asks) r (now (work .exit))) ⌝ }
+{
+    if node.kind == 0x1A {
+        constant(s, sizes, work, node, st)
+    } else {
+        variable(s, sizes, work, node, st)
+    }
+}
+
+// The type that a function or a fixed point binds.
+pub fn bound(s: &[u8], node: Node) -> u8
+    ensures { λ r. ⌜ r ≡ boundIn (now (s .entry)) node ⌝ }
+{
+    let first = node.first;
+    if node.kind == 0x19 {
+        return first;
+    }
+    faces::sides_at(s, first).left
+}
+
+// Before the body of a function or a fixed point: its points, its input interface on the stack, and its binder.
+fn open(s: &[u8], sizes: &[u8], work: &mut [u16], node: Node, st: State) -> State
+    requires { ⌜ (Here (now s) (now sizes) (now work) node st) × (node .subterms ≡ 1) ⌝ }
+    ensures { λ r. ⌜ ((q : Here (now (s .entry)) (now (sizes .entry)) (now (work .entry)) node st) → Opened q r (now (work .exit))) ⌝ }
+{
+    let next = st.next;
+    let elements = st.elements;
+    let wires = st.wires;
+    let top = st.top;
+    let scope = st.scope;
+    let t = bound(s, node);
+    let l = faces::size_of(sizes, t);
+    wires::fill(work, ELEMENTS + elements, l, POINT);
+    faces::interface(s, sizes, work, STACK + top, t, next, false);
+    bind(work, scope, t, 2 * next + 1);
+    State {
+        next: next + 2 * l,
+        elements: elements + l,
+        wires,
+        top: top + l,
+        scope: scope + 1,
+    }
+}
+
+// The body's interface, of l bits, stands above the input interface of a fixed point: it is wired to that, and moved down.
+fn close_loop(work: &mut [u16], at: usize, l: usize, wires: usize)
+    requires { ⌜ Apart (now work) (at + l) at l wires ⌝ }
+    ensures { λ _. ⌜ now (work .exit) ≡ looped (now (work .entry)) at l wires ⌝ }
+{
+    wires::connect(work, at + l, at, l, wires);
+    wires::copy(work, at + l, at, l);
+}
+
+// After the body, whose interface stands above the input interface: of a function both are the result, of a fixed point the body's.
+fn close(work: &mut [u16], node: Node, top: usize, l: usize, r: Built) -> Built
+    requires { ⌜ Closable (now work) node top l r ⌝ }
+    ensures { λ b. ⌜ (b ≡ closed node l r) × (now (work .exit) ≡ closedIn (now (work .entry)) node top l r) ⌝ }
+{
+    let ty = node.first;
+    let past = r.past;
+    let next = r.next;
+    let elements = r.elements;
+    let wires = r.wires;
+    let len = r.len;
+    if node.kind == 0x19 {
+        close_loop(work, STACK + top, l, wires);
+        return Built {
+            past,
+            ty,
+            len: l,
+            next,
+            elements,
+            wires: wires + l,
+        };
+    }
+    Built {
+        past,
+        ty,
+        len: l + len,
+        next,
+        elements,
+        wires,
+    }
+}
+
+// The halves of a product of type t, whose interface stands at height `top`, are bound: the second is the nearer.
+fn bind_halves(s: &[u8], sizes: &[u8], work: &mut [u16], t: u8, scope: usize, top: usize)
+    requires { ⌜ (length (now sizes) ≡ 256) × (32768 ≤ length (now work)) × (scope + 1 < 128) × (top ≤ 8448) ⌝ }
+    ensures { λ _. ⌜ now (work .exit) ≡ halved (now (s .entry)) (now (sizes .entry)) (now (work .entry)) t scope top ⌝ }
+{
+    let x = faces::sides_at(s, t);
+    let left = x.left;
+    let right = x.right;
+    let l = faces::size_of(sizes, left);
+    bind(work, scope, left, 2 * top);
+    bind(work, scope + 1, right, 2 * (top + l));
+}
+
+// Between two subterms: a projection binds the two halves of the first.
+fn between(s: &[u8], sizes: &[u8], work: &mut [u16], node: Node, st: State, f: Built) -> State
+    requires { ⌜ Between (now sizes) (now work) st f ⌝ }
+    ensures { λ r. ⌜ (r ≡ middle node st f) × (now (work .exit) ≡ betweenIn (now (s .entry)) (now (sizes .entry)) (now (work .entry)) node st f) ⌝ }
+{
+    let next = f.next;
+    let elements = f.elements;
+    let wires = f.wires;
+    let top = st.top + f.len;
+    let scope = st.scope;
+    if node.kind == 0x18 {
+        bind_halves(s, sizes, work, f.ty, scope, st.top);
+        return State {
+            next,
+            elements,
+            wires,
+            top,
+            scope: scope + 2,
+        };
+    }
+    State {
+        next,
+        elements,
+        wires,
+        top,
+        scope,
+    }
+}
+
+// An argument's interface, of m bits, stands above the function's, of l bits: it is wired to the start of that, and the rest moved down.
+fn apply(work: &mut [u16], at: usize, l: usize, m: usize, wires: usize)
+    requires { ⌜ (m ≤ l) × (at + l ≤ length (now work)) × Apart (now work) (at + l) at m wires ⌝ }
+    ensures { λ _. ⌜ now (work .exit) ≡ appliedIn (now (work .entry)) at l m wires ⌝ }
+{
+    wires::connect(work, at + l, at, m, wires);
+    wires::copy(work, at + m, at, l - m);
+}
+
+// After two subterms, the second's interface above the first's: of a projection the body's is the result, of a pair both, of an
+// application the rest of the function's.
+fn finish(s: &[u8], work: &mut [u16], node: Node, top: usize, f: Built, x: Built) -> Built
+    requires { ⌜ Finishable (now work) node top f x ⌝ }
+    ensures { λ r. ⌜ (r ≡ finished (now (s .entry)) node f x) × (now (work .exit) ≡ finishedIn (now (work .entry)) node top f x) ⌝ }
+{
+    let first = node.first;
+    let l = f.len;
+    let of = f.ty;
+    let past = x.past;
+    let ty = x.ty;
+    let len = x.len;
+    let next = x.next;
+    let elements = x.elements;
+    let wires = x.wires;
+    if node.kind == 0x18 {
+        wires::copy(work, STACK + top + l, STACK + top, len);
+        return Built {
+            past,
+            ty,
+            len,
+            next,
+            elements,
+            wires,
+        };
+    }
+    if node.kind == 0x17 {
+        return Built {
+            past,
+            ty: first,
+            len: l + len,
+            next,
+            elements,
+            wires,
+        };
+    }
+    apply(work, STACK + top, l, len, wires);
+    Built {
+        past,
+        ty: faces::sides_at(s, of).right,
+        len: l - len,
+        next,
+        elements,
+        wires: wires + len,
+    }
+}
+
+// The walk: what a term makes, its interface on the stack at the height on entry. The falling number is the bytes left.
+pub fn make(s: &[u8], sizes: &[u8], work: &mut [u16], at: usize, st: State) -> Built
+    requires { ⌜ Asks (now s) (now sizes) (now work) at st ⌝ }
+    ensures { λ r. ⌜ ((q : Asks (now (s .entry)) (now (sizes .entry)) (now (work .entry)) at st) → Leaves q r (now (work .exit))) ⌝ }
+{
+    let top = st.top;
+    let Record::Node(node) = records::record_at(s, at) else {
+        return Built {
+            past: at,
+            ty: 0,
+            len: 0,
+            next: 0,
+            elements: 0,
+            wires: 0,
+        };
+    };
+    let next = node.next;
+    if node.subterms == 0 {
+        return leaf(s, sizes, work, node, st);
+    }
+    if node.subterms == 1 {
+        let inner = open(s, sizes, work, node, st);
+        let l = inner.top - top;
+        let r = make(s, sizes, work, next, inner);
+        return close(work, node, top, l, r);
+    }
+    let f = make(s, sizes, work, next, st);
+    let past = f.past;
+    let middle = between(s, sizes, work, node, st, f);
+    let x = make(s, sizes, work, past, middle);
+    finish(s, work, node, top, f, x)
+}
