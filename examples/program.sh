@@ -1,14 +1,13 @@
-# Sourced in the repository's root. on_program NAME: makes target/bin/NAME where it is missing (it is not made anew when the crates
-# change), and sets the array `run` to the words that run it. It needs rt and python3.
+# Sourced in the repository's root, by the scripts that run proved programs on examples. They need rt and python3.
+
+# on_program NAME: proves and builds target/bin/NAME of the present sources, and sets the array `run` to the words that run it
 on_program() {
     program=target/bin/$1
     for tool in rt python3; do
         command -v "$tool" >/dev/null || { echo "this needs $tool on the PATH" >&2; exit 2; }
     done
-    if [ ! -x "$program" ]; then
-        echo "proving and building $program: minutes, the first time" >&2
-        rt check "$1" >&2
-    fi
+    [ -x "$program" ] || echo "proving and building $program: that takes minutes, the first time" >&2
+    said=$(rt check "$1" 2>&1) || { echo "$said" >&2; exit 1; }
     # The program is for x86-64. It runs as rt runs it: with the toolchain's loader and C library, and on
     # another processor under the emulator that stands beside the toolchain's compiler.
     kit=$(readlink -f "$(command -v rt)")
@@ -20,4 +19,13 @@ on_program() {
             { echo "this machine is $(uname -m): the program needs qemu-x86_64 (Debian package qemu-user)" >&2; exit 2; }
         run=("$emulator" "${run[@]}")
     fi
+}
+
+# bytes NAME: the sheet of examples/NAME.hex, where # starts a comment
+bytes() {
+    [ -f "examples/$1.hex" ] || { echo "there is no examples/$1.hex" >&2; exit 2; }
+    python3 -c '
+import sys
+text = "".join(line.split("#")[0] for line in open(sys.argv[1], encoding="utf-8"))
+sys.stdout.buffer.write(bytes.fromhex(text))' "examples/$1.hex"
 }
