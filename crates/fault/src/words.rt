@@ -3,7 +3,33 @@ use crate::text::put;
 ghost use Prim.Native.Nat.{_≤_};
 ghost use lib.ListN.{length};
 
-// The rule that a sheet breaks where it is refused at an offset.
+// The rules on type numbers, type records and limits.
+fn put_type_rule(text: &mut [u8], at: usize, number: u8) -> usize
+    requires { ⌜ at ≤ length (now text) ⌝ }
+    ensures { λ r. ⌜ r ≤ length (now (text .entry)) ⌝ }
+{
+    match number {
+        5 => put(
+            text,
+            at,
+            b"This record has a type number that names no earlier type.",
+        ),
+        6 => put(
+            text,
+            at,
+            b"A side of this type has the wrong sort: 02 takes two sharable types, 03 a sharable one left, 04 an arrow left.",
+        ),
+        7 => put(text, at, b"This type record is the same as an earlier one."),
+        8 => put(
+            text,
+            at,
+            b"This record passes a limit: 256 types, 128 single bits in a type, 2048 nodes, depth 64.",
+        ),
+        _ => put(text, at, b"No rule here has this number."),
+    }
+}
+
+// The rules that a sheet breaks where it is refused at an offset.
 fn put_reading_rule(text: &mut [u8], at: usize, number: u8) -> usize
     requires { ⌜ at ≤ length (now text) ⌝ }
     ensures { λ r. ⌜ r ≤ length (now (text .entry)) ⌝ }
@@ -24,28 +50,12 @@ fn put_reading_rule(text: &mut [u8], at: usize, number: u8) -> usize
             at,
             b"No node has this kind: a record of the term begins with 11 to 1A.",
         ),
-        5 => put(
-            text,
-            at,
-            b"This record has a type number that names no earlier type.",
-        ),
-        6 => put(
-            text,
-            at,
-            b"A side of this type has the wrong sort: 02 takes two sharable types, 03 a sharable one left, 04 an arrow left.",
-        ),
-        7 => put(text, at, b"This type record is the same as an earlier one."),
-        8 => put(
-            text,
-            at,
-            b"This record passes a limit: 256 types, 128 single bits in a type, 2048 nodes, depth 64.",
-        ),
         9 => put(
             text,
             at,
             b"The term has ended before this byte, and nothing may follow it.",
         ),
-        _ => put(text, at, b"No rule here has this number."),
+        _ => put_type_rule(text, at, number),
     }
 }
 
