@@ -19,6 +19,9 @@ static unsigned length_of(size_t length, size_t room, bool lean) {
 }
 
 int main(int count, char **words) {
+    /* the calls' frames then stand alike, whatever words and environment lie above them: copies of
+       memory take more or fewer instructions by where they stand */
+    _Alignas(64) volatile char ground = 0;
     if (count < 4 || count % 2 != 0) return 2;
     for (int i = 2; i < count; i += 2) {
         size_t room = strtoul(words[i], 0, 10);
@@ -31,5 +34,5 @@ int main(int count, char **words) {
         else if (strcmp(words[1], "none") != 0)
             deltawobble_translate(sheet, length, out, room, work, 32768, strcmp(words[1], "lean") == 0);
     }
-    return 0;
+    return ground;
 }
