@@ -1,5 +1,6 @@
-/* Calls the proved translator once on each sheet, for counting instructions:
-   once full|lean|none ROOM FILE.. ; `none` does all but the calls. */
+/* Calls a translator once on each sheet, for counting instructions; linked with the proved one, with
+   second_once.rs or with limit_once.c: once full|lean|none|lengths ROOM FILE ROOM FILE ..
+   `none` does all but the calls; `lengths` prints the bytes of both netlists, 0 where refused. */
 #include <stdbool.h>
 #include <stdint.h>
 #include <stdio.h>
@@ -12,17 +13,26 @@ uint64_t deltawobble_translate(const uint8_t *sheet, size_t sheet_len, uint8_t *
 static uint8_t sheet[16385], out[41344];
 static uint16_t work[32768];
 
+static unsigned length_of(size_t length, size_t room, bool lean) {
+    uint64_t answer = deltawobble_translate(sheet, length, out, room, work, 32768, lean);
+    return answer >> 32 ? 0 : (unsigned)answer;
+}
+
 int main(int count, char **words) {
-    if (count < 4) return 2;
-    size_t room = strtoul(words[2], 0, 10);
-    if (room > sizeof out) return 2;
-    for (int i = 3; i < count; i++) {
-        FILE *file = fopen(words[i], "rb");
-        if (!file) return 2;
+    /* the calls' frames then stand alike, whatever words and environment lie above them: copies of
+       memory take more or fewer instructions by where they stand */
+    _Alignas(64) volatile char ground = 0;
+    if (count < 4 || count % 2 != 0) return 2;
+    for (int i = 2; i < count; i += 2) {
+        size_t room = strtoul(words[i], 0, 10);
+        FILE *file = fopen(words[i + 1], "rb");
+        if (room > sizeof out || !file) return 2;
         size_t length = fread(sheet, 1, sizeof sheet, file);
         fclose(file);
-        if (strcmp(words[1], "none") != 0)
+        if (strcmp(words[1], "lengths") == 0)
+            printf("%u %u\n", length_of(length, room, false), length_of(length, room, true));
+        else if (strcmp(words[1], "none") != 0)
             deltawobble_translate(sheet, length, out, room, work, 32768, strcmp(words[1], "lean") == 0);
     }
-    return 0;
+    return ground;
 }
