@@ -42,3 +42,15 @@ recordOf shape.Unknown s at = rec.Refused 4 at
 
 unfoldable pub recordAt : List ℕ → ℕ → Record
 recordAt s at = cond (leb (length s) at) (rec.Refused 3 (length s)) (recordOf (shapeOf (getD s at 0)) s at)
+
+-- a node of zeros, where none stands
+abbrev pub noNode : Node
+noNode = record { kind = 0; first = 0; second = 0; subterms = 0; rule = rule.Bare; next = 0 }
+
+abbrev pub nodeOf : Record → Node
+nodeOf (rec.Type t) = noNode
+nodeOf (rec.Node n) = n
+nodeOf (rec.Refused number place) = noNode
+
+unfoldable pub nodeAt : List ℕ → ℕ → Node
+nodeAt s at = nodeOf (recordAt s at)

@@ -2,7 +2,7 @@
 ghost use mathlib.Core.Path.{_≡_};
 ghost use lib.ListN.{getD, take, drop, length};
 ghost use Prim.Native.Nat.{_+_, _≤_};
-ghost use Rattle.records.specs.Record.{shapeOf, recordAt};
+ghost use Rattle.records.specs.Record.{shapeOf, recordAt, noNode, nodeAt};
 ghost use Rattle.records.specs.Forms.{saidForm, recIn};
 
 // What the bytes of a body are: none, two type numbers, a binder, a type, or a part and a type.
@@ -107,6 +107,49 @@ pub fn record_at(s: &[u8], at: usize) -> Record
             }
         }
         Shape::Unknown => Record::Refused(4, at),
+    }
+}
+
+fn no_node() -> Node
+    ensures { λ r. ⌜ r ≡ noNode ⌝ }
+{
+    Node {
+        kind: 0,
+        first: 0,
+        second: 0,
+        subterms: 0,
+        rule: Rule::Bare,
+        next: 0,
+    }
+}
+
+// The node at an offset of a sheet that has been read, where one stands; one of zeros elsewhere. A walk over a read sheet asks for
+// nothing else, and is spared the answer's other two cases.
+pub fn node_at(s: &[u8], at: usize) -> Node
+    ensures { λ r. ⌜ r ≡ nodeAt (now (s .entry)) at ⌝ }
+{
+    if s.len() <= at {
+        return no_node();
+    }
+    let kind = s[at];
+    let from = at + 1;
+    match shape_of(kind) {
+        Shape::Node(n, subterms, rule) => {
+            if n <= s.len() - from {
+                Node {
+                    kind,
+                    first: body(s, from, n, 0),
+                    second: body(s, from, n, 1),
+                    subterms,
+                    rule,
+                    next: from + n,
+                }
+            } else {
+                no_node()
+            }
+        }
+        Shape::Type(_, _) => no_node(),
+        Shape::Unknown => no_node(),
     }
 }
 
