@@ -54,15 +54,12 @@ pub fn generated_try(random: &mut Random, index: usize) -> Try {
     Try { sheet, calls, nodes }
 }
 
-/// A generated sheet of at most so many bytes, for slow machines.
+/// A generated sheet of at most so many bytes, for slow machines: of the first index from `index`
+/// on that gives one (some indices give long sheets only).
 #[cfg(linked)]
 pub fn small_try(random: &mut Random, index: usize, most: usize) -> Try {
-    loop {
-        let tried = generated_try(random, index);
-        if tried.sheet.len() <= most {
-            return tried;
-        }
-    }
+    let mut tries = (index..).map(|turn| generated_try(random, turn));
+    tries.find(|tried| tried.sheet.len() <= most).expect("the indices do not end")
 }
 
 fn near_limit(random: &mut Random) -> Vec<u8> {

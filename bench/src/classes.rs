@@ -4,8 +4,8 @@ use crate::worst::{chain_4095, ordinary, ring_4096};
 use second::corpus::{grown_large, ROOM};
 use second::edges_making::KNOWN;
 use second::random::Random;
-use second::wide::{crowd, deep, flat, terminals_and};
-use second::write::hex;
+use second::wide::{crowd, deep, deep_type, flat, high_order, table, terminals_and};
+use second::write::{constant, hex};
 
 /// Sheets that are timed together, with the room that each call lends.
 pub struct Class {
@@ -49,6 +49,11 @@ fn refused_at_the_last_node() -> Vec<u8> {
     sheet
 }
 
+/// 256 types, all different, and the smallest term.
+fn types_256() -> Vec<u8> {
+    table(256).sheet(&constant(0, 0))
+}
+
 pub fn classes() -> Vec<Class> {
     let mut short = Class::one("refused late (17)", ordinary(32));
     short.room = 3;
@@ -61,6 +66,8 @@ pub fn classes() -> Vec<Class> {
         Class::one("8,192 terminals", crowd(8192)),
         Class::one("ring of 4,096 points", ring_4096()),
         Class::one("chain of 4,095 points", chain_4095()),
+        Class::one("256 types", types_256()),
+        Class::new("chains of arrows", vec![deep_type(), high_order()]),
         Class::one("refused early (4)", vec![0; 100]),
         Class::one("refused late (10)", refused_at_the_last_node()),
         Class::one("refused late (16)", terminals_and(1)),
