@@ -1,4 +1,5 @@
 pub mod TableLaws
+pub mod RepeatLaws
 pub mod CheckLaws
 pub mod KindLaws
 pub mod TypesLaws

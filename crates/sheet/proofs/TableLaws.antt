@@ -40,7 +40,7 @@ table-at s (suc n) t h =
 
 -- ---- repeats
 
-repeated-snoc : (Θ : Table) (q r : TyRec) → repeated (Θ ++ q ∷ []) r ≡ (repeated Θ r || recEq q r)
+pub repeated-snoc : (Θ : Table) (q r : TyRec) → repeated (Θ ++ q ∷ []) r ≡ (repeated Θ r || recEq q r)
 repeated-snoc [] q r = or-false (recEq q r)
   where
     or-false : (b : Bool) → (b || false) ≡ b

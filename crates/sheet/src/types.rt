@@ -7,7 +7,7 @@ ghost use mathlib.Core.Path.{_≡_};
 ghost use mathlib.Core.Bool.{_&&_};
 ghost use mathlib.Core.List.{[]};
 ghost use Prim.Native.Nat.{_+_, _≤_, _<_};
-ghost use lib.Dec.{ltb, eqb};
+ghost use lib.Dec.{ltb};
 ghost use lib.ListN.{length, getD};
 ghost use Rattle.calculus.specs.Types.{recEq};
 ghost use Rattle.calculus.specs.Read.{kindOf, byte, repeated, readTypes};
@@ -98,44 +98,38 @@ fn formed(s: &[u8], f: Form) -> bool
     }
 }
 
-fn both_equal(a: u8, b: u8, c: u8, d: u8) -> bool
-    ensures { λ r. ⌜ r ≡ (eqb a c && eqb b d) ⌝ }
+// Type t's record, above the first, has this kind, of two sides, and these type numbers.
+fn is_record(s: &[u8], t: usize, kind: u8, left: u8, right: u8) -> bool
+    requires { ⌜ (0 < t) × (t < 256) × (2 ≤ kind) × (kind ≤ 4) ⌝ }
+    ensures { λ r. ⌜ r ≡ recEq (recIn (now (s .entry)) t) (recOf kind left right) ⌝ }
 {
-    if a == c {
-        return b == d;
+    let at = 3 * t - 2;
+    if s.len() < at + 3 {
+        return false;
     }
-    false
+    if s[at + 1] != left {
+        return false;
+    }
+    if s[at + 2] != right {
+        return false;
+    }
+    s[at] == kind
 }
 
-fn same(f: Form, g: Form) -> bool
-    ensures { λ r. ⌜ r ≡ recEq (saidForm f) (saidForm g) ⌝ }
+// One of the earlier records has this kind, of two sides, and these type numbers. The first is the single bit's. Bytes are compared,
+// not forms: for 256 types this loop is most of the reading.
+fn stands(s: &[u8], count: usize, kind: u8, left: u8, right: u8) -> bool
+    requires { ⌜ (count ≤ 256) × (2 ≤ kind) × (kind ≤ 4) ⌝ }
+    ensures { λ r. ⌜ r ≡ repeated (tableIn (now (s .entry)) count) (recOf kind left right) ⌝ }
 {
-    match f {
-        Form::Bit => match g {
-            Form::Bit => true,
-            Form::Product(_, _) => false,
-            Form::Arrow(_, _) => false,
-            Form::Linear(_, _) => false,
-        },
-        Form::Product(a, b) => match g {
-            Form::Bit => false,
-            Form::Product(c, d) => both_equal(a, b, c, d),
-            Form::Arrow(_, _) => false,
-            Form::Linear(_, _) => false,
-        },
-        Form::Arrow(a, b) => match g {
-            Form::Bit => false,
-            Form::Product(_, _) => false,
-            Form::Arrow(c, d) => both_equal(a, b, c, d),
-            Form::Linear(_, _) => false,
-        },
-        Form::Linear(a, b) => match g {
-            Form::Bit => false,
-            Form::Product(_, _) => false,
-            Form::Arrow(_, _) => false,
-            Form::Linear(c, d) => both_equal(a, b, c, d),
-        },
+    let mut t: usize = 1;
+    while t < count {
+        if is_record(s, t, kind, left, right) {
+            return true;
+        }
+        t = t + 1;
     }
+    false
 }
 
 // One of the earlier records is the same.
@@ -143,14 +137,12 @@ fn repeats(s: &[u8], count: usize, f: Form) -> bool
     requires { ⌜ count ≤ 256 ⌝ }
     ensures { λ r. ⌜ r ≡ repeated (tableIn (now (s .entry)) count) (saidForm f) ⌝ }
 {
-    let mut t: usize = 0;
-    while t < count {
-        if same(records::type_at(s, t as u8), f) {
-            return true;
-        }
-        t = t + 1;
+    match f {
+        Form::Bit => 0 < count,
+        Form::Product(a, b) => stands(s, count, 0x02, a, b),
+        Form::Arrow(a, b) => stands(s, count, 0x03, a, b),
+        Form::Linear(a, b) => stands(s, count, 0x04, a, b),
     }
-    false
 }
 
 fn sum(sizes: &[u8], a: u8, b: u8) -> usize

@@ -15,11 +15,6 @@ use Rattle.records.specs.declared.Record.the-variants as rec
 use borrow.Author.Needs.{needs}
 use Rattle.records.proofs.node_at.Statement.{statement}
 use Rattle.records.proofs.node_at.Tie as tie
-use Rattle.records.proofs.node_at.Reads as reads
-use Rattle.records.proofs.node_at.Lts as lts
-use Rattle.records.proofs.body.Reads as body-reads
-use Rattle.records.proofs.no_node.Reads as no-node-reads
-use Rattle.records.proofs.shape_of.Reads as shape-of-reads
 
 -- no type is a node, whole or cut short
 either : (whole : Bool) (t : TypeRecord) (at : ℕ) → noNode ≡ nodeOf (cond whole (rec.Type t) (rec.Refused 3 at))

@@ -1,70 +1,67 @@
--- `sheet::repeats` meets its contract. The invariant: none of the first t records is the same. The measure is the records left. Assumes nothing.
-use Prim.Native.Nat.{_≤_, _-_}
-use mathlib.Core.Bool.{false}
-use mathlib.Core.Path.{_≡_, refl, sym, _∙_}
-use native.Mathlib.Omega.{arith}
+-- `sheet::repeats` meets its contract, by the form. Assumes nothing.
 use borrow.Author.Needs.{needs}
-use Rattle.calculus.specs.Read.{repeated}
-use Rattle.records.specs.Forms.{saidForm}
-use Rattle.sheet.specs.Tables.{tableIn}
-use Rattle.sheet.proofs.TableLaws.{repeated-found, repeated-more}
+use Rattle.sheet.proofs.RepeatLaws.{bit-repeats}
 use Rattle.sheet.proofs.types.repeats.Statement.{statement}
 use Rattle.sheet.proofs.types.repeats.Tie as tie
 
-abbrev Inv-loop : tie.InvT-loop
-Inv-loop s count f t₀ t = (t ≤ count) × (repeated (tableIn s t) (saidForm f) ≡ false)
+-- src/types.rt:141:22
+enum-told : tie.Need-enum-told
+enum-told c = search needs
 
-abbrev μ-loop : tie.MeasureT-loop
-μ-loop s count f t₀ t = count - t
+-- src/types.rt:142:23
+enum-known-f : tie.Need-enum-known-f
+enum-known-f c = search needs
 
-loop-holds : tie.Need-loop-holds Inv-loop μ-loop
-unfolding tableIn
-loop-holds c = (omega arith, refl)
+-- src/types.rt:142:32
+stands-requires : tie.Need-stands-requires
+stands-requires c κs = search needs
 
-cast-type-at : tie.Need-cast-type-at Inv-loop μ-loop
-cast-type-at c = omega (arith, c .before .before .before .pre)
+-- src/types.rt:143:21
+enum-known-f-2 : tie.Need-enum-known-f-2
+enum-known-f-2 c = search needs
 
-type-at-requires : tie.Need-type-at-requires Inv-loop μ-loop
-type-at-requires c κs = search needs
+-- src/types.rt:143:30
+stands-requires-2 : tie.Need-stands-requires-2
+stands-requires-2 c κs = search needs
 
-same-requires : tie.Need-same-requires Inv-loop μ-loop
-same-requires c κs = search needs
+-- src/types.rt:144:22
+enum-known-f-3 : tie.Need-enum-known-f-3
+enum-known-f-3 c = search needs
 
-returns : tie.Need-returns Inv-loop μ-loop
+-- src/types.rt:144:31
+stands-requires-3 : tie.Need-stands-requires-3
+stands-requires-3 c κs = search needs
+
+-- src/types.rt:136:1
+returns : tie.Need-returns
 returns c =
-    let a = c .before .before .before .before .before .before .args in
-    sym (repeated-found (a .s .now) (a .count) (c .before .before .before .before .loop .t) _ (saidForm (a .f)) (c .before .before .before .loop-test .taken) (c .before .before .type-at .ensures) (sym (c .before .same .ensures) ∙ c .if1 .taken))
+    let a = c .before .before .before .args in
+    rw (c .enum-told .given .1) (bit-repeats (a .s .now) (a .count))
 
-add-t : tie.Need-add-t Inv-loop μ-loop
-add-t c = search needs
+-- src/types.rt:136:1
+returns-2 : tie.Need-returns-2
+returns-2 c = rw (c .before .before .f .given .1) (c .stands .ensures)
 
-loop-less : tie.Need-loop-less Inv-loop μ-loop
-loop-less c = omega arith
+-- src/types.rt:136:1
+returns-3 : tie.Need-returns-3
+returns-3 c = rw (c .before .before .f2 .given .1) (c .stands2 .ensures)
 
-loop-again : tie.Need-loop-again Inv-loop μ-loop
-loop-again c =
-    let l = c .before .before .before .before .loop in
-    let a = c .before .before .before .before .before .before .args in
-    (omega arith, repeated-more (a .s .now) (l .t) _ (saidForm (a .f)) (l .inv .1) (c .before .before .type-at .ensures) (sym (c .before .same .ensures) ∙ c .if1 .left))
-
-returns-2 : tie.Need-returns-2 Inv-loop μ-loop
-returns-2 c =
-    let l = c .before .loop in
-    let e : l .t ≡ c .before .before .before .args .count = omega arith in
-    rw (← e) (sym (l .inv .1))
+-- src/types.rt:136:1
+returns-4 : tie.Need-returns-4
+returns-4 c = rw (c .before .before .f3 .given .1) (c .stands3 .ensures)
 
 pub repeats-spec : {M : Type 1} → statement M
 repeats-spec =
     tie.close
     (tie.spec
-    Inv-loop
-    μ-loop
-    loop-holds
-    cast-type-at
-    type-at-requires
-    same-requires
+    enum-told
+    enum-known-f
+    stands-requires
+    enum-known-f-2
+    stands-requires-2
+    enum-known-f-3
+    stands-requires-3
     returns
-    add-t
-    loop-less
-    loop-again
-    returns-2)
+    returns-2
+    returns-3
+    returns-4)
