@@ -1,11 +1,11 @@
 -- The definitions, run over the sheets with known results. Assumes nothing.
 use mathlib.Core.Path.{_≡_, refl}
-use mathlib.Core.List.{List, map}
+use mathlib.Core.List.{map}
 use Rattle.calculus.specs.Net.{netBytes}
 use Rattle.calculus.specs.Read.{readSheet, readTypes, readTerm, headAt}
 use Rattle.calculus.specs.Lean.{root, lean}
 use Rattle.calculus.specs.Translate.{full, answer}
-use Rattle.calculus.specs.Known.{Row, table, run, lacking, lacks, answers, expected}
+use Rattle.calculus.specs.Known.{table, run, lacking, lacks, answers, expected}
 
 -- P1 to P11: both netlists and their bytes, or the refusal; and refusals 1 and 17 where memory or room is lacking
 pub known-results : map answers table ≡ map expected table

@@ -1,8 +1,8 @@
 -- A formed netlist: elements take rising terminals, wires and pins name terminals that are made, and each input has one driver
 -- (document 01, "The full netlist"; demand 3, first half). Assumes nothing.
-use Prim.Native.Nat.{ℕ, zero, suc, _+_, _≤_}
+use Prim.Native.Nat.{ℕ, _+_, _≤_}
 use mathlib.Core.Path.{_≡_}
-use mathlib.Core.Bool.{Bool, true, false, _||_, cond}
+use mathlib.Core.Bool.{Bool, false, _||_, cond}
 use mathlib.Core.List.{List, [], _∷_}
 use lib.Dec.{T, eqb}
 use Rattle.calculus.specs.Terms.{partAt}

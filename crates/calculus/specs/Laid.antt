@@ -1,13 +1,13 @@
 -- How a sheet that is read lies in its bytes: the table's records, then the term's, within the limits. Assumes nothing.
-use Prim.Native.Nat.{ℕ, zero, suc, _+_, _≤_, _<_, max}
+use Prim.Native.Nat.{ℕ, suc, _+_, _≤_, _<_, max}
 use mathlib.Core.Path.{_≡_}
-use mathlib.Core.List.{List, [], _∷_, _++_}
+use mathlib.Core.List.{List, _++_}
 use lib.ListN.{length, drop}
 use lib.Dec.{T}
 use Rattle.calculus.specs.Types.{Ty, bit, prod, arrow, lolli, size, sharable, isArrow, TyRec, rec01, rec02, rec03, rec04, Table, recAt, tree}
 use Rattle.calculus.specs.Terms.{Term, var, lvar, fun, app, lfun, lapp, pair, proj, fix, con, nodes}
 use Rattle.calculus.specs.Read.{Sheet}
-use Rattle.calculus.specs.Write.{tableBytes, termBytes, sheetBytes}
+use Rattle.calculus.specs.Write.{termBytes, sheetBytes}
 
 -- ---- the table
 

@@ -5,7 +5,7 @@ use mathlib.Core.List.{List, [], _∷_, _++_}
 use lib.Dec.{leb, ltb, eqb}
 use lib.ListN.{length, getD}
 use Rattle.calculus.specs.Answer.{Answer, good, refused, _>>=_, need}
-use Rattle.calculus.specs.Types.{Ty, size, sharable, isArrow, TyRec, rec01, rec02, rec03, rec04, recEq, Table, tyOf, tysFrom, tree}
+use Rattle.calculus.specs.Types.{size, sharable, isArrow, TyRec, rec01, rec02, rec03, rec04, recEq, Table, tyOf, tysFrom, tree}
 use Rattle.calculus.specs.Terms.{Term, var, lvar, fun, app, lfun, lapp, pair, proj, fix, con}
 
 -- ---- kinds

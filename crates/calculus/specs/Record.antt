@@ -5,7 +5,7 @@ use mathlib.Core.Bool.{Bool, true, false, not, _&&_, _||_, xor}
 use mathlib.Core.List.{List, [], _∷_}
 use lib.ListN.{getD}
 use Rattle.calculus.specs.Terms.{partAt}
-use Rattle.calculus.specs.Net.{Terminal, Interface, number, Element, point, part, Wire, Net}
+use Rattle.calculus.specs.Net.{Interface, number, Element, point, part, Wire, Net}
 
 -- the bits of one terminal, tick after tick
 abbrev pub Stream : Type 0

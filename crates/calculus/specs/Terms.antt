@@ -1,6 +1,5 @@
 -- Terms (document 000, Figure 1), with the type numbers that the sheet writes, and the seven parts (document 01). Assumes nothing.
 use Prim.Native.Nat.{ℕ, _+_, suc}
-use mathlib.Core.Bool.{Bool, true, false}
 use mathlib.Core.List.{List, [], _∷_}
 use lib.ListN.{getD}
 use Rattle.calculus.specs.Types.{Ty, bit, arrow}

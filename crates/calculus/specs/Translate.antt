@@ -1,7 +1,7 @@
 -- The whole translation, as a call has it (document 01, "Numbers of the refusals"). Assumes nothing.
 use Prim.Native.Nat.{ℕ}
-use mathlib.Core.Bool.{Bool, true, false, cond}
-use mathlib.Core.List.{List, [], _∷_, _++_}
+use mathlib.Core.Bool.{Bool, cond}
+use mathlib.Core.List.{List, [], _++_}
 use lib.Dec.{leb}
 use lib.ListN.{length, drop, replicate}
 use Rattle.calculus.specs.Answer.{Answer, good, refused, _>>=_, need}

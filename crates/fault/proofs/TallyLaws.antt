@@ -1,13 +1,13 @@
 -- Counting the records of a netlist one by one. Assumes nothing.
 use Prim.Native.Nat.{ℕ, zero, suc, _+_, _≤_, _<_}
-use mathlib.Core.Path.{_≡_, refl, sym, ap, _∙_}
+use mathlib.Core.Path.{_≡_, refl, sym}
 use mathlib.Core.Bool.{Bool, true, false, cond}
 use mathlib.Core.List.{List}
 use native.Mathlib.Omega.{arith}
 use borrow.Author.Tests.{eq-eqb, ne-eqb}
 use lib.Dec.{eqb}
 use lib.ListN.{length, getD}
-use Rattle.lines.specs.InBytes.{sizeOf, sizeAt}
+use Rattle.lines.specs.InBytes.{sizeAt}
 use Rattle.lines.proofs.Standing.{size-past, size-room, size-whole}
 use Rattle.fault.specs.Netlists.{one, tally, countOf}
 

@@ -4,9 +4,8 @@ use mathlib.Core.List.{List, [], _∷_, _++_, append-assoc}
 use mathlib.Core.Logic.{_≢_}
 use Prim.Native.Nat.{ℕ, zero, suc, _+_, _-_, _≤_, _<_}
 use native.Mathlib.Omega.{arith}
-use native.Mathlib.Numerals.{add-one}
-use lib.ListN.{length, getD, set, take, drop, length-append, length-drop}
-use lib.Seq.{sets, length-sets, set-comm, getD-set-other, getD-set-same, ext-getD, getD-take, getD-drop, sets-eq, drop-set-lt, length-take-le, take-at, drop-at, take-add, drop-drop}
+use lib.ListN.{length, getD, set, take, drop, length-drop}
+use lib.Seq.{sets, set-comm, getD-set-other, ext-getD, getD-take, getD-drop, sets-eq, drop-set-lt, length-take-le, take-at, drop-at, take-add, drop-drop}
 
 -- a second run of stores, right after the first
 pub sets-append : (vs ws l : List ℕ) (i : ℕ) → sets (sets l i vs) (i + length vs) ws ≡ sets l i (vs ++ ws)

@@ -1,13 +1,13 @@
 -- Laws of a number in decimal: it ends with its last digit, and below 2 to the 64th it has at most 20. Assumes nothing.
-use mathlib.Core.Path.{_≡_, refl, ap, sym, _∙_}
+use mathlib.Core.Path.{_≡_, refl, ap, sym}
 use mathlib.Core.Bool.{Bool, true, false, cond}
-use mathlib.Core.List.{List, [], _∷_, _++_, append-nil, append-assoc}
+use mathlib.Core.List.{[], _∷_, _++_, append-nil, append-assoc}
 use Prim.Native.Nat.{ℕ, zero, suc, _+_, _*_, _/_, _%_, _^_, _≤_, _<_}
 use native.Mathlib.Omega.{arith}
 use borrow.Author.Tests.{lt-ltb, le-ltb}
 use lib.Dec.{ltb}
 use lib.ListN.{length, length-append}
-use Rattle.calculus.specs.Listing.{Text, digits, decimal, terminals}
+use Rattle.calculus.specs.Listing.{Text, digits, terminals}
 use Rattle.lines.specs.Figure.{figure, figures}
 
 abbrev tens : ℕ → ℕ

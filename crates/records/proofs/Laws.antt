@@ -1,6 +1,6 @@
 -- Laws of `recordAt` for callers: where a record ends, and the record of a term that stands at an offset. Assumes nothing.
 use mathlib.Core.Path.{_≡_, refl, ap, sym, _∙_}
-use mathlib.Core.List.{List, [], _∷_, _++_}
+use mathlib.Core.List.{List, _∷_}
 use mathlib.Core.Bool.{Bool, true, false, cond}
 use Prim.Native.Nat.{ℕ, suc, _+_, _-_, _≤_, _<_}
 use native.Mathlib.Omega.{arith}
@@ -9,7 +9,6 @@ use lib.ListN.{length, getD, take, drop, length-drop}
 use lib.Seq.{getD-drop, drop-drop}
 use lib.Dec.{leb}
 use Rattle.calculus.specs.Terms.{Term, var, lvar, fun, app, lfun, lapp, pair, proj, fix, con}
-use Rattle.calculus.specs.Write.{termBytes}
 use Rattle.calculus.specs.Laid.{Stands}
 use Rattle.records.specs.Record.{shapeOf, recordAt, recordOf, bodyAt}
 use Rattle.records.specs.Heads.{node, nodeOf}

@@ -1,14 +1,12 @@
 -- What a kind byte fixes, and what stands at an offset of a sheet (document 01, "The sheet"). Assumes nothing.
 use Prim.Native.Nat.{ℕ, _+_, _-_}
 use mathlib.Core.List.{List, [], _∷_, _++_}
-use mathlib.Core.Bool.{Bool, true, false, cond}
+use mathlib.Core.Bool.{cond}
 use lib.ListN.{length, getD, take, drop, replicate}
 use lib.Dec.{leb}
-use Rattle.records.specs.declared.Rule.{Rule}
 use Rattle.records.specs.declared.Rule.the-variants as rule
 use Rattle.records.specs.declared.Shape.{Shape}
 use Rattle.records.specs.declared.Shape.the-variants as shape
-use Rattle.records.specs.declared.TypeRecord.{TypeRecord}
 use Rattle.records.specs.declared.Node.{Node}
 use Rattle.records.specs.declared.Record.{Record}
 use Rattle.records.specs.declared.Record.the-variants as rec

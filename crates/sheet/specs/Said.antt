@@ -6,7 +6,6 @@ use lib.Dec.{ltb, leb, eqb}
 use lib.ListN.{length}
 use Rattle.calculus.specs.Answer.{Answer, good, refused, _>>=_, need}
 use Rattle.calculus.specs.Types.{Table}
-use Rattle.calculus.specs.Terms.{nodes}
 use Rattle.calculus.specs.Read.{Kind, unknown, type, node, NodeKind, k11, k12, k13, k14, k15, k16, k17, k18, k19, k1A, nodeBody, headAt, Got}
 use Rattle.sheet.specs.Tables.{sizesOf}
 use Rattle.sheet.specs.Sheets.{ReadSaid, wholeSheet, noSheet}

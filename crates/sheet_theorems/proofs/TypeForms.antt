@@ -1,11 +1,11 @@
 -- What a type is, told by its record alone, in a table that the reader accepts. Assumes nothing.
-use Prim.Native.Nat.{ℕ, zero, suc, _+_, _<_}
-use mathlib.Core.Path.{_≡_, refl, sym, ap, subst, _∙_}
+use Prim.Native.Nat.{ℕ, _+_, _<_}
+use mathlib.Core.Path.{_≡_, subst}
 use mathlib.Core.Bool.{Bool, true, false, _&&_}
 use native.Mathlib.Omega.{arith}
-use lib.Dec.{T, eqb}
+use lib.Dec.{eqb}
 use lib.ListN.{length}
-use Rattle.calculus.specs.Types.{Ty, bit, prod, arrow, lolli, size, sharable, isArrow, tyEq, TyRec, rec01, rec02, rec03, rec04, Table, recAt, tree}
+use Rattle.calculus.specs.Types.{Ty, bit, arrow, size, sharable, isArrow, tyEq, TyRec, rec01, rec02, rec03, rec04, Table, recAt, tree}
 use Rattle.calculus.specs.Laid.{Agrees, TableOk}
 use Rattle.laws.proofs.Tests.{T-is, and-of}
 use Rattle.sheet_theorems.proofs.TypeOffsets.{tree-zero}

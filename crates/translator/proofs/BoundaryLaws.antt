@@ -1,5 +1,5 @@
 -- What a call says, and a node's stretch, fit the two halves of one number. Assumes nothing.
-use Prim.Native.Nat.{ℕ, _+_, _≤_, _<_}
+use Prim.Native.Nat.{ℕ, _+_, _≤_}
 use mathlib.Core.Path.{_≡_, refl, sym, ap, subst, _∙_}
 use mathlib.Core.Bool.{Bool}
 use mathlib.Core.List.{List}
@@ -9,7 +9,7 @@ use lib.ListN.{length}
 use Rattle.calculus.specs.Answer.{Answer, good, refused}
 use Rattle.calculus.specs.Terms.{nodes}
 use Rattle.calculus.specs.Read.{Sheet, readSheet}
-use Rattle.calculus.specs.Stretch.{Stretch, stretchOf}
+use Rattle.calculus.specs.Stretch.{stretchOf}
 use Rattle.calculus.specs.Translate.{Call, call}
 use Rattle.sheet_theorems.proofs.Laying.{laid}
 use Rattle.sheet_theorems.proofs.StretchHolds.{stretch-holds, stretch-past, stretch-refused}

@@ -1,26 +1,23 @@
 -- The three demands hold of what a call leaves. Assumes nothing.
 use Prim.Native.Nat.{ℕ, _+_, _≤_, _<_}
 use mathlib.Core.Path.{_≡_, refl, sym, ap, subst, _∙_}
-use mathlib.Core.Bool.{Bool, true, false, cond}
-use mathlib.Core.Logic.{_↔_}
-use mathlib.Core.List.{List, [], _∷_, _++_}
+use mathlib.Core.Bool.{Bool}
+use mathlib.Core.List.{List, [], _++_}
 use native.Mathlib.Omega.{arith}
-use lib.Dec.{T, leb, leb→le, le→leb}
-use lib.ListN.{length, getD, drop, replicate, length-append, length-replicate, length-drop, getD-replicate, List·getD-append}
-use lib.Seq.{drop-at}
+use lib.Dec.{leb, leb→le}
+use lib.ListN.{length, drop}
 use borrow.Author.Tests.{lt-leb, le-leb}
-use Rattle.calculus.specs.Answer.{Answer, good, refused, _>>=_, need}
+use Rattle.calculus.specs.Answer.{Answer, good, refused, _>>=_}
 use Rattle.calculus.proofs.Answers.{refused≢good, good-inj, on-bind, on-need}
 use Rattle.calculus.specs.Types.{Ty}
 use Rattle.calculus.specs.Read.{Sheet, readSheet}
 use Rattle.calculus.specs.Rules.{Typed}
-use Rattle.calculus.specs.Walk.{Found, walk}
-use Rattle.calculus.specs.Net.{Net, Made, make, netOf, netBytes}
-use Rattle.calculus.specs.Translate.{full, asked, answer, zeroed, saidOf, outOf, workOf, Call, call}
+use Rattle.calculus.specs.Net.{Net, make, netOf, netBytes}
+use Rattle.calculus.specs.Translate.{full, asked, answer, zeroed, saidOf, outOf, workOf, call}
 use Rattle.sheet_theorems.proofs.Exact.{exact}
 use Rattle.circuit_theorems.proofs.Main.{accepts, driven, same-circuit}
 use Rattle.memory.proofs.Zeroed.{zeroed-length, zeroed-zeros, zeroed-later}
-use Rattle.translator.specs.Demands.{Wrote, Cleared, Demand1, Within, Derivable, Demand2, Demand3}
+use Rattle.translator.specs.Demands.{Wrote, Cleared, Demand1, Derivable, Demand2, Demand3}
 use Rattle.translator.proofs.Places.{Judged, value, refusal, CallPlace, answer-places}
 
 -- ---- demand 1

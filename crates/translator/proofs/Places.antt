@@ -3,7 +3,7 @@
 use Prim.Native.Nat.{ℕ, zero, suc, _+_, _≤_, _<_}
 use mathlib.Core.Path.{_≡_, refl}
 use mathlib.Core.Bool.{Bool, true, false, not, _||_}
-use mathlib.Core.List.{List, [], _∷_, _++_}
+use mathlib.Core.List.{List, [], _∷_}
 use native.Mathlib.Omega.{arith}
 use native.Mathlib.Nat.{le-refl}
 use lib.Dec.{T, leb, ltb, eqb, leb→le, ltb→lt}
@@ -12,10 +12,9 @@ use borrow.Author.Tests.{leb-false, eqb-false}
 use Rattle.calculus.specs.Answer.{Answer, good, refused, _>>=_, need}
 use Rattle.calculus.specs.Types.{size, tyOf, tysFrom, sharable, tyEq, TyRec, rec01, rec02, rec03, rec04, Table, recAt, tree}
 use Rattle.calculus.specs.Terms.{Term, var, lvar, fun, app, lfun, lapp, pair, proj, fix, con, nodes, parts, partAt}
-use Rattle.calculus.specs.Read.{known, formed, repeated, nodeBody, nodeTyped, Kind, unknown, type, node, NodeKind, k11, k12, k13, k14, k15, k16, k17, k18, k19, k1A, nodeKind, kindOf, byte, typeRec, typeBody, checkType, typeAt, readTypes, Got, headAt, nodeAt, readTerm, Sheet, readSheet}
-use Rattle.calculus.specs.Walk.{Binder, shared, linear, Stack, Sides, product, sharableArrow, linearArrow, Found, under, useShared, useLinear, topUsed, walk}
-use Rattle.calculus.specs.Net.{Net, make, netOf, netBytes}
-use Rattle.calculus.specs.Lean.{lean}
+use Rattle.calculus.specs.Read.{known, formed, repeated, nodeBody, nodeTyped, Kind, unknown, type, node, NodeKind, k11, k12, k13, k14, k15, k16, k17, k18, k19, k1A, nodeKind, kindOf, byte, typeRec, typeBody, checkType, typeAt, readTypes, Got, headAt, nodeAt, readTerm, readSheet}
+use Rattle.calculus.specs.Walk.{Binder, shared, linear, Stack, product, sharableArrow, linearArrow, Found, under, useShared, useLinear, topUsed, walk}
+use Rattle.calculus.specs.Net.{Net, make, netBytes}
 use Rattle.calculus.specs.Translate.{full, asked, answer, saidOf, call}
 use Rattle.sheet_theorems.proofs.Laying.{laid}
 use Rattle.circuit_theorems.proofs.Bounds.{length-enough, lean-shorter}

@@ -1,17 +1,16 @@
 -- What the full netlist of a sheet is, by what the stages of a call find one after the other. Assumes nothing.
 use Prim.Native.Nat.{ℕ, _≤_, _<_}
-use mathlib.Core.Path.{_≡_, refl, sym, ap, _∙_}
-use mathlib.Core.Bool.{Bool, cond}
+use mathlib.Core.Path.{_≡_, refl, sym, _∙_}
+use mathlib.Core.Bool.{Bool}
 use mathlib.Core.List.{List, []}
-use lib.Dec.{leb}
 use lib.ListN.{length}
 use borrow.Author.Tests.{lt-leb, le-leb}
-use Rattle.calculus.specs.Answer.{Answer, good, refused, _>>=_, need}
-use Rattle.calculus.proofs.Answers.{refused≢good, good-inj, on-bind}
+use Rattle.calculus.specs.Answer.{Answer, good, refused, _>>=_}
+use Rattle.calculus.proofs.Answers.{refused≢good, on-bind}
 use Rattle.calculus.specs.Read.{Sheet, readSheet}
 use Rattle.calculus.specs.Walk.{Found, walk}
-use Rattle.calculus.specs.Net.{Net, make, netOf, netBytes}
-use Rattle.calculus.specs.Translate.{full, answer, asked, saidOf, outOf, workOf, zeroed, Call, call}
+use Rattle.calculus.specs.Net.{Net, make, netOf}
+use Rattle.calculus.specs.Translate.{full, answer, asked, workOf, zeroed, call}
 use Rattle.memory.proofs.Zeroed.{zeroed-same}
 use Rattle.typing.specs.Answers.{typeOf, checkOf}
 use Rattle.translator.specs.Said.{netAnswer, askedAnswer, Says, Keeps, called}

@@ -1,10 +1,9 @@
 -- What is answered where a netlist fits the output, and where it does not. Assumes nothing.
 use Prim.Native.Nat.{ℕ, _+_, _-_, _≤_, _<_}
-use mathlib.Core.Path.{_≡_, refl, sym, ap, subst, _∙_}
+use mathlib.Core.Path.{_≡_, sym, ap, subst, _∙_}
 use mathlib.Core.List.{List}
 use native.Mathlib.Omega.{arith}
-use lib.Dec.{leb}
-use lib.ListN.{length, getD, drop, length-drop}
+use lib.ListN.{length, drop, length-drop}
 use lib.Seq.{sets, ext-getD, getD-drop}
 use borrow.Author.Tests.{lt-leb, le-leb}
 use Rattle.calculus.specs.Answer.{Answer, good, refused}

@@ -13,7 +13,7 @@ use Rattle.calculus.specs.Net.{Net, make, netOf, netBytes}
 use Rattle.calculus.specs.Lean.{lean}
 use Rattle.calculus.specs.Record.{Bits, Law, Outside}
 use Rattle.calculus.specs.Formed.{made, targets, ins}
-use Rattle.calculus.specs.Translate.{asked, Call, call}
+use Rattle.calculus.specs.Translate.{asked, Call}
 
 -- ---- demand 1
 

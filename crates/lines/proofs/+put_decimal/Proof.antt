@@ -1,6 +1,6 @@
 -- Below 10 one digit; otherwise those of a tenth, then the last. The falling number is the number itself. Assumes nothing.
 use native.Mathlib.Omega.{arith}
-use mathlib.Core.Path.{refl, _∙_}
+use mathlib.Core.Path.{refl}
 use mathlib.Core.List.{[], _∷_}
 use lib.ListN.{length-set, length-append}
 use Rattle.lines.specs.Figure.{figure}

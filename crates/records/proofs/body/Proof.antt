@@ -1,13 +1,11 @@
 -- `records::body` meets its contract: a byte within the body is read, and past it stands 0. Assumes nothing.
 use borrow.Author.Needs.{needs}
-use mathlib.Core.Path.{sym, refl, _∙_}
+use mathlib.Core.Path.{sym}
 use lib.Seq.{getD-drop, getD-take}
 use native.Mathlib.Omega.{arith}
 use lib.ListN.{take, drop, length-take, List·getD-eq-default}
 use Rattle.records.proofs.body.Statement.{statement}
 use Rattle.records.proofs.body.Tie as tie
-use Rattle.records.proofs.body.Reads as reads
-use Rattle.records.proofs.body.Lts as lts
 
 add-result : tie.Need-add-result
 add-result c = search needs

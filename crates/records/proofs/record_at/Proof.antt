@@ -6,10 +6,6 @@ use Rattle.records.specs.Record.{recordAt}
 use borrow.Author.Needs.{needs}
 use Rattle.records.proofs.record_at.Statement.{statement}
 use Rattle.records.proofs.record_at.Tie as tie
-use Rattle.records.proofs.record_at.Reads as reads
-use Rattle.records.proofs.record_at.Lts as lts
-use Rattle.records.proofs.body.Reads as body-reads
-use Rattle.records.proofs.shape_of.Reads as shape-of-reads
 
 -- src/lib.rt:77:9
 returns : tie.Need-returns

@@ -1,14 +1,12 @@
 -- `records::shape_of` meets its contract: each arm of the match is a run of entries in the table of kinds. Assumes nothing.
 use mathlib.Core.Logic.{⊎-elim, inl, inr}
-use mathlib.Core.Path.{_≡_, sym, refl}
+use mathlib.Core.Path.{sym, refl}
 use native.Mathlib.Omega.{arith}
 use lib.ListN.{List·getD-eq-default}
 use Rattle.records.specs.Record.{shapeOf, shapes}
 use Rattle.laws.proofs.Runs.{run-at, past}
 use Rattle.records.proofs.shape_of.Statement.{statement}
 use Rattle.records.proofs.shape_of.Tie as tie
-use Rattle.records.proofs.shape_of.Reads as reads
-use Rattle.records.proofs.shape_of.Lts as lts
 
 returns : tie.Need-returns
 unfolding shapeOf

@@ -4,9 +4,6 @@ use Rattle.records.proofs.FormLaws.{rec-first, type-short, type-long, r
 use borrow.Author.Needs.{needs}
 use Rattle.records.proofs.type_at.Statement.{statement}
 use Rattle.records.proofs.type_at.Tie as tie
-use Rattle.records.proofs.type_at.Reads as reads
-use Rattle.records.proofs.type_at.Lts as lts
-use Rattle.records.proofs.wide.Reads as wide-reads
 
 -- src/lib.rt:126:9
 returns : tie.Need-returns

@@ -5,10 +5,6 @@ use Rattle.translator.proofs.StageLaws.{call-small, call-run}
 use borrow.Author.Needs.{needs}
 use Rattle.translator.proofs.translate.Statement.{statement}
 use Rattle.translator.proofs.translate.Tie as tie
-use Rattle.translator.proofs.translate.Reads as reads
-use Rattle.translator.proofs.translate.Lts as lts
-use Rattle.memory.proofs.clear.Reads as clear-reads
-use Rattle.translator.proofs.stages.run.Reads as run-reads
 
 -- src/lib.rt:21:9
 returns : tie.Need-returns

@@ -1,6 +1,6 @@
 -- `translator::boundary::deltawobble_stretch` meets its contract: a stretch lies within 16,384 bytes. Assumes nothing.
 use Prim.Native.Nat.{_+_, _≤_}
-use mathlib.Core.Path.{_≡_, sym, ap, subst}
+use mathlib.Core.Path.{sym, ap, subst}
 use native.Mathlib.Omega.{arith}
 use Rattle.calculus.specs.Stretch.{Stretch}
 use Rattle.translator.specs.Boundary.{packedStretch}
@@ -8,9 +8,6 @@ use Rattle.translator.proofs.BoundaryLaws.{stretch-fits}
 use borrow.Author.Needs.{needs}
 use Rattle.translator.proofs.boundary.deltawobble_stretch.Statement.{statement}
 use Rattle.translator.proofs.boundary.deltawobble_stretch.Tie as tie
-use Rattle.translator.proofs.boundary.deltawobble_stretch.Reads as reads
-use Rattle.translator.proofs.boundary.deltawobble_stretch.Lts as lts
-use Rattle.sheet.proofs.stretch_bounds.Reads as stretch-bounds-reads
 
 -- src/boundary.rt:29:9
 stretch-bounds-requires : tie.Need-stretch-bounds-requires

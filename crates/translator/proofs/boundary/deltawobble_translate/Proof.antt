@@ -4,9 +4,6 @@ use Rattle.translator.proofs.BoundaryLaws.{place-fits, answer-packs}
 use borrow.Author.Needs.{needs}
 use Rattle.translator.proofs.boundary.deltawobble_translate.Statement.{statement}
 use Rattle.translator.proofs.boundary.deltawobble_translate.Tie as tie
-use Rattle.translator.proofs.boundary.deltawobble_translate.Reads as reads
-use Rattle.translator.proofs.boundary.deltawobble_translate.Lts as lts
-use Rattle.translator.proofs.translate.Reads as translate-reads
 
 -- src/boundary.rt:18:11
 translate-requires : tie.Need-translate-requires

@@ -1,14 +1,10 @@
 -- `translator::stages::checked` meets its contract: the walk's verdict is the definition's. Assumes nothing.
-use mathlib.Core.Path.{_≡_, refl, sym, ap, _∙_}
+use mathlib.Core.Path.{refl, sym, ap, _∙_}
 use Rattle.typing.specs.Answers.{saidTyping}
 use Rattle.translator.proofs.StageLaws.{typed-found, untyped-says}
 use borrow.Author.Needs.{needs}
 use Rattle.translator.proofs.stages.checked.Statement.{statement}
 use Rattle.translator.proofs.stages.checked.Tie as tie
-use Rattle.translator.proofs.stages.checked.Reads as reads
-use Rattle.translator.proofs.stages.checked.Lts as lts
-use Rattle.translator.proofs.stages.counted.Reads as counted-reads
-use Rattle.typing.proofs.check.Reads as check-reads
 
 -- src/stages.rt:49:11
 check-requires : tie.Need-check-requires

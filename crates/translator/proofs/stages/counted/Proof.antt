@@ -4,10 +4,6 @@ use Rattle.translator.proofs.StageLaws.{many-says, full-few}
 use borrow.Author.Needs.{needs}
 use Rattle.translator.proofs.stages.counted.Statement.{statement}
 use Rattle.translator.proofs.stages.counted.Tie as tie
-use Rattle.translator.proofs.stages.counted.Reads as reads
-use Rattle.translator.proofs.stages.counted.Lts as lts
-use Rattle.translator.proofs.stages.made.Reads as made-reads
-use Rattle.wiring.proofs.count.Reads as count-reads
 
 -- src/stages.rt:37:15
 count-requires : tie.Need-count-requires

@@ -8,11 +8,6 @@ use Rattle.translator.proofs.StageLaws.{asked-says}
 use borrow.Author.Needs.{needs}
 use Rattle.translator.proofs.stages.made.Statement.{statement}
 use Rattle.translator.proofs.stages.made.Tie as tie
-use Rattle.translator.proofs.stages.made.Reads as reads
-use Rattle.translator.proofs.stages.made.Lts as lts
-use Rattle.translator.proofs.write.write_full.Reads as write-full-reads
-use Rattle.translator.proofs.write.write_lean.Reads as write-lean-reads
-use Rattle.wiring.proofs.make_net.Reads as make-net-reads
 
 -- src/stages.rt:21:9
 make-net-requires : tie.Need-make-net-requires

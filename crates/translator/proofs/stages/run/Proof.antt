@@ -5,10 +5,6 @@ use Rattle.translator.proofs.StageLaws.{unread-says}
 use borrow.Author.Needs.{needs}
 use Rattle.translator.proofs.stages.run.Statement.{statement}
 use Rattle.translator.proofs.stages.run.Tie as tie
-use Rattle.translator.proofs.stages.run.Reads as reads
-use Rattle.translator.proofs.stages.run.Lts as lts
-use Rattle.sheet.proofs.read.Reads as read-reads
-use Rattle.translator.proofs.stages.checked.Reads as checked-reads
 
 -- src/stages.rt:61:9
 read-requires : tie.Need-read-requires

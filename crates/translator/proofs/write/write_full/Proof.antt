@@ -7,10 +7,6 @@ use Rattle.translator.proofs.WriteLaws.{says-short, says-fits}
 use borrow.Author.Needs.{needs}
 use Rattle.translator.proofs.write.write_full.Statement.{statement}
 use Rattle.translator.proofs.write.write_full.Tie as tie
-use Rattle.translator.proofs.write.write_full.Reads as reads
-use Rattle.translator.proofs.write.write_full.Lts as lts
-use Rattle.netlist.proofs.full_length.Reads as full-length-reads
-use Rattle.netlist.proofs.write_full.Reads as write-full-reads
 
 -- src/write.rt:16:9
 full-length-requires : tie.Need-full-length-requires

@@ -10,16 +10,10 @@ use Rattle.calculus.specs.Lean.{lean}
 use Rattle.calculus.specs.Record.{All}
 use Rattle.memory.specs.Map.{netIn}
 use Rattle.netlist.specs.Elements.{Known}
-use Rattle.lean.specs.Fitting.{Fits}
 use Rattle.translator.proofs.WriteLaws.{says-short, says-fits, within-keeps}
 use borrow.Author.Needs.{needs}
 use Rattle.translator.proofs.write.write_lean.Statement.{statement}
 use Rattle.translator.proofs.write.write_lean.Tie as tie
-use Rattle.translator.proofs.write.write_lean.Reads as reads
-use Rattle.translator.proofs.write.write_lean.Lts as lts
-use Rattle.lean.proofs.lean_length.Reads as lean-length-reads
-use Rattle.lean.proofs.roots.Reads as roots-reads
-use Rattle.lean.proofs.write_lean.Reads as write-lean-reads
 
 -- src/write.rt:29:5
 roots-requires : tie.Need-roots-requires
