@@ -143,7 +143,7 @@ module _ (w₀ w : List ℕ) (e k p o r x left : ℕ) (s : Settling w₀ w e k p
 
 -- ---- all are settled
 
-pub rooted : (w v : List ℕ) (e k p : ℕ) → Ready w e k p → Within w v → Partly v e k p → ((x : ℕ) → x < 8192 → entry v x ≡ 65535 → ⊥) → Rooted w v e k p
+pub rooted : (w v : List ℕ) (e k p : ℕ) → Ready w e k p → Within w v → Partly v e k p → ((x : ℕ) → T (isOut (netIn w e k p .elements) x) → entry v x ≡ 65535 → ⊥) → Rooted w v e k p
 rooted w v e k p r h q d = record {
   within = h;
   net = net-same w e k p r v h;
@@ -151,5 +151,5 @@ rooted w v e k p r h q d = record {
 }
   where
     by : (x : ℕ) → x < 8192 → (b : Bool) → isOut (netIn v e k p .elements) x ≡ b → entry v x ≡ cond b (root (netIn v e k p) x) 0
-    by x l true z = q .right x (subst T (sym z) tt) (d x l)
+    by x l true z = let t = subst T (sym z) tt in q .right x t (d x (subst (λ (m : Net). T (isOut (m .elements) x)) (net-same w e k p r v h) t))
     by x l false z = q .other x l z

@@ -12,7 +12,7 @@ use Rattle.calculus.specs.Net.{point, part, Net}
 use Rattle.calculus.specs.Lean.{back, root}
 use Rattle.calculus.specs.Record.{All}
 use Rattle.calculus.specs.Formed.{isOut}
-use Rattle.circuit_theorems.proofs.Terminals.{pointIn, point-made}
+use Rattle.circuit_theorems.proofs.Terminals.{pointIn, point-made, out-high}
 use Rattle.circuit_theorems.proofs.RootLaws.{root-stays}
 use Rattle.circuit_theorems.proofs.BackLaws.{PartStays, back-parts}
 use Rattle.memory.specs.Map.{region, elementsFrom, netIn, Ready}
@@ -134,6 +134,13 @@ module _ (u : List ℕ) (e k p : ℕ) (r : Ready u e k p) where
 
 -- ---- the whole
 
+-- u is w with the table as it starts, and `end` is the first terminal that no element takes
+pub record Begun (w u : List ℕ) (elements wires pins end : ℕ) : Type 0 where
+  pub within : Within w u
+  pub partly : Partly u elements wires pins
+  pub low : end ≤ 8192
+  pub before : (x : ℕ) → T (isOut (netIn w elements wires pins .elements) x) → x < end
+
 module _ (w v : List ℕ) (e k p : ℕ) (r : Ready w e k p) (b : Blank w v) where
   abbrev rv : Ready v e k p
   rv = ready-same w e k p r v (b .within)
@@ -157,8 +164,22 @@ module _ (w v : List ℕ) (e k p : ℕ) (r : Ready w e k p) (b : Blank w v) wher
   unfolding netIn
   others x l h = started-other ks 0 v x h ∙ b .none x l
 
-  pub started-partly : Partly (started v ks 0) e k p
+  started-partly : Partly (started v ks 0) e k p
   started-partly = partly-of v e k p rv (started v ks 0) started-in others says-all
 
-  pub started-all : Within w (started v ks 0)
-  started-all = within-then (b .within) started-in
+  -- no output is past the last element
+  before-end : (x : ℕ) → T (isOut (netIn w e k p .elements) x) → x < afterAll ks 0
+  unfolding netIn
+  before-end x t =
+      let same = net-same w e k p r v (b .within) in
+      let q = tiled-after ks 0 (rv .end) (rv .tiled) in
+      let h = out-high (netIn v e k p .elements) 0 (rv .end) x (rising v e k p rv) (subst (λ (y : Net). T (isOut (y .elements) x)) (sym same) t) in
+      omega arith
+
+  pub begun : (u : List ℕ) (end : ℕ) → (end ≡ afterAll ks 0) × (u ≡ started v ks 0) → Begun w u e k p end
+  begun u end h = record {
+    within = subst (Within w) (sym (h .1)) (within-then (b .within) started-in);
+    partly = subst (λ (x : List ℕ). Partly x e k p) (sym (h .1)) started-partly;
+    low = let a = h .0 in omega (arith, kinds-low);
+    before = λ x t. let a = h .0 in omega (arith, before-end x t);
+  }

@@ -86,9 +86,11 @@ fn start_one(work: &mut [u16], kind: u16, at: usize) -> usize
     o + 1
 }
 
-fn start(work: &mut [u16], elements: usize)
+// The table as it starts; the first terminal that no element takes.
+fn start(work: &mut [u16], elements: usize) -> usize
     requires { ⌜ (32768 ≤ length (now work)) × ((elements ≤ 5120) × (afterAll (region (now work) 13824 elements) 0 ≤ 8192)) ⌝ }
-    ensures { λ _. ⌜ now (work .exit) ≡ started (now (work .entry)) (region (now (work .entry)) 13824 elements) 0 ⌝ }
+    ensures { λ r. ⌜ (r ≡ afterAll (region (now (work .entry)) 13824 elements) 0)
+        × (now (work .exit) ≡ started (now (work .entry)) (region (now (work .entry)) 13824 elements) 0) ⌝ }
 {
     let mut at: usize = 0;
     let mut i: usize = 0;
@@ -97,6 +99,7 @@ fn start(work: &mut [u16], elements: usize)
         at = start_one(work, kind, at);
         i = i + 1;
     }
+    at
 }
 
 // One step back from output x, which is not settled.
@@ -199,9 +202,9 @@ pub fn roots(work: &mut [u16], elements: usize, wires: usize, pins: usize)
     ensures { λ _. ⌜ Rooted (now (work .entry)) (now (work .exit)) elements wires pins ⌝ }
 {
     blank(work);
-    start(work, elements);
+    let end = start(work, elements);
     let mut o: usize = 0;
-    while o < TERMINALS {
+    while o < end {
         root_one(work, elements, wires, pins, o);
         o = o + 1;
     }
