@@ -12,9 +12,9 @@ use Rattle.lean.proofs.roots.Statement.{statement}
 use Rattle.lean.proofs.roots.Tie as tie
 use Rattle.lean.proofs.roots.Reads as reads
 use Rattle.lean.proofs.roots.Lts as lts
-use Rattle.lean.proofs.blank.Reads as blank-reads
-use Rattle.lean.proofs.root_one.Reads as root-one-reads
-use Rattle.lean.proofs.start.Reads as start-reads
+use Rattle.lean.proofs.table.blank.Reads as blank-reads
+use Rattle.lean.proofs.table.root_one.Reads as root-one-reads
+use Rattle.lean.proofs.table.start.Reads as start-reads
 
 abbrev Inv-loop : tie.InvT-loop
 Inv-loop work₀ elements wires pins end o₀ work o =
