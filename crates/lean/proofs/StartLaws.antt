@@ -21,7 +21,7 @@ use Rattle.lean.specs.Table.{outputOf, entry, Within, Blank, firstOf, st
 use Rattle.netlist.proofs.Elements.{after-rises}
 use Rattle.lean.proofs.KindLaws.{output-low, after-output, output-from, tiled-after}
 use Rattle.lean.proofs.TableLaws.{within-none, within-then, within-set, entry-same, entry-other}
-use Rattle.lean.proofs.FrameLaws.{net-same, ready-same}
+use Rattle.memory.proofs.NetStays.{net-same, ready-same}
 use Rattle.lean.proofs.DriverLaws.{rising, output-below, input-below, point-none, point-driven}
 
 -- ---- what changes
@@ -84,9 +84,9 @@ module _ (u : List ℕ) (e k p : ℕ) (r : Ready u e k p) where
   pub partly-of : (w : List ℕ) → Within u w → ((x : ℕ) → x < 8192 → isOut (m .elements) x ≡ false → entry w x ≡ 0)
       → ((o : ℕ) → T (isOut (m .elements) o) → Says o (entry w o)) → Partly w e k p
   partly-of w h others says =
-      let same = net-same u e k p r w h in
+      let same = net-same u e k p r w (h .size) (h .below) in
       record {
-        ready = ready-same u e k p r w h;
+        ready = ready-same u e k p r w (h .size) (h .below);
         other = rw same others;
         right = rw same (λ o t. says o t .0);
         loose = λ o t z.
@@ -143,7 +143,7 @@ pub record Begun (w u : List ℕ) (elements wires pins end : ℕ) : Type 0 where
 
 module _ (w v : List ℕ) (e k p : ℕ) (r : Ready w e k p) (b : Blank w v) where
   abbrev rv : Ready v e k p
-  rv = ready-same w e k p r v (b .within)
+  rv = ready-same w e k p r v (b .within .size) (b .within .below)
 
   abbrev ks : List ℕ
   ks = region v 13824 e
@@ -171,7 +171,7 @@ module _ (w v : List ℕ) (e k p : ℕ) (r : Ready w e k p) (b : Blank w v) wher
   before-end : (x : ℕ) → T (isOut (netIn w e k p .elements) x) → x < afterAll ks 0
   unfolding netIn
   before-end x t =
-      let same = net-same w e k p r v (b .within) in
+      let same = net-same w e k p r v (b .within .size) (b .within .below) in
       let q = tiled-after ks 0 (rv .end) (rv .tiled) in
       let h = out-high (netIn v e k p .elements) 0 (rv .end) x (rising v e k p rv) (subst (λ (y : Net). T (isOut (y .elements) x)) (sym same) t) in
       omega arith

@@ -5,7 +5,6 @@ use mathlib.Core.Path.{_≡_}
 use borrow.Author.Count.{below-more}
 use Rattle.lean.specs.Table.{entry, Within, Partly}
 use Rattle.lean.proofs.TableLaws.{within-none, within-then}
-use Rattle.lean.proofs.FrameLaws.{ready-same}
 use Rattle.lean.proofs.StartLaws.{kinds-low, Begun, begun}
 use Rattle.lean.proofs.SettleLaws.{rooted}
 use Rattle.lean.proofs.roots.Statement.{statement}
@@ -31,8 +30,9 @@ start-requires c κs =
     let b = c .before .before .before in
     let s = b .before .before .before in
     let a = s .args in
-    let r = ready-same (a .work .now) (a .elements) (a .wires) (a .pins) (s .pre) (b .blank .last .0) (b .blank .ensures .within) in
-    (r .size, (r .few-elements, kinds-low (a .work .now) (b .blank .last .0) (a .elements) (a .wires) (a .pins) (s .pre) (b .blank .ensures)))
+    let l = s .pre .size in
+    let z = b .blank .ensures .within .size in
+    (omega arith, (s .pre .few-elements, kinds-low (a .work .now) (b .blank .last .0) (a .elements) (a .wires) (a .pins) (s .pre) (b .blank .ensures)))
 
 abbrev Started : Type 0
 Started = lts.After-start (blank-reads.Asked, blank-reads.Learnt, start-reads.Asked, start-reads.Learnt, root-one-reads.Asked, root-one-reads.Learnt) reads.Pre reads.Post Inv-loop μ-loop
