@@ -49,7 +49,7 @@ pub fn lean_length(work: &[u16], elements: usize, wires: usize, pins: usize) -> 
     while i < elements {
         let kind = work[ELEMENTS + i];
         sum = sum + sizes::element_size(work, kind, n);
-        n = table::output_of(kind, n) + 1;
+        n = table::next_after(kind, n);
         i = i + 1;
     }
     sum

@@ -26,15 +26,23 @@ pub fn inputs_of(kind: u16) -> usize
 }
 
 // The output of the element of this kind whose first terminal is `at`.
-pub fn output_of(kind: u16, at: usize) -> usize
-    requires { ⌜ at ≤ 8192 ⌝ }
-    ensures { λ r. ⌜ r ≡ outputOf kind at ⌝ }
+fn output_of(kind: u16, at: usize) -> usize
+    requires { ⌜ after kind at ≤ 8192 ⌝ }
+    ensures { λ r. ⌜ (r ≡ outputOf kind at) × (r < 8192) ⌝ }
 {
     if kind == POINT {
         at + 1
     } else {
         at + inputs_of(kind)
     }
+}
+
+// The next free terminal behind it.
+pub fn next_after(kind: u16, at: usize) -> usize
+    requires { ⌜ after kind at ≤ 8192 ⌝ }
+    ensures { λ r. ⌜ r ≡ after kind at ⌝ }
+{
+    output_of(kind, at) + 1
 }
 
 // Every entry of the table is 0.

@@ -94,7 +94,7 @@ pub fn put_elements(work: &[u16], elements: usize, out: &mut [u8], from: usize) 
     while i < elements {
         let kind = work[ELEMENTS + i];
         at = put_kept(work, kind, n, out, at);
-        n = table::output_of(kind, n) + 1;
+        n = table::next_after(kind, n);
         i = i + 1;
     }
     at
@@ -112,7 +112,7 @@ pub fn put_wires(work: &[u16], elements: usize, out: &mut [u8], from: usize) -> 
     while i < elements {
         let kind = work[ELEMENTS + i];
         at = put_to(work, kind, n, out, at);
-        n = table::output_of(kind, n) + 1;
+        n = table::next_after(kind, n);
         i = i + 1;
     }
     at

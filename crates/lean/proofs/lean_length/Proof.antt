@@ -6,7 +6,6 @@ use Prim.Native.Nat.{ℕ, _≤_, _<_, _-_, _+_, _*_}
 use lib.ListN.{length, getD}
 use Rattle.memory.specs.Map.{region}
 use Rattle.netlist.proofs.InMemory.{region-length}
-use Rattle.lean.proofs.KindLaws.{first-low, output-low, after-output}
 use Rattle.lean.proofs.SumLaws.{rowsSize, rows-most, Summing, summing-low, summing-most, summing-step, summing-end}
 use Rattle.lean.proofs.LeanLaws.{lean-length, kinds-low}
 use Rattle.lean.proofs.lean_length.Statement.{statement}
@@ -61,29 +60,15 @@ add-sum c =
     let e = c .element-size .ensures in
     omega (arith, h, e, rows-most w (region w 13824 (a .elements)) 0, region-length w 13824 (a .elements) z)
 
-output-of-requires : tie.Need-output-of-requires Inv-loop μ-loop
-output-of-requires c κs =
+next-after-requires : tie.Need-next-after-requires Inv-loop μ-loop
+next-after-requires c κs =
     let b = c .before .before in
     let l = b .before .loop in
     let s = b .before .before .before in
     let a = s .args in
     let w = a .work .now in
     let z = fits w (a .elements) (s .pre .ready .size) (s .pre .ready .few-elements) in
-    let h = summing-low w (a .elements) _ (l .sum) (l .n) (l .i) z (l .inv .1) (b .loop-test .taken) in
-    let q : l .n < 8192 = first-low (getD w (13824 + l .i) 0) (l .n) 8192 h in
-    omega arith
-
-add-n : tie.Need-add-n Inv-loop μ-loop
-add-n c =
-    let b = c .before .before .before in
-    let l = b .before .loop in
-    let s = b .before .before .before in
-    let a = s .args in
-    let w = a .work .now in
-    let z = fits w (a .elements) (s .pre .ready .size) (s .pre .ready .few-elements) in
-    let h = summing-low w (a .elements) _ (l .sum) (l .n) (l .i) z (l .inv .1) (b .loop-test .taken) in
-    let q : c .output-of .result < 8192 = rw (c .output-of .ensures) (output-low (getD w (13824 + l .i) 0) (l .n) 8192 h) in
-    omega arith
+    summing-low w (a .elements) _ (l .sum) (l .n) (l .i) z (l .inv .1) (b .loop-test .taken)
 
 loop-again : tie.Need-loop-again Inv-loop μ-loop
 loop-again c =
@@ -96,7 +81,7 @@ loop-again c =
     let z = fits w (a .elements) (s .pre .ready .size) (s .pre .ready .few-elements) in (
       omega arith,
       summing-step w (a .elements) _ (l .sum) (l .n) (l .i) z (l .inv .1) (b .loop-test .taken) _ _ (ap (λ (x : ℕ). l .sum + x) (r .element-size .ensures))
-          (rw (c .output-of .ensures) (after-output (getD w (13824 + l .i) 0) (l .n))),
+          (c .next-after .ensures),
     )
 
 returns : tie.Need-returns Inv-loop μ-loop
@@ -123,8 +108,7 @@ lean-length-spec =
     shared-slice-read-kind
     element-size-requires
     add-sum
-    output-of-requires
-    add-n
+    next-after-requires
     (λ c. omega arith)
     (λ c. omega arith)
     loop-again

@@ -4,7 +4,6 @@ use mathlib.Core.List.{List}
 use Prim.Native.Nat.{ℕ, _≤_, _<_, _-_, _+_}
 use lib.ListN.{length, getD}
 use Rattle.lean.specs.InMemory.{keptRow}
-use Rattle.lean.proofs.KindLaws.{first-low, output-low, after-output}
 use Rattle.lean.proofs.RowLaws.{kept-none, kept-first, Row, row-start, row-low, row-fits, row-step, row-end}
 use Rattle.lean.proofs.write.put_elements.Statement.{statement}
 use Rattle.lean.proofs.write.put_elements.Tie as tie
@@ -44,31 +43,15 @@ put-kept-requires c κs =
           (row-fits (keptRow w) (kept-none w) (kept-first w) w (a .elements) z (a .out .now) (a .from) (l .out) (l .at) (l .n) (l .i) (l .inv .1) (b .loop-test .taken) _ (s .pre .target));
     }
 
-output-of-requires : tie.Need-output-of-requires Inv-loop μ-loop
-output-of-requires c κs =
-    let p = c .before .before in
-    let b = p .before .before .before in
+next-after-requires : tie.Need-next-after-requires Inv-loop μ-loop
+next-after-requires c κs =
+    let b = c .before .before .before .before .before in
     let l = b .before .loop in
     let s = b .before .before .before .before in
     let a = s .args in
     let w = a .work .now in
     let z = fits w (a .elements) (s .pre .driven .size) (s .pre .few) in
-    let h = row-low (keptRow w) (kept-none w) (kept-first w) w (a .elements) z (a .out .now) (a .from) (l .out) (l .at) (l .n) (l .i) (l .inv .1) (b .loop-test .taken) in
-    let q : l .n < 8192 = first-low (getD w (13824 + l .i) 0) (l .n) 8192 h in
-    omega arith
-
-add-n : tie.Need-add-n Inv-loop μ-loop
-add-n c =
-    let p = c .before .before .before in
-    let b = p .before .before .before in
-    let l = b .before .loop in
-    let s = b .before .before .before .before in
-    let a = s .args in
-    let w = a .work .now in
-    let z = fits w (a .elements) (s .pre .driven .size) (s .pre .few) in
-    let h = row-low (keptRow w) (kept-none w) (kept-first w) w (a .elements) z (a .out .now) (a .from) (l .out) (l .at) (l .n) (l .i) (l .inv .1) (b .loop-test .taken) in
-    let q : c .output-of .result < 8192 = rw (c .output-of .ensures) (output-low (getD w (13824 + l .i) 0) (l .n) 8192 h) in
-    omega arith
+    row-low (keptRow w) (kept-none w) (kept-first w) w (a .elements) z (a .out .now) (a .from) (l .out) (l .at) (l .n) (l .i) (l .inv .1) (b .loop-test .taken)
 
 loop-again : tie.Need-loop-again Inv-loop μ-loop
 loop-again c =
@@ -81,7 +64,7 @@ loop-again c =
     let z = fits w (a .elements) (s .pre .driven .size) (s .pre .few) in (
       omega arith,
       row-step (keptRow w) (kept-none w) (kept-first w) w (a .elements) z (a .out .now) (a .from) (l .out) (l .at) (l .n) (l .i) (l .inv .1) (b .loop-test .taken) _ _ _
-          (p .put-kept .ensures .0) (p .put-kept .ensures .1) (rw (c .output-of .ensures) (after-output (getD w (13824 + l .i) 0) (l .n))),
+          (p .put-kept .ensures .0) (p .put-kept .ensures .1) (c .next-after .ensures),
     )
 
 same-length : tie.Need-same-length Inv-loop μ-loop
@@ -107,8 +90,7 @@ put-elements-spec =
     (λ c. omega arith)
     shared-slice-read-kind
     put-kept-requires
-    output-of-requires
-    add-n
+    next-after-requires
     (λ c. omega arith)
     (λ c. omega arith)
     loop-again
