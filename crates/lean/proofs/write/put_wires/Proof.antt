@@ -1,10 +1,8 @@
 -- The invariant: what is written and the records that are still to come make the whole. Assumes nothing.
 use native.Mathlib.Omega.{arith}
-use mathlib.Core.List.{List}
-use Prim.Native.Nat.{ℕ, _≤_, _<_, _-_, _+_}
-use lib.ListN.{length, getD}
+use Prim.Native.Nat.{_≤_, _-_}
 use Rattle.lean.specs.InMemory.{wireRow}
-use Rattle.lean.proofs.RowLaws.{wire-none, wire-first, Row, row-start, row-low, row-fits, row-step, row-end}
+use Rattle.lean.proofs.RowLaws.{wire-rows, Row, row-size, row-start, row-one, row-step, row-end}
 use Rattle.lean.proofs.write.put_wires.Statement.{statement}
 use Rattle.lean.proofs.write.put_wires.Tie as tie
 
@@ -14,70 +12,38 @@ Inv-loop work elements out₀ from at₀ n₀ i₀ out at n i = (i ≤ elements)
 abbrev μ-loop : tie.MeasureT-loop
 μ-loop work elements out₀ from at₀ n₀ i₀ out at n i = elements - i
 
-fits : (w : List ℕ) (elements : ℕ) → 32768 ≤ length w → elements ≤ 5120 → 13824 + elements ≤ length w
-fits w elements a b = omega arith
-
 loop-holds : tie.Need-loop-holds Inv-loop μ-loop
-loop-holds c =
-    let s = c .before .before in
-    let a = s .args in
-    let w = a .work .now in
-    (omega arith, row-start (wireRow w) (wire-none w) (wire-first w) w (a .elements) (fits w (a .elements) (s .pre .driven .size) (s .pre .few)) (a .out .now) (a .from) (s .pre .low))
+loop-holds c = let s = c .before .before in (omega arith, row-start (wire-rows (s .args .work .now)) (s .args .out .now) (s .pre))
 
 shared-slice-read-kind : tie.Need-shared-slice-read-kind Inv-loop μ-loop
-shared-slice-read-kind c = let s = c .before .before .before .before .before in let z = fits (s .args .work .now) (s .args .elements) (s .pre .driven .size) (s .pre .few) in omega arith
+shared-slice-read-kind c = let s = c .before .before .before .before .before in let z = row-size (wire-rows (s .args .work .now)) (s .args .out .now) (s .pre) in omega arith
 
 put-to-requires : tie.Need-put-to-requires Inv-loop μ-loop
 put-to-requires c κs =
     let b = c .before .before in
-    let l = b .before .loop in
     let s = b .before .before .before .before in
-    let a = s .args in
-    let w = a .work .now in
-    let z = fits w (a .elements) (s .pre .driven .size) (s .pre .few) in
-    record {
-      driven = s .pre .driven;
-      known = s .pre .known (l .i) (b .loop-test .taken);
-      low = row-low (wireRow w) (wire-none w) (wire-first w) w (a .elements) z (a .out .now) (a .from) (l .out) (l .at) (l .n) (l .i) (l .inv .1) (b .loop-test .taken);
-      target = rw (l .inv .1 .writing .size)
-          (row-fits (wireRow w) (wire-none w) (wire-first w) w (a .elements) z (a .out .now) (a .from) (l .out) (l .at) (l .n) (l .i) (l .inv .1) (b .loop-test .taken) _ (s .pre .target));
-    }
+    row-one (wire-rows (s .args .work .now)) (s .args .out .now) (s .pre) (b .before .loop .inv .1) (b .loop-test .taken)
 
 next-after-requires : tie.Need-next-after-requires Inv-loop μ-loop
 next-after-requires c κs =
     let b = c .before .before .before .before .before in
-    let l = b .before .loop in
     let s = b .before .before .before .before in
-    let a = s .args in
-    let w = a .work .now in
-    let z = fits w (a .elements) (s .pre .driven .size) (s .pre .few) in
-    row-low (wireRow w) (wire-none w) (wire-first w) w (a .elements) z (a .out .now) (a .from) (l .out) (l .at) (l .n) (l .i) (l .inv .1) (b .loop-test .taken)
+    row-one (wire-rows (s .args .work .now)) (s .args .out .now) (s .pre) (b .before .loop .inv .1) (b .loop-test .taken) .low
 
 loop-again : tie.Need-loop-again Inv-loop μ-loop
 loop-again c =
     let p = c .before .before .before in
     let b = p .before .before .before in
-    let l = b .before .loop in
     let s = b .before .before .before .before in
-    let a = s .args in
-    let w = a .work .now in
-    let z = fits w (a .elements) (s .pre .driven .size) (s .pre .few) in (
-      omega arith,
-      row-step (wireRow w) (wire-none w) (wire-first w) w (a .elements) z (a .out .now) (a .from) (l .out) (l .at) (l .n) (l .i) (l .inv .1) (b .loop-test .taken) _ _ _
-          (p .put-to .ensures .0) (p .put-to .ensures .1) (c .next-after .ensures),
-    )
+    (omega arith, row-step (wire-rows (s .args .work .now)) (s .args .out .now) (s .pre) (b .before .loop .inv .1) (b .loop-test .taken) (p .put-to .ensures) (c .next-after .ensures))
 
 same-length : tie.Need-same-length Inv-loop μ-loop
 same-length c = c .before .loop .inv .1 .writing .size
 
 returns : tie.Need-returns Inv-loop μ-loop
 returns c =
-    let l = c .before .loop in
     let s = c .before .before .before .before in
-    let a = s .args in
-    let w = a .work .now in
-    let z = fits w (a .elements) (s .pre .driven .size) (s .pre .few) in
-    row-end (wireRow w) (wire-none w) (wire-first w) w (a .elements) z (a .out .now) (a .from) (l .out) (l .at) (l .n) (l .i) (l .inv .1) (c .loop-test .left)
+    row-end (wire-rows (s .args .work .now)) (s .args .out .now) (s .pre) (c .before .loop .inv .1) (c .loop-test .left)
 
 pub put-wires-spec : {M : Type 1} → statement M
 put-wires-spec =
