@@ -29,23 +29,20 @@ module _ (w : List ℕ) (e k p room : ℕ) (f : Fits w e k p room) where
       let t = f .target in
       omega (arith, ap length (lean-bytes w e k p (f .whole)), length-append first (second ++ third), length-append second third)
 
-  pub elements-fit : RowFits w e first room 0
-  elements-fit = record {
+  row-fits : (bytes : List ℕ) (from : ℕ) → from + length bytes ≤ room → RowFits w e bytes room from
+  row-fits bytes from h = record {
     driven = driven w e k p (f .whole);
     few = f .whole .ready .few-elements;
     known = kind-here w e k p (f .whole .ready) (f .known);
     low = kinds-low w e k p (f .whole);
-    target = omega (arith, fits);
+    target = h;
   }
 
+  pub elements-fit : RowFits w e first room 0
+  elements-fit = row-fits first 0 (omega (arith, fits))
+
   pub wires-fit : (from : ℕ) → from ≡ 0 + length first → RowFits w e second room from
-  wires-fit from h = record {
-    driven = driven w e k p (f .whole);
-    few = f .whole .ready .few-elements;
-    known = kind-here w e k p (f .whole .ready) (f .known);
-    low = kinds-low w e k p (f .whole);
-    target = omega (arith, fits);
-  }
+  wires-fit from h = row-fits second from (omega (arith, fits))
 
   pub pins-fit : (from at : ℕ) → from ≡ 0 + length first → at ≡ from + length second → PinsFit w p third room at
   pins-fit from at h g = record {

@@ -1,13 +1,13 @@
 -- The tables of drivers and roots in the working memory give the lean netlist of the definition. Assumes nothing.
 use Prim.Native.Nat.{ℕ, zero, suc, _+_, _*_, _≤_, _<_}
 use mathlib.Core.Path.{_≡_, refl, ap, _∙_, subst}
-use mathlib.Core.Bool.{Bool, true, false, cond, _||_}
+use mathlib.Core.Bool.{Bool, true, false, cond}
 use mathlib.Core.List.{List, [], _∷_, _++_, map}
 use native.Mathlib.Omega.{arith}
 use lib.Dec.{T, eqb, eqb-refl}
 use lib.ListN.{length, getD, length-append, length-map}
 use borrow.Author.Tests.{eqb-false}
-use Rattle.laws.proofs.Tests.{or-left, or-right, T-is}
+use Rattle.laws.proofs.Tests.{or-elim, or-left, or-right, T-is}
 use Rattle.calculus.specs.Terms.{partAt}
 use Rattle.calculus.specs.Net.{Terminal, inp, out, Element, point, part, Net, partSide, netBytes}
 use Rattle.calculus.specs.Lean.{driver, isPin, root, keep, toInputs, toElement, leanWires, leanPin, lean}
@@ -72,16 +72,8 @@ module _ (w : List ℕ) (e k p : ℕ) (q : Whole w e k p) where
       rw (a, b)
 
   out-first : (x : Element) (es : List Element) (y : ℕ) → T (isOut (x ∷ []) y) → T (isOut (x ∷ es) y)
-  out-first (point i) es y t = by (eqb (i + 1) y) t
-    where
-      by : (b : Bool) → T (b || false) → T (b || isOut es y)
-      by true t = tt
-      by false t = absurd t
-  out-first (part r i) es y t = by (eqb (i + partAt r .inputs) y) t
-    where
-      by : (b : Bool) → T (b || false) → T (b || isOut es y)
-      by true t = tt
-      by false t = absurd t
+  out-first (point i) es y t = or-elim (eqb (i + 1) y) false t (or-left (eqb (i + 1) y) (isOut es y)) (λ z. absurd z)
+  out-first (part r i) es y t = or-elim (eqb (i + partAt r .inputs) y) false t (or-left (eqb (i + partAt r .inputs) y) (isOut es y)) (λ z. absurd z)
 
   out-rest : (x : Element) (es : List Element) (y : ℕ) → T (isOut es y) → T (isOut (x ∷ es) y)
   out-rest (point i) es y t = or-right (eqb (i + 1) y) (isOut es y) t

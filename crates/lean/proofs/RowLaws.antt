@@ -18,6 +18,7 @@ use Rattle.netlist.proofs.Elements.{kinds-append, after-rises}
 use Rattle.netlist.proofs.Records.{elements-append, wires-append}
 use Rattle.lean.specs.Table.{entry}
 use Rattle.lean.specs.InMemory.{undriven, keptIn, keepIn, inputIn, inputsIn, elementIn, wiresIn, pinIn, keptRow, wireRow, pinRow}
+use Rattle.lean.specs.Fitting.{ElementFits, RowFits}
 use Rattle.lean.proofs.KindLaws.{region-next, region-end}
 
 -- ---- of `all`, to be written from an offset on, `rest` is still to come
@@ -200,49 +201,66 @@ module _ (w : List ℕ) where
 
 -- ---- the rows of all elements
 
--- a row that is made element by element: i elements are done, n is the next free terminal
-module _ (F : List ℕ → ℕ → List ℕ) where
-  pub record Row (w : List ℕ) (elements : ℕ) (out₀ : List ℕ) (from : ℕ) (o : List ℕ) (at n i : ℕ) : Type 0 where
-    pub low : afterAll (drop i (region w 13824 elements)) n ≤ 8192
-    pub writing : Writing out₀ from (F (region w 13824 elements) 0) o at (F (drop i (region w 13824 elements)) n)
+-- F makes a row element by element
+pub record Rows (F : List ℕ → ℕ → List ℕ) : Type 0 where
+  pub none : (n : ℕ) → F [] n ≡ []
+  pub first : (k : ℕ) (ks : List ℕ) (n : ℕ) → F (k ∷ ks) n ≡ F (k ∷ []) n ++ F ks (after k n)
 
-  module _ (none : (n : ℕ) → F [] n ≡ []) (first : (k : ℕ) (ks : List ℕ) (n : ℕ) → F (k ∷ ks) n ≡ F (k ∷ []) n ++ F ks (after k n)) (w : List ℕ) (elements : ℕ)
-      (size : 13824 + elements ≤ length w) (out₀ : List ℕ) (from : ℕ) where
-    abbrev ks : List ℕ
-    ks = region w 13824 elements
+pub kept-rows : (w : List ℕ) → Rows (keptRow w)
+kept-rows w = record { none = kept-none w; first = kept-first w }
 
-    pub row-start : afterAll ks 0 ≤ 8192 → Row w elements out₀ from out₀ from 0 0
-    row-start h = record { low = h; writing = writing-start out₀ from (F ks 0) }
+pub wire-rows : (w : List ℕ) → Rows (wireRow w)
+wire-rows w = record { none = wire-none w; first = wire-first w }
 
-    pub row-end : (o : List ℕ) (at n i : ℕ) → Row w elements out₀ from o at n i → elements ≤ i → (at ≡ from + length (F ks 0)) × (o ≡ sets out₀ from (F ks 0))
-    row-end o at n i r h =
-        writing-end out₀ from (F ks 0) o at (F (drop i ks) n) (r .writing) (ap (λ (x : List ℕ). F x n) (region-end w 13824 elements i size h) ∙ none n)
+-- i elements are done, n is the next free terminal
+pub record Row (F : List ℕ → ℕ → List ℕ) (w : List ℕ) (elements : ℕ) (out₀ : List ℕ) (from : ℕ) (o : List ℕ) (at n i : ℕ) : Type 0 where
+  pub low : afterAll (drop i (region w 13824 elements)) n ≤ 8192
+  pub writing : Writing out₀ from (F (region w 13824 elements) 0) o at (F (drop i (region w 13824 elements)) n)
 
-    module _ (o : List ℕ) (at n i : ℕ) (r : Row w elements out₀ from o at n i) (lt : i < elements) where
+module _ {F : List ℕ → ℕ → List ℕ} (rows : Rows F) (out₀ : List ℕ) {w : List ℕ} {elements from : ℕ}
+    (f : RowFits w elements (F (region w 13824 elements) 0) (length out₀) from) where
+  abbrev ks : List ℕ
+  ks = region w 13824 elements
+
+  pub row-size : 13824 + elements ≤ length w
+  row-size = let a = f .driven .size in let b = f .few in omega arith
+
+  pub row-start : Row F w elements out₀ from out₀ from 0 0
+  row-start = record { low = f .low; writing = writing-start out₀ from (F ks 0) }
+
+  module _ {o : List ℕ} {at n i : ℕ} (r : Row F w elements out₀ from o at n i) where
+    pub row-end : elements ≤ i → (at ≡ from + length (F ks 0)) × (o ≡ sets out₀ from (F ks 0))
+    row-end h =
+        writing-end out₀ from (F ks 0) o at (F (drop i ks) n) (r .writing) (ap (λ (x : List ℕ). F x n) (region-end w 13824 elements i row-size h) ∙ rows .none n)
+
+    module _ (lt : i < elements) where
       abbrev k : ℕ
       k = getD w (13824 + i) 0
 
       next : drop i ks ≡ k ∷ drop (i + 1) ks
-      next = region-next w 13824 elements i size lt
+      next = region-next w 13824 elements i row-size lt
 
       low-next : afterAll (drop (i + 1) ks) (after k n) ≤ 8192
       low-next = subst (λ (xs : List ℕ). afterAll xs n ≤ 8192) next (r .low)
 
-      pub row-low : after k n ≤ 8192
-      row-low = omega (arith, after-rises (drop (i + 1) ks) (after k n), low-next)
-
       parts : F (drop i ks) n ≡ F (k ∷ []) n ++ F (drop (i + 1) ks) (after k n)
-      parts = ap (λ (xs : List ℕ). F xs n) next ∙ first k (drop (i + 1) ks) n
+      parts = ap (λ (xs : List ℕ). F xs n) next ∙ rows .first k (drop (i + 1) ks) n
 
-      pub row-fits : (room : ℕ) → from + length (F ks 0) ≤ room → at + length (F (k ∷ []) n) ≤ room
-      row-fits = writing-fits out₀ from (F ks 0) o at (F (drop i ks) n) (F (k ∷ []) n) (F (drop (i + 1) ks) (after k n)) (r .writing) parts
+      pub row-one : ElementFits w k n (F (k ∷ []) n) (length o) at
+      row-one = record {
+        driven = f .driven;
+        known = f .known i lt;
+        low = omega (arith, after-rises (drop (i + 1) ks) (after k n), low-next);
+        target = rw (r .writing .size)
+            (writing-fits out₀ from (F ks 0) o at (F (drop i ks) n) (F (k ∷ []) n) (F (drop (i + 1) ks) (after k n)) (r .writing) parts (length out₀) (f .target));
+      }
 
-      pub row-step : (o₁ : List ℕ) (at₁ n₁ : ℕ) → at₁ ≡ at + length (F (k ∷ []) n) → o₁ ≡ sets o at (F (k ∷ []) n) → n₁ ≡ after k n
-          → Row w elements out₀ from o₁ at₁ n₁ (i + 1)
-      row-step o₁ at₁ n₁ f g h = record {
+      pub row-step : {o₁ : List ℕ} {at₁ n₁ : ℕ} → (at₁ ≡ at + length (F (k ∷ []) n)) × (o₁ ≡ sets o at (F (k ∷ []) n)) → n₁ ≡ after k n
+          → Row F w elements out₀ from o₁ at₁ n₁ (i + 1)
+      row-step {o₁} {at₁} {n₁} g h = record {
         low = rw h low-next;
         writing = rw h
-            (writing-step out₀ from (F ks 0) o at (F (drop i ks) n) (F (k ∷ []) n) (F (drop (i + 1) ks) (after k n)) (r .writing) parts o₁ at₁ f g);
+            (writing-step out₀ from (F ks 0) o at (F (drop i ks) n) (F (k ∷ []) n) (F (drop (i + 1) ks) (after k n)) (r .writing) parts o₁ at₁ (g .0) (g .1));
       }
 
 -- ---- the row of pins

@@ -16,7 +16,7 @@ use Rattle.circuit_theorems.proofs.BackLaws.{back-out, backs-out}
 use Rattle.memory.specs.Map.{netIn, Ready}
 use Rattle.lean.specs.Table.{entry, Within, Partly, Met, Settled, Rooted}
 use Rattle.lean.proofs.TableLaws.{within-none, within-then, within-set, entry-same, entry-other}
-use Rattle.lean.proofs.FrameLaws.{net-same}
+use Rattle.memory.proofs.NetStays.{net-same}
 use Rattle.lean.proofs.DriverLaws.{output-below}
 use Rattle.lean.proofs.StartLaws.{Says, partly-of}
 
@@ -131,7 +131,7 @@ module _ (w₀ w : List ℕ) (e k p o r x left : ℕ) (s : Settling w₀ w e k p
   pub settling-step : entry w x ≡ 65535 → Settling w₀ w₁ e k p o r (getD w (x - 1) 0) (left - 1)
   settling-step z =
       let h = within-set w x r x-below in
-      let net = net-same w e k p (s .partly .ready) w₁ h in
+      let net = net-same w e k p (s .partly .ready) w₁ (h .size) (h .below) in
       record {
         within = within-then (s .within) h;
         partly = subst (λ (y : ℕ). Partly (set w (19072 + x) y) e k p) (sym (s .same)) (partly-set w e k p (s .partly) x (s .output));
@@ -143,13 +143,16 @@ module _ (w₀ w : List ℕ) (e k p o r x left : ℕ) (s : Settling w₀ w e k p
 
 -- ---- all are settled
 
-pub rooted : (w v : List ℕ) (e k p : ℕ) → Ready w e k p → Within w v → Partly v e k p → ((x : ℕ) → x < 8192 → entry v x ≡ 65535 → ⊥) → Rooted w v e k p
+pub rooted : (w v : List ℕ) (e k p : ℕ) → Ready w e k p → Within w v → Partly v e k p → ((x : ℕ) → T (isOut (netIn w e k p .elements) x) → entry v x ≡ 65535 → ⊥) → Rooted w v e k p
 rooted w v e k p r h q d = record {
   within = h;
-  net = net-same w e k p r v h;
+  net = same;
   whole = record { ready = q .ready; table = λ x l. by x l (isOut (netIn v e k p .elements) x) refl };
 }
   where
+    same : netIn v e k p ≡ netIn w e k p
+    same = net-same w e k p r v (h .size) (h .below)
+
     by : (x : ℕ) → x < 8192 → (b : Bool) → isOut (netIn v e k p .elements) x ≡ b → entry v x ≡ cond b (root (netIn v e k p) x) 0
-    by x l true z = q .right x (subst T (sym z) tt) (d x l)
+    by x l true z = let t = subst T (sym z) tt in q .right x t (d x (subst (λ (m : Net). T (isOut (m .elements) x)) same t))
     by x l false z = q .other x l z

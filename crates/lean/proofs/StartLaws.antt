@@ -12,7 +12,7 @@ use Rattle.calculus.specs.Net.{point, part, Net}
 use Rattle.calculus.specs.Lean.{back, root}
 use Rattle.calculus.specs.Record.{All}
 use Rattle.calculus.specs.Formed.{isOut}
-use Rattle.circuit_theorems.proofs.Terminals.{pointIn, point-made}
+use Rattle.circuit_theorems.proofs.Terminals.{pointIn, point-made, out-high}
 use Rattle.circuit_theorems.proofs.RootLaws.{root-stays}
 use Rattle.circuit_theorems.proofs.BackLaws.{PartStays, back-parts}
 use Rattle.memory.specs.Map.{region, elementsFrom, netIn, Ready}
@@ -21,7 +21,7 @@ use Rattle.lean.specs.Table.{outputOf, entry, Within, Blank, firstOf, st
 use Rattle.netlist.proofs.Elements.{after-rises}
 use Rattle.lean.proofs.KindLaws.{output-low, after-output, output-from, tiled-after}
 use Rattle.lean.proofs.TableLaws.{within-none, within-then, within-set, entry-same, entry-other}
-use Rattle.lean.proofs.FrameLaws.{net-same, ready-same}
+use Rattle.memory.proofs.NetStays.{net-same, ready-same}
 use Rattle.lean.proofs.DriverLaws.{rising, output-below, input-below, point-none, point-driven}
 
 -- ---- what changes
@@ -84,9 +84,9 @@ module _ (u : List ℕ) (e k p : ℕ) (r : Ready u e k p) where
   pub partly-of : (w : List ℕ) → Within u w → ((x : ℕ) → x < 8192 → isOut (m .elements) x ≡ false → entry w x ≡ 0)
       → ((o : ℕ) → T (isOut (m .elements) o) → Says o (entry w o)) → Partly w e k p
   partly-of w h others says =
-      let same = net-same u e k p r w h in
+      let same = net-same u e k p r w (h .size) (h .below) in
       record {
-        ready = ready-same u e k p r w h;
+        ready = ready-same u e k p r w (h .size) (h .below);
         other = rw same others;
         right = rw same (λ o t. says o t .0);
         loose = λ o t z.
@@ -134,9 +134,16 @@ module _ (u : List ℕ) (e k p : ℕ) (r : Ready u e k p) where
 
 -- ---- the whole
 
+-- u is w with the table as it starts, and `end` is the first terminal that no element takes
+pub record Begun (w u : List ℕ) (elements wires pins end : ℕ) : Type 0 where
+  pub within : Within w u
+  pub partly : Partly u elements wires pins
+  pub low : end ≤ 8192
+  pub before : (x : ℕ) → T (isOut (netIn w elements wires pins .elements) x) → x < end
+
 module _ (w v : List ℕ) (e k p : ℕ) (r : Ready w e k p) (b : Blank w v) where
   abbrev rv : Ready v e k p
-  rv = ready-same w e k p r v (b .within)
+  rv = ready-same w e k p r v (b .within .size) (b .within .below)
 
   abbrev ks : List ℕ
   ks = region v 13824 e
@@ -157,8 +164,22 @@ module _ (w v : List ℕ) (e k p : ℕ) (r : Ready w e k p) (b : Blank w v) wher
   unfolding netIn
   others x l h = started-other ks 0 v x h ∙ b .none x l
 
-  pub started-partly : Partly (started v ks 0) e k p
+  started-partly : Partly (started v ks 0) e k p
   started-partly = partly-of v e k p rv (started v ks 0) started-in others says-all
 
-  pub started-all : Within w (started v ks 0)
-  started-all = within-then (b .within) started-in
+  -- no output is past the last element
+  before-end : (x : ℕ) → T (isOut (netIn w e k p .elements) x) → x < afterAll ks 0
+  unfolding netIn
+  before-end x t =
+      let same = net-same w e k p r v (b .within .size) (b .within .below) in
+      let q = tiled-after ks 0 (rv .end) (rv .tiled) in
+      let h = out-high (netIn v e k p .elements) 0 (rv .end) x (rising v e k p rv) (subst (λ (y : Net). T (isOut (y .elements) x)) (sym same) t) in
+      omega arith
+
+  pub begun : (u : List ℕ) (end : ℕ) → (end ≡ afterAll ks 0) × (u ≡ started v ks 0) → Begun w u e k p end
+  begun u end h = record {
+    within = subst (Within w) (sym (h .1)) (within-then (b .within) started-in);
+    partly = subst (λ (x : List ℕ). Partly x e k p) (sym (h .1)) started-partly;
+    low = let a = h .0 in omega (arith, kinds-low);
+    before = λ x t. let a = h .0 in omega (arith, before-end x t);
+  }

@@ -45,7 +45,7 @@ pub record Summing (w : List ℕ) (elements all sum n i : ℕ) : Type 0 where
   pub low : afterAll (drop i (region w 13824 elements)) n ≤ 8192
   pub adds : sum + rowsSize w (drop i (region w 13824 elements)) n ≡ all
 
-module _ (w : List ℕ) (elements all sum n i : ℕ) (size : 13824 + elements ≤ length w) (s : Summing w elements all sum n i) where
+module _ {w : List ℕ} {elements all sum n i : ℕ} (size : 13824 + elements ≤ length w) (s : Summing w elements all sum n i) where
   pub summing-end : elements ≤ i → sum ≡ all
   summing-end h =
       let z = s .adds in
@@ -74,5 +74,5 @@ module _ (w : List ℕ) (elements all sum n i : ℕ) (size : 13824 + elements �
     pub summing-most : sum + rowsSize w (k ∷ []) n ≤ all
     summing-most = omega (arith, adds-next)
 
-    pub summing-step : (sum₁ n₁ : ℕ) → sum₁ ≡ sum + rowsSize w (k ∷ []) n → n₁ ≡ after k n → Summing w elements all sum₁ n₁ (i + 1)
-    summing-step sum₁ n₁ f h = record { low = rw h low-next; adds = rw (f, h) adds-next }
+    pub summing-step : {sum₁ n₁ : ℕ} → sum₁ ≡ sum + rowsSize w (k ∷ []) n → n₁ ≡ after k n → Summing w elements all sum₁ n₁ (i + 1)
+    summing-step f h = record { low = rw h low-next; adds = rw (f, h) adds-next }

@@ -60,10 +60,10 @@ first-part w k n d = rw (ne-eqb k 7 d)
 -- i elements are done, from terminal `at` on the others are to come
 pub record Starting (w₀ : List ℕ) (elements : ℕ) (w : List ℕ) (at i : ℕ) : Type 0 where
   pub within : Within w₀ w
-  pub few : afterAll (drop i (region w₀ 13824 elements)) at ≤ 8192
+  pub end : afterAll (drop i (region w₀ 13824 elements)) at ≡ afterAll (region w₀ 13824 elements) 0
   pub whole : started w (drop i (region w₀ 13824 elements)) at ≡ started w₀ (region w₀ 13824 elements) 0
 
-module _ (w₀ w : List ℕ) (elements at i : ℕ) (size : 32768 ≤ length w₀) (count : elements ≤ 5120) (lt : i < elements) (s : Starting w₀ elements w at i) where
+module _ (w₀ w : List ℕ) (elements at i : ℕ) (size : 32768 ≤ length w₀) (count : elements ≤ 5120) (few : afterAll (region w₀ 13824 elements) 0 ≤ 8192) (lt : i < elements) (s : Starting w₀ elements w at i) where
   abbrev ks : List ℕ
   ks = region w₀ 13824 elements
 
@@ -73,15 +73,15 @@ module _ (w₀ w : List ℕ) (elements at i : ℕ) (size : 32768 ≤ length w₀
   next : drop i ks ≡ k ∷ drop (i + 1) ks
   next = region-next w₀ 13824 elements i (omega arith) lt ∙ ap (λ (x : ℕ). x ∷ drop (i + 1) ks) (sym (s .within .below (13824 + i) (omega arith)))
 
-  few-next : afterAll (drop (i + 1) ks) (after k at) ≤ 8192
-  few-next = subst (λ (xs : List ℕ). afterAll xs at ≤ 8192) next (s .few)
+  end-next : afterAll (drop (i + 1) ks) (after k at) ≡ afterAll ks 0
+  end-next = subst (λ (xs : List ℕ). afterAll xs at ≡ afterAll ks 0) next (s .end)
 
   pub starting-low : after k at ≤ 8192
-  starting-low = omega (arith, after-rises (drop (i + 1) ks) (after k at), few-next)
+  starting-low = omega (arith, after-rises (drop (i + 1) ks) (after k at), end-next)
 
   pub starting-next : Starting w₀ elements (set w (19072 + outputOf k at) (firstOf w k at)) (after k at) (i + 1)
   starting-next = record {
     within = within-then (s .within) (within-set w (outputOf k at) (firstOf w k at) (output-low k at 8192 starting-low));
-    few = few-next;
+    end = end-next;
     whole = subst (λ (xs : List ℕ). started w xs at ≡ started w₀ ks 0) next (s .whole);
   }

@@ -2,11 +2,11 @@
 use native.Mathlib.Omega.{arith}
 use mathlib.Core.Path.{refl, ap, sym, _∙_}
 use mathlib.Core.List.{List}
-use Prim.Native.Nat.{ℕ, _≤_, _<_, _-_, _+_, _*_}
-use lib.ListN.{length, getD}
+use Prim.Native.Nat.{ℕ, _≤_, _-_, _+_, _*_}
+use lib.ListN.{length}
 use Rattle.memory.specs.Map.{region}
 use Rattle.netlist.proofs.InMemory.{region-length}
-use Rattle.lean.proofs.KindLaws.{first-low, output-low, after-output}
+use Rattle.lean.specs.Table.{Whole}
 use Rattle.lean.proofs.SumLaws.{rowsSize, rows-most, Summing, summing-low, summing-most, summing-step, summing-end}
 use Rattle.lean.proofs.LeanLaws.{lean-length, kinds-low}
 use Rattle.lean.proofs.lean_length.Statement.{statement}
@@ -19,8 +19,8 @@ Inv-loop work elements wires pins sum₀ n₀ i₀ sum n i =
 abbrev μ-loop : tie.MeasureT-loop
 μ-loop work elements wires pins sum₀ n₀ i₀ sum n i = elements - i
 
-fits : (w : List ℕ) (elements : ℕ) → 32768 ≤ length w → elements ≤ 5120 → 13824 + elements ≤ length w
-fits w elements a b = omega arith
+fits : {w : List ℕ} {e k p : ℕ} → Whole w e k p → 13824 + e ≤ length w
+fits q = let a = q .ready .size in let b = q .ready .few-elements in omega arith
 
 mul-sum : tie.Need-mul-sum Inv-loop μ-loop
 mul-sum c = let f = c .before .pre .ready .few-pins in omega arith
@@ -32,83 +32,44 @@ loop-holds c =
     (omega arith, record { low = kinds-low (a .work .now) (a .elements) (a .wires) (a .pins) (s .pre); adds = refl })
 
 shared-slice-read-kind : tie.Need-shared-slice-read-kind Inv-loop μ-loop
-shared-slice-read-kind c =
-    let s = c .before .before .before .before in
-    let z = fits (s .args .work .now) (s .args .elements) (s .pre .ready .size) (s .pre .ready .few-elements) in
-    omega arith
+shared-slice-read-kind c = let z = fits (c .before .before .before .before .pre) in omega arith
 
 element-size-requires : tie.Need-element-size-requires Inv-loop μ-loop
 element-size-requires c κs =
     let b = c .before in
-    let l = b .before .loop in
     let s = b .before .before .before in
-    let a = s .args in
-    let w = a .work .now in
-    let z = fits w (a .elements) (s .pre .ready .size) (s .pre .ready .few-elements) in
-    (s .pre .ready .size, summing-low w (a .elements) _ (l .sum) (l .n) (l .i) z (l .inv .1) (b .loop-test .taken))
+    (s .pre .ready .size, summing-low (fits (s .pre)) (b .before .loop .inv .1) (b .loop-test .taken))
 
 add-sum : tie.Need-add-sum Inv-loop μ-loop
 add-sum c =
     let b = c .before .before in
-    let l = b .before .loop in
     let s = b .before .before .before in
-    let a = s .args in
-    let w = a .work .now in
-    let z = fits w (a .elements) (s .pre .ready .size) (s .pre .ready .few-elements) in
+    let w = s .args .work .now in
+    let e = s .args .elements in
     let f = s .pre .ready .few-pins in
     let g = s .pre .ready .few-elements in
-    let h = summing-most w (a .elements) _ (l .sum) (l .n) (l .i) z (l .inv .1) (b .loop-test .taken) in
-    let e = c .element-size .ensures in
-    omega (arith, h, e, rows-most w (region w 13824 (a .elements)) 0, region-length w 13824 (a .elements) z)
+    let h = summing-most (fits (s .pre)) (b .before .loop .inv .1) (b .loop-test .taken) in
+    omega (arith, h, c .element-size .ensures, rows-most w (region w 13824 e) 0, region-length w 13824 e (fits (s .pre)))
 
-output-of-requires : tie.Need-output-of-requires Inv-loop μ-loop
-output-of-requires c κs =
-    let b = c .before .before in
-    let l = b .before .loop in
-    let s = b .before .before .before in
-    let a = s .args in
-    let w = a .work .now in
-    let z = fits w (a .elements) (s .pre .ready .size) (s .pre .ready .few-elements) in
-    let h = summing-low w (a .elements) _ (l .sum) (l .n) (l .i) z (l .inv .1) (b .loop-test .taken) in
-    let q : l .n < 8192 = first-low (getD w (13824 + l .i) 0) (l .n) 8192 h in
-    omega arith
-
-add-n : tie.Need-add-n Inv-loop μ-loop
-add-n c =
-    let b = c .before .before .before in
-    let l = b .before .loop in
-    let s = b .before .before .before in
-    let a = s .args in
-    let w = a .work .now in
-    let z = fits w (a .elements) (s .pre .ready .size) (s .pre .ready .few-elements) in
-    let h = summing-low w (a .elements) _ (l .sum) (l .n) (l .i) z (l .inv .1) (b .loop-test .taken) in
-    let q : c .output-of .result < 8192 = rw (c .output-of .ensures) (output-low (getD w (13824 + l .i) 0) (l .n) 8192 h) in
-    omega arith
+next-after-requires : tie.Need-next-after-requires Inv-loop μ-loop
+next-after-requires c κs = let b = c .before .before in summing-low (fits (b .before .before .before .pre)) (b .before .loop .inv .1) (b .loop-test .taken)
 
 loop-again : tie.Need-loop-again Inv-loop μ-loop
 loop-again c =
     let r = c .before in
     let b = r .before .before in
-    let l = b .before .loop in
-    let s = b .before .before .before in
-    let a = s .args in
-    let w = a .work .now in
-    let z = fits w (a .elements) (s .pre .ready .size) (s .pre .ready .few-elements) in (
+    let l = b .before .loop in (
       omega arith,
-      summing-step w (a .elements) _ (l .sum) (l .n) (l .i) z (l .inv .1) (b .loop-test .taken) _ _ (ap (λ (x : ℕ). l .sum + x) (r .element-size .ensures))
-          (rw (c .output-of .ensures) (after-output (getD w (13824 + l .i) 0) (l .n))),
+      summing-step (fits (b .before .before .before .pre)) (l .inv .1) (b .loop-test .taken) (ap (λ (x : ℕ). l .sum + x) (r .element-size .ensures)) (c .next-after .ensures),
     )
 
 returns : tie.Need-returns Inv-loop μ-loop
 returns c =
-    let l = c .before .loop in
     let s = c .before .before .before in
     let a = s .args in
-    let w = a .work .now in
     let f = s .pre .ready .few-pins in
     let g = s .pre .ready .size in
-    let z = fits w (a .elements) (s .pre .ready .size) (s .pre .ready .few-elements) in
-    summing-end w (a .elements) _ (l .sum) (l .n) (l .i) z (l .inv .1) (c .loop-test .left) ∙ sym (lean-length w (a .elements) (a .wires) (a .pins) (s .pre) (omega arith))
+    summing-end (fits (s .pre)) (c .before .loop .inv .1) (c .loop-test .left) ∙ sym (lean-length (a .work .now) (a .elements) (a .wires) (a .pins) (s .pre) (omega arith))
 
 pub lean-length-spec : {M : Type 1} → statement M
 lean-length-spec =
@@ -123,8 +84,7 @@ lean-length-spec =
     shared-slice-read-kind
     element-size-requires
     add-sum
-    output-of-requires
-    add-n
+    next-after-requires
     (λ c. omega arith)
     (λ c. omega arith)
     loop-again

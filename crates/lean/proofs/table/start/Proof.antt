@@ -1,0 +1,69 @@
+-- The invariant: what is written and the elements that are still to come make the table as it starts. Assumes nothing.
+use native.Mathlib.Omega.{arith}
+use mathlib.Core.Path.{refl, sym, subst}
+use Prim.Native.Nat.{ℕ, _≤_, _-_, _+_}
+use mathlib.Core.List.{List}
+use lib.ListN.{getD, set}
+use Rattle.lean.specs.Table.{outputOf, firstOf}
+use Rattle.lean.proofs.KindLaws.{region-end}
+use Rattle.lean.proofs.TableLaws.{within-none, Starting, starting-low, starting-next}
+use Rattle.lean.proofs.table.start.Statement.{statement}
+use Rattle.lean.proofs.table.start.Tie as tie
+
+abbrev Inv-loop : tie.InvT-loop
+Inv-loop work₀ elements at₀ i₀ work at i = (i ≤ elements) × Starting work₀ elements work at i
+
+abbrev μ-loop : tie.MeasureT-loop
+μ-loop work₀ elements at₀ i₀ work at i = elements - i
+
+loop-holds : tie.Need-loop-holds Inv-loop μ-loop
+loop-holds c = (omega arith, record { within = within-none _; end = refl; whole = refl })
+
+slice-read-kind : tie.Need-slice-read-kind Inv-loop μ-loop
+slice-read-kind c = let s = c .before .before .loop .inv .1 .within .size in omega arith
+
+start-one-requires : tie.Need-start-one-requires Inv-loop μ-loop
+start-one-requires c κs =
+    let l = c .before .before .before .loop in
+    let s = c .before .before .before .before .before in
+    let z = l .inv .1 .within .size in
+    (omega arith, starting-low (s .args .work .now) (l .work) (s .args .elements) (l .at) (l .i) (s .pre .0) (s .pre .1 .0) (s .pre .1 .1) (c .before .before .loop-test .taken) (l .inv .1))
+
+loop-again : tie.Need-loop-again Inv-loop μ-loop
+loop-again c =
+    let r = c .before .before in
+    let l = r .before .before .before .before .loop in
+    let s = r .before .before .before .before .before .before in
+    let k = getD (l .work) (13824 + l .i) 0 in
+    let n = starting-next (s .args .work .now) (l .work) (s .args .elements) (l .at) (l .i) (s .pre .0) (s .pre .1 .0) (s .pre .1 .1) (r .before .before .before .loop-test .taken) (l .inv .1) in (
+      omega arith,
+      subst (λ (x : List ℕ). Starting (s .args .work .now) (s .args .elements) x (r .start-one .result) (l .i + 1)) (sym (r .start-one .ensures .1))
+          (subst (λ (x : ℕ). Starting (s .args .work .now) (s .args .elements) (set (l .work) (19072 + outputOf k (l .at)) (firstOf (l .work) k (l .at))) x (l .i + 1)) (sym (r .start-one .ensures .0)) n),
+    )
+
+same-length : tie.Need-same-length Inv-loop μ-loop
+same-length c = c .before .loop .inv .1 .within .size
+
+returns : tie.Need-returns Inv-loop μ-loop
+returns c =
+    let l = c .before .loop in
+    let s = c .before .before .before in
+    let e = region-end (s .args .work .now) 13824 (s .args .elements) (l .i) (omega arith) (omega arith) in
+    (rw e at (l .inv .1 .end), rw e at (l .inv .1 .whole))
+
+pub start-spec : {M : Type 1} → statement M
+start-spec =
+    tie.close
+    (tie.spec
+    Inv-loop
+    μ-loop
+    loop-holds
+    (λ c. omega arith)
+    (λ c. omega arith)
+    slice-read-kind
+    start-one-requires
+    (λ c. omega arith)
+    (λ c. omega arith)
+    loop-again
+    same-length
+    returns)
