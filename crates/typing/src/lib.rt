@@ -152,10 +152,11 @@ fn between(s: &[u8], kind: u8, node: usize, v: Verdict) -> Verdict
     if kind != 0x18 {
         return v;
     }
-    if rules::sides_of(s, ty).kind != 2 {
-        return refused(12, node);
+    if rules::sides_of(s, ty).kind == 2 {
+        v
+    } else {
+        refused(12, node)
     }
-    v
 }
 
 // ---- leaving a node with two subterms

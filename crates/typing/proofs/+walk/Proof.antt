@@ -2,7 +2,7 @@
 -- bytes left. Assumes nothing.
 use borrow.Author.Needs.{needs}
 use native.Mathlib.Omega.{arith}
-use mathlib.Core.Path.{_≡_, refl, ap, _∙_}
+use mathlib.Core.Path.{refl, ap, _∙_}
 use mathlib.Core.List.{List}
 use lib.ListN.{length}
 use Rattle.calculus.specs.Types.{Table}
@@ -13,10 +13,10 @@ use Rattle.binders.specs.Stacks.{stackOf}
 use Rattle.binders.proofs.Laws.{length-of}
 use Rattle.typing.specs.declared.Verdict.the-variants as verdict
 use Rattle.typing.specs.Verdicts.{checked}
-use Rattle.typing.specs.Fits.{Fits, Counts}
+use Rattle.typing.specs.Fits.{Fits}
 use Rattle.typing.proofs.StepLaws.{not-so, so}
 use Rattle.typing.proofs.VerdictLaws.{says-fine, says-refused}
-use Rattle.typing.proofs.StateLaws.{Long, boundTo, enter-misfit, enter-opened, binds-few, inScope, halvedTo, closes-few, follows-refused, follows-halves}
+use Rattle.typing.proofs.StateLaws.{Long, boundTo, enter-misfit, enter-opened, binds-few, halvedTo, closes-few, follows-refused, follows-halves}
 use Rattle.typing.proofs.WalkLaws.{firstOf, secondOf}
 use Rattle.typing.proofs.Turns.{few-binders, few-nodes, held, Here, Inside, Opened, First, Middle, Second, turn-leaf, turn-refused, turn-falls, turn-first, turn-held-one, turn-held-two, turn-one, turn-halfway, turn-falls-again, turn-second, turn-two}
 use Prim.Native.Nat.{ℕ, _+_, _-_, _≤_, _<_}

@@ -28,13 +28,13 @@ refused-requires c κs = search needs
 
 returns-3 : tie.Need-returns-3
 returns-3 c =
-    let a = c .before .before .before .before .before .before .before .before .before .args in
-    λ st. on-stopped (a .v) st _ _ (c .before .before .before .before .before .before .v .given .1) _ _ (c .refused .ensures) (between-misfit (recIn (a .s .now)) _ _ _ st (c .before .before .before .before .if1 .left) (c .before .before .before .sides-of .ensures) (c .before .if2 .taken))
+    let a = c .before .before .before .before .before .before .before .before .args in
+    λ st. on-fine (a .v) st _ _ (c .before .before .before .before .before .v .given .1) _ (between-fine (recIn (a .s .now)) _ _ _ st (c .before .before .before .if1 .left) (c .before .before .sides-of .ensures) (c .if2 .taken))
 
 returns-4 : tie.Need-returns-4
 returns-4 c =
-    let a = c .before .before .before .before .before .before .before .before .args in
-    λ st. on-fine (a .v) st _ _ (c .before .before .before .before .before .v .given .1) _ (between-fine (recIn (a .s .now)) _ _ _ st (c .before .before .before .if1 .left) (c .before .before .sides-of .ensures) (c .if2 .left))
+    let a = c .before .before .before .before .before .before .before .before .before .args in
+    λ st. on-stopped (a .v) st _ _ (c .before .before .before .before .before .before .v .given .1) _ _ (c .refused .ensures) (between-misfit (recIn (a .s .now)) _ _ _ st (c .before .before .before .before .if1 .left) (c .before .before .before .sides-of .ensures) (c .before .if2 .left))
 
 pub between-spec : {M : Type 1} → statement M
 between-spec =

@@ -1,10 +1,9 @@
 -- `typing::leaf` meets its contract: by the kind of the node. Assumes nothing.
 use native.Mathlib.Omega.{arith}
-use mathlib.Core.Path.{_≡_, subst⁻¹, _∙_}
+use mathlib.Core.Path.{_≡_, _∙_}
 use mathlib.Core.Logic.{⊎-elim}
 use lib.ListN.{length}
-use Prim.Native.Nat.{_<_}
-use Rattle.binders.specs.Stacks.{slotOf, stackOf}
+use Rattle.binders.specs.Stacks.{stackOf}
 use Rattle.binders.proofs.Laws.{slot-low}
 use Rattle.records.specs.Forms.{recIn}
 use Rattle.typing.proofs.VerdictLaws.{says-settled}
