@@ -25,14 +25,14 @@ said c = saidVerdict (c .verdict) (stackOf (c .binders))
 abbrev pub refusedOf : ℕ → ℕ → Verdict
 refusedOf number place = verdict.Refused (record { number = number; place = place })
 
+-- a verdict with its binders
+abbrev pub checked : Verdict → Binders → Checked
+checked v b = record { verdict = v; binders = b }
+
 -- the verdict on a leaf, node n, that ends at `next`
 abbrev pub settledOf : Use → ℕ → ℕ → Verdict
 settledOf (use·.Type t) next n = verdict.Fine t next (n + 1)
 settledOf (use·.Refused number) next n = refusedOf number n
-
--- a verdict with its binders
-abbrev pub checked : Verdict → Binders → Checked
-checked v b = record { verdict = v; binders = b }
 
 -- the binders on entering a second subterm: a projection binds the halves of the first one's type t, the second half nearer
 abbrev pub halvesOf : Types → ℕ → ℕ → Stack → Stack

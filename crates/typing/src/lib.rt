@@ -11,7 +11,7 @@ ghost use Rattle.calculus.specs.Walk.{Stack};
 ghost use Rattle.records.specs.Forms.{recIn};
 ghost use Rattle.binders.specs.Stacks.{binderOf, stackOf};
 ghost use Rattle.typing.specs.Steps.{leafOf, usedUp, leaveOne, betweenOf, closesOf, leaveTwo};
-ghost use Rattle.typing.specs.Verdicts.{refusedOf, settledOf, halves, Says, FollowsOn, Follows};
+ghost use Rattle.typing.specs.Verdicts.{refusedOf, checked, settledOf, halves, Says, FollowsOn, Follows};
 ghost use Rattle.typing.specs.Answers.{saidTyping, checkOf, Read};
 ghost use Rattle.typing.specs.Fits.{Ready, Walked, Counts};
 
@@ -40,6 +40,16 @@ fn refused(number: u8, place: usize) -> Verdict
     ensures { λ r. ⌜ r ≡ refusedOf number place ⌝ }
 {
     Verdict::Refused(Refusal { number, place })
+}
+
+// A verdict that ends the walk, with the binders as they are.
+fn stopped(v: Verdict, b: Binders) -> Checked
+    ensures { λ r. ⌜ r ≡ checked v b ⌝ }
+{
+    Checked {
+        verdict: v,
+        binders: b,
+    }
 }
 
 // ---- leaves
@@ -203,10 +213,7 @@ fn walk(s: &[u8], at: usize, node: usize, b: Binders) -> Checked
     }
     let o = rules::bound(rules::opens(s, n.kind, n.first));
     if !o.fits {
-        return Checked {
-            verdict: refused(12, node),
-            binders: b,
-        };
+        return stopped(refused(12, node), b);
     }
     let mut own = b;
     let c = own.count;
@@ -222,10 +229,7 @@ fn walk(s: &[u8], at: usize, node: usize, b: Binders) -> Checked
     let v = between(s, n.kind, node, first);
     own = x.binders;
     let Verdict::Fine { ty, next, count } = v else {
-        return Checked {
-            verdict: v,
-            binders: own,
-        };
+        return stopped(v, own);
     };
     let q = rules::sides_of(s, ty);
     own.types[c] = q.left;
@@ -236,8 +240,7 @@ fn walk(s: &[u8], at: usize, node: usize, b: Binders) -> Checked
     own.sorts[d] = 0;
     own.used[d] = 0;
     own.count = c + rules::closes(n.kind);
-    let y = walk(s, next, count, own);
-    leave_two(s, n, node, ty, c, y)
+    leave_two(s, n, node, ty, c, walk(s, next, count, own))
 }
 
 // The type of a sheet's term, by its number, or a refusal.
