@@ -11,8 +11,9 @@ use lib.ListN.{length, getD, set, drop}
 use lib.Seq.{getD-set-same, getD-set-other}
 use Rattle.laws.proofs.Tests.{on-cond}
 use Rattle.calculus.specs.Answer.{refused}
-use Rattle.calculus.specs.Walk.{shared, linear, found, useShared, useLinear}
+use Rattle.calculus.specs.Walk.{Binder, shared, linear, Stack, under, useShared, useLinear}
 use Rattle.binders.specs.declared.Binders.{Binders}
+use Rattle.binders.specs.declared.Use.{Use}
 use Rattle.binders.specs.declared.Use.the-variants as use·
 use Rattle.binders.specs.Stacks.{isUsed, binderOf, stackFrom, stackOf, slotOf, sharedAt, sharedUse, linearAt, linearUse, saidUse}
 
@@ -40,9 +41,9 @@ slot-in : (n i : ℕ) → i < n → slotOf n i + suc i ≡ n
 unfolding slotOf
 slot-in n i h = rw (lt-ltb i n h) (omega arith)
 
-pub slot-low : (n i m : ℕ) → n ≤ m → 0 < m → slotOf n i < m
+pub slot-low : (n i : ℕ) {k : ℕ} → k ≡ slotOf n i → n ≤ 128 → k < 128
 unfolding slotOf
-slot-low n i m h k = on-cond (λ (x : ℕ). x < m) (ltb i n) (n - 1 - i) 0 (λ _. omega arith) k
+slot-low n i e h = rw e (on-cond (λ (x : ℕ). x < 128) (ltb i n) (n - 1 - i) 0 (λ _. omega arith) (omega arith))
 
 -- by cases of the code's test of scope
 by-leb : (F : Bool → Type 0) (a b : ℕ) → (a ≤ b → F true) → (b < a → F false) → F (leb a b)
@@ -51,6 +52,21 @@ by-leb F a b f g = by-test (leb a b) refl
     by-test : (t : Bool) → leb a b ≡ t → F t
     by-test true e = f (leb-true a b e)
     by-test false e = g (leb-false a b e)
+
+-- ---- a use of the nearest binder, and of one farther out
+
+shared-top : (t s u : ℕ) (st : Stack) (n : ℕ) → saidUse (sharedAt (binderOf t s 0)) (binderOf t s u ∷ st) n ≡ useShared (binderOf t s u ∷ st) 0 n
+shared-top t zero u st n = refl
+shared-top t (suc s) u st n = refl
+
+linear-top : (t s u : ℕ) (st : Stack) (n : ℕ) → saidUse (linearAt (binderOf t s u)) (binderOf t s 1 ∷ st) n ≡ useLinear (binderOf t s u ∷ st) 0 n
+linear-top t zero u st n = refl
+linear-top t (suc s) zero st n = refl
+linear-top t (suc s) (suc u) st n = refl
+
+under-said : (v : Use) (b : Binder) (st : Stack) (n : ℕ) → saidUse v (b ∷ st) n ≡ under b (saidUse v st n)
+under-said (use·.Type t) b st n = refl
+under-said (use·.Refused number) b st n = refl
 
 module _ (ts ss us : List ℕ) where
   -- ---- entering and leaving a scope
@@ -86,17 +102,19 @@ module _ (ts ss us : List ℕ) where
     shared-out (suc n) zero h = absurd (omega arith)
     shared-out (suc n) (suc i) h = rw (← shared-out n i (omega arith))
 
-    shared-linear : (n i a x : ℕ) → a + suc i ≡ n → getD ss a 0 ≡ suc x → refused 11 place ≡ useShared (stackFrom ts ss us n) i place
+    shared-in : (n i a : ℕ) → a + suc i ≡ n → saidUse (sharedAt (binderOf (getD ts a 0) (getD ss a 0) 0)) (stackFrom ts ss us n) place ≡ useShared (stackFrom ts ss us n) i place
     unfolding stackFrom
-    shared-linear zero i a x h s = absurd (omega arith)
-    shared-linear (suc n) zero a x h s = let e : n ≡ a = omega arith in rw (e, s)
-    shared-linear (suc n) (suc i) a x h s = rw (← shared-linear n i a x (omega arith) s)
+    shared-in zero i a h = absurd (omega arith)
+    shared-in (suc n) zero a h = let e : n ≡ a = omega arith in rw e (shared-top (getD ts a 0) (getD ss a 0) (getD us a 0) _ place)
+    shared-in (suc n) (suc i) a h = rw (← shared-in n i a (omega arith)) (under-said (sharedAt (binderOf (getD ts a 0) (getD ss a 0) 0)) _ _ place)
 
-    shared-type : (n i a : ℕ) → a + suc i ≡ n → getD ss a 0 ≡ 0 → found (getD ts a 0) (stackFrom ts ss us n) ≡ useShared (stackFrom ts ss us n) i place
-    unfolding stackFrom
-    shared-type zero i a h s = absurd (omega arith)
-    shared-type (suc n) zero a h s = let e : n ≡ a = omega arith in rw (e, s)
-    shared-type (suc n) (suc i) a h s = rw (← shared-type n i a (omega arith) s)
+    -- what the code finds of a sharable variable
+    pub shared-said : (n i : ℕ) → saidUse (sharedUse n i (binderOf (getD ts (slotOf n i) 0) (getD ss (slotOf n i) 0) 0)) (stackFrom ts ss us n) place ≡ useShared (stackFrom ts ss us n) i place
+    unfolding sharedUse
+    shared-said n i =
+        by-leb (λ (t : Bool). saidUse (cond t (use·.Refused 10) (sharedAt (binderOf (getD ts (slotOf n i) 0) (getD ss (slotOf n i) 0) 0))) (stackFrom ts ss us n) place ≡ useShared (stackFrom ts ss us n) i place) n i
+        (λ h. shared-out n i h)
+        (λ h. shared-in n i (slotOf n i) (slot-in n i h))
 
     linear-out : (n i : ℕ) → n ≤ i → refused 10 place ≡ useLinear (stackFrom ts ss us n) i place
     unfolding stackFrom
@@ -104,56 +122,29 @@ module _ (ts ss us : List ℕ) where
     linear-out (suc n) zero h = absurd (omega arith)
     linear-out (suc n) (suc i) h = rw (← linear-out n i (omega arith))
 
-    linear-shared : (n i a : ℕ) → a + suc i ≡ n → getD ss a 0 ≡ 0 → refused 11 place ≡ useLinear (stackFrom ts ss us n) i place
-    unfolding stackFrom
-    linear-shared zero i a h s = absurd (omega arith)
-    linear-shared (suc n) zero a h s = let e : n ≡ a = omega arith in rw (e, s)
-    linear-shared (suc n) (suc i) a h s = rw (← linear-shared n i a (omega arith) s)
-
-    linear-used : (n i a x y : ℕ) → a + suc i ≡ n → getD ss a 0 ≡ suc x → getD us a 0 ≡ suc y → refused 13 place ≡ useLinear (stackFrom ts ss us n) i place
-    unfolding stackFrom
-    linear-used zero i a x y h s u = absurd (omega arith)
-    linear-used (suc n) zero a x y h s u = let e : n ≡ a = omega arith in rw (e, s, u)
-    linear-used (suc n) (suc i) a x y h s u = rw (← linear-used n i a x y (omega arith) s u)
-
     mark-past : (n a : ℕ) → n ≤ a → stackFrom ts ss (set us a 1) n ≡ stackFrom ts ss us n
     unfolding stackFrom
     mark-past zero a h = refl
     mark-past (suc n) a h = rw (mark-past n a (omega arith), getD-set-other us a n 1 0 (λ e. omega arith))
 
-    linear-type : (n i a x : ℕ) → a + suc i ≡ n → n ≤ length us → getD ss a 0 ≡ suc x → getD us a 0 ≡ 0
-        → found (getD ts a 0) (stackFrom ts ss (set us a 1) n) ≡ useLinear (stackFrom ts ss us n) i place
+    linear-in : (n i a : ℕ) → a + suc i ≡ n → n ≤ length us
+        → saidUse (linearAt (binderOf (getD ts a 0) (getD ss a 0) (getD us a 0))) (stackFrom ts ss (set us a 1) n) place ≡ useLinear (stackFrom ts ss us n) i place
     unfolding stackFrom
-    linear-type zero i a x h l s u = absurd (omega arith)
-    linear-type (suc n) zero a x h l s u = let e : n ≡ a = omega arith in rw (e, s, u, mark-past a a (omega arith), getD-set-same us a 1 0 (omega arith))
-    linear-type (suc n) (suc i) a x h l s u = rw (← linear-type n i a x (omega arith) (omega arith) s u, getD-set-other us a n 1 0 (λ e. omega arith))
+    linear-in zero i a h l = absurd (omega arith)
+    linear-in (suc n) zero a h l =
+        let e : n ≡ a = omega arith in
+        rw (e, mark-past a a (omega arith), getD-set-same us a 1 0 (omega arith)) (linear-top (getD ts a 0) (getD ss a 0) (getD us a 0) _ place)
+    linear-in (suc n) (suc i) a h l =
+        rw (← linear-in n i a (omega arith) (omega arith), getD-set-other us a n 1 0 (λ e. omega arith)) (under-said (linearAt (binderOf (getD ts a 0) (getD ss a 0) (getD us a 0))) _ _ place)
 
-    -- what the code finds of a sharable variable
-    shared-in : (n i x : ℕ) → i < n → getD ss (slotOf n i) 0 ≡ x → saidUse (sharedAt (binderOf (getD ts (slotOf n i) 0) x 0)) (stackFrom ts ss us n) place ≡ useShared (stackFrom ts ss us n) i place
-    shared-in n i zero h s = shared-type n i (slotOf n i) (slot-in n i h) s
-    shared-in n i (suc x) h s = shared-linear n i (slotOf n i) x (slot-in n i h) s
-
-    pub shared-said : (n i : ℕ) → saidUse (sharedUse n i (binderOf (getD ts (slotOf n i) 0) (getD ss (slotOf n i) 0) 0)) (stackFrom ts ss us n) place ≡ useShared (stackFrom ts ss us n) i place
-    unfolding sharedUse
-    shared-said n i =
-        by-leb (λ (t : Bool). saidUse (cond t (use·.Refused 10) (sharedAt (binderOf (getD ts (slotOf n i) 0) (getD ss (slotOf n i) 0) 0))) (stackFrom ts ss us n) place ≡ useShared (stackFrom ts ss us n) i place) n i
-        (λ h. shared-out n i h)
-        (λ h. shared-in n i (getD ss (slotOf n i) 0) h refl)
-
-    -- .. and of a linear one, which it marks
-    linear-in : (n i x y : ℕ) → i < n → n ≤ length us → getD ss (slotOf n i) 0 ≡ x → getD us (slotOf n i) 0 ≡ y
-        → saidUse (linearAt (binderOf (getD ts (slotOf n i) 0) x y)) (stackFrom ts ss (set us (slotOf n i) 1) n) place ≡ useLinear (stackFrom ts ss us n) i place
-    linear-in n i zero y h l s u = linear-shared n i (slotOf n i) (slot-in n i h) s
-    linear-in n i (suc x) zero h l s u = linear-type n i (slotOf n i) x (slot-in n i h) l s u
-    linear-in n i (suc x) (suc y) h l s u = linear-used n i (slotOf n i) x y (slot-in n i h) s u
-
+    -- .. and of a linear one, which its user marks
     pub linear-said : (n i : ℕ) → n ≤ length us
         → saidUse (linearUse n i (binderOf (getD ts (slotOf n i) 0) (getD ss (slotOf n i) 0) (getD us (slotOf n i) 0))) (stackFrom ts ss (set us (slotOf n i) 1) n) place ≡ useLinear (stackFrom ts ss us n) i place
     unfolding linearUse
     linear-said n i l =
         by-leb (λ (t : Bool). saidUse (cond t (use·.Refused 10) (linearAt (binderOf (getD ts (slotOf n i) 0) (getD ss (slotOf n i) 0) (getD us (slotOf n i) 0)))) (stackFrom ts ss (set us (slotOf n i) 1) n) place ≡ useLinear (stackFrom ts ss us n) i place) n i
         (λ h. linear-out n i h)
-        (λ h. linear-in n i (getD ss (slotOf n i) 0) (getD us (slotOf n i) 0) h l refl refl)
+        (λ h. linear-in n i (slotOf n i) (slot-in n i h) l)
 
   stack-length : (n : ℕ) → length (stackFrom ts ss us n) ≡ n
   unfolding stackFrom

@@ -19,28 +19,28 @@ slot-requires : tie.Need-slot-requires
 slot-requires c κs = search needs
 
 element-copy-out-use-shared : tie.Need-element-copy-out-use-shared
-element-copy-out-use-shared c = rw (c .before .slot .ensures) (slot-low _ _ 128 (c .before .before .before .before .pre .0) (omega arith))
+element-copy-out-use-shared c = slot-low _ _ (c .before .slot .ensures) (c .before .before .before .before .pre .0)
 
 element-copy-out-use-shared-2 : tie.Need-element-copy-out-use-shared-2
-element-copy-out-use-shared-2 c = rw (c .before .before .slot .ensures) (slot-low _ _ 128 (c .before .before .before .before .before .pre .0) (omega arith))
+element-copy-out-use-shared-2 c = slot-low _ _ (c .before .before .slot .ensures) (c .before .before .before .before .before .pre .0)
 
 use-shared-requires : tie.Need-use-shared-requires
 use-shared-requires c κs = search needs
 
 element-copy-out-use-linear : tie.Need-element-copy-out-use-linear
-element-copy-out-use-linear c = rw (c .before .slot .ensures) (slot-low _ _ 128 (c .before .before .before .before .pre .0) (omega arith))
+element-copy-out-use-linear c = slot-low _ _ (c .before .slot .ensures) (c .before .before .before .before .pre .0)
 
 element-copy-out-use-linear-2 : tie.Need-element-copy-out-use-linear-2
-element-copy-out-use-linear-2 c = rw (c .before .before .slot .ensures) (slot-low _ _ 128 (c .before .before .before .before .before .pre .0) (omega arith))
+element-copy-out-use-linear-2 c = slot-low _ _ (c .before .before .slot .ensures) (c .before .before .before .before .before .pre .0)
 
 element-copy-out-use-linear-3 : tie.Need-element-copy-out-use-linear-3
-element-copy-out-use-linear-3 c = rw (c .before .before .before .slot .ensures) (slot-low _ _ 128 (c .before .before .before .before .before .before .pre .0) (omega arith))
+element-copy-out-use-linear-3 c = slot-low _ _ (c .before .before .before .slot .ensures) (c .before .before .before .before .before .before .pre .0)
 
 use-linear-requires : tie.Need-use-linear-requires
 use-linear-requires c κs = search needs
 
 element-write-own : tie.Need-element-write-own
-element-write-own c = rw (c .before .before .before .before .before .slot .ensures) (slot-low _ _ 128 (c .before .before .before .before .before .before .before .before .pre .0) (omega arith))
+element-write-own c = slot-low _ _ (c .before .before .before .before .before .slot .ensures) (c .before .before .before .before .before .before .before .before .pre .0)
 
 constant-requires : tie.Need-constant-requires
 constant-requires c κs = search needs
