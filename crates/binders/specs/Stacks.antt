@@ -1,14 +1,14 @@
 -- The binders of the code as the definitions have them, and what a use of a variable says. Assumes nothing.
-use Prim.Native.Nat.{ℕ, zero, suc}
-use mathlib.Core.Bool.{Bool, true, false}
+use Prim.Native.Nat.{ℕ, zero, suc, _-_}
+use mathlib.Core.Bool.{Bool, true, false, cond}
 use mathlib.Core.List.{List, [], _∷_}
+use lib.Dec.{leb, ltb}
 use lib.ListN.{getD}
 use Rattle.calculus.specs.Answer.{Answer, refused}
 use Rattle.calculus.specs.Walk.{Binder, shared, linear, Stack, Found, found}
 use Rattle.binders.specs.declared.Binders.{Binders}
 use Rattle.binders.specs.declared.Use.{Use}
 use Rattle.binders.specs.declared.Use.the-variants as use·
-use Rattle.binders.specs.declared.Taken.{Taken}
 
 abbrev pub isUsed : ℕ → Bool
 isUsed zero = false
@@ -27,10 +27,28 @@ stackFrom types sorts used (suc n) = binderOf (getD types n 0) (getD sorts n 0) 
 abbrev pub stackOf : Binders → Stack
 stackOf b = stackFrom (b .types) (b .sorts) (b .used) (b .count)
 
+-- where binder i of `count` stands; 0 if it is not in scope
+unfoldable pub slotOf : ℕ → ℕ → ℕ
+slotOf count i = cond (ltb i count) (count - 1 - i) 0
+
+-- a sharable variable, binder i of `count`: 10, 11
+abbrev pub sharedAt : Binder → Use
+sharedAt (shared t) = use·.Type t
+sharedAt (linear t u) = use·.Refused 11
+
+unfoldable pub sharedUse : ℕ → ℕ → Binder → Use
+sharedUse count i b = cond (leb count i) (use·.Refused 10) (sharedAt b)
+
+-- a linear one: 10, 11, 13
+abbrev pub linearAt : Binder → Use
+linearAt (shared t) = use·.Refused 11
+linearAt (linear t false) = use·.Type t
+linearAt (linear t true) = use·.Refused 13
+
+unfoldable pub linearUse : ℕ → ℕ → Binder → Use
+linearUse count i b = cond (leb count i) (use·.Refused 10) (linearAt b)
+
 -- a type number with the binders, or a refusal at node n
 abbrev pub saidUse : Use → Stack → ℕ → Answer Found
 saidUse (use·.Type t) st n = found t st
 saidUse (use·.Refused number) st n = refused number n
-
-abbrev pub saidTaken : Taken → ℕ → Answer Found
-saidTaken r n = saidUse (r .answer) (stackOf (r .binders)) n

@@ -1,10 +1,8 @@
 // The binders in scope: a struct by value, the nearest last. Binders of both sorts share one count.
+// The struct is large, so what has to be decided is decided on the numbers of one binder; who holds the struct stores in place.
 ghost use mathlib.Core.Path.{_≡_};
-ghost use mathlib.Core.List.{[], _∷_};
-ghost use Prim.Native.Nat.{ℕ, _+_, _-_, _<_, _≤_};
-ghost use lib.ListN.{drop};
-ghost use Rattle.calculus.specs.Walk.{useShared, useLinear, topUsed};
-ghost use Rattle.binders.specs.Stacks.{binderOf, stackOf, saidUse, saidTaken};
+ghost use mathlib.Core.List.{[]};
+ghost use Rattle.binders.specs.Stacks.{binderOf, stackOf, slotOf, sharedUse, linearUse};
 
 // For each binder in scope its type number, its sort (0 sharable, 1 linear), and for a linear one if it is used (0 or 1).
 pub struct Binders {
@@ -20,12 +18,6 @@ pub enum Use {
     Refused(u8),
 }
 
-// A use of a variable, and the binders with their marks after it.
-pub struct Taken {
-    pub answer: Use,
-    pub binders: Binders,
-}
-
 pub fn none() -> Binders
     ensures { λ r. ⌜ stackOf r ≡ [] ⌝ }
 {
@@ -37,95 +29,38 @@ pub fn none() -> Binders
     }
 }
 
-// One binder more, the nearest, of type t and not used.
-pub fn push(b: Binders, t: u8, sort: u8) -> Binders
-    requires { ⌜ b .count < 128 ⌝ }
-    ensures { λ r. ⌜ stackOf r ≡ binderOf t sort 0 ∷ stackOf b ⌝ }
+// Where binder i of `count` stands in the arrays; 0 if it is not in scope.
+pub fn slot(count: usize, i: usize) -> usize
+    ensures { λ r. ⌜ r ≡ slotOf count i ⌝ }
 {
-    let at = b.count;
-    let mut next = b;
-    next.types[at] = t;
-    next.sorts[at] = sort;
-    next.used[at] = 0;
-    next.count = at + 1;
-    next
+    if i < count { count - 1 - i } else { 0 }
 }
 
-// The n nearest binders go out of scope.
-pub fn leave(b: Binders, n: usize) -> Binders
-    ensures { λ r. ⌜ stackOf r ≡ drop n (stackOf b) ⌝ }
+// A sharable variable is used, binder i of `count`, by its type and sort: 10, 11.
+pub fn use_shared(count: usize, i: usize, ty: u8, sort: u8) -> Use
+    ensures { λ r. ⌜ r ≡ sharedUse count i (binderOf ty sort 0) ⌝ }
 {
-    let at = b.count;
-    let mut next = b;
-    if at < n {
-        next.count = 0;
-    } else {
-        next.count = at - n;
-    }
-    next
-}
-
-// The nearest binder, if it is linear, has been used.
-pub fn top_used(b: Binders) -> bool
-    requires { ⌜ b .count ≤ 128 ⌝ }
-    ensures { λ r. ⌜ r ≡ topUsed (stackOf b) ⌝ }
-{
-    let count = b.count;
-    if count == 0 {
-        return false;
-    }
-    let at = count - 1;
-    if b.sorts[at] == 0 {
-        return true;
-    }
-    b.used[at] != 0
-}
-
-// A sharable variable is used: 10, 11.
-pub fn use_shared(b: Binders, i: usize) -> Use
-    requires { ⌜ b .count ≤ 128 ⌝ }
-    ensures { λ r. ⌜ ((n : ℕ) → saidUse r (stackOf b) n ≡ useShared (stackOf b) i n) ⌝ }
-{
-    let count = b.count;
     if count <= i {
         return Use::Refused(10);
     }
-    let at = count - 1 - i;
-    if b.sorts[at] != 0 {
+    if sort != 0 {
         return Use::Refused(11);
     }
-    Use::Type(b.types[at])
+    Use::Type(ty)
 }
 
-// A linear variable is used, and marked: 10, 11, 13.
-pub fn use_linear(b: Binders, i: usize) -> Taken
-    requires { ⌜ b .count ≤ 128 ⌝ }
-    ensures { λ r. ⌜ ((n : ℕ) → saidTaken r n ≡ useLinear (stackOf b) i n) ⌝ }
+// A linear variable is used, binder i of `count`, by its type, sort and mark: 10, 11, 13. The user marks it.
+pub fn use_linear(count: usize, i: usize, ty: u8, sort: u8, mark: u8) -> Use
+    ensures { λ r. ⌜ r ≡ linearUse count i (binderOf ty sort mark) ⌝ }
 {
-    let count = b.count;
     if count <= i {
-        return Taken {
-            answer: Use::Refused(10),
-            binders: b,
-        };
+        return Use::Refused(10);
     }
-    let at = count - 1 - i;
-    if b.sorts[at] == 0 {
-        return Taken {
-            answer: Use::Refused(11),
-            binders: b,
-        };
+    if sort == 0 {
+        return Use::Refused(11);
     }
-    if b.used[at] != 0 {
-        return Taken {
-            answer: Use::Refused(13),
-            binders: b,
-        };
+    if mark != 0 {
+        return Use::Refused(13);
     }
-    let mut next = b;
-    next.used[at] = 1;
-    Taken {
-        answer: Use::Type(b.types[at]),
-        binders: next,
-    }
+    Use::Type(ty)
 }

@@ -246,12 +246,38 @@ module _ (s : List ℕ) (at node : ℕ) (Θ : Table) (st : Stack) where
   enter-in (fix t e) F d o g = typed-in (fix t e) F 0x19 t (F .ranged .0) o g
   enter-in (con p t) F d o g = absurd (d refl)
 
+  -- a node with one subterm binds a variable on entering
+  bound-one : (b : Bool) (x : Opening) (t : ℕ) (o : Found) → ((q : Found) → opened x t node st ≡ good q → length (q .stack) ≡ length st + 1)
+      → opened (cond b x opening.Misfit) t node st ≡ good o → length (o .stack) ≡ length st + 1
+  bound-one true x t o f g = f o g
+  bound-one false x t o f g = absurd (refused≢good g)
+
+  bound-shared : (u t : ℕ) (o : Found) → opened (opening.Shared u) t node st ≡ good o → length (o .stack) ≡ length st + 1
+  bound-shared u t o g = omega (arith, ap (λ (x : Found). length (x .stack)) (good-inj g))
+
+  bound-linear : (u t : ℕ) (o : Found) → opened (opening.Linear u) t node st ≡ good o → length (o .stack) ≡ length st + 1
+  bound-linear u t o g = omega (arith, ap (λ (x : Found). length (x .stack)) (good-inj g))
+
+  pub enter-one : (e : Term) → nodeOf e at .subterms ≡ 1 → (o : Found)
+      → enterOf (recIn s) (nodeOf e at .kind) (nodeOf e at .first) node st ≡ good o → length (o .stack) ≡ length st + 1
+  unfolding openingOf
+  enter-one (var i) z o g = absurd (omega arith)
+  enter-one (lvar i) z o g = absurd (omega arith)
+  enter-one (fun t e) z o g = bound-one (eqb (kindNo (recIn s t)) 3) (opening.Shared (leftOf (recIn s t))) t o (bound-shared _ t) g
+  enter-one (app h a) z o g = absurd (omega arith)
+  enter-one (lfun t e) z o g = bound-one (eqb (kindNo (recIn s t)) 4) (opening.Linear (leftOf (recIn s t))) t o (bound-linear _ t) g
+  enter-one (lapp h a) z o g = absurd (omega arith)
+  enter-one (pair t a b) z o g = absurd (omega arith)
+  enter-one (proj a e) z o g = absurd (omega arith)
+  enter-one (fix t e) z o g = bound-one (leb (kindNo (recIn s t)) 2) (opening.Shared t) t o (bound-shared t t) g
+  enter-one (con p t) z o g = absurd (omega arith)
+
   -- a node with two subterms binds nothing on entering
   tested : (b : Bool) (t : ℕ) (o : Found) → opened (cond b opening.Nothing opening.Misfit) t node st ≡ good o → o .stack ≡ st
   tested true t o g = ap (λ (x : Found). x .stack) (sym (good-inj g))
   tested false t o g = absurd (refused≢good g)
 
-  enter-two : (e : Term) → ¬ (nodeOf e at .subterms ≡ 0) → ¬ (nodeOf e at .subterms ≡ 1) → (o : Found)
+  pub enter-two : (e : Term) → ¬ (nodeOf e at .subterms ≡ 0) → ¬ (nodeOf e at .subterms ≡ 1) → (o : Found)
       → enterOf (recIn s) (nodeOf e at .kind) (nodeOf e at .first) node st ≡ good o → o .stack ≡ st
   unfolding openingOf
   enter-two (var i) d f o g = absurd (d refl)

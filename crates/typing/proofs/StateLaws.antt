@@ -1,52 +1,94 @@
 -- Laws of the steps of the walk that change the binders, by what the code has tested. Assumes nothing.
-use Prim.Native.Nat.{ℕ}
-use mathlib.Core.Path.{_≡_}
-use mathlib.Core.Bool.{Bool, true, false}
+use Prim.Native.Nat.{ℕ, _+_, _≤_, _<_}
+use mathlib.Core.Path.{_≡_, refl, sym, subst}
+use mathlib.Core.Bool.{Bool, true, false, cond}
 use mathlib.Core.List.{_∷_}
+use native.Mathlib.Omega.{arith}
+use native.Mathlib.Nat.{add-zero}
 use borrow.Author.Tests.{eq-eqb, ne-eqb}
-use lib.ListN.{drop}
-use Rattle.calculus.specs.Answer.{refused}
-use Rattle.calculus.specs.Walk.{shared, linear, Stack, found, useShared, useLinear}
+use lib.Dec.{eqb}
+use lib.ListN.{length, getD, set, drop, length-set}
+use Rattle.calculus.specs.Answer.{Answer, refused}
+use Rattle.calculus.specs.Walk.{shared, Stack, Found, found}
+use Rattle.laws.proofs.Tests.{on-cond}
+use Rattle.binders.specs.declared.Binders.{Binders}
+use Rattle.binders.specs.declared.Use.{Use}
+use Rattle.binders.specs.Stacks.{binderOf, stackFrom, stackOf, slotOf, sharedUse, linearUse, saidUse}
+use Rattle.binders.proofs.Laws.{past, pushed, shared-said, linear-said}
 use Rattle.typing.specs.declared.rules.Sided.{Sided}
 use Rattle.typing.specs.declared.rules.Opening.{Opening}
 use Rattle.typing.specs.declared.rules.Opening.the-variants as opening
+use Rattle.typing.specs.declared.rules.Binding.{Binding}
 use Rattle.typing.specs.declared.rules.Fit.{Fit}
 use Rattle.typing.specs.declared.rules.Fit.the-variants as fit
-use Rattle.typing.specs.Steps.{Types, sidedOf, constantOf, leafOf, openingOf, enterOf, wantedOf, usedUp, leaveOne, betweenOf, joinedOf, closesOf, leaveTwo}
+use Rattle.typing.specs.declared.Verdict.{Verdict}
+use Rattle.typing.specs.declared.Verdict.the-variants as verdict
+use Rattle.typing.specs.declared.Refusal.{Refusal}
+use Rattle.typing.specs.declared.Checked.{Checked}
+use Rattle.typing.specs.Steps.{Types, sidedOf, constantOf, leafOf, openingOf, bindingOf, opened, enterOf, wantedOf, usedUp, leaveOne, betweenOf, joinedOf, closesOf, leaveTwo}
+use Rattle.typing.specs.Verdicts.{checked, halvesOf, halves, FollowsOn, Follows}
+use Rattle.typing.specs.Fits.{Counts}
 use Rattle.typing.proofs.StepLaws.{kind-is, left-is, right-is}
-use Rattle.typing.proofs.VerdictLaws.{foundAt}
+use Rattle.typing.proofs.VerdictLaws.{foundAt, follows-on, follows-at}
 
 -- ---- leaves
 
-module _ (R : Types) (k x y n : ℕ) (st : Stack) where
-  pub leaf-shared : {w : ℕ} → k ≡ 0x11 → w ≡ x → useShared st w n ≡ leafOf R k x y n st
+module _ (R : Types) (k x y n : ℕ) (b : Binders) {i at : ℕ} (e : i ≡ x) (p : at ≡ slotOf (b .count) i) {u : Use} where
+  pub leaf-shared : k ≡ 0x11 → u ≡ sharedUse (b .count) i (binderOf (getD (b .types) at 0) (getD (b .sorts) at 0) 0) → saidUse u (stackOf b) n ≡ leafOf R k x y n (stackOf b)
   unfolding leafOf
-  leaf-shared h e = rw (h, e)
+  leaf-shared h g = rw (g, p, h, ← e) (shared-said (b .types) (b .sorts) (b .used) n (b .count) i)
 
-  pub leaf-linear : {w : ℕ} → k ≡ 0x12 → w ≡ x → useLinear st w n ≡ leafOf R k x y n st
+  pub leaf-linear : k ≡ 0x12 → b .count ≤ length (b .used) → u ≡ linearUse (b .count) i (binderOf (getD (b .types) at 0) (getD (b .sorts) at 0) (getD (b .used) at 0))
+      → saidUse u (stackFrom (b .types) (b .sorts) (set (b .used) at 1) (b .count)) n ≡ leafOf R k x y n (stackOf b)
   unfolding leafOf
-  leaf-linear h e = rw (h, e)
+  leaf-linear h l g = rw (g, p, h, ← e) (linear-said (b .types) (b .sorts) (b .used) n (b .count) i l)
 
-  pub leaf-constant : ¬ (k ≡ 0x11) → ¬ (k ≡ 0x12) → constantOf R x y n st ≡ leafOf R k x y n st
-  unfolding leafOf
-  leaf-constant a b = rw (ne-eqb k 0x11 a, ne-eqb k 0x12 b)
+pub leaf-constant : (R : Types) (k x y n : ℕ) (st : Stack) → ¬ (k ≡ 0x11) → ¬ (k ≡ 0x12) → constantOf R x y n st ≡ leafOf R k x y n st
+unfolding leafOf
+leaf-constant R k x y n st a b = rw (ne-eqb k 0x11 a, ne-eqb k 0x12 b)
 
--- ---- entering, and leaving a node with one subterm
+-- ---- entering
+
+-- the arrays have their length
+pub record Long (b : Binders) : Type 0 where
+  pub types : length (b .types) ≡ 128
+  pub sorts : length (b .sorts) ≡ 128
+  pub used : length (b .used) ≡ 128
+
+-- the binders after an opening's stores, past those in scope
+abbrev pub boundTo : Binders → Binding → Binders
+boundTo b o = record { types = set (b .types) (b .count) (o .ty); sorts = set (b .sorts) (b .count) (o .sort); used = set (b .used) (b .count) 0; count = b .count + o .count }
+
+module _ (b : Binders) (L : Long b) (r : b .count < 128) where
+  opens-is : (o : Opening) (t n : ℕ) → bindingOf o .fits ≡ true → found t (stackOf (boundTo b (bindingOf o))) ≡ opened o t n (stackOf b)
+  opens-is opening.Nothing t n h = rw (add-zero (b .count), past (b .types) (b .sorts) (b .used) (b .count) 0 0 0 (b .count) (omega arith))
+  opens-is (opening.Shared u) t n h = rw (pushed (b .types) (b .sorts) (b .used) u 0 0 (b .count) (omega arith) (omega arith) (omega arith))
+  opens-is (opening.Linear u) t n h = rw (pushed (b .types) (b .sorts) (b .used) u 1 0 (b .count) (omega arith) (omega arith) (omega arith))
+  opens-is opening.Misfit t n h = absurd (let z : _≡_ {A = ℕ} 0 1 = cc in omega arith)
+
+module _ (R : Types) (k t n : ℕ) {o : Opening} {q : Binding} (e : o ≡ openingOf k t (R t)) (g : q ≡ bindingOf o) where
+  pub enter-misfit : (st : Stack) → q .fits ≡ false → refused 12 n ≡ enterOf R k t n st
+  enter-misfit st h = by-opening o (sym e) (rw g at h)
+    where
+      by-opening : (o : Opening) → openingOf k t (R t) ≡ o → bindingOf o .fits ≡ false → refused 12 n ≡ enterOf R k t n st
+      by-opening opening.Nothing e h = absurd (let z : _≡_ {A = ℕ} 0 1 = cc in omega arith)
+      by-opening (opening.Shared u) e h = absurd (let z : _≡_ {A = ℕ} 0 1 = cc in omega arith)
+      by-opening (opening.Linear u) e h = absurd (let z : _≡_ {A = ℕ} 0 1 = cc in omega arith)
+      by-opening opening.Misfit e h = rw e
+
+  pub enter-opened : (b : Binders) → Long b → b .count < 128 → q .fits ≡ true → found t (stackOf (boundTo b q)) ≡ enterOf R k t n (stackOf b)
+  enter-opened b L r h = rw (g, ← e) (opens-is b L r o t n (rw g at h))
+
+-- one variable at most
+pub binds-few : (o : Opening) {q : Binding} → q ≡ bindingOf o → q .count ≤ 1
+binds-few opening.Nothing g = rw g (omega arith)
+binds-few (opening.Shared t) g = rw g (omega arith)
+binds-few (opening.Linear t) g = rw g (omega arith)
+binds-few opening.Misfit g = rw g (omega arith)
+
+-- ---- leaving a node with one subterm
 
 module _ (R : Types) (k t n : ℕ) (st : Stack) where
-  module _ {o : Opening} (e : o ≡ openingOf k t (R t)) where
-    pub enter-nothing : o ≡ opening.Nothing → found t st ≡ enterOf R k t n st
-    enter-nothing h = rw (← e, h)
-
-    pub enter-shared : {u : ℕ} {into : Stack} → o ≡ opening.Shared u → into ≡ shared u ∷ st → found t into ≡ enterOf R k t n st
-    enter-shared h g = rw (← e, h, g)
-
-    pub enter-linear : {u : ℕ} {into : Stack} → o ≡ opening.Linear u → into ≡ linear u false ∷ st → found t into ≡ enterOf R k t n st
-    enter-linear h g = rw (← e, h, g)
-
-    pub enter-misfit : o ≡ opening.Misfit → refused 12 n ≡ enterOf R k t n st
-    enter-misfit h = rw (← e, h)
-
   module _ (u : ℕ) {b : Bool} (e : b ≡ usedUp k st) where
     pub leave-unused : b ≡ false → refused 14 n ≡ leaveOne R k t n (foundAt u st)
     unfolding leaveOne
@@ -57,14 +99,14 @@ module _ (R : Types) (k t n : ℕ) (st : Stack) where
       unfolding leaveOne
       leave-misfit d = rw (← e, h, ← g, ne-eqb u w d)
 
-      pub leave-fine : {out : Stack} → u ≡ w → out ≡ drop 1 st → found t out ≡ leaveOne R k t n (foundAt u st)
+      pub leave-fine : u ≡ w → found t (drop 1 st) ≡ leaveOne R k t n (foundAt u st)
       unfolding leaveOne
-      leave-fine d z = rw (← e, h, ← g, eq-eqb u w d, z)
+      leave-fine d = rw (← e, h, ← g, eq-eqb u w d)
 
 -- ---- between two subterms
 
 module _ (R : Types) (k n u : ℕ) (st : Stack) where
-  pub between-other : ¬ (k ≡ 0x18) → found u st ≡ betweenOf R k n (foundAt u st)
+  pub between-other : ¬ (k ≡ 0x18) → found u (halvesOf R k u st) ≡ betweenOf R k n (foundAt u st)
   unfolding betweenOf
   between-other d = rw (ne-eqb k 0x18 d)
 
@@ -73,9 +115,54 @@ module _ (R : Types) (k n u : ℕ) (st : Stack) where
     unfolding betweenOf
     between-misfit d = rw (h, kind-is (R u) e, ne-eqb (q .kind) 2 d)
 
-    pub between-pushed : {mid into : Stack} → q .kind ≡ 2 → mid ≡ shared (q .left) ∷ st → into ≡ shared (q .right) ∷ mid → found u into ≡ betweenOf R k n (foundAt u st)
+    pub between-fine : q .kind ≡ 2 → found u (halvesOf R k u st) ≡ betweenOf R k n (foundAt u st)
     unfolding betweenOf
-    between-pushed d f g = rw (h, kind-is (R u) e, d, left-is (R u) e, right-is (R u) e, g, f)
+    between-fine d = rw (h, kind-is (R u) e, d)
+
+-- the binders after the stores of two halves, past those in scope, with m of them in scope
+abbrev pub halvedTo : Binders → ℕ → Sided → ℕ → Binders
+halvedTo b c q m =
+    record { types = set (set (b .types) c (q .left)) (c + 1) (q .right); sorts = set (set (b .sorts) c 0) (c + 1) 0; used = set (set (b .used) c 0) (c + 1) 0; count = c + m }
+
+-- the first c of the binders
+abbrev pub inScope : Binders → ℕ → Stack
+inScope b c = stackFrom (b .types) (b .sorts) (b .used) c
+
+module _ (b : Binders) (L : Long b) (c : ℕ) (r : c + 1 < 128) where
+  halves-at : (q : Sided) (x : Bool) → stackOf (halvedTo b c q (cond x 2 0)) ≡ cond x (shared (q .right) ∷ shared (q .left) ∷ inScope b c) (inScope b c)
+  halves-at q true =
+      let z : c + 2 ≡ c + 1 + 1 = omega arith in
+      rw (
+        z,
+        pushed (set (b .types) c (q .left)) (set (b .sorts) c 0) (set (b .used) c 0) (q .right) 0 0 (c + 1) (rw length-set (omega arith)) (rw length-set (omega arith)) (rw length-set (omega arith)),
+        pushed (b .types) (b .sorts) (b .used) (q .left) 0 0 c (omega arith) (omega arith) (omega arith),
+      )
+  halves-at q false =
+      rw (
+        add-zero c,
+        past (set (b .types) c (q .left)) (set (b .sorts) c 0) (set (b .used) c 0) (c + 1) (q .right) 0 0 c (omega arith),
+        past (b .types) (b .sorts) (b .used) c (q .left) 0 0 c (omega arith),
+      )
+
+  halves-are : (R : Types) (k u : ℕ) {q : Sided} {m : ℕ} → q ≡ sidedOf (R u) → m ≡ closesOf k → stackOf (halvedTo b c q m) ≡ halvesOf R k u (inScope b c)
+  unfolding closesOf
+  halves-are R k u {q} e h = rw (h, left-is (R u) e, right-is (R u) e) (halves-at q (eqb k 0x18))
+
+-- two at most
+pub closes-few : (k : ℕ) → closesOf k ≤ 2
+unfolding closesOf
+closes-few k = on-cond (λ (m : ℕ). m ≤ 2) (eqb k 0x18) 2 0 (λ _. omega arith) (omega arith)
+
+-- the second subterm, after a first one that has c binders
+module _ (R : Types) (k : ℕ) (x : Checked) {f : Found → Answer Found} {v : Verdict} where
+  pub follows-refused : {r : Refusal} → v ≡ verdict.Refused r → FollowsOn (x .verdict) (stackOf (x .binders)) v (halves R k v (stackOf (x .binders))) f → Follows x (checked v (x .binders)) f
+  follows-refused e F = follows-on x (x .binders) (subst (λ (st : Stack). FollowsOn (x .verdict) (stackOf (x .binders)) v st f) (rw e refl) F)
+
+  pub follows-halves : Long (x .binders) → (c : ℕ) → c + 1 < 128 → Counts c x → {u i j : ℕ} → v ≡ verdict.Fine u i j
+      → FollowsOn (x .verdict) (inScope (x .binders) c) v (halves R k v (inScope (x .binders) c)) f
+      → {q : Sided} {m : ℕ} → q ≡ sidedOf (R u) → m ≡ closesOf k → Follows x (checked (verdict.Fine u i j) (halvedTo (x .binders) c q m)) f
+  follows-halves L c r n {u} e F {q} {m} g h =
+      follows-at x (halvedTo (x .binders) c q m) c n (rw (halves-are (x .binders) L c r R k u g h) (rw e at F))
 
 -- ---- leaving a node with two subterms
 
@@ -83,5 +170,5 @@ module _ (R : Types) (k t n a u : ℕ) (st : Stack) {f : Fit} (e : f ≡ joinedO
   pub two-misfit : f ≡ fit.Misfit → refused 12 n ≡ leaveTwo R k t n a (foundAt u st)
   two-misfit h = rw (← e, h)
 
-  pub two-fine : {v m : ℕ} {out : Stack} → f ≡ fit.Type v → m ≡ closesOf k → out ≡ drop m st → found v out ≡ leaveTwo R k t n a (foundAt u st)
-  two-fine h c z = rw (← e, h, ← c, z)
+  pub two-fine : {v : ℕ} → f ≡ fit.Type v → found v (drop (closesOf k) st) ≡ leaveTwo R k t n a (foundAt u st)
+  two-fine h = rw (← e, h)

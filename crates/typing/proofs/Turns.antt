@@ -1,8 +1,7 @@
 -- The walk's turns at one node: what each call may take for granted, and what each way out says. Assumes nothing.
 use Prim.Native.Nat.{ℕ, _+_, _-_, _≤_, _<_}
 use mathlib.Core.Path.{_≡_, refl, sym, ap, subst, _∙_}
-use mathlib.Core.Logic.{⊎-elim}
-use mathlib.Core.List.{List, [], _∷_}
+use mathlib.Core.List.{List}
 use native.Mathlib.Omega.{arith}
 use lib.ListN.{length}
 use Rattle.calculus.specs.Answer.{Answer, good, _>>=_}
@@ -10,17 +9,11 @@ use Rattle.calculus.proofs.Answers.{on-bind}
 use Rattle.calculus.specs.Types.{Table}
 use Rattle.calculus.specs.Terms.{Term, nodes}
 use Rattle.calculus.specs.Write.{termBytes}
-use Rattle.calculus.specs.Laid.{Stands}
 use Rattle.calculus.specs.Walk.{Stack, Found, walk}
-use Rattle.records.specs.Record.{recordAt}
+use Rattle.records.specs.Record.{nodeAt}
 use Rattle.records.specs.Forms.{recIn}
 use Rattle.records.specs.Heads.{nodeOf}
 use Rattle.records.specs.declared.Node.{Node}
-use types.Run.{OneOf}
-use denote.Enum.Declared.{tagOf}
-use Rattle.records.specs.declared.Record.{Record}
-use Rattle.records.proofs.Record.{the-type}
-use Rattle.records.specs.declared.Record.the-variants as rec
 use Rattle.records.proofs.Laws.{stands-record, node-next}
 use Rattle.binders.specs.Stacks.{stackOf}
 use Rattle.binders.proofs.Laws.{length-of}
@@ -30,17 +23,11 @@ use Rattle.typing.specs.declared.Refusal.{Refusal}
 use Rattle.typing.specs.declared.Checked.{Checked}
 use Rattle.typing.specs.Steps.{leafOf, enterOf, leaveOne, betweenOf, leaveTwo}
 use Rattle.typing.specs.Verdicts.{said, EndsAt, Says, Follows}
-use Rattle.typing.specs.Fits.{Fits, Holds, HoldsIn}
+use Rattle.typing.specs.Fits.{Fits, Counts, CountsIn}
 use Rattle.typing.proofs.VerdictLaws.{foundAt, said-fine, stops, refused-ends}
 use Rattle.typing.proofs.Ranges.{Kept, kept}
 use Rattle.typing.proofs.WalkLaws.{bind-same, bind-assoc, firstOf, secondOf, after, walk-leaf, walk-steps, after-one, after-two}
-use Rattle.typing.proofs.FitLaws.{depth-some, nodes-some, end-none, end-one, end-two, fits-first, fits-second}
-
--- a record that is no node's begins no term
-pub no-node : (r : Record) → OneOf (0 ∷ 2 ∷ []) (tagOf the-type r) → (s : List ℕ) (at : ℕ) (e : Term) → recordAt s at ≡ r → Stands s at e → ⊥
-no-node (rec.Type q) h s at e g w = let f = stands-record s at e w in let z : _≡_ {A = ℕ} 0 1 = cc in omega arith
-no-node (rec.Refused i p) h s at e g w = let f = stands-record s at e w in let z : _≡_ {A = ℕ} 0 1 = cc in omega arith
-no-node (rec.Node q) h s at e g w = ⊎-elim (λ (z : 1 ≡ 0). omega arith) (λ (z : 1 ≡ 2). omega arith) h
+use Rattle.typing.proofs.FitLaws.{depth-some, nodes-some, end-none, end-one, end-two, enter-one, enter-two, fits-first, fits-second}
 
 -- ---- what fits
 
@@ -61,20 +48,12 @@ module _ {s : List ℕ} {at node : ℕ} {Θ : Table} {e : Term} {st : Stack} whe
   fits-kept F r h = kept Θ (F .table) e (F .ranged) node st (F .numbers) r h
 
   -- after a walk there are as many binders as before
-  pub held : Fits s at node Θ e st → (x : Checked) {i j : ℕ} → Says x (walk Θ e node st) i j → Holds 126 x
-  held F x X = by-verdict (x .verdict) refl
+  pub held : Fits s at node Θ e st → (x : Checked) {i j : ℕ} → Says x (walk Θ e node st) i j → {m : ℕ} → length st ≡ m → Counts m x
+  held F x X {m} l = by-verdict (x .verdict) refl
     where
-      by-verdict : (v : Verdict) → x .verdict ≡ v → HoldsIn 126 v (x .binders .count)
-      by-verdict (verdict.Fine t i j) q =
-          omega (arith, few-binders F, fits-kept F (foundAt t (stackOf (x .binders))) (sym (X .answer) ∙ said-fine x q) .count, length-of (x .binders))
+      by-verdict : (v : Verdict) → x .verdict ≡ v → CountsIn m v (x .binders .count)
+      by-verdict (verdict.Fine t i j) q = omega (arith, fits-kept F (foundAt t (stackOf (x .binders))) (sym (X .answer) ∙ said-fine x q) .count, length-of (x .binders))
       by-verdict (verdict.Refused r) q = tt
-
-pub holds-more : (x : Checked) → Holds 126 x → Holds 128 x
-holds-more x = by-verdict (x .verdict)
-  where
-    by-verdict : (v : Verdict) → HoldsIn 126 v (x .binders .count) → HoldsIn 128 v (x .binders .count)
-    by-verdict (verdict.Fine t i j) h = omega arith
-    by-verdict (verdict.Refused r) h = tt
 
 -- ---- at a node: what is known, place by place of the code
 
@@ -82,7 +61,7 @@ module _ (s : List ℕ) (at node : ℕ) (st : Stack) (Θ : Table) (e : Term) whe
   -- the node's record has been read
   pub record Here : Type 0 where
     pub n : Node
-    pub here : recordAt s at ≡ rec.Node n
+    pub here : n ≡ nodeAt s at
     pub fits : Fits s at node Θ e st
 
   -- a node with subterms has been entered
@@ -131,7 +110,12 @@ module _ (s : List ℕ) (at node : ℕ) (st : Stack) (Θ : Table) (e : Term) whe
 module _ {s : List ℕ} {at node : ℕ} {st : Stack} {Θ : Table} {e : Term} where
   module _ (h : Here s at node st Θ e) where
     node-is : h .n ≡ nodeOf e at
-    node-is = let z : rec.Node (h .n) ≡ rec.Node (nodeOf e at) = sym (h .here) ∙ stands-record s at e (h .fits .stands) in cc
+    unfolding nodeAt
+    node-is = h .here ∙ rw (stands-record s at e (h .fits .stands)) refl
+
+    -- its record ends past its start
+    node-ends : (at < h .n .next) × (h .n .next ≤ length s)
+    node-ends = rw node-is (node-next s at (stands-record s at e (h .fits .stands)))
 
     subterms-are : h .n .subterms ≡ nodeOf e at .subterms
     subterms-are = ap (λ (n : Node). n .subterms) node-is
@@ -170,7 +154,7 @@ module _ {s : List ℕ} {at node : ℕ} {st : Stack} {Θ : Table} {e : Term} whe
     inside-is = sym (entered (h .inside)) ∙ said-fine (h .inside .i) (h .fine)
 
     pub turn-falls : length s - h .start < length s - at
-    turn-falls = omega (arith, node-next s at (h .inside .place .here), start-is .0)
+    turn-falls = omega (arith, node-ends (h .inside .place), start-is .0)
 
     pub turn-first : Fits s (h .start) (h .count) Θ (firstOf e) (stackOf (h .inside .i .binders))
     turn-first = fits-at (sym next-is) (sym (start-is .1)) (fits-first s at node Θ st e (h .inside .place .fits) (some-is (h .inside)) _ inside-is)
@@ -183,8 +167,16 @@ module _ {s : List ℕ} {at node : ℕ} {st : Stack} {Θ : Table} {e : Term} whe
     rest : walk Θ e node st ≡ (said (h .x) >>= after (recIn s) Θ e node)
     rest = steps (h .opened .inside) ∙ rw (said-fine (h .opened .inside .i) (h .opened .fine), first-said) refl
 
-    pub turn-held : Holds 126 (h .x)
-    turn-held = held (turn-first (h .opened)) (h .x) (h .says)
+    -- a node with one subterm binds a variable, one with two binds none on entering
+    pub turn-held-one : h .opened .inside .place .n .subterms ≡ 1 → {m : ℕ} → length st ≡ m → Counts (m + 1) (h .x)
+    turn-held-one z l =
+        held (turn-first (h .opened)) (h .x) (h .says)
+        (enter-one s at node Θ st e (sym (subterms-are (h .opened .inside .place)) ∙ z) _ (inside-is (h .opened)) ∙ ap (λ (k : ℕ). k + 1) l)
+
+    pub turn-held-two : ¬ (h .opened .inside .place .n .subterms ≡ 1) → {m : ℕ} → length st ≡ m → Counts m (h .x)
+    turn-held-two d l =
+        held (turn-first (h .opened)) (h .x) (h .says)
+        (ap length (enter-two s at node Θ st e (some-is (h .opened .inside)) (λ z. d (subterms-are (h .opened .inside .place) ∙ z)) _ (inside-is (h .opened))) ∙ l)
 
     pub turn-one : h .opened .inside .place .n .subterms ≡ 1 → {c : Checked}
         → Follows (h .x) c (leaveOne (recIn s) (h .opened .inside .place .n .kind) (h .opened .inside .place .n .first) node) → Done s at node st Θ e c
@@ -226,7 +218,7 @@ module _ {s : List ℕ} {at node : ℕ} {st : Stack} {Θ : Table} {e : Term} whe
     count-is = mid-is .1 ∙ ap (λ (z : ℕ). z + nodes (firstOf e)) (start-is o .1)
 
     pub turn-falls-again : length s - h .start < length s - at
-    turn-falls-again = omega (arith, node-next s at (o .inside .place .here), start-is o .0, mid-is .0)
+    turn-falls-again = omega (arith, node-ends (o .inside .place), start-is o .0, mid-is .0)
 
     pub turn-second : Fits s (h .start) (h .count) Θ (secondOf e) (stackOf (h .middle .m .binders))
     turn-second =

@@ -1,14 +1,21 @@
 -- Laws of verdicts: what a step says that is fine, that refuses, or that passes a refusal on. Assumes nothing.
-use Prim.Native.Nat.{ℕ}
-use mathlib.Core.Path.{_≡_, refl, sym, subst⁻¹, _∙_}
+use Prim.Native.Nat.{ℕ, _+_, _-_}
+use mathlib.Core.Path.{_≡_, refl, subst⁻¹}
+use native.Mathlib.Omega.{arith}
+use lib.ListN.{drop}
 use Rattle.calculus.specs.Answer.{Answer, refused, _>>=_}
 use Rattle.calculus.specs.Walk.{Stack, Found, found}
-use Rattle.binders.specs.Stacks.{stackOf}
+use Rattle.binders.specs.Stacks.{stackFrom, stackOf, saidUse}
+use Rattle.binders.proofs.Laws.{left}
 use Rattle.binders.specs.declared.Binders.{Binders}
+use Rattle.binders.specs.declared.Use.{Use}
+use Rattle.binders.specs.declared.Use.the-variants as use·
+use Rattle.typing.specs.declared.Verdict.{Verdict}
 use Rattle.typing.specs.declared.Verdict.the-variants as verdict
 use Rattle.typing.specs.declared.Refusal.{Refusal}
 use Rattle.typing.specs.declared.Checked.{Checked}
-use Rattle.typing.specs.Verdicts.{said, stoppedOf, fineOf, EndsAt, Says, Follows}
+use Rattle.typing.specs.Verdicts.{said, refusedOf, settledOf, checked, EndsAt, Says, FollowsOn, Follows}
+use Rattle.typing.specs.Fits.{Counts, CountsIn}
 
 -- a type and a stack
 abbrev pub foundAt : ℕ → Stack → Found
@@ -16,16 +23,19 @@ foundAt t st = record { type = t; stack = st }
 
 -- ---- one step
 
-pub says-fine : {c : Checked} (t next count : ℕ) (b : Binders) {a : Answer Found} → c ≡ fineOf t next count b → found t (stackOf b) ≡ a → Says c a next count
-unfolding said
-says-fine t next count b {a} e h = subst⁻¹ (λ (c : Checked). Says c a next count) e (record { answer = h; ends = (refl, refl) })
+module _ (b : Binders) {a : Answer Found} (next count : ℕ) where
+  pub says-fine : (t : ℕ) → found t (stackOf b) ≡ a → Says (checked (verdict.Fine t next count) b) a next count
+  unfolding said
+  says-fine t h = record { answer = h; ends = (refl, refl) }
 
-pub says-stopped : {c : Checked} (number place : ℕ) (b : Binders) {a : Answer Found} (next count : ℕ) → c ≡ stoppedOf number place b → refused number place ≡ a → Says c a next count
-unfolding said
-says-stopped number place b {a} next count e h = subst⁻¹ (λ (c : Checked). Says c a next count) e (record { answer = h; ends = tt })
+  pub says-refused : {v : Verdict} (number place : ℕ) → v ≡ refusedOf number place → refused number place ≡ a → Says (checked v b) a next count
+  unfolding said
+  says-refused number place e h = subst⁻¹ (λ (v : Verdict). Says (checked v b) a next count) e (record { answer = h; ends = tt })
 
-pub says-as : {c : Checked} {a d : Answer Found} {next count : ℕ} → Says c a next count → a ≡ d → Says c d next count
-says-as w e = record { answer = w .answer ∙ e; ends = w .ends }
+-- a leaf, by what its use gives
+pub says-settled : (u : Use) (b : Binders) {a : Answer Found} (next node : ℕ) {v : Verdict} → v ≡ settledOf u next node → saidUse u (stackOf b) node ≡ a → Says (checked v b) a next (node + 1)
+says-settled (use·.Type t) b {a} next node e h = subst⁻¹ (λ (v : Verdict). Says (checked v b) a next (node + 1)) e (says-fine b next (node + 1) t h)
+says-settled (use·.Refused number) b next node e h = says-refused b next (node + 1) number node e h
 
 -- ---- what a verdict says
 
@@ -47,18 +57,36 @@ module _ (c : Checked) where
 
 -- ---- a step after another
 
-module _ (x : Checked) (f : Found → Answer Found) where
-  pub follows-refused : {r : Refusal} → x .verdict ≡ verdict.Refused r → Follows x x f
-  follows-refused e = record { answer = stops x f e refl; ends = λ next count h. h }
+module _ (v : Verdict) (st out : Stack) (f : Found → Answer Found) where
+  pub on-refused : {r : Refusal} → v ≡ verdict.Refused r → FollowsOn v st v out f
+  on-refused e = record { answer = rw e; ends = λ next count h. h }
 
-  module _ {t i j : ℕ} (e : x .verdict ≡ verdict.Fine t i j) where
-    pub follows-same : found t (stackOf (x .binders)) ≡ f (foundAt t (stackOf (x .binders))) → Follows x x f
-    follows-same h = record { answer = rw (said-fine x e) h; ends = λ next count h. h }
+  module _ {t i j : ℕ} (e : v ≡ verdict.Fine t i j) where
+    pub on-stopped : {w : Verdict} (number place : ℕ) → w ≡ refusedOf number place → refused number place ≡ f (foundAt t st) → FollowsOn v st w out f
+    on-stopped number place q h = subst⁻¹ (λ (w : Verdict). FollowsOn v st w out f) q (record { answer = rw e h; ends = λ next count h. tt })
 
-    pub follows-stopped : {c : Checked} (number place : ℕ) (b : Binders) → c ≡ stoppedOf number place b → refused number place ≡ f (foundAt t (stackOf (x .binders))) → Follows x c f
-    unfolding said
-    follows-stopped number place b q h = subst⁻¹ (λ (c : Checked). Follows x c f) q (record { answer = h ∙ sym (rw (said-fine x e) refl); ends = λ next count h. tt })
+    pub on-fine : (s : ℕ) → found s out ≡ f (foundAt t st) → FollowsOn v st (verdict.Fine s i j) out f
+    on-fine s h = record { answer = rw e h; ends = λ next count g. rw e at g }
 
-    pub follows-fine : {c : Checked} (s : ℕ) (b : Binders) → c ≡ fineOf s i j b → found s (stackOf b) ≡ f (foundAt t (stackOf (x .binders))) → Follows x c f
-    unfolding said
-    follows-fine s b q h = subst⁻¹ (λ (c : Checked). Follows x c f) q (record { answer = h ∙ sym (rw (said-fine x e) refl); ends = λ next count h. rw e at h })
+-- ---- .. with the binders of both
+
+module _ (x : Checked) {f : Found → Answer Found} {w : Verdict} (b : Binders) where
+  pub follows-on : FollowsOn (x .verdict) (stackOf (x .binders)) w (stackOf b) f → Follows x (checked w b) f
+  unfolding said
+  follows-on F = record { answer = F .answer; ends = F .ends }
+
+  -- .. by the number of binders that a fine verdict has
+  pub follows-at : (m : ℕ) → Counts m x → FollowsOn (x .verdict) (stackFrom (x .binders .types) (x .binders .sorts) (x .binders .used) m) w (stackOf b) f → Follows x (checked w b) f
+  follows-at m n F = by-verdict (x .verdict) refl n F
+    where
+      by-verdict : (v : Verdict) → x .verdict ≡ v → CountsIn m v (x .binders .count) → FollowsOn v (stackFrom (x .binders .types) (x .binders .sorts) (x .binders .used) m) w (stackOf b) f → Follows x (checked w b) f
+      by-verdict (verdict.Fine t i j) e h F = follows-on (rw (e, h) F)
+      by-verdict (verdict.Refused r) e h F = follows-on (rw e (record { answer = F .answer; ends = F .ends }))
+
+-- .. where the k nearest binders go out of scope
+pub follows-left : (x : Checked) {f : Found → Answer Found} {w : Verdict} (k c : ℕ) → Counts (c + k) x
+    → FollowsOn (x .verdict) (stackFrom (x .binders .types) (x .binders .sorts) (x .binders .used) (c + k)) w (drop k (stackFrom (x .binders .types) (x .binders .sorts) (x .binders .used) (c + k))) f
+    → Follows x (checked w (record { types = x .binders .types; sorts = x .binders .sorts; used = x .binders .used; count = c })) f
+follows-left x k c n F =
+    let e : c + k - k ≡ c = omega arith in
+    follows-at x _ (c + k) n (rw (← left (x .binders .types) (x .binders .sorts) (x .binders .used) k (c + k) (omega arith), e) at F)

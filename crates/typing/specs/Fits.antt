@@ -35,10 +35,10 @@ pub record Ready (s : List ℕ) (at node : ℕ) (st : Stack) : Type 0 where
 abbrev pub Walked : List ℕ → ℕ → ℕ → Stack → Checked → Type 0
 Walked s at node st c = (Θ : Table) (e : Term) → Fits s at node Θ e st → Says c (walk Θ e node st) (at + length (termBytes e)) (node + nodes e)
 
--- a verdict that is fine has at most so many binders
-abbrev pub HoldsIn : ℕ → Verdict → ℕ → Type 0
-HoldsIn m (verdict.Fine t x y) count = count ≤ m
-HoldsIn m (verdict.Refused r) count = Unit {0}
+-- a verdict that is fine has so many binders
+abbrev pub CountsIn : ℕ → Verdict → ℕ → Type 0
+CountsIn m (verdict.Fine t x y) count = count ≡ m
+CountsIn m (verdict.Refused r) count = Unit {0}
 
-abbrev pub Holds : ℕ → Checked → Type 0
-Holds m c = HoldsIn m (c .verdict) (c .binders .count)
+abbrev pub Counts : ℕ → Checked → Type 0
+Counts m c = CountsIn m (c .verdict) (c .binders .count)

@@ -12,6 +12,7 @@ use Rattle.calculus.specs.Walk.{shared, linear, Stack, Found, found, useShared,
 use Rattle.typing.specs.declared.rules.Sided.{Sided}
 use Rattle.typing.specs.declared.rules.Opening.{Opening}
 use Rattle.typing.specs.declared.rules.Opening.the-variants as opening
+use Rattle.typing.specs.declared.rules.Binding.{Binding}
 use Rattle.typing.specs.declared.rules.Fit.{Fit}
 use Rattle.typing.specs.declared.rules.Fit.the-variants as fit
 
@@ -79,6 +80,13 @@ openingOf k t q =
     (cond (eqb k 0x17) (whereKind 2 q opening.Nothing)
     (cond (eqb k 0x19) (cond (leb (kindNo q) 2) (opening.Shared t) opening.Misfit)
     opening.Nothing)))
+
+-- an opening as numbers
+abbrev pub bindingOf : Opening → Binding
+bindingOf opening.Nothing = record { fits = true; count = 0; ty = 0; sort = 0 }
+bindingOf (opening.Shared t) = record { fits = true; count = 1; ty = t; sort = 0 }
+bindingOf (opening.Linear t) = record { fits = true; count = 1; ty = t; sort = 1 }
+bindingOf opening.Misfit = record { fits = false; count = 0; ty = 0; sort = 0 }
 
 abbrev pub opened : Opening → ℕ → ℕ → Stack → Answer Found
 opened opening.Nothing t n st = found t st

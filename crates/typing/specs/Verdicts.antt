@@ -1,13 +1,19 @@
 -- What the walk's verdict says: a type number with the binders, or a refusal; and where a term ends. Assumes nothing.
-use Prim.Native.Nat.{ℕ}
+use Prim.Native.Nat.{ℕ, _+_}
 use mathlib.Core.Path.{_≡_}
+use mathlib.Core.Bool.{cond}
+use mathlib.Core.List.{_∷_}
+use lib.Dec.{eqb}
 use Rattle.calculus.specs.Answer.{Answer, refused, _>>=_}
-use Rattle.calculus.specs.Walk.{Stack, Found, found}
+use Rattle.calculus.specs.Walk.{shared, Stack, Found, found}
 use Rattle.binders.specs.Stacks.{stackOf}
 use Rattle.binders.specs.declared.Binders.{Binders}
+use Rattle.binders.specs.declared.Use.{Use}
+use Rattle.binders.specs.declared.Use.the-variants as use·
 use Rattle.typing.specs.declared.Verdict.{Verdict}
 use Rattle.typing.specs.declared.Verdict.the-variants as verdict
 use Rattle.typing.specs.declared.Checked.{Checked}
+use Rattle.typing.specs.Steps.{Types, leftOf, rightOf}
 
 abbrev pub saidVerdict : Verdict → Stack → Answer Found
 saidVerdict (verdict.Fine t next count) st = found t st
@@ -16,11 +22,25 @@ saidVerdict (verdict.Refused r) st = refused (r .number) (r .place)
 unfoldable pub said : Checked → Answer Found
 said c = saidVerdict (c .verdict) (stackOf (c .binders))
 
-abbrev pub stoppedOf : ℕ → ℕ → Binders → Checked
-stoppedOf number place b = record { verdict = verdict.Refused (record { number = number; place = place }); binders = b }
+abbrev pub refusedOf : ℕ → ℕ → Verdict
+refusedOf number place = verdict.Refused (record { number = number; place = place })
 
-abbrev pub fineOf : ℕ → ℕ → ℕ → Binders → Checked
-fineOf t next count b = record { verdict = verdict.Fine t next count; binders = b }
+-- a verdict with its binders
+abbrev pub checked : Verdict → Binders → Checked
+checked v b = record { verdict = v; binders = b }
+
+-- the verdict on a leaf, node n, that ends at `next`
+abbrev pub settledOf : Use → ℕ → ℕ → Verdict
+settledOf (use·.Type t) next n = verdict.Fine t next (n + 1)
+settledOf (use·.Refused number) next n = refusedOf number n
+
+-- the binders on entering a second subterm: a projection binds the halves of the first one's type t, the second half nearer
+abbrev pub halvesOf : Types → ℕ → ℕ → Stack → Stack
+halvesOf R k t st = cond (eqb k 0x18) (shared (rightOf (R t)) ∷ shared (leftOf (R t)) ∷ st) st
+
+abbrev pub halves : Types → ℕ → Verdict → Stack → Stack
+halves R k (verdict.Fine t next count) st = halvesOf R k t st
+halves R k (verdict.Refused r) st = st
 
 -- a verdict that is fine has the offset past the term, and the nodes up to there
 abbrev pub EndsAt : Verdict → ℕ → ℕ → Type 0
@@ -32,7 +52,12 @@ pub record Says (c : Checked) (a : Answer Found) (next count : ℕ) : Type 0 whe
   pub answer : said c ≡ a
   pub ends : EndsAt (c .verdict) next count
 
--- the verdict of a step after x: its answer, and the same end
+-- the verdict w of a step after v, with the binders after each: its answer, and the same end
+pub record FollowsOn (v : Verdict) (st : Stack) (w : Verdict) (out : Stack) (f : Found → Answer Found) : Type 0 where
+  pub answer : saidVerdict w out ≡ (saidVerdict v st >>= f)
+  pub ends : (next count : ℕ) → EndsAt v next count → EndsAt w next count
+
+-- the same of verdicts that have their binders
 pub record Follows (x c : Checked) (f : Found → Answer Found) : Type 0 where
   pub answer : said c ≡ (said x >>= f)
   pub ends : (next count : ℕ) → EndsAt (x .verdict) next count → EndsAt (c .verdict) next count

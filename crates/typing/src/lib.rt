@@ -2,17 +2,18 @@
 use binders::Binders;
 use binders::Use;
 use records::Node;
-use records::Record;
 use rules::Fit;
-use rules::Opening;
 ghost use mathlib.Core.Path.{_≡_};
-ghost use Prim.Native.Nat.{_+_, _<_, _≤_};
+ghost use mathlib.Core.List.{_∷_};
+ghost use Prim.Native.Nat.{ℕ, _+_, _<_, _≤_};
+ghost use lib.ListN.{drop};
+ghost use Rattle.calculus.specs.Walk.{Stack};
 ghost use Rattle.records.specs.Forms.{recIn};
-ghost use Rattle.binders.specs.Stacks.{stackOf, saidUse};
-ghost use Rattle.typing.specs.Steps.{leafOf, enterOf, usedUp, leaveOne, betweenOf, leaveTwo};
-ghost use Rattle.typing.specs.Verdicts.{stoppedOf, fineOf, Says, Follows};
+ghost use Rattle.binders.specs.Stacks.{binderOf, stackOf};
+ghost use Rattle.typing.specs.Steps.{leafOf, usedUp, leaveOne, betweenOf, closesOf, leaveTwo};
+ghost use Rattle.typing.specs.Verdicts.{refusedOf, checked, settledOf, halves, Says, FollowsOn, Follows};
 ghost use Rattle.typing.specs.Answers.{saidTyping, checkOf, Read};
-ghost use Rattle.typing.specs.Fits.{Ready, Walked, Holds};
+ghost use Rattle.typing.specs.Fits.{Ready, Walked, Counts};
 
 mod rules;
 
@@ -34,22 +35,19 @@ pub struct Checked {
     pub binders: Binders,
 }
 
-// Refused at a place, with the binders as they are.
-fn stopped(number: u8, place: usize, b: Binders) -> Checked
-    ensures { λ r. ⌜ r ≡ stoppedOf number place b ⌝ }
+// Refused at a place.
+fn refused(number: u8, place: usize) -> Verdict
+    ensures { λ r. ⌜ r ≡ refusedOf number place ⌝ }
 {
-    Checked {
-        verdict: Verdict::Refused(Refusal { number, place }),
-        binders: b,
-    }
+    Verdict::Refused(Refusal { number, place })
 }
 
-// A term of type `ty` that ends at `next`, `count` nodes up to there.
-fn fine(ty: u8, next: usize, count: usize, b: Binders) -> Checked
-    ensures { λ r. ⌜ r ≡ fineOf ty next count b ⌝ }
+// A verdict that ends the walk, with the binders as they are.
+fn stopped(v: Verdict, b: Binders) -> Checked
+    ensures { λ r. ⌜ r ≡ checked v b ⌝ }
 {
     Checked {
-        verdict: Verdict::Fine { ty, next, count },
+        verdict: v,
         binders: b,
     }
 }
@@ -57,160 +55,192 @@ fn fine(ty: u8, next: usize, count: usize, b: Binders) -> Checked
 // ---- leaves
 
 // The verdict on a leaf, node `node`.
-fn settled(u: Use, next: usize, node: usize, b: Binders) -> Checked
+fn settled(u: Use, next: usize, node: usize) -> Verdict
     requires { ⌜ node < 2048 ⌝ }
-    ensures { λ r. ⌜ Says r (saidUse u (stackOf b) node) next (node + 1) ⌝ }
+    ensures { λ r. ⌜ r ≡ settledOf u next node ⌝ }
 {
     match u {
-        Use::Type(t) => fine(t, next, node + 1, b),
-        Use::Refused(k) => stopped(k, node, b),
+        Use::Type(ty) => Verdict::Fine {
+            ty,
+            next,
+            count: node + 1,
+        },
+        Use::Refused(k) => refused(k, node),
     }
 }
 
-// A node without subterms.
+// A node without subterms. A linear variable is marked whatever the answer: after a refusal nobody looks at the marks.
 fn leaf(s: &[u8], n: Node, node: usize, b: Binders) -> Checked
     requires { ⌜ (b .count ≤ 128) × (node < 2048) ⌝ }
     ensures { λ r. ⌜ Says r (leafOf (recIn (now (s .entry))) (n .kind) (n .first) (n .second) node (stackOf b)) (n .next) (node + 1) ⌝ }
 {
+    let mut own = b;
+    let c = own.count;
     let i = records::wide(n.first);
+    let k = binders::slot(c, i);
     let kind = n.kind;
-    match kind {
-        0x11 => settled(binders::use_shared(b, i), n.next, node, b),
+    let u = match kind {
+        0x11 => binders::use_shared(c, i, own.types[k], own.sorts[k]),
         0x12 => {
-            let taken = binders::use_linear(b, i);
-            let answer = taken.answer;
-            settled(answer, n.next, node, taken.binders)
+            let taken = binders::use_linear(c, i, own.types[k], own.sorts[k], own.used[k]);
+            own.used[k] = 1;
+            taken
         }
-        _ => settled(rules::constant(s, n.first, n.second), n.next, node, b),
-    }
-}
-
-// ---- entering a node
-
-// 12 if the written type has the wrong shape; a function and a fixed point bind their variable.
-fn enter(s: &[u8], n: Node, node: usize, b: Binders) -> Checked
-    requires { ⌜ (b .count < 128) × (node < 2048) ⌝ }
-    ensures { λ r. ⌜ Says r (enterOf (recIn (now (s .entry))) (n .kind) (n .first) node (stackOf b)) (n .next) (node + 1) ⌝ }
-{
-    match rules::opens(s, n.kind, n.first) {
-        Opening::Nothing => fine(n.first, n.next, node + 1, b),
-        Opening::Shared(t) => fine(n.first, n.next, node + 1, binders::push(b, t, 0)),
-        Opening::Linear(t) => fine(n.first, n.next, node + 1, binders::push(b, t, 1)),
-        Opening::Misfit => stopped(12, node, b),
+        _ => rules::constant(s, n.first, n.second),
+    };
+    Checked {
+        verdict: settled(u, n.next, node),
+        binders: own,
     }
 }
 
 // ---- leaving a node with one subterm
 
-// A linear function's variable has been used.
-fn used_up(kind: u8, b: Binders) -> bool
-    requires { ⌜ b .count ≤ 128 ⌝ }
-    ensures { λ r. ⌜ r ≡ usedUp kind (stackOf b) ⌝ }
+// A linear function's variable, the nearest binder, has been used.
+fn used_up(kind: u8, sort: u8, mark: u8) -> bool
+    ensures { λ r. ⌜ ((t : ℕ) (st : Stack) → r ≡ usedUp kind (binderOf t sort mark ∷ st)) ⌝ }
 {
-    if kind == 0x15 {
-        return binders::top_used(b);
+    if kind != 0x15 {
+        return true;
     }
-    true
+    if sort == 0 {
+        return true;
+    }
+    mark != 0
 }
 
 // 14, then 12.
-fn leave_one(s: &[u8], n: Node, node: usize, x: Checked) -> Checked
-    requires { ⌜ Holds 128 x ⌝ }
+fn after_one(s: &[u8], n: Node, node: usize, v: Verdict, used: bool) -> Verdict
+    ensures { λ r. ⌜ ((st : Stack) → used ≡ usedUp (n .kind) st → FollowsOn v st r (drop 1 st) (leaveOne (recIn (now (s .entry))) (n .kind) (n .first) node)) ⌝ }
+{
+    let Verdict::Fine { ty, next, count } = v else {
+        return v;
+    };
+    let body = rules::wanted(s, n.kind, n.first);
+    if !used {
+        return refused(14, node);
+    }
+    if ty != body {
+        return refused(12, node);
+    }
+    Verdict::Fine {
+        ty: n.first,
+        next,
+        count,
+    }
+}
+
+// The variable, at c, goes out of scope.
+fn leave_one(s: &[u8], n: Node, node: usize, c: usize, x: Checked) -> Checked
+    requires { ⌜ (c < 128) × Counts (c + 1) x ⌝ }
     ensures { λ r. ⌜ Follows x r (leaveOne (recIn (now (s .entry))) (n .kind) (n .first) node) ⌝ }
 {
     let v = x.verdict;
-    let Verdict::Fine { ty, next, count } = v else {
-        return x;
-    };
-    let used = used_up(n.kind, x.binders);
-    let body = rules::wanted(s, n.kind, n.first);
-    if !used {
-        return stopped(14, node, x.binders);
+    let mut own = x.binders;
+    let used = used_up(n.kind, own.sorts[c], own.used[c]);
+    own.count = c;
+    Checked {
+        verdict: after_one(s, n, node, v, used),
+        binders: own,
     }
-    if ty != body {
-        return stopped(12, node, x.binders);
-    }
-    fine(n.first, next, count, binders::leave(x.binders, 1))
 }
 
 // ---- between two subterms
 
-// On entering a projection's body: 12 if the first subterm is no product; its two halves are bound, the second nearer.
-fn between(s: &[u8], kind: u8, node: usize, first: Checked) -> Checked
-    requires { ⌜ Holds 126 first ⌝ }
-    ensures { λ r. ⌜ Follows first r (betweenOf (recIn (now (s .entry))) kind node) ⌝ }
+// On entering a projection's body: 12 if the first subterm is no product.
+fn between(s: &[u8], kind: u8, node: usize, v: Verdict) -> Verdict
+    ensures { λ r. ⌜ ((st : Stack) → FollowsOn v st r (halves (recIn (now (s .entry))) kind r st) (betweenOf (recIn (now (s .entry))) kind node)) ⌝ }
 {
-    let v = first.verdict;
-    let Verdict::Fine { ty, next, count } = v else {
-        return first;
+    let Verdict::Fine {
+        ty,
+        next: _,
+        count: _,
+    } = v
+    else {
+        return v;
     };
     if kind != 0x18 {
-        return first;
+        return v;
     }
-    let q = rules::sides_of(s, ty);
-    if q.kind != 2 {
-        return stopped(12, node, first.binders);
+    if rules::sides_of(s, ty).kind == 2 {
+        v
+    } else {
+        refused(12, node)
     }
-    let b = binders::push(first.binders, q.left, 0);
-    fine(ty, next, count, binders::push(b, q.right, 0))
 }
 
 // ---- leaving a node with two subterms
 
-// 12 if the types of the subterms, a and that of y, do not fit; a projection's variables go out of scope.
-fn leave_two(s: &[u8], n: Node, node: usize, a: u8, y: Checked) -> Checked
+// 12 if the types of the subterms, a and that of v, do not fit.
+fn after_two(s: &[u8], n: Node, node: usize, a: u8, v: Verdict) -> Verdict
+    ensures { λ r. ⌜ ((st : Stack) → FollowsOn v st r (drop (closesOf (n .kind)) st) (leaveTwo (recIn (now (s .entry))) (n .kind) (n .first) node a)) ⌝ }
+{
+    let Verdict::Fine { ty, next, count } = v else {
+        return v;
+    };
+    match rules::joined(s, n.kind, n.first, a, ty) {
+        Fit::Misfit => refused(12, node),
+        Fit::Type(t) => Verdict::Fine { ty: t, next, count },
+    }
+}
+
+// A projection's variables, from c, go out of scope.
+fn leave_two(s: &[u8], n: Node, node: usize, a: u8, c: usize, y: Checked) -> Checked
+    requires { ⌜ Counts (c + closesOf (n .kind)) y ⌝ }
     ensures { λ r. ⌜ Follows y r (leaveTwo (recIn (now (s .entry))) (n .kind) (n .first) node a) ⌝ }
 {
     let v = y.verdict;
-    let Verdict::Fine { ty, next, count } = v else {
-        return y;
-    };
-    match rules::joined(s, n.kind, n.first, a, ty) {
-        Fit::Misfit => stopped(12, node, y.binders),
-        Fit::Type(t) => fine(
-            t,
-            next,
-            count,
-            binders::leave(y.binders, rules::closes(n.kind)),
-        ),
+    let mut own = y.binders;
+    own.count = c;
+    Checked {
+        verdict: after_two(s, n, node, a, v),
+        binders: own,
     }
 }
 
 // ---- the walk
 
 // The term at an offset, node `node`, under the binders in scope. Each subterm has fewer bytes left, and there are at most 64 levels.
-// The binders go through the first subterm into the second with their marks.
+// The binders go through the first subterm into the second with their marks. What a node binds is stored here, past the scope where
+// it binds nothing: to pass the binders through a function costs a copy each time.
 fn walk(s: &[u8], at: usize, node: usize, b: Binders) -> Checked
     requires { ⌜ Ready (now s) at node (stackOf b) ⌝ }
     ensures { λ r. ⌜ Walked (now (s .entry)) at node (stackOf b) r ⌝ }
 {
-    let Record::Node(n) = records::record_at(s, at) else {
-        return stopped(0, 0, b);
-    };
+    let n = records::node_at(s, at);
     if n.subterms == 0 {
         return leaf(s, n, node, b);
     }
-    let inside = enter(s, n, node, b);
-    let opened = inside.verdict;
-    let Verdict::Fine {
-        ty: _,
-        next: start,
-        count: first,
-    } = opened
-    else {
-        return inside;
-    };
-    let x = walk(s, start, first, inside.binders);
-    if n.subterms == 1 {
-        return leave_one(s, n, node, x);
+    let o = rules::bound(rules::opens(s, n.kind, n.first));
+    if !o.fits {
+        return stopped(refused(12, node), b);
     }
-    let middle = between(s, n.kind, node, x);
-    let halfway = middle.verdict;
-    let Verdict::Fine { ty, next, count } = halfway else {
-        return middle;
+    let mut own = b;
+    let c = own.count;
+    own.types[c] = o.ty;
+    own.sorts[c] = o.sort;
+    own.used[c] = 0;
+    own.count = c + o.count;
+    let x = walk(s, n.next, node + 1, own);
+    if n.subterms == 1 {
+        return leave_one(s, n, node, c, x);
+    }
+    let first = x.verdict;
+    let v = between(s, n.kind, node, first);
+    own = x.binders;
+    let Verdict::Fine { ty, next, count } = v else {
+        return stopped(v, own);
     };
-    let y = walk(s, next, count, middle.binders);
-    leave_two(s, n, node, ty, y)
+    let q = rules::sides_of(s, ty);
+    own.types[c] = q.left;
+    own.sorts[c] = 0;
+    own.used[c] = 0;
+    let d = c + 1;
+    own.types[d] = q.right;
+    own.sorts[d] = 0;
+    own.used[d] = 0;
+    own.count = c + rules::closes(n.kind);
+    leave_two(s, n, node, ty, c, walk(s, next, count, own))
 }
 
 // The type of a sheet's term, by its number, or a refusal.

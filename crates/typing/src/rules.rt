@@ -9,7 +9,7 @@ ghost use Rattle.calculus.specs.Walk.{Stack};
 ghost use Rattle.records.specs.Forms.{recIn};
 ghost use Rattle.parts.specs.Table.{shapeTy};
 ghost use Rattle.binders.specs.Stacks.{saidUse};
-ghost use Rattle.typing.specs.Steps.{sidedOf, standsFor, constantOf, openingOf, wantedOf, appliedOf, pairedOf, joinedOf, closesOf};
+ghost use Rattle.typing.specs.Steps.{sidedOf, standsFor, constantOf, openingOf, bindingOf, wantedOf, appliedOf, pairedOf, joinedOf, closesOf};
 
 // A type record as numbers: its kind, 1 to 4, and its two sides, 0 for the single bit.
 pub struct Sided {
@@ -149,6 +149,45 @@ pub fn opens(s: &[u8], kind: u8, t: u8) -> Opening
             }
         }
         _ => Opening::Nothing,
+    }
+}
+
+// What an opening binds: so many variables, 0 or 1, of a type and a sort.
+pub struct Binding {
+    pub fits: bool,
+    pub count: usize,
+    pub ty: u8,
+    pub sort: u8,
+}
+
+pub fn bound(o: Opening) -> Binding
+    ensures { λ r. ⌜ r ≡ bindingOf o ⌝ }
+{
+    match o {
+        Opening::Nothing => Binding {
+            fits: true,
+            count: 0,
+            ty: 0,
+            sort: 0,
+        },
+        Opening::Shared(ty) => Binding {
+            fits: true,
+            count: 1,
+            ty,
+            sort: 0,
+        },
+        Opening::Linear(ty) => Binding {
+            fits: true,
+            count: 1,
+            ty,
+            sort: 1,
+        },
+        Opening::Misfit => Binding {
+            fits: false,
+            count: 0,
+            ty: 0,
+            sort: 0,
+        },
     }
 }
 

@@ -1,8 +1,12 @@
 -- `typing::leaf` meets its contract: by the kind of the node. Assumes nothing.
-use mathlib.Core.Path.{_∙_}
+use native.Mathlib.Omega.{arith}
+use mathlib.Core.Path.{_≡_, _∙_}
+use mathlib.Core.Logic.{⊎-elim}
+use lib.ListN.{length}
 use Rattle.binders.specs.Stacks.{stackOf}
+use Rattle.binders.proofs.Laws.{slot-low}
 use Rattle.records.specs.Forms.{recIn}
-use Rattle.typing.proofs.VerdictLaws.{says-as}
+use Rattle.typing.proofs.VerdictLaws.{says-settled}
 use Rattle.typing.proofs.StateLaws.{leaf-shared, leaf-linear, leaf-constant}
 use borrow.Author.Needs.{needs}
 use Rattle.typing.proofs.leaf.Statement.{statement}
@@ -11,50 +15,68 @@ use Rattle.typing.proofs.leaf.Tie as tie
 wide-requires : tie.Need-wide-requires
 wide-requires c κs = search needs
 
+slot-requires : tie.Need-slot-requires
+slot-requires c κs = search needs
+
+element-copy-out-use-shared : tie.Need-element-copy-out-use-shared
+element-copy-out-use-shared c = slot-low _ _ (c .before .slot .ensures) (c .before .before .before .before .pre .0)
+
+element-copy-out-use-shared-2 : tie.Need-element-copy-out-use-shared-2
+element-copy-out-use-shared-2 c = slot-low _ _ (c .before .before .slot .ensures) (c .before .before .before .before .before .pre .0)
+
 use-shared-requires : tie.Need-use-shared-requires
 use-shared-requires c κs = search needs
 
-settled-requires : tie.Need-settled-requires
-settled-requires c κs = search needs
+element-copy-out-use-linear : tie.Need-element-copy-out-use-linear
+element-copy-out-use-linear c = slot-low _ _ (c .before .slot .ensures) (c .before .before .before .before .pre .0)
+
+element-copy-out-use-linear-2 : tie.Need-element-copy-out-use-linear-2
+element-copy-out-use-linear-2 c = slot-low _ _ (c .before .before .slot .ensures) (c .before .before .before .before .before .pre .0)
+
+element-copy-out-use-linear-3 : tie.Need-element-copy-out-use-linear-3
+element-copy-out-use-linear-3 c = slot-low _ _ (c .before .before .before .slot .ensures) (c .before .before .before .before .before .before .pre .0)
 
 use-linear-requires : tie.Need-use-linear-requires
 use-linear-requires c κs = search needs
 
-settled-requires-2 : tie.Need-settled-requires-2
-settled-requires-2 c κs = search needs
+element-write-own : tie.Need-element-write-own
+element-write-own c = slot-low _ _ (c .before .before .before .before .before .slot .ensures) (c .before .before .before .before .before .before .before .before .pre .0)
 
 constant-requires : tie.Need-constant-requires
 constant-requires c κs = search needs
 
-settled-requires-3 : tie.Need-settled-requires-3
-settled-requires-3 c κs = search needs
+settled-requires : tie.Need-settled-requires
+settled-requires c κs = search needs
 
 returns : tie.Need-returns
 returns c =
     let a = c .before .before .before .before .before .args in
-    says-as (c .settled .ensures) (c .before .use-shared .ensures (a .node) ∙ leaf-shared (recIn (a .s .now)) _ _ _ _ _ (c .before .before .match .keys1) (c .before .before .before .wide .ensures))
-
-returns-2 : tie.Need-returns-2
-returns-2 c =
-    let a = c .before .before .before .before .before .args in
-    says-as (c .settled2 .ensures) (c .before .use-linear .ensures (a .node) ∙ leaf-linear (recIn (a .s .now)) _ _ _ _ _ (c .before .before .match .keys2) (c .before .before .before .wide .ensures))
-
-returns-3 : tie.Need-returns-3
-returns-3 c =
-    let a = c .before .before .before .before .before .args in
-    says-as (c .settled3 .ensures) (c .before .constant .ensures (a .node) (stackOf (a .b)) ∙ leaf-constant (recIn (a .s .now)) _ _ _ _ _ (c .before .before .match .rest .0 .1) (c .before .before .match .rest .1))
+    let first = c .before .before .before .wide .ensures in
+    let slot = c .before .before .slot .ensures in
+    let few = c .before .before .before .before .before .pre .0 in
+    let l : length (a .b .used) ≡ 128 = search needs in
+    says-settled (c .before .match .u) (c .before .match .own) _ _ (c .settled .ensures)
+    (⊎-elim
+    (λ p. rw (p .5, p .4) (leaf-shared (recIn (a .s .now)) _ _ _ _ (a .b) first slot (p .0 .keys1) (p .3 .ensures)))
+    (⊎-elim
+    (λ p. rw (p .6, p .5) (leaf-linear (recIn (a .s .now)) _ _ _ _ (a .b) first slot (p .0 .keys2) (omega arith) (p .4 .ensures)))
+    (λ p. rw (p .3, p .2) (p .1 .ensures (a .node) (stackOf (a .b)) ∙ leaf-constant (recIn (a .s .now)) _ _ _ _ _ (p .0 .rest .0 .1) (p .0 .rest .1))))
+    (c .before .match .came))
 
 pub leaf-spec : {M : Type 1} → statement M
 leaf-spec =
     tie.close
     (tie.spec
     wide-requires
+    slot-requires
+    element-copy-out-use-shared
+    element-copy-out-use-shared-2
     use-shared-requires
-    settled-requires
+    element-copy-out-use-linear
+    element-copy-out-use-linear-2
+    element-copy-out-use-linear-3
     use-linear-requires
-    settled-requires-2
+    element-write-own
     constant-requires
-    settled-requires-3
-    returns
-    returns-2
-    returns-3)
+    settled-requires
+    returns)

@@ -1,67 +1,38 @@
--- `typing::leave_one` meets its contract: 14, then 12. Assumes nothing.
-use Rattle.records.specs.Forms.{recIn}
-use Rattle.typing.proofs.VerdictLaws.{follows-refused, follows-stopped, follows-fine}
-use Rattle.typing.proofs.StepLaws.{not-so, so}
-use Rattle.typing.proofs.StateLaws.{leave-unused, leave-misfit, leave-fine}
+-- `typing::leave_one` meets its contract: the nearest binder tells if it is used, and goes. Assumes nothing.
+use mathlib.Core.Path.{sym, ap, _∙_}
+use lib.ListN.{getD}
+use Rattle.binders.specs.Stacks.{stackFrom}
+use Rattle.binders.proofs.Laws.{nearest}
+use Rattle.typing.specs.Steps.{usedUp}
+use Rattle.typing.proofs.VerdictLaws.{follows-left}
 use borrow.Author.Needs.{needs}
 use Rattle.typing.proofs.leave_one.Statement.{statement}
 use Rattle.typing.proofs.leave_one.Tie as tie
 
-enum-known-v : tie.Need-enum-known-v
-enum-known-v c = search needs
+element-copy-out-used-up : tie.Need-element-copy-out-used-up
+element-copy-out-used-up c = search needs
 
-enum-told : tie.Need-enum-told
-enum-told c = search needs
-
-returns : tie.Need-returns
-returns c = follows-refused _ _ (c .enum-told .given .1)
+element-copy-out-used-up-2 : tie.Need-element-copy-out-used-up-2
+element-copy-out-used-up-2 c = search needs
 
 used-up-requires : tie.Need-used-up-requires
-used-up-requires c κs = rw (c .before .v .given .1) at (c .before .before .before .before .pre)
+used-up-requires c κs = search needs
 
-wanted-requires : tie.Need-wanted-requires
-wanted-requires c κs = search needs
+after-one-requires : tie.Need-after-one-requires
+after-one-requires c κs = search needs
 
-stopped-requires : tie.Need-stopped-requires
-stopped-requires c κs = search needs
-
-returns-2 : tie.Need-returns-2
-returns-2 c =
-    let a = c .before .before .before .before .before .before .before .before .args in
-    follows-stopped (a .x) _ (c .before .before .before .before .before .v .given .1) _ _ _ (c .stopped .ensures) (leave-unused (recIn (a .s .now)) _ _ _ _ _ (c .before .before .before .used-up .ensures) (not-so (c .before .before .before .used-up .result) (c .before .if1 .taken)))
-
-stopped-requires-2 : tie.Need-stopped-requires-2
-stopped-requires-2 c κs = search needs
-
-returns-3 : tie.Need-returns-3
-returns-3 c =
-    let a = c .before .before .before .before .before .before .before .before .before .args in
-    follows-stopped (a .x) _ (c .before .before .before .before .before .before .v .given .1) _ _ _ (c .stopped2 .ensures) (leave-misfit (recIn (a .s .now)) _ _ _ _ _ (c .before .before .before .before .used-up .ensures) (so (c .before .before .before .before .used-up .result) (c .before .before .if1 .left)) (c .before .before .before .wanted .ensures) (c .before .if2 .taken))
-
-leave-requires : tie.Need-leave-requires
-leave-requires c κs = search needs
-
-fine-requires : tie.Need-fine-requires
-fine-requires c κs = search needs
-
-returns-4 : tie.Need-returns-4
-returns-4 c =
-    let a = c .before .before .before .before .before .before .before .before .before .before .args in
-    follows-fine (a .x) _ (c .before .before .before .before .before .before .before .v .given .1) _ _ (c .fine .ensures) (leave-fine (recIn (a .s .now)) _ _ _ _ _ (c .before .before .before .before .before .used-up .ensures) (so (c .before .before .before .before .before .used-up .result) (c .before .before .before .if1 .left)) (c .before .before .before .before .wanted .ensures) (c .before .before .if2 .left) (c .before .leave .ensures))
+returns : tie.Need-returns
+returns c =
+    let a = c .before .before .before .before .before .before .args in
+    let b = a .x .binders in
+    follows-left (a .x) 1 (a .c) (c .before .before .before .before .before .before .pre .1) (c .after-one .ensures (stackFrom (b .types) (b .sorts) (b .used) _) (c .before .used-up .ensures (getD (b .types) (a .c) 0) _ ∙ ap (usedUp (a .n .kind)) (sym (nearest (b .types) (b .sorts) (b .used) (a .c)))))
 
 pub leave-one-spec : {M : Type 1} → statement M
 leave-one-spec =
     tie.close
     (tie.spec
-    enum-known-v
-    enum-told
-    returns
+    element-copy-out-used-up
+    element-copy-out-used-up-2
     used-up-requires
-    wanted-requires
-    stopped-requires
-    returns-2
-    stopped-requires-2
-    returns-3
-    leave-requires
-    fine-requires
-    returns-4)
+    after-one-requires
+    returns)
