@@ -63,7 +63,7 @@ dirs-out (false ∷ ts) n = ap (λ (r : List Bool). false ∷ r) (dirs-out ts (n
 dirs-out (true ∷ ts) n = ap (λ (r : List Bool). true ∷ r) (dirs-out ts (n + 2))
 
 -- turning a type turns each bit
-turns-not : (o : Bool) (τ : Ty) → turns (not o) τ ≡ map not (turns o τ)
+pub turns-not : (o : Bool) (τ : Ty) → turns (not o) τ ≡ map not (turns o τ)
 turns-not o bit = refl
 turns-not o (prod a b) = ap₂ _++_ (turns-not o a) (turns-not o b) ∙ sym (map-append not (turns o a) (turns o b))
 turns-not o (arrow a b) = ap₂ _++_ (turns-not (not o) a) (turns-not o b) ∙ sym (map-append not (turns (not o) a) (turns o b))
