@@ -1,9 +1,9 @@
 -- Laws on a table that is a list. Assumes nothing.
-use mathlib.Core.Path.{_≡_, refl, ap, sym, _∙_}
-use mathlib.Core.List.{List, [], _∷_}
+use mathlib.Core.Path.{_≡_, ap, sym, _∙_}
+use mathlib.Core.List.{List}
 use Prim.Native.Nat.{ℕ, _+_, _-_, _≤_, _<_}
 use native.Mathlib.Omega.{arith}
-use lib.ListN.{length, take, drop, getD, replicate, getD-replicate}
+use lib.ListN.{take, drop, getD, replicate, getD-replicate}
 use lib.Seq.{getD-drop, getD-take}
 
 -- a run of one value in a table: every entry of it is that value

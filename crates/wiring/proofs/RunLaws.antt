@@ -1,5 +1,5 @@
 -- A run of stores, one at each turn of a loop: what is still to be stored, stored over what stands, is the whole. Assumes nothing.
-use Prim.Native.Nat.{ℕ, zero, suc, _+_, _*_, _-_, _≤_, _<_}
+use Prim.Native.Nat.{ℕ, zero, suc, _+_, _*_, _≤_, _<_}
 use mathlib.Core.Path.{_≡_, refl, ap, ap₂, _∙_}
 use mathlib.Core.Bool.{Bool, true, false, not, Bool·beq}
 use mathlib.Core.Logic.{_⊎_, inl, inr, ⊎-elim}
@@ -7,11 +7,11 @@ use mathlib.Core.List.{List, [], _∷_, _++_, map}
 use native.Mathlib.Omega.{arith}
 use native.Mathlib.Nat.{add-zero}
 use native.Mathlib.Numerals.{add-one}
-use lib.ListN.{length, getD, set, drop, replicate, length-drop, length-replicate}
-use lib.Seq.{sets, drop-cons, getD-drop, getD-take, getD-set-other, length-take-le}
+use lib.ListN.{length, getD, set, drop, replicate, length-replicate}
+use lib.Seq.{sets, drop-cons, getD-set-other}
 use Rattle.laws.proofs.Regions.{drop-past}
 use Rattle.calculus.specs.Net.{partSide}
-use Rattle.memory.specs.Map.{region, code}
+use Rattle.memory.specs.Map.{code}
 use Rattle.wiring.specs.Sides.{endOf, face}
 
 pub run-start : (vs w : List ℕ) (to : ℕ) → sets w (to + 0) (drop 0 vs) ≡ sets w to vs
@@ -77,13 +77,7 @@ pub part-output : (k n : ℕ) → 2 * (n + k) + 1 ≡ getD (map code (partSide k
 part-output zero n = let e : n + 0 ≡ n = omega arith in rw e
 part-output (suc k) n = let e : n + suc k ≡ n + 1 + k = omega arith in rw e (part-output k (n + 1))
 
--- ---- a region
-
-pub region-length : (w : List ℕ) (a n : ℕ) → a + n ≤ length w → length (region w a n) ≡ n
-region-length w a n h = length-take-le n (drop a w) (rw length-drop (omega arith))
-
-pub region-at : (w : List ℕ) (a n i : ℕ) → i < n → getD (region w a n) i 0 ≡ getD w (a + i) 0
-region-at w a n i h = getD-take n (drop a w) i 0 h ∙ getD-drop a w i 0
+-- ---- what is left alone
 
 -- a store at `to + i` leaves what stands before `to` and what stands past `to + i`
 pub outside-again : (w₀ w : List ℕ) (to i x : ℕ) → ((j : ℕ) → (j < to) ⊎ (to + i ≤ j) → getD w j 0 ≡ getD w₀ j 0)

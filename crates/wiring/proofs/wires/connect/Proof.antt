@@ -7,7 +7,7 @@ use lib.ListN.{length, getD, drop}
 use Rattle.memory.specs.Map.{region}
 use Rattle.wiring.specs.Links.{links}
 use Rattle.wiring.proofs.LinkLaws.{low-argument, low-function, linked-high, links-start, links-again, links-end}
-use Rattle.wiring.proofs.RunLaws.{region-length, region-at}
+use Rattle.laws.proofs.Regions.{region-length, region-at}
 use Rattle.wiring.proofs.wires.connect.Statement.{statement}
 use Rattle.wiring.proofs.wires.connect.Tie as tie
 
