@@ -2,14 +2,13 @@
 -- Assumes nothing.
 use borrow.Author.Needs.{needs}
 use native.Mathlib.Omega.{arith}
-use mathlib.Core.Path.{ap, _∙_}
-use Prim.Native.Nat.{ℕ, _+_, _-_, _<_}
+use mathlib.Core.Path.{_∙_}
+use Prim.Native.Nat.{ℕ, _-_, _<_}
 use lib.ListN.{length}
 use borrow.Fn.Kinds.{In}
 use borrow.Fn.PlainCycle.{Measures, is, falls, and}
-use Rattle.wiring.specs.declared.walk.State.{State}
 use Rattle.wiring.proofs.StepLaws.{here, behind, two-subterms}
-use Rattle.wiring.proofs.OneLaws.{body-asks, close-closable, close-leaves}
+use Rattle.wiring.proofs.OneLaws.{body-asks, opened-above, close-closable, close-leaves}
 use Rattle.wiring.proofs.TwoLaws.{first-asks, first-past, between-asks, second-asks}
 use Rattle.wiring.proofs.FinishLaws.{finish-ready, finish-leaves}
 use Rattle.wiring.proofs.walk.make.Reads as make
@@ -65,8 +64,9 @@ pub +make-spec : {M : Type 1} → statement M
     (here (c .before .before .before .before .before .before .before .before .before .pre .1) e, c .before .if2 .taken))
     (λ c.
     let e = c .before .before .before .before .before .before .before .before .before .node-at .ensures in
-    let o = c .before .before .before .«open» .ensures (here (c .before .before .before .before .before .before .before .before .before .before .before .before .before .pre .1) e) in
-    omega (arith, ap (λ (x : State). x .top) (o .state)))
+    let h = here (c .before .before .before .before .before .before .before .before .before .before .before .before .before .pre .1) e in
+    let o = c .before .before .before .«open» .ensures h in
+    opened-above h (c .before .before .before .before .before .if2 .taken) o)
     (λ c κs.
     let e = c .before .before .before .before .before .before .before .before .before .before .node-at .ensures in
     let p = c .before .before .before .before .before .before .before .before .before .before .before .before .before .before .pre in
@@ -80,7 +80,7 @@ pub +make-spec : {M : Type 1} → statement M
     let one = c .before .before .before .before .before .before .before .before .before .before .if2 .taken in
     let o = c .before .before .before .before .before .before .before .before .«open» .ensures h in
     let l = c .before .before .before .make .ensures (body-asks h one o) in
-    close-closable h one o l (c .before .before .before .before .before .before .before .before .«open» .result .top - c .before .before .before .before .before .before .before .before .before .before .before .before .before .before .before .before .before .before .args .st .top) (omega (arith, ap (λ (x : State). x .top) (o .state))))
+    close-closable h one o l)
     (λ c. c .before .before .close .kept .0 ∙ c .before .before .before .before .before .before .make .kept .1 .1 .0 ∙ c .before .before .before .before .before .before .before .before .before .before .before .«open» .kept .1 .1 .0)
     (λ c.
     let e = c .before .before .before .before .before .before .before .before .before .before .before .before .before .before .before .before .before .node-at .ensures in
@@ -90,7 +90,7 @@ pub +make-spec : {M : Type 1} → statement M
     let o = c .before .before .before .before .before .before .before .before .before .before .before .«open» .ensures h in
     let l = c .before .before .before .before .before .before .make .ensures (body-asks h one o) in
     let k = c .before .before .close .ensures in
-    rw (k .0, k .1) (close-leaves h one o l (c .before .before .before .before .before .before .before .before .before .before .before .«open» .result .top - c .before .before .before .before .before .before .before .before .before .before .before .before .before .before .before .before .before .before .before .before .before .args .st .top) (omega (arith, ap (λ (x : State). x .top) (o .state)))))
+    rw (k .0, k .1) (close-leaves h one o l))
     (λ c κs.
     let e = c .before .before .before .before .before .node-at .ensures in
     let p = c .before .before .before .before .before .before .before .before .before .pre in
