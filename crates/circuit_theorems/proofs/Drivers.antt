@@ -63,7 +63,7 @@ dirs-out (false ∷ ts) n = ap (λ (r : List Bool). false ∷ r) (dirs-out ts (n
 dirs-out (true ∷ ts) n = ap (λ (r : List Bool). true ∷ r) (dirs-out ts (n + 2))
 
 -- turning a type turns each bit
-turns-not : (o : Bool) (τ : Ty) → turns (not o) τ ≡ map not (turns o τ)
+pub turns-not : (o : Bool) (τ : Ty) → turns (not o) τ ≡ map not (turns o τ)
 turns-not o bit = refl
 turns-not o (prod a b) = ap₂ _++_ (turns-not o a) (turns-not o b) ∙ sym (map-append not (turns o a) (turns o b))
 turns-not o (arrow a b) = ap₂ _++_ (turns-not (not o) a) (turns-not o b) ∙ sym (map-append not (turns (not o) a) (turns o b))
@@ -152,7 +152,7 @@ pub data Env : Ctx → List Bound → Type 0 where
   env-once : {κ : Ty} {b : Bound} {Γ : Ctx} {env : List Bound} → Fits κ b → Env Γ env → Env (once κ ∷ Γ) (b ∷ env)
   env-away : {b : Bound} {Γ : Ctx} {env : List Bound} → Env Γ env → Env (away ∷ Γ) (b ∷ env)
 
-split-env : {Γ Γ₁ Γ₂ : Ctx} {env : List Bound} → Split Γ Γ₁ Γ₂ → Env Γ env → Env Γ₁ env × Env Γ₂ env
+pub split-env : {Γ Γ₁ Γ₂ : Ctx} {env : List Bound} → Split Γ Γ₁ Γ₂ → Env Γ env → Env Γ₁ env × Env Γ₂ env
 split-env split-end env-end = (env-end, env-end)
 split-env (split-many z) (env-many h f v) = let (p, q) = split-env z v in (env-many h f p, env-many h f q)
 split-env (split-first z) (env-once f v) = let (p, q) = split-env z v in (env-once f p, env-away q)
@@ -201,7 +201,7 @@ pub record Driven (Γ : Ctx) (env : List Bound) (τ : Ty) (m : Made) : Type 0 wh
   pub dirs : dirs (m .side) ≡ turns false τ
   pub count : (i : ℕ) → made (m .elements) i + linears Γ env i ≡ targets (m .wires) i + ins (m .side) i
 
-binder-fits : (τ : Ty) (n : ℕ) → Fits τ (binder τ n)
+pub binder-fits : (τ : Ty) (n : ℕ) → Fits τ (binder τ n)
 binder-fits τ n = record { type = refl; dirs = dirs-out (turns false τ) n }
 
 var-driven : {Γ : Ctx} {env : List Bound} {τ : Ty} {b : Bound} (n : ℕ) → Shown Γ env τ b → Driven Γ env τ (madeVar b n)
@@ -279,7 +279,7 @@ module _ {Γ : Ctx} {env : List Bound} where
       count = λ i. omega (arith, c .count i, d .count i, split-linears env i z, made-append (a .elements) (e .elements) i, targets-append (a .wires) (e .wires) i, outputs-only (prod θ₁ θ₂) (a .side) i (and-of (sharable θ₁) (sharable θ₂) s₁ s₂) (c .dirs));
     }
 
-halves : (θ₁ θ₂ : Ty) (a : Made) → a .type ≡ prod θ₁ θ₂ → dirs (a .side) ≡ turns false (prod θ₁ θ₂) → Fits θ₁ (firstHalf a) × Fits θ₂ (secondHalf a)
+pub halves : (θ₁ θ₂ : Ty) (a : Made) → a .type ≡ prod θ₁ θ₂ → dirs (a .side) ≡ turns false (prod θ₁ θ₂) → Fits θ₁ (firstHalf a) × Fits θ₂ (secondHalf a)
 halves θ₁ θ₂ a et ed = (
   record { type = ap leftOf et; dirs = rw et (dirs-left false θ₁ (turns false θ₂) (a .side) ed) },
   record { type = ap rightOf et; dirs = rw et (dirs-right false θ₁ (turns false θ₂) (a .side) ed) },

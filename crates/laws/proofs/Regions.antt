@@ -58,15 +58,20 @@ sets-read vs l i h =
 
 -- ---- regions
 
+pub region-length : (w : List ℕ) (a n : ℕ) → a + n ≤ length w → length (take n (drop a w)) ≡ n
+region-length w a n h = length-take-le n (drop a w) (rw length-drop (omega arith))
+
+pub region-at : (w : List ℕ) (a n j : ℕ) → j < n → getD (take n (drop a w)) j 0 ≡ getD w (a + j) 0
+region-at w a n j h = getD-take n (drop a w) j 0 h ∙ getD-drop a w j 0
+
 -- a region of two memories that agree there
 pub region-ext : (a n : ℕ) (v w : List ℕ) → a + n ≤ length v → a + n ≤ length w → ((j : ℕ) → a ≤ j → j < a + n → getD w j 0 ≡ getD v j 0)
     → take n (drop a w) ≡ take n (drop a v)
 region-ext a n v w hv hw same =
-    let lv : length (take n (drop a v)) ≡ n = length-take-le n (drop a v) (rw length-drop (omega arith)) in
-    let lw : length (take n (drop a w)) ≡ n = length-take-le n (drop a w) (rw length-drop (omega arith)) in
-    ext-getD 0 (take n (drop a w)) (take n (drop a v)) (lw ∙ sym lv)
+    let lw = region-length w a n hw in
+    ext-getD 0 (take n (drop a w)) (take n (drop a v)) (lw ∙ sym (region-length v a n hv))
     (λ i lt. let h : i < n = omega arith in
-    rw (getD-take n (drop a w) i 0 h, getD-take n (drop a v) i 0 h, getD-drop a w i 0, getD-drop a v i 0) (same (a + i) (omega arith) (omega arith)))
+    region-at w a n i h ∙ same (a + i) (omega arith) (omega arith) ∙ sym (region-at v a n i h))
 
 -- two regions side by side are one
 pub region-join : (a m n : ℕ) (w : List ℕ) → take (m + n) (drop a w) ≡ take m (drop a w) ++ take n (drop (a + m) w)

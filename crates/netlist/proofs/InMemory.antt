@@ -1,29 +1,24 @@
 -- What holds of a netlist that stands in the working memory. Assumes nothing.
-use mathlib.Core.Path.{_≡_, refl, ap, sym, _∙_}
+use mathlib.Core.Path.{_≡_, refl}
 use mathlib.Core.List.{List, [], _∷_, _++_, map, map-append}
 use Prim.Native.Nat.{ℕ, _+_, _-_, _*_, _≤_, _<_}
 use native.Mathlib.Omega.{arith}
 use native.Mathlib.Numerals.{add-one}
-use lib.ListN.{length, getD, take, drop, length-drop, length-map}
-use lib.Seq.{length-take-le, take-suc, getD-take, getD-drop}
+use lib.ListN.{length, getD, drop, length-drop, length-map}
+use lib.Seq.{take-suc, getD-drop}
+pub use Rattle.laws.proofs.Regions.{region-length, region-at}
 use Rattle.calculus.specs.Net.{elementBytes, wireBytes, pinBytes, netBytes}
 use Rattle.calculus.specs.Record.{All}
-use Rattle.calculus.specs.Formed.{made, targets, ins}
+use Rattle.calculus.specs.Formed.{targets}
 use Rattle.memory.specs.Map.{region, elementsFrom, wiresFrom, terminalOf, netIn, Ready}
 use Rattle.netlist.specs.Elements.{after, afterAll, sizeOf, Known}
 use Rattle.netlist.proofs.Records.{wires-append, pins-append, wires-length, pins-length, net-length}
 use Rattle.netlist.proofs.Elements.{firstBytes, firstAfter, bytes-more, length-more, after-one, bytes-within, after-within, kinds-tiled, tiled-end, kinds-known}
 use Rattle.netlist.proofs.Targets.{made-past, target-counted}
 
-pub region-length : (w : List ℕ) (a n : ℕ) → a + n ≤ length w → length (region w a n) ≡ n
-region-length w a n h = length-take-le n (drop a w) (rw length-drop (omega arith))
-
 pub wires-count : (w is : List ℕ) → length (wiresFrom w is) ≡ length is
 wires-count w [] = refl
 wires-count w (i ∷ is) = let h = wires-count w is in omega arith
-
-pub region-at : (w : List ℕ) (a n j : ℕ) → j < n → getD (region w a n) j 0 ≡ getD w (a + j) 0
-region-at w a n j h = getD-take n (drop a w) j 0 h ∙ getD-drop a w j 0
 
 pub wiresFrom-append : (w is js : List ℕ) → wiresFrom w (is ++ js) ≡ wiresFrom w is ++ wiresFrom w js
 wiresFrom-append w [] js = refl

@@ -3,7 +3,7 @@ use mathlib.Core.Bool.{Bool, false}
 use mathlib.Core.List.{List, [], _∷_, _++_}
 use Prim.Native.Nat.{ℕ, _+_, _*_}
 use Rattle.calculus.specs.Types.{Ty, size, Table, tree}
-use Rattle.calculus.specs.Terms.{Term, var, lvar, fun, app, lfun, lapp, pair, proj, fix, con}
+use Rattle.calculus.specs.Terms.{Term, fun, app, lfun, lapp, pair, proj, fix}
 use Rattle.calculus.specs.Net.{Bound, Made, points, turns, leftOf, binder, firstHalf, secondHalf, make}
 use Rattle.calculus.specs.Rules.{Ctx, Typed, Var, LVar, →I, →E, ⊸I, ⊸E, ×I, ×E, Fix, Con}
 use Rattle.calculus.specs.Record.{All}

@@ -1,14 +1,12 @@
 -- A formed netlist's wires run to terminals that its elements take. Assumes nothing.
-use mathlib.Core.Path.{_≡_, refl, ap, sym, _∙_}
-use mathlib.Core.Bool.{cond}
+use mathlib.Core.Path.{_≡_, refl}
 use mathlib.Core.List.{List, [], _∷_}
 use Prim.Native.Nat.{ℕ, zero, suc, _+_, _≤_, _<_}
 use native.Mathlib.Omega.{arith}
 use borrow.Author.Tests.{ne-eqb, eq-eqb}
-use lib.Dec.{eqb}
 use lib.ListN.{length, getD}
 use Rattle.calculus.specs.Terms.{partAt}
-use Rattle.calculus.specs.Net.{Element, point, part, Wire, partSide}
+use Rattle.calculus.specs.Net.{Element, point, part, partSide}
 use Rattle.calculus.specs.Formed.{is, ins, made, targets, Tiled}
 use Rattle.memory.specs.Map.{wiresFrom}
 

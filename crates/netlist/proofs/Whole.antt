@@ -1,9 +1,9 @@
 -- A netlist of the working memory, written in three rows: elements, wires, pins. Assumes nothing.
 use mathlib.Core.Path.{_≡_, refl, sym, _∙_}
 use mathlib.Core.List.{List, _++_, map, append-assoc}
-use Prim.Native.Nat.{ℕ, _+_, _*_, _≤_}
+use Prim.Native.Nat.{ℕ, _+_, _*_}
 use native.Mathlib.Omega.{arith}
-use lib.ListN.{length, drop, length-append}
+use lib.ListN.{length, length-append}
 use lib.Seq.{sets}
 use Rattle.calculus.specs.Net.{elementBytes, wireBytes, pinBytes, netBytes}
 use Rattle.memory.specs.Map.{region, elementsFrom, wiresFrom, terminalOf, netIn}

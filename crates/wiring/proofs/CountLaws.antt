@@ -10,19 +10,17 @@ use Rattle.calculus.specs.Write.{termBytes}
 use Rattle.calculus.specs.Laid.{Agrees, Below, TableOk, Stands, Ranged}
 use Rattle.calculus.specs.Net.{leftOf, make}
 use Rattle.calculus.specs.Record.{All}
-use Rattle.records.specs.Record.{recordAt}
+use Rattle.records.specs.Record.{nodeAt}
 use Rattle.records.specs.Heads.{nodeOf}
 use Rattle.records.specs.Forms.{recIn}
 use Rattle.records.specs.declared.Node.{Node}
-use Rattle.records.specs.declared.Record.{Record}
-use Rattle.records.specs.declared.Record.the-variants as rec
-use Rattle.records.proofs.Laws.{stands-record}
 use Rattle.sheet_theorems.proofs.Bytes.{behind}
 use Rattle.sheet_theorems.proofs.TypeOffsets.{tree-zero}
 use Rattle.circuit_theorems.specs.Terminals.{terminals}
 use Rattle.circuit_theorems.proofs.Bounds.{next-is, terminals-few}
 use Rattle.circuit_theorems.proofs.Lists.{all-append}
 use Rattle.wiring.specs.Sides.{sidesOf, Knows}
+use Rattle.wiring.proofs.StepLaws.{stands-node}
 use Rattle.wiring.specs.Count.{ownIn, Counting, rowBytes, rowNodes, rowTerminals, Row}
 
 -- ---- one node
@@ -228,19 +226,15 @@ module _ {s sizes : List ℕ} {from count : ℕ} (q : Counting s sizes from coun
     pub row-end : left ≡ 0 → total ≡ make (q .table) (q .term) [] 0 .next
     row-end e = end-of (q .table) (q .term) (R .row) total (sym e ∙ R .count) (R .sum) ∙ omega (arith, next-is (q .table) (q .term) [] 0)
 
-    module _ (h : 0 < left) {k : Record} (e : k ≡ recordAt s at) where
-      pub row-node : k ≡ rec.Node (nodeOf (row-next h .term) at)
-      row-node = e ∙ stands-record s at (row-next h .term) (row-next h .stands)
+    module _ (h : 0 < left) {node : Node} (e : node ≡ nodeAt s at) where
+      row-is : node ≡ nodeOf (row-next h .term) at
+      row-is = e ∙ stands-node (row-next h .stands)
 
-      module _ {node : Node} (g : k ≡ rec.Node node) where
-        row-is : node ≡ nodeOf (row-next h .term) at
-        row-is = let z : rec.Node node ≡ rec.Node (nodeOf (row-next h .term) at) = sym g ∙ row-node in cc
+      row-own : ownIn s sizes node ≡ own (q .table) (row-next h .term)
+      row-own = ap (ownIn s sizes) row-is ∙ own-is (q .knows) (row-next h .term) at (row-next h .ranged)
 
-        row-own : ownIn s sizes node ≡ own (q .table) (row-next h .term)
-        row-own = ap (ownIn s sizes) row-is ∙ own-is (q .knows) (row-next h .term) at (row-next h .ranged)
+      pub row-room : total + ownIn s sizes node ≤ 524288
+      row-room = omega (arith, row-few, row-next h .few, row-own)
 
-        pub row-room : total + ownIn s sizes node ≤ 524288
-        row-room = omega (arith, row-few, row-next h .few, row-own)
-
-        pub row-then : Row (q .table) s (q .term) (node .next) (left - 1) (total + ownIn s sizes node)
-        row-then = rw (row-own, ap (λ (x : Node). x .next) row-is) (row-next h .then)
+      pub row-then : Row (q .table) s (q .term) (node .next) (left - 1) (total + ownIn s sizes node)
+      row-then = rw (row-own, ap (λ (x : Node). x .next) row-is) (row-next h .then)

@@ -17,7 +17,7 @@ use Rattle.memory.specs.Map.{region, elementsFrom, terminalOf, netIn}
 use Rattle.netlist.proofs.InMemory.{wires-count}
 use Rattle.wiring.specs.declared.Counts.{Counts}
 use Rattle.wiring.specs.Whole.{Stands}
-use Rattle.wiring.proofs.RunLaws.{region-length}
+use Rattle.laws.proofs.Regions.{region-length}
 use Rattle.wiring.proofs.count.Kinds as count
 use Rattle.wiring.proofs.count.Reads as count-reads
 use Rattle.wiring.proofs.make_net.Kinds as make-net

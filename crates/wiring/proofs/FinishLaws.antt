@@ -1,7 +1,7 @@
 -- After both subterms: the rest of an application's function, both parts of a pair, a projection's body. Assumes nothing.
 use Prim.Native.Nat.{ℕ, _+_, _-_, _≤_, _<_}
 use mathlib.Core.Path.{_≡_, refl, sym, ap, ap₂, _∙_, subst}
-use mathlib.Core.Logic.{_⊎_, ⊎-elim}
+use mathlib.Core.Logic.{⊎-elim}
 use mathlib.Core.Bool.{Bool, true, false, not, cond}
 use mathlib.Core.List.{List, [], _++_, map, map-append, append-assoc, append-nil}
 use native.Mathlib.Omega.{arith}

@@ -13,7 +13,7 @@ use Rattle.circuit_theorems.proofs.Drivers.{dirs}
 use Rattle.circuit_theorems.proofs.Lists.{all-left, all-right}
 use Rattle.wiring.specs.Links.{links, Apart}
 use Rattle.wiring.specs.Store.{Store, Lies, Low, Holds, atStack, moreWires}
-use Rattle.wiring.proofs.RunLaws.{region-at}
+use Rattle.laws.proofs.Regions.{region-at}
 use Rattle.wiring.proofs.StoreLaws.{lies-region, cut-stack, push-stack, links-hold}
 use Rattle.wiring.proofs.LeafLaws.{low-at}
 

@@ -1,7 +1,7 @@
 -- A variable and a constant: what the memory holds once their interfaces are on the stack. Assumes nothing.
-use Prim.Native.Nat.{ℕ, zero, suc, _+_, _*_, _-_, _/_, _%_, _≤_, _<_}
+use Prim.Native.Nat.{ℕ, zero, suc, _+_, _*_, _/_, _%_, _≤_, _<_}
 use mathlib.Core.Path.{_≡_, refl, sym, ap, _∙_, subst}
-use mathlib.Core.Logic.{_⊎_, ⊎-elim}
+use mathlib.Core.Logic.{⊎-elim}
 use mathlib.Core.Bool.{Bool, true, false, cond}
 use mathlib.Core.List.{List, [], _∷_, map, append-nil}
 use native.Mathlib.Omega.{arith}
@@ -23,7 +23,8 @@ use Rattle.wiring.specs.Sides.{Named, face}
 use Rattle.wiring.specs.Store.{Low}
 use Rattle.wiring.specs.Asks.{OfPoints, OfStack, BoundAt, shown, Showable, slot, Asks, madeOf, Leaves, Here}
 use Rattle.wiring.specs.Nodes.{Variable, Constant}
-use Rattle.wiring.proofs.RunLaws.{region-length, region-at, part-length}
+use Rattle.laws.proofs.Regions.{region-length, region-at}
+use Rattle.wiring.proofs.RunLaws.{part-length}
 use Rattle.wiring.proofs.StoreLaws.{push-kinds, push-stack}
 use Rattle.wiring.proofs.NodeLaws.{variable, constant}
 

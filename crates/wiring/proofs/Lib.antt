@@ -1,5 +1,5 @@
-pub mod TurnLaws
 pub mod RunLaws
+pub mod TurnLaws
 pub mod LinkLaws
 pub mod StoreLaws
 pub mod NodeLaws

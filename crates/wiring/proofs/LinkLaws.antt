@@ -13,7 +13,7 @@ use Rattle.laws.proofs.Regions.{drop-past}
 use Rattle.laws.proofs.Tests.{by-eqb}
 use Rattle.calculus.specs.Net.{Terminal, inp, out, number}
 use Rattle.memory.specs.Map.{code, terminalOf}
-use Rattle.wiring.specs.Links.{wired, between, linked, links}
+use Rattle.wiring.specs.Links.{wired, between, linked, links, Apart}
 
 wired-high : (w : List ℕ) (k o i j : ℕ) → i < 8192 → k < 5632 → 13824 ≤ j → getD (wired w k o i) j 0 ≡ getD w j 0
 wired-high w k o i j hi hk hj = getD-set-other (set w i o) (8192 + k) j i 0 (omega arith) ∙ getD-set-other w i j o 0 (omega arith)
@@ -44,6 +44,14 @@ terminal-back (out o) =
 pub linked-codes : (w : List ℕ) (k : ℕ) (a f : Terminal) → linked w k (code a) (code f) ≡ between w k a f
 unfolding linked
 linked-codes w k a f = rw (terminal-back a, terminal-back f)
+
+-- both interfaces hold low codes, where they stand as they were
+module _ {w : List ℕ} {a f n k : ℕ} (p : Apart w a f n k) (w₁ : List ℕ) (same : (j : ℕ) → 13824 ≤ j → getD w₁ j 0 ≡ getD w j 0) (i : ℕ) (h : i < n) where
+  pub low-argument : getD w₁ (a + i) 0 < 16384
+  low-argument = rw (same (a + i) (omega (arith, p .high-a))) (p .low-a i h)
+
+  pub low-function : getD w₁ (f + i) 0 < 16384
+  low-function = rw (same (f + i) (omega (arith, p .high-f))) (p .low-f i h)
 
 -- the wires still to be made, made over what stands, are the whole
 

@@ -1,22 +1,20 @@
 -- A typed term with one subterm or two, by its derivation. Assumes nothing.
-use Prim.Native.Nat.{ℕ, zero, suc, _+_, _*_, _<_}
+use Prim.Native.Nat.{ℕ, _+_, _*_, _<_}
 use mathlib.Core.Path.{_≡_, refl, sym, ap, _∙_}
 use mathlib.Core.Logic.{inl, inr}
-use mathlib.Core.Bool.{Bool, true, false}
-use mathlib.Core.List.{List, [], _∷_}
+use mathlib.Core.List.{List, _∷_}
 use native.Mathlib.Omega.{arith}
-use lib.ListN.{length, drop, length-append}
-use lib.Seq.{drop-at}
+use lib.ListN.{length, length-append}
 use Rattle.calculus.specs.Types.{Ty, bit, prod, arrow, lolli, size, TyRec, rec01, rec02, rec03, rec04, Table, recAt, tree}
 use Rattle.calculus.specs.Terms.{Term, pair, proj}
 use Rattle.calculus.specs.Write.{termBytes}
 use Rattle.calculus.specs.Laid.{Agrees, Below, Stands, Ranged}
-use Rattle.calculus.specs.Rules.{Ctx, many, once, Split, split-end, split-many, split-first, split-second, split-away, InΓ, in-here, in-many, in-away, IsΔ, is-here, is-many, is-away, Typed, Var, LVar, →I, →E, ⊸I, ⊸E, ×I, ×E, Fix, Con}
-use Rattle.calculus.specs.Net.{Interface, turns, outSide, Bound, Made, leftOf, rightOf, binder, madePair, firstHalf, secondHalf, make}
+use Rattle.calculus.specs.Rules.{Ctx, many, once, InΓ, in-here, in-many, in-away, IsΔ, is-here, is-many, is-away, Typed, Var, LVar, →I, →E, ⊸I, ⊸E, ×I, ×E, Fix, Con}
+use Rattle.calculus.specs.Net.{Bound, leftOf, rightOf, binder, madePair, firstHalf, secondHalf, make}
 use Rattle.records.specs.Heads.{nodeOf}
 use Rattle.records.specs.Forms.{recIn}
 use Rattle.sheet_theorems.proofs.Standing.{fun-body, lfun-body, fix-body, app-function, app-argument, lapp-function, lapp-argument, pair-first, pair-second, proj-pair, proj-body}
-use Rattle.circuit_theorems.proofs.Drivers.{dirs, Fits, Env, env-end, env-many, env-once, env-away, turns-size, dirs-left, term-driven}
+use Rattle.circuit_theorems.proofs.Drivers.{Fits, Env, env-many, env-once, env-away, split-env, binder-fits, halves, term-driven}
 use Rattle.wiring.specs.Sides.{sidesOf, Knows}
 use Rattle.wiring.specs.Nodes.{funOf, Binding, Twofold, Variable, Constant}
 
@@ -39,34 +37,8 @@ sided-at {Θ = Θ} K t h f = rw (K .records t h) (sided-of Θ t (recAt Θ t) (K 
 
 -- ---- binders' interfaces and contexts
 
-pub split-env : {Γ Γ₁ Γ₂ : Ctx} {env : List Bound} → Split Γ Γ₁ Γ₂ → Env Γ env → Env Γ₁ env × Env Γ₂ env
-split-env split-end env-end = (env-end, env-end)
-split-env (split-many z) (env-many h f v) = let (p, q) = split-env z v in (env-many h f p, env-many h f q)
-split-env (split-first z) (env-once f v) = let (p, q) = split-env z v in (env-once f p, env-away q)
-split-env (split-second z) (env-once f v) = let (p, q) = split-env z v in (env-away p, env-once f q)
-split-env (split-away z) (env-away v) = let (p, q) = split-env z v in (env-away p, env-away q)
-
-dirs-out : (ts : List Bool) (n : ℕ) → dirs (outSide ts n) ≡ ts
-dirs-out [] n = refl
-dirs-out (false ∷ ts) n = ap (λ (r : List Bool). false ∷ r) (dirs-out ts (n + 2))
-dirs-out (true ∷ ts) n = ap (λ (r : List Bool). true ∷ r) (dirs-out ts (n + 2))
-
-binder-fits : (τ α : Ty) (n : ℕ) → α ≡ τ → Fits τ (binder α n)
-binder-fits τ α n e = record { type = e; dirs = dirs-out (turns false α) n ∙ ap (turns false) e }
-
-dirs-drop : (k : ℕ) (s : Interface) → dirs (drop k s) ≡ drop k (dirs s)
-dirs-drop zero s = refl
-dirs-drop (suc k) [] = refl
-dirs-drop (suc k) (x ∷ s) = dirs-drop k s
-
-halves-fit : (θ₁ θ₂ : Ty) (a : Made) → a .type ≡ prod θ₁ θ₂ → dirs (a .side) ≡ turns false (prod θ₁ θ₂) → Fits θ₁ (firstHalf a) × Fits θ₂ (secondHalf a)
-halves-fit θ₁ θ₂ a et ed = (
-  record { type = ap leftOf et; dirs = rw et (dirs-left false θ₁ (turns false θ₂) (a .side) ed) },
-  record {
-    type = ap rightOf et;
-    dirs = rw et (dirs-drop (size θ₁) (a .side) ∙ ap (drop (size θ₁)) ed ∙ drop-at (turns false θ₁) (turns false θ₂) (size θ₁) (turns-size false θ₁));
-  },
-)
+bound-fits : (τ α : Ty) (n : ℕ) → α ≡ τ → Fits τ (binder α n)
+bound-fits τ α n e = rw e (binder-fits τ n)
 
 not-arrow : {τ θ ρ : Ty} → τ ≡ arrow θ ρ → τ ≡ bit → ⊥
 not-arrow p q = let z : arrow _ _ ≡ bit = sym p ∙ q in let n : _≡_ {A = ℕ} 0 1 = cc in omega arith
@@ -94,7 +66,7 @@ module _ {s sizes : List ℕ} {Θ : Table} (K : Knows s sizes Θ) (at n : ℕ) (
         context = many θ ∷ _;
         type = τ;
         typed = d;
-        fits = env-many sh (binder-fits θ (tree Θ b) n eb) v;
+        fits = env-many sh (bound-fits θ (tree Θ b) n eb) v;
         stands = rw two (fun-body st);
         ranged = rg .1;
         deep = refl;
@@ -118,7 +90,7 @@ module _ {s sizes : List ℕ} {Θ : Table} (K : Knows s sizes Θ) (at n : ℕ) (
         context = once κ ∷ _;
         type = τ;
         typed = d;
-        fits = env-once (binder-fits κ (tree Θ b) n eb) v;
+        fits = env-once (bound-fits κ (tree Θ b) n eb) v;
         stands = rw two (lfun-body st);
         ranged = rg .1;
         deep = refl;
@@ -138,7 +110,7 @@ module _ {s sizes : List ℕ} {Θ : Table} (K : Knows s sizes Θ) (at n : ℕ) (
     context = many θ ∷ _;
     type = θ;
     typed = d;
-    fits = env-many sh (binder-fits θ (tree Θ t) n eτ) v;
+    fits = env-many sh (bound-fits θ (tree Θ t) n eτ) v;
     stands = rw two (fix-body st);
     ranged = rg .1;
     deep = refl;
@@ -248,7 +220,7 @@ module _ {s sizes : List ℕ} {Θ : Table} (K : Knows s sizes Θ) (at n : ℕ) (
       let (p, q) = split-env z v in
       let x = make Θ a env n in
       let D = term-driven d env p n in
-      let (h₁, h₂) = halves-fit θ₁ θ₂ x (D .type) (D .dirs) in
+      let (h₁, h₂) = halves θ₁ θ₂ x (D .type) (D .dirs) in
       record {
         first = a;
         second = e;

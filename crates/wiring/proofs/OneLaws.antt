@@ -240,6 +240,10 @@ module _ {s sizes w : List ℕ} {node : Node} {st : State} (q : Here s sizes w n
 
     -- ---- after the body
 
+    -- the input interface of the binder stands above what stood
+    pub opened-above : st .top ≤ r .top
+    opened-above = omega (arith, ap (λ (x : State). x .top) (O .state))
+
     body-type : {b : Built} {w₂ : List ℕ} → Leaves body-asks b w₂ → length (body .side) ≡ size (one-binding .type)
     unfolding body-asks
     body-type L = ap (λ (m : Made). length (m .side)) (sym body-is) ∙ made-side (one-binding .typed) (binder α n ∷ Q .env) one-fits (r .next) ∙ ap size (made-type (one-binding .typed) (binder α n ∷ Q .env) one-fits (r .next))
@@ -280,78 +284,80 @@ module _ {s sizes w : List ℕ} {node : Node} {st : State} (q : Here s sizes w n
       in-length : length (inSide bs n) ≡ size α
       in-length = sym (length-map (inSide bs n) code) ∙ ap length (sym (face-in bs n)) ∙ face-length false bs n ∙ turns-size false α
 
-      module _ (l : ℕ) (el : l ≡ size α) where
-        same-length : one-binding .type ≡ α → length (body .side) ≡ l
-        same-length e = body-type L ∙ ap size e ∙ sym el
+      abbrev l : ℕ
+      l = r .top - st .top
 
-        fix-room : one-binding .type ≡ α → madeOf Q ≡ madeFix α n body → b .wires + l ≤ 5632
-        fix-room e z =
-            omega (arith, Q .few-wires, ap (λ (m : Made). length (m .wires)) z, length-append (body .wires) (join (body .side) (inSide bs n)), join-length (body .side) (inSide bs n) (opposite e), same-length e, body-counts .3)
-          where
-            opposite : one-binding .type ≡ α → dirs (inSide bs n) ≡ map not (dirs (body .side))
-            opposite e = dirs-in bs n ∙ ap (map not) (sym (body-dirs ∙ ap (turns false) e))
+      el : l ≡ size α
+      el = omega (arith, ap (λ (x : State). x .top) (O .state))
 
-        wires-at : b .wires ≡ length (after (opened (Q .store) Θ t n) body .targets)
-        wires-at = omega (arith, body-counts .3, length-append (Q .store .targets) (map target (body .wires)), length-map (body .wires) target, Q .wires)
+      same-length : one-binding .type ≡ α → length (body .side) ≡ l
+      same-length e = body-type L ∙ ap size e ∙ sym el
 
-        pub close-closable : Closable w₂ node (st .top) l b
-        close-closable =
-            let (r₁, r₂, r₃, r₄, r₅) = one-room l el in
-            record {
-              small = (r₅, body-small .0, omega arith, omega (arith, body-counts .3, one-wires, Q .few-wires));
-              apart = λ k. ⊎-elim
-                  (λ z. wired-apart body-holds (body .side) (inSide bs n) high-part low-part (18944 + st .top + l) (18944 + st .top) l (b .wires) (omega (arith, high-at)) (omega (arith, Q .top)) (same-length (z .1)) (in-length ∙ sym el) wires-at (fix-room (z .1) (z .2)))
-                  (λ z. absurd (z .0 k)) one-is;
-            }
+      opposite : one-binding .type ≡ α → dirs (inSide bs n) ≡ map not (dirs (body .side))
+      opposite e = dirs-in bs n ∙ ap (map not) (sym (body-dirs ∙ ap (turns false) e))
 
-        opposite : one-binding .type ≡ α → dirs (inSide bs n) ≡ map not (dirs (body .side))
-        opposite e = dirs-in bs n ∙ ap (map not) (sym (body-dirs ∙ ap (turns false) e))
+      fix-room : one-binding .type ≡ α → madeOf Q ≡ madeFix α n body → b .wires + l ≤ 5632
+      fix-room e z =
+          omega (arith, Q .few-wires, ap (λ (m : Made). length (m .wires)) z, length-append (body .wires) (join (body .side) (inSide bs n)), join-length (body .side) (inSide bs n) (opposite e), same-length e, body-counts .3)
 
-        -- a fixed point: the wires, and the body's interface moved down
-        loop-holds : one-binding .type ≡ α → madeOf Q ≡ madeFix α n body → Holds (looped w₂ (18944 + st .top) l (b .wires)) (after (Q .store) (madeFix α n body))
-        unfolding looped high-part low-part
-        loop-holds e z =
-            let W = wired-holds body-holds (body .side) (inSide bs n) high-part low-part (18944 + st .top + l) (18944 + st .top) l (b .wires) (omega (arith, high-at)) (omega (arith, Q .top)) (same-length e) (in-length ∙ sym el) wires-at (fix-room e z) (opposite e) in
-            let hp : Part (moreWires (after (opened (Q .store) Θ t n) body) (join (body .side) (inSide bs n))) (Q .store .stack ++ face false bs n) (map code (body .side)) = record { above = []; is = high-part .is } in
-            let lp : Part (moreWires (after (opened (Q .store) Θ t n) body) (join (body .side) (inSide bs n))) (Q .store .stack) [] = record { above = map code (inSide bs n) ++ map code (body .side); is = low-part .is } in
-            fix-holds (Q .store) Θ t n body (moved-holds W hp lp (18944 + st .top + l) (18944 + st .top) l (omega (arith, high-at)) (omega (arith, Q .top)) (omega arith) (length-map (body .side) code ∙ same-length e))
+      wires-at : b .wires ≡ length (after (opened (Q .store) Θ t n) body .targets)
+      wires-at = omega (arith, body-counts .3, length-append (Q .store .targets) (map target (body .wires)), length-map (body .wires) target, Q .wires)
 
-        one-first : (node .first < length Θ) × (tree Θ (node .first) ≡ Q .type)
-        one-first = subst (λ (x : Node). (x .first < length Θ) × (tree Θ (x .first) ≡ Q .type)) (sym (q .is)) (one-binding .first, one-binding .is-type)
+      pub close-closable : Closable w₂ node (st .top) (r .top - st .top) b
+      close-closable =
+          let (r₁, r₂, r₃, r₄, r₅) = one-room l el in
+          record {
+            small = (r₅, body-small .0, omega arith, omega (arith, body-counts .3, one-wires, Q .few-wires));
+            apart = λ k. ⊎-elim
+                (λ z. wired-apart body-holds (body .side) (inSide bs n) high-part low-part (18944 + st .top + l) (18944 + st .top) l (b .wires) (omega (arith, high-at, el)) (omega (arith, Q .top)) (same-length (z .1)) (in-length ∙ sym el) wires-at (fix-room (z .1) (z .2)))
+                (λ z. absurd (z .0 k)) one-is;
+          }
 
-        one-past : b .past ≡ q .at + length (termBytes (Q .term))
-        one-past = body-counts .0 ∙ ap (λ (x : Node). x .next + length (termBytes (one-binding .body))) (q .is) ∙ sym (one-binding .bytes)
+      -- a fixed point: the wires, and the body's interface moved down
+      loop-holds : one-binding .type ≡ α → madeOf Q ≡ madeFix α n body → Holds (looped w₂ (18944 + st .top) l (b .wires)) (after (Q .store) (madeFix α n body))
+      unfolding looped high-part low-part
+      loop-holds e z =
+          let W = wired-holds body-holds (body .side) (inSide bs n) high-part low-part (18944 + st .top + l) (18944 + st .top) l (b .wires) (omega (arith, high-at, el)) (omega (arith, Q .top)) (same-length e) (in-length ∙ sym el) wires-at (fix-room e z) (opposite e) in
+          let hp : Part (moreWires (after (opened (Q .store) Θ t n) body) (join (body .side) (inSide bs n))) (Q .store .stack ++ face false bs n) (map code (body .side)) = record { above = []; is = high-part .is } in
+          let lp : Part (moreWires (after (opened (Q .store) Θ t n) body) (join (body .side) (inSide bs n))) (Q .store .stack) [] = record { above = map code (inSide bs n) ++ map code (body .side); is = low-part .is } in
+          fix-holds (Q .store) Θ t n body (moved-holds W hp lp (18944 + st .top + l) (18944 + st .top) l (omega (arith, high-at, el)) (omega (arith, Q .top)) (omega arith) (length-map (body .side) code ∙ same-length e))
 
-        pub close-leaves : Leaves Q (closed node l b) (closedIn w₂ node (st .top) l b)
-        unfolding closed closedIn
-        close-leaves = ⊎-elim fixed function one-is
-          where
-            fixed : (node .kind ≡ 0x19) × (one-binding .type ≡ α) × (madeOf Q ≡ madeFix α n body) → Leaves Q (closed node l b) (closedIn w₂ node (st .top) l b)
-            fixed z =
-                let k = eq-eqb (node .kind) 0x19 (z .0) in
-                record {
-                  holds = subst (λ (m : Made). Holds (cond (eqb (node .kind) 0x19) (looped w₂ (18944 + st .top) l (b .wires)) w₂) (after (Q .store) m)) (sym (z .2))
-                      (subst (λ (c : Bool). Holds (cond c (looped w₂ (18944 + st .top) l (b .wires)) w₂) (after (Q .store) (madeFix α n body))) (sym k) (loop-holds (z .1) (z .2)));
-                  past = one-past;
-                  named = one-first .0;
-                  type = one-first .1;
-                  len = ap (λ (c : Bool). cond c l (l + b .len)) k ∙ sym (same-length (z .1)) ∙ ap (λ (m : Made). length (m .side)) (sym (z .2));
-                  next = body-counts .1 ∙ sym one-next;
-                  elements = omega (arith, body-counts .2, one-count);
-                  wires = ap (λ (c : Bool). cond c (b .wires + l) (b .wires)) k ∙ omega (arith, body-counts .3, ap (λ (m : Made). length (m .wires)) (z .2), length-append (body .wires) (join (body .side) (inSide bs n)), join-length (body .side) (inSide bs n) (opposite (z .1)), same-length (z .1));
-                }
+      one-first : (node .first < length Θ) × (tree Θ (node .first) ≡ Q .type)
+      one-first = subst (λ (x : Node). (x .first < length Θ) × (tree Θ (x .first) ≡ Q .type)) (sym (q .is)) (one-binding .first, one-binding .is-type)
 
-            function : (node .kind ≡ 0x19 → ⊥) × (madeOf Q ≡ funOf α (Q .type) n body) → Leaves Q (closed node l b) (closedIn w₂ node (st .top) l b)
-            function z =
-                let k = ne-eqb (node .kind) 0x19 (z .0) in
-                record {
-                  holds = subst (λ (m : Made). Holds (cond (eqb (node .kind) 0x19) (looped w₂ (18944 + st .top) l (b .wires)) w₂) (after (Q .store) m)) (sym (z .1))
-                      (subst (λ (c : Bool). Holds (cond c (looped w₂ (18944 + st .top) l (b .wires)) w₂) (after (Q .store) (funOf α (Q .type) n body))) (sym k) (fun-holds (Q .store) Θ t n (Q .type) body body-holds));
-                  past = one-past;
-                  named = one-first .0;
-                  type = one-first .1;
-                  len = ap (λ (c : Bool). cond c l (l + b .len)) k ∙ omega (arith, body-small .1, ap (λ (m : Made). length (m .side)) (z .1), length-append (inSide bs n) (body .side), in-length);
-                  next = body-counts .1 ∙ sym one-next;
-                  elements = omega (arith, body-counts .2, one-count);
-                  wires = ap (λ (c : Bool). cond c (b .wires + l) (b .wires)) k ∙ omega (arith, body-counts .3, ap (λ (m : Made). length (m .wires)) (z .1));
-                }
+      one-past : b .past ≡ q .at + length (termBytes (Q .term))
+      one-past = body-counts .0 ∙ ap (λ (x : Node). x .next + length (termBytes (one-binding .body))) (q .is) ∙ sym (one-binding .bytes)
+
+      pub close-leaves : Leaves Q (closed node (r .top - st .top) b) (closedIn w₂ node (st .top) (r .top - st .top) b)
+      unfolding closed closedIn
+      close-leaves = ⊎-elim fixed function one-is
+        where
+          fixed : (node .kind ≡ 0x19) × (one-binding .type ≡ α) × (madeOf Q ≡ madeFix α n body) → Leaves Q (closed node l b) (closedIn w₂ node (st .top) l b)
+          fixed z =
+              let k = eq-eqb (node .kind) 0x19 (z .0) in
+              record {
+                holds = subst (λ (m : Made). Holds (cond (eqb (node .kind) 0x19) (looped w₂ (18944 + st .top) l (b .wires)) w₂) (after (Q .store) m)) (sym (z .2))
+                    (subst (λ (c : Bool). Holds (cond c (looped w₂ (18944 + st .top) l (b .wires)) w₂) (after (Q .store) (madeFix α n body))) (sym k) (loop-holds (z .1) (z .2)));
+                past = one-past;
+                named = one-first .0;
+                type = one-first .1;
+                len = ap (λ (c : Bool). cond c l (l + b .len)) k ∙ sym (same-length (z .1)) ∙ ap (λ (m : Made). length (m .side)) (sym (z .2));
+                next = body-counts .1 ∙ sym one-next;
+                elements = omega (arith, body-counts .2, one-count);
+                wires = ap (λ (c : Bool). cond c (b .wires + l) (b .wires)) k ∙ omega (arith, body-counts .3, ap (λ (m : Made). length (m .wires)) (z .2), length-append (body .wires) (join (body .side) (inSide bs n)), join-length (body .side) (inSide bs n) (opposite (z .1)), same-length (z .1));
+              }
+
+          function : (node .kind ≡ 0x19 → ⊥) × (madeOf Q ≡ funOf α (Q .type) n body) → Leaves Q (closed node l b) (closedIn w₂ node (st .top) l b)
+          function z =
+              let k = ne-eqb (node .kind) 0x19 (z .0) in
+              record {
+                holds = subst (λ (m : Made). Holds (cond (eqb (node .kind) 0x19) (looped w₂ (18944 + st .top) l (b .wires)) w₂) (after (Q .store) m)) (sym (z .1))
+                    (subst (λ (c : Bool). Holds (cond c (looped w₂ (18944 + st .top) l (b .wires)) w₂) (after (Q .store) (funOf α (Q .type) n body))) (sym k) (fun-holds (Q .store) Θ t n (Q .type) body body-holds));
+                past = one-past;
+                named = one-first .0;
+                type = one-first .1;
+                len = ap (λ (c : Bool). cond c l (l + b .len)) k ∙ omega (arith, body-small .1, ap (λ (m : Made). length (m .side)) (z .1), length-append (inSide bs n) (body .side), in-length, el);
+                next = body-counts .1 ∙ sym one-next;
+                elements = omega (arith, body-counts .2, one-count);
+                wires = ap (λ (c : Bool). cond c (b .wires + l) (b .wires)) k ∙ omega (arith, body-counts .3, ap (λ (m : Made). length (m .wires)) (z .1));
+              }

@@ -8,7 +8,7 @@ use native.Mathlib.Omega.{arith}
 use native.Mathlib.Decide.{decLe, ℕ-discrete}
 use lib.ListN.{length, getD, set, length-append, length-set, List·getD-append}
 use lib.Seq.{sets, length-sets, getD-set-same, getD-set-other, getD-append-add, drop-set-lt, ext-getD}
-use Rattle.laws.proofs.Regions.{sets-before, sets-outside, sets-drop}
+use Rattle.laws.proofs.Regions.{sets-before, sets-outside, sets-drop, region-length, region-at}
 use Rattle.calculus.specs.Net.{inp, out, Interface, Wire, join}
 use Rattle.calculus.specs.Record.{All}
 use Rattle.memory.specs.Map.{region, code}
@@ -18,7 +18,6 @@ use Rattle.circuit_theorems.proofs.Drivers.{dirs}
 use Rattle.wiring.specs.Links.{wired, linked, links}
 use Rattle.wiring.specs.Store.{Store, Lies, Low, Holds, moreKinds, atStack, atBinders, target, moreWires}
 use Rattle.wiring.proofs.LinkLaws.{linked-codes}
-use Rattle.wiring.proofs.RunLaws.{region-length, region-at}
 
 -- ---- one list
 

@@ -1,20 +1,22 @@
 -- Turned bits: an arrow turns its left side, and no bit of a sharable type is turned. Assumes nothing.
-use Prim.Native.Nat.{ℕ, _+_, _-_, _≤_, _<_}
+use Prim.Native.Nat.{ℕ, _+_, _*_, _≤_, _<_}
 use mathlib.Core.Path.{_≡_, refl, sym, ap, ap₂, _∙_}
 use mathlib.Core.Bool.{Bool, true, false, not, _&&_, true≢false, false≢true}
 use mathlib.Core.List.{List, _++_}
 use native.Mathlib.Omega.{arith}
 use lib.Dec.{T}
-use lib.ListN.{length, getD, replicate, getD-replicate, replicate-append-replicate, List·getD-append}
-use lib.Seq.{getD-append-add}
+use lib.ListN.{length, getD, replicate, replicate-append-replicate}
+use lib.Seq.{sets}
+use Rattle.laws.proofs.Regions.{sets-append}
 use Rattle.laws.proofs.Tests.{and-both}
 use Rattle.calculus.specs.Types.{Ty, bit, prod, arrow, lolli, size, sharable, TyRec, rec01, rec02, rec03, rec04, Table, recAt, tree}
 use Rattle.calculus.specs.Laid.{Agrees, Below}
 use Rattle.calculus.specs.Net.{turns}
 use Rattle.records.specs.Forms.{recIn}
-use Rattle.circuit_theorems.proofs.Drivers.{turns-size}
+use Rattle.circuit_theorems.proofs.Drivers.{turns-not, turns-size}
 use Rattle.wiring.specs.declared.faces.Sides.{Sides}
-use Rattle.wiring.specs.Sides.{sidesOf, Knows}
+use Rattle.wiring.specs.Sides.{sidesOf, Knows, Named, Arrow, face}
+use Rattle.wiring.proofs.RunLaws.{face-length, face-append, face-turned}
 
 -- ---- type records
 
@@ -22,22 +24,22 @@ use Rattle.wiring.specs.Sides.{sidesOf, Knows}
 pub record ArrowAt (Θ : Table) (t l r : ℕ) : Type 0 where
   pub left : l < t
   pub right : r < t
-  pub turn : (odd : Bool) → turns odd (tree Θ t) ≡ turns (not odd) (tree Θ l) ++ turns odd (tree Θ r)
+  pub turn : turns false (tree Θ t) ≡ turns true (tree Θ l) ++ turns false (tree Θ r)
   pub sum : size (tree Θ t) ≡ size (tree Θ l) + size (tree Θ r)
 
 arrow-of : (Θ : Table) (t : ℕ) (q : TyRec) → Agrees Θ q (tree Θ t) → Below t q → sidesOf q .arrow ≡ true → ArrowAt Θ t (sidesOf q .left) (sidesOf q .right)
 arrow-of Θ t rec01 a b e = absurd (false≢true e)
 arrow-of Θ t (rec02 l r) a b e = absurd (false≢true e)
-arrow-of Θ t (rec03 l r) a b e = record { left = b .0; right = b .1; turn = λ odd. ap (turns odd) (a .0); sum = ap size (a .0) }
-arrow-of Θ t (rec04 l r) a b e = record { left = b .0; right = b .1; turn = λ odd. ap (turns odd) (a .0); sum = ap size (a .0) }
+arrow-of Θ t (rec03 l r) a b e = record { left = b .0; right = b .1; turn = ap (turns false) (a .0); sum = ap size (a .0) }
+arrow-of Θ t (rec04 l r) a b e = record { left = b .0; right = b .1; turn = ap (turns false) (a .0); sum = ap size (a .0) }
 
-sharable-turns : (odd : Bool) (τ : Ty) → T (sharable τ) → turns odd τ ≡ replicate (size τ) odd
-sharable-turns odd bit h = refl
-sharable-turns odd (prod a b) h =
+sharable-turns : (τ : Ty) → T (sharable τ) → turns false τ ≡ replicate (size τ) false
+sharable-turns bit h = refl
+sharable-turns (prod a b) h =
     let (p, q) = and-both (sharable a) (sharable b) h in
-    ap₂ _++_ (sharable-turns odd a p) (sharable-turns odd b q) ∙ replicate-append-replicate (size a) (size b) odd
-sharable-turns odd (arrow a b) h = absurd h
-sharable-turns odd (lolli a b) h = absurd h
+    ap₂ _++_ (sharable-turns a p) (sharable-turns b q) ∙ replicate-append-replicate (size a) (size b) false
+sharable-turns (arrow a b) h = absurd h
+sharable-turns (lolli a b) h = absurd h
 
 flat-of : (Θ : Table) (t : ℕ) (q : TyRec) → Agrees Θ q (tree Θ t) → sidesOf q .arrow ≡ false → T (sharable (tree Θ t))
 flat-of Θ t rec01 a e = rw a tt
@@ -56,39 +58,47 @@ module _ {s sizes : List ℕ} {Θ : Table} (K : Knows s sizes Θ) {t : ℕ} (h :
   pub arrow-at : x .arrow ≡ true → ArrowAt Θ t (x .left) (x .right)
   arrow-at a = rw sides-rec (arrow-of Θ t (recAt Θ t) (K .ok .agrees t) (K .ok .earlier t h) (rw sides-rec at a))
 
-  pub flat-at : x .arrow ≡ false → T (sharable (tree Θ t))
-  flat-at a = flat-of Θ t (recAt Θ t) (K .ok .agrees t) (rw sides-rec at a)
+  pub flat-turns : x .arrow ≡ false → turns false (tree Θ t) ≡ replicate (getD sizes t 0) false
+  flat-turns a = sharable-turns (tree Θ t) (flat-of Θ t (recAt Θ t) (K .ok .agrees t) (rw sides-rec at a)) ∙ ap (λ (k : ℕ). replicate k false) (sym (K .sized t h))
 
--- ---- the descent
+-- ---- the interface of an arrow
 
--- bit `bit` of type `of` is bit j of type t, turned once more where odd
-pub record Turning (Θ : Table) (of bit t j : ℕ) (odd : Bool) : Type 0 where
-  pub named : t < length Θ
-  pub inside : bit < size (tree Θ of) → j < size (tree Θ t)
-  pub same : bit < size (tree Θ of) → getD (turns false (tree Θ of)) bit false ≡ getD (turns odd (tree Θ t)) j false
+abbrev pub an-arrow : {s sizes : List ℕ} {x : Sides} {room to n t : ℕ} → Named s sizes t → x ≡ sidesOf (recIn s t) → x .arrow ≡ true → to + getD sizes t 0 ≤ room → n + 2 * getD sizes t 0 ≤ 8192
+    → Arrow s sizes x room to n
+an-arrow {t = t} k e a r f = record { type = t; known = k; is = e; arrow = a; room = r; few = f }
 
-pub turning-start : {Θ : Table} {of bit : ℕ} → of < length Θ → Turning Θ of bit of bit false
-turning-start h = record { named = h; inside = λ i. i; same = λ i. refl }
+module _ {s sizes : List ℕ} {x : Sides} {room to n : ℕ} (q : Arrow s sizes x room to n) where
+  pub sides : ArrowAt (q .known .table) (q .type) (x .left) (x .right)
+  sides = arrow-at (q .known .knows) (q .known .named) (q .is) (q .arrow)
 
-module _ {Θ : Table} {of bit t j : ℕ} {odd : Bool} (T₀ : Turning Θ of bit t j odd) where
-  pub turning-left : {l r : ℕ} → ArrowAt Θ t l r → (n : ℕ) → n ≡ size (tree Θ l) → j < n → Turning Θ of bit l j (not odd)
-  turning-left {l} {r} A n en h = record {
-    named = omega (arith, T₀ .named, A .left);
-    inside = λ i. omega arith;
-    same = λ i. T₀ .same i ∙ ap (λ (x : List Bool). getD x j false) (A .turn odd)
-        ∙ List·getD-append (turns (not odd) (tree Θ l)) (turns odd (tree Θ r)) false j (omega (arith, turns-size (not odd) (tree Θ l)));
-  }
+  pub left-named : x .left < length (q .known .table)
+  left-named = omega (arith, sides .left, q .known .named)
 
-  pub turning-right : {l r : ℕ} → ArrowAt Θ t l r → (n : ℕ) → n ≡ size (tree Θ l) → n ≤ j → Turning Θ of bit r (j - n) odd
-  turning-right {l} {r} A n en h =
-      let e : j ≡ length (turns (not odd) (tree Θ l)) + (j - n) = omega (arith, turns-size (not odd) (tree Θ l)) in
-      record {
-        named = omega (arith, T₀ .named, A .right);
-        inside = λ i. omega (arith, T₀ .inside i, A .sum);
-        same = λ i. T₀ .same i ∙ ap₂ (λ (x : List Bool) (k : ℕ). getD x k false) (A .turn odd) e
-            ∙ getD-append-add (turns (not odd) (tree Θ l)) (turns odd (tree Θ r)) (j - n) false;
-      }
+  pub right-named : x .right < length (q .known .table)
+  right-named = omega (arith, sides .right, q .known .named)
 
-  pub turning-end : T (sharable (tree Θ t)) → bit < size (tree Θ of) → odd ≡ getD (turns false (tree Θ of)) bit false
-  turning-end h i =
-      sym (T₀ .same i ∙ ap (λ (x : List Bool). getD x j false) (sharable-turns odd (tree Θ t) h) ∙ getD-replicate (size (tree Θ t)) j odd false (T₀ .inside i))
+  abbrev pub left-known : Named s sizes (x .left)
+  left-known = record { table = q .known .table; knows = q .known .knows; named = left-named }
+
+  abbrev pub right-known : Named s sizes (x .right)
+  right-known = record { table = q .known .table; knows = q .known .knows; named = right-named }
+
+  -- the room of an arrow is that of its two sides
+  pub both-sizes : getD sizes (q .type) 0 ≡ getD sizes (x .left) 0 + getD sizes (x .right) 0
+  both-sizes =
+      let k = q .known .knows in
+      k .sized (q .type) (q .known .named) ∙ sides .sum ∙ sym (ap₂ _+_ (k .sized (x .left) left-named) (k .sized (x .right) right-named))
+
+  -- the left side's other interface is stored, and then the right side's behind it
+  pub arrow-face : (output : Bool) {l : ℕ} (w : List ℕ) {w₁ w₂ : List ℕ} → l ≡ getD sizes (x .left) 0
+      → w₁ ≡ sets w to (face (not output) (turns false (tree (q .known .table) (x .left))) n)
+      → w₂ ≡ sets w₁ (to + l) (face output (turns false (tree (q .known .table) (x .right))) (n + 2 * l))
+      → w₂ ≡ sets w to (face output (turns false (tree (q .known .table) (q .type))) n)
+  arrow-face output {l} w {w₁} {w₂} el e₁ e₂ =
+      let α = tree (q .known .table) (x .left) in
+      let bs = turns true α in
+      let cs = turns false (tree (q .known .table) (x .right)) in
+      let other : face output bs n ≡ face (not output) (turns false α) n = ap (λ (ts : List Bool). face output ts n) (turns-not false α) ∙ face-turned output (turns false α) n in
+      let size-left : length bs ≡ l = turns-size true α ∙ sym (q .known .knows .sized (x .left) left-named) ∙ sym el in
+      let face-left = face-length output bs n ∙ size-left in
+      rw (sides .turn, face-append output bs cs n, ← sets-append (face output bs n) (face output cs (n + 2 * length bs)) w to, face-left, size-left, other, ← e₁) e₂

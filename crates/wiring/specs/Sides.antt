@@ -1,5 +1,5 @@
 -- Types as the sheet's bytes and the table of sizes have them, and the codes of a binder's two interfaces. Assumes nothing.
-use Prim.Native.Nat.{ℕ, _+_, _*_, _<_}
+use Prim.Native.Nat.{ℕ, _+_, _*_, _≤_, _<_}
 use mathlib.Core.Path.{_≡_}
 use mathlib.Core.Bool.{Bool, true, false, cond, Bool·beq}
 use mathlib.Core.List.{List, [], _∷_}
@@ -28,6 +28,16 @@ pub record Named (s sizes : List ℕ) (t : ℕ) : Type 0 where
   pub table : Table
   pub knows : Knows s sizes table
   pub named : t < length table
+
+-- x is the record of an arrow, and there is room for its interface: in a memory of so many numbers from `to` on, and for points from
+-- terminal n on
+pub record Arrow (s sizes : List ℕ) (x : Sides) (size to n : ℕ) : Type 0 where
+  pub type : ℕ
+  pub known : Named s sizes type
+  pub is : x ≡ sidesOf (recIn s type)
+  pub arrow : x .arrow ≡ true
+  pub room : to + getD sizes type 0 ≤ size
+  pub few : n + 2 * getD sizes type 0 ≤ 8192
 
 -- the code of one terminal of the point whose input is n: its input, or its output
 abbrev pub endOf : ℕ → Bool → ℕ

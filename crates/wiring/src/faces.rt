@@ -7,14 +7,14 @@ ghost use mathlib.Core.Path.{_≡_};
 ghost use mathlib.Core.Bool.{false};
 ghost use mathlib.Core.List.{map};
 ghost use Prim.Native.Nat.{_+_, _*_, _≤_, _<_};
-ghost use lib.ListN.{length, getD};
+ghost use lib.ListN.{length, getD, replicate};
 ghost use lib.Seq.{sets};
-ghost use Rattle.calculus.specs.Types.{tree, size};
+ghost use Rattle.calculus.specs.Types.{tree};
 ghost use Rattle.calculus.specs.Terms.{partAt};
 ghost use Rattle.calculus.specs.Net.{turns, partSide};
 ghost use Rattle.records.specs.Forms.{recIn};
 ghost use Rattle.memory.specs.Map.{code};
-ghost use Rattle.wiring.specs.Sides.{sidesOf, Named, endOf, face};
+ghost use Rattle.wiring.specs.Sides.{sidesOf, Named, Arrow, endOf, face};
 
 // A type record: if it is an arrow, and its two type numbers.
 pub struct Sides {
@@ -57,30 +57,6 @@ pub fn size_of(sizes: &[u8], t: u8) -> usize
     records::wide(sizes[records::wide(t)])
 }
 
-// If bit j of a type is turned. No bit of a sharable type is.
-fn turned(s: &[u8], sizes: &[u8], of: u8, bit: usize) -> bool
-    requires { ⌜ Named (now s) (now sizes) of ⌝ }
-    ensures { λ r. ⌜ ((q : Named (now (s .entry)) (now (sizes .entry)) of) → bit < size (tree (q .table) of)
-        → r ≡ getD (turns false (tree (q .table) of)) bit false) ⌝ }
-{
-    let mut t = of;
-    let mut j = bit;
-    let mut odd = false;
-    let mut x = sides_at(s, t);
-    while x.arrow {
-        let n = size_of(sizes, x.left);
-        if j < n {
-            odd = !odd;
-            t = x.left;
-        } else {
-            j = j - n;
-            t = x.right;
-        }
-        x = sides_at(s, t);
-    }
-    odd
-}
-
 // ---- interfaces
 
 // One terminal of the point whose input is n: its input, or its output.
@@ -97,19 +73,43 @@ fn end_of(n: usize, input: bool) -> u16
     }
 }
 
-// An interface of a binder of type t, whose points start at terminal n: the variable's output interface, or its input interface.
+// An interface of l bits of which none is turned, as of a sharable type, whose points start at terminal n.
+fn unturned(work: &mut [u16], to: usize, l: usize, n: usize, output: bool)
+    requires { ⌜ (to + l ≤ length (now work)) × (n + 2 * l ≤ 8192) ⌝ }
+    ensures { λ _. ⌜ now (work .exit) ≡ sets (now (work .entry)) to (face output (replicate l false) n) ⌝ }
+{
+    let mut j: usize = 0;
+    while j < l {
+        let c = end_of(n + 2 * j, !output);
+        work[to + j] = c;
+        j = j + 1;
+    }
+}
+
+// An interface of a binder of type t, whose points start at terminal n: the variable's output interface, or its input interface. The
+// falling number is the type's.
 pub fn interface(s: &[u8], sizes: &[u8], work: &mut [u16], to: usize, t: u8, n: usize, output: bool)
     requires { ⌜ (Named (now s) (now sizes) t) × (to + getD (now sizes) t 0 ≤ length (now work)) × (n + 2 * getD (now sizes) t 0 ≤ 8192) ⌝ }
     ensures { λ _. ⌜ ((q : Named (now (s .entry)) (now (sizes .entry)) t)
         → now (work .exit) ≡ sets (now (work .entry)) to (face output (turns false (tree (q .table) t)) n)) ⌝ }
 {
-    let l = size_of(sizes, t);
-    let mut j: usize = 0;
-    while j < l {
-        let c = end_of(n + 2 * j, turned(s, sizes, t, j) == output);
-        work[to + j] = c;
-        j = j + 1;
+    let x = sides_at(s, t);
+    if x.arrow {
+        arrow(s, sizes, work, to, x, n, output);
+    } else {
+        unturned(work, to, size_of(sizes, t), n, output);
     }
+}
+
+// The same of an arrow: it turns the bits of its left side, so that the other interface of this side stands there, before the right's.
+fn arrow(s: &[u8], sizes: &[u8], work: &mut [u16], to: usize, x: Sides, n: usize, output: bool)
+    requires { ⌜ Arrow (now s) (now sizes) x (length (now work)) to n ⌝ }
+    ensures { λ _. ⌜ ((q : Arrow (now (s .entry)) (now (sizes .entry)) x (length (now (work .entry))) to n)
+        → now (work .exit) ≡ sets (now (work .entry)) to (face output (turns false (tree (q .known .table) (q .type))) n)) ⌝ }
+{
+    let l = size_of(sizes, x.left);
+    interface(s, sizes, work, to, x.left, n, !output);
+    interface(s, sizes, work, to + l, x.right, n + 2 * l, output);
 }
 
 // A part's number of inputs.

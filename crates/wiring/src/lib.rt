@@ -3,7 +3,6 @@ use memory::DRIVERS;
 use memory::NONE;
 use memory::TERMINALS;
 use records::Node;
-use records::Record;
 use walk::State;
 ghost use mathlib.Core.Path.{_≡_};
 ghost use mathlib.Core.List.{[]};
@@ -42,9 +41,7 @@ pub fn count(s: &[u8], sizes: &[u8], from: usize, nodes: usize) -> usize
     let mut left = nodes;
     let mut total: usize = 0;
     while left > 0 {
-        let Record::Node(node) = records::record_at(s, at) else {
-            return total;
-        };
+        let node = records::node_at(s, at);
         at = node.next;
         total = total + own_terminals(s, sizes, node);
         left = left - 1;

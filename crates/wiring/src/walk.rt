@@ -6,7 +6,6 @@ use memory::ELEMENTS;
 use memory::POINT;
 use memory::STACK;
 use records::Node;
-use records::Record;
 ghost use mathlib.Core.Path.{_≡_};
 ghost use mathlib.Core.List.{_∷_, []};
 ghost use Prim.Native.Nat.{_+_, _*_, _≤_, _<_};
@@ -272,16 +271,7 @@ pub fn make(s: &[u8], sizes: &[u8], work: &mut [u16], at: usize, st: State) -> B
     ensures { λ r. ⌜ ((q : Asks (now (s .entry)) (now (sizes .entry)) (now (work .entry)) at st) → Leaves q r (now (work .exit))) ⌝ }
 {
     let top = st.top;
-    let Record::Node(node) = records::record_at(s, at) else {
-        return Built {
-            past: at,
-            ty: 0,
-            len: 0,
-            next: 0,
-            elements: 0,
-            wires: 0,
-        };
-    };
+    let node = records::node_at(s, at);
     let next = node.next;
     if node.subterms == 0 {
         return leaf(s, sizes, work, node, st);

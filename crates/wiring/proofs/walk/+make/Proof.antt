@@ -2,21 +2,19 @@
 -- Assumes nothing.
 use borrow.Author.Needs.{needs}
 use native.Mathlib.Omega.{arith}
-use mathlib.Core.Path.{sym, ap, _∙_}
-use Prim.Native.Nat.{ℕ, _+_, _-_, _<_}
+use mathlib.Core.Path.{_∙_}
+use Prim.Native.Nat.{ℕ, _-_, _<_}
 use lib.ListN.{length}
 use borrow.Fn.Kinds.{In}
 use borrow.Fn.PlainCycle.{Measures, is, falls, and}
-use Rattle.records.proofs.Laws.{node-next}
-use Rattle.wiring.specs.declared.walk.State.{State}
-use Rattle.wiring.proofs.StepLaws.{is-node, here, two-subterms, no-node}
-use Rattle.wiring.proofs.OneLaws.{body-asks, close-closable, close-leaves}
+use Rattle.wiring.proofs.StepLaws.{here, behind, two-subterms}
+use Rattle.wiring.proofs.OneLaws.{body-asks, opened-above, close-closable, close-leaves}
 use Rattle.wiring.proofs.TwoLaws.{first-asks, first-past, between-asks, second-asks}
 use Rattle.wiring.proofs.FinishLaws.{finish-ready, finish-leaves}
 use Rattle.wiring.proofs.walk.make.Reads as make
 use Rattle.wiring.proofs.walk.make.Kinds as make-kinds
 use Rattle.wiring.proofs.walk.+make.Lts-make as make-lts
-use Rattle.records.proofs.record_at.Reads as record-at-reads
+use Rattle.records.proofs.node_at.Reads as node-at-reads
 use Rattle.wiring.proofs.walk.between.Reads as between-reads
 use Rattle.wiring.proofs.walk.close.Reads as close-reads
 use Rattle.wiring.proofs.walk.finish.Reads as finish-reads
@@ -36,8 +34,8 @@ make-below t = and 3 make-kinds.ps (falls 3 make-kinds.ps _<_ μ-make t) make.Pr
 
 pub +make-spec : {M : Type 1} → statement M
 +make-spec = close μ-make λ t. make-lts.spec (
-  record-at-reads.Asked,
-  record-at-reads.Learnt,
+  node-at-reads.Asked,
+  node-at-reads.Learnt,
   leaf-reads.Asked,
   leaf-reads.Learnt,
   open-reads.Asked,
@@ -54,94 +52,81 @@ pub +make-spec : {M : Type 1} → statement M
     (make-at t)
     make.Post
     (λ c κs. search needs)
-    (λ c. search needs)
-    (λ c. λ q. absurd (no-node (c .before .record-at .result) (c .match .keys2) (is-node q (c .before .record-at .ensures))))
     (λ c κs.
-    let e = c .before .before .before .before .before .before .record-at .ensures in
-    let g = c .before .before .before .before .node .given .1 in
-    (here (c .before .before .before .before .before .before .before .before .before .before .pre .1) e g, c .before .if1 .taken))
+    let e = c .before .before .before .node-at .ensures in
+    (here (c .before .before .before .before .before .before .before .pre .1) e, c .before .if1 .taken))
     (λ c. c .before .before .leaf .kept .1 .1 .0)
     (λ c.
-    let e = c .before .before .before .before .before .before .before .before .before .record-at .ensures in
-    let g = c .before .before .before .before .before .before .before .node .given .1 in
-    λ q. c .before .before .leaf .ensures (here q e g))
+    let e = c .before .before .before .before .before .before .node-at .ensures in
+    λ q. c .before .before .leaf .ensures (here q e))
     (λ c κs.
-    let e = c .before .before .before .before .before .before .before .before .record-at .ensures in
-    let g = c .before .before .before .before .before .before .node .given .1 in
-    (here (c .before .before .before .before .before .before .before .before .before .before .before .before .pre .1) e g, c .before .if2 .taken))
+    let e = c .before .before .before .before .before .node-at .ensures in
+    (here (c .before .before .before .before .before .before .before .before .before .pre .1) e, c .before .if2 .taken))
     (λ c.
-    let e = c .before .before .before .before .before .before .before .before .before .before .before .before .record-at .ensures in
-    let g = c .before .before .before .before .before .before .before .before .before .before .node .given .1 in
-    let o = c .before .before .before .«open» .ensures (here (c .before .before .before .before .before .before .before .before .before .before .before .before .before .before .before .before .pre .1) e g) in
-    omega (arith, ap (λ (x : State). x .top) (o .state)))
+    let e = c .before .before .before .before .before .before .before .before .before .node-at .ensures in
+    let h = here (c .before .before .before .before .before .before .before .before .before .before .before .before .before .pre .1) e in
+    let o = c .before .before .before .«open» .ensures h in
+    opened-above h (c .before .before .before .before .before .if2 .taken) o)
     (λ c κs.
-    let e = c .before .before .before .before .before .before .before .before .before .before .before .before .before .record-at .ensures in
-    let g = c .before .before .before .before .before .before .before .before .before .before .before .node .given .1 in
-    let p = c .before .before .before .before .before .before .before .before .before .before .before .before .before .before .before .before .before .pre in
-    let o = c .before .before .before .before .«open» .ensures (here (p .1) e g) in
-    let f = node-next (c .before .before .before .before .before .before .before .before .before .before .before .before .before .before .before .before .before .args .s .now) (c .before .before .before .before .before .before .before .before .before .before .before .before .before .before .before .before .before .args .at) (sym e ∙ g) in
-    (omega (arith, p .0), body-asks (here (p .1) e g) (c .before .before .before .before .before .before .if2 .taken) o))
+    let e = c .before .before .before .before .before .before .before .before .before .before .node-at .ensures in
+    let p = c .before .before .before .before .before .before .before .before .before .before .before .before .before .before .pre in
+    let o = c .before .before .before .before .«open» .ensures (here (p .1) e) in
+    let f = behind (p .1) e in
+    (omega (arith, p .0), body-asks (here (p .1) e) (c .before .before .before .before .before .before .if2 .taken) o))
     (λ c κs.
-    let e = c .before .before .before .before .before .before .before .before .before .before .before .before .before .before .before .before .before .record-at .ensures in
-    let g = c .before .before .before .before .before .before .before .before .before .before .before .before .before .before .before .node .given .1 in
-    let p = c .before .before .before .before .before .before .before .before .before .before .before .before .before .before .before .before .before .before .before .before .before .pre in
-    let h = here (p .1) e g in
+    let e = c .before .before .before .before .before .before .before .before .before .before .before .before .before .before .node-at .ensures in
+    let p = c .before .before .before .before .before .before .before .before .before .before .before .before .before .before .before .before .before .before .pre in
+    let h = here (p .1) e in
     let one = c .before .before .before .before .before .before .before .before .before .before .if2 .taken in
     let o = c .before .before .before .before .before .before .before .before .«open» .ensures h in
     let l = c .before .before .before .make .ensures (body-asks h one o) in
-    close-closable h one o l (c .before .before .before .before .before .before .before .before .«open» .result .top - c .before .before .before .before .before .before .before .before .before .before .before .before .before .before .before .before .before .before .before .before .before .args .st .top) (omega (arith, ap (λ (x : State). x .top) (o .state))))
+    close-closable h one o l)
     (λ c. c .before .before .close .kept .0 ∙ c .before .before .before .before .before .before .make .kept .1 .1 .0 ∙ c .before .before .before .before .before .before .before .before .before .before .before .«open» .kept .1 .1 .0)
     (λ c.
-    let e = c .before .before .before .before .before .before .before .before .before .before .before .before .before .before .before .before .before .before .before .before .record-at .ensures in
-    let g = c .before .before .before .before .before .before .before .before .before .before .before .before .before .before .before .before .before .before .node .given .1 in
+    let e = c .before .before .before .before .before .before .before .before .before .before .before .before .before .before .before .before .before .node-at .ensures in
     λ q.
-    let h = here q e g in
+    let h = here q e in
     let one = c .before .before .before .before .before .before .before .before .before .before .before .before .before .if2 .taken in
     let o = c .before .before .before .before .before .before .before .before .before .before .before .«open» .ensures h in
     let l = c .before .before .before .before .before .before .make .ensures (body-asks h one o) in
     let k = c .before .before .close .ensures in
-    rw (k .0, k .1) (close-leaves h one o l (c .before .before .before .before .before .before .before .before .before .before .before .«open» .result .top - c .before .before .before .before .before .before .before .before .before .before .before .before .before .before .before .before .before .before .before .before .before .before .before .before .args .st .top) (omega (arith, ap (λ (x : State). x .top) (o .state)))))
+    rw (k .0, k .1) (close-leaves h one o l))
     (λ c κs.
-    let e = c .before .before .before .before .before .before .before .before .record-at .ensures in
-    let g = c .before .before .before .before .before .before .node .given .1 in
-    let p = c .before .before .before .before .before .before .before .before .before .before .before .before .pre in
-    let two = two-subterms (p .1) e g (c .before .before .before .if1 .left) (c .before .if2 .left) in
-    let f = node-next (c .before .before .before .before .before .before .before .before .before .before .before .before .args .s .now) (c .before .before .before .before .before .before .before .before .before .before .before .before .args .at) (sym e ∙ g) in
-    (omega (arith, p .0), first-asks (here (p .1) e g) two))
+    let e = c .before .before .before .before .before .node-at .ensures in
+    let p = c .before .before .before .before .before .before .before .before .before .pre in
+    let two = two-subterms (p .1) e (c .before .before .before .if1 .left) (c .before .if2 .left) in
+    let f = behind (p .1) e in
+    (omega (arith, p .0), first-asks (here (p .1) e) two))
     (λ c κs.
-    let e = c .before .before .before .before .before .before .before .before .before .before .before .before .record-at .ensures in
-    let g = c .before .before .before .before .before .before .before .before .before .before .node .given .1 in
-    let p = c .before .before .before .before .before .before .before .before .before .before .before .before .before .before .before .before .pre in
-    let h = here (p .1) e g in
-    let two = two-subterms (p .1) e g (c .before .before .before .before .before .before .before .if1 .left) (c .before .before .before .before .before .if2 .left) in
+    let e = c .before .before .before .before .before .before .before .before .before .node-at .ensures in
+    let p = c .before .before .before .before .before .before .before .before .before .before .before .before .before .pre in
+    let h = here (p .1) e in
+    let two = two-subterms (p .1) e (c .before .before .before .before .before .before .before .if1 .left) (c .before .before .before .before .before .if2 .left) in
     between-asks h two (c .before .before .before .make2 .ensures (first-asks h two)))
     (λ c κs.
-    let e = c .before .before .before .before .before .before .before .before .before .before .before .before .before .before .before .before .record-at .ensures in
-    let g = c .before .before .before .before .before .before .before .before .before .before .before .before .before .before .node .given .1 in
-    let p = c .before .before .before .before .before .before .before .before .before .before .before .before .before .before .before .before .before .before .before .before .pre in
-    let h = here (p .1) e g in
-    let two = two-subterms (p .1) e g (c .before .before .before .before .before .before .before .before .before .before .before .if1 .left) (c .before .before .before .before .before .before .before .before .before .if2 .left) in
+    let e = c .before .before .before .before .before .before .before .before .before .before .before .before .before .node-at .ensures in
+    let p = c .before .before .before .before .before .before .before .before .before .before .before .before .before .before .before .before .before .pre in
+    let h = here (p .1) e in
+    let two = two-subterms (p .1) e (c .before .before .before .before .before .before .before .before .before .before .before .if1 .left) (c .before .before .before .before .before .before .before .before .before .if2 .left) in
     let l = c .before .before .before .before .before .before .before .make2 .ensures (first-asks h two) in
-    let f = node-next (c .before .before .before .before .before .before .before .before .before .before .before .before .before .before .before .before .before .before .before .before .args .s .now) (c .before .before .before .before .before .before .before .before .before .before .before .before .before .before .before .before .before .before .before .before .args .at) (sym e ∙ g) in
+    let f = behind (p .1) e in
     let b = first-past h two l in
     (omega (arith, p .0), second-asks h two l (c .before .before .before .between .ensures .0) (c .before .before .before .between .ensures .1)))
     (λ c κs.
-    let e = c .before .before .before .before .before .before .before .before .before .before .before .before .before .before .before .before .before .before .before .before .record-at .ensures in
-    let g = c .before .before .before .before .before .before .before .before .before .before .before .before .before .before .before .before .before .before .node .given .1 in
-    let p = c .before .before .before .before .before .before .before .before .before .before .before .before .before .before .before .before .before .before .before .before .before .before .before .before .pre in
-    let h = here (p .1) e g in
-    let two = two-subterms (p .1) e g (c .before .before .before .before .before .before .before .before .before .before .before .before .before .before .before .if1 .left) (c .before .before .before .before .before .before .before .before .before .before .before .before .before .if2 .left) in
+    let e = c .before .before .before .before .before .before .before .before .before .before .before .before .before .before .before .before .before .node-at .ensures in
+    let p = c .before .before .before .before .before .before .before .before .before .before .before .before .before .before .before .before .before .before .before .before .before .pre in
+    let h = here (p .1) e in
+    let two = two-subterms (p .1) e (c .before .before .before .before .before .before .before .before .before .before .before .before .before .before .before .if1 .left) (c .before .before .before .before .before .before .before .before .before .before .before .before .before .if2 .left) in
     let l = c .before .before .before .before .before .before .before .before .before .before .before .make2 .ensures (first-asks h two) in
     let er = c .before .before .before .before .before .before .before .between .ensures .0 in
     let ew = c .before .before .before .before .before .before .before .between .ensures .1 in
     finish-ready h two l er ew (c .before .before .before .make3 .ensures (second-asks h two l er ew)))
     (λ c. c .before .before .finish .kept .1 .0 ∙ c .before .before .before .before .before .before .make3 .kept .1 .1 .0 ∙ c .before .before .before .before .before .before .before .before .before .before .between .kept .1 .1 .0 ∙ c .before .before .before .before .before .before .before .before .before .before .before .before .before .before .make2 .kept .1 .1 .0)
     (λ c.
-    let e = c .before .before .before .before .before .before .before .before .before .before .before .before .before .before .before .before .before .before .before .before .before .before .before .record-at .ensures in
-    let g = c .before .before .before .before .before .before .before .before .before .before .before .before .before .before .before .before .before .before .before .before .before .node .given .1 in
+    let e = c .before .before .before .before .before .before .before .before .before .before .before .before .before .before .before .before .before .before .before .before .node-at .ensures in
     λ q.
-    let h = here q e g in
-    let two = two-subterms q e g (c .before .before .before .before .before .before .before .before .before .before .before .before .before .before .before .before .before .before .if1 .left) (c .before .before .before .before .before .before .before .before .before .before .before .before .before .before .before .before .if2 .left) in
+    let h = here q e in
+    let two = two-subterms q e (c .before .before .before .before .before .before .before .before .before .before .before .before .before .before .before .before .before .before .if1 .left) (c .before .before .before .before .before .before .before .before .before .before .before .before .before .before .before .before .if2 .left) in
     let l = c .before .before .before .before .before .before .before .before .before .before .before .before .before .before .make2 .ensures (first-asks h two) in
     let er = c .before .before .before .before .before .before .before .before .before .before .between .ensures .0 in
     let ew = c .before .before .before .before .before .before .before .before .before .before .between .ensures .1 in

@@ -6,8 +6,8 @@ use mathlib.Core.Path.{_≡_, refl, sym, _∙_}
 use lib.ListN.{length, getD, drop}
 use Rattle.memory.specs.Map.{region}
 use Rattle.wiring.specs.Links.{links}
-use Rattle.wiring.proofs.LinkLaws.{linked-high, links-start, links-again, links-end}
-use Rattle.wiring.proofs.RunLaws.{region-length, region-at}
+use Rattle.wiring.proofs.LinkLaws.{low-argument, low-function, linked-high, links-start, links-again, links-end}
+use Rattle.laws.proofs.Regions.{region-length, region-at}
 use Rattle.wiring.proofs.wires.connect.Statement.{statement}
 use Rattle.wiring.proofs.wires.connect.Tie as tie
 
@@ -52,14 +52,10 @@ add-link c = omega arith
 
 link-requires : tie.Need-link-requires Inv-loop μ-loop
 link-requires c κs =
-    let a = c .before .before .before .before .before .before .args in
     let l = c .before .before .before .before .loop in
     let p = c .before .before .before .before .before .before .pre in
-    let i = a .n - l .left in
-    let lt : i < a .n = omega (arith, c .before .before .before .loop-test .taken) in
-    let ea = l .inv .3 (a .a + i) (omega (arith, p .high-a)) in
-    let ef = l .inv .3 (a .f + i) (omega (arith, p .high-f)) in
-    (omega (arith, p .size), rw ea (p .low-a i lt), rw ef (p .low-f i lt), omega (arith, p .few))
+    let lt = c .before .before .before .loop-test .taken in
+    (omega (arith, p .size), low-argument p (l .work) (l .inv .3) _ (omega arith), low-function p (l .work) (l .inv .3) _ (omega arith), omega (arith, p .few))
 
 sub-left : tie.Need-sub-left Inv-loop μ-loop
 sub-left c = omega arith
@@ -81,7 +77,7 @@ loop-again c =
     let la = region-length w (a .a) (a .n) (p .in-a) in
     let lf = region-length w (a .f) (a .n) (p .in-f) in
     let e = c .before .before .link .ensures in
-    (omega arith, c .before .before .link .kept .0 ∙ l .inv .1, rw (e, again) (links-again (region w (a .a) (a .n)) (region w (a .f) (a .n)) (l .work) (a .count) i (l .inv .2) (omega arith) (omega arith) _ _ (ea ∙ sym (region-at w (a .a) (a .n) i lt)) (ef ∙ sym (region-at w (a .f) (a .n) i lt))), λ j h. rw e (linked-high (l .work) (a .count + i) _ _ j (rw ea (p .low-a i lt)) (rw ef (p .low-f i lt)) (omega (arith, p .few)) h) ∙ l .inv .3 j h)
+    (omega arith, c .before .before .link .kept .0 ∙ l .inv .1, rw (e, again) (links-again (region w (a .a) (a .n)) (region w (a .f) (a .n)) (l .work) (a .count) i (l .inv .2) (omega arith) (omega arith) _ _ (ea ∙ sym (region-at w (a .a) (a .n) i lt)) (ef ∙ sym (region-at w (a .f) (a .n) i lt))), λ j h. rw e (linked-high (l .work) (a .count + i) _ _ j (low-argument p (l .work) (l .inv .3) i lt) (low-function p (l .work) (l .inv .3) i lt) (omega (arith, p .few)) h) ∙ l .inv .3 j h)
 
 same-length : tie.Need-same-length Inv-loop μ-loop
 same-length c = omega arith

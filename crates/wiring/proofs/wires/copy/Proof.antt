@@ -7,7 +7,8 @@ use mathlib.Core.Logic.{_⊎_, inl, inr, ⊎-elim}
 use lib.ListN.{length, getD, drop, length-set}
 use lib.Seq.{sets}
 use Rattle.memory.specs.Map.{region}
-use Rattle.wiring.proofs.RunLaws.{run-start, run-again, run-end, region-length, region-at, outside-again}
+use Rattle.laws.proofs.Regions.{region-length, region-at}
+use Rattle.wiring.proofs.RunLaws.{run-start, run-again, run-end, outside-again}
 use Rattle.wiring.proofs.wires.copy.Statement.{statement}
 use Rattle.wiring.proofs.wires.copy.Tie as tie
 
