@@ -3,12 +3,13 @@
 use Prim.Native.Nat.{ℕ, zero, suc, _+_, _*_}
 use mathlib.Core.Path.{_≡_, refl, sym, ap, ap₂, _∙_}
 use mathlib.Core.Bool.{Bool, true, false, not, true≢false, false≢true}
-use mathlib.Core.List.{List, [], _∷_, _++_, map, cons≢nil, nil≢cons, head-eq-of-cons-eq, tail-eq-of-cons-eq}
+use mathlib.Core.List.{List, [], _∷_, _++_, map, map-append, cons≢nil, nil≢cons, head-eq-of-cons-eq, tail-eq-of-cons-eq}
 use native.Mathlib.Omega.{arith}
 use lib.Dec.{T}
 use lib.ListN.{length, take, drop, getD, length-append, take-append-drop}
 use lib.Seq.{take-at, drop-at}
 use Rattle.laws.proofs.Tests.{and-both, and-of}
+use Rattle.laws.proofs.Parts.{map-take, map-drop}
 use Rattle.calculus.specs.Types.{Ty, bit, prod, arrow, lolli, size, sharable, Table}
 use Rattle.calculus.specs.Terms.{Term, partAt}
 use Rattle.calculus.specs.Rules.{many, once, away, Ctx, NoLinear, none-end, none-many, none-away, InΓ, in-here, in-many, in-away, IsΔ, is-here, is-many, is-away, Split, split-end, split-many, split-first, split-second, split-away, Typed, Var, LVar, →I, →E, ⊸I, ⊸E, ×I, ×E, Fix, Con}
@@ -47,10 +48,6 @@ dir (out o) = false
 
 abbrev pub dirs : Interface → List Bool
 dirs s = map dir s
-
-map-append : {A B : Type 0} (f : A → B) (s t : List A) → map f (s ++ t) ≡ map f s ++ map f t
-map-append f [] t = refl
-map-append f (x ∷ s) t = ap {B = List _} (λ r. f x ∷ r) (map-append f s t)
 
 pub dirs-in : (ts : List Bool) (n : ℕ) → dirs (inSide ts n) ≡ map not ts
 dirs-in [] n = refl
@@ -121,21 +118,11 @@ outputs-only θ s i h e = no-inputs s i (rw e (unturned-sharable θ h))
 
 -- the two parts of an interface of an arrow or a product
 
-dirs-take : (k : ℕ) (s : Interface) → dirs (take k s) ≡ take k (dirs s)
-dirs-take zero s = refl
-dirs-take (suc k) [] = refl
-dirs-take (suc k) (x ∷ s) = ap (λ (r : List Bool). dir x ∷ r) (dirs-take k s)
-
-dirs-drop : (k : ℕ) (s : Interface) → dirs (drop k s) ≡ drop k (dirs s)
-dirs-drop zero s = refl
-dirs-drop (suc k) [] = refl
-dirs-drop (suc k) (x ∷ s) = dirs-drop k s
-
 pub dirs-left : (o : Bool) (α : Ty) (rest : List Bool) (s : Interface) → dirs s ≡ turns o α ++ rest → dirs (take (size α) s) ≡ turns o α
-dirs-left o α rest s e = dirs-take (size α) s ∙ ap (take (size α)) e ∙ take-at (turns o α) rest (size α) (turns-size o α)
+dirs-left o α rest s e = map-take dir (size α) s ∙ ap (take (size α)) e ∙ take-at (turns o α) rest (size α) (turns-size o α)
 
 dirs-right : (o : Bool) (α : Ty) (rest : List Bool) (s : Interface) → dirs s ≡ turns o α ++ rest → dirs (drop (size α) s) ≡ rest
-dirs-right o α rest s e = dirs-drop (size α) s ∙ ap (drop (size α)) e ∙ drop-at (turns o α) rest (size α) (turns-size o α)
+dirs-right o α rest s e = map-drop dir (size α) s ∙ ap (drop (size α)) e ∙ drop-at (turns o α) rest (size α) (turns-size o α)
 
 ins-parts : (k : ℕ) (s : Interface) (i : ℕ) → ins (take k s) i + ins (drop k s) i ≡ ins s i
 ins-parts k s i = sym (ins-append (take k s) (drop k s) i) ∙ ap (λ (r : Interface). ins r i) (take-append-drop k s)

@@ -2,3 +2,4 @@ pub mod Tests
 pub mod Below
 pub mod Regions
 pub mod Runs
+pub mod Parts

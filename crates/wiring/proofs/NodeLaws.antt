@@ -49,6 +49,12 @@ not-lolli p q = let z : lolli _ _ ≡ bit = sym p ∙ q in let n : _≡_ {A = �
 not-prod : {τ θ ρ : Ty} → τ ≡ prod θ ρ → τ ≡ bit → ⊥
 not-prod p q = let z : prod _ _ ≡ bit = sym p ∙ q in let n : _≡_ {A = ℕ} 0 1 = cc in omega arith
 
+past-one : (at : ℕ) → at + 1 + 0 ≡ at + 1
+past-one at = omega arith
+
+past-two : (at : ℕ) → at + 1 + 1 ≡ at + 2
+past-two at = omega arith
+
 -- ---- one subterm
 
 module _ {s sizes : List ℕ} {Θ : Table} (K : Knows s sizes Θ) (at n : ℕ) (env : List Bound) where
@@ -67,7 +73,7 @@ module _ {s sizes : List ℕ} {Θ : Table} (K : Knows s sizes Θ) (at n : ℕ) (
         type = τ;
         typed = d;
         fits = env-many sh (bound-fits θ (tree Θ b) n eb) v;
-        stands = rw two (fun-body st);
+        stands = rw (past-two at) (fun-body st);
         ranged = rg .1;
         deep = refl;
         bytes = omega arith;
@@ -76,9 +82,6 @@ module _ {s sizes : List ℕ} {Θ : Table} (K : Knows s sizes Θ) (at n : ℕ) (
         is-type = eτ;
         is = inr ((λ z. omega arith), ap (λ (ρ : Ty). funOf (leftOf (tree Θ t)) ρ n (make Θ e (binder (leftOf (tree Θ t)) n ∷ env) (n + 2 * size (leftOf (tree Θ t))))) eτ ∙ ap (λ (α : Ty). funOf α (arrow θ τ) n (make Θ e (binder α n ∷ env) (n + 2 * size α))) (S .left));
       }
-    where
-      two : at + 1 + 1 ≡ at + 2
-      two = omega arith
   binding (⊸I {t = t} {e = e} {κ = κ} {τ = τ} eτ ar d) st rg v h =
       let S = sided-at K t (rg .0) (not-lolli eτ) in
       let b = sidesOf (recIn s t) .left in
@@ -91,7 +94,7 @@ module _ {s sizes : List ℕ} {Θ : Table} (K : Knows s sizes Θ) (at n : ℕ) (
         type = τ;
         typed = d;
         fits = env-once (bound-fits κ (tree Θ b) n eb) v;
-        stands = rw two (lfun-body st);
+        stands = rw (past-two at) (lfun-body st);
         ranged = rg .1;
         deep = refl;
         bytes = omega arith;
@@ -100,9 +103,6 @@ module _ {s sizes : List ℕ} {Θ : Table} (K : Knows s sizes Θ) (at n : ℕ) (
         is-type = eτ;
         is = inr ((λ z. omega arith), ap (λ (ρ : Ty). funOf (leftOf (tree Θ t)) ρ n (make Θ e (binder (leftOf (tree Θ t)) n ∷ env) (n + 2 * size (leftOf (tree Θ t))))) eτ ∙ ap (λ (α : Ty). funOf α (lolli κ τ) n (make Θ e (binder α n ∷ env) (n + 2 * size α))) (S .left));
       }
-    where
-      two : at + 1 + 1 ≡ at + 2
-      two = omega arith
   binding (Fix {t = t} {e = e} {θ = θ} eτ sh d) st rg v h = record {
     body = e;
     bound = t;
@@ -111,7 +111,7 @@ module _ {s sizes : List ℕ} {Θ : Table} (K : Knows s sizes Θ) (at n : ℕ) (
     type = θ;
     typed = d;
     fits = env-many sh (bound-fits θ (tree Θ t) n eτ) v;
-    stands = rw two (fix-body st);
+    stands = rw (past-two at) (fix-body st);
     ranged = rg .1;
     deep = refl;
     bytes = omega arith;
@@ -120,9 +120,6 @@ module _ {s sizes : List ℕ} {Θ : Table} (K : Knows s sizes Θ) (at n : ℕ) (
     is-type = eτ;
     is = inl (refl, sym eτ, refl);
   }
-    where
-      two : at + 1 + 1 ≡ at + 2
-      two = omega arith
   binding (→E z d c) st rg v h = absurd (omega arith)
   binding (⊸E z d c) st rg v h = absurd (omega arith)
   binding (×I z eτ s₁ s₂ d c) st rg v h = absurd (omega arith)
@@ -143,8 +140,8 @@ module _ {s sizes : List ℕ} {Θ : Table} (K : Knows s sizes Θ) (at n : ℕ) (
       record {
         first = f;
         second = a;
-        stands-first = rw one (app-function st);
-        stands-second = rw one (app-argument st);
+        stands-first = rw (past-one at) (app-function st);
+        stands-second = rw (past-one at) (app-argument st);
         ranged-first = rg .0;
         ranged-second = rg .1;
         deep-first = omega arith;
@@ -161,16 +158,13 @@ module _ {s sizes : List ℕ} {Θ : Table} (K : Knows s sizes Θ) (at n : ℕ) (
         fits₂ = q;
         sort = inl (record { not-pair = λ z. omega arith; not-proj = λ z. omega arith; same = refl; arrow = not-arrow refl; left = refl; right = refl; turned = refl; is = refl });
       }
-    where
-      one : at + 1 + 0 ≡ at + 1
-      one = omega arith
   twofold (⊸E {f = f} {a = a} {κ = κ} {τ = τ} z d c) st rg v h =
       let (p, q) = split-env z v in
       record {
         first = f;
         second = a;
-        stands-first = rw one (lapp-function st);
-        stands-second = rw one (lapp-argument st);
+        stands-first = rw (past-one at) (lapp-function st);
+        stands-second = rw (past-one at) (lapp-argument st);
         ranged-first = rg .0;
         ranged-second = rg .1;
         deep-first = omega arith;
@@ -187,16 +181,13 @@ module _ {s sizes : List ℕ} {Θ : Table} (K : Knows s sizes Θ) (at n : ℕ) (
         fits₂ = q;
         sort = inl (record { not-pair = λ z. omega arith; not-proj = λ z. omega arith; same = refl; arrow = not-lolli refl; left = refl; right = refl; turned = refl; is = refl });
       }
-    where
-      one : at + 1 + 0 ≡ at + 1
-      one = omega arith
   twofold (×I {t = t} {a = a} {b = b} {θ₁ = θ₁} {θ₂ = θ₂} z eτ s₁ s₂ d c) st rg v h =
       let (p, q) = split-env z v in
       record {
         first = a;
         second = b;
-        stands-first = rw two (pair-first st);
-        stands-second = rw two (pair-second st);
+        stands-first = rw (past-two at) (pair-first st);
+        stands-second = rw (past-two at) (pair-second st);
         ranged-first = rg .1;
         ranged-second = rg .2;
         deep-first = omega arith;
@@ -213,9 +204,6 @@ module _ {s sizes : List ℕ} {Θ : Table} (K : Knows s sizes Θ) (at n : ℕ) (
         fits₂ = q;
         sort = inr (inl (record { pair = refl; same = refl; first = rg .0; is-type = eτ; is = ap (λ (ρ : Ty). madePair ρ (make Θ a env n) (make Θ b env (make Θ a env n .next))) eτ }));
       }
-    where
-      two : at + 1 + 1 ≡ at + 2
-      two = omega arith
   twofold (×E {a = a} {e = e} {θ₁ = θ₁} {θ₂ = θ₂} {τ = τ} z s₁ s₂ d c) st rg v h =
       let (p, q) = split-env z v in
       let x = make Θ a env n in
@@ -224,8 +212,8 @@ module _ {s sizes : List ℕ} {Θ : Table} (K : Knows s sizes Θ) (at n : ℕ) (
       record {
         first = a;
         second = e;
-        stands-first = rw one (proj-pair st);
-        stands-second = rw one (proj-body st);
+        stands-first = rw (past-one at) (proj-pair st);
+        stands-second = rw (past-one at) (proj-body st);
         ranged-first = rg .0;
         ranged-second = rg .1;
         deep-first = omega arith;
@@ -242,9 +230,6 @@ module _ {s sizes : List ℕ} {Θ : Table} (K : Knows s sizes Θ) (at n : ℕ) (
         fits₂ = env-many s₂ h₂ (env-many s₁ h₁ q);
         sort = inr (inr (record { proj = refl; halves = refl; product = not-prod refl; sum = refl; same = refl; is = refl }));
       }
-    where
-      one : at + 1 + 0 ≡ at + 1
-      one = omega arith
 
 -- ---- variables are bound
 

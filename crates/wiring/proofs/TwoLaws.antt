@@ -1,5 +1,5 @@
 -- An application, a pair and a projection: the first subterm, and the second. Assumes nothing.
-use Prim.Native.Nat.{ℕ, zero, suc, _+_, _*_, _≤_, _<_}
+use Prim.Native.Nat.{ℕ, _+_, _*_, _≤_, _<_}
 use mathlib.Core.Path.{_≡_, refl, sym, ap, ap₂, _∙_, subst}
 use mathlib.Core.Logic.{_⊎_, inr, ⊎-elim}
 use mathlib.Core.Bool.{Bool, true, false, cond}
@@ -9,6 +9,7 @@ use borrow.Author.Tests.{eq-eqb, ne-eqb}
 use lib.Dec.{eqb}
 use lib.ListN.{length, getD, take, drop, length-append, length-map, length-drop}
 use lib.Seq.{take-all, drop-at, drop-drop}
+use Rattle.laws.proofs.Parts.{map-take, map-drop}
 use Rattle.calculus.specs.Types.{Ty, size, Table, tree}
 use Rattle.calculus.specs.Terms.{Term, var, lvar, fun, app, lfun, lapp, pair, proj, fix, con}
 use Rattle.calculus.specs.Write.{termBytes}
@@ -43,25 +44,15 @@ depth-some (proj a e) = omega arith
 depth-some (fix t e) = omega arith
 depth-some (con p t) = omega arith
 
-map-take : (k : ℕ) (side : Interface) → map code (take k side) ≡ take k (map code side)
-map-take zero side = refl
-map-take (suc k) [] = refl
-map-take (suc k) (t ∷ side) = ap (λ (l : List ℕ). code t ∷ l) (map-take k side)
-
-map-drop : (k : ℕ) (side : Interface) → map code (drop k side) ≡ drop k (map code side)
-map-drop zero side = refl
-map-drop (suc k) [] = refl
-map-drop (suc k) (t ∷ side) = map-drop k side
-
 -- the two parts of an interface that stands on top of the stack
 front-region : (stack : List ℕ) (side : Interface) (top k : ℕ) → length stack ≡ top → map code (take k side) ≡ region (stack ++ map code side) top k
-front-region stack side top k e = map-take k side ∙ ap (take k) (sym (drop-at stack (map code side) top e))
+front-region stack side top k e = map-take code k side ∙ ap (take k) (sym (drop-at stack (map code side) top e))
 
 back-region : (stack : List ℕ) (side : Interface) (top k m : ℕ) → length stack ≡ top → length side ≡ k + m → map code (drop k side) ≡ region (stack ++ map code side) (top + k) m
 back-region stack side top k m e el =
     let z : length (map code (drop k side)) ≤ m = omega (arith, length-map (drop k side) code, length-drop k side) in
     sym (take-all m (map code (drop k side)) z)
-    ∙ ap (take m) (map-drop k side ∙ ap (drop k) (sym (drop-at stack (map code side) top e)) ∙ drop-drop k top (stack ++ map code side))
+    ∙ ap (take m) (map-drop code k side ∙ ap (drop k) (sym (drop-at stack (map code side) top e)) ∙ drop-drop k top (stack ++ map code side))
 
 module _ {s sizes w : List ℕ} {node : Node} {st : State} (q : Here s sizes w node st) (two : node .subterms ≡ 2) where
   abbrev pub Q : Asks s sizes w (q .at) st
