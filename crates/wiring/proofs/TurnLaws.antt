@@ -1,14 +1,14 @@
 -- Turned bits: an arrow turns its left side, and no bit of a sharable type is turned. Assumes nothing.
 use Prim.Native.Nat.{ℕ, _+_, _*_, _≤_, _<_}
 use mathlib.Core.Path.{_≡_, refl, sym, ap, ap₂, _∙_}
-use mathlib.Core.Bool.{Bool, true, false, not, _&&_, true≢false, false≢true}
+use mathlib.Core.Bool.{Bool, true, false, not, true≢false, false≢true}
 use mathlib.Core.List.{List, _++_}
 use native.Mathlib.Omega.{arith}
 use lib.Dec.{T}
 use lib.ListN.{length, getD, replicate, replicate-append-replicate}
 use lib.Seq.{sets}
 use Rattle.laws.proofs.Regions.{sets-append}
-use Rattle.laws.proofs.Tests.{and-both}
+use Rattle.laws.proofs.Tests.{and-both, and-of}
 use Rattle.calculus.specs.Types.{Ty, bit, prod, arrow, lolli, size, sharable, TyRec, rec01, rec02, rec03, rec04, Table, recAt, tree}
 use Rattle.calculus.specs.Laid.{Agrees, Below}
 use Rattle.calculus.specs.Net.{turns}
@@ -33,6 +33,7 @@ arrow-of Θ t (rec02 l r) a b e = absurd (false≢true e)
 arrow-of Θ t (rec03 l r) a b e = record { left = b .0; right = b .1; turn = ap (turns false) (a .0); sum = ap size (a .0) }
 arrow-of Θ t (rec04 l r) a b e = record { left = b .0; right = b .1; turn = ap (turns false) (a .0); sum = ap size (a .0) }
 
+-- no bit of a sharable type is turned
 sharable-turns : (τ : Ty) → T (sharable τ) → turns false τ ≡ replicate (size τ) false
 sharable-turns bit h = refl
 sharable-turns (prod a b) h =
@@ -43,16 +44,12 @@ sharable-turns (lolli a b) h = absurd h
 
 flat-of : (Θ : Table) (t : ℕ) (q : TyRec) → Agrees Θ q (tree Θ t) → sidesOf q .arrow ≡ false → T (sharable (tree Θ t))
 flat-of Θ t rec01 a e = rw a tt
-flat-of Θ t (rec02 l r) a e = rw (a .0) (both (sharable (tree Θ l)) (sharable (tree Θ r)) (a .1) (a .2))
-  where
-    both : (x y : Bool) → T x → T y → T (x && y)
-    both true y p q = q
-    both false y p q = p
+flat-of Θ t (rec02 l r) a e = rw (a .0) (and-of (sharable (tree Θ l)) (sharable (tree Θ r)) (a .1) (a .2))
 flat-of Θ t (rec03 l r) a e = absurd (true≢false e)
 flat-of Θ t (rec04 l r) a e = absurd (true≢false e)
 
 module _ {s sizes : List ℕ} {Θ : Table} (K : Knows s sizes Θ) {t : ℕ} (h : t < length Θ) {x : Sides} (e : x ≡ sidesOf (recIn s t)) where
-  pub sides-rec : x ≡ sidesOf (recAt Θ t)
+  sides-rec : x ≡ sidesOf (recAt Θ t)
   sides-rec = e ∙ ap sidesOf (K .records t h)
 
   pub arrow-at : x .arrow ≡ true → ArrowAt Θ t (x .left) (x .right)
