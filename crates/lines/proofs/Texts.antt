@@ -1,5 +1,5 @@
 -- The lines of the definitions, piece by piece. Assumes nothing.
-use mathlib.Core.Path.{_≡_, refl, ap, sym, _∙_}
+use mathlib.Core.Path.{_≡_, refl, ap, ap₂, sym, _∙_}
 use mathlib.Core.List.{[], _∷_, _++_, append-nil, append-assoc}
 use Prim.Native.Nat.{ℕ, zero, suc, _+_, _≤_}
 use native.Mathlib.Omega.{arith}
@@ -44,9 +44,11 @@ pin-text n =
     ∙ sym (append-nil (line (112 ∷ 105 ∷ 110 ∷ field n)))
 
 pub refused-text : (number place : ℕ)
-    → (114 ∷ 101 ∷ 102 ∷ 117 ∷ 115 ∷ 101 ∷ 100 ∷ []) ++ ((32 ∷ figure number) ++ line (figures 1 place)) ≡ refusedLine number place
+    → (114 ∷ 101 ∷ 102 ∷ 117 ∷ 115 ∷ 101 ∷ 100 ∷ []) ++ ((32 ∷ figure number) ++ line (32 ∷ figure place)) ≡ refusedLine number place
 unfolding refusedLine
-refused-text number place = ap (λ (x : Text). (114 ∷ 101 ∷ 102 ∷ 117 ∷ 115 ∷ 101 ∷ 100 ∷ []) ++ x) (two-fields number place)
+refused-text number place =
+    ap (λ (x : Text). (114 ∷ 101 ∷ 102 ∷ 117 ∷ 115 ∷ 101 ∷ 100 ∷ []) ++ x)
+    (ap₂ (λ (x y : Text). x ++ line y) (field-is number) (field-is place) ∙ ended (field number) (field place))
 
 pub name-short : (p : ℕ) → length (getD names p []) ≤ 4
 name-short zero = omega arith

@@ -127,12 +127,14 @@ pub fn pin_line(text: &mut [u8], at: usize, terminal: usize) -> usize
 
 // The line of a refusal: its number and its place.
 pub fn refused_line(text: &mut [u8], at: usize, number: u8, place: usize) -> usize
-    requires { ⌜ (at + 80 ≤ length (now text)) × (place < 65536) ⌝ }
+    requires { ⌜ at + 80 ≤ length (now text) ⌝ }
     ensures { λ r. ⌜ Wrote (now (text .entry)) at (refusedLine number place) (now (text .exit)) r ⌝ }
 {
-    let mid = put_word(text, at, b"refused");
-    let end = put_field(text, mid, number as usize);
-    end_line(text, end, 1, place)
+    let first = put_word(text, at, b"refused");
+    let second = put_field(text, first, number as usize);
+    let end = put_field(text, second, place);
+    text[end] = b'\n';
+    end + 1
 }
 
 // The length of a record of a kind; 0 where the kind is unknown.

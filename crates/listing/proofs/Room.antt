@@ -10,11 +10,11 @@ use Rattle.calculus.specs.Terms.{partAt}
 use Rattle.calculus.specs.Listing.{Text, line, names}
 use Rattle.netlist.proofs.PartInputs.{inputs-few}
 use Rattle.lines.specs.Figure.{figure, figures}
-use Rattle.lines.specs.OneLine.{pointLine, partLine, wiredLine, pinLine}
+use Rattle.lines.specs.OneLine.{pointLine, partLine, wiredLine, pinLine, refusedLine}
 use Rattle.lines.specs.InBytes.{sizeAt, textOf, lineAt}
 use Rattle.lines.proofs.Decimal.{figure-few, figures-few}
 use Rattle.lines.proofs.Standing.{size-whole, size-room}
-use Rattle.lines.proofs.Texts.{point-text, part-text, wire-text, pin-text, name-short}
+use Rattle.lines.proofs.Texts.{point-text, part-text, wire-text, pin-text, refused-text, name-short}
 
 pub within : (s : List ℕ) (at : ℕ) → (sizeAt s at ≡ 0 → ⊥) → at + sizeAt s at ≤ length s
 within s at some = let r = size-room s at some in rw (← size-whole s at r) r
@@ -41,6 +41,11 @@ wire-short from to =
 
 pin-short : (n : ℕ) → length (pinLine n) ≤ 80
 pin-short n = let k = figures-few 1 n in rw (← pin-text n) (omega (arith, line-length (figures 1 n)))
+
+pub refused-short : (number place : ℕ) → length (refusedLine number place) ≤ 80
+refused-short number place =
+    rw (← refused-text number place)
+    (omega (arith, length-append (figure number) (line (32 ∷ figure place)), line-length (32 ∷ figure place), figure-few number, figure-few place))
 
 -- both of two texts are short, so either is
 either : (b : Bool) (x y : Text) → length x ≤ 80 → length y ≤ 80 → length (cond b x y) ≤ 80

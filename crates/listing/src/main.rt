@@ -41,11 +41,9 @@ fn netlist(heading: &[u8], net: &[u8]) {
 }
 
 fn refused(number: u8, place: usize) {
-    io::write_all(1, b"refused ");
-    io::print_decimal(1, number as u64);
-    io::write_all(1, b" ");
-    io::print_decimal(1, place as u64);
-    io::write_all(1, b"\n");
+    let mut text = io::buffer();
+    let n = lines::refused_line(&mut text, 0, number, place);
+    io::write_all(1, &text[..n]);
 }
 
 // One netlist behind its heading, or the refusal. False where the sheet is refused.
