@@ -49,9 +49,9 @@ fn refused_at_the_last_node() -> Vec<u8> {
     sheet
 }
 
-/// 256 types, all different, and the smallest term.
-fn types_256() -> Vec<u8> {
-    table(256).sheet(&constant(0, 0))
+/// So many types, all different, and the smallest term.
+fn types(count: usize) -> Vec<u8> {
+    table(count).sheet(&constant(0, 0))
 }
 
 pub fn classes() -> Vec<Class> {
@@ -66,7 +66,8 @@ pub fn classes() -> Vec<Class> {
         Class::one("8,192 terminals", crowd(8192)),
         Class::one("ring of 4,096 points", ring_4096()),
         Class::one("chain of 4,095 points", chain_4095()),
-        Class::one("256 types", types_256()),
+        Class::one("128 types", types(128)),
+        Class::one("256 types", types(256)),
         Class::new("chains of arrows", vec![deep_type(), high_order()]),
         Class::one("refused early (4)", vec![0; 100]),
         Class::one("refused late (10)", refused_at_the_last_node()),

@@ -7,6 +7,7 @@ use crate::timing::{medians, ROUNDS};
 use crate::worst::{chain_4095, ordinary, ring_4096};
 use second::sheet::MEMORY;
 use second::translate::translate_into;
+use std::cell::RefCell;
 use std::hint::black_box;
 
 /// Nanoseconds a sheet.
@@ -22,34 +23,36 @@ fn netlists(class: &Class, lean: bool) -> Vec<Vec<u8>> {
     class.sheets.iter().map(|sheet| made(sheet).unwrap_or_default()).collect()
 }
 
-/// Both netlists of a class, all jobs in turn.
+/// Both netlists of a class, all jobs in turn, on the same output and working memory: how fast they
+/// are cleared depends on where they lie.
 fn times(class: &Class) -> [Times; 2] {
-    let storage = || (vec![0u8; class.room], vec![0u16; MEMORY]);
+    let storage = RefCell::new((vec![0u8; class.room], vec![0u16; MEMORY]));
+    let lent = &storage;
     let proved = |lean: bool| {
-        let (mut out, mut work) = storage();
         move || {
+            let (out, work) = &mut *lent.borrow_mut();
             for sheet in &class.sheets {
-                black_box(linked::translate(black_box(sheet), &mut out, &mut work, lean));
+                black_box(linked::translate(black_box(sheet), out, work, lean));
             }
         }
     };
     let second = |lean: bool| {
-        let (mut out, mut work) = storage();
         move || {
+            let (out, work) = &mut *lent.borrow_mut();
             for sheet in &class.sheets {
-                let _ = black_box(translate_into(black_box(sheet), lean, &mut out, &mut work));
+                let _ = black_box(translate_into(black_box(sheet), lean, out, work));
             }
         }
     };
     let limit = |lean: bool| {
-        let (mut out, mut work) = storage();
         let written = netlists(class, lean);
         move || {
+            let (out, work) = &mut *lent.borrow_mut();
             for (sheet, netlist) in class.sheets.iter().zip(&written) {
                 black_box(read_once(black_box(sheet)));
                 out[..netlist.len()].copy_from_slice(black_box(netlist));
                 work.fill(0);
-                black_box((&mut out, &mut work));
+                black_box((&mut *out, &mut *work));
             }
         }
     };

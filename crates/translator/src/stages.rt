@@ -83,9 +83,11 @@ pub fn run(sheet: &[u8], out: &mut [u8], work: &mut [u16], lean: bool) -> Answer
 {
     let r = sheet::read(sheet);
     let verdict = r.verdict;
-    let sizes = r.sizes;
     match verdict {
         Verdict::Refused(number, place) => Answer::Refused(number, place),
-        Verdict::Read(_, nodes, start) => checked(sheet, &sizes, out, work, lean, nodes, start),
+        Verdict::Read(_, nodes, start) => {
+            let sizes = r.sizes;
+            checked(sheet, &sizes, out, work, lean, nodes, start)
+        }
     }
 }

@@ -25,7 +25,7 @@ slice-aggregate-checked c = search needs
 -- src/stages.rt:66:43
 checked-requires : tie.Need-checked-requires
 checked-requires c κs =
-    let v = c .before .before .before .before in
+    let v = c .before .before .before .before .before in
     let r = c .before .before .before .before .before .before .before in
     let q = c .before .before .before .before .before .before .before .before .before .before .before in
     (q .pre, record { types = _; told = told (q .args .sheet .now) (r .read .result) _ _ _ (r .read .ensures) (v .verdict2 .given .1) })
@@ -33,8 +33,8 @@ checked-requires c κs =
 -- src/stages.rt:56:1
 returns : tie.Need-returns
 returns c =
-    let r = c .before .before .before .before in
-    let q = c .before .before .before .before .before .before .before .before in
+    let r = c .before .before .before in
+    let q = c .before .before .before .before .before .before .before in
     let a = q .args in
     (unread-says (a .sheet .now) (a .lean) (a .out .now) _ _ (untold (a .sheet .now) (r .read .result) _ _ (r .read .ensures) (c .before .verdict .given .1)), refl)
 
