@@ -93,7 +93,7 @@ module _ (m : Net) where
   root-steps zero o = refl
   root-steps (suc k) o = root-steps k (back m o) ∙ root-back o
 
-  lowest-reached : (k p : ℕ) → (j : ℕ) × (lowest k m p p ≡ backs j m p)
+  pub lowest-reached : (k p : ℕ) → (j : ℕ) × (lowest k m p p ≡ backs j m p)
   lowest-reached k p = ⊎-elim (λ e. (0, e)) (λ (x : (j : ℕ) × (j < k) × (lowest k m p p ≡ backs j m p)). (x .0, x .2)) (lowest-is k p p)
 
   -- the root is some steps back, as many as there are points or more

@@ -15,7 +15,7 @@ use Rattle.calculus.specs.Formed.{Tiled}
 use Rattle.memory.specs.Map.{region, elementsFrom}
 use Rattle.netlist.specs.Elements.{after, afterAll}
 use Rattle.netlist.proofs.Elements.{kinds-tiled, tiled-end}
-use Rattle.netlist.proofs.InMemory.{region-length}
+use Rattle.laws.proofs.Regions.{region-length}
 use Rattle.lean.specs.Table.{outputOf}
 
 -- no kind from 7 on is a part's

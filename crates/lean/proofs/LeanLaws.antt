@@ -16,7 +16,7 @@ use Rattle.calculus.specs.Formed.{is, ins, made, isOut, Shown}
 use Rattle.memory.specs.Map.{region, terminalOf, netIn}
 use Rattle.netlist.specs.Said.{wire}
 use Rattle.netlist.specs.Elements.{afterAll}
-use Rattle.netlist.proofs.InMemory.{region-length, region-at}
+use Rattle.laws.proofs.Regions.{region-length, region-at}
 use Rattle.netlist.proofs.Records as records
 use Rattle.lean.specs.Table.{entry, Whole}
 use Rattle.lean.specs.InMemory.{undriven, keepIn, inputIn, inputsIn, elementIn, wiresIn, pinIn, keptRow, wireRow, pinRow}

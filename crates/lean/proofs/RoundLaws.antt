@@ -14,7 +14,7 @@ use Rattle.calculus.specs.Net.{Element, point, part, Net}
 use Rattle.calculus.specs.Lean.{pointCount, back, backs, lowest, root}
 use Rattle.calculus.specs.Formed.{isOut, Rising}
 use Rattle.circuit_theorems.proofs.Rings.{Round, count}
-use Rattle.circuit_theorems.proofs.RootLaws.{lowest-is, backs-back, still, root-steps, ring-reached, ring-le, root-lowest}
+use Rattle.circuit_theorems.proofs.RootLaws.{lowest-reached, backs-back, still, root-steps, ring-reached, ring-le, root-lowest}
 use Rattle.memory.specs.Map.{netIn}
 use Rattle.lean.specs.Table.{entry, Partly, Comes, Met}
 use Rattle.lean.proofs.DriverLaws.{rising}
@@ -27,11 +27,8 @@ points-few (point i ∷ es) n e a = let l = a .0 in omega (arith, points-few es 
 points-few (part p i ∷ es) n e a = let l = a .0 in omega (arith, points-few es (i + partAt p .inputs + 1) e (a .1))
 
 module _ (m : Net) where
-  lowest-at : (k x : ℕ) → (j : ℕ) × (lowest k m x x ≡ backs j m x)
-  lowest-at k x = ⊎-elim (λ z. (0, z)) (λ (y : (j : ℕ) × (j < k) × (lowest k m x x ≡ backs j m x)). (y .0, y .2)) (lowest-is m k x x)
-
   round-le : (a b x : ℕ) → Round m a x → lowest a m x x ≤ lowest b m x x
-  round-le a b x r = let (j, z) = lowest-at b x in subst (λ (y : ℕ). lowest a m x x ≤ y) (sym z) (ring-le m a j x r)
+  round-le a b x r = let (j, z) = lowest-reached m b x in subst (λ (y : ℕ). lowest a m x x ≤ y) (sym z) (ring-le m a j x r)
 
   -- once round or more, the lowest is the root
   pub root-round : (x k : ℕ) → Comes m x → 8192 ≤ k → root m x ≡ lowest k m x x

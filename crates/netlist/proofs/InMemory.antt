@@ -6,7 +6,7 @@ use native.Mathlib.Omega.{arith}
 use native.Mathlib.Numerals.{add-one}
 use lib.ListN.{length, getD, drop, length-drop, length-map}
 use lib.Seq.{take-suc, getD-drop}
-pub use Rattle.laws.proofs.Regions.{region-length, region-at}
+use Rattle.laws.proofs.Regions.{region-length, region-at}
 use Rattle.calculus.specs.Net.{elementBytes, wireBytes, pinBytes, netBytes}
 use Rattle.calculus.specs.Record.{All}
 use Rattle.calculus.specs.Formed.{targets}

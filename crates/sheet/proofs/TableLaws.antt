@@ -15,6 +15,7 @@ use Rattle.laws.proofs.Tests.{T-is, and-both}
 use Rattle.calculus.specs.Types.{Ty, bit, size, sharable, isArrow, TyRec, rec01, rec02, rec03, rec04, recEq, Table, recAt, tyOf, tysFrom, tree}
 use Rattle.calculus.specs.Read.{known, formed, repeated}
 use Rattle.calculus.specs.Laid.{Agrees, TableOk}
+use Rattle.sheet_theorems.proofs.Tables.{tys-snoc, tys-length}
 use Rattle.records.specs.Forms.{recIn}
 use Rattle.sheet.specs.Tables.{tableIn, sharableRec, arrowRec, knownBelow, formedIn, sizeIn, sizesOf}
 
@@ -107,14 +108,6 @@ module _ (s : List ℕ) (n : ℕ) (ok : TableOk (tableIn s n)) where
   formed-by (rec04 a b) k = arrow-in a (both-lt a b n k .0)
 
 -- ---- sizes
-
-tys-snoc : (acc : List Ty) (Θ : Table) (r : TyRec) → tysFrom acc (Θ ++ r ∷ []) ≡ tysFrom acc Θ ++ tyOf (tysFrom acc Θ) r ∷ []
-tys-snoc acc [] r = refl
-tys-snoc acc (q ∷ Θ) r = tys-snoc (acc ++ tyOf acc q ∷ []) Θ r
-
-tys-length : (acc : List Ty) (Θ : Table) → length (tysFrom acc Θ) ≡ length acc + length Θ
-tys-length acc [] = omega arith
-tys-length acc (q ∷ Θ) = omega (arith, tys-length (acc ++ tyOf acc q ∷ []) Θ, length-append acc (tyOf acc q ∷ []))
 
 sizes-front : (Θ : Table) → length (map size (tysFrom [] Θ)) ≡ length Θ
 sizes-front Θ = omega (arith, length-map (tysFrom [] Θ) size, tys-length [] Θ)

@@ -21,7 +21,7 @@ pub tys-snoc : (acc : List Ty) (Θ : Table) (r : TyRec) → tysFrom acc (Θ ++ r
 tys-snoc acc [] r = refl
 tys-snoc acc (q ∷ Θ) r = tys-snoc (acc ++ tyOf acc q ∷ []) Θ r
 
-tys-length : (acc : List Ty) (Θ : Table) → length (tysFrom acc Θ) ≡ length acc + length Θ
+pub tys-length : (acc : List Ty) (Θ : Table) → length (tysFrom acc Θ) ≡ length acc + length Θ
 tys-length acc [] = omega arith
 tys-length acc (q ∷ Θ) = omega (arith, tys-length (acc ++ tyOf acc q ∷ []) Θ, length-append acc (tyOf acc q ∷ []))
 

@@ -5,7 +5,7 @@ use mathlib.Core.List.{List}
 use Prim.Native.Nat.{ℕ, _≤_, _-_, _+_, _*_}
 use lib.ListN.{length}
 use Rattle.memory.specs.Map.{region}
-use Rattle.netlist.proofs.InMemory.{region-length}
+use Rattle.laws.proofs.Regions.{region-length}
 use Rattle.lean.specs.Table.{Whole}
 use Rattle.lean.proofs.SumLaws.{rowsSize, rows-most, Summing, summing-low, summing-most, summing-step, summing-end}
 use Rattle.lean.proofs.LeanLaws.{lean-length, kinds-low}
