@@ -8,9 +8,9 @@ use Rattle.calculus.specs.Net.{Net, Interface, inp, out, Element, point,
 use Rattle.calculus.specs.Lean.{lean}
 use Rattle.calculus.specs.Translate.{full, answer}
 
-infix 80 _-_
-abbrev _-_ : ℕ → ℕ → Wire
-o - i = record { from = o; to = i }
+infix 80 _⟶_
+abbrev _⟶_ : ℕ → ℕ → Wire
+o ⟶ i = record { from = o; to = i }
 
 abbrev net : List Element → List Wire → Interface → Net
 net es ws ps = record { elements = es; wires = ws; pins = ps }
@@ -33,59 +33,80 @@ row s f fb l lb = record { sheet = s; result = good (record { full = f; fullByte
 abbrev refusal : List ℕ → ℕ → ℕ → Row
 refusal s number place = record { sheet = s; result = refused number place }
 
-unfoldable pub table : List Row
-table =
-    -- P1
+abbrev pub P1 : Row
+P1 =
     row (0x01 ∷ 0x1A ∷ 0x00 ∷ 0x00 ∷ [])
     (net (part 0 0 ∷ []) [] (out 0 ∷ []))
     (0x22 ∷ 0 ∷ 0 ∷ 0 ∷ 0x24 ∷ 0 ∷ 0 ∷ [])
     (net (part 0 0 ∷ []) [] (out 0 ∷ []))
     (0x22 ∷ 0 ∷ 0 ∷ 0 ∷ 0x24 ∷ 0 ∷ 0 ∷ [])
-    -- P2
-    ∷ row (0x01 ∷ 0x03 ∷ 0x00 ∷ 0x00 ∷ 0x13 ∷ 0x01 ∷ 0x11 ∷ 0x00 ∷ [])
+
+abbrev pub P2 : Row
+P2 =
+    row (0x01 ∷ 0x03 ∷ 0x00 ∷ 0x00 ∷ 0x13 ∷ 0x01 ∷ 0x11 ∷ 0x00 ∷ [])
     (net (point 0 ∷ []) [] (inp 0 ∷ out 1 ∷ []))
     (0x21 ∷ 0 ∷ 0 ∷ 0x24 ∷ 0 ∷ 0 ∷ 0x24 ∷ 1 ∷ 0 ∷ [])
     (net (point 0 ∷ []) [] (inp 0 ∷ out 1 ∷ []))
     (0x21 ∷ 0 ∷ 0 ∷ 0x24 ∷ 0 ∷ 0 ∷ 0x24 ∷ 1 ∷ 0 ∷ [])
-    -- P3
-    ∷ row (0x01 ∷ 0x03 ∷ 0x00 ∷ 0x00 ∷ 0x04 ∷ 0x01 ∷ 0x00 ∷ 0x16 ∷ 0x15 ∷ 0x02 ∷ 0x14 ∷ 0x12 ∷ 0x00 ∷ 0x1A ∷ 0x00 ∷ 0x00 ∷ 0x1A ∷ 0x01 ∷ 0x01 ∷ [])
-    (net (point 0 ∷ point 2 ∷ part 0 4 ∷ part 1 5 ∷ []) (4 - 0 ∷ 1 - 5 ∷ 6 - 2 ∷ []) (out 3 ∷ []))
+
+abbrev pub P3 : Row
+P3 =
+    row (0x01 ∷ 0x03 ∷ 0x00 ∷ 0x00 ∷ 0x04 ∷ 0x01 ∷ 0x00 ∷ 0x16 ∷ 0x15 ∷ 0x02 ∷ 0x14 ∷ 0x12 ∷ 0x00 ∷ 0x1A ∷ 0x00 ∷ 0x00 ∷ 0x1A ∷ 0x01 ∷ 0x01 ∷ [])
+    (net (point 0 ∷ point 2 ∷ part 0 4 ∷ part 1 5 ∷ []) (4 ⟶ 0 ∷ 1 ⟶ 5 ∷ 6 ⟶ 2 ∷ []) (out 3 ∷ []))
     (0x21 ∷ 0 ∷ 0 ∷ 0x21 ∷ 2 ∷ 0 ∷ 0x22 ∷ 0 ∷ 4 ∷ 0 ∷ 0x22 ∷ 1 ∷ 5 ∷ 0 ∷ 0x23 ∷ 4 ∷ 0 ∷ 0 ∷ 0 ∷ 0x23 ∷ 1 ∷ 0 ∷ 5 ∷ 0 ∷ 0x23 ∷ 6 ∷ 0 ∷ 2 ∷ 0 ∷ 0x24 ∷ 3 ∷ 0 ∷ [])
-    (net (part 0 4 ∷ part 1 5 ∷ []) (4 - 5 ∷ []) (out 6 ∷ []))
+    (net (part 0 4 ∷ part 1 5 ∷ []) (4 ⟶ 5 ∷ []) (out 6 ∷ []))
     (0x22 ∷ 0 ∷ 4 ∷ 0 ∷ 0x22 ∷ 1 ∷ 5 ∷ 0 ∷ 0x23 ∷ 4 ∷ 0 ∷ 5 ∷ 0 ∷ 0x24 ∷ 6 ∷ 0 ∷ [])
-    -- P4
-    ∷ row (0x01 ∷ 0x19 ∷ 0x00 ∷ 0x11 ∷ 0x00 ∷ [])
-    (net (point 0 ∷ []) (1 - 0 ∷ []) (out 1 ∷ []))
+
+abbrev pub P4 : Row
+P4 =
+    row (0x01 ∷ 0x19 ∷ 0x00 ∷ 0x11 ∷ 0x00 ∷ [])
+    (net (point 0 ∷ []) (1 ⟶ 0 ∷ []) (out 1 ∷ []))
     (0x21 ∷ 0 ∷ 0 ∷ 0x23 ∷ 1 ∷ 0 ∷ 0 ∷ 0 ∷ 0x24 ∷ 1 ∷ 0 ∷ [])
-    (net (point 0 ∷ []) (1 - 0 ∷ []) (out 1 ∷ []))
+    (net (point 0 ∷ []) (1 ⟶ 0 ∷ []) (out 1 ∷ []))
     (0x21 ∷ 0 ∷ 0 ∷ 0x23 ∷ 1 ∷ 0 ∷ 0 ∷ 0 ∷ 0x24 ∷ 1 ∷ 0 ∷ [])
-    -- P5
-    ∷ row (0x01 ∷ 0x03 ∷ 0x00 ∷ 0x00 ∷ 0x03 ∷ 0x00 ∷ 0x01 ∷ 0x13 ∷ 0x01 ∷ 0x14 ∷ 0x14 ∷ 0x1A ∷ 0x02 ∷ 0x02 ∷ 0x11 ∷ 0x00 ∷ 0x11 ∷ 0x00 ∷ [])
-    (net (point 0 ∷ part 2 2 ∷ []) (1 - 2 ∷ 1 - 3 ∷ []) (inp 0 ∷ out 4 ∷ []))
+
+abbrev pub P5 : Row
+P5 =
+    row (0x01 ∷ 0x03 ∷ 0x00 ∷ 0x00 ∷ 0x03 ∷ 0x00 ∷ 0x01 ∷ 0x13 ∷ 0x01 ∷ 0x14 ∷ 0x14 ∷ 0x1A ∷ 0x02 ∷ 0x02 ∷ 0x11 ∷ 0x00 ∷ 0x11 ∷ 0x00 ∷ [])
+    (net (point 0 ∷ part 2 2 ∷ []) (1 ⟶ 2 ∷ 1 ⟶ 3 ∷ []) (inp 0 ∷ out 4 ∷ []))
     (0x21 ∷ 0 ∷ 0 ∷ 0x22 ∷ 2 ∷ 2 ∷ 0 ∷ 0x23 ∷ 1 ∷ 0 ∷ 2 ∷ 0 ∷ 0x23 ∷ 1 ∷ 0 ∷ 3 ∷ 0 ∷ 0x24 ∷ 0 ∷ 0 ∷ 0x24 ∷ 4 ∷ 0 ∷ [])
-    (net (point 0 ∷ part 2 2 ∷ []) (1 - 2 ∷ 1 - 3 ∷ []) (inp 0 ∷ out 4 ∷ []))
+    (net (point 0 ∷ part 2 2 ∷ []) (1 ⟶ 2 ∷ 1 ⟶ 3 ∷ []) (inp 0 ∷ out 4 ∷ []))
     (0x21 ∷ 0 ∷ 0 ∷ 0x22 ∷ 2 ∷ 2 ∷ 0 ∷ 0x23 ∷ 1 ∷ 0 ∷ 2 ∷ 0 ∷ 0x23 ∷ 1 ∷ 0 ∷ 3 ∷ 0 ∷ 0x24 ∷ 0 ∷ 0 ∷ 0x24 ∷ 4 ∷ 0 ∷ [])
-    -- P6
-    ∷ row (0x01 ∷ 0x03 ∷ 0x00 ∷ 0x00 ∷ 0x03 ∷ 0x00 ∷ 0x01 ∷ 0x19 ∷ 0x00 ∷ 0x14 ∷ 0x14 ∷ 0x1A ∷ 0x02 ∷ 0x02 ∷ 0x1A ∷ 0x00 ∷ 0x00 ∷ 0x14 ∷ 0x1A ∷ 0x01 ∷ 0x01 ∷ 0x11 ∷ 0x00 ∷ [])
-    (net (point 0 ∷ part 2 2 ∷ part 0 5 ∷ part 1 6 ∷ []) (5 - 2 ∷ 1 - 6 ∷ 7 - 3 ∷ 4 - 0 ∷ []) (out 4 ∷ []))
+
+abbrev pub P6 : Row
+P6 =
+    row (0x01 ∷ 0x03 ∷ 0x00 ∷ 0x00 ∷ 0x03 ∷ 0x00 ∷ 0x01 ∷ 0x19 ∷ 0x00 ∷ 0x14 ∷ 0x14 ∷ 0x1A ∷ 0x02 ∷ 0x02 ∷ 0x1A ∷ 0x00 ∷ 0x00 ∷ 0x14 ∷ 0x1A ∷ 0x01 ∷ 0x01 ∷ 0x11 ∷ 0x00 ∷ [])
+    (net (point 0 ∷ part 2 2 ∷ part 0 5 ∷ part 1 6 ∷ []) (5 ⟶ 2 ∷ 1 ⟶ 6 ∷ 7 ⟶ 3 ∷ 4 ⟶ 0 ∷ []) (out 4 ∷ []))
     (0x21 ∷ 0 ∷ 0 ∷ 0x22 ∷ 2 ∷ 2 ∷ 0 ∷ 0x22 ∷ 0 ∷ 5 ∷ 0 ∷ 0x22 ∷ 1 ∷ 6 ∷ 0 ∷ 0x23 ∷ 5 ∷ 0 ∷ 2 ∷ 0 ∷ 0x23 ∷ 1 ∷ 0 ∷ 6 ∷ 0 ∷ 0x23 ∷ 7 ∷ 0 ∷ 3 ∷ 0 ∷ 0x23 ∷ 4 ∷ 0 ∷ 0 ∷ 0 ∷ 0x24 ∷ 4 ∷ 0 ∷ [])
-    (net (part 2 2 ∷ part 0 5 ∷ part 1 6 ∷ []) (5 - 2 ∷ 7 - 3 ∷ 4 - 6 ∷ []) (out 4 ∷ []))
+    (net (part 2 2 ∷ part 0 5 ∷ part 1 6 ∷ []) (5 ⟶ 2 ∷ 7 ⟶ 3 ∷ 4 ⟶ 6 ∷ []) (out 4 ∷ []))
     (0x22 ∷ 2 ∷ 2 ∷ 0 ∷ 0x22 ∷ 0 ∷ 5 ∷ 0 ∷ 0x22 ∷ 1 ∷ 6 ∷ 0 ∷ 0x23 ∷ 5 ∷ 0 ∷ 2 ∷ 0 ∷ 0x23 ∷ 7 ∷ 0 ∷ 3 ∷ 0 ∷ 0x23 ∷ 4 ∷ 0 ∷ 6 ∷ 0 ∷ 0x24 ∷ 4 ∷ 0 ∷ [])
-    -- P7
-    ∷ row (0x01 ∷ 0x02 ∷ 0x00 ∷ 0x00 ∷ 0x19 ∷ 0x01 ∷ 0x18 ∷ 0x11 ∷ 0x00 ∷ 0x17 ∷ 0x01 ∷ 0x11 ∷ 0x00 ∷ 0x11 ∷ 0x01 ∷ [])
-    (net (point 0 ∷ point 2 ∷ []) (3 - 0 ∷ 1 - 2 ∷ []) (out 3 ∷ out 1 ∷ []))
+
+abbrev pub P7 : Row
+P7 =
+    row (0x01 ∷ 0x02 ∷ 0x00 ∷ 0x00 ∷ 0x19 ∷ 0x01 ∷ 0x18 ∷ 0x11 ∷ 0x00 ∷ 0x17 ∷ 0x01 ∷ 0x11 ∷ 0x00 ∷ 0x11 ∷ 0x01 ∷ [])
+    (net (point 0 ∷ point 2 ∷ []) (3 ⟶ 0 ∷ 1 ⟶ 2 ∷ []) (out 3 ∷ out 1 ∷ []))
     (0x21 ∷ 0 ∷ 0 ∷ 0x21 ∷ 2 ∷ 0 ∷ 0x23 ∷ 3 ∷ 0 ∷ 0 ∷ 0 ∷ 0x23 ∷ 1 ∷ 0 ∷ 2 ∷ 0 ∷ 0x24 ∷ 3 ∷ 0 ∷ 0x24 ∷ 1 ∷ 0 ∷ [])
-    (net (point 0 ∷ []) (1 - 0 ∷ []) (out 1 ∷ out 1 ∷ []))
+    (net (point 0 ∷ []) (1 ⟶ 0 ∷ []) (out 1 ∷ out 1 ∷ []))
     (0x21 ∷ 0 ∷ 0 ∷ 0x23 ∷ 1 ∷ 0 ∷ 0 ∷ 0 ∷ 0x24 ∷ 1 ∷ 0 ∷ 0x24 ∷ 1 ∷ 0 ∷ [])
-    -- P8
-    ∷ refusal (0x01 ∷ 0x03 ∷ 0x00 ∷ 0x00 ∷ 0x04 ∷ 0x01 ∷ 0x00 ∷ 0x15 ∷ 0x02 ∷ 0x14 ∷ 0x12 ∷ 0x00 ∷ 0x14 ∷ 0x12 ∷ 0x00 ∷ 0x1A ∷ 0x00 ∷ 0x00 ∷ []) 13 4
-    -- P9
-    ∷ refusal (0x01 ∷ 0x03 ∷ 0x00 ∷ 0x00 ∷ 0x04 ∷ 0x01 ∷ 0x00 ∷ 0x15 ∷ 0x02 ∷ 0x1A ∷ 0x00 ∷ 0x00 ∷ []) 14 0
-    -- P10
-    ∷ refusal [] 3 0
-    -- P11
-    ∷ refusal (0x01 ∷ 0x14 ∷ 0x1A ∷ 0x00 ∷ 0x00 ∷ 0x1A ∷ 0x00 ∷ 0x00 ∷ []) 12 0
-    ∷ []
+
+abbrev pub P8 : Row
+P8 =
+    refusal (0x01 ∷ 0x03 ∷ 0x00 ∷ 0x00 ∷ 0x04 ∷ 0x01 ∷ 0x00 ∷ 0x15 ∷ 0x02 ∷ 0x14 ∷ 0x12 ∷ 0x00 ∷ 0x14 ∷ 0x12 ∷ 0x00 ∷ 0x1A ∷ 0x00 ∷ 0x00 ∷ []) 13 4
+
+abbrev pub P9 : Row
+P9 =
+    refusal (0x01 ∷ 0x03 ∷ 0x00 ∷ 0x00 ∷ 0x04 ∷ 0x01 ∷ 0x00 ∷ 0x15 ∷ 0x02 ∷ 0x1A ∷ 0x00 ∷ 0x00 ∷ []) 14 0
+
+abbrev pub P10 : Row
+P10 =
+    refusal [] 3 0
+
+abbrev pub P11 : Row
+P11 =
+    refusal (0x01 ∷ 0x14 ∷ 0x1A ∷ 0x00 ∷ 0x00 ∷ 0x1A ∷ 0x00 ∷ 0x00 ∷ []) 12 0
+
+unfoldable pub table : List Row
+table = P1 ∷ P2 ∷ P3 ∷ P4 ∷ P5 ∷ P6 ∷ P7 ∷ P8 ∷ P9 ∷ P10 ∷ P11 ∷ []
 
 -- ---- what the definitions answer
 

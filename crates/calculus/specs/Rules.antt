@@ -42,15 +42,80 @@ pub data Split : Ctx → Ctx → Ctx → Type 0 where
   split-second : {κ : Ty} {Γ Γ₁ Γ₂ : Ctx} → Split Γ Γ₁ Γ₂ → Split (once κ ∷ Γ) (away ∷ Γ₁) (once κ ∷ Γ₂)
   split-away : {Γ Γ₁ Γ₂ : Ctx} → Split Γ Γ₁ Γ₂ → Split (away ∷ Γ) (away ∷ Γ₁) (away ∷ Γ₂)
 
--- Γ; Δ ⊢ e : τ, over the sheet's table of types: a written type must equal the one that the rule gives
+-- Γ; Δ ⊢ e : τ, over the sheet's table of types: a written type must equal the one that the rule gives. Γ; Δ is the one context Γ. Each
+-- rule is set as in the figure, its premises one below the other; θ stands for sharable types, κ for arrows
 pub data Typed (Θ : Table) : Ctx → Term → Ty → Type 0 where
-  Var : {Γ : Ctx} {i : ℕ} {θ : Ty} → InΓ Γ i θ → Typed Θ Γ (var i) θ
-  LVar : {Γ : Ctx} {i : ℕ} {κ : Ty} → IsΔ Γ i κ → Typed Θ Γ (lvar i) κ
-  →I : {Γ : Ctx} {t : ℕ} {e : Term} {θ τ : Ty} → tree Θ t ≡ arrow θ τ → T (sharable θ) → Typed Θ (many θ ∷ Γ) e τ → Typed Θ Γ (fun t e) (arrow θ τ)
-  →E : {Γ Γ₁ Γ₂ : Ctx} {f a : Term} {θ τ : Ty} → Split Γ Γ₁ Γ₂ → Typed Θ Γ₁ f (arrow θ τ) → Typed Θ Γ₂ a θ → Typed Θ Γ (app f a) τ
-  ⊸I : {Γ : Ctx} {t : ℕ} {e : Term} {κ τ : Ty} → tree Θ t ≡ lolli κ τ → T (isArrow κ) → Typed Θ (once κ ∷ Γ) e τ → Typed Θ Γ (lfun t e) (lolli κ τ)
-  ⊸E : {Γ Γ₁ Γ₂ : Ctx} {f a : Term} {κ τ : Ty} → Split Γ Γ₁ Γ₂ → Typed Θ Γ₁ f (lolli κ τ) → Typed Θ Γ₂ a κ → Typed Θ Γ (lapp f a) τ
-  ×I : {Γ Γ₁ Γ₂ : Ctx} {t : ℕ} {a b : Term} {θ₁ θ₂ : Ty} → Split Γ Γ₁ Γ₂ → tree Θ t ≡ prod θ₁ θ₂ → T (sharable θ₁) → T (sharable θ₂) → Typed Θ Γ₁ a θ₁ → Typed Θ Γ₂ b θ₂ → Typed Θ Γ (pair t a b) (prod θ₁ θ₂)
-  ×E : {Γ Γ₁ Γ₂ : Ctx} {a e : Term} {θ₁ θ₂ τ : Ty} → Split Γ Γ₁ Γ₂ → T (sharable θ₁) → T (sharable θ₂) → Typed Θ Γ₁ a (prod θ₁ θ₂) → Typed Θ (many θ₂ ∷ many θ₁ ∷ Γ₂) e τ → Typed Θ Γ (proj a e) τ
-  Fix : {Γ : Ctx} {t : ℕ} {e : Term} {θ : Ty} → tree Θ t ≡ θ → T (sharable θ) → Typed Θ (many θ ∷ Γ) e θ → Typed Θ Γ (fix t e) θ
-  Con : {Γ : Ctx} {p t : ℕ} → p < length parts → tree Θ t ≡ partAt p .type → NoLinear Γ → Typed Θ Γ (con p t) (partAt p .type)
+  Var :
+      {Γ : Ctx} {i : ℕ} {θ : Ty}
+      → InΓ Γ i θ
+      -- ---------------------------------------------
+      → Typed Θ Γ (var i) θ
+  LVar :
+      {Γ : Ctx} {i : ℕ} {κ : Ty}
+      → IsΔ Γ i κ
+      -- ---------------------------------------------
+      → Typed Θ Γ (lvar i) κ
+  →I :
+      {Γ : Ctx} {t : ℕ} {e : Term} {θ τ : Ty}
+      → tree Θ t ≡ arrow θ τ
+      → T (sharable θ)
+      → Typed Θ (many θ ∷ Γ) e τ
+      -- ---------------------------------------------
+      → Typed Θ Γ (fun t e) (arrow θ τ)
+  →E :
+      {Γ Γ₁ Γ₂ : Ctx} {f a : Term} {θ τ : Ty}
+      → Split Γ Γ₁ Γ₂
+      → T (sharable θ)
+      → Typed Θ Γ₁ f (arrow θ τ)
+      → Typed Θ Γ₂ a θ
+      -- ---------------------------------------------
+      → Typed Θ Γ (app f a) τ
+  ⊸I :
+      {Γ : Ctx} {t : ℕ} {e : Term} {κ τ : Ty}
+      → tree Θ t ≡ lolli κ τ
+      → T (isArrow κ)
+      → Typed Θ (once κ ∷ Γ) e τ
+      -- ---------------------------------------------
+      → Typed Θ Γ (lfun t e) (lolli κ τ)
+  ⊸E :
+      {Γ Γ₁ Γ₂ : Ctx} {f a : Term} {κ τ : Ty}
+      → Split Γ Γ₁ Γ₂
+      → T (isArrow κ)
+      → Typed Θ Γ₁ f (lolli κ τ)
+      → Typed Θ Γ₂ a κ
+      -- ---------------------------------------------
+      → Typed Θ Γ (lapp f a) τ
+  ×I :
+      {Γ Γ₁ Γ₂ : Ctx} {t : ℕ} {a b : Term} {θ₁ θ₂ : Ty}
+      → Split Γ Γ₁ Γ₂
+      → tree Θ t ≡ prod θ₁ θ₂
+      → T (sharable θ₁)
+      → T (sharable θ₂)
+      → Typed Θ Γ₁ a θ₁
+      → Typed Θ Γ₂ b θ₂
+      -- ---------------------------------------------
+      → Typed Θ Γ (pair t a b) (prod θ₁ θ₂)
+  ×E :
+      {Γ Γ₁ Γ₂ : Ctx} {a e : Term} {θ₁ θ₂ τ : Ty}
+      → Split Γ Γ₁ Γ₂
+      → T (sharable θ₁)
+      → T (sharable θ₂)
+      → Typed Θ Γ₁ a (prod θ₁ θ₂)
+      → Typed Θ (many θ₂ ∷ many θ₁ ∷ Γ₂) e τ
+      -- ---------------------------------------------
+      → Typed Θ Γ (proj a e) τ
+  Fix :
+      {Γ : Ctx} {t : ℕ} {e : Term} {θ : Ty}
+      → tree Θ t ≡ θ
+      → T (sharable θ)
+      → Typed Θ (many θ ∷ Γ) e θ
+      -- ---------------------------------------------
+      → Typed Θ Γ (fix t e) θ
+  -- a constant has its part's type and an empty linear context
+  Con :
+      {Γ : Ctx} {p t : ℕ}
+      → p < length parts
+      → tree Θ t ≡ partAt p .type
+      → NoLinear Γ
+      -- ---------------------------------------------
+      → Typed Θ Γ (con p t) (partAt p .type)

@@ -277,14 +277,14 @@ term-driven (Var x) env v n = var-driven n (shown-shared x v)
 term-driven (LVar x) env v n = var-driven n (shown-linear x v)
 term-driven {Θ} (→I {t = t} {e = e} {θ = θ} {τ = τ} eτ sh d) env v n =
     rw eτ (fun-driven θ τ n (make Θ e (binder θ n ∷ env) (n + 2 * size θ)) sh (term-driven d (binder θ n ∷ env) (env-many sh (binder-fits θ n) v) (n + 2 * size θ)))
-term-driven {Θ} (→E {f = f} {a = a} {θ = θ} {τ = τ} z d c) env v n =
+term-driven {Θ} (→E {f = f} {a = a} {θ = θ} {τ = τ} z sh d c) env v n =
     let (p, q) = split-env z v in
     let x = term-driven d env p n in
     let m = make Θ f env n in
     app-driven z θ τ m (make Θ a env (m .next)) (ap leftOf (x .type)) (ap rightOf (x .type)) (x .dirs) (x .count) (term-driven c env q (m .next))
 term-driven {Θ} (⊸I {t = t} {e = e} {κ = κ} {τ = τ} eτ ar d) env v n =
     rw eτ (lfun-driven κ τ n (make Θ e (binder κ n ∷ env) (n + 2 * size κ)) (term-driven d (binder κ n ∷ env) (env-once (binder-fits κ n) v) (n + 2 * size κ)))
-term-driven {Θ} (⊸E {f = f} {a = a} {κ = κ} {τ = τ} z d c) env v n =
+term-driven {Θ} (⊸E {f = f} {a = a} {κ = κ} {τ = τ} z ar d c) env v n =
     let (p, q) = split-env z v in
     let x = term-driven d env p n in
     let m = make Θ f env n in

@@ -27,13 +27,13 @@ made-known (LVar i) env n = tt
 made-known {Θ} {e = fun t e} (→I w s d) env n =
     let θ = leftOf (tree Θ t) in
     behind θ n (make Θ e (binder θ n ∷ env) (n + 2 * size θ)) (made-known d (binder θ n ∷ env) (n + 2 * size θ))
-made-known {Θ} {e = app f a} (→E s d c) env n =
+made-known {Θ} {e = app f a} (→E s sh d c) env n =
     let x = make Θ f env n in
     both x (make Θ a env (x .next)) (made-known d env n) (made-known c env (x .next))
 made-known {Θ} {e = lfun t e} (⊸I w s d) env n =
     let κ = leftOf (tree Θ t) in
     behind κ n (make Θ e (binder κ n ∷ env) (n + 2 * size κ)) (made-known d (binder κ n ∷ env) (n + 2 * size κ))
-made-known {Θ} {e = lapp f a} (⊸E s d c) env n =
+made-known {Θ} {e = lapp f a} (⊸E s ar d c) env n =
     let x = make Θ f env n in
     both x (make Θ a env (x .next)) (made-known d env n) (made-known c env (x .next))
 made-known {Θ} {e = pair t a b} (×I s w p q d c) env n =

@@ -160,13 +160,13 @@ module _ (Θ : Table) (ok : TableOk Θ) where
   complete (→I {t = t} {e = e} {θ = θ} {τ = τ} eτ sh d) g n {st} {st′} s k =
       let p = parts-arrow t (g .0) eτ in
       fun-walk t e n st st′ θ τ (g .0) eτ p (complete d (g .1) (n + 1) (rw (p .left-is) at (step-shared {t = p .left} s)) (p .left-in, k))
-  complete (→E {f = f} {a = a} {θ = θ} {τ = τ} z d c) g n {st} {st′} s k =
+  complete (→E {f = f} {a = a} {θ = θ} {τ = τ} z sh d c) g n {st} {st′} s k =
       let (m, p, q) = between z s in
       app-walk f a n st m st′ θ τ (complete d (g .0) (n + 1) p k) (complete c (g .1) (n + 1 + nodes f) q (numbers-step (length Θ) p k))
   complete (⊸I {t = t} {e = e} {κ = κ} {τ = τ} eτ ar d) g n {st} {st′} s k =
       let p = parts-lolli t (g .0) eτ in
       lfun-walk t e n st st′ κ τ (g .0) eτ p (complete d (g .1) (n + 1) (rw (p .left-is) at (step-took {t = p .left} s)) (p .left-in, k))
-  complete (⊸E {f = f} {a = a} {κ = κ} {τ = τ} z d c) g n {st} {st′} s k =
+  complete (⊸E {f = f} {a = a} {κ = κ} {τ = τ} z ar d c) g n {st} {st′} s k =
       let (m, p, q) = between z s in
       lapp-walk f a n st m st′ κ τ (complete d (g .0) (n + 1) p k) (complete c (g .1) (n + 1 + nodes f) q (numbers-step (length Θ) p k))
   complete (×I {t = t} {a = a} {b = b} {θ₁ = θ₁} {θ₂ = θ₂} z eτ s₁ s₂ d c) g n {st} {st′} s k =

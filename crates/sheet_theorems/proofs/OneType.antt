@@ -67,9 +67,9 @@ pub one-type-alike : {Θ : Table} {Γ Γ′ : Ctx} {e : Term} {τ τ′ : Ty} �
 one-type-alike l (Var x) (Var y) = one-shared l x y
 one-type-alike l (LVar x) (LVar y) = one-linear l x y
 one-type-alike l (→I p sh d) (→I q sh′ d′) = sym p ∙ q
-one-type-alike l (→E z d c) (→E w d′ c′) = let (m, n) = split-alike l z w in arrow-right (one-type-alike m d d′)
+one-type-alike l (→E z sh d c) (→E w sh′ d′ c′) = let (m, n) = split-alike l z w in arrow-right (one-type-alike m d d′)
 one-type-alike l (⊸I p ar d) (⊸I q ar′ d′) = sym p ∙ q
-one-type-alike l (⊸E z d c) (⊸E w d′ c′) = let (m, n) = split-alike l z w in lolli-right (one-type-alike m d d′)
+one-type-alike l (⊸E z ar d c) (⊸E w ar′ d′ c′) = let (m, n) = split-alike l z w in lolli-right (one-type-alike m d d′)
 one-type-alike l (×I z p s₁ s₂ d c) (×I w q t₁ t₂ d′ c′) = sym p ∙ q
 one-type-alike l (×E z s₁ s₂ d c) (×E w t₁ t₂ d′ c′) =
     let (m, n) = split-alike l z w in

@@ -169,17 +169,17 @@ module _ (Θ : Table) (st : Stack) where
       let (Γ, eΓ, s) = pop-linear (d .step) u in
       record { ctx = Γ; step = s; typed = rw eτ (⊸I eτ ar (rw (eΓ, eb) at (d .typed))) }
 
-  app-rule : (l r : ℕ) (f a : Term) (x y : Found) → tree Θ (x .type) ≡ arrow (tree Θ l) (tree Θ r) → y .type ≡ l
+  app-rule : (l r : ℕ) (f a : Term) (x y : Found) → tree Θ (x .type) ≡ arrow (tree Θ l) (tree Θ r) → T (sharable (tree Θ l)) → y .type ≡ l
       → Derived Θ st f x → Derived Θ (x .stack) a y → Derived Θ st (app f a) (at-type r (y .stack))
-  app-rule l r f a x y eτ el d c =
+  app-rule l r f a x y eτ sh el d c =
       let (Γ, s, z) = both (d .step) (c .step) in
-      record { ctx = Γ; step = s; typed = →E z (rw eτ at (d .typed)) (rw el at (c .typed)) }
+      record { ctx = Γ; step = s; typed = →E z sh (rw eτ at (d .typed)) (rw el at (c .typed)) }
 
-  lapp-rule : (l r : ℕ) (f a : Term) (x y : Found) → tree Θ (x .type) ≡ lolli (tree Θ l) (tree Θ r) → y .type ≡ l
+  lapp-rule : (l r : ℕ) (f a : Term) (x y : Found) → tree Θ (x .type) ≡ lolli (tree Θ l) (tree Θ r) → T (isArrow (tree Θ l)) → y .type ≡ l
       → Derived Θ st f x → Derived Θ (x .stack) a y → Derived Θ st (lapp f a) (at-type r (y .stack))
-  lapp-rule l r f a x y eτ el d c =
+  lapp-rule l r f a x y eτ ar el d c =
       let (Γ, s, z) = both (d .step) (c .step) in
-      record { ctx = Γ; step = s; typed = ⊸E z (rw eτ at (d .typed)) (rw el at (c .typed)) }
+      record { ctx = Γ; step = s; typed = ⊸E z ar (rw eτ at (d .typed)) (rw el at (c .typed)) }
 
   pair-rule : (t l r : ℕ) (a b : Term) (x y : Found) → tree Θ t ≡ prod (tree Θ l) (tree Θ r) → T (sharable (tree Θ l)) → T (sharable (tree Θ r)) → x .type ≡ l → y .type ≡ r
       → Derived Θ st a x → Derived Θ (x .stack) b y → Derived Θ st (pair t a b) (at-type t (y .stack))
@@ -227,7 +227,7 @@ derived Θ ok (app f a) n st r h =
     on-bind (sharableArrow (recAt Θ (x .type)) n) _ r k₂ λ τ h₃ k₃.
     on-need (eqb (y .type) (τ .left)) 12 n _ r k₃ λ h₄ k₄.
     let (eτ, sh) = subst (λ (q : TyRec). Agrees Θ q (tree Θ (x .type))) (sharable-good (recAt Θ (x .type)) n τ h₃) (ok .agrees (x .type)) in
-    rw (← good-inj k₄) (app-rule Θ st (τ .left) (τ .right) f a x y eτ (eqb→eq _ _ h₄) (derived Θ ok f (n + 1) st x h₁) (derived Θ ok a _ (x .stack) y h₂))
+    rw (← good-inj k₄) (app-rule Θ st (τ .left) (τ .right) f a x y eτ sh (eqb→eq _ _ h₄) (derived Θ ok f (n + 1) st x h₁) (derived Θ ok a _ (x .stack) y h₂))
 derived Θ ok (lfun t e) n st r h =
     on-bind (linearArrow (recAt Θ t) n) _ r h λ τ h₁ k₁.
     on-bind (walk Θ e (n + 1) (linear (τ .left) false ∷ st)) _ r k₁ λ q h₂ k₂.
@@ -241,7 +241,7 @@ derived Θ ok (lapp f a) n st r h =
     on-bind (linearArrow (recAt Θ (x .type)) n) _ r k₂ λ τ h₃ k₃.
     on-need (eqb (y .type) (τ .left)) 12 n _ r k₃ λ h₄ k₄.
     let (eτ, ar) = subst (λ (q : TyRec). Agrees Θ q (tree Θ (x .type))) (linear-good (recAt Θ (x .type)) n τ h₃) (ok .agrees (x .type)) in
-    rw (← good-inj k₄) (lapp-rule Θ st (τ .left) (τ .right) f a x y eτ (eqb→eq _ _ h₄) (derived Θ ok f (n + 1) st x h₁) (derived Θ ok a _ (x .stack) y h₂))
+    rw (← good-inj k₄) (lapp-rule Θ st (τ .left) (τ .right) f a x y eτ ar (eqb→eq _ _ h₄) (derived Θ ok f (n + 1) st x h₁) (derived Θ ok a _ (x .stack) y h₂))
 derived Θ ok (pair t a b) n st r h =
     on-bind (product (recAt Θ t) n) _ r h λ τ h₁ k₁.
     on-bind (walk Θ a (n + 1) st) _ r k₁ λ x h₂ k₂.

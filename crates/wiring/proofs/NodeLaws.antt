@@ -120,8 +120,8 @@ module _ {s sizes : List ℕ} {Θ : Table} (K : Knows s sizes Θ) (at n : ℕ) (
     is-type = eτ;
     is = inl (refl, sym eτ, refl);
   }
-  binding (→E z d c) st rg v h = absurd (omega arith)
-  binding (⊸E z d c) st rg v h = absurd (omega arith)
+  binding (→E z sh d c) st rg v h = absurd (omega arith)
+  binding (⊸E z ar d c) st rg v h = absurd (omega arith)
   binding (×I z eτ s₁ s₂ d c) st rg v h = absurd (omega arith)
   binding (×E z s₁ s₂ d c) st rg v h = absurd (omega arith)
   binding (Con p e z) st rg v h = absurd (omega arith)
@@ -135,7 +135,7 @@ module _ {s sizes : List ℕ} {Θ : Table} (K : Knows s sizes Θ) (at n : ℕ) (
   twofold (⊸I eτ ar d) st rg v h = absurd (omega arith)
   twofold (Fix eτ sh d) st rg v h = absurd (omega arith)
   twofold (Con p e z) st rg v h = absurd (omega arith)
-  twofold (→E {f = f} {a = a} {θ = θ} {τ = τ} z d c) st rg v h =
+  twofold (→E {f = f} {a = a} {θ = θ} {τ = τ} z sh d c) st rg v h =
       let (p, q) = split-env z v in
       record {
         first = f;
@@ -158,7 +158,7 @@ module _ {s sizes : List ℕ} {Θ : Table} (K : Knows s sizes Θ) (at n : ℕ) (
         fits₂ = q;
         sort = inl (record { not-pair = λ z. omega arith; not-proj = λ z. omega arith; same = refl; arrow = not-arrow refl; left = refl; right = refl; turned = refl; is = refl });
       }
-  twofold (⊸E {f = f} {a = a} {κ = κ} {τ = τ} z d c) st rg v h =
+  twofold (⊸E {f = f} {a = a} {κ = κ} {τ = τ} z ar d c) st rg v h =
       let (p, q) = split-env z v in
       record {
         first = f;
@@ -252,8 +252,8 @@ module _ {Θ : Table} (s : List ℕ) (at n : ℕ) (env : List Bound) where
   variable (→I eτ sh d) v h f = absurd (omega arith)
   variable (⊸I eτ ar d) v h f = absurd (omega arith)
   variable (Fix eτ sh d) v h f = absurd (omega arith)
-  variable (→E z d c) v h f = absurd (omega arith)
-  variable (⊸E z d c) v h f = absurd (omega arith)
+  variable (→E z sh d c) v h f = absurd (omega arith)
+  variable (⊸E z ar d c) v h f = absurd (omega arith)
   variable (×I z eτ s₁ s₂ d c) v h f = absurd (omega arith)
   variable (×E z s₁ s₂ d c) v h f = absurd (omega arith)
   variable (Con p e z) v h f = absurd (f refl)
@@ -264,8 +264,8 @@ module _ {Θ : Table} (s : List ℕ) (at n : ℕ) (env : List Bound) where
   constant (→I eτ sh d) rg f = absurd (omega arith)
   constant (⊸I eτ ar d) rg f = absurd (omega arith)
   constant (Fix eτ sh d) rg f = absurd (omega arith)
-  constant (→E z d c) rg f = absurd (omega arith)
-  constant (⊸E z d c) rg f = absurd (omega arith)
+  constant (→E z sh d c) rg f = absurd (omega arith)
+  constant (⊸E z ar d c) rg f = absurd (omega arith)
   constant (×I z eτ s₁ s₂ d c) rg f = absurd (omega arith)
   constant (×E z s₁ s₂ d c) rg f = absurd (omega arith)
   constant (Con p e z) rg f = record { known = p; named = rg; is-type = e; is = refl; bytes = omega arith; shallow = refl }
