@@ -1,2 +1,4 @@
 pub mod Answers
 pub mod Known
+pub mod Parts
+pub mod Figures

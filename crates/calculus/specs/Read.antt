@@ -21,11 +21,14 @@ pub data Kind : Type 0 where
   type : TypeKind → Kind
   node : NodeKind → Kind
 
--- by the kind byte: 00 unknown, 01 to 04 types, 05 to 10 unknown, 11 to 1A nodes
+-- by the kind byte, eight a row
 abbrev pub kinds : List Kind
 kinds =
-    unknown ∷ type k01 ∷ type k02 ∷ type k03 ∷ type k04 ∷ unknown ∷ unknown ∷ unknown ∷ unknown ∷ unknown ∷ unknown ∷ unknown ∷ unknown ∷ unknown ∷ unknown ∷ unknown
-    ∷ unknown ∷ node k11 ∷ node k12 ∷ node k13 ∷ node k14 ∷ node k15 ∷ node k16 ∷ node k17 ∷ node k18 ∷ node k19 ∷ node k1A ∷ []
+    unknown ∷ type k01 ∷ type k02 ∷ type k03 ∷ type k04 ∷ unknown ∷ unknown ∷ unknown  -- 00 to 07
+    ∷ unknown ∷ unknown ∷ unknown ∷ unknown ∷ unknown ∷ unknown ∷ unknown ∷ unknown  -- 08 to 0F
+    ∷ unknown ∷ node k11 ∷ node k12 ∷ node k13 ∷ node k14 ∷ node k15 ∷ node k16 ∷ node k17  -- 10 to 17
+    ∷ node k18 ∷ node k19 ∷ node k1A  -- 18 to 1A
+    ∷ []
 
 abbrev pub kindOf : ℕ → Kind
 kindOf b = getD kinds b unknown
