@@ -10,6 +10,7 @@ pub mod Net
 pub mod Lean
 pub mod Record
 pub mod Formed
+pub mod NetRead
 pub mod Translate
 pub mod Stretch
 pub mod Listing

@@ -204,21 +204,34 @@ netOf m = record { elements = m .elements; wires = m .wires; pins = m .side }
 
 -- ---- bytes
 
+-- a record of a netlist; of a pin only its terminal's number is written
+pub data Item : Type 0 where
+  element : Element → Item
+  wire : Wire → Item
+  pin : ℕ → Item
+
 abbrev pub two : ℕ → List ℕ
 two n = n % 256 ∷ n / 256 ∷ []
 
+-- a record's bytes: the one definition, of the writer and of the reader
+abbrev pub itemBytes : Item → List ℕ
+itemBytes (element (point i)) = 0x21 ∷ two i
+itemBytes (element (part p i)) = 0x22 ∷ p ∷ two i
+itemBytes (wire w) = 0x23 ∷ two (w .from) ++ two (w .to)
+itemBytes (pin n) = 0x24 ∷ two n
+
 abbrev pub elementBytes : List Element → List ℕ
 elementBytes [] = []
-elementBytes (point i ∷ es) = 0x21 ∷ two i ++ elementBytes es
-elementBytes (part p i ∷ es) = 0x22 ∷ p ∷ two i ++ elementBytes es
+elementBytes (e ∷ es) = itemBytes (element e) ++ elementBytes es
 
 abbrev pub wireBytes : List Wire → List ℕ
 wireBytes [] = []
-wireBytes (w ∷ ws) = 0x23 ∷ two (w .from) ++ (two (w .to) ++ wireBytes ws)
+wireBytes (w ∷ ws) = itemBytes (wire w) ++ wireBytes ws
 
 abbrev pub pinBytes : Interface → List ℕ
 pinBytes [] = []
-pinBytes (t ∷ ts) = 0x24 ∷ two (number t) ++ pinBytes ts
+pinBytes (t ∷ ts) = itemBytes (pin (number t)) ++ pinBytes ts
 
+-- elements in making order, then wires in making order, then pins in interface order
 unfoldable pub netBytes : Net → List ℕ
 netBytes m = elementBytes (m .elements) ++ (wireBytes (m .wires) ++ pinBytes (m .pins))

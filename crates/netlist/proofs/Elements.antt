@@ -14,7 +14,8 @@ use Rattle.calculus.specs.Formed.{Tiled}
 use Rattle.calculus.specs.Record.{All}
 use Rattle.laws.proofs.Tests.{by-eqb}
 use Rattle.memory.specs.Map.{elementsFrom}
-use Rattle.netlist.specs.Elements.{after, afterAll, sizeOf, Known}
+use Rattle.calculus.specs.NetRead.{Known}
+use Rattle.netlist.specs.Elements.{after, afterAll, sizeOf}
 use Rattle.netlist.proofs.Records.{elements-append}
 
 -- the element of kind k at n, and what comes behind it

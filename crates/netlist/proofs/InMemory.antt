@@ -11,7 +11,8 @@ use Rattle.calculus.specs.Net.{elementBytes, wireBytes, pinBytes, netBytes}
 use Rattle.calculus.specs.Record.{All}
 use Rattle.calculus.specs.Formed.{targets}
 use Rattle.memory.specs.Map.{region, elementsFrom, wiresFrom, terminalOf, netIn, Ready}
-use Rattle.netlist.specs.Elements.{after, afterAll, sizeOf, Known}
+use Rattle.calculus.specs.NetRead.{Known}
+use Rattle.netlist.specs.Elements.{after, afterAll, sizeOf}
 use Rattle.netlist.proofs.Records.{wires-append, pins-append, wires-length, pins-length, net-length}
 use Rattle.netlist.proofs.Elements.{firstBytes, firstAfter, bytes-more, length-more, after-one, bytes-within, after-within, kinds-tiled, tiled-end, kinds-known}
 use Rattle.netlist.proofs.Targets.{made-past, target-counted}

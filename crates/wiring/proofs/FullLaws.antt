@@ -21,8 +21,8 @@ use Rattle.calculus.specs.Record.{All}
 use Rattle.calculus.specs.Formed.{Tiled, targets, Formed}
 use Rattle.calculus.specs.Translate.{full}
 use Rattle.memory.specs.Map.{region, kindOf, elementsFrom, wiresFrom, code, terminalOf, netIn}
-use Rattle.netlist.specs.Elements.{Known}
-use Rattle.netlist.proofs.KnownParts.{made-known}
+use Rattle.calculus.specs.NetRead.{Known}
+use Rattle.circuit_theorems.proofs.KnownParts.{made-known}
 use Rattle.sheet_theorems.proofs.Laying.{laid}
 use Rattle.sheet_theorems.proofs.Standing.{sheet-stands}
 use Rattle.sheet.specs.Tables.{sizesOf}

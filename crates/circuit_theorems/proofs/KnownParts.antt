@@ -7,8 +7,8 @@ use Rattle.calculus.specs.Terms.{Term, fun, app, lfun, lapp, pair, proj, fix}
 use Rattle.calculus.specs.Net.{Bound, Made, points, turns, leftOf, binder, firstHalf, secondHalf, make}
 use Rattle.calculus.specs.Rules.{Ctx, Typed, Var, LVar, →I, →E, ⊸I, ⊸E, ×I, ×E, Fix, Con}
 use Rattle.calculus.specs.Record.{All}
-use Rattle.netlist.specs.Elements.{Known}
-use Rattle.netlist.proofs.Bytes.{all-append}
+use Rattle.calculus.specs.NetRead.{Known}
+use Rattle.circuit_theorems.proofs.Lists.{all-append}
 
 points-known : (bs : List Bool) (n : ℕ) → All Known (points bs n)
 points-known [] n = tt
