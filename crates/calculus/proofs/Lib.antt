@@ -2,3 +2,4 @@ pub mod Answers
 pub mod Known
 pub mod Parts
 pub mod Figures
+pub mod Useless

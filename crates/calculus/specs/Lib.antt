@@ -15,3 +15,4 @@ pub mod Translate
 pub mod Stretch
 pub mod Listing
 pub mod Known
+pub mod Useless
