@@ -11,25 +11,25 @@ use Rattle.calculus.specs.Record.{All}
 
 -- ---- how often input i stands ..
 
-abbrev pub is : ℕ → ℕ → ℕ
-is i j = cond (eqb j i) 1 0
+abbrev pub tally : ℕ → ℕ → ℕ
+tally i j = cond (eqb j i) 1 0
 
 -- .. in an interface
 abbrev pub ins : Interface → ℕ → ℕ
 ins [] i = 0
-ins (inp j ∷ s) i = is i j + ins s i
+ins (inp j ∷ s) i = tally i j + ins s i
 ins (out o ∷ s) i = ins s i
 
 -- .. among the inputs that elements have
-abbrev pub made : List Element → ℕ → ℕ
-made [] i = 0
-made (point j ∷ es) i = is i j + made es i
-made (part p j ∷ es) i = ins (partSide (partAt p .inputs) j) i + made es i
+abbrev pub madeAt : List Element → ℕ → ℕ
+madeAt [] i = 0
+madeAt (point j ∷ es) i = tally i j + madeAt es i
+madeAt (part p j ∷ es) i = ins (partSide (partAt p .inputs) j) i + madeAt es i
 
 -- .. as the target of a wire
 abbrev pub targets : List Wire → ℕ → ℕ
 targets [] i = 0
-targets (w ∷ ws) i = is i (w .to) + targets ws i
+targets (w ∷ ws) i = tally i (w .to) + targets ws i
 
 -- ---- x is an output that an element has
 
@@ -65,4 +65,4 @@ pub record Formed (m : Net) : Type 0 where
   pub from : All (λ w. T (isOut (m .elements) (w .from))) (m .wires)
   pub shown : All (Shown (m .elements)) (m .pins)
   -- wires and pins reach each input that is made exactly once, and no other
-  pub once : (i : ℕ) → targets (m .wires) i + ins (m .pins) i ≡ made (m .elements) i
+  pub reached : (i : ℕ) → targets (m .wires) i + ins (m .pins) i ≡ madeAt (m .elements) i

@@ -42,14 +42,14 @@ names =
     ∷ []
 
 -- k terminals from i on
-abbrev pub terminals : ℕ → ℕ → Text
-terminals zero i = []
-terminals (suc k) i = field i ++ terminals k (i + 1)
+abbrev pub terminalFields : ℕ → ℕ → Text
+terminalFields zero i = []
+terminalFields (suc k) i = field i ++ terminalFields k (i + 1)
 
 -- a point's input and output; a part's name and terminals
 abbrev pub elementLine : Element → Text
-elementLine (point i) = line (112 ∷ 111 ∷ 105 ∷ 110 ∷ 116 ∷ terminals 2 i)  -- point
-elementLine (part p i) = line (112 ∷ 97 ∷ 114 ∷ 116 ∷ 32 ∷ (getD names p [] ++ terminals (partAt p .inputs + 1) i))  -- part
+elementLine (point i) = line (112 ∷ 111 ∷ 105 ∷ 110 ∷ 116 ∷ terminalFields 2 i)  -- point
+elementLine (part p i) = line (112 ∷ 97 ∷ 114 ∷ 116 ∷ 32 ∷ (getD names p [] ++ terminalFields (partAt p .inputs + 1) i))  -- part
 
 -- a wire's from and to
 abbrev pub wireLine : Wire → Text

@@ -15,7 +15,7 @@ use Rattle.calculus.specs.Terms.{partAt, parts}
 use Rattle.calculus.specs.Read.{byte}
 use Rattle.calculus.specs.Net.{Terminal, inp, out, Interface, number, Element, point, part, Wire, Net, partSide, Item, element, wire, pin, two, itemBytes, elementBytes, wireBytes, pinBytes, netBytes}
 use Rattle.calculus.specs.Record.{All}
-use Rattle.calculus.specs.Formed.{ins, made, isOut, Rising, Formed}
+use Rattle.calculus.specs.Formed.{ins, madeAt, isOut, Rising, Formed}
 use Rattle.calculus.specs.NetRead.{Fits, itemSize, Front, found, ended, twoAt, itemAt, andRest, itemsFrom, elementsIn, wiresIn, pinsIn, terminalOf, netFrom, readNet}
 use Rattle.calculus.proofs.Answers.{good-inj}
 use Rattle.sheet_theorems.proofs.Bytes.{behind}
@@ -165,10 +165,10 @@ part-above zero i x h = refl
 part-above (suc k) i x h = by-eqb (λ b. cond b 1 0 + ins (partSide k (i + 1)) x ≡ 0) i x (λ q. absurd (omega arith)) (λ q. omega (arith, part-above k (i + 1) x (omega arith)))
 
 -- no output is an input
-pub out-not-made : (es : List Element) (n e x : ℕ) → Rising es n e → T (isOut es x) → made es x ≡ 0
+pub out-not-made : (es : List Element) (n e x : ℕ) → Rising es n e → T (isOut es x) → madeAt es x ≡ 0
 out-not-made [] n e x a t = absurd t
 out-not-made (point i ∷ es) n e x a t =
-    by-eqb (λ b. cond b 1 0 + made es x ≡ 0) i x
+    by-eqb (λ b. cond b 1 0 + madeAt es x ≡ 0) i x
     (λ q. absurd (or-elim (eqb (i + 1) x) (isOut es x) t (λ u. omega (arith, eqb→eq (i + 1) x u)) (λ u. omega (arith, out-low es (i + 2) e x (a .1) u))))
     (λ q. or-elim (eqb (i + 1) x) (isOut es x) t (λ u. let v = eqb→eq (i + 1) x u in omega (arith, made-low es (i + 2) e x (a .1) (omega arith))) (λ u. omega (arith, out-not-made es (i + 2) e x (a .1) u)))
 out-not-made (part p i ∷ es) n e x a t =
@@ -178,7 +178,7 @@ out-not-made (part p i ∷ es) n e x a t =
 
 -- the elements tell a pin's direction
 abbrev Shows : List Element → Terminal → Type 0
-Shows es t = Named (λ i. made es i ≡ 1) (λ o. T (isOut es o)) t
+Shows es t = Named (λ i. madeAt es i ≡ 1) (λ o. T (isOut es o)) t
 
 terminal-is : (es : List Element) (e : ℕ) (t : Terminal) → Rising es 0 e → Shows es t → terminalOf es (number t) ≡ t
 terminal-is es e (inp i) up a = rw (is-false (isOut es i) (λ u. omega (arith, out-not-made es 0 e i up u)))

@@ -11,7 +11,7 @@ use Rattle.calculus.specs.Terms.{partAt}
 use Rattle.calculus.specs.Net.{Terminal, inp, out, Interface, number, Element, point, part, Wire, Net, element, wire, pin, netBytes}
 use Rattle.calculus.specs.Lean.{kept, keep, lean}
 use Rattle.calculus.specs.Record.{All}
-use Rattle.calculus.specs.Formed.{made, isOut, Rising, Formed}
+use Rattle.calculus.specs.Formed.{madeAt, isOut, Rising, Formed}
 use Rattle.calculus.specs.NetRead.{Known, Fits, readNet}
 use Rattle.calculus.specs.Translate.{full, asked}
 use Rattle.circuit_theorems.proofs.Lists.{all-append}
@@ -30,15 +30,15 @@ low-elements [] n e a h k = tt
 low-elements (point i ∷ es) n e a h k = (omega (arith, rising-end es (i + 2) e (a .1)), low-elements es (i + 2) e (a .1) h (k .1))
 low-elements (part p i ∷ es) n e a h k = ((k .0, omega (arith, rising-end es (i + partAt p .inputs + 1) e (a .1))), low-elements es (i + partAt p .inputs + 1) e (a .1) h (k .1))
 
-made-below : (es : List Element) (e x : ℕ) → Rising es 0 e → made es x ≡ 1 → x < e
+made-below : (es : List Element) (e x : ℕ) → Rising es 0 e → madeAt es x ≡ 1 → x < e
 made-below es e x up m = elim (decLe e x) [ yes q ↦ absurd (omega (arith, made-high es 0 e x up q)) | no q ↦ omega arith ]
 
-low-wires : (es : List Element) (e : ℕ) (ws : List Wire) → Rising es 0 e → e ≤ 65536 → All (λ w. T (isOut es (w .from)) × (made es (w .to) ≡ 1)) ws → All Fits (map wire ws)
+low-wires : (es : List Element) (e : ℕ) (ws : List Wire) → Rising es 0 e → e ≤ 65536 → All (λ w. T (isOut es (w .from)) × (madeAt es (w .to) ≡ 1)) ws → All Fits (map wire ws)
 low-wires es e [] up h a = tt
 low-wires es e (w ∷ ws) up h a =
     ((omega (arith, out-high es 0 e (w .from) up (a .0 .0)), omega (arith, made-below es e (w .to) up (a .0 .1))), low-wires es e ws up h (a .1))
 
-low-pins : (es : List Element) (e : ℕ) (ts : Interface) → Rising es 0 e → e ≤ 65536 → All (Named (λ i. made es i ≡ 1) (λ o. T (isOut es o))) ts → All Fits (map (λ t. pin (number t)) ts)
+low-pins : (es : List Element) (e : ℕ) (ts : Interface) → Rising es 0 e → e ≤ 65536 → All (Named (λ i. madeAt es i ≡ 1) (λ o. T (isOut es o))) ts → All Fits (map (λ t. pin (number t)) ts)
 low-pins es e [] up h a = tt
 low-pins es e (inp i ∷ ts) up h a = (omega (arith, made-below es e i up (a .0)), low-pins es e ts up h (a .1))
 low-pins es e (out o ∷ ts) up h a = (omega (arith, out-high es 0 e o up (a .0)), low-pins es e ts up h (a .1))

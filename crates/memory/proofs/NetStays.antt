@@ -27,7 +27,7 @@ module _ (w : List ℕ) (e k p : ℕ) (r : Ready w e k p) where
   made-low : (i : ℕ) → 1 ≤ targets (netIn w e k p .wires) i → i < 8192
   made-low i h =
       elim (decLe (r .end) i) [
-        | yes l ↦ absurd (omega (arith, r .formed .once i, made-high (netIn w e k p .elements) 0 (r .end) i (tiled-rising (netIn w e k p .elements) 0 (r .end) (r .tiled)) l))
+        | yes l ↦ absurd (omega (arith, r .formed .reached i, made-high (netIn w e k p .elements) 0 (r .end) i (tiled-rising (netIn w e k p .elements) 0 (r .end) (r .tiled)) l))
         | no l ↦ let b = r .below in omega arith
       ]
 

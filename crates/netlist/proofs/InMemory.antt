@@ -97,7 +97,7 @@ module _ (w : List ℕ) (e k p : ℕ) (r : Ready w e k p) where
       let t = getD w (8192 + j) 0 in
       let l = region-length w 8192 k (omega arith) in
       let counted : 1 ≤ targets (wiresFrom w ts) t = rw (← region-at w 8192 k j h) (target-counted w ts j (omega arith)) in
-      let once = r .formed .once t in
+      let once = r .formed .reached t in
       let past : 8192 ≤ t → ⊥ = λ g. omega (arith, made-past (elementsFrom (region w 13824 e) 0) 0 (r .end) t (r .tiled) (omega arith)) in
       omega arith
 

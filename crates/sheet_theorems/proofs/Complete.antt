@@ -110,7 +110,7 @@ module _ (Θ : Table) (ok : TableOk Θ) where
 
   -- two numbers of one type are one
   same : {a b : ℕ} {τ : Ty} → a < length Θ → b < length Θ → tree Θ a ≡ τ → tree Θ b ≡ τ → eqb a b ≡ true
-  same {a} {b} ha hb ea eb = eq-eqb a b (ok .once a b ha hb (ea ∙ sym eb))
+  same {a} {b} ha hb ea eb = eq-eqb a b (ok .distinct a b ha hb (ea ∙ sym eb))
 
   app-walk : (f a : Term) (n : ℕ) (st mid st′ : Stack) (θ τ : Ty) → Accepted Θ (arrow θ τ) mid (walk Θ f (n + 1) st)
       → Accepted Θ θ st′ (walk Θ a (n + 1 + nodes f) mid) → Accepted Θ τ st′ (walk Θ (app f a) n st)

@@ -33,10 +33,10 @@ exact-type s σ r τ e h d = one-type (sound (σ .table) (laid s σ e .table) (�
 
 -- document 01 compares types and the walk compares type numbers: in a table that the reader accepts it is the same
 pub type-numbers : (Θ : Table) → TableOk Θ → (a b : ℕ) → a < length Θ → b < length Θ → (a ≡ b) ↔ (tree Θ a ≡ tree Θ b)
-type-numbers Θ ok a b ha hb = ((λ e. ap (λ (n : ℕ). tree Θ n) e), (λ e. ok .once a b ha hb e))
+type-numbers Θ ok a b ha hb = ((λ e. ap (λ (n : ℕ). tree Θ n) e), (λ e. ok .distinct a b ha hb e))
 
 -- as tests
 pub type-tests : (Θ : Table) → TableOk Θ → (a b : ℕ) → a < length Θ → b < length Θ → tyEq (tree Θ a) (tree Θ b) ≡ eqb a b
 type-tests Θ ok a b ha hb = by-eqb (λ (t : Bool). tyEq (tree Θ a) (tree Θ b) ≡ t) a b
     (λ e. rw e (T-is (tyEq (tree Θ b) (tree Θ b)) (tyEq-refl (tree Θ b))))
-    (λ d. is-false (tyEq (tree Θ a) (tree Θ b)) (λ t. d (ok .once a b ha hb (tyEq→eq (tree Θ a) (tree Θ b) t))))
+    (λ d. is-false (tyEq (tree Θ a) (tree Θ b)) (λ t. d (ok .distinct a b ha hb (tyEq→eq (tree Θ a) (tree Θ b) t))))

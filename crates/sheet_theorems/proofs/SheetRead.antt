@@ -199,13 +199,13 @@ sheet-read Θ e ok ranged deep few =
     (passes (eqb (length s) (length s)) 9 (length s) _ (eqb-refl (length s)) refl)))
 
 -- what is read is what is written out, within the limits
-pub record Within (Θ : Table) (e : Term) : Type 0 where
+pub record Limits (Θ : Table) (e : Term) : Type 0 where
   pub table : TableOk Θ
   pub ranged : Ranged Θ e
   pub deep : depth e ≤ 64
   pub few : nodes e ≤ 2048
 
-pub read-written : (s : List ℕ) (σ : Sheet) → (readSheet s ≡ good σ) ↔ ((s ≡ sheetBytes (σ .table) (σ .term)) × Within (σ .table) (σ .term))
+pub read-written : (s : List ℕ) (σ : Sheet) → (readSheet s ≡ good σ) ↔ ((s ≡ sheetBytes (σ .table) (σ .term)) × Limits (σ .table) (σ .term))
 read-written s σ = (
   (λ e. let l = laid s σ e in (l .bytes, record { table = l .table; ranged = l .ranged; deep = l .deep; few = l .few })),
   (λ w. rw (w .0) (sheet-read (σ .table) (σ .term) (w .1 .table) (w .1 .ranged) (w .1 .deep) (w .1 .few))),

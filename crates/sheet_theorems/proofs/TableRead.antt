@@ -101,7 +101,7 @@ module _ (Φ Ψ : Table) (r : TyRec) (ok : TableOk (Φ ++ r ∷ Ψ)) where
   not-earlier n h e =
       let q : recAt (Φ ++ r ∷ Ψ) n ≡ r = List·getD-append Φ (r ∷ Ψ) rec01 n h ∙ e in
       let a : Agrees (Φ ++ r ∷ Ψ) r (tree (Φ ++ r ∷ Ψ) n) = subst (λ (q : TyRec). Agrees (Φ ++ r ∷ Ψ) q (tree (Φ ++ r ∷ Ψ) n)) q (ok .agrees n) in
-      let z = ok .once n (length Φ) (omega (arith, in-whole)) in-whole (agrees-one (Φ ++ r ∷ Ψ) r _ _ a agrees-here) in
+      let z = ok .distinct n (length Φ) (omega (arith, in-whole)) in-whole (agrees-one (Φ ++ r ∷ Ψ) r _ _ a agrees-here) in
       omega arith
 
   pub passed : (at : ℕ) → checkType Φ r at ≡ good tt

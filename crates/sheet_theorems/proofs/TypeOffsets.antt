@@ -31,7 +31,7 @@ tree-zero Θ ok = subst (λ (q : TyRec). Agrees Θ q (tree Θ 0)) (record-zero �
 pub record-later : (Θ : Table) → TableOk Θ → (t : ℕ) → suc t < length Θ → recAt Θ (suc t) ≡ rec01 → ⊥
 record-later Θ ok t h e =
     let b : tree Θ (suc t) ≡ bit = subst (λ (q : TyRec). Agrees Θ q (tree Θ (suc t))) e (ok .agrees (suc t)) in
-    let z = ok .once (suc t) 0 h (omega arith) (b ∙ sym (tree-zero Θ ok)) in
+    let z = ok .distinct (suc t) 0 h (omega arith) (b ∙ sym (tree-zero Θ ok)) in
     omega arith
 
 rec-three : (r : TyRec) → (r ≡ rec01 → ⊥) → length (recBytes r) ≡ 3

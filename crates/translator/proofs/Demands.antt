@@ -101,7 +101,7 @@ module _ (b : Bool) (s out work : List ℕ) where
       let k : length bytes ≡ n = good-inj h in
       record {
         sheet = a .sheet;
-        within = record {
+        conditions = record {
           memory = w .memory-ok;
           reads = a .reads;
           terminals = a .few;
@@ -115,7 +115,7 @@ module _ (b : Bool) (s out work : List ℕ) where
   back : (n : ℕ) → Derivable b s out work n → saidOf answered ≡ good n
   back n d =
       let σ = d .sheet in
-      let w = d .within in
+      let w = d .conditions in
       let m = netOf (make (σ .table) (σ .term) [] 0) in
       let e : answered ≡ good (netBytes (asked b m)) =
       answer-of b s (length work) (length out) m (w .memory) (full-of s σ (d .type) (w .reads) (d .typed) (w .terminals)) (subst (λ (x : ℕ). x ≤ length out) (sym (w .needs)) (w .room)) in

@@ -12,7 +12,7 @@ use Rattle.calculus.specs.Rules.{Typed}
 use Rattle.calculus.specs.Net.{Net, make, netOf, netBytes}
 use Rattle.calculus.specs.Lean.{lean}
 use Rattle.calculus.specs.Record.{Bits, Law, partLaw, Outside}
-use Rattle.calculus.specs.Formed.{made, targets, ins}
+use Rattle.calculus.specs.Formed.{madeAt, targets, ins}
 use Rattle.calculus.specs.NetRead.{readNet}
 use Rattle.calculus.specs.Translate.{full, asked, Call}
 
@@ -39,7 +39,7 @@ pub record Demand1 (wantLean : Bool) (s out work : List ℕ) (c : Call) : Type 0
 -- ---- demand 2
 
 -- form, limits and room of a call that is to write the netlist of a sheet σ in n bytes
-pub record Within (wantLean : Bool) (s out work : List ℕ) (σ : Sheet) (n : ℕ) : Type 0 where
+pub record Conditions (wantLean : Bool) (s out work : List ℕ) (σ : Sheet) (n : ℕ) : Type 0 where
   pub memory : 32768 ≤ length work
   pub reads : readSheet s ≡ good σ
   pub terminals : make (σ .table) (σ .term) [] 0 .next ≤ 8192
@@ -49,7 +49,7 @@ pub record Within (wantLean : Bool) (s out work : List ℕ) (σ : Sheet) (n : �
 -- .. and Figure 2 has a derivation
 pub record Derivable (wantLean : Bool) (s out work : List ℕ) (n : ℕ) : Type 0 where
   pub sheet : Sheet
-  pub within : Within wantLean s out work sheet n
+  pub conditions : Conditions wantLean s out work sheet n
   pub type : Ty
   pub typed : Typed (sheet .table) [] (sheet .term) type
 
@@ -64,9 +64,9 @@ pub record Demand2 (wantLean : Bool) (s out work : List ℕ) (c : Call) : Type 0
 
 -- each input has exactly one wire or stands exactly once among the pins, never both; none is made twice, and nothing else has either
 pub record OneDriver (m : Net) : Type 0 where
-  pub made-once : (i : ℕ) → made (m .elements) i ≤ 1
-  pub driven : (i : ℕ) → made (m .elements) i ≡ 1 → targets (m .wires) i + ins (m .pins) i ≡ 1
-  pub undriven : (i : ℕ) → made (m .elements) i ≡ 0 → targets (m .wires) i + ins (m .pins) i ≡ 0
+  pub made-once : (i : ℕ) → madeAt (m .elements) i ≤ 1
+  pub driven : (i : ℕ) → madeAt (m .elements) i ≡ 1 → targets (m .wires) i + ins (m .pins) i ≡ 1
+  pub undriven : (i : ℕ) → madeAt (m .elements) i ≡ 0 → targets (m .wires) i + ins (m .pins) i ≡ 0
 
 -- two netlists have the same possible records of pins and part terminals, for any number of ticks
 abbrev pub SameRecords : Law → Net → Net → Type 0

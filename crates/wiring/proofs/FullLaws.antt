@@ -32,7 +32,7 @@ use Rattle.circuit_theorems.specs.Drive.{driveAll}
 use Rattle.circuit_theorems.proofs.Drivers.{env-end}
 use Rattle.circuit_theorems.proofs.Lists.{all-map}
 use Rattle.circuit_theorems.proofs.Wiring.{target-one}
-use Rattle.circuit_theorems.proofs.Forming.{Whole}
+use Rattle.circuit_theorems.proofs.Forming.{Gapless}
 use Rattle.circuit_theorems.proofs.Main.{Accepts, accepts, formed}
 use Rattle.circuit_theorems.proofs.Drive.{mem-driver, table-list}
 use Rattle.circuit_theorems.proofs.Bounds.{few-elements, few-wires, few-pins, names}
@@ -186,8 +186,8 @@ module _ {s sizes w : List ℕ} {at : ℕ} (q : Accepted s sizes w at) (m : Net)
     is-net : netOf mk ≡ m
     is-net = A .is
 
-    whole : Whole (netOf mk)
-    whole = subst Whole (sym is-net) (formed s m ok)
+    whole : Gapless (netOf mk)
+    whole = subst Gapless (sym is-net) (formed s m ok)
 
     -- a list of the memory, as a region
     list-region : (from room k : ℕ) (xs : List ℕ) → Lies w′ from room xs → from + room ≤ length w′ → k ≡ length xs → region w′ from k ≡ xs
