@@ -1,5 +1,5 @@
 pub mod Answers
 pub mod Known
 pub mod Parts
-pub mod Figures
+pub mod Derivations
 pub mod Useless

@@ -60,6 +60,8 @@ outSide (true ∷ bs) n = inp n ∷ outSide bs (n + 2)
 -- ---- wires between an output interface and an input interface of one type: from the output to the input, at an unturned bit
 -- from the first to the second, at a turned bit from the second to the first
 
+-- two such interfaces show opposite ends at each bit, so each bit gets its wire (theorem `join-length`) and the clauses without one are
+-- never reached
 abbrev pub join : Interface → Interface → List Wire
 join [] ys = []
 join (a ∷ xs) [] = []
@@ -81,6 +83,7 @@ pub record Bound : Type 0 where
   pub type : Ty
   pub side : Interface
 
+-- what a binder number out of scope would give: never reached in a term that the walk accepts
 abbrev pub unbound : Bound
 unbound = record { type = bit; side = [] }
 

@@ -9,7 +9,7 @@ use Rattle.calculus.specs.Answer.{Answer, good, refused, _>>=_}
 use Rattle.calculus.specs.Terms.{parts}
 use Rattle.calculus.specs.Read.{byte}
 use Rattle.calculus.specs.Net.{Terminal, inp, out, Element, point, part, Wire, Net, Item, element, wire, pin}
-use Rattle.calculus.specs.Formed.{isOut}
+use Rattle.calculus.specs.Inputs.{isOut}
 
 -- ---- what bytes can tell: known parts, and numbers of two bytes
 

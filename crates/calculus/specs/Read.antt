@@ -97,6 +97,8 @@ typeAt (type k) more s Θ at go = do
   _ ← checkType Θ (typeRec k (byte s (at + 1)) (byte s (at + 2))) at
   go (Θ ++ typeRec k (byte s (at + 1)) (byte s (at + 2)) ∷ []) (at + 1 + typeBody k)
 
+-- the first byte that isn't 01 to 04 ends them. With none left `typeAt` refuses a type record itself (8), and the last argument is never
+-- reached
 unfoldable pub readTypes : ℕ → List ℕ → Table → ℕ → Answer (Table × ℕ)
 readTypes zero s Θ at = typeAt (kindOf (byte s at)) zero s Θ at (λ Φ next. refused 8 at)
 readTypes (suc more) s Θ at = typeAt (kindOf (byte s at)) (suc more) s Θ at (λ Φ next. readTypes more s Φ next)
@@ -172,7 +174,7 @@ nodeAt k19 x y next n go = do
   got (fix x (e .term)) (e .next) (e .count)
 nodeAt k1A x y next n go = got (con x y) next n
 
--- the term at an offset, with n nodes before it
+-- the term at an offset, with n nodes before it. At depth 65 `headAt` refuses by itself (3, 4 or 8), and the last line is never reached
 unfoldable pub readTerm : ℕ → List ℕ → ℕ → ℕ → ℕ → Answer Got
 readTerm zero s types at n = do
   k ← headAt zero s types at n

@@ -1,4 +1,4 @@
--- The records of a sheet (document 01, "The sheet"): the bytes of a table of types and a term. Assumes nothing.
+-- The records of a sheet (document 01, "The sheet"): the bytes of a table of types and a term. A node's stretch is measured by them. Assumes nothing.
 use Prim.Native.Nat.{ℕ}
 use mathlib.Core.List.{List, [], _∷_, _++_}
 use Rattle.calculus.specs.Types.{TyRec, rec01, rec02, rec03, rec04, Table}

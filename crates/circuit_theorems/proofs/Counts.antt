@@ -14,7 +14,8 @@ use Rattle.calculus.specs.Rules.{many, once, away, Ctx, Typed}
 use Rattle.calculus.specs.Net.{inp, out, Interface, Element, point, part, Wire, Net, partSide, Bound, make, elementBytes, wireBytes, pinBytes, netBytes}
 use Rattle.calculus.specs.Lean.{isPin, pointCount, kept, keep, leanWires, leanPin, lean}
 use Rattle.calculus.specs.Record.{All}
-use Rattle.calculus.specs.Formed.{tally, ins, madeAt, targets, Rising, Formed}
+use Rattle.calculus.specs.Inputs.{tally, ins, madeAt, targets}
+use Rattle.circuit_theorems.specs.Formed.{Rising, Formed}
 use Rattle.circuit_theorems.proofs.Lists.{all-map}
 use Rattle.circuit_theorems.proofs.Terminals.{tiled-rising, rising-end, made-high, no-ins, each-target}
 use Rattle.circuit_theorems.proofs.Drivers.{linears, Env, term-driven}

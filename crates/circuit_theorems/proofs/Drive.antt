@@ -15,7 +15,8 @@ use Rattle.calculus.specs.Answer.{good}
 use Rattle.calculus.specs.Net.{Wire, Net}
 use Rattle.calculus.specs.Lean.{driver, isPin, back}
 use Rattle.calculus.specs.Record.{All}
-use Rattle.calculus.specs.Formed.{madeAt, targets, isOut, Formed}
+use Rattle.calculus.specs.Inputs.{madeAt, targets, isOut}
+use Rattle.circuit_theorems.specs.Formed.{Formed}
 use Rattle.calculus.specs.Translate.{full}
 use Rattle.circuit_theorems.specs.Drive.{driveAll}
 use Rattle.circuit_theorems.proofs.Lists.{all-map}

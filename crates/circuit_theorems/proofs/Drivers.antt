@@ -14,7 +14,7 @@ use Rattle.calculus.specs.Types.{Ty, bit, prod, arrow, lolli, size, sharable, T
 use Rattle.calculus.specs.Terms.{Term, partAt}
 use Rattle.calculus.specs.Rules.{many, once, away, Ctx, NoLinear, none-end, none-many, none-away, InΓ, in-here, in-many, in-away, IsΔ, is-here, is-many, is-away, Split, split-end, split-many, split-first, split-second, split-away, Typed, Var, LVar, →I, →E, ⊸I, ⊸E, ×I, ×E, Fix, Con}
 use Rattle.calculus.specs.Net.{Terminal, inp, out, Interface, turns, Element, point, part, Wire, points, inSide, outSide, join, partSide, Bound, unbound, Made, leftOf, rightOf, binder, madeVar, madeFun, madeApp, madePair, firstHalf, secondHalf, madeProj, madeFix, madeCon, make}
-use Rattle.calculus.specs.Formed.{ins, madeAt, targets}
+use Rattle.calculus.specs.Inputs.{ins, madeAt, targets}
 
 -- ---- counts of an input terminal
 

@@ -12,7 +12,8 @@ use Rattle.calculus.specs.Net.{Terminal, inp, out, Interface, Element, point, p
 use Rattle.calculus.specs.Lean.{driver, isPin, root, kept, keep, toInputs, toElement, leanWires, leanPin, lean}
 use Rattle.calculus.specs.Rules.{Typed}
 use Rattle.calculus.specs.Record.{All}
-use Rattle.calculus.specs.Formed.{tally, ins, madeAt, targets, isOut, Shown, Tiled, Rising, Formed}
+use Rattle.calculus.specs.Inputs.{tally, ins, madeAt, targets, isOut}
+use Rattle.circuit_theorems.specs.Formed.{Shown, Tiled, Rising, Formed}
 use Rattle.circuit_theorems.proofs.RootLaws.{root-reached, root-root}
 use Rattle.circuit_theorems.proofs.BackLaws.{backs-out, pin-root}
 use Rattle.circuit_theorems.proofs.Drivers.{drivers, targets-append}

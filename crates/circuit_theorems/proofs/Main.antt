@@ -14,7 +14,8 @@ use Rattle.calculus.specs.Rules.{Typed}
 use Rattle.calculus.specs.Net.{Net, make, netOf}
 use Rattle.calculus.specs.Lean.{lean}
 use Rattle.calculus.specs.Record.{Bits, Law, All, partLaw, Outside}
-use Rattle.calculus.specs.Formed.{ins, madeAt, targets, isOut, Formed}
+use Rattle.calculus.specs.Inputs.{ins, madeAt, targets, isOut}
+use Rattle.circuit_theorems.specs.Formed.{Formed}
 use Rattle.calculus.specs.Translate.{full}
 use Rattle.sheet_theorems.proofs.Sound.{sound}
 use Rattle.sheet_theorems.proofs.Laying.{laid}

@@ -15,7 +15,8 @@ use Rattle.calculus.specs.Terms.{partAt, parts}
 use Rattle.calculus.specs.Read.{byte}
 use Rattle.calculus.specs.Net.{Terminal, inp, out, Interface, number, Element, point, part, Wire, Net, partSide, Item, element, wire, pin, two, itemBytes, elementBytes, wireBytes, pinBytes, netBytes}
 use Rattle.calculus.specs.Record.{All}
-use Rattle.calculus.specs.Formed.{ins, madeAt, isOut, Rising, Formed}
+use Rattle.calculus.specs.Inputs.{ins, madeAt, isOut}
+use Rattle.circuit_theorems.specs.Formed.{Rising, Formed}
 use Rattle.calculus.specs.NetRead.{Fits, itemSize, Front, found, ended, twoAt, itemAt, andRest, itemsFrom, elementsIn, wiresIn, pinsIn, terminalOf, netFrom, readNet}
 use Rattle.calculus.proofs.Answers.{good-inj}
 use Rattle.sheet_theorems.proofs.Bytes.{behind}

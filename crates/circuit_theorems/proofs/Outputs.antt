@@ -13,7 +13,8 @@ use Rattle.calculus.specs.Types.{Ty, size, Table, tree}
 use Rattle.calculus.specs.Terms.{Term, var, lvar, fun, app, lfun, lapp, pair, proj, fix, con, partAt}
 use Rattle.calculus.specs.Net.{Terminal, inp, out, Interface, turns, Element, point, part, Wire, points, inSide, outSide, join, partSide, Bound, unbound, Made, leftOf, binder, madeFun, madeApp, madePair, madeProj, madeFix, firstHalf, secondHalf, make}
 use Rattle.calculus.specs.Record.{All}
-use Rattle.calculus.specs.Formed.{ins, madeAt, isOut, Tiled}
+use Rattle.calculus.specs.Inputs.{ins, madeAt, isOut}
+use Rattle.circuit_theorems.specs.Formed.{Tiled}
 use Rattle.circuit_theorems.proofs.Drivers.{turns-size, made-append}
 use Rattle.circuit_theorems.proofs.Lists.{all-append, all-take, all-drop, all-getD}
 use Rattle.circuit_theorems.proofs.Terminals.{tiled-rising, rising-end, out-high, made-high}

@@ -15,7 +15,8 @@ use Rattle.calculus.specs.Terms.{partAt}
 use Rattle.calculus.specs.Net.{Interface, inp, out, Element, point, part, Wire, partSide}
 use Rattle.calculus.specs.Lean.{isPin, driver}
 use Rattle.calculus.specs.Record.{All}
-use Rattle.calculus.specs.Formed.{ins, madeAt, targets, isOut, Tiled, Rising}
+use Rattle.calculus.specs.Inputs.{ins, madeAt, targets, isOut}
+use Rattle.circuit_theorems.specs.Formed.{Tiled, Rising}
 use Rattle.circuit_theorems.proofs.Rings.{has, outs}
 use Rattle.circuit_theorems.proofs.Lists.{all-map, all-zip}
 

@@ -11,7 +11,8 @@ use Rattle.calculus.specs.Terms.{partAt}
 use Rattle.calculus.specs.Net.{Terminal, inp, out, Interface, number, Element, point, part, Wire, Net, element, wire, pin, netBytes}
 use Rattle.calculus.specs.Lean.{kept, keep, lean}
 use Rattle.calculus.specs.Record.{All}
-use Rattle.calculus.specs.Formed.{madeAt, isOut, Rising, Formed}
+use Rattle.calculus.specs.Inputs.{madeAt, isOut}
+use Rattle.circuit_theorems.specs.Formed.{Rising, Formed}
 use Rattle.calculus.specs.NetRead.{Known, Fits, readNet}
 use Rattle.calculus.specs.Translate.{full, asked}
 use Rattle.circuit_theorems.proofs.Lists.{all-append}

@@ -11,7 +11,8 @@ use Rattle.calculus.specs.Terms.{partAt}
 use Rattle.calculus.specs.Net.{Terminal, inp, out, Interface, Element, point, part, Net}
 use Rattle.calculus.specs.Lean.{driver, isPin, root}
 use Rattle.calculus.specs.Record.{All}
-use Rattle.calculus.specs.Formed.{madeAt, targets, ins, isOut, Shown, Rising, Formed}
+use Rattle.calculus.specs.Inputs.{madeAt, targets, ins, isOut}
+use Rattle.circuit_theorems.specs.Formed.{Shown, Rising, Formed}
 use Rattle.circuit_theorems.proofs.Rings.{has, outs}
 use Rattle.circuit_theorems.proofs.RootLaws.{root-stays}
 use Rattle.circuit_theorems.proofs.BackLaws.{back-other, point-root}

@@ -10,7 +10,8 @@ use lib.ListN.{getD}
 use borrow.Author.Tests.{ne-eqb, eq-eqb}
 use Rattle.calculus.specs.Net.{Net}
 use Rattle.calculus.specs.Lean.{driver, isPin, back, root}
-use Rattle.calculus.specs.Formed.{targets, madeAt, isOut, Rising}
+use Rattle.calculus.specs.Inputs.{targets, madeAt, isOut}
+use Rattle.circuit_theorems.specs.Formed.{Rising}
 use Rattle.circuit_theorems.proofs.Lists.{all-map}
 use Rattle.circuit_theorems.proofs.Terminals.{pointIn, made-high, made-one, tiled-rising, out-high, point-made, driver-is, driver-fed, driver-any, pin-ins, no-ins}
 use Rattle.circuit_theorems.proofs.Drive.{driver-none}

@@ -12,7 +12,8 @@ use Rattle.calculus.specs.Terms.{partAt}
 use Rattle.calculus.specs.Net.{Terminal, inp, out, Element, point, part, Net, partSide, netBytes}
 use Rattle.calculus.specs.Lean.{driver, isPin, root, keep, toInputs, toElement, leanWires, leanPin, lean}
 use Rattle.calculus.specs.Record.{All}
-use Rattle.calculus.specs.Formed.{tally, ins, madeAt, isOut, Shown}
+use Rattle.calculus.specs.Inputs.{tally, ins, madeAt, isOut}
+use Rattle.circuit_theorems.specs.Formed.{Shown}
 use Rattle.memory.specs.Map.{region, terminalOf, netIn}
 use Rattle.netlist.specs.Said.{wire}
 use Rattle.netlist.specs.Elements.{afterAll}

@@ -8,7 +8,7 @@ use lib.ListN.{length, getD}
 use Rattle.laws.proofs.Regions.{region-ext}
 use Rattle.calculus.specs.Net.{Net}
 use Rattle.calculus.specs.Record.{All}
-use Rattle.calculus.specs.Formed.{targets}
+use Rattle.calculus.specs.Inputs.{targets}
 use Rattle.calculus.specs.Lean.{driver}
 use Rattle.circuit_theorems.proofs.Lists.{all-map}
 use Rattle.circuit_theorems.proofs.Terminals.{each-target, made-high, tiled-rising}

@@ -10,7 +10,7 @@ use lib.ListN.{length, getD, take, drop, length-append}
 use lib.Seq.{take-suc, take-add}
 use Rattle.calculus.specs.Terms.{partAt}
 use Rattle.calculus.specs.Net.{Element, point, part, elementBytes}
-use Rattle.calculus.specs.Formed.{Tiled}
+use Rattle.circuit_theorems.specs.Formed.{Tiled}
 use Rattle.calculus.specs.Record.{All}
 use Rattle.laws.proofs.Tests.{by-eqb}
 use Rattle.memory.specs.Map.{elementsFrom}

@@ -9,7 +9,7 @@ use lib.Seq.{take-suc, getD-drop}
 use Rattle.laws.proofs.Regions.{region-length, region-at}
 use Rattle.calculus.specs.Net.{elementBytes, wireBytes, pinBytes, netBytes}
 use Rattle.calculus.specs.Record.{All}
-use Rattle.calculus.specs.Formed.{targets}
+use Rattle.calculus.specs.Inputs.{targets}
 use Rattle.memory.specs.Map.{region, elementsFrom, wiresFrom, terminalOf, netIn, Ready}
 use Rattle.calculus.specs.NetRead.{Known}
 use Rattle.netlist.specs.Elements.{after, afterAll, sizeOf}

@@ -7,7 +7,8 @@ use borrow.Author.Tests.{ne-eqb, eq-eqb}
 use lib.ListN.{length, getD}
 use Rattle.calculus.specs.Terms.{partAt}
 use Rattle.calculus.specs.Net.{Element, point, part, partSide}
-use Rattle.calculus.specs.Formed.{tally, ins, madeAt, targets, Tiled}
+use Rattle.calculus.specs.Inputs.{tally, ins, madeAt, targets}
+use Rattle.circuit_theorems.specs.Formed.{Tiled}
 use Rattle.memory.specs.Map.{wiresFrom}
 
 is-other : (i j : ℕ) → j < i → tally i j ≡ 0

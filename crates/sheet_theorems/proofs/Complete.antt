@@ -12,7 +12,7 @@ use Rattle.calculus.specs.Types.{Ty, bit, prod, arrow, lolli, sharable, tyEq, T
 use Rattle.calculus.specs.Terms.{Term, fun, app, lfun, lapp, pair, proj, fix, con, nodes, parts, partAt}
 use Rattle.calculus.specs.Walk.{shared, linear, Stack, Found, found, useShared, useLinear, walk}
 use Rattle.calculus.specs.Rules.{Ctx, NoLinear, none-end, none-many, none-away, InΓ, in-here, in-many, in-away, IsΔ, is-here, is-many, is-away, Split, split-end, split-many, split-first, split-second, split-away, Typed, Var, LVar, →I, →E, ⊸I, ⊸E, ×I, ×E, Fix, Con}
-use Rattle.calculus.specs.Laid.{Agrees, Below, TableOk, Ranged}
+use Rattle.sheet_theorems.specs.Laid.{Agrees, Below, TableOk, Ranged}
 use Rattle.laws.proofs.Tests.{and-of, T-is}
 use Rattle.sheet_theorems.proofs.Tables.{wider}
 use Rattle.sheet_theorems.proofs.Sound.{Step, step-end, step-shared, step-same, step-took}

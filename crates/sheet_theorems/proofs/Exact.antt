@@ -9,7 +9,7 @@ use lib.ListN.{length}
 use Rattle.calculus.specs.Answer.{good}
 use Rattle.calculus.specs.Types.{Ty, tyEq, Table, tree}
 use Rattle.calculus.specs.Read.{Sheet, readSheet}
-use Rattle.calculus.specs.Laid.{TableOk}
+use Rattle.sheet_theorems.specs.Laid.{TableOk}
 use Rattle.laws.proofs.Tests.{T-is, is-false, by-eqb}
 use Rattle.calculus.specs.Walk.{Found, walk}
 use Rattle.calculus.specs.Rules.{Typed}

@@ -14,7 +14,7 @@ use Rattle.calculus.specs.Types.{TyRec, rec01, rec02, rec03, rec04, Table}
 use Rattle.calculus.specs.Terms.{Term, var, lvar, fun, app, lfun, lapp, pair, proj, fix, con, nodes}
 use Rattle.calculus.specs.Read.{Kind, node, NodeKind, kindOf, byte, readTypes, Got, got, nodeBody, nodeTyped, nodeKind, headAt, nodeAt, readTerm, Sheet, readSheet}
 use Rattle.calculus.specs.Write.{recBytes, tableBytes, termBytes, sheetBytes}
-use Rattle.calculus.specs.Laid.{TableOk, Stands, depth, Ranged}
+use Rattle.sheet_theorems.specs.Laid.{TableOk, Stands, depth, Ranged}
 use Rattle.sheet_theorems.proofs.Going.{passes, goes}
 use Rattle.sheet_theorems.proofs.Laying.{laid}
 use Rattle.sheet_theorems.proofs.TableRead.{types-read}

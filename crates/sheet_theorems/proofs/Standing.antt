@@ -8,7 +8,7 @@ use lib.Seq.{drop-append-seam}
 use Rattle.calculus.specs.Terms.{Term, var, lvar, fun, app, lfun, lapp, pair, proj, fix, con}
 use Rattle.calculus.specs.Read.{node, NodeKind, k11, k12, k13, k14, k15, k16, k17, k18, k19, k1A, kindOf, byte, Sheet}
 use Rattle.calculus.specs.Write.{tableBytes, termBytes, sheetBytes}
-use Rattle.calculus.specs.Laid.{Stands, Laid}
+use Rattle.sheet_theorems.specs.Laid.{Stands, Laid}
 use Rattle.sheet_theorems.proofs.KindBytes.{nodeByte, node-kind, node-range}
 use Rattle.sheet_theorems.proofs.Bytes.{first-byte, second-byte, third-byte, behind, within}
 

@@ -12,7 +12,7 @@ use Rattle.calculus.specs.Answer.{Answer, good}
 use Rattle.calculus.specs.Types.{Ty, bit, size, sharable, TyRec, rec01, rec02, rec03, rec04, recEq, Table, recAt, tyOf, tysFrom, tree}
 use Rattle.calculus.specs.Read.{Kind, type, node, TypeKind, k01, k02, k03, k04, NodeKind, kindOf, byte, typeBody, typeRec, known, formed, repeated, checkType, typeAt, readTypes}
 use Rattle.calculus.specs.Write.{recBytes, tableBytes}
-use Rattle.calculus.specs.Laid.{Agrees, Below, TableOk}
+use Rattle.sheet_theorems.specs.Laid.{Agrees, Below, TableOk}
 use Rattle.laws.proofs.Tests.{and-both, and-of, or-elim}
 use Rattle.sheet_theorems.proofs.Bytes.{behind}
 use Rattle.sheet_theorems.proofs.Tables.{tys-count, tree-new}

@@ -14,7 +14,7 @@ use Rattle.calculus.specs.Answer.{good, need}
 use Rattle.calculus.proofs.Answers.{refused≢good, on-need}
 use Rattle.calculus.specs.Types.{Ty, bit, size, sharable, TyRec, rec01, rec02, rec03, rec04, recEq, Table, recAt, tyOf, tysFrom, tree}
 use Rattle.calculus.specs.Read.{known, formed, repeated, checkType}
-use Rattle.calculus.specs.Laid.{Agrees, Below, TableOk}
+use Rattle.sheet_theorems.specs.Laid.{Agrees, Below, TableOk}
 use Rattle.laws.proofs.Tests.{and-both, and-of, or-left, or-right}
 
 pub tys-snoc : (acc : List Ty) (Θ : Table) (r : TyRec) → tysFrom acc (Θ ++ r ∷ []) ≡ tysFrom acc Θ ++ tyOf (tysFrom acc Θ) r ∷ []

@@ -9,7 +9,7 @@ use lib.Seq.{drop-append-add}
 use Rattle.calculus.specs.Types.{bit, TyRec, rec01, rec02, rec03, rec04, Table, recAt, tree}
 use Rattle.calculus.specs.Read.{type, TypeKind, k01, k02, k03, k04, kindOf, byte, typeRec, Sheet}
 use Rattle.calculus.specs.Write.{recBytes, tableBytes, termBytes, sheetBytes}
-use Rattle.calculus.specs.Laid.{Agrees, Below, TableOk, Laid}
+use Rattle.sheet_theorems.specs.Laid.{Agrees, Below, TableOk, Laid}
 use Rattle.sheet_theorems.proofs.Bytes.{front-one, first-byte, second-byte, third-byte, within}
 use Rattle.sheet_theorems.proofs.KindBytes.{typeByte, type-kind}
 

@@ -12,7 +12,7 @@ use Rattle.calculus.specs.Rules.{Typed}
 use Rattle.calculus.specs.Net.{Net, make, netOf, netBytes}
 use Rattle.calculus.specs.Lean.{lean}
 use Rattle.calculus.specs.Record.{Bits, Law, partLaw, Outside}
-use Rattle.calculus.specs.Formed.{madeAt, targets, ins}
+use Rattle.calculus.specs.Inputs.{madeAt, targets, ins}
 use Rattle.calculus.specs.NetRead.{readNet}
 use Rattle.calculus.specs.Translate.{full, asked, Call}
 

@@ -14,11 +14,12 @@ use Rattle.calculus.specs.Types.{size, tree}
 use Rattle.calculus.specs.Terms.{nodes, partAt}
 use Rattle.calculus.specs.Read.{Sheet, readSheet}
 use Rattle.calculus.specs.Write.{tableBytes}
-use Rattle.calculus.specs.Laid as laid-as
+use Rattle.sheet_theorems.specs.Laid as laid-as
 use Rattle.calculus.specs.Net.{Terminal, Interface, Element, point, part, Wire, Net, Made, make, netOf}
 use Rattle.calculus.specs.Lean.{driver}
 use Rattle.calculus.specs.Record.{All}
-use Rattle.calculus.specs.Formed.{Tiled, targets, Formed}
+use Rattle.calculus.specs.Inputs.{targets}
+use Rattle.circuit_theorems.specs.Formed.{Tiled, Formed}
 use Rattle.calculus.specs.Translate.{full}
 use Rattle.memory.specs.Map.{region, kindOf, elementsFrom, wiresFrom, code, terminalOf, netIn}
 use Rattle.calculus.specs.NetRead.{Known}
