@@ -1,4 +1,4 @@
--- The parts' law, held against truth tables; and records of P2 and P6 that are possible and that are not. Assumes nothing.
+-- The parts' law, held against truth tables; and what records of P6 and P2 are possible. Assumes nothing.
 use Prim.Native.Nat.{ℕ, zero, suc, _<_}
 use mathlib.Core.Path.{_≡_, refl, sym, ap, _∙_}
 use mathlib.Core.Logic.{_↔_}
@@ -94,6 +94,6 @@ impossible-P6 n γ π o t h e =
     let pin : γ 0 t ≡ β 4 t = o .pins .0 t h in
     false≢true (sym (pin ∙ and-out ∙ ap (λ (b : Bool). b && β 3 t) first) ∙ e)
 
--- P2: both ends of a point are equal, so its two pins are
-pub impossible-P2 : (n : ℕ) (γ π : Bits) → Outside partLaw netP2 n γ π → (t : ℕ) → t < n → γ 0 t ≡ γ 1 t
-impossible-P2 n γ π o t h = o .pins .0 t h ∙ o .possible .elements .0 t h ∙ sym (o .pins .1 .0 t h)
+-- P2: both ends of its point are equal, so in every possible record its two pins are
+pub passes-P2 : (n : ℕ) (γ π : Bits) → Outside partLaw netP2 n γ π → (t : ℕ) → t < n → γ 0 t ≡ γ 1 t
+passes-P2 n γ π o t h = o .pins .0 t h ∙ o .possible .elements .0 t h ∙ sym (o .pins .1 .0 t h)

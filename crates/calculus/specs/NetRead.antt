@@ -34,7 +34,7 @@ itemSize (pin n) = 3
 
 -- at an offset: a record; nothing more; or no record, since the kind is unknown, the body is cut short, or there is no such part
 pub data Front : Type 0 where
-  found : Item → Front
+  item : Item → Front
   ended broken : Front
 
 -- a two-byte number, low byte first
@@ -42,18 +42,18 @@ abbrev pub twoAt : List ℕ → ℕ → ℕ
 twoAt s at = byte s at + 256 * byte s (at + 1)
 
 -- a record whose n bytes are all there
-abbrev pub whole : ℕ → List ℕ → ℕ → Front → Front
-whole n s at r = cond (leb (at + n) (length s)) r broken
+abbrev pub uncut : ℕ → List ℕ → ℕ → Front → Front
+uncut n s at r = cond (leb (at + n) (length s)) r broken
 
 abbrev pub knownPart : ℕ → ℕ → Front
-knownPart p i = cond (ltb p (length parts)) (found (element (part p i))) broken
+knownPart p i = cond (ltb p (length parts)) (item (element (part p i))) broken
 
 abbrev pub ofKind : ℕ → List ℕ → ℕ → Front
 ofKind k s at =
-    cond (eqb k 0x21) (whole 3 s at (found (element (point (twoAt s (at + 1))))))
-    (cond (eqb k 0x22) (whole 4 s at (knownPart (byte s (at + 1)) (twoAt s (at + 2))))
-    (cond (eqb k 0x23) (whole 5 s at (found (wire (record { from = twoAt s (at + 1); to = twoAt s (at + 3) }))))
-    (cond (eqb k 0x24) (whole 3 s at (found (pin (twoAt s (at + 1))))) broken)))
+    cond (eqb k 0x21) (uncut 3 s at (item (element (point (twoAt s (at + 1))))))
+    (cond (eqb k 0x22) (uncut 4 s at (knownPart (byte s (at + 1)) (twoAt s (at + 2))))
+    (cond (eqb k 0x23) (uncut 5 s at (item (wire (record { from = twoAt s (at + 1); to = twoAt s (at + 3) }))))
+    (cond (eqb k 0x24) (uncut 3 s at (item (pin (twoAt s (at + 1))))) broken)))
 
 unfoldable pub itemAt : List ℕ → ℕ → Front
 itemAt s at = cond (ltb at (length s)) (ofKind (byte s at) s at) ended
@@ -62,7 +62,7 @@ itemAt s at = cond (ltb at (length s)) (ofKind (byte s at) s at) ended
 
 -- what stands at an offset, then the rest; 21 is the number that request L8 gives to what is no record
 abbrev pub andRest : Front → ℕ → (Item → Answer (List Item)) → Answer (List Item)
-andRest (found r) at rest = do
+andRest (item r) at rest = do
   rs ← rest r
   good (r ∷ rs)
 andRest ended at rest = good []

@@ -17,7 +17,7 @@ use Rattle.calculus.specs.Net.{Terminal, inp, out, Interface, number, Element, 
 use Rattle.calculus.specs.Record.{All}
 use Rattle.calculus.specs.Inputs.{ins, madeAt, isOut}
 use Rattle.circuit_theorems.specs.Formed.{Rising, Formed}
-use Rattle.calculus.specs.NetRead.{Fits, itemSize, Front, found, ended, twoAt, itemAt, andRest, itemsFrom, elementsIn, wiresIn, pinsIn, terminalOf, netFrom, readNet}
+use Rattle.calculus.specs.NetRead.{Fits, itemSize, Front, item, ended, twoAt, itemAt, andRest, itemsFrom, elementsIn, wiresIn, pinsIn, terminalOf, netFrom, readNet}
 use Rattle.calculus.proofs.Answers.{good-inj}
 use Rattle.sheet_theorems.proofs.Bytes.{behind}
 use Rattle.circuit_theorems.proofs.Outputs.{Named}
@@ -84,19 +84,19 @@ module _ (s : List ℕ) (at : ℕ) where
   unfolding itemAt
   ends-here h = rw (le-ltb at (length s) h)
 
-  pub point-here : at + 3 ≤ length s → byte s at ≡ 0x21 → itemAt s at ≡ found (element (point (twoAt s (at + 1))))
+  pub point-here : at + 3 ≤ length s → byte s at ≡ 0x21 → itemAt s at ≡ item (element (point (twoAt s (at + 1))))
   unfolding itemAt
   point-here h k = rw (lt-ltb at (length s) (omega arith), k, le-leb (at + 3) (length s) h)
 
-  pub part-here : at + 4 ≤ length s → byte s at ≡ 0x22 → byte s (at + 1) < length parts → itemAt s at ≡ found (element (part (byte s (at + 1)) (twoAt s (at + 2))))
+  pub part-here : at + 4 ≤ length s → byte s at ≡ 0x22 → byte s (at + 1) < length parts → itemAt s at ≡ item (element (part (byte s (at + 1)) (twoAt s (at + 2))))
   unfolding itemAt
   part-here h k l = rw (lt-ltb at (length s) (omega arith), k, le-leb (at + 4) (length s) h, lt-ltb (byte s (at + 1)) (length parts) l)
 
-  pub wire-here : at + 5 ≤ length s → byte s at ≡ 0x23 → itemAt s at ≡ found (wire (record { from = twoAt s (at + 1); to = twoAt s (at + 3) }))
+  pub wire-here : at + 5 ≤ length s → byte s at ≡ 0x23 → itemAt s at ≡ item (wire (record { from = twoAt s (at + 1); to = twoAt s (at + 3) }))
   unfolding itemAt
   wire-here h k = rw (lt-ltb at (length s) (omega arith), k, le-leb (at + 5) (length s) h)
 
-  pub pin-here : at + 3 ≤ length s → byte s at ≡ 0x24 → itemAt s at ≡ found (pin (twoAt s (at + 1)))
+  pub pin-here : at + 3 ≤ length s → byte s at ≡ 0x24 → itemAt s at ≡ item (pin (twoAt s (at + 1)))
   unfolding itemAt
   pin-here h k = rw (lt-ltb at (length s) (omega arith), k, le-leb (at + 3) (length s) h)
 
@@ -112,20 +112,20 @@ two-of s xs at k n i h e a b =
 stands : (s l : List ℕ) (at : ℕ) (r : Item) → drop at s ≡ itemBytes r ++ l → at + itemSize r ≤ length s
 stands s l at r e = omega (arith, ap length e, length-drop at s, length-append (itemBytes r) l, item-length r, item-some r)
 
-pub item-here : (s l : List ℕ) (at : ℕ) (r : Item) → Fits r → drop at s ≡ itemBytes r ++ l → itemAt s at ≡ found r
+pub item-here : (s l : List ℕ) (at : ℕ) (r : Item) → Fits r → drop at s ≡ itemBytes r ++ l → itemAt s at ≡ item r
 item-here s l at (element (point i)) f e =
     point-here s at (stands s l at (element (point i)) e) (byte-of s _ at 0 at (omega arith) e)
-    ∙ ap (λ (x : ℕ). found (element (point x))) (two-of s _ at 1 (at + 1) i refl e refl refl)
+    ∙ ap (λ (x : ℕ). item (element (point x))) (two-of s _ at 1 (at + 1) i refl e refl refl)
 item-here s l at (element (part p i)) f e =
     let q : byte s (at + 1) ≡ p = byte-of s _ at 1 (at + 1) refl e in
     part-here s at (stands s l at (element (part p i)) e) (byte-of s _ at 0 at (omega arith) e) (let g = f .0 in omega arith)
-    ∙ ap₂ (λ (y x : ℕ). found (element (part y x))) q (two-of s _ at 2 (at + 2) i refl e refl refl)
+    ∙ ap₂ (λ (y x : ℕ). item (element (part y x))) q (two-of s _ at 2 (at + 2) i refl e refl refl)
 item-here s l at (wire w) f e =
     wire-here s at (stands s l at (wire w) e) (byte-of s _ at 0 at (omega arith) e)
-    ∙ ap₂ (λ (x y : ℕ). found (wire (record { from = x; to = y }))) (two-of s _ at 1 (at + 1) (w .from) refl e refl refl) (two-of s _ at 3 (at + 3) (w .to) refl e refl refl)
+    ∙ ap₂ (λ (x y : ℕ). item (wire (record { from = x; to = y }))) (two-of s _ at 1 (at + 1) (w .from) refl e refl refl) (two-of s _ at 3 (at + 3) (w .to) refl e refl refl)
 item-here s l at (pin n) f e =
     pin-here s at (stands s l at (pin n) e) (byte-of s _ at 0 at (omega arith) e)
-    ∙ ap (λ (x : ℕ). found (pin x)) (two-of s _ at 1 (at + 1) n refl e refl refl)
+    ∙ ap (λ (x : ℕ). item (pin x)) (two-of s _ at 1 (at + 1) n refl e refl refl)
 
 -- a row of records that stands at an offset is read
 pub row-read : (s : List ℕ) (rs : List Item) (left at : ℕ) → All Fits rs → drop at s ≡ itemsBytes rs → at ≤ length s → length s ≤ at + left → itemsFrom left s at ≡ good rs
