@@ -60,9 +60,9 @@ def main():
     write("paper-and-zero-zero", "Section 3.1.1: and zero zero. Two zeros: a β-step changes the structure.", gate("and", const("zero"), const("zero")))
     write("paper-linear-identity", "Section 3.1.2: the identity on circuits from a bit to a bit: two separate points.",
           fun("f", arrow(bit, bit), lambda f: app(f)))
-    write("paper-linear-zero", "Section 3.1.2: (λ^f:1→1. f zero) ^ reg. This is P3.",
+    write("paper-linear-zero", "Section 3.1.2: (λ^f:1→1. f zero) ^ reg. This is P3. The pin shows the register's start at tick 0, then 0.",
           app(fun("f", arrow(bit, bit), lambda f: app(f, const("zero"))), const("reg")))
-    write("paper-feedback", "Section 3.1.3: fix x:1. and zero (reg x). This is P6.",
+    write("paper-feedback", "Section 3.1.3: fix x:1. and zero (reg x). This is P6. The pin shows 0 from either start.",
           fix("x", bit, lambda x: gate("and", const("zero"), gate("reg", x))))
     # circuits from the desk
     write("full-adder", """
@@ -85,13 +85,14 @@ def main():
 
     write("shift-register-8", """
         A linear feedback shift register of 8 bits (the card's random source), taps at 8, 6, 5, 4.
-        Registers wake up at zero, so one input bit starts it: the pin is held at 1 for one tick.
+        The card doesn't clear its registers. If all eight wake up at zero they never leave zero by themselves: the pin held at 1
+        for one tick starts it, from any start bits. With the pin at 0 it runs by itself from any start bits but eight zeros.
         Pins: start in, then the 8 register bits, first to last.""",
           fun("start", bit, lambda start: shift("v", 8, start, [7, 5, 4, 3])))
     chain_ty = arrow(bit, bit)
     write("chain-two", """
         A function of higher order: it takes two circuits from a bit to a bit and chains them. Each is used exactly once: linear.
-        Applied to a register and an inverter: a bit comes out delayed and inverted.
+        Applied to a register and an inverter: a bit comes out delayed and inverted; at tick 0 it shows the register's start, inverted.
         Pins: the bit in, the bit out.""",
           app(fun("f", chain_ty, lambda f: fun("g", chain_ty, lambda g: fun("x", bit, lambda x: app(g, app(f, x))))), const("reg"), const("inv")))
     write("chain-open", """
@@ -102,6 +103,8 @@ def main():
     write("comparator-divergence", """
         A bit-serial comparator of two streams, most significant bit first, with a divergence bit that stays once it is set.
         State: (greater, diverged). A stream that differs sets diverged; greater keeps the verdict of the first difference.
+        This is so if both registers start with 0. If diverged's register starts with 1, diverged is 1 from tick 0 on and greater
+        keeps its own start; if only greater's does, greater is 1 whatever comes.
         Pins: x, y in, then greater, diverged.""",
           fun("x", bit, lambda x: fun("y", bit, lambda y: fix("s", state, lambda s: proj(s, "greater", "diverged", lambda g, d:
               let("old", gate("reg", d), lambda old:

@@ -1,5 +1,6 @@
 #!/usr/bin/env python3
 """Runs a lean listing tick after tick, and holds the circuits of this folder to what they are for.
+A register's first bit is not known (document 02, L2): each run is given its start bits, and says what it shows with them.
 
     python3 examples/simulate.py LISTINGS      # a folder of NAME.listing files, as examples/run writes them
 """
@@ -9,7 +10,7 @@ import sys
 
 
 class Circuit:
-    """The lean part of a listing: a bit for each output, tick after tick. Registers start at 0."""
+    """The lean part of a listing: a bit for each output, tick after tick."""
 
     def __init__(self, text):
         lines = text.split("\n")
@@ -27,7 +28,17 @@ class Circuit:
         inputs = {i for i, _ in self.points} | {i for _, t in self.parts for i in t[:-1]}
         self.in_pins = [p for p in self.pins if p in inputs]
         self.out_pins = [p for p in self.pins if p not in inputs]
-        self.state = {t[-1]: 0 for name, t in self.parts if name == "reg"}
+        self.registers = sorted(t[-1] for name, t in self.parts if name == "reg")
+
+    def start(self, starts):
+        """the bits that the registers show at tick 0, by rising terminal"""
+        assert len(starts) == len(self.registers), "a start bit for each register"
+        self.state = dict(zip(self.registers, starts))
+
+    def run(self, starts, ticks):
+        """what the output pins show, tick after tick, from these starts"""
+        self.start(starts)
+        return [self.tick(given) for given in ticks]
 
     def tick(self, bits):
         given = dict(zip(self.in_pins, bits))
@@ -64,27 +75,38 @@ def number(bs):
 
 def adder(c, width):
     rng = random.Random(7)
+    c.start([])
     for _ in range(500):
         x, y = rng.randrange(2 ** width), rng.randrange(2 ** width)
         assert number(c.tick(bits(x, width) + bits(y, width))) == x + y, (x, y)
+    return "it has no register"
 
 
 def full_adder(c):
+    c.start([])
     for n in range(8):
         a = bits(n, 3)
         assert number(c.tick(a)) == sum(a), a
+    return "it has no register"
+
+
+def has_period_255(seen):
+    return len(set(map(tuple, seen[:255]))) == 255 and seen[255] == seen[0]
 
 
 def shift_register(c):
-    seen = []
-    for t in range(2 + 255):
-        seen.append(tuple(c.tick([1 if t == 0 else 0])))
-    assert len(set(seen[1:256])) == 255 and seen[256] == seen[1], "the period is 255"
+    for n in (0, 1, 90, 128, 255):
+        assert has_period_255(c.run(bits(n, 8), [[1]] + [[0]] * 256)[1:]), "after a 1 on the pin the period is 255"
+        quiet = c.run(bits(n, 8), [[0]] * 256)
+        assert has_period_255(quiet) if n else quiet == [[0] * 8] * 256, "with no 1 on the pin zeros stay zeros"
+    return "from five starts after a 1 on its pin; with no 1 on it, from any start but zeros"
 
 
 def chain(c):
-    said = [c.tick([b])[0] for b in (1, 0, 0, 1)]
-    assert said == [1, 0, 1, 1], said
+    for s in (0, 1):
+        said = [shown[0] for shown in c.run([s], [[1], [0], [0], [1]])]
+        assert said == [1 - s, 0, 1, 1], said
+    return "from either start, which it shows inverted at tick 0"
 
 
 def comparator(c):
@@ -92,9 +114,12 @@ def comparator(c):
     xs, ys = [rng.randrange(2) for _ in range(20)], [0] * 20
     ys[:5] = xs[:5]
     ys[5] = 1 - xs[5]
-    shown = [c.tick([x, y]) for x, y in zip(xs, ys)]
-    assert [d for _, d in shown] == [0] * 5 + [1] * 15
-    assert [g for g, _ in shown] == [0] * 5 + [xs[5]] * 15
+    compared = {(0, 0): ([0] * 5 + [xs[5]] * 15, [0] * 5 + [1] * 15), (1, 0): ([1] * 20, [0] * 5 + [1] * 15),
+                (0, 1): ([0] * 20, [1] * 20), (1, 1): ([1] * 20, [1] * 20)}
+    for starts, (greater, diverged) in compared.items():
+        shown = c.run(starts, list(zip(xs, ys)))
+        assert [g for g, _ in shown] == greater and [d for _, d in shown] == diverged, starts
+    return "from starts 0 0; from any other, greater keeps what it woke up with"
 
 
 CHECKS = {"full-adder": full_adder, "ripple-adder-8": lambda c: adder(c, 8), "shift-register-8": shift_register,
@@ -106,8 +131,8 @@ def main():
         sys.exit(__doc__)
     for name, check in sorted(CHECKS.items()):
         with open(os.path.join(sys.argv[1], name + ".listing")) as f:
-            check(Circuit(f.read()))
-        print("%s does what it is for" % name)
+            starts = check(Circuit(f.read()))
+        print("%s does what it is for: %s" % (name, starts))
 
 
 if __name__ == "__main__":

@@ -1,5 +1,5 @@
-//! Document 01, "When a record of bits is possible": the definition, tried on all bits there are.
-//! Only for small netlists.
+//! Document 01, "When a record of bits is possible", as document 02, L2 mends it: the definition,
+//! tried on all bits there are. Only for small netlists.
 
 use crate::netlist::*;
 use std::collections::BTreeSet;
@@ -62,7 +62,8 @@ fn behaves(element: Element, record: &Record, tick: usize) -> bool {
             "zero" => !out,
             "one" => out,
             "inv" => out != record.at(first, tick),
-            "reg" => out == (tick > 0 && record.at(first, tick - 1)),
+            // "at tick 0 a register's output may be either bit"
+            "reg" => tick == 0 || out == record.at(first, tick - 1),
             "and" => out == (record.at(first, tick) & record.at(first + 1, tick)),
             "or" => out == (record.at(first, tick) | record.at(first + 1, tick)),
             "xor" => out == (record.at(first, tick) ^ record.at(first + 1, tick)),

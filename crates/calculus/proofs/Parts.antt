@@ -6,9 +6,45 @@ use mathlib.Core.Bool.{Bool, true, false, _&&_, xor, false≢true}
 use mathlib.Core.List.{List, [], _∷_}
 use native.Mathlib.Omega.{arith}
 use lib.ListN.{getD, take}
+use Rattle.calculus.specs.Answer.{good}
 use Rattle.calculus.specs.Terms.{partAt}
-use Rattle.calculus.specs.Record.{Stream, Bits, Law, output, delayed, partLaw, Outside}
+use Rattle.calculus.specs.Read.{readSheet, readTypes, readTerm, headAt}
+use Rattle.calculus.specs.Net.{Net, inp, out, part}
+use Rattle.calculus.specs.Translate.{full}
+use Rattle.calculus.specs.Record.{Stream, Bits, Law, Follows, Delayed, Delays, partLaw, Outside}
 use Rattle.calculus.specs.Known.{netP2, fullP6}
+
+-- ---- a register by itself
+
+-- its sheet, and the netlist of that: an input pin and an output pin
+abbrev registerSheet : List ℕ
+registerSheet = 0x01 ∷ 0x03 ∷ 0x00 ∷ 0x00 ∷ 0x1A ∷ 0x01 ∷ 0x01 ∷ []
+
+abbrev register : Net
+register = record { elements = part 1 0 ∷ []; wires = []; pins = inp 0 ∷ out 1 ∷ [] }
+
+pub register-alone : full registerSheet ≡ good register
+unfolding full readSheet readTypes readTerm headAt
+register-alone = refl
+
+-- terminal 0 has the bits x; terminal 1 starts with bit b, and then shows them one tick later
+abbrev shows : Bool → Stream → Bits
+shows b x zero t = x t
+shows b x (suc i) zero = b
+shows b x (suc i) (suc t) = x t
+
+-- whatever comes in, both bits are possible at tick 0 (document 02, L2)
+pub either-start : (b : Bool) (x : Stream) (n : ℕ) → Outside partLaw register n (shows b x) (shows b x)
+either-start b x n = record {
+  bits = shows b x;
+  possible = record { elements = (λ t h. delayed t, tt); wires = tt };
+  pins = (λ t h. refl, (λ t h. refl, tt));
+  parts = (λ y i j t h. refl, tt);
+}
+  where
+    delayed : (t : ℕ) → Delayed x (shows b x 1) t
+    delayed zero = tt
+    delayed (suc t) = refl
 
 -- ---- what each part does
 
@@ -29,10 +65,17 @@ four y = y 0 ∷ y 1 ∷ y 2 ∷ y 3 ∷ []
 abbrev pub Gives : Law → ℕ → List Bool → Type 0
 Gives law p bits = (y : Stream) → law p 4 (inputs p) y ↔ (four y ≡ bits)
 
+-- .. and these bits from tick 1 on, with either bit at tick 0
+abbrev later : Stream → List Bool
+later y = y 1 ∷ y 2 ∷ y 3 ∷ []
+
+abbrev pub GivesLater : Law → ℕ → List Bool → Type 0
+GivesLater law p bits = (y : Stream) → law p 4 (inputs p) y ↔ (later y ≡ bits)
+
 pub record PartsWork (law : Law) : Type 0 where
   pub zero-works : Gives law 0 (false ∷ false ∷ false ∷ false ∷ [])
-  -- 0 at tick 0, and then its input at the tick before
-  pub reg-works : Gives law 1 (false ∷ false ∷ false ∷ true ∷ [])
+  -- either bit at tick 0, and then its input at the tick before
+  pub reg-works : GivesLater law 1 (false ∷ false ∷ true ∷ [])
   pub and-works : Gives law 2 (false ∷ false ∷ false ∷ true ∷ [])
   pub or-works : Gives law 3 (false ∷ true ∷ true ∷ true ∷ [])
   pub xor-works : Gives law 4 (false ∷ true ∷ true ∷ false ∷ [])
@@ -50,26 +93,36 @@ from-bits x y e (suc (suc zero)) h = cc
 from-bits x y e (suc (suc (suc zero))) h = cc
 from-bits x y e (suc (suc (suc (suc t)))) h = absurd (omega arith)
 
-gives : (p : ℕ) → Gives partLaw p (four (output p (inputs p)))
-gives p y = (to-bits (output p (inputs p)) y, from-bits (output p (inputs p)) y)
+to-later : (x y : Stream) → Delays 4 x y → later y ≡ x 0 ∷ x 1 ∷ x 2 ∷ []
+to-later x y h = rw (h 1 (omega arith), h 2 (omega arith), h 3 (omega arith))
 
--- document 01's law has the seven parts' tables
+from-later : (x y : Stream) → later y ≡ x 0 ∷ x 1 ∷ x 2 ∷ [] → Delays 4 x y
+from-later x y e zero h = tt
+from-later x y e (suc zero) h = cc
+from-later x y e (suc (suc zero)) h = cc
+from-later x y e (suc (suc (suc zero))) h = cc
+from-later x y e (suc (suc (suc (suc t)))) h = absurd (omega arith)
+
+gives : (x y : Stream) → Follows 4 x y ↔ (four y ≡ four x)
+gives x y = (to-bits x y, from-bits x y)
+
+-- the law has the seven parts' tables
 pub parts-work : PartsWork partLaw
 unfolding xor
 parts-work = record {
-  zero-works = gives 0;
-  reg-works = gives 1;
-  and-works = gives 2;
-  or-works = gives 3;
-  xor-works = gives 4;
-  inv-works = gives 5;
-  one-works = gives 6;
+  zero-works = λ y. gives _ y;
+  reg-works = λ y. (to-later _ y, from-later _ y);
+  and-works = λ y. gives _ y;
+  or-works = λ y. gives _ y;
+  xor-works = λ y. gives _ y;
+  inv-works = λ y. gives _ y;
+  one-works = λ y. gives _ y;
 }
 
 -- ---- records
 
-still : (t : ℕ) → false ≡ delayed (λ _. false) t
-still zero = refl
+still : (t : ℕ) → Delayed (λ _. false) (λ _. false) t
+still zero = tt
 still (suc t) = refl
 
 -- P6: 0 everywhere is possible for any number of ticks

@@ -1,4 +1,4 @@
--- When a record of bits is possible (document 01). Assumes nothing.
+-- When a record of bits is possible (document 01; document 02, L2, for the registers' start). Assumes nothing.
 use Prim.Native.Nat.{ℕ, zero, suc, _+_, _<_, _≤_}
 use mathlib.Core.Path.{_≡_}
 use mathlib.Core.Bool.{Bool, true, false, not, _&&_, _||_, xor}
@@ -29,28 +29,31 @@ Same n β i o = (t : ℕ) → t < n → β i t ≡ β o t
 abbrev pub Law : Type 1
 Law = ℕ → ℕ → List Stream → Stream → Type 0
 
--- a register's output: 0 at tick 0, and its input at the tick before
-abbrev pub delayed : Stream → Stream
-delayed x zero = false
-delayed x (suc t) = x t
-
 -- input k of a part
 abbrev pub input : List Stream → ℕ → Stream
 input xs k = getD xs k (λ t. false)
 
--- the output at tick t of 0 zero, 1 reg, 2 and, 3 or, 4 xor, 5 inv, 6 one
-abbrev pub output : ℕ → List Stream → ℕ → Bool
-output zero xs t = false
-output (suc zero) xs t = delayed (input xs 0) t
-output (suc (suc zero)) xs t = input xs 0 t && input xs 1 t
-output (suc (suc (suc zero))) xs t = input xs 0 t || input xs 1 t
-output (suc (suc (suc (suc zero)))) xs t = xor (input xs 0 t) (input xs 1 t)
-output (suc (suc (suc (suc (suc zero))))) xs t = not (input xs 0 t)
-output (suc (suc (suc (suc (suc (suc p)))))) xs t = true
+-- output y has at each of n ticks what the inputs give at this tick
+abbrev pub Follows : ℕ → Stream → Stream → Type 0
+Follows n x y = (t : ℕ) → t < n → y t ≡ x t
 
--- document 01's law
+-- a register with input x and output y: at tick 0 its output may be either bit, later it is its input at the tick before (document 02, L2)
+abbrev pub Delayed : Stream → Stream → ℕ → Type 0
+Delayed x y zero = Unit {0}
+Delayed x y (suc t) = y (suc t) ≡ x t
+
+abbrev pub Delays : ℕ → Stream → Stream → Type 0
+Delays n x y = (t : ℕ) → t < n → Delayed x y t
+
+-- the law of 0 zero, 1 reg, 2 and, 3 or, 4 xor, 5 inv, 6 one
 abbrev pub partLaw : Law
-partLaw p n xs y = (t : ℕ) → t < n → y t ≡ output p xs t
+partLaw zero n xs y = Follows n (λ t. false) y
+partLaw (suc zero) n xs y = Delays n (input xs 0) y
+partLaw (suc (suc zero)) n xs y = Follows n (λ t. input xs 0 t && input xs 1 t) y
+partLaw (suc (suc (suc zero))) n xs y = Follows n (λ t. input xs 0 t || input xs 1 t) y
+partLaw (suc (suc (suc (suc zero)))) n xs y = Follows n (λ t. xor (input xs 0 t) (input xs 1 t)) y
+partLaw (suc (suc (suc (suc (suc zero))))) n xs y = Follows n (λ t. not (input xs 0 t)) y
+partLaw (suc (suc (suc (suc (suc (suc p)))))) n xs y = Follows n (λ t. true) y
 
 -- ---- possible records, over any law of the parts
 
