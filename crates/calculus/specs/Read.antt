@@ -7,7 +7,7 @@ use lib.Dec.{leb, ltb, eqb}
 use lib.ListN.{length, getD, drop}
 use Rattle.calculus.specs.Answer.{Answer, good, refused, _>>=_, need}
 use Rattle.calculus.specs.Types.{size, sharable, isArrow, TyRec, rec01, rec02, rec03, rec04, recEq, Table, tyOf, tysFrom, tree}
-use Rattle.calculus.specs.Terms.{Edition, first, second, opening, Term, var, lvar, fun, app, lfun, lapp, pair, proj, fix, con, name}
+use Rattle.calculus.specs.Terms.{Edition, first, second, isSecond, opening, Term, var, lvar, fun, app, lfun, lapp, pair, proj, fix, con, name}
 
 -- ---- kinds
 
@@ -33,18 +33,17 @@ kindOf b = getD kinds b unknown
 
 -- the nodes that an edition knows: 1B stands in the second alone
 abbrev pub knows : Edition → NodeKind → Bool
-knows second k = true
-knows first k11 = true
-knows first k12 = true
-knows first k13 = true
-knows first k14 = true
-knows first k15 = true
-knows first k16 = true
-knows first k17 = true
-knows first k18 = true
-knows first k19 = true
-knows first k1A = true
-knows first k1B = false
+knows E k11 = true
+knows E k12 = true
+knows E k13 = true
+knows E k14 = true
+knows E k15 = true
+knows E k16 = true
+knows E k17 = true
+knows E k18 = true
+knows E k19 = true
+knows E k1A = true
+knows E k1B = isSecond E
 
 abbrev pub typeBody : TypeKind → ℕ
 typeBody k01 = 0

@@ -1,6 +1,7 @@
 -- Terms (document 000, Figure 1 and section 5.2), with the type numbers that the sheet writes, the seven parts (document 01), and the two
 -- editions of the calculus (document 02, L7). Assumes nothing.
 use Prim.Native.Nat.{ℕ, _+_, suc}
+use mathlib.Core.Bool.{Bool, true, false}
 use mathlib.Core.List.{List, [], _∷_}
 use lib.ListN.{getD}
 use Rattle.calculus.specs.Types.{Ty, bit, prod, arrow}
@@ -8,6 +9,10 @@ use Rattle.calculus.specs.Types.{Ty, bit, prod, arrow}
 -- the edition of a sheet
 pub data Edition : Type 0 where
   first second : Edition
+
+abbrev pub isSecond : Edition → Bool
+isSecond first = false
+isSecond second = true
 
 -- the bytes before the records: a second-edition sheet starts with kind 31, no body
 abbrev pub opening : Edition → List ℕ
