@@ -22,7 +22,7 @@ pub data Kind : Type 0 where
   type : TypeKind → Kind
   node : NodeKind → Kind
 
--- by the kind byte: 00 unknown, 01 to 04 types, 05 to 10 unknown, 11 to 1B nodes; 31 is none of a record
+-- by the kind byte: 00 unknown, 01 to 04 types, 05 to 10 unknown, 11 to 1B nodes; 31 is no kind of a record
 abbrev pub kinds : List Kind
 kinds =
     unknown ∷ type k01 ∷ type k02 ∷ type k03 ∷ type k04 ∷ unknown ∷ unknown ∷ unknown ∷ unknown ∷ unknown ∷ unknown ∷ unknown ∷ unknown ∷ unknown ∷ unknown ∷ unknown
