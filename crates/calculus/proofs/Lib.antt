@@ -1,2 +1,5 @@
 pub mod Answers
 pub mod Known
+pub mod Parts
+pub mod Derivations
+pub mod Useless

@@ -2,12 +2,13 @@
 -- Assumes nothing.
 use Prim.Native.Nat.{ℕ}
 use mathlib.Core.Bool.{Bool, true, false}
-use mathlib.Core.List.{List, [], _∷_}
+use mathlib.Core.List.{List, [], _∷_, map}
 use lib.ListN.{length}
 use Rattle.calculus.specs.Answer.{Answer, good, refused, _>>=_}
 use Rattle.calculus.specs.Net.{Net, Interface, inp, out, Element, point, part, Wire}
 use Rattle.calculus.specs.Lean.{lean}
 use Rattle.calculus.specs.Translate.{full, answer}
+use Rattle.calculus.specs.Listing.{Text, listing}
 
 infix 80 _⟶_
 abbrev _⟶_ : ℕ → ℕ → Wire
@@ -23,16 +24,20 @@ pub record Both : Type 0 where
   pub lean : Net
   pub leanBytes : List ℕ
 
--- a sheet, with its two netlists or its refusal
+-- a sheet, with its two netlists or its refusal, and its listing where document 01 writes it out
 pub record Row : Type 0 where
   pub sheet : List ℕ
   pub result : Answer Both
+  pub texts : List Text
 
 abbrev row : List ℕ → Net → List ℕ → Net → List ℕ → Row
-row s f fb l lb = record { sheet = s; result = good (record { full = f; fullBytes = fb; lean = l; leanBytes = lb }) }
+row s f fb l lb = record { sheet = s; result = good (record { full = f; fullBytes = fb; lean = l; leanBytes = lb }); texts = [] }
 
 abbrev refusal : List ℕ → ℕ → ℕ → Row
-refusal s number place = record { sheet = s; result = refused number place }
+refusal s number place = record { sheet = s; result = refused number place; texts = [] }
+
+abbrev withText : Row → Text → Row
+withText r text = record { sheet = r .sheet; result = r .result; texts = text ∷ [] }
 
 abbrev pub P1 : Row
 P1 =
@@ -42,21 +47,45 @@ P1 =
     (net (part 0 0 ∷ []) [] (out 0 ∷ []))
     (0x22 ∷ 0 ∷ 0 ∷ 0 ∷ 0x24 ∷ 0 ∷ 0 ∷ [])
 
+abbrev pub netP2 : Net
+netP2 = net (point 0 ∷ []) [] (inp 0 ∷ out 1 ∷ [])
+
 abbrev pub P2 : Row
 P2 =
     row (0x01 ∷ 0x03 ∷ 0x00 ∷ 0x00 ∷ 0x13 ∷ 0x01 ∷ 0x11 ∷ 0x00 ∷ [])
-    (net (point 0 ∷ []) [] (inp 0 ∷ out 1 ∷ []))
+    netP2
     (0x21 ∷ 0 ∷ 0 ∷ 0x24 ∷ 0 ∷ 0 ∷ 0x24 ∷ 1 ∷ 0 ∷ [])
-    (net (point 0 ∷ []) [] (inp 0 ∷ out 1 ∷ []))
+    netP2
     (0x21 ∷ 0 ∷ 0 ∷ 0x24 ∷ 0 ∷ 0 ∷ 0x24 ∷ 1 ∷ 0 ∷ [])
+
+-- P3's listing, whole
+abbrev listingP3 : Text
+listingP3 =
+    102 ∷ 117 ∷ 108 ∷ 108 ∷ 10  -- full
+    ∷ 112 ∷ 111 ∷ 105 ∷ 110 ∷ 116 ∷ 32 ∷ 48 ∷ 32 ∷ 49 ∷ 10  -- point 0 1
+    ∷ 112 ∷ 111 ∷ 105 ∷ 110 ∷ 116 ∷ 32 ∷ 50 ∷ 32 ∷ 51 ∷ 10  -- point 2 3
+    ∷ 112 ∷ 97 ∷ 114 ∷ 116 ∷ 32 ∷ 122 ∷ 101 ∷ 114 ∷ 111 ∷ 32 ∷ 52 ∷ 10  -- part zero 4
+    ∷ 112 ∷ 97 ∷ 114 ∷ 116 ∷ 32 ∷ 114 ∷ 101 ∷ 103 ∷ 32 ∷ 53 ∷ 32 ∷ 54 ∷ 10  -- part reg 5 6
+    ∷ 119 ∷ 105 ∷ 114 ∷ 101 ∷ 32 ∷ 52 ∷ 32 ∷ 48 ∷ 10  -- wire 4 0
+    ∷ 119 ∷ 105 ∷ 114 ∷ 101 ∷ 32 ∷ 49 ∷ 32 ∷ 53 ∷ 10  -- wire 1 5
+    ∷ 119 ∷ 105 ∷ 114 ∷ 101 ∷ 32 ∷ 54 ∷ 32 ∷ 50 ∷ 10  -- wire 6 2
+    ∷ 112 ∷ 105 ∷ 110 ∷ 32 ∷ 51 ∷ 10  -- pin 3
+    ∷ 108 ∷ 101 ∷ 97 ∷ 110 ∷ 10  -- lean
+    ∷ 112 ∷ 97 ∷ 114 ∷ 116 ∷ 32 ∷ 122 ∷ 101 ∷ 114 ∷ 111 ∷ 32 ∷ 52 ∷ 10  -- part zero 4
+    ∷ 112 ∷ 97 ∷ 114 ∷ 116 ∷ 32 ∷ 114 ∷ 101 ∷ 103 ∷ 32 ∷ 53 ∷ 32 ∷ 54 ∷ 10  -- part reg 5 6
+    ∷ 119 ∷ 105 ∷ 114 ∷ 101 ∷ 32 ∷ 52 ∷ 32 ∷ 53 ∷ 10  -- wire 4 5
+    ∷ 112 ∷ 105 ∷ 110 ∷ 32 ∷ 54 ∷ 10  -- pin 6
+    ∷ 101 ∷ 110 ∷ 100 ∷ 10  -- end
+    ∷ []
 
 abbrev pub P3 : Row
 P3 =
-    row (0x01 ∷ 0x03 ∷ 0x00 ∷ 0x00 ∷ 0x04 ∷ 0x01 ∷ 0x00 ∷ 0x16 ∷ 0x15 ∷ 0x02 ∷ 0x14 ∷ 0x12 ∷ 0x00 ∷ 0x1A ∷ 0x00 ∷ 0x00 ∷ 0x1A ∷ 0x01 ∷ 0x01 ∷ [])
+    withText (row (0x01 ∷ 0x03 ∷ 0x00 ∷ 0x00 ∷ 0x04 ∷ 0x01 ∷ 0x00 ∷ 0x16 ∷ 0x15 ∷ 0x02 ∷ 0x14 ∷ 0x12 ∷ 0x00 ∷ 0x1A ∷ 0x00 ∷ 0x00 ∷ 0x1A ∷ 0x01 ∷ 0x01 ∷ [])
     (net (point 0 ∷ point 2 ∷ part 0 4 ∷ part 1 5 ∷ []) (4 ⟶ 0 ∷ 1 ⟶ 5 ∷ 6 ⟶ 2 ∷ []) (out 3 ∷ []))
     (0x21 ∷ 0 ∷ 0 ∷ 0x21 ∷ 2 ∷ 0 ∷ 0x22 ∷ 0 ∷ 4 ∷ 0 ∷ 0x22 ∷ 1 ∷ 5 ∷ 0 ∷ 0x23 ∷ 4 ∷ 0 ∷ 0 ∷ 0 ∷ 0x23 ∷ 1 ∷ 0 ∷ 5 ∷ 0 ∷ 0x23 ∷ 6 ∷ 0 ∷ 2 ∷ 0 ∷ 0x24 ∷ 3 ∷ 0 ∷ [])
     (net (part 0 4 ∷ part 1 5 ∷ []) (4 ⟶ 5 ∷ []) (out 6 ∷ []))
-    (0x22 ∷ 0 ∷ 4 ∷ 0 ∷ 0x22 ∷ 1 ∷ 5 ∷ 0 ∷ 0x23 ∷ 4 ∷ 0 ∷ 5 ∷ 0 ∷ 0x24 ∷ 6 ∷ 0 ∷ [])
+    (0x22 ∷ 0 ∷ 4 ∷ 0 ∷ 0x22 ∷ 1 ∷ 5 ∷ 0 ∷ 0x23 ∷ 4 ∷ 0 ∷ 5 ∷ 0 ∷ 0x24 ∷ 6 ∷ 0 ∷ []))
+    listingP3
 
 abbrev pub P4 : Row
 P4 =
@@ -74,10 +103,13 @@ P5 =
     (net (point 0 ∷ part 2 2 ∷ []) (1 ⟶ 2 ∷ 1 ⟶ 3 ∷ []) (inp 0 ∷ out 4 ∷ []))
     (0x21 ∷ 0 ∷ 0 ∷ 0x22 ∷ 2 ∷ 2 ∷ 0 ∷ 0x23 ∷ 1 ∷ 0 ∷ 2 ∷ 0 ∷ 0x23 ∷ 1 ∷ 0 ∷ 3 ∷ 0 ∷ 0x24 ∷ 0 ∷ 0 ∷ 0x24 ∷ 4 ∷ 0 ∷ [])
 
+abbrev pub fullP6 : Net
+fullP6 = net (point 0 ∷ part 2 2 ∷ part 0 5 ∷ part 1 6 ∷ []) (5 ⟶ 2 ∷ 1 ⟶ 6 ∷ 7 ⟶ 3 ∷ 4 ⟶ 0 ∷ []) (out 4 ∷ [])
+
 abbrev pub P6 : Row
 P6 =
     row (0x01 ∷ 0x03 ∷ 0x00 ∷ 0x00 ∷ 0x03 ∷ 0x00 ∷ 0x01 ∷ 0x19 ∷ 0x00 ∷ 0x14 ∷ 0x14 ∷ 0x1A ∷ 0x02 ∷ 0x02 ∷ 0x1A ∷ 0x00 ∷ 0x00 ∷ 0x14 ∷ 0x1A ∷ 0x01 ∷ 0x01 ∷ 0x11 ∷ 0x00 ∷ [])
-    (net (point 0 ∷ part 2 2 ∷ part 0 5 ∷ part 1 6 ∷ []) (5 ⟶ 2 ∷ 1 ⟶ 6 ∷ 7 ⟶ 3 ∷ 4 ⟶ 0 ∷ []) (out 4 ∷ []))
+    fullP6
     (0x21 ∷ 0 ∷ 0 ∷ 0x22 ∷ 2 ∷ 2 ∷ 0 ∷ 0x22 ∷ 0 ∷ 5 ∷ 0 ∷ 0x22 ∷ 1 ∷ 6 ∷ 0 ∷ 0x23 ∷ 5 ∷ 0 ∷ 2 ∷ 0 ∷ 0x23 ∷ 1 ∷ 0 ∷ 6 ∷ 0 ∷ 0x23 ∷ 7 ∷ 0 ∷ 3 ∷ 0 ∷ 0x23 ∷ 4 ∷ 0 ∷ 0 ∷ 0 ∷ 0x24 ∷ 4 ∷ 0 ∷ [])
     (net (part 2 2 ∷ part 0 5 ∷ part 1 6 ∷ []) (5 ⟶ 2 ∷ 7 ⟶ 3 ∷ 4 ⟶ 6 ∷ []) (out 4 ∷ []))
     (0x22 ∷ 2 ∷ 2 ∷ 0 ∷ 0x22 ∷ 0 ∷ 5 ∷ 0 ∷ 0x22 ∷ 1 ∷ 6 ∷ 0 ∷ 0x23 ∷ 5 ∷ 0 ∷ 2 ∷ 0 ∷ 0x23 ∷ 7 ∷ 0 ∷ 3 ∷ 0 ∷ 0x23 ∷ 4 ∷ 0 ∷ 6 ∷ 0 ∷ 0x24 ∷ 4 ∷ 0 ∷ [])
@@ -147,45 +179,50 @@ S4 =
     (net (part 0 0 ∷ part 6 1 ∷ []) [] (out 0 ∷ []))
     (0x22 ∷ 0 ∷ 0 ∷ 0 ∷ 0x22 ∷ 6 ∷ 1 ∷ 0 ∷ 0x24 ∷ 0 ∷ 0 ∷ [])
 
--- its first subterm is not sharable: 12 at the new node, before the body, whose variable is out of scope
+-- its first subterm is not sharable: 12 at the new node
 abbrev pub S5 : Row
 S5 =
+    refusal (0x31 ∷ 0x01 ∷ 0x03 ∷ 0x00 ∷ 0x00 ∷ 0x1B ∷ 0x1A ∷ 0x01 ∷ 0x01 ∷ 0x1A ∷ 0x00 ∷ 0x00 ∷ []) 12 0
+
+-- .. before its body, whose variable is out of scope
+abbrev pub S6 : Row
+S6 =
     refusal (0x31 ∷ 0x01 ∷ 0x03 ∷ 0x00 ∷ 0x00 ∷ 0x13 ∷ 0x01 ∷ 0x1B ∷ 0x1A ∷ 0x01 ∷ 0x01 ∷ 0x11 ∷ 0x02 ∷ []) 12 1
 
 -- gates of the other edition: 12
-abbrev pub S6 : Row
-S6 =
-    refusal (0x31 ∷ 0x01 ∷ 0x03 ∷ 0x00 ∷ 0x00 ∷ 0x03 ∷ 0x00 ∷ 0x01 ∷ 0x1A ∷ 0x02 ∷ 0x02 ∷ []) 12 0
-
 abbrev pub S7 : Row
 S7 =
+    refusal (0x31 ∷ 0x01 ∷ 0x03 ∷ 0x00 ∷ 0x00 ∷ 0x03 ∷ 0x00 ∷ 0x01 ∷ 0x1A ∷ 0x02 ∷ 0x02 ∷ []) 12 0
+
+abbrev pub S8 : Row
+S8 =
     refusal (0x01 ∷ 0x02 ∷ 0x00 ∷ 0x00 ∷ 0x03 ∷ 0x01 ∷ 0x00 ∷ 0x1A ∷ 0x02 ∷ 0x02 ∷ []) 12 0
 
 -- 1B in the first edition: 4
-abbrev pub S8 : Row
-S8 =
+abbrev pub S9 : Row
+S9 =
     refusal (0x01 ∷ 0x1B ∷ 0x1A ∷ 0x00 ∷ 0x00 ∷ 0x11 ∷ 0x00 ∷ []) 4 1
 
 -- 31 anywhere but first: 4 where a record is due, 9 behind the term
-abbrev pub S9 : Row
-S9 =
-    refusal (0x01 ∷ 0x31 ∷ 0x1A ∷ 0x00 ∷ 0x00 ∷ []) 4 1
-
 abbrev pub S10 : Row
 S10 =
-    refusal (0x31 ∷ 0x31 ∷ 0x01 ∷ 0x1A ∷ 0x00 ∷ 0x00 ∷ []) 4 1
+    refusal (0x01 ∷ 0x31 ∷ 0x1A ∷ 0x00 ∷ 0x00 ∷ []) 4 1
 
 abbrev pub S11 : Row
 S11 =
+    refusal (0x31 ∷ 0x31 ∷ 0x01 ∷ 0x1A ∷ 0x00 ∷ 0x00 ∷ []) 4 1
+
+abbrev pub S12 : Row
+S12 =
     refusal (0x31 ∷ 0x01 ∷ 0x1A ∷ 0x00 ∷ 0x00 ∷ 0x31 ∷ []) 9 5
 
 -- 31 alone: the term is unfinished at the end
-abbrev pub S12 : Row
-S12 =
+abbrev pub S13 : Row
+S13 =
     refusal (0x31 ∷ []) 3 1
 
 unfoldable pub editions : List Row
-editions = S1 ∷ S2 ∷ S3 ∷ S4 ∷ S5 ∷ S6 ∷ S7 ∷ S8 ∷ S9 ∷ S10 ∷ S11 ∷ S12 ∷ []
+editions = S1 ∷ S2 ∷ S3 ∷ S4 ∷ S5 ∷ S6 ∷ S7 ∷ S8 ∷ S9 ∷ S10 ∷ S11 ∷ S12 ∷ S13 ∷ []
 
 -- ---- what the definitions answer
 
@@ -224,8 +261,8 @@ lacks (good b) = record { memory = refused 1 0; fullRoom = refused 17 (length (b
 lacks (refused number place) = record { memory = refused 1 0; fullRoom = refused number place; leanRoom = refused number place }
 
 -- a row, as the definitions answer and as document 01 has it
-abbrev pub answers : Row → Answer Both × Lacking
-answers r = (run (r .sheet), lacking (r .sheet) (r .result))
+abbrev pub answers : Row → Answer Both × Lacking × List Text
+answers r = (run (r .sheet), lacking (r .sheet) (r .result), map (λ _. listing (r .sheet)) (r .texts))
 
-abbrev pub expected : Row → Answer Both × Lacking
-expected r = (r .result, lacks (r .result))
+abbrev pub expected : Row → Answer Both × Lacking × List Text
+expected r = (r .result, lacks (r .result), r .texts)

@@ -1,10 +1,13 @@
 -- The lean netlist (document 01, "The lean netlist"). Assumes nothing.
-use Prim.Native.Nat.{ℕ, zero, suc, _+_, min}
+use Prim.Native.Nat.{ℕ, zero, suc, _+_, _≤_, min}
+use mathlib.Core.Path.{_≡_}
 use mathlib.Core.Bool.{Bool, true, false, not, _&&_, _||_, cond}
 use mathlib.Core.List.{List, [], _∷_, _++_, map}
-use lib.Dec.{eqb}
+use lib.Dec.{T, eqb}
 use Rattle.calculus.specs.Terms.{partAt}
 use Rattle.calculus.specs.Net.{Terminal, inp, out, Interface, Element, point, part, Wire, Net}
+use Rattle.calculus.specs.Inputs.{isOut}
+use Rattle.calculus.specs.Record.{All}
 
 -- the output that drives input i: where the wire to i comes from; d where there is none
 abbrev pub driver : List Wire → ℕ → ℕ → ℕ
@@ -47,6 +50,19 @@ root m o =
     let n = pointCount (m .elements) in
     let p = backs n m o in
     lowest n m p p
+
+-- ---- the document's sentences on roots, as a relation: `root` meets them (theorem `root-says`), and nothing else does (`sentences-only`)
+
+-- a part's output is its own root; for a point's output, if the point's input is a pin, it is its own root, otherwise it has the root of
+-- the output that drives the point's input
+abbrev pub Says : Net → (ℕ → ℕ) → Element → Type 0
+Says m r (part p i) = r (i + partAt p .inputs) ≡ i + partAt p .inputs
+Says m r (point i) = (T (isPin (m .pins) i) → r (i + 1) ≡ i + 1) × (isPin (m .pins) i ≡ false → r (i + 1) ≡ r (driver (m .wires) i (i + 1)))
+
+-- if that comes round in a ring, the root is the output of the ring's lowest-numbered point
+pub record Sentences (m : Net) (r : ℕ → ℕ) : Type 0 where
+  pub elements : All (Says m r) (m .elements)
+  pub rings : (k o : ℕ) → T (isOut (m .elements) o) → 1 ≤ k → backs k m o ≡ o → r o ≡ lowest k m o o
 
 -- ---- what is kept
 

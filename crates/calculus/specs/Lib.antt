@@ -3,14 +3,15 @@ pub mod Types
 pub mod Terms
 pub mod Read
 pub mod Write
-pub mod Laid
 pub mod Walk
 pub mod Rules
 pub mod Net
+pub mod Inputs
 pub mod Lean
 pub mod Record
-pub mod Formed
+pub mod NetRead
 pub mod Translate
 pub mod Stretch
 pub mod Listing
 pub mod Known
+pub mod Useless

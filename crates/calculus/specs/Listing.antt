@@ -29,25 +29,31 @@ field n = 32 ∷ decimal n
 abbrev pub line : Text → Text
 line fields = fields ++ (10 ∷ [])
 
--- zero, reg, and, or, xor, inv, one
+-- the parts' names, by their numbers
 abbrev pub names : List Text
 names =
-    (122 ∷ 101 ∷ 114 ∷ 111 ∷ []) ∷ (114 ∷ 101 ∷ 103 ∷ []) ∷ (97 ∷ 110 ∷ 100 ∷ []) ∷ (111 ∷ 114 ∷ []) ∷ (120 ∷ 111 ∷ 114 ∷ [])
-    ∷ (105 ∷ 110 ∷ 118 ∷ []) ∷ (111 ∷ 110 ∷ 101 ∷ []) ∷ []
+    (122 ∷ 101 ∷ 114 ∷ 111 ∷ [])  -- zero
+    ∷ (114 ∷ 101 ∷ 103 ∷ [])  -- reg
+    ∷ (97 ∷ 110 ∷ 100 ∷ [])  -- and
+    ∷ (111 ∷ 114 ∷ [])  -- or
+    ∷ (120 ∷ 111 ∷ 114 ∷ [])  -- xor
+    ∷ (105 ∷ 110 ∷ 118 ∷ [])  -- inv
+    ∷ (111 ∷ 110 ∷ 101 ∷ [])  -- one
+    ∷ []
 
 -- k terminals from i on
-abbrev pub terminals : ℕ → ℕ → Text
-terminals zero i = []
-terminals (suc k) i = field i ++ terminals k (i + 1)
+abbrev pub terminalFields : ℕ → ℕ → Text
+terminalFields zero i = []
+terminalFields (suc k) i = field i ++ terminalFields k (i + 1)
 
--- point, its input and output; part, its name and terminals
+-- a point's input and output; a part's name and terminals
 abbrev pub elementLine : Element → Text
-elementLine (point i) = line (112 ∷ 111 ∷ 105 ∷ 110 ∷ 116 ∷ terminals 2 i)
-elementLine (part p i) = line (112 ∷ 97 ∷ 114 ∷ 116 ∷ 32 ∷ (getD names p [] ++ terminals (partAt p .inputs + 1) i))
+elementLine (point i) = line (112 ∷ 111 ∷ 105 ∷ 110 ∷ 116 ∷ terminalFields 2 i)  -- point
+elementLine (part p i) = line (112 ∷ 97 ∷ 114 ∷ 116 ∷ 32 ∷ (getD names p [] ++ terminalFields (partAt p .inputs + 1) i))  -- part
 
--- wire, from and to
+-- a wire's from and to
 abbrev pub wireLine : Wire → Text
-wireLine w = line (119 ∷ 105 ∷ 114 ∷ 101 ∷ (field (w .from) ++ field (w .to)))
+wireLine w = line (119 ∷ 105 ∷ 114 ∷ 101 ∷ (field (w .from) ++ field (w .to)))  -- wire
 
 abbrev pub elementLines : List Element → Text
 elementLines [] = []
@@ -57,19 +63,23 @@ abbrev pub wireLines : List Wire → Text
 wireLines [] = []
 wireLines (w ∷ ws) = wireLine w ++ wireLines ws
 
--- pin, its terminal
+-- a pin's terminal
 abbrev pub pinLines : Interface → Text
 pinLines [] = []
-pinLines (t ∷ ts) = line (112 ∷ 105 ∷ 110 ∷ field (number t)) ++ pinLines ts
+pinLines (t ∷ ts) = line (112 ∷ 105 ∷ 110 ∷ field (number t)) ++ pinLines ts  -- pin
 
 unfoldable pub netLines : Net → Text
 netLines m = elementLines (m .elements) ++ (wireLines (m .wires) ++ pinLines (m .pins))
 
 -- full, that netlist, lean, that netlist, end; or the one line refused, number, place
-abbrev pub listed : Answer Net → Text
-listed (good m) =
-    line (102 ∷ 117 ∷ 108 ∷ 108 ∷ []) ++ (netLines m ++ (line (108 ∷ 101 ∷ 97 ∷ 110 ∷ []) ++ (netLines (lean m) ++ line (101 ∷ 110 ∷ 100 ∷ []))))
-listed (refused number place) = line (114 ∷ 101 ∷ 102 ∷ 117 ∷ 115 ∷ 101 ∷ 100 ∷ (field number ++ field place))
+abbrev pub listingOf : Answer Net → Text
+listingOf (good m) =
+    line (102 ∷ 117 ∷ 108 ∷ 108 ∷ [])  -- full
+    ++ (netLines m
+    ++ (line (108 ∷ 101 ∷ 97 ∷ 110 ∷ [])  -- lean
+    ++ (netLines (lean m)
+    ++ line (101 ∷ 110 ∷ 100 ∷ []))))  -- end
+listingOf (refused number place) = line (114 ∷ 101 ∷ 102 ∷ 117 ∷ 115 ∷ 101 ∷ 100 ∷ (field number ++ field place))  -- refused
 
 unfoldable pub listing : List ℕ → Text
-listing s = listed (full s)
+listing s = listingOf (full s)

@@ -60,6 +60,8 @@ outSide (true ∷ bs) n = inp n ∷ outSide bs (n + 2)
 -- ---- wires between an output interface and an input interface of one type: from the output to the input, at an unturned bit
 -- from the first to the second, at a turned bit from the second to the first
 
+-- two such interfaces show opposite ends at each bit, so each bit gets its wire (theorem `join-length`) and the clauses without one are
+-- never reached
 abbrev pub join : Interface → Interface → List Wire
 join [] ys = []
 join (a ∷ xs) [] = []
@@ -81,6 +83,7 @@ pub record Bound : Type 0 where
   pub type : Ty
   pub side : Interface
 
+-- what a binder number out of scope would give: never reached in a term that the walk accepts
 abbrev pub unbound : Bound
 unbound = record { type = bit; side = [] }
 
@@ -212,21 +215,34 @@ netOf m = record { elements = m .elements; wires = m .wires; pins = m .side }
 
 -- ---- bytes
 
+-- a record of a netlist; of a pin only its terminal's number is written
+pub data Item : Type 0 where
+  element : Element → Item
+  wire : Wire → Item
+  pin : ℕ → Item
+
 abbrev pub two : ℕ → List ℕ
 two n = n % 256 ∷ n / 256 ∷ []
 
+-- a record's bytes: the one definition, of the writer and of the reader
+abbrev pub itemBytes : Item → List ℕ
+itemBytes (element (point i)) = 0x21 ∷ two i
+itemBytes (element (part p i)) = 0x22 ∷ p ∷ two i
+itemBytes (wire w) = 0x23 ∷ two (w .from) ++ two (w .to)
+itemBytes (pin n) = 0x24 ∷ two n
+
 abbrev pub elementBytes : List Element → List ℕ
 elementBytes [] = []
-elementBytes (point i ∷ es) = 0x21 ∷ two i ++ elementBytes es
-elementBytes (part p i ∷ es) = 0x22 ∷ p ∷ two i ++ elementBytes es
+elementBytes (e ∷ es) = itemBytes (element e) ++ elementBytes es
 
 abbrev pub wireBytes : List Wire → List ℕ
 wireBytes [] = []
-wireBytes (w ∷ ws) = 0x23 ∷ two (w .from) ++ (two (w .to) ++ wireBytes ws)
+wireBytes (w ∷ ws) = itemBytes (wire w) ++ wireBytes ws
 
 abbrev pub pinBytes : Interface → List ℕ
 pinBytes [] = []
-pinBytes (t ∷ ts) = 0x24 ∷ two (number t) ++ pinBytes ts
+pinBytes (t ∷ ts) = itemBytes (pin (number t)) ++ pinBytes ts
 
+-- elements in making order, then wires in making order, then pins in interface order
 unfoldable pub netBytes : Net → List ℕ
 netBytes m = elementBytes (m .elements) ++ (wireBytes (m .wires) ++ pinBytes (m .pins))

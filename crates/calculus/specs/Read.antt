@@ -22,11 +22,14 @@ pub data Kind : Type 0 where
   type : TypeKind → Kind
   node : NodeKind → Kind
 
--- by the kind byte: 00 unknown, 01 to 04 types, 05 to 10 unknown, 11 to 1B nodes; 31 is no kind of a record
+-- by the kind byte, eight a row; 31 is no kind of a record
 abbrev pub kinds : List Kind
 kinds =
-    unknown ∷ type k01 ∷ type k02 ∷ type k03 ∷ type k04 ∷ unknown ∷ unknown ∷ unknown ∷ unknown ∷ unknown ∷ unknown ∷ unknown ∷ unknown ∷ unknown ∷ unknown ∷ unknown
-    ∷ unknown ∷ node k11 ∷ node k12 ∷ node k13 ∷ node k14 ∷ node k15 ∷ node k16 ∷ node k17 ∷ node k18 ∷ node k19 ∷ node k1A ∷ node k1B ∷ []
+    unknown ∷ type k01 ∷ type k02 ∷ type k03 ∷ type k04 ∷ unknown ∷ unknown ∷ unknown  -- 00 to 07
+    ∷ unknown ∷ unknown ∷ unknown ∷ unknown ∷ unknown ∷ unknown ∷ unknown ∷ unknown  -- 08 to 0F
+    ∷ unknown ∷ node k11 ∷ node k12 ∷ node k13 ∷ node k14 ∷ node k15 ∷ node k16 ∷ node k17  -- 10 to 17
+    ∷ node k18 ∷ node k19 ∷ node k1A ∷ node k1B  -- 18 to 1B
+    ∷ []
 
 abbrev pub kindOf : ℕ → Kind
 kindOf b = getD kinds b unknown
@@ -110,6 +113,8 @@ typeAt (type k) more s Θ at go = do
   _ ← checkType Θ (typeRec k (byte s (at + 1)) (byte s (at + 2))) at
   go (Θ ++ typeRec k (byte s (at + 1)) (byte s (at + 2)) ∷ []) (at + 1 + typeBody k)
 
+-- the first byte that isn't 01 to 04 ends them. With none left `typeAt` refuses a type record itself (8), and the last argument is never
+-- reached
 unfoldable pub readTypes : ℕ → List ℕ → Table → ℕ → Answer (Table × ℕ)
 readTypes zero s Θ at = typeAt (kindOf (byte s at)) zero s Θ at (λ Φ next. refused 8 at)
 readTypes (suc more) s Θ at = typeAt (kindOf (byte s at)) (suc more) s Θ at (λ Φ next. readTypes more s Φ next)
@@ -191,7 +196,7 @@ nodeAt k1B x y next n go = do
   e ← go (a .next) (a .count)
   got (name (a .term) (e .term)) (e .next) (e .count)
 
--- the term at an offset, with n nodes before it
+-- the term at an offset, with n nodes before it. At depth 65 `headAt` refuses by itself (3, 4 or 8), and the last line is never reached
 unfoldable pub readTerm : Edition → ℕ → List ℕ → ℕ → ℕ → ℕ → Answer Got
 readTerm E zero s types at n = do
   k ← headAt E zero s types at n

@@ -70,5 +70,6 @@ binary = record { inputs = 2; type = gate }
 abbrev pub parts : List Part
 parts = source ∷ unary ∷ binary ∷ binary ∷ binary ∷ unary ∷ source ∷ []
 
+-- beyond the seven as the first: never reached, since 15 refuses it
 abbrev pub partAt : ℕ → Part
 partAt p = getD parts p source

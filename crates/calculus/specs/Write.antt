@@ -1,5 +1,5 @@
--- The bytes of a sheet (document 01, "The sheet"): those of its table of types and of its term, behind the opening of its edition. Assumes
--- nothing.
+-- The bytes of a sheet (document 01, "The sheet"): those of its table of types and of its term, behind the opening of its edition. A node's
+-- stretch is measured by them. Assumes nothing.
 use Prim.Native.Nat.{ℕ}
 use mathlib.Core.List.{List, [], _∷_, _++_}
 use Rattle.calculus.specs.Types.{TyRec, rec01, rec02, rec03, rec04, Table}

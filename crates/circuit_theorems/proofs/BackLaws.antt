@@ -11,9 +11,10 @@ use lib.ListN.{length, getD}
 use Rattle.laws.proofs.Tests.{by-eqb, or-cases, or-elim, or-left, or-right, T-is}
 use Rattle.calculus.specs.Terms.{partAt}
 use Rattle.calculus.specs.Net.{Element, point, part, Net}
-use Rattle.calculus.specs.Lean.{driver, isPin, backIn, back, backs, lowest, root}
+use Rattle.calculus.specs.Lean.{driver, isPin, backIn, back, backs, lowest, root, Says, Sentences}
 use Rattle.calculus.specs.Record.{All}
-use Rattle.calculus.specs.Formed.{isOut, Rising, Formed}
+use Rattle.calculus.specs.Inputs.{isOut}
+use Rattle.circuit_theorems.specs.Formed.{Rising, Formed}
 use Rattle.circuit_theorems.proofs.Rings.{has, outs, moves-in}
 use Rattle.circuit_theorems.proofs.RootLaws.{root-stays, root-back, root-lowest, only-root}
 use Rattle.circuit_theorems.proofs.Lists.{all-at}
@@ -90,17 +91,7 @@ module _ (m : Net) where
   pub point-root : (i : ℕ) → T (pointIn (m .elements) i) → isPin (m .pins) i ≡ false → root m (i + 1) ≡ root m (driver (m .wires) i (i + 1))
   point-root i h u = sym (root-back m (i + 1)) ∙ ap (root m) (back-point i h u)
 
-  -- what these say of an element, for any assignment of roots
-  abbrev pub Says : (ℕ → ℕ) → Element → Type 0
-  Says r (part p i) = r (i + partAt p .inputs) ≡ i + partAt p .inputs
-  Says r (point i) = (T (isPin (m .pins) i) → r (i + 1) ≡ i + 1) × (isPin (m .pins) i ≡ false → r (i + 1) ≡ r (driver (m .wires) i (i + 1)))
-
-  -- the document's sentences: of parts, of points, and of rings
-  pub record Sentences (r : ℕ → ℕ) : Type 0 where
-    pub elements : All (Says r) (m .elements)
-    pub rings : (k o : ℕ) → T (isOut (m .elements) o) → 1 ≤ k → backs k m o ≡ o → r o ≡ lowest k m o o
-
-  says-in : (es : List Element) → ((x : ℕ) → T (pointIn es x) → T (pointIn (m .elements) x)) → All PartStays es → All (Says (root m)) es
+  says-in : (es : List Element) → ((x : ℕ) → T (pointIn es x) → T (pointIn (m .elements) x)) → All PartStays es → All (Says m (root m)) es
   says-in [] f a = tt
   says-in (point i ∷ es) f a =
       ((pin-root i, point-root i (f i (or-left (eqb i i) (pointIn es i) (eqb-refl i)))), says-in es (λ x t. f x (or-right (eqb i x) (pointIn es x) t)) (a .1))
@@ -108,7 +99,7 @@ module _ (m : Net) where
 
   module _ (ok : Formed m) where
     -- they hold of the root ..
-    pub root-says : Sentences (root m)
+    pub root-says : Sentences m (root m)
     root-says = record {
       elements = says-in (m .elements) (λ x t. t) (back-parts (ok .end) (ok .rising));
       rings = λ k o h one e. root-lowest m k o one e;
@@ -133,8 +124,8 @@ module _ (m : Net) where
     backs-out zero o h = h
     backs-out (suc k) o h = backs-out k (back m o) (back-out o h)
 
-    module _ (r : ℕ → ℕ) (s : Sentences r) where
-      goes-in : (es : List Element) (o : ℕ) → All (Says r) es → All PartStays es → T (isOut es o) → ((x : ℕ) → T (pointIn es x) → T (pointIn (m .elements) x)) → r o ≡ r (back m o)
+    module _ (r : ℕ → ℕ) (s : Sentences m r) where
+      goes-in : (es : List Element) (o : ℕ) → All (Says m r) es → All PartStays es → T (isOut es o) → ((x : ℕ) → T (pointIn es x) → T (pointIn (m .elements) x)) → r o ≡ r (back m o)
       goes-in [] o a b h f = absurd h
       goes-in (point i ∷ es) o a b h f =
           or-elim (eqb (i + 1) o) (isOut es o) h

@@ -14,7 +14,7 @@ use Rattle.calculus.specs.Rules.{Ctx, Typed}
 use Rattle.calculus.specs.Net.{Terminal, inp, out, number, Interface, turns, Element, point, part, Net, points, inSide, join, Bound, Made, leftOf, binder, firstHalf, secondHalf, wholeOf, madeApp, madeFix, make, netOf, netBytes}
 use Rattle.calculus.specs.Lean.{pointCount, lean}
 use Rattle.calculus.specs.Record.{All}
-use Rattle.calculus.specs.Formed.{Tiled, Rising}
+use Rattle.circuit_theorems.specs.Formed.{Tiled, Rising}
 use Rattle.calculus.specs.Translate.{full}
 use Rattle.circuit_theorems.specs.Terminals.{terminals}
 use Rattle.circuit_theorems.proofs.Lists.{all-map}

@@ -14,7 +14,8 @@ use Rattle.calculus.specs.Rules.{many, once, away, Ctx, Typed}
 use Rattle.calculus.specs.Net.{inp, out, Interface, Element, point, part, Wire, Net, partSide, Bound, make, elementBytes, wireBytes, pinBytes, netBytes}
 use Rattle.calculus.specs.Lean.{isPin, pointCount, kept, keep, leanWires, leanPin, lean}
 use Rattle.calculus.specs.Record.{All}
-use Rattle.calculus.specs.Formed.{is, ins, made, targets, Rising, Formed}
+use Rattle.calculus.specs.Inputs.{tally, ins, madeAt, targets}
+use Rattle.circuit_theorems.specs.Formed.{Rising, Formed}
 use Rattle.circuit_theorems.proofs.Lists.{all-map}
 use Rattle.circuit_theorems.proofs.Terminals.{tiled-rising, rising-end, made-high, no-ins, each-target}
 use Rattle.circuit_theorems.proofs.Drivers.{linears, Env, term-driven}
@@ -39,16 +40,16 @@ sum-none : (n : ℕ) → sumTo n (λ i. 0) ≡ 0
 sum-none zero = refl
 sum-none (suc n) = omega (arith, sum-none n)
 
-sum-past : (n j : ℕ) → n ≤ j → sumTo n (λ i. is i j) ≡ 0
+sum-past : (n j : ℕ) → n ≤ j → sumTo n (λ i. tally i j) ≡ 0
 sum-past zero j h = refl
-sum-past (suc n) j h = by-eqb (λ b. cond b 1 0 + sumTo n (λ i. is i j) ≡ 0) j n (λ q. absurd (omega arith)) (λ q. omega (arith, sum-past n j (omega arith)))
+sum-past (suc n) j h = by-eqb (λ b. cond b 1 0 + sumTo n (λ i. tally i j) ≡ 0) j n (λ q. absurd (omega arith)) (λ q. omega (arith, sum-past n j (omega arith)))
 
 -- one number is counted once
-sum-one : (n j : ℕ) → j < n → sumTo n (λ i. is i j) ≡ 1
+sum-one : (n j : ℕ) → j < n → sumTo n (λ i. tally i j) ≡ 1
 sum-one zero j h = absurd (not-suc-le-zero h)
-sum-one (suc n) j h = by-eqb (λ b. cond b 1 0 + sumTo n (λ i. is i j) ≡ 1) j n (λ q. omega (arith, sum-past n j (omega arith))) (λ q. omega (arith, sum-one n j (omega arith)))
+sum-one (suc n) j h = by-eqb (λ b. cond b 1 0 + sumTo n (λ i. tally i j) ≡ 1) j n (λ q. omega (arith, sum-past n j (omega arith))) (λ q. omega (arith, sum-one n j (omega arith)))
 
-sum-is : (n j : ℕ) → sumTo n (λ i. is i j) ≤ 1
+sum-is : (n j : ℕ) → sumTo n (λ i. tally i j) ≤ 1
 sum-is n j = elim (decLe n j) [ yes h ↦ omega (arith, sum-past n j h) | no h ↦ omega (arith, sum-one n j (omega arith)) ]
 
 -- ---- inputs
@@ -61,17 +62,17 @@ inputCount (part p i ∷ es) = partAt p .inputs + inputCount es
 
 part-sum : (n k j : ℕ) → sumTo n (ins (partSide k j)) ≤ k
 part-sum n zero j = omega (arith, sum-none n)
-part-sum n (suc k) j = omega (arith, sum-add n (λ i. is i j) (ins (partSide k (j + 1))), sum-is n j, part-sum n k (j + 1))
+part-sum n (suc k) j = omega (arith, sum-add n (λ i. tally i j) (ins (partSide k (j + 1))), sum-is n j, part-sum n k (j + 1))
 
-made-sum : (n : ℕ) (es : List Element) → sumTo n (made es) ≤ inputCount es
+made-sum : (n : ℕ) (es : List Element) → sumTo n (madeAt es) ≤ inputCount es
 made-sum n [] = omega (arith, sum-none n)
-made-sum n (point j ∷ es) = omega (arith, sum-add n (λ i. is i j) (made es), sum-is n j, made-sum n es)
+made-sum n (point j ∷ es) = omega (arith, sum-add n (λ i. tally i j) (madeAt es), sum-is n j, made-sum n es)
 made-sum n (part p j ∷ es) =
-    omega (arith, sum-add n (ins (partSide (partAt p .inputs) j)) (made es), part-sum n (partAt p .inputs) j, made-sum n es)
+    omega (arith, sum-add n (ins (partSide (partAt p .inputs) j)) (madeAt es), part-sum n (partAt p .inputs) j, made-sum n es)
 
 wires-sum : (n : ℕ) (ws : List Wire) → All (λ w. w .to < n) ws → length ws ≡ sumTo n (targets ws)
 wires-sum n [] a = sym (sum-none n)
-wires-sum n (w ∷ ws) a = omega (arith, sum-add n (λ i. is i (w .to)) (targets ws), sum-one n (w .to) (a .0), wires-sum n ws (a .1))
+wires-sum n (w ∷ ws) a = omega (arith, sum-add n (λ i. tally i (w .to)) (targets ws), sum-one n (w .to) (a .0), wires-sum n ws (a .1))
 
 -- no part has more than two inputs
 pub part-inputs : (p : ℕ) → partAt p .inputs ≤ 2
@@ -104,7 +105,7 @@ module _ (m : Net) (ok : Formed m) where
   targets-below = all-map (λ w. 1 ≤ targets (m .wires) (w .to)) (λ w. w .to < ok .end) below (m .wires) (each-target (m .wires))
     where
       below : (w : Wire) → 1 ≤ targets (m .wires) (w .to) → w .to < ok .end
-      below w h = elim (decLe (ok .end) (w .to)) [ yes l ↦ absurd (omega (arith, ok .once (w .to), made-high (m .elements) 0 (ok .end) (w .to) (ok .rising) l)) | no l ↦ omega arith ]
+      below w h = elim (decLe (ok .end) (w .to)) [ yes l ↦ absurd (omega (arith, ok .reached (w .to), made-high (m .elements) 0 (ok .end) (w .to) (ok .rising) l)) | no l ↦ omega arith ]
 
   wires-count : length (m .wires) ≡ sumTo (ok .end) (targets (m .wires))
   wires-count = wires-sum (ok .end) (m .wires) targets-below
@@ -112,7 +113,7 @@ module _ (m : Net) (ok : Formed m) where
   -- not more wires than inputs
   pub wires-inputs : length (m .wires) ≤ inputCount (m .elements)
   wires-inputs =
-      omega (arith, wires-count, sum-le (ok .end) (targets (m .wires)) (made (m .elements)) (λ i. omega (arith, ok .once i)), made-sum (ok .end) (m .elements))
+      omega (arith, wires-count, sum-le (ok .end) (targets (m .wires)) (madeAt (m .elements)) (λ i. omega (arith, ok .reached i)), made-sum (ok .end) (m .elements))
 
   pub wires-few : 3 * length (m .wires) ≤ 2 * ok .end
   wires-few = omega (arith, wires-inputs, inputs-few (m .elements) 0 (ok .end) (ok .rising))
@@ -155,11 +156,11 @@ module _ (m : Net) where
       by-kept false h = omega arith
   keep-bytes (part p i ∷ es) = omega (arith, keep-bytes es)
 
-  keep-made : (es : List Element) (i : ℕ) → made (keep m es) i ≤ made es i
+  keep-made : (es : List Element) (i : ℕ) → madeAt (keep m es) i ≤ madeAt es i
   keep-made [] i = le-refl 0
   keep-made (point j ∷ es) i = by-kept (kept m (point j)) (keep-made es i)
     where
-      by-kept : (b : Bool) → made (keep m es) i ≤ made es i → made (cond b (point j ∷ keep m es) (keep m es)) i ≤ is i j + made es i
+      by-kept : (b : Bool) → madeAt (keep m es) i ≤ madeAt es i → madeAt (cond b (point j ∷ keep m es) (keep m es)) i ≤ tally i j + madeAt es i
       by-kept true h = omega arith
       by-kept false h = omega arith
   keep-made (part p j ∷ es) i = omega (arith, keep-made es i)
@@ -170,7 +171,7 @@ module _ (m : Net) where
       where
         by-pin : (b : Bool) → isPin (m .pins) i ≡ b → targets (leanWires m (m .elements)) i ≤ targets (m .wires) i
         by-pin true u = omega (arith, pin-targets m i u (m .elements))
-        by-pin false u = omega (arith, free-targets m i u (m .elements), keep-made (m .elements) i, ok .once i, no-ins (m .pins) i u)
+        by-pin false u = omega (arith, free-targets m i u (m .elements), keep-made (m .elements) i, ok .reached i, no-ins (m .pins) i u)
 
     pub lean-wires-few : length (lean m .wires) ≤ length (m .wires)
     unfolding lean
@@ -207,21 +208,21 @@ module _ (N : ℕ) where
 
   ins-sum : (s : Interface) → Shows Low Low s → sumTo N (ins s) ≡ inCount s
   ins-sum [] a = sum-none N
-  ins-sum (inp j ∷ s) a = omega (arith, sum-add N (λ i. is i j) (ins s), sum-one N j (a .0), ins-sum s (a .1))
+  ins-sum (inp j ∷ s) a = omega (arith, sum-add N (λ i. tally i j) (ins s), sum-one N j (a .0), ins-sum s (a .1))
   ins-sum (out o ∷ s) a = ins-sum s (a .1)
 
   part-all : (k j : ℕ) → j + k < N → sumTo N (ins (partSide k j)) ≡ k
   part-all zero j h = sum-none N
-  part-all (suc k) j h = omega (arith, sum-add N (λ i. is i j) (ins (partSide k (j + 1))), sum-one N j (omega arith), part-all k (j + 1) (omega arith))
+  part-all (suc k) j h = omega (arith, sum-add N (λ i. tally i j) (ins (partSide k (j + 1))), sum-one N j (omega arith), part-all k (j + 1) (omega arith))
 
-  made-all : (es : List Element) (n e : ℕ) → Rising es n e → e ≤ N → sumTo N (made es) ≡ inputCount es
+  made-all : (es : List Element) (n e : ℕ) → Rising es n e → e ≤ N → sumTo N (madeAt es) ≡ inputCount es
   made-all [] n e a h = sum-none N
   made-all (point j ∷ es) n e a h =
       let q = rising-end es (j + 2) e (a .1) in
-      omega (arith, sum-add N (λ i. is i j) (made es), sum-one N j (omega arith), made-all es (j + 2) e (a .1) h)
+      omega (arith, sum-add N (λ i. tally i j) (madeAt es), sum-one N j (omega arith), made-all es (j + 2) e (a .1) h)
   made-all (part p j ∷ es) n e a h =
       let q = rising-end es (j + partAt p .inputs + 1) e (a .1) in
-      omega (arith, sum-add N (ins (partSide (partAt p .inputs) j)) (made es), part-all (partAt p .inputs) j (omega arith), made-all es (j + partAt p .inputs + 1) e (a .1) h)
+      omega (arith, sum-add N (ins (partSide (partAt p .inputs) j)) (madeAt es), part-all (partAt p .inputs) j (omega arith), made-all es (j + partAt p .inputs + 1) e (a .1) h)
 
   linears-all : (Γ : Ctx) (env : List Bound) → All (BoundShows Low Low) env → sumTo N (linears Γ env) ≡ linearCount Γ env
   linears-all [] env a = sum-none N
@@ -243,7 +244,7 @@ module _ (N : ℕ) where
         ins-sum (m .side) (r .side),
         made-all (m .elements) n (m .next) (tiled-rising (m .elements) n (m .next) (tiled Θ e env n)) h,
         linears-all Γ env low,
-        sum-add N (made (m .elements)) (linears Γ env),
+        sum-add N (madeAt (m .elements)) (linears Γ env),
         sum-add N (targets (m .wires)) (ins (m .side)),
-        sum-cong N (λ i. made (m .elements) i + linears Γ env i) (λ i. targets (m .wires) i + ins (m .side) i) (term-driven d env v n .count),
+        sum-cong N (λ i. madeAt (m .elements) i + linears Γ env i) (λ i. targets (m .wires) i + ins (m .side) i) (term-driven d env v n .count),
       )

@@ -15,7 +15,8 @@ use Rattle.calculus.specs.Answer.{good}
 use Rattle.calculus.specs.Net.{Wire, Net}
 use Rattle.calculus.specs.Lean.{driver, isPin, back}
 use Rattle.calculus.specs.Record.{All}
-use Rattle.calculus.specs.Formed.{made, targets, isOut, Formed}
+use Rattle.calculus.specs.Inputs.{madeAt, targets, isOut}
+use Rattle.circuit_theorems.specs.Formed.{Formed}
 use Rattle.calculus.specs.Translate.{full}
 use Rattle.circuit_theorems.specs.Drive.{driveAll}
 use Rattle.circuit_theorems.proofs.Lists.{all-map}
@@ -118,21 +119,21 @@ module _ (m : Net) (ok : Formed m) (N none : ℕ) (few : ok .end ≤ N) (big : N
   )
 
   -- at an input, exactly if it is a pin
-  pub table-pin : (i : ℕ) → i < N → made (m .elements) i ≡ 1 → (getD table i none ≡ none) ↔ T (isPin (m .pins) i)
+  pub table-pin : (i : ℕ) → i < N → madeAt (m .elements) i ≡ 1 → (getD table i none ≡ none) ↔ T (isPin (m .pins) i)
   table-pin i hi e = (
     (λ q. ins-pin (m .pins) i (omega (arith, table-none i hi .0 q, one-driver m ok i e))),
     (λ u. table-none i hi .1 (pin-undriven m ok i u)),
   )
 
   -- an input that is no pin: its entry is the output that drives it
-  pub table-driver : (i d : ℕ) → i < N → made (m .elements) i ≡ 1 → isPin (m .pins) i ≡ false → getD table i none ≡ driver (m .wires) i d
+  pub table-driver : (i d : ℕ) → i < N → madeAt (m .elements) i ≡ 1 → isPin (m .pins) i ≡ false → getD table i none ≡ driver (m .wires) i d
   table-driver i d hi e u = table-at i hi ∙ driver-any (m .wires) i none d (omega (arith, free-driven m ok i e u))
 
   -- one step back from a point's output, by the table: it stays at `none`
   pub table-back : (i : ℕ) → i < N → T (pointIn (m .elements) i) → back m (i + 1) ≡ cond (eqb (getD table i none) none) (i + 1) (getD table i none)
   table-back i hi h = by-pin (isPin (m .pins) i) refl
     where
-      is-made : made (m .elements) i ≡ 1
+      is-made : madeAt (m .elements) i ≡ 1
       is-made = omega (arith, point-made (m .elements) i h, input-once m ok i)
 
       by-pin : (b : Bool) → isPin (m .pins) i ≡ b → back m (i + 1) ≡ cond (eqb (getD table i none) none) (i + 1) (getD table i none)

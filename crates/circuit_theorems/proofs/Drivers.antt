@@ -14,7 +14,7 @@ use Rattle.calculus.specs.Types.{Ty, bit, prod, arrow, lolli, size, sharable, T
 use Rattle.calculus.specs.Terms.{Edition, first, second, Term, partAt}
 use Rattle.calculus.specs.Rules.{many, once, away, Ctx, NoLinear, none-end, none-many, none-away, InΓ, in-here, in-many, in-away, IsΔ, is-here, is-many, is-away, Split, split-end, split-many, split-first, split-second, split-away, Typed, Var, LVar, →I, →E, ⊸I, ⊸E, ×I, ×E, Fix, Con, ×E′}
 use Rattle.calculus.specs.Net.{Terminal, inp, out, Interface, turns, Element, point, part, Wire, points, inSide, outSide, join, partSide, Bound, unbound, Made, leftOf, rightOf, binder, madeVar, madeFun, madeApp, madePair, firstHalf, secondHalf, wholeOf, madeProj, madeFix, madeCon, make}
-use Rattle.calculus.specs.Formed.{ins, made, targets}
+use Rattle.calculus.specs.Inputs.{ins, madeAt, targets}
 
 -- ---- counts of an input terminal
 
@@ -31,7 +31,7 @@ ins-append [] t i = omega arith
 ins-append (inp j ∷ s) t i = omega (arith, ins-append s t i)
 ins-append (out o ∷ s) t i = ins-append s t i
 
-pub made-append : (s t : List Element) (i : ℕ) → made (s ++ t) i ≡ made s i + made t i
+pub made-append : (s t : List Element) (i : ℕ) → madeAt (s ++ t) i ≡ madeAt s i + madeAt t i
 made-append [] t i = omega arith
 made-append (point j ∷ s) t i = omega (arith, made-append s t i)
 made-append (part p j ∷ s) t i = omega (arith, made-append s t i)
@@ -73,7 +73,7 @@ turns-size o (arrow a b) = length-append (turns (not o) a) (turns o b) ∙ ap₂
 turns-size o (lolli a b) = length-append (turns (not o) a) (turns o b) ∙ ap₂ _+_ (turns-size (not o) a) (turns-size o b)
 
 -- a point's input is shown by just one of the two sides
-sides : (ts : List Bool) (n i : ℕ) → made (points ts n) i ≡ ins (inSide ts n) i + ins (outSide ts n) i
+sides : (ts : List Bool) (n i : ℕ) → madeAt (points ts n) i ≡ ins (inSide ts n) i + ins (outSide ts n) i
 sides [] n i = refl
 sides (false ∷ ts) n i = omega (arith, sides ts (n + 2) i)
 sides (true ∷ ts) n i = omega (arith, sides ts (n + 2) i)
@@ -186,7 +186,7 @@ shown-linear (is-away x) (env-away v) = let r = shown-linear x v in record { fit
 pub record Driven (Γ : Ctx) (env : List Bound) (τ : Ty) (m : Made) : Type 0 where
   pub type : m .type ≡ τ
   pub dirs : dirs (m .side) ≡ turns false τ
-  pub count : (i : ℕ) → made (m .elements) i + linears Γ env i ≡ targets (m .wires) i + ins (m .side) i
+  pub count : (i : ℕ) → madeAt (m .elements) i + linears Γ env i ≡ targets (m .wires) i + ins (m .side) i
 
 pub binder-fits : (τ : Ty) (n : ℕ) → Fits τ (binder τ n)
 binder-fits τ n = record { type = refl; dirs = dirs-out (turns false τ) n }
@@ -248,7 +248,7 @@ module _ {Γ : Ctx} {env : List Bound} where
   module _ {Γ₁ Γ₂ : Ctx} (z : Split Γ Γ₁ Γ₂) where
     -- an application, of either sort: the function's type has the bits of α turned, and then those of τ
     app-driven : (α τ : Ty) (f a : Made) → leftOf (f .type) ≡ α → rightOf (f .type) ≡ τ → dirs (f .side) ≡ turns true α ++ turns false τ
-        → ((i : ℕ) → made (f .elements) i + linears Γ₁ env i ≡ targets (f .wires) i + ins (f .side) i)
+        → ((i : ℕ) → madeAt (f .elements) i + linears Γ₁ env i ≡ targets (f .wires) i + ins (f .side) i)
         → Driven Γ₂ env α a → Driven Γ env τ (madeApp f a)
     app-driven α τ f a el er ef cf d = record {
       type = er;
@@ -323,5 +323,5 @@ term-driven {Θ = Θ} (×E′ {a = a} {e = e} {θ = θ} {τ = τ} eE z sh d c) e
 
 -- a whole sheet: each input is the target of one wire or shown by one pin
 pub drivers : {E : Edition} {Θ : Table} {e : Term} {τ : Ty} → Typed E Θ [] e τ → (i : ℕ) →
-    made (make Θ e [] 0 .elements) i ≡ targets (make Θ e [] 0 .wires) i + ins (make Θ e [] 0 .side) i
+    madeAt (make Θ e [] 0 .elements) i ≡ targets (make Θ e [] 0 .wires) i + ins (make Θ e [] 0 .side) i
 drivers d i = omega (arith, term-driven d [] env-end 0 .count i)

@@ -12,7 +12,8 @@ use Rattle.calculus.specs.Net.{Terminal, inp, out, Interface, Element, point, p
 use Rattle.calculus.specs.Lean.{driver, isPin, root, kept, keep, toInputs, toElement, leanWires, leanPin, lean}
 use Rattle.calculus.specs.Rules.{Typed}
 use Rattle.calculus.specs.Record.{All}
-use Rattle.calculus.specs.Formed.{is, ins, made, targets, isOut, Shown, Tiled, Rising, Formed}
+use Rattle.calculus.specs.Inputs.{tally, ins, madeAt, targets, isOut}
+use Rattle.circuit_theorems.specs.Formed.{Shown, Tiled, Rising, Formed}
 use Rattle.circuit_theorems.proofs.RootLaws.{root-reached, root-root}
 use Rattle.circuit_theorems.proofs.BackLaws.{backs-out, pin-root}
 use Rattle.circuit_theorems.proofs.Drivers.{drivers, targets-append}
@@ -22,31 +23,31 @@ use Rattle.circuit_theorems.proofs.Terminals.{partIn, within, tiled-ris
 
 -- ---- the full netlist
 
-shown : (es : List Element) (p : Terminal) → Named (λ x. 1 ≤ made es x) (λ x. T (isOut es x)) p → Shown es p
+shown : (es : List Element) (p : Terminal) → Named (λ x. 1 ≤ madeAt es x) (λ x. T (isOut es x)) p → Shown es p
 shown es (inp i) s = tt
 shown es (out o) s = s
 
 pub formed-net : {E : Edition} {Θ : Table} {e : Term} {τ : Ty} → Typed E Θ [] e τ → Formed (netOf (make Θ e [] 0))
 formed-net {Θ = Θ} {e} d =
     let m = make Θ e [] 0 in
-    let r = outputs (λ x. 1 ≤ made (m .elements) x) (λ x. T (isOut (m .elements) x)) Θ e [] 0 tt (record { ins = λ x a. a; outs = λ x t. t }) in
+    let r = outputs (λ x. 1 ≤ madeAt (m .elements) x) (λ x. T (isOut (m .elements) x)) Θ e [] 0 tt (record { ins = λ x a. a; outs = λ x t. t }) in
     record {
       end = m .next;
       rising = tiled-rising (m .elements) 0 (m .next) (tiled Θ e [] 0);
       from = all-map _ (λ w. T (isOut (m .elements) (w .from))) (λ w a. a .0) (m .wires) (r .wires);
       shown = all-map _ (Shown (m .elements)) (shown (m .elements)) (m .side) (r .side);
-      once = λ i. sym (drivers d i);
+      reached = λ i. sym (drivers d i);
     }
 
 -- the elements of a full netlist take all the terminals from 0 up to the end, at most 8,192
-pub record Whole (m : Net) : Type 0 where
+pub record Gapless (m : Net) : Type 0 where
   pub net : Formed m
   pub tiled : Tiled (m .elements) 0 (net .end)
   pub few : net .end ≤ 8192
 
-pub whole-net : {E : Edition} {Θ : Table} {e : Term} {τ : Ty} → Typed E Θ [] e τ → make Θ e [] 0 .next ≤ 8192 → Whole (netOf (make Θ e [] 0))
+pub gapless-net : {E : Edition} {Θ : Table} {e : Term} {τ : Ty} → Typed E Θ [] e τ → make Θ e [] 0 .next ≤ 8192 → Gapless (netOf (make Θ e [] 0))
 unfolding formed-net
-whole-net {Θ = Θ} {e} d h = record { net = formed-net d; tiled = tiled Θ e [] 0; few = h }
+gapless-net {Θ = Θ} {e} d h = record { net = formed-net d; tiled = tiled Θ e [] 0; few = h }
 
 -- ---- the lean netlist
 
@@ -58,7 +59,7 @@ lower (part p i ∷ es) k n e h a = (let q = a .0 in omega arith, a .1)
 
 -- ---- a wire that is there by a test
 
-if-sent : (b : Bool) (i : ℕ) (w : Wire) → (w .to ≡ i → b ≡ true) → targets (cond b (w ∷ []) []) i ≡ is i (w .to)
+if-sent : (b : Bool) (i : ℕ) (w : Wire) → (w .to ≡ i → b ≡ true) → targets (cond b (w ∷ []) []) i ≡ tally i (w .to)
 if-sent true i w h = omega arith
 if-sent false i w h = by-eqb (λ c. _≡_ {A = ℕ} 0 (cond c 1 0)) (w .to) i (λ q. absurd (false≢true (h q))) (λ q. refl)
 
@@ -66,7 +67,7 @@ if-unsent : (b : Bool) (i : ℕ) (w : Wire) → (w .to ≡ i → b ≡ false) �
 if-unsent true i w h = by-eqb (λ c. cond c 1 0 + 0 ≡ 0) (w .to) i (λ q. absurd (true≢false (h q))) (λ q. omega arith)
 if-unsent false i w h = refl
 
-unless-free : (b : Bool) (i : ℕ) (w : Wire) → (w .to ≡ i → b ≡ false) → targets (cond b [] (w ∷ [])) i ≡ is i (w .to)
+unless-free : (b : Bool) (i : ℕ) (w : Wire) → (w .to ≡ i → b ≡ false) → targets (cond b [] (w ∷ [])) i ≡ tally i (w .to)
 unless-free true i w h = if-sent false i w (λ q. sym (h q))
 unless-free false i w h = if-sent true i w (λ q. refl)
 
@@ -128,7 +129,7 @@ module _ (m : Net) where
         fed : isPin (m .pins) i ≡ false → Kept (root m (driver (m .wires) i 0))
         fed u =
             root-kept _ (driver-fed (λ x. T (isOut (m .elements) x)) (m .wires) i 0 (ok .from)
-            (omega (arith, ok .once i, no-ins (m .pins) i u, part-made (m .elements) i (h i (or-left (eqb i i) (within k (i + 1) i) (eqb-refl i))))))
+            (omega (arith, ok .reached i, no-ins (m .pins) i u, part-made (m .elements) i (h i (or-left (eqb i i) (within k (i + 1) i) (eqb-refl i))))))
 
     from-lean : (es : List Element) → ((x : ℕ) → T (partIn es x) → T (partIn (m .elements) x)) → ((x : ℕ) → T (isOut es x) → T (isOut (m .elements) x))
         → All (λ w. Kept (w .from)) (leanWires m es)
@@ -152,7 +153,7 @@ module _ (m : Net) where
 
   lean-ins : (ps : Interface) (i : ℕ) → ins (map (leanPin m) ps) i ≡ ins ps i
   lean-ins [] i = refl
-  lean-ins (inp j ∷ ps) i = ap (λ (k : ℕ). is i j + k) (lean-ins ps i)
+  lean-ins (inp j ∷ ps) i = ap (λ (k : ℕ). tally i j + k) (lean-ins ps i)
   lean-ins (out o ∷ ps) i = lean-ins ps i
 
   -- an input that is no pin: a wire goes to it exactly if its element is kept
@@ -162,12 +163,12 @@ module _ (m : Net) where
       targets-append (cond (isPin (m .pins) j) [] (record { from = root m (driver (m .wires) j 0); to = j } ∷ [])) (toInputs m k (j + 1)) i
       ∙ ap₂ _+_ (unless-free (isPin (m .pins) j) i (record { from = root m (driver (m .wires) j 0); to = j }) (λ q. ap (isPin (m .pins)) q ∙ u)) (free-inputs i k (j + 1) u)
 
-  pub free-targets : (i : ℕ) → isPin (m .pins) i ≡ false → (es : List Element) → targets (leanWires m es) i ≡ made (keep m es) i
+  pub free-targets : (i : ℕ) → isPin (m .pins) i ≡ false → (es : List Element) → targets (leanWires m es) i ≡ madeAt (keep m es) i
   free-targets i u [] = refl
   free-targets i u (point j ∷ es) =
       targets-append (toElement m (point j)) (leanWires m es) i ∙ by-kept (free-targets i u es) (kept m (point j))
     where
-      by-kept : targets (leanWires m es) i ≡ made (keep m es) i → (b : Bool) → targets (cond (b && not (isPin (m .pins) j)) (record { from = j + 1; to = j } ∷ []) []) i + targets (leanWires m es) i ≡ made (cond b (point j ∷ keep m es) (keep m es)) i
+      by-kept : targets (leanWires m es) i ≡ madeAt (keep m es) i → (b : Bool) → targets (cond (b && not (isPin (m .pins) j)) (record { from = j + 1; to = j } ∷ []) []) i + targets (leanWires m es) i ≡ madeAt (cond b (point j ∷ keep m es) (keep m es)) i
       by-kept r true = ap₂ _+_ (if-sent (not (isPin (m .pins) j)) i (record { from = j + 1; to = j }) (λ q. ap not (ap (isPin (m .pins)) q ∙ u))) r
       by-kept r false = omega arith
   free-targets i u (part p j ∷ es) =
@@ -188,14 +189,14 @@ module _ (m : Net) where
   pin-targets i u (part p j ∷ es) =
       targets-append (toElement m (part p j)) (leanWires m es) i ∙ omega (arith, pin-inputs i (partAt p .inputs) j u, pin-targets i u es)
 
-  pin-made : (i : ℕ) → isPin (m .pins) i ≡ true → (es : List Element) → made (keep m es) i ≡ made es i
+  pin-made : (i : ℕ) → isPin (m .pins) i ≡ true → (es : List Element) → madeAt (keep m es) i ≡ madeAt es i
   pin-made i u [] = refl
   pin-made i u (point j ∷ es) =
       by-kept (pin-made i u es) (kept m (point j)) (λ q. subst (λ (x : ℕ). T (eqb x (j + 1))) (sym (pin-root m j (subst T (sym (ap (isPin (m .pins)) q ∙ u)) tt))) (eqb-refl (j + 1)))
     where
-      by-kept : made (keep m es) i ≡ made es i → (b : Bool) → (j ≡ i → T b) → made (cond b (point j ∷ keep m es) (keep m es)) i ≡ is i j + made es i
-      by-kept r true h = ap (λ (k : ℕ). is i j + k) r
-      by-kept r false h = by-eqb (λ c. made (keep m es) i ≡ cond c 1 0 + made es i) j i (λ q. absurd (h q)) (λ q. omega arith)
+      by-kept : madeAt (keep m es) i ≡ madeAt es i → (b : Bool) → (j ≡ i → T b) → madeAt (cond b (point j ∷ keep m es) (keep m es)) i ≡ tally i j + madeAt es i
+      by-kept r true h = ap (λ (k : ℕ). tally i j + k) r
+      by-kept r false h = by-eqb (λ c. madeAt (keep m es) i ≡ cond c 1 0 + madeAt es i) j i (λ q. absurd (h q)) (λ q. omega arith)
   pin-made i u (part p j ∷ es) = ap (λ (k : ℕ). ins (partSide (partAt p .inputs) j) i + k) (pin-made i u es)
 
   pub lean-formed : Formed m → Formed (lean m)
@@ -205,11 +206,11 @@ module _ (m : Net) where
     rising = keep-rising (m .elements) 0 (ok .end) (ok .rising);
     from = from-lean ok (m .elements) (λ x t. t) (λ x t. t);
     shown = lean-shown ok (m .pins) (ok .shown);
-    once = λ i. ap (λ (k : ℕ). targets (leanWires m (m .elements)) i + k) (lean-ins (m .pins) i) ∙ by-pin i (isPin (m .pins) i) refl;
+    reached = λ i. ap (λ (k : ℕ). targets (leanWires m (m .elements)) i + k) (lean-ins (m .pins) i) ∙ by-pin i (isPin (m .pins) i) refl;
   }
     where
-      by-pin : (i : ℕ) (b : Bool) → isPin (m .pins) i ≡ b → targets (leanWires m (m .elements)) i + ins (m .pins) i ≡ made (keep m (m .elements)) i
-      by-pin i true u = omega (arith, pin-targets i u (m .elements), pin-made i u (m .elements), ok .once i, made-one (m .elements) 0 (ok .end) i (ok .rising), pin-ins (m .pins) i (subst T (sym u) tt))
+      by-pin : (i : ℕ) (b : Bool) → isPin (m .pins) i ≡ b → targets (leanWires m (m .elements)) i + ins (m .pins) i ≡ madeAt (keep m (m .elements)) i
+      by-pin i true u = omega (arith, pin-targets i u (m .elements), pin-made i u (m .elements), ok .reached i, made-one (m .elements) 0 (ok .end) i (ok .rising), pin-ins (m .pins) i (subst T (sym u) tt))
       by-pin i false u = omega (arith, free-targets i u (m .elements), no-ins (m .pins) i u)
 
   pub lean-end : (ok : Formed m) → lean-formed ok .end ≡ ok .end

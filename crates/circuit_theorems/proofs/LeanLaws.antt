@@ -13,7 +13,8 @@ use Rattle.laws.proofs.Tests.{or-elim, or-left, or-right}
 use Rattle.calculus.specs.Terms.{partAt}
 use Rattle.calculus.specs.Net.{Element, point, part, Wire, Net}
 use Rattle.calculus.specs.Lean.{driver, isPin, root, kept, keep, toInputs, leanWires, leanPin, lean, backs}
-use Rattle.calculus.specs.Formed.{isOut, Rising, Formed}
+use Rattle.calculus.specs.Inputs.{isOut}
+use Rattle.circuit_theorems.specs.Formed.{Rising, Formed}
 use Rattle.circuit_theorems.proofs.RootLaws.{root-ring, root-stays}
 use Rattle.circuit_theorems.proofs.BackLaws.{back-parts, PartStays}
 use Rattle.circuit_theorems.proofs.Forming.{keep-out}

@@ -14,3 +14,6 @@ pub mod Counts
 pub mod Main
 pub mod Bounds
 pub mod Drive
+pub mod KnownParts
+pub mod NetRead
+pub mod Told

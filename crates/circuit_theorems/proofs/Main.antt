@@ -14,12 +14,13 @@ use Rattle.calculus.specs.Rules.{Typed}
 use Rattle.calculus.specs.Net.{Net, make, netOf}
 use Rattle.calculus.specs.Lean.{lean}
 use Rattle.calculus.specs.Record.{Bits, Law, All, partLaw, Outside}
-use Rattle.calculus.specs.Formed.{ins, made, targets, isOut, Formed}
+use Rattle.calculus.specs.Inputs.{ins, madeAt, targets, isOut}
+use Rattle.circuit_theorems.specs.Formed.{Formed}
 use Rattle.calculus.specs.Translate.{full}
 use Rattle.sheet_theorems.proofs.Sound.{sound}
 use Rattle.sheet_theorems.proofs.Laying.{laid}
 use Rattle.circuit_theorems.proofs.Same.{same-records}
-use Rattle.circuit_theorems.proofs.Forming.{Whole, whole-net, lean-formed}
+use Rattle.circuit_theorems.proofs.Forming.{Gapless, gapless-net, lean-formed}
 use Rattle.circuit_theorems.proofs.Wiring.{input-once, one-driver, no-driver, wires-run}
 
 -- an accepted sheet: what was read, its derivation, and its netlist
@@ -50,8 +51,8 @@ accepts s m e =
 -- ---- formed
 
 -- the full netlist is formed, and its elements take all the terminals from 0 on
-pub formed : (s : List ℕ) (m : Net) → full s ≡ good m → Whole m
-formed s m e = let a = accepts s m e in subst Whole (a .is) (whole-net (a .typed) (a .few))
+pub formed : (s : List ℕ) (m : Net) → full s ≡ good m → Gapless m
+formed s m e = let a = accepts s m e in subst Gapless (a .is) (gapless-net (a .typed) (a .few))
 
 pub formed-lean : (s : List ℕ) (m : Net) → full s ≡ good m → Formed (lean m)
 formed-lean s m e = lean-formed m (formed s m e .net)
@@ -59,18 +60,18 @@ formed-lean s m e = lean-formed m (formed s m e .net)
 -- ---- demand 3, first half
 
 -- each input of the full netlist is the target of one wire or shown by one pin, never both
-pub driven : (s : List ℕ) (m : Net) → full s ≡ good m → (i : ℕ) → made (m .elements) i ≡ 1 → targets (m .wires) i + ins (m .pins) i ≡ 1
+pub driven : (s : List ℕ) (m : Net) → full s ≡ good m → (i : ℕ) → madeAt (m .elements) i ≡ 1 → targets (m .wires) i + ins (m .pins) i ≡ 1
 driven s m e = one-driver m (formed s m e .net)
 
 -- what is no input is neither; and no input is made twice
-pub undriven : (s : List ℕ) (m : Net) → full s ≡ good m → (i : ℕ) → made (m .elements) i ≡ 0 → (targets (m .wires) i ≡ 0) × (ins (m .pins) i ≡ 0)
+pub undriven : (s : List ℕ) (m : Net) → full s ≡ good m → (i : ℕ) → madeAt (m .elements) i ≡ 0 → (targets (m .wires) i ≡ 0) × (ins (m .pins) i ≡ 0)
 undriven s m e = no-driver m (formed s m e .net)
 
-pub made-once : (s : List ℕ) (m : Net) → full s ≡ good m → (i : ℕ) → made (m .elements) i ≤ 1
+pub made-once : (s : List ℕ) (m : Net) → full s ≡ good m → (i : ℕ) → madeAt (m .elements) i ≤ 1
 made-once s m e = input-once m (formed s m e .net)
 
 -- wires run from outputs to inputs, and both are made
-pub wired : (s : List ℕ) (m : Net) → full s ≡ good m → All (λ w. T (isOut (m .elements) (w .from)) × (made (m .elements) (w .to) ≡ 1)) (m .wires)
+pub wired : (s : List ℕ) (m : Net) → full s ≡ good m → All (λ w. T (isOut (m .elements) (w .from)) × (madeAt (m .elements) (w .to) ≡ 1)) (m .wires)
 wired s m e = wires-run m (formed s m e .net)
 
 -- ---- demand 3, second half

@@ -13,7 +13,8 @@ use Rattle.calculus.specs.Types.{Ty, size, Table, tree}
 use Rattle.calculus.specs.Terms.{Term, var, lvar, fun, app, lfun, lapp, pair, proj, fix, con, name, partAt}
 use Rattle.calculus.specs.Net.{Terminal, inp, out, Interface, turns, Element, point, part, Wire, points, inSide, outSide, join, partSide, Bound, unbound, Made, leftOf, binder, madeFun, madeApp, madePair, madeProj, madeFix, firstHalf, secondHalf, wholeOf, make}
 use Rattle.calculus.specs.Record.{All}
-use Rattle.calculus.specs.Formed.{ins, made, isOut, Tiled}
+use Rattle.calculus.specs.Inputs.{ins, madeAt, isOut}
+use Rattle.circuit_theorems.specs.Formed.{Tiled}
 use Rattle.circuit_theorems.proofs.Drivers.{turns-size, made-append}
 use Rattle.circuit_theorems.proofs.Lists.{all-append, all-take, all-drop, all-getD}
 use Rattle.circuit_theorems.proofs.Terminals.{tiled-rising, rising-end, out-high, made-high}
@@ -73,7 +74,7 @@ module _ (I O : ℕ → Type 0) where
 
   -- .. elements have
   pub record Covers (es : List Element) : Type 0 where
-    pub ins : (x : ℕ) → 1 ≤ made es x → I x
+    pub ins : (x : ℕ) → 1 ≤ madeAt es x → I x
     pub outs : (x : ℕ) → T (isOut es x) → O x
 
   runs-join : (s t : Interface) → Shows s → Shows t → All Runs (join s t)
@@ -92,7 +93,7 @@ module _ (I O : ℕ → Type 0) where
 
   -- the points of a binder
   point-in : (ts : List Bool) (b : Bool) (n : ℕ) → Covers (points (b ∷ ts) n) → I n
-  point-in ts b n c = c .ins n (by-eqb (λ z. 1 ≤ cond z 1 0 + made (points ts (n + 2)) n) n n (λ q. omega arith) (λ q. absurd (q refl)))
+  point-in ts b n c = c .ins n (by-eqb (λ z. 1 ≤ cond z 1 0 + madeAt (points ts (n + 2)) n) n n (λ q. omega arith) (λ q. absurd (q refl)))
 
   point-out : (ts : List Bool) (b : Bool) (n : ℕ) → Covers (points (b ∷ ts) n) → O (n + 1)
   point-out ts b n c = c .outs (n + 1) (or-left (eqb (n + 1) (n + 1)) _ (eqb-refl (n + 1)))

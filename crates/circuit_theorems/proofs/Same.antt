@@ -9,7 +9,8 @@ use lib.Dec.{T, eqb, eqb→eq, eqb-refl}
 use Rattle.calculus.specs.Terms.{partAt}
 use Rattle.calculus.specs.Net.{inp, out, Interface, Element, point, part, Wire, Net}
 use Rattle.calculus.specs.Lean.{driver, isPin, back, root, kept, keep, toInputs, toElement, leanWires, leanPin, lean}
-use Rattle.calculus.specs.Formed.{targets, Formed}
+use Rattle.calculus.specs.Inputs.{targets}
+use Rattle.circuit_theorems.specs.Formed.{Formed}
 use Rattle.calculus.specs.Record.{Stream, Bits, Law, All, Same, streams, Works, Joined, Possible, PinsShow, PartShows, Outside}
 use Rattle.laws.proofs.Tests.{by-eqb, or-cases, or-left, or-right, T-is, not-true, false-not}
 use Rattle.circuit_theorems.proofs.Lists.{all-map, all-zip, all-append, all-left, all-right, all-cond}

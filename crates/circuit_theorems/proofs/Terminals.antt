@@ -15,7 +15,8 @@ use Rattle.calculus.specs.Terms.{partAt}
 use Rattle.calculus.specs.Net.{Interface, inp, out, Element, point, part, Wire, partSide}
 use Rattle.calculus.specs.Lean.{isPin, driver}
 use Rattle.calculus.specs.Record.{All}
-use Rattle.calculus.specs.Formed.{ins, made, targets, isOut, Tiled, Rising}
+use Rattle.calculus.specs.Inputs.{ins, madeAt, targets, isOut}
+use Rattle.circuit_theorems.specs.Formed.{Tiled, Rising}
 use Rattle.circuit_theorems.proofs.Rings.{has, outs}
 use Rattle.circuit_theorems.proofs.Lists.{all-map, all-zip}
 
@@ -120,23 +121,23 @@ part-one : (k i x : ℕ) → ins (partSide k i) x ≤ 1
 part-one zero i x = omega arith
 part-one (suc k) i x = by-eqb (λ b. cond b 1 0 + ins (partSide k (i + 1)) x ≤ 1) i x (λ q. omega (arith, part-low k (i + 1) x (omega arith))) (λ q. omega (arith, part-one k (i + 1) x))
 
-pub made-low : (es : List Element) (n e x : ℕ) → Rising es n e → x < n → made es x ≡ 0
+pub made-low : (es : List Element) (n e x : ℕ) → Rising es n e → x < n → madeAt es x ≡ 0
 made-low [] n e x a h = refl
-made-low (point i ∷ es) n e x a h = let r = a .0 in by-eqb (λ b. cond b 1 0 + made es x ≡ 0) i x (λ q. absurd (omega arith)) (λ q. omega (arith, made-low es (i + 2) e x (a .1) (omega arith)))
+made-low (point i ∷ es) n e x a h = let r = a .0 in by-eqb (λ b. cond b 1 0 + madeAt es x ≡ 0) i x (λ q. absurd (omega arith)) (λ q. omega (arith, made-low es (i + 2) e x (a .1) (omega arith)))
 made-low (part p i ∷ es) n e x a h = let r = a .0 in omega (arith, part-low (partAt p .inputs) i x (omega arith), made-low es (i + partAt p .inputs + 1) e x (a .1) (omega arith))
 
 -- an input is below the end
-pub made-high : (es : List Element) (n e x : ℕ) → Rising es n e → e ≤ x → made es x ≡ 0
+pub made-high : (es : List Element) (n e x : ℕ) → Rising es n e → e ≤ x → madeAt es x ≡ 0
 made-high [] n e x a h = refl
-made-high (point i ∷ es) n e x a h = by-eqb (λ b. cond b 1 0 + made es x ≡ 0) i x (λ q. absurd (omega (arith, rising-end es (i + 2) e (a .1)))) (λ q. omega (arith, made-high es (i + 2) e x (a .1) h))
+made-high (point i ∷ es) n e x a h = by-eqb (λ b. cond b 1 0 + madeAt es x ≡ 0) i x (λ q. absurd (omega (arith, rising-end es (i + 2) e (a .1)))) (λ q. omega (arith, made-high es (i + 2) e x (a .1) h))
 made-high (part p i ∷ es) n e x a h =
     let q = rising-end es (i + partAt p .inputs + 1) e (a .1) in
     omega (arith, part-high (partAt p .inputs) i x (omega arith), made-high es (i + partAt p .inputs + 1) e x (a .1) h)
 
-pub made-one : (es : List Element) (n e x : ℕ) → Rising es n e → made es x ≤ 1
+pub made-one : (es : List Element) (n e x : ℕ) → Rising es n e → madeAt es x ≤ 1
 made-one [] n e x a = omega arith
 made-one (point i ∷ es) n e x a =
-    by-eqb (λ b. cond b 1 0 + made es x ≤ 1) i x (λ q. omega (arith, made-low es (i + 2) e x (a .1) (omega arith))) (λ q. omega (arith, made-one es (i + 2) e x (a .1)))
+    by-eqb (λ b. cond b 1 0 + madeAt es x ≤ 1) i x (λ q. omega (arith, made-low es (i + 2) e x (a .1) (omega arith))) (λ q. omega (arith, made-one es (i + 2) e x (a .1)))
 made-one (part p i ∷ es) n e x a =
     elim (decLe (i + partAt p .inputs) x) [
       | yes h ↦ omega (arith, part-high (partAt p .inputs) i x h, made-one es (i + partAt p .inputs + 1) e x (a .1))
@@ -152,23 +153,23 @@ within-ins zero i x h = absurd h
 within-ins (suc k) i x h = by-eqb (λ b. T (b || within k (i + 1) x) → 1 ≤ cond b 1 0 + ins (partSide k (i + 1)) x) i x (λ q l. omega arith) (λ q l. omega (arith, within-ins k (i + 1) x l)) h
 
 -- an input that is made is a point's or a part's, and the other way round
-pub made-in : (es : List Element) (x : ℕ) → 1 ≤ made es x → T (pointIn es x) ⊎ T (partIn es x)
+pub made-in : (es : List Element) (x : ℕ) → 1 ≤ madeAt es x → T (pointIn es x) ⊎ T (partIn es x)
 made-in [] x h = absurd (omega arith)
-made-in (point i ∷ es) x h = by-eqb (λ b. 1 ≤ cond b 1 0 + made es x → T (b || pointIn es x) ⊎ T (partIn es x)) i x (λ q l. inl tt) (λ q l. made-in es x (omega arith)) h
+made-in (point i ∷ es) x h = by-eqb (λ b. 1 ≤ cond b 1 0 + madeAt es x → T (b || pointIn es x) ⊎ T (partIn es x)) i x (λ q l. inl tt) (λ q l. made-in es x (omega arith)) h
 made-in (part p i ∷ es) x h =
     elim (decLe 1 (ins (partSide (partAt p .inputs) i) x)) [
       | yes l ↦ inr (or-left (within (partAt p .inputs) i x) (partIn es x) (ins-within (partAt p .inputs) i x l))
       | no l ↦ ⊎-elim inl (λ t. inr (or-right (within (partAt p .inputs) i x) (partIn es x) t)) (made-in es x (omega arith))
     ]
 
-pub part-made : (es : List Element) (x : ℕ) → T (partIn es x) → 1 ≤ made es x
+pub part-made : (es : List Element) (x : ℕ) → T (partIn es x) → 1 ≤ madeAt es x
 part-made [] x h = absurd h
 part-made (point i ∷ es) x h = omega (arith, part-made es x h)
 part-made (part p i ∷ es) x h = or-elim (within (partAt p .inputs) i x) (partIn es x) h (λ t. omega (arith, within-ins (partAt p .inputs) i x t)) (λ t. omega (arith, part-made es x t))
 
-pub point-made : (es : List Element) (x : ℕ) → T (pointIn es x) → 1 ≤ made es x
+pub point-made : (es : List Element) (x : ℕ) → T (pointIn es x) → 1 ≤ madeAt es x
 point-made [] x h = absurd h
-point-made (point i ∷ es) x h = by-eqb (λ b. T (b || pointIn es x) → 1 ≤ cond b 1 0 + made es x) i x (λ q l. omega arith) (λ q l. omega (arith, point-made es x l)) h
+point-made (point i ∷ es) x h = by-eqb (λ b. T (b || pointIn es x) → 1 ≤ cond b 1 0 + madeAt es x) i x (λ q l. omega arith) (λ q l. omega (arith, point-made es x l)) h
 point-made (part p i ∷ es) x h = omega (arith, point-made es x h)
 
 -- ---- wires and pins by their counts

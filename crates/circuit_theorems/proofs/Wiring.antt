@@ -11,7 +11,8 @@ use Rattle.calculus.specs.Terms.{partAt}
 use Rattle.calculus.specs.Net.{Terminal, inp, out, Interface, Element, point, part, Net}
 use Rattle.calculus.specs.Lean.{driver, isPin, root}
 use Rattle.calculus.specs.Record.{All}
-use Rattle.calculus.specs.Formed.{made, targets, ins, isOut, Shown, Rising, Formed}
+use Rattle.calculus.specs.Inputs.{madeAt, targets, ins, isOut}
+use Rattle.circuit_theorems.specs.Formed.{Shown, Rising, Formed}
 use Rattle.circuit_theorems.proofs.Rings.{has, outs}
 use Rattle.circuit_theorems.proofs.RootLaws.{root-stays}
 use Rattle.circuit_theorems.proofs.BackLaws.{back-other, point-root}
@@ -75,46 +76,46 @@ module _ (m : Net) (ok : Formed m) where
 
   -- ---- demand 3, first half, for any formed netlist
 
-  pub input-once : (i : ℕ) → made (m .elements) i ≤ 1
+  pub input-once : (i : ℕ) → madeAt (m .elements) i ≤ 1
   input-once i = made-one (m .elements) 0 (ok .end) i (ok .rising)
 
   pub target-one : (i : ℕ) → targets (m .wires) i ≤ 1
-  target-one i = omega (arith, ok .once i, input-once i)
+  target-one i = omega (arith, ok .reached i, input-once i)
 
   -- an input has one wire or one pin, and never both
-  pub one-driver : (i : ℕ) → made (m .elements) i ≡ 1 → targets (m .wires) i + ins (m .pins) i ≡ 1
-  one-driver i e = ok .once i ∙ e
+  pub one-driver : (i : ℕ) → madeAt (m .elements) i ≡ 1 → targets (m .wires) i + ins (m .pins) i ≡ 1
+  one-driver i e = ok .reached i ∙ e
 
   -- what is no input has neither
-  pub no-driver : (i : ℕ) → made (m .elements) i ≡ 0 → (targets (m .wires) i ≡ 0) × (ins (m .pins) i ≡ 0)
-  no-driver i e = let q = ok .once i in (omega arith, omega arith)
+  pub no-driver : (i : ℕ) → madeAt (m .elements) i ≡ 0 → (targets (m .wires) i ≡ 0) × (ins (m .pins) i ≡ 0)
+  no-driver i e = let q = ok .reached i in (omega arith, omega arith)
 
   -- an input that is no pin has a wire, and a pin has none
-  pub free-driven : (i : ℕ) → made (m .elements) i ≡ 1 → isPin (m .pins) i ≡ false → targets (m .wires) i ≡ 1
+  pub free-driven : (i : ℕ) → madeAt (m .elements) i ≡ 1 → isPin (m .pins) i ≡ false → targets (m .wires) i ≡ 1
   free-driven i e u = omega (arith, one-driver i e, no-ins (m .pins) i u)
 
   pub pin-undriven : (i : ℕ) → T (isPin (m .pins) i) → targets (m .wires) i ≡ 0
-  pin-undriven i u = omega (arith, ok .once i, input-once i, pin-ins (m .pins) i u)
+  pin-undriven i u = omega (arith, ok .reached i, input-once i, pin-ins (m .pins) i u)
 
   -- wires run from outputs to inputs that are made
-  pub wires-run : All (λ w. T (isOut (m .elements) (w .from)) × (made (m .elements) (w .to) ≡ 1)) (m .wires)
+  pub wires-run : All (λ w. T (isOut (m .elements) (w .from)) × (madeAt (m .elements) (w .to) ≡ 1)) (m .wires)
   wires-run =
-      all-zip (λ w. T (isOut (m .elements) (w .from))) (λ w. made (m .elements) (w .to) ≡ 1) (m .wires) (ok .from)
-      (all-map (λ w. 1 ≤ targets (m .wires) (w .to)) (λ w. made (m .elements) (w .to) ≡ 1) (λ w t. omega (arith, ok .once (w .to), input-once (w .to))) (m .wires) (each-target (m .wires)))
+      all-zip (λ w. T (isOut (m .elements) (w .from))) (λ w. madeAt (m .elements) (w .to) ≡ 1) (m .wires) (ok .from)
+      (all-map (λ w. 1 ≤ targets (m .wires) (w .to)) (λ w. madeAt (m .elements) (w .to) ≡ 1) (λ w t. omega (arith, ok .reached (w .to), input-once (w .to))) (m .wires) (each-target (m .wires)))
 
   -- pins show outputs and inputs that are made
-  pub pins-show : All (Named (λ i. made (m .elements) i ≡ 1) (λ o. T (isOut (m .elements) o))) (m .pins)
+  pub pins-show : All (Named (λ i. madeAt (m .elements) i ≡ 1) (λ o. T (isOut (m .elements) o))) (m .pins)
   pins-show = shows (m .pins) (ok .shown) (λ i u. u)
     where
-      shows : (ps : Interface) → All (Shown (m .elements)) ps → ((i : ℕ) → T (isPin ps i) → T (isPin (m .pins) i)) → All (Named (λ i. made (m .elements) i ≡ 1) (λ o. T (isOut (m .elements) o))) ps
+      shows : (ps : Interface) → All (Shown (m .elements)) ps → ((i : ℕ) → T (isPin ps i) → T (isPin (m .pins) i)) → All (Named (λ i. madeAt (m .elements) i ≡ 1) (λ o. T (isOut (m .elements) o))) ps
       shows [] s k = tt
       shows (inp i ∷ ps) s k =
-          (omega (arith, ok .once i, input-once i, pin-ins (m .pins) i (k i (or-left (eqb i i) (isPin ps i) (eqb-refl i)))), shows ps (s .1) (λ j u. k j (or-right (eqb i j) (isPin ps j) u)))
+          (omega (arith, ok .reached i, input-once i, pin-ins (m .pins) i (k i (or-left (eqb i i) (isPin ps i) (eqb-refl i)))), shows ps (s .1) (λ j u. k j (or-right (eqb i j) (isPin ps j) u)))
       shows (out o ∷ ps) s k = (s .0, shows ps (s .1) k)
 
   -- ---- the facts that the equivalence uses
 
-  pin-ok : (p : Terminal) → Named (λ i. made (m .elements) i ≡ 1) (λ o. T (isOut (m .elements) o)) p → PinOk m p
+  pin-ok : (p : Terminal) → Named (λ i. madeAt (m .elements) i ≡ 1) (λ o. T (isOut (m .elements) o)) p → PinOk m p
   pin-ok (inp i) e = made-in (m .elements) i (omega arith)
   pin-ok (out o) t = out-clear o t
 
@@ -122,11 +123,11 @@ module _ (m : Net) (ok : Formed m) where
   wired-net = record {
     clear = clears (m .elements) 0 (ok .end) (ok .rising) (λ x t. t) (λ x l t. t) (λ x l t. t);
     from-out = all-map (λ w. T (isOut (m .elements) (w .from))) _ (λ w t. out-clear (w .from) t) (m .wires) (ok .from);
-    to-in = all-map (λ w. T (isOut (m .elements) (w .from)) × (made (m .elements) (w .to) ≡ 1)) _ (λ w t. made-in (m .elements) (w .to) (let q = t .1 in omega arith)) (m .wires) wires-run;
+    to-in = all-map (λ w. T (isOut (m .elements) (w .from)) × (madeAt (m .elements) (w .to) ≡ 1)) _ (λ w t. made-in (m .elements) (w .to) (let q = t .1 in omega arith)) (m .wires) wires-run;
     no-pin = all-map (λ w. 1 ≤ targets (m .wires) (w .to)) _ (λ w t. is-false _ (λ u. omega (arith, pin-undriven (w .to) u))) (m .wires) (each-target (m .wires));
     one = unique (m .wires) target-one;
-    fed = λ i h u. omega (arith, ok .once i, no-ins (m .pins) i u, part-made (m .elements) i h);
-    pins-ok = all-map (Named (λ i. made (m .elements) i ≡ 1) (λ o. T (isOut (m .elements) o))) (PinOk m) pin-ok (m .pins) pins-show;
+    fed = λ i h u. omega (arith, ok .reached i, no-ins (m .pins) i u, part-made (m .elements) i h);
+    pins-ok = all-map (Named (λ i. madeAt (m .elements) i ≡ 1) (λ o. T (isOut (m .elements) o))) (PinOk m) pin-ok (m .pins) pins-show;
   }
 
   -- the root of a point's output is the root of the output that drives the point's input

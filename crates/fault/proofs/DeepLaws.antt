@@ -10,7 +10,7 @@ use Rattle.calculus.specs.Answer.{good, refused}
 use Rattle.calculus.proofs.Answers.{refused≢good, good-inj}
 use Rattle.calculus.specs.Read.{Sheet, readSheet}
 use Rattle.calculus.specs.Write.{termBytes, tableBytes}
-use Rattle.calculus.specs.Laid.{Stands, depth}
+use Rattle.sheet_theorems.specs.Laid.{Stands, depth}
 use types.Run.{OneOf}
 use denote.Enum.Declared.{tagOf}
 use Rattle.records.specs.Record.{recordAt}

@@ -7,7 +7,7 @@ use Rattle.calculus.specs.Answer.{good}
 use Rattle.calculus.specs.Terms.{Term}
 use Rattle.calculus.specs.Read.{Sheet, readSheet}
 use Rattle.calculus.specs.Write.{termBytes}
-use Rattle.calculus.specs.Laid.{Stands, depth}
+use Rattle.sheet_theorems.specs.Laid.{Stands, depth}
 
 -- right for a term that stands there and is no deeper than may be
 pub record Measured (s : List ℕ) (at more next deep : ℕ) : Type 0 where

@@ -14,7 +14,7 @@ use borrow.Fn.Kind.{PK, RK}
 use borrow.Fn.Kinds.{Out, Dens, resT, endedOf}
 use Rattle.calculus.specs.Net.{Net}
 use Rattle.calculus.specs.Lean.{root}
-use Rattle.calculus.specs.Formed.{isOut}
+use Rattle.calculus.specs.Inputs.{isOut}
 use Rattle.lean.specs.Table.{entry, Rooted}
 use Rattle.lean.proofs.roots.Kinds as roots
 use Rattle.lean.proofs.roots.Reads as roots-reads

@@ -10,7 +10,8 @@ use lib.ListN.{getD}
 use borrow.Author.Tests.{ne-eqb, eq-eqb}
 use Rattle.calculus.specs.Net.{Net}
 use Rattle.calculus.specs.Lean.{driver, isPin, back, root}
-use Rattle.calculus.specs.Formed.{targets, made, isOut, Rising}
+use Rattle.calculus.specs.Inputs.{targets, madeAt, isOut}
+use Rattle.circuit_theorems.specs.Formed.{Rising}
 use Rattle.circuit_theorems.proofs.Lists.{all-map}
 use Rattle.circuit_theorems.proofs.Terminals.{pointIn, made-high, made-one, tiled-rising, out-high, point-made, driver-is, driver-fed, driver-any, pin-ins, no-ins}
 use Rattle.circuit_theorems.proofs.Drive.{driver-none}
@@ -27,9 +28,9 @@ module _ (w : List ℕ) (e k p : ℕ) (r : Ready w e k p) where
   pub output-below : (o : ℕ) → T (isOut (m .elements) o) → o < 8192
   output-below o h = let b = r .below in omega (arith, out-high (m .elements) 0 (r .end) o rising h)
 
-  pub input-below : (i : ℕ) → 1 ≤ made (m .elements) i → i < 8192
+  pub input-below : (i : ℕ) → 1 ≤ madeAt (m .elements) i → i < 8192
   input-below i h =
-      elim (ℕ-discrete (made (m .elements) i) 0) [
+      elim (ℕ-discrete (madeAt (m .elements) i) 0) [
         | yes z ↦ absurd (omega arith)
         | no z ↦ let b = r .below in lt (λ l. z (made-high (m .elements) 0 (r .end) i rising l)) b
       ]
@@ -45,23 +46,23 @@ module _ (w : List ℕ) (e k p : ℕ) (r : Ready w e k p) where
       (all-map (λ v. T (isOut (m .elements) (v .from))) (λ v. (v .from ≡ 65535 → ⊥) → T (isOut (m .elements) (v .from))) (λ v t z. t) (m .wires) (r .formed .from)) (λ z. absurd (z refl))) d
 
   -- a made input that is no pin is reached by a wire
-  pub fed : (i : ℕ) → 1 ≤ made (m .elements) i → isPin (m .pins) i ≡ false → 1 ≤ targets (m .wires) i
-  fed i h u = omega (arith, r .formed .once i, no-ins (m .pins) i u)
+  pub fed : (i : ℕ) → 1 ≤ madeAt (m .elements) i → isPin (m .pins) i ≡ false → 1 ≤ targets (m .wires) i
+  fed i h u = omega (arith, r .formed .reached i, no-ins (m .pins) i u)
 
-  fed-driven : (i : ℕ) → 1 ≤ made (m .elements) i → isPin (m .pins) i ≡ false → getD w i 0 ≡ 65535 → ⊥
+  fed-driven : (i : ℕ) → 1 ≤ madeAt (m .elements) i → isPin (m .pins) i ≡ false → getD w i 0 ≡ 65535 → ⊥
   fed-driven i h u z =
       let o = driver-fed (λ x. T (isOut (m .elements) x)) (m .wires) i 65535 (r .formed .from) (fed i h u) in
       let q = r .table i (input-below i h) in
       let s = output-below (driver (m .wires) i 65535) o in
       omega arith
 
-  pin-driven : (i : ℕ) → 1 ≤ made (m .elements) i → isPin (m .pins) i ≡ true → getD w i 0 ≡ 65535
+  pin-driven : (i : ℕ) → 1 ≤ madeAt (m .elements) i → isPin (m .pins) i ≡ true → getD w i 0 ≡ 65535
   pin-driven i h u =
       r .table i (input-below i h)
-      ∙ driver-none (m .wires) i 65535 (omega (arith, r .formed .once i, made-one (m .elements) 0 (r .end) i rising, pin-ins (m .pins) i (subst T (sym u) tt)))
+      ∙ driver-none (m .wires) i 65535 (omega (arith, r .formed .reached i, made-one (m .elements) 0 (r .end) i rising, pin-ins (m .pins) i (subst T (sym u) tt)))
 
   -- a made input is a pin just where the table has no driver
-  pub pin-none : (i : ℕ) → 1 ≤ made (m .elements) i → isPin (m .pins) i ≡ eqb (getD w i 0) 65535
+  pub pin-none : (i : ℕ) → 1 ≤ madeAt (m .elements) i → isPin (m .pins) i ≡ eqb (getD w i 0) 65535
   pin-none i h = by (isPin (m .pins) i) refl
     where
       by : (b : Bool) → isPin (m .pins) i ≡ b → b ≡ eqb (getD w i 0) 65535
@@ -69,7 +70,7 @@ module _ (w : List ℕ) (e k p : ℕ) (r : Ready w e k p) where
       by false u = sym (ne-eqb (getD w i 0) 65535 (fed-driven i h u))
 
   -- the driver of an input that is no pin
-  pub driver-in : (i d : ℕ) → 1 ≤ made (m .elements) i → isPin (m .pins) i ≡ false → driver (m .wires) i d ≡ getD w i 0
+  pub driver-in : (i d : ℕ) → 1 ≤ madeAt (m .elements) i → isPin (m .pins) i ≡ false → driver (m .wires) i d ≡ getD w i 0
   driver-in i d h u = driver-any (m .wires) i d 65535 (fed i h u) ∙ sym (r .table i (input-below i h))
 
   -- a point without a driver is its own root ..

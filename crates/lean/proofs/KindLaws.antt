@@ -11,7 +11,7 @@ use lib.ListN.{length, getD, drop}
 use lib.Seq.{drop-cons, getD-take, getD-drop}
 use Rattle.laws.proofs.Regions.{drop-past}
 use Rattle.calculus.specs.Terms.{partAt}
-use Rattle.calculus.specs.Formed.{Tiled}
+use Rattle.circuit_theorems.specs.Formed.{Tiled}
 use Rattle.memory.specs.Map.{region, elementsFrom}
 use Rattle.netlist.specs.Elements.{after, afterAll}
 use Rattle.netlist.proofs.Elements.{kinds-tiled, tiled-end}

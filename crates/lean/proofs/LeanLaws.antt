@@ -12,7 +12,8 @@ use Rattle.calculus.specs.Terms.{partAt}
 use Rattle.calculus.specs.Net.{Terminal, inp, out, Element, point, part, Net, partSide, netBytes}
 use Rattle.calculus.specs.Lean.{driver, isPin, root, keep, toInputs, toElement, leanWires, leanPin, lean}
 use Rattle.calculus.specs.Record.{All}
-use Rattle.calculus.specs.Formed.{is, ins, made, isOut, Shown}
+use Rattle.calculus.specs.Inputs.{tally, ins, madeAt, isOut}
+use Rattle.circuit_theorems.specs.Formed.{Shown}
 use Rattle.memory.specs.Map.{region, terminalOf, netIn}
 use Rattle.netlist.specs.Said.{wire}
 use Rattle.netlist.specs.Elements.{afterAll}
@@ -25,7 +26,7 @@ use Rattle.lean.proofs.KindLaws.{tiled-after}
 use Rattle.lean.proofs.SumLaws.{rowsSize}
 use Rattle.lean.proofs.DriverLaws.{output-below, input-below, driver-out, pin-none, driver-in}
 
-is-self : (i : ℕ) → is i i ≡ 1
+is-self : (i : ℕ) → tally i i ≡ 1
 is-self i = rw (T-is (eqb i i) (eqb-refl i))
 
 module _ (w : List ℕ) (e k p : ℕ) (q : Whole w e k p) where
@@ -47,7 +48,7 @@ module _ (w : List ℕ) (e k p : ℕ) (q : Whole w e k p) where
 
   -- ---- wires
 
-  input-in : (i : ℕ) → 1 ≤ made (m .elements) i
+  input-in : (i : ℕ) → 1 ≤ madeAt (m .elements) i
       → inputIn w i ≡ cond (isPin (m .pins) i) [] (wire (root m (driver (m .wires) i 0)) i ∷ [])
   input-in i h = by (undriven w i) refl
     where
@@ -59,11 +60,11 @@ module _ (w : List ℕ) (e k p : ℕ) (q : Whole w e k p) where
           rw (u, driver-in w e k p (q .ready) i 0 h u)
           (ap (λ (x : ℕ). wire x i ∷ []) (entry-root (getD w i 0) (driver-out w e k p (q .ready) i (input-below w e k p (q .ready) i h) (eqb-false (getD w i 0) 65535 z))))
 
-  inputs-in : (c i : ℕ) → ((x : ℕ) → 1 ≤ ins (partSide c i) x → 1 ≤ made (m .elements) x) → inputsIn w c i ≡ toInputs m c i
+  inputs-in : (c i : ℕ) → ((x : ℕ) → 1 ≤ ins (partSide c i) x → 1 ≤ madeAt (m .elements) x) → inputsIn w c i ≡ toInputs m c i
   inputs-in zero i f = refl
   inputs-in (suc c) i f = rw (input-in i (f i (omega (arith, is-self i))), inputs-in c (i + 1) (λ x h. f x (omega arith)))
 
-  element-in : (x : Element) → ((y : ℕ) → 1 ≤ made (x ∷ []) y → 1 ≤ made (m .elements) y) → ((y : ℕ) → T (isOut (x ∷ []) y) → T (isOut (m .elements) y))
+  element-in : (x : Element) → ((y : ℕ) → 1 ≤ madeAt (x ∷ []) y → 1 ≤ madeAt (m .elements) y) → ((y : ℕ) → T (isOut (x ∷ []) y) → T (isOut (m .elements) y))
       → elementIn w x ≡ toElement m x
   element-in (part r i) f g = inputs-in (partAt r .inputs) i (λ y h. f y (omega arith))
   element-in (point i) f g =
@@ -79,15 +80,15 @@ module _ (w : List ℕ) (e k p : ℕ) (q : Whole w e k p) where
   out-rest (point i) es y t = or-right (eqb (i + 1) y) (isOut es y) t
   out-rest (part r i) es y t = or-right (eqb (i + partAt r .inputs) y) (isOut es y) t
 
-  made-first : (x : Element) (es : List Element) (y : ℕ) → made (x ∷ []) y ≤ made (x ∷ es) y
+  made-first : (x : Element) (es : List Element) (y : ℕ) → madeAt (x ∷ []) y ≤ madeAt (x ∷ es) y
   made-first (point i) es y = omega arith
   made-first (part r i) es y = omega arith
 
-  made-rest : (x : Element) (es : List Element) (y : ℕ) → made es y ≤ made (x ∷ es) y
+  made-rest : (x : Element) (es : List Element) (y : ℕ) → madeAt es y ≤ madeAt (x ∷ es) y
   made-rest (point i) es y = omega arith
   made-rest (part r i) es y = omega arith
 
-  wires-in : (es : List Element) → ((y : ℕ) → 1 ≤ made es y → 1 ≤ made (m .elements) y) → ((y : ℕ) → T (isOut es y) → T (isOut (m .elements) y))
+  wires-in : (es : List Element) → ((y : ℕ) → 1 ≤ madeAt es y → 1 ≤ madeAt (m .elements) y) → ((y : ℕ) → T (isOut es y) → T (isOut (m .elements) y))
       → wiresIn w es ≡ leanWires m es
   wires-in [] f g = refl
   wires-in (x ∷ es) f g =

@@ -12,7 +12,8 @@ use lib.ListN.{getD}
 use Rattle.calculus.specs.Terms.{partAt}
 use Rattle.calculus.specs.Net.{Element, point, part, Net}
 use Rattle.calculus.specs.Lean.{pointCount, back, backs, lowest, root}
-use Rattle.calculus.specs.Formed.{isOut, Rising}
+use Rattle.calculus.specs.Inputs.{isOut}
+use Rattle.circuit_theorems.specs.Formed.{Rising}
 use Rattle.circuit_theorems.proofs.Rings.{Round, count}
 use Rattle.circuit_theorems.proofs.RootLaws.{lowest-reached, backs-back, still, root-steps, ring-reached, ring-le, root-lowest}
 use Rattle.memory.specs.Map.{netIn}

@@ -10,7 +10,7 @@ use lib.ListN.{getD, set}
 use Rattle.laws.proofs.Tests.{false-not-T}
 use Rattle.calculus.specs.Net.{Net}
 use Rattle.calculus.specs.Lean.{root}
-use Rattle.calculus.specs.Formed.{isOut}
+use Rattle.calculus.specs.Inputs.{isOut}
 use Rattle.circuit_theorems.proofs.RootLaws.{root-reached, root-back}
 use Rattle.circuit_theorems.proofs.BackLaws.{back-out, backs-out}
 use Rattle.memory.specs.Map.{netIn, Ready}

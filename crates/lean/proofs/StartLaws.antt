@@ -11,7 +11,7 @@ use Rattle.calculus.specs.Terms.{partAt}
 use Rattle.calculus.specs.Net.{point, part, Net}
 use Rattle.calculus.specs.Lean.{back, root}
 use Rattle.calculus.specs.Record.{All}
-use Rattle.calculus.specs.Formed.{isOut}
+use Rattle.calculus.specs.Inputs.{isOut}
 use Rattle.circuit_theorems.proofs.Terminals.{pointIn, point-made, out-high}
 use Rattle.circuit_theorems.proofs.RootLaws.{root-stays}
 use Rattle.circuit_theorems.proofs.BackLaws.{PartStays, back-parts}

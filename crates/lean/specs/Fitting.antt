@@ -7,7 +7,8 @@ use Rattle.calculus.specs.Net.{Terminal, inp, out, netBytes}
 use Rattle.calculus.specs.Lean.{lean}
 use Rattle.calculus.specs.Record.{All}
 use Rattle.memory.specs.Map.{region, netIn, terminalOf}
-use Rattle.netlist.specs.Elements.{after, afterAll, Known}
+use Rattle.calculus.specs.NetRead.{Known}
+use Rattle.netlist.specs.Elements.{after, afterAll}
 use Rattle.lean.specs.Table.{Whole}
 
 -- a whole lean netlist

@@ -8,7 +8,7 @@ use lib.Dec.{T, eqb}
 use Rattle.calculus.specs.Terms.{partAt}
 use Rattle.calculus.specs.Net.{Net}
 use Rattle.calculus.specs.Lean.{back, backs, root}
-use Rattle.calculus.specs.Formed.{isOut}
+use Rattle.calculus.specs.Inputs.{isOut}
 use Rattle.memory.specs.Map.{netIn, Ready}
 use Rattle.netlist.specs.Elements.{after}
 

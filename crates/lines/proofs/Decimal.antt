@@ -7,7 +7,7 @@ use native.Mathlib.Omega.{arith}
 use borrow.Author.Tests.{lt-ltb, le-ltb}
 use lib.Dec.{ltb}
 use lib.ListN.{length, length-append}
-use Rattle.calculus.specs.Listing.{Text, digits, terminals}
+use Rattle.calculus.specs.Listing.{Text, digits, terminalFields}
 use Rattle.lines.specs.Figure.{figure, figures}
 
 abbrev tens : ℕ → ℕ
@@ -67,7 +67,7 @@ figures-few zero i = omega arith
 figures-few (suc k) i = let h = figures-few k (i + 1) in rw length-append (omega (arith, figure-few i))
 
 -- as the definitions have them
-pub figures-are : (k i : ℕ) → figures k i ≡ terminals k i
+pub figures-are : (k i : ℕ) → figures k i ≡ terminalFields k i
 unfolding figure
 figures-are zero i = refl
 figures-are (suc k) i = rw (figures-are k (i + 1))

@@ -5,7 +5,7 @@ use Prim.Native.Nat.{ℕ, zero, suc, _+_, _≤_}
 use native.Mathlib.Omega.{arith}
 use lib.ListN.{length, getD}
 use Rattle.calculus.specs.Terms.{partAt}
-use Rattle.calculus.specs.Listing.{Text, line, field, terminals, names}
+use Rattle.calculus.specs.Listing.{Text, line, field, terminalFields, names}
 use Rattle.lines.specs.OneLine.{pointLine, partLine, wiredLine, pinLine, refusedLine}
 use Rattle.lines.specs.Figure.{figure, figures}
 use Rattle.lines.proofs.Decimal.{figures-are}
@@ -26,7 +26,7 @@ pub part-text : (p i : ℕ) → (112 ∷ 97 ∷ 114 ∷ 116 ∷ 32 ∷ []) ++ (g
 unfolding partLine
 part-text p i =
     ap (λ (x : Text). (112 ∷ 97 ∷ 114 ∷ 116 ∷ 32 ∷ []) ++ x)
-    (ap (λ (x : Text). getD names p [] ++ line x) (figures-are (partAt p .inputs + 1) i) ∙ ended (getD names p []) (terminals (partAt p .inputs + 1) i))
+    (ap (λ (x : Text). getD names p [] ++ line x) (figures-are (partAt p .inputs + 1) i) ∙ ended (getD names p []) (terminalFields (partAt p .inputs + 1) i))
 
 -- two numbers, and the end of the line
 two-fields : (m n : ℕ) → (32 ∷ figure m) ++ line (figures 1 n) ≡ line (field m ++ field n)

@@ -3,7 +3,7 @@ use Prim.Native.Nat.{ℕ}
 use mathlib.Core.List.{[], _∷_}
 use Rattle.calculus.specs.Answer.{refused}
 use Rattle.calculus.specs.Net.{point, part, out}
-use Rattle.calculus.specs.Listing.{Text, elementLine, wireLine, pinLines, listed}
+use Rattle.calculus.specs.Listing.{Text, elementLine, wireLine, pinLines, listingOf}
 use Rattle.netlist.specs.Said.{wire}
 
 unfoldable pub pointLine : ℕ → Text
@@ -20,4 +20,4 @@ unfoldable pub pinLine : ℕ → Text
 pinLine n = pinLines (out n ∷ [])
 
 unfoldable pub refusedLine : ℕ → ℕ → Text
-refusedLine number place = listed (refused number place)
+refusedLine number place = listingOf (refused number place)

@@ -8,7 +8,7 @@ use lib.ListN.{length, getD}
 use Rattle.laws.proofs.Regions.{region-ext}
 use Rattle.calculus.specs.Net.{Net}
 use Rattle.calculus.specs.Record.{All}
-use Rattle.calculus.specs.Formed.{targets}
+use Rattle.calculus.specs.Inputs.{targets}
 use Rattle.calculus.specs.Lean.{driver}
 use Rattle.circuit_theorems.proofs.Lists.{all-map}
 use Rattle.circuit_theorems.proofs.Terminals.{each-target, made-high, tiled-rising}
@@ -27,7 +27,7 @@ module _ (w : List ℕ) (e k p : ℕ) (r : Ready w e k p) where
   made-low : (i : ℕ) → 1 ≤ targets (netIn w e k p .wires) i → i < 8192
   made-low i h =
       elim (decLe (r .end) i) [
-        | yes l ↦ absurd (omega (arith, r .formed .once i, made-high (netIn w e k p .elements) 0 (r .end) i (tiled-rising (netIn w e k p .elements) 0 (r .end) (r .tiled)) l))
+        | yes l ↦ absurd (omega (arith, r .formed .reached i, made-high (netIn w e k p .elements) 0 (r .end) i (tiled-rising (netIn w e k p .elements) 0 (r .end) (r .tiled)) l))
         | no l ↦ let b = r .below in omega arith
       ]
 

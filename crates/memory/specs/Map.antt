@@ -10,7 +10,7 @@ use lib.Dec.{eqb}
 use Rattle.calculus.specs.Terms.{partAt}
 use Rattle.calculus.specs.Net.{Terminal, inp, out, Interface, Element, point, part, Wire, Net}
 use Rattle.calculus.specs.Lean.{driver}
-use Rattle.calculus.specs.Formed.{Tiled, Formed}
+use Rattle.circuit_theorems.specs.Formed.{Tiled, Formed}
 
 -- n numbers from an offset on
 abbrev pub region : List ℕ → ℕ → ℕ → List ℕ

@@ -9,9 +9,10 @@ use lib.Seq.{take-suc, getD-drop}
 use Rattle.laws.proofs.Regions.{region-length, region-at}
 use Rattle.calculus.specs.Net.{elementBytes, wireBytes, pinBytes, netBytes}
 use Rattle.calculus.specs.Record.{All}
-use Rattle.calculus.specs.Formed.{targets}
+use Rattle.calculus.specs.Inputs.{targets}
 use Rattle.memory.specs.Map.{region, elementsFrom, wiresFrom, terminalOf, netIn, Ready}
-use Rattle.netlist.specs.Elements.{after, afterAll, sizeOf, Known}
+use Rattle.calculus.specs.NetRead.{Known}
+use Rattle.netlist.specs.Elements.{after, afterAll, sizeOf}
 use Rattle.netlist.proofs.Records.{wires-append, pins-append, wires-length, pins-length, net-length}
 use Rattle.netlist.proofs.Elements.{firstBytes, firstAfter, bytes-more, length-more, after-one, bytes-within, after-within, kinds-tiled, tiled-end, kinds-known}
 use Rattle.netlist.proofs.Targets.{made-past, target-counted}
@@ -96,7 +97,7 @@ module _ (w : List ℕ) (e k p : ℕ) (r : Ready w e k p) where
       let t = getD w (8192 + j) 0 in
       let l = region-length w 8192 k (omega arith) in
       let counted : 1 ≤ targets (wiresFrom w ts) t = rw (← region-at w 8192 k j h) (target-counted w ts j (omega arith)) in
-      let once = r .formed .once t in
+      let once = r .formed .reached t in
       let past : 8192 ≤ t → ⊥ = λ g. omega (arith, made-past (elementsFrom (region w 13824 e) 0) 0 (r .end) t (r .tiled) (omega arith)) in
       omega arith
 

@@ -5,6 +5,5 @@ pub mod PartInputs
 pub mod Targets
 pub mod InMemory
 pub mod Whole
-pub mod KnownParts
 pub mod OneResult
 pub mod Determined

@@ -7,10 +7,11 @@ use borrow.Author.Tests.{ne-eqb, eq-eqb}
 use lib.ListN.{length, getD}
 use Rattle.calculus.specs.Terms.{partAt}
 use Rattle.calculus.specs.Net.{Element, point, part, partSide}
-use Rattle.calculus.specs.Formed.{is, ins, made, targets, Tiled}
+use Rattle.calculus.specs.Inputs.{tally, ins, madeAt, targets}
+use Rattle.circuit_theorems.specs.Formed.{Tiled}
 use Rattle.memory.specs.Map.{wiresFrom}
 
-is-other : (i j : ℕ) → j < i → is i j ≡ 0
+is-other : (i j : ℕ) → j < i → tally i j ≡ 0
 is-other i j h = rw (ne-eqb j i (omega arith))
 
 pub tiled-rises : (es : List Element) (n e : ℕ) → Tiled es n e → n ≤ e
@@ -27,7 +28,7 @@ inputs-past (suc k) n i h =
     omega arith
 
 -- past the end no input is made
-pub made-past : (es : List Element) (n e i : ℕ) → Tiled es n e → e ≤ i → made es i ≡ 0
+pub made-past : (es : List Element) (n e i : ℕ) → Tiled es n e → e ≤ i → madeAt es i ≡ 0
 made-past [] n e i t h = refl
 made-past (point j ∷ es) n e i t h =
     let r = tiled-rises es (n + 2) e (t .1) in

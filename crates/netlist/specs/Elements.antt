@@ -1,10 +1,9 @@
 -- How kinds that stand one after the other share out the terminals. Assumes nothing.
-use Prim.Native.Nat.{ℕ, _+_, _<_}
+use Prim.Native.Nat.{ℕ, _+_}
 use mathlib.Core.Bool.{cond}
 use mathlib.Core.List.{List, [], _∷_}
 use lib.Dec.{eqb}
 use Rattle.calculus.specs.Terms.{partAt}
-use Rattle.calculus.specs.Net.{Element, point, part}
 
 -- the next free terminal behind an element of kind k that starts at n
 abbrev pub after : ℕ → ℕ → ℕ
@@ -17,8 +16,3 @@ afterAll (k ∷ ks) n = afterAll ks (after k n)
 -- the bytes of such an element's record
 abbrev pub sizeOf : ℕ → ℕ
 sizeOf k = cond (eqb k 7) 3 4
-
--- each part is one of the seven
-abbrev pub Known : Element → Type 0
-Known (point i) = Unit {0}
-Known (part p i) = p < 7

@@ -5,7 +5,8 @@ use lib.ListN.{length, getD}
 use Rattle.calculus.specs.Net.{elementBytes, netBytes}
 use Rattle.calculus.specs.Record.{All}
 use Rattle.memory.specs.Map.{region, elementsFrom, netIn, Ready}
-use Rattle.netlist.specs.Elements.{afterAll, Known}
+use Rattle.calculus.specs.NetRead.{Known}
+use Rattle.netlist.specs.Elements.{afterAll}
 
 -- a whole netlist
 pub record Writable (w : List ℕ) (elements wires pins room : ℕ) : Type 0 where

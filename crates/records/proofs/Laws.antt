@@ -9,7 +9,7 @@ use lib.ListN.{length, getD, take, drop, length-drop}
 use lib.Seq.{getD-drop, drop-drop}
 use lib.Dec.{leb}
 use Rattle.calculus.specs.Terms.{Term, var, lvar, fun, app, lfun, lapp, pair, proj, fix, con}
-use Rattle.calculus.specs.Laid.{Stands}
+use Rattle.sheet_theorems.specs.Laid.{Stands}
 use Rattle.records.specs.Record.{shapeOf, recordAt, recordOf, bodyAt}
 use Rattle.records.specs.Heads.{node, nodeOf}
 use Rattle.records.specs.declared.Rule.{Rule}

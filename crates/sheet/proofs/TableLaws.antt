@@ -14,7 +14,7 @@ use lib.Seq.{getD-at, set-at}
 use Rattle.laws.proofs.Tests.{T-is, and-both}
 use Rattle.calculus.specs.Types.{Ty, bit, size, sharable, isArrow, TyRec, rec01, rec02, rec03, rec04, recEq, Table, recAt, tyOf, tysFrom, tree}
 use Rattle.calculus.specs.Read.{known, formed, repeated}
-use Rattle.calculus.specs.Laid.{Agrees, TableOk}
+use Rattle.sheet_theorems.specs.Laid.{Agrees, TableOk}
 use Rattle.sheet_theorems.proofs.Tables.{tys-snoc, tys-length}
 use Rattle.records.specs.Forms.{recIn}
 use Rattle.sheet.specs.Tables.{tableIn, sharableRec, arrowRec, knownBelow, formedIn, sizeIn, sizesOf}

@@ -10,7 +10,7 @@ use Rattle.calculus.specs.Types.{size, tree}
 use Rattle.calculus.specs.Terms.{nodes}
 use Rattle.calculus.specs.Read.{Sheet, readSheet}
 use Rattle.calculus.specs.Write.{tableBytes}
-use Rattle.calculus.specs.Laid.{Laid}
+use Rattle.sheet_theorems.specs.Laid.{Laid}
 use Rattle.sheet_theorems.proofs.Laying.{laid}
 use Rattle.sheet.specs.Tables.{sizesOf}
 use Rattle.sheet.specs.Sheets.{Counts, ReadSaid, saidVerdict, saidReading, readingOf}

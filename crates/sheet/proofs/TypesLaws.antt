@@ -14,7 +14,7 @@ use Rattle.calculus.proofs.Answers.{good-inj, on-bind, on-need}
 use Rattle.calculus.specs.Types.{size, TyRec, rec01, Table, tyOf, tysFrom}
 use Rattle.calculus.specs.Read.{Kind, unknown, type, node, TypeKind, k01, k02, k03, k04, kindOf, byte, typeBody, typeRec, checkType, readTypes}
 use Rattle.calculus.specs.Write.{recBytes, tableBytes}
-use Rattle.calculus.specs.Laid.{TableOk}
+use Rattle.sheet_theorems.specs.Laid.{TableOk}
 use Rattle.sheet_theorems.proofs.KindBytes.{typeByte, type-byte}
 use Rattle.sheet_theorems.proofs.Tables.{checked, empty-ok}
 use Rattle.sheet_theorems.proofs.Laying.{table-snoc, rec-length}

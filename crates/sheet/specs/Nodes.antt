@@ -2,7 +2,7 @@
 use Prim.Native.Nat.{ℕ, _<_}
 use mathlib.Core.List.{List}
 use Rattle.calculus.specs.Terms.{Term}
-use Rattle.calculus.specs.Laid.{Stands}
+use Rattle.sheet_theorems.specs.Laid.{Stands}
 use Rattle.sheet_theorems.specs.Subterms.{skip}
 
 pub record NodeAt (s : List ℕ) (at : ℕ) : Type 0 where

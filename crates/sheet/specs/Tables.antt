@@ -8,7 +8,7 @@ use lib.ListN.{length, getD, replicate}
 use Rattle.calculus.specs.Answer.{Answer, good, refused, _>>=_, need}
 use Rattle.calculus.specs.Types.{size, TyRec, rec01, rec02, rec03, rec04, Table, tyOf, tysFrom}
 use Rattle.calculus.specs.Read.{checkType}
-use Rattle.calculus.specs.Laid.{TableOk}
+use Rattle.sheet_theorems.specs.Laid.{TableOk}
 use Rattle.records.specs.Forms.{recIn}
 use Rattle.sheet.specs.declared.types.Checked.{Checked}
 use Rattle.sheet.specs.declared.types.Checked.the-variants as checked

@@ -6,7 +6,7 @@ use lib.ListN.{length}
 use Rattle.calculus.specs.Terms.{Term, var, lvar, fun, app, lfun, lapp, pair, proj, fix, con, name}
 use Rattle.calculus.specs.Read.{node, NodeKind, k11, k12, k13, k14, k15, k16, k17, k18, k19, k1A, k1B, kindOf, byte}
 use Rattle.calculus.specs.Write.{termBytes}
-use Rattle.calculus.specs.Laid.{Stands}
+use Rattle.sheet_theorems.specs.Laid.{Stands}
 use Rattle.sheet_theorems.proofs.Standing.{kindIn, stands-kind, stands-node, var-binder, lvar-binder, fun-type, fun-body, app-function, app-argument, lfun-type, lfun-body, lapp-function, lapp-argument, pair-type, pair-first, pair-second, proj-pair, proj-body, fix-type, fix-body, con-part, con-type, name-first, name-body}
 
 -- a node with one subterm, after a type number

@@ -12,7 +12,7 @@ use Rattle.calculus.specs.Types.{Ty, bit, prod, arrow, lolli, sharable, tyEq, T
 use Rattle.calculus.specs.Terms.{Edition, Term, fun, app, lfun, lapp, pair, proj, fix, con, name, nodes, parts, partAt}
 use Rattle.calculus.specs.Walk.{shared, linear, Stack, Found, found, useShared, useLinear, walk}
 use Rattle.calculus.specs.Rules.{Ctx, NoLinear, none-end, none-many, none-away, InΓ, in-here, in-many, in-away, IsΔ, is-here, is-many, is-away, Split, split-end, split-many, split-first, split-second, split-away, Typed, Var, LVar, →I, →E, ⊸I, ⊸E, ×I, ×E, Fix, Con, ×E′}
-use Rattle.calculus.specs.Laid.{Agrees, Below, TableOk, Ranged}
+use Rattle.sheet_theorems.specs.Laid.{Agrees, Below, TableOk, Ranged}
 use Rattle.laws.proofs.Tests.{and-of, T-is}
 use Rattle.sheet_theorems.proofs.Tables.{wider}
 use Rattle.sheet_theorems.proofs.Sound.{Step, step-end, step-shared, step-same, step-took}
@@ -110,7 +110,7 @@ module _ (E : Edition) (Θ : Table) (ok : TableOk Θ) where
 
   -- two numbers of one type are one
   same : {a b : ℕ} {τ : Ty} → a < length Θ → b < length Θ → tree Θ a ≡ τ → tree Θ b ≡ τ → eqb a b ≡ true
-  same {a} {b} ha hb ea eb = eq-eqb a b (ok .once a b ha hb (ea ∙ sym eb))
+  same {a} {b} ha hb ea eb = eq-eqb a b (ok .distinct a b ha hb (ea ∙ sym eb))
 
   app-walk : (f a : Term) (n : ℕ) (st mid st′ : Stack) (θ τ : Ty) → Accepted Θ (arrow θ τ) mid (walk E Θ f (n + 1) st)
       → Accepted Θ θ st′ (walk E Θ a (n + 1 + nodes f) mid) → Accepted Θ τ st′ (walk E Θ (app f a) n st)

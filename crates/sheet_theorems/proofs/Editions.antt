@@ -9,7 +9,7 @@ use lib.ListN.{length, drop, getD}
 use Rattle.calculus.specs.Answer.{Answer, good, refused, _>>=_, need}
 use Rattle.calculus.specs.Terms.{Edition, first, second, isSecond, opening, Term, name, nodes}
 use Rattle.calculus.specs.Read.{byte, headAt, readTerm, Sheet, readRecords, editionOf, recordsOf, offsetBy, readSheet}
-use Rattle.calculus.specs.Laid.{Ranged}
+use Rattle.sheet_theorems.specs.Laid.{Ranged}
 use Rattle.laws.proofs.Tests.{by-eqb}
 use Rattle.sheet_theorems.specs.Subterms.{subterms}
 use Rattle.sheet_theorems.proofs.Going.{passes}

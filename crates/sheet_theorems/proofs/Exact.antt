@@ -9,7 +9,7 @@ use lib.ListN.{length}
 use Rattle.calculus.specs.Answer.{good}
 use Rattle.calculus.specs.Types.{Ty, tyEq, Table, tree}
 use Rattle.calculus.specs.Read.{Sheet, readSheet}
-use Rattle.calculus.specs.Laid.{TableOk}
+use Rattle.sheet_theorems.specs.Laid.{TableOk}
 use Rattle.laws.proofs.Tests.{T-is, is-false, by-eqb}
 use Rattle.calculus.specs.Walk.{Found, walk}
 use Rattle.calculus.specs.Rules.{Typed}
@@ -33,10 +33,10 @@ exact-type s σ r τ e h d = let l = laid s σ e in one-type (sound (σ .edition
 
 -- document 01 compares types and the walk compares type numbers: in a table that the reader accepts it is the same
 pub type-numbers : (Θ : Table) → TableOk Θ → (a b : ℕ) → a < length Θ → b < length Θ → (a ≡ b) ↔ (tree Θ a ≡ tree Θ b)
-type-numbers Θ ok a b ha hb = ((λ e. ap (λ (n : ℕ). tree Θ n) e), (λ e. ok .once a b ha hb e))
+type-numbers Θ ok a b ha hb = ((λ e. ap (λ (n : ℕ). tree Θ n) e), (λ e. ok .distinct a b ha hb e))
 
 -- as tests
 pub type-tests : (Θ : Table) → TableOk Θ → (a b : ℕ) → a < length Θ → b < length Θ → tyEq (tree Θ a) (tree Θ b) ≡ eqb a b
 type-tests Θ ok a b ha hb = by-eqb (λ (t : Bool). tyEq (tree Θ a) (tree Θ b) ≡ t) a b
     (λ e. rw e (T-is (tyEq (tree Θ b) (tree Θ b)) (tyEq-refl (tree Θ b))))
-    (λ d. is-false (tyEq (tree Θ a) (tree Θ b)) (λ t. d (ok .once a b ha hb (tyEq→eq (tree Θ a) (tree Θ b) t))))
+    (λ d. is-false (tyEq (tree Θ a) (tree Θ b)) (λ t. d (ok .distinct a b ha hb (tyEq→eq (tree Θ a) (tree Θ b) t))))

@@ -14,7 +14,7 @@ use Rattle.calculus.specs.Types.{TyRec, rec01, rec02, rec03, rec04, Table}
 use Rattle.calculus.specs.Terms.{Edition, first, second, opening, Term, fun, app, lfun, lapp, pair, proj, fix, name, nodes}
 use Rattle.calculus.specs.Read.{Kind, unknown, type, node, TypeKind, k01, k02, k03, k04, NodeKind, k11, k12, k13, k14, k15, k16, k17, k18, k19, k1A, k1B, kindOf, knows, byte, typeBody, typeRec, checkType, typeAt, readTypes, Got, got, nodeBody, nodeTyped, nodeKind, headAt, nodeAt, readTerm, Sheet, readRecords, editionOf, recordsOf, offsetBy, readSheet}
 use Rattle.calculus.specs.Write.{recBytes, tableBytes, termBytes, recordBytes, sheetBytes}
-use Rattle.calculus.specs.Laid.{TableOk, depth, Ranged, Laid}
+use Rattle.sheet_theorems.specs.Laid.{TableOk, depth, Ranged, Laid}
 use Rattle.laws.proofs.Tests.{by-eqb}
 use Rattle.sheet_theorems.proofs.KindBytes.{type-byte, node-byte}
 use Rattle.sheet_theorems.proofs.Bytes.{front-one, front-two, front-three}

@@ -8,7 +8,7 @@ use lib.Seq.{drop-append-seam, drop-append-add}
 use Rattle.calculus.specs.Terms.{opening, Term, var, lvar, fun, app, lfun, lapp, pair, proj, fix, con, name}
 use Rattle.calculus.specs.Read.{node, NodeKind, k11, k12, k13, k14, k15, k16, k17, k18, k19, k1A, k1B, kindOf, byte, Sheet}
 use Rattle.calculus.specs.Write.{tableBytes, termBytes, recordBytes, sheetBytes}
-use Rattle.calculus.specs.Laid.{Stands, Laid}
+use Rattle.sheet_theorems.specs.Laid.{Stands, Laid}
 use Rattle.calculus.specs.Stretch.{termStart}
 use Rattle.sheet_theorems.proofs.KindBytes.{nodeByte, node-kind, node-range}
 use Rattle.sheet_theorems.proofs.Bytes.{first-byte, second-byte, third-byte, behind, within}

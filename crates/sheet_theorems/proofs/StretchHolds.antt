@@ -12,7 +12,7 @@ use Rattle.calculus.specs.Answer.{Answer, good, refused}
 use Rattle.calculus.specs.Terms.{Term, var, lvar, fun, app, lfun, lapp, pair, proj, fix, con, name, nodes}
 use Rattle.calculus.specs.Read.{Kind, nodeBody, Sheet, readSheet}
 use Rattle.calculus.specs.Write.{termBytes}
-use Rattle.calculus.specs.Laid.{Stands}
+use Rattle.sheet_theorems.specs.Laid.{Stands}
 use Rattle.calculus.specs.Stretch.{Stretch, nowhere, whole, stretches, termStart, stretchOf, cut}
 use Rattle.sheet_theorems.specs.Subterms.{subterms, bodyOf, after, skip}
 use Rattle.sheet_theorems.proofs.Laying.{sheet-bytes}

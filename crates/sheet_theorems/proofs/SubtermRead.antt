@@ -9,7 +9,7 @@ use Rattle.calculus.specs.Answer.{good}
 use Rattle.calculus.specs.Types.{Table}
 use Rattle.calculus.specs.Terms.{Edition, Term, var, lvar, fun, app, lfun, lapp, pair, proj, fix, con, name, nodes}
 use Rattle.calculus.specs.Read.{Sheet, got, readTerm, readSheet}
-use Rattle.calculus.specs.Laid.{depth, Ranged}
+use Rattle.sheet_theorems.specs.Laid.{depth, Ranged}
 use Rattle.calculus.specs.Stretch.{stretchOf}
 use Rattle.sheet_theorems.specs.Subterms.{subterms}
 use Rattle.sheet_theorems.proofs.Laying.{laid}

@@ -12,7 +12,7 @@ use Rattle.calculus.specs.Answer.{Answer, good}
 use Rattle.calculus.specs.Types.{Ty, bit, size, sharable, TyRec, rec01, rec02, rec03, rec04, recEq, Table, recAt, tyOf, tysFrom, tree}
 use Rattle.calculus.specs.Read.{Kind, type, node, TypeKind, k01, k02, k03, k04, NodeKind, kindOf, byte, typeBody, typeRec, known, formed, repeated, checkType, typeAt, readTypes}
 use Rattle.calculus.specs.Write.{recBytes, tableBytes}
-use Rattle.calculus.specs.Laid.{Agrees, Below, TableOk}
+use Rattle.sheet_theorems.specs.Laid.{Agrees, Below, TableOk}
 use Rattle.laws.proofs.Tests.{and-both, and-of, or-elim}
 use Rattle.sheet_theorems.proofs.Bytes.{behind}
 use Rattle.sheet_theorems.proofs.Tables.{tys-count, tree-new}
@@ -101,7 +101,7 @@ module _ (Φ Ψ : Table) (r : TyRec) (ok : TableOk (Φ ++ r ∷ Ψ)) where
   not-earlier n h e =
       let q : recAt (Φ ++ r ∷ Ψ) n ≡ r = List·getD-append Φ (r ∷ Ψ) rec01 n h ∙ e in
       let a : Agrees (Φ ++ r ∷ Ψ) r (tree (Φ ++ r ∷ Ψ) n) = subst (λ (q : TyRec). Agrees (Φ ++ r ∷ Ψ) q (tree (Φ ++ r ∷ Ψ) n)) q (ok .agrees n) in
-      let z = ok .once n (length Φ) (omega (arith, in-whole)) in-whole (agrees-one (Φ ++ r ∷ Ψ) r _ _ a agrees-here) in
+      let z = ok .distinct n (length Φ) (omega (arith, in-whole)) in-whole (agrees-one (Φ ++ r ∷ Ψ) r _ _ a agrees-here) in
       omega arith
 
   pub passed : (at : ℕ) → checkType Φ r at ≡ good tt

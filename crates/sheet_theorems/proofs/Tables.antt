@@ -14,7 +14,7 @@ use Rattle.calculus.specs.Answer.{good, need}
 use Rattle.calculus.proofs.Answers.{refused≢good, on-need}
 use Rattle.calculus.specs.Types.{Ty, bit, size, sharable, TyRec, rec01, rec02, rec03, rec04, recEq, Table, recAt, tyOf, tysFrom, tree}
 use Rattle.calculus.specs.Read.{known, formed, repeated, checkType}
-use Rattle.calculus.specs.Laid.{Agrees, Below, TableOk}
+use Rattle.sheet_theorems.specs.Laid.{Agrees, Below, TableOk}
 use Rattle.laws.proofs.Tests.{and-both, and-of, or-left, or-right}
 
 pub tys-snoc : (acc : List Ty) (Θ : Table) (r : TyRec) → tysFrom acc (Θ ++ r ∷ []) ≡ tysFrom acc Θ ++ tyOf (tysFrom acc Θ) r ∷ []
@@ -94,7 +94,7 @@ module _ (Θ : Table) (ok : TableOk Θ) where
   in-table n h = wider (recAt Θ n) (omega arith) (ok .earlier n h)
 
   eqb-same : (a b : ℕ) → a < length Θ → b < length Θ → tree Θ a ≡ tree Θ b → T (eqb a b)
-  eqb-same a b ha hb e = subst (λ (x : ℕ). T (eqb a x)) (ok .once a b ha hb e) (eqb-refl a)
+  eqb-same a b ha hb e = subst (λ (x : ℕ). T (eqb a x)) (ok .distinct a b ha hb e) (eqb-refl a)
 
   -- two records of one type are one
   same-rec : (q r : TyRec) (ρ : Ty) → Below (length Θ) q → Below (length Θ) r → Agrees Θ q ρ → Agrees Θ r ρ → T (recEq q r)
@@ -163,15 +163,15 @@ module _ (Θ : Table) (ok : TableOk Θ) where
     grown = record {
       agrees = anywhere (λ q τ. Agrees Φ q τ) agrees-at refl;
       earlier = place (λ n. Below n (recAt Φ n)) (λ n h. rw (rec-old Θ r n h) (ok .earlier n h)) (rw (rec-new Θ r) k);
-      once = λ a b ha hb. place (λ a. tree Φ a ≡ tree Φ b → a ≡ b)
-          (λ a h. place (λ b. tree Φ a ≡ tree Φ b → a ≡ b) (λ b i e. ok .once a b h i (sym (tree-old Θ r a h) ∙ e ∙ tree-old Θ r b i)) (λ e. absurd (clash a h e)) b hb)
+      distinct = λ a b ha hb. place (λ a. tree Φ a ≡ tree Φ b → a ≡ b)
+          (λ a h. place (λ b. tree Φ a ≡ tree Φ b → a ≡ b) (λ b i e. ok .distinct a b h i (sym (tree-old Θ r a h) ∙ e ∙ tree-old Θ r b i)) (λ e. absurd (clash a h e)) b hb)
           (place (λ b. tree Φ (length Θ) ≡ tree Φ b → length Θ ≡ b) (λ b i e. absurd (clash b i (sym e))) (λ e. refl) b hb) a ha;
       few = rw (more-length Θ r) room;
       small = anywhere (λ q τ. size τ ≤ 128) (place (λ n. size (tree Φ n) ≤ 128) (λ n h. rw (tree-old Θ r n h) (ok .small n)) (rw (tree-new Θ r) z)) (lit≤ tt);
     }
 
 pub empty-ok : TableOk []
-empty-ok = record { agrees = λ n. refl; earlier = λ n h. absurd (not-suc-le-zero h); once = λ a b h. absurd (not-suc-le-zero h); few = lit≤ tt; small = λ n. lit≤ tt }
+empty-ok = record { agrees = λ n. refl; earlier = λ n h. absurd (not-suc-le-zero h); distinct = λ a b h. absurd (not-suc-le-zero h); few = lit≤ tt; small = λ n. lit≤ tt }
 
 -- a record that passes the reader's tests makes the table one longer
 pub checked : (Θ : Table) (r : TyRec) (at : ℕ) (u : Unit {0}) → TableOk Θ → length Θ + 1 ≤ 256 → checkType Θ r at ≡ good u → TableOk (Θ ++ r ∷ [])

@@ -6,7 +6,7 @@ use native.Mathlib.Omega.{arith}
 use lib.Dec.{eqb}
 use lib.ListN.{length}
 use Rattle.calculus.specs.Types.{Ty, bit, arrow, size, sharable, isArrow, tyEq, TyRec, rec01, rec02, rec03, rec04, Table, recAt, tree}
-use Rattle.calculus.specs.Laid.{Agrees, TableOk}
+use Rattle.sheet_theorems.specs.Laid.{Agrees, TableOk}
 use Rattle.laws.proofs.Tests.{T-is, and-of}
 use Rattle.sheet_theorems.proofs.TypeOffsets.{tree-zero}
 use Rattle.sheet_theorems.proofs.Exact.{type-tests}

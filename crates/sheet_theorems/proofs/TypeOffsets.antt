@@ -9,7 +9,7 @@ use lib.Seq.{drop-append-add}
 use Rattle.calculus.specs.Types.{bit, TyRec, rec01, rec02, rec03, rec04, Table, recAt, tree}
 use Rattle.calculus.specs.Read.{type, TypeKind, k01, k02, k03, k04, kindOf, byte, typeRec, Sheet}
 use Rattle.calculus.specs.Write.{recBytes, tableBytes, termBytes, recordBytes}
-use Rattle.calculus.specs.Laid.{Agrees, Below, TableOk, Laid}
+use Rattle.sheet_theorems.specs.Laid.{Agrees, Below, TableOk, Laid}
 use Rattle.sheet_theorems.proofs.Bytes.{front-one, first-byte, second-byte, third-byte, within}
 use Rattle.sheet_theorems.proofs.KindBytes.{typeByte, type-kind}
 
@@ -31,7 +31,7 @@ tree-zero Θ ok = subst (λ (q : TyRec). Agrees Θ q (tree Θ 0)) (record-zero �
 pub record-later : (Θ : Table) → TableOk Θ → (t : ℕ) → suc t < length Θ → recAt Θ (suc t) ≡ rec01 → ⊥
 record-later Θ ok t h e =
     let b : tree Θ (suc t) ≡ bit = subst (λ (q : TyRec). Agrees Θ q (tree Θ (suc t))) e (ok .agrees (suc t)) in
-    let z = ok .once (suc t) 0 h (omega arith) (b ∙ sym (tree-zero Θ ok)) in
+    let z = ok .distinct (suc t) 0 h (omega arith) (b ∙ sym (tree-zero Θ ok)) in
     omega arith
 
 rec-three : (r : TyRec) → (r ≡ rec01 → ⊥) → length (recBytes r) ≡ 3

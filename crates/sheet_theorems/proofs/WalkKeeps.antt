@@ -11,7 +11,7 @@ use Rattle.calculus.proofs.Answers.{refused≢good, good-inj, on-bind, on-need}
 use Rattle.calculus.specs.Types.{sharable, tyEq, TyRec, rec02, rec03, rec04, Table, recAt, tree}
 use Rattle.calculus.specs.Terms.{Edition, Term, var, lvar, fun, app, lfun, lapp, pair, proj, fix, con, name, nodes, parts, partAt}
 use Rattle.calculus.specs.Walk.{Binder, shared, linear, Stack, Sides, product, sharableArrow, linearArrow, Found, useShared, useLinear, pop, topUsed, walk}
-use Rattle.calculus.specs.Laid.{Below, TableOk, Ranged}
+use Rattle.sheet_theorems.specs.Laid.{Below, TableOk, Ranged}
 use Rattle.sheet_theorems.proofs.Sound.{product-good, sharable-good, linear-good, under-good}
 use Rattle.sheet_theorems.proofs.Complete.{Numbers}
 

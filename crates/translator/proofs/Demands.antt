@@ -1,11 +1,12 @@
 -- The three demands hold of what a call leaves. Assumes nothing.
 use Prim.Native.Nat.{ℕ, _+_, _≤_, _<_}
-use mathlib.Core.Path.{_≡_, refl, sym, ap, subst, _∙_}
+use mathlib.Core.Path.{_≡_, refl, sym, ap, ap₂, subst, _∙_}
 use mathlib.Core.Bool.{Bool}
 use mathlib.Core.List.{List, [], _++_}
 use native.Mathlib.Omega.{arith}
 use lib.Dec.{leb, leb→le}
 use lib.ListN.{length, drop}
+use lib.Seq.{take-at}
 use borrow.Author.Tests.{lt-leb, le-leb}
 use Rattle.calculus.specs.Answer.{Answer, good, refused, _>>=_}
 use Rattle.calculus.proofs.Answers.{refused≢good, good-inj, on-bind, on-need}
@@ -13,11 +14,13 @@ use Rattle.calculus.specs.Types.{Ty}
 use Rattle.calculus.specs.Read.{Sheet, readSheet}
 use Rattle.calculus.specs.Rules.{Typed}
 use Rattle.calculus.specs.Net.{Net, make, netOf, netBytes}
+use Rattle.calculus.specs.NetRead.{readNet}
 use Rattle.calculus.specs.Translate.{full, asked, answer, zeroed, saidOf, outOf, workOf, call}
 use Rattle.sheet_theorems.proofs.Exact.{exact}
-use Rattle.circuit_theorems.proofs.Main.{accepts, driven, same-circuit}
+use Rattle.circuit_theorems.proofs.Main.{accepts, driven, undriven, made-once, same-circuit, same-circuit-01}
+use Rattle.circuit_theorems.proofs.Told.{bytes-tell}
 use Rattle.memory.proofs.Zeroed.{zeroed-length, zeroed-zeros, zeroed-later}
-use Rattle.translator.specs.Demands.{Wrote, Cleared, Demand1, Derivable, Demand2, Demand3}
+use Rattle.translator.specs.Demands.{Wrote, Cleared, Demand1, Derivable, Demand2, OneDriver, Circuit, Demand3}
 use Rattle.translator.proofs.Places.{Judged, value, refusal, CallPlace, answer-places}
 
 -- ---- demand 1
@@ -98,7 +101,7 @@ module _ (b : Bool) (s out work : List ℕ) where
       let k : length bytes ≡ n = good-inj h in
       record {
         sheet = a .sheet;
-        within = record {
+        conditions = record {
           memory = w .memory-ok;
           reads = a .reads;
           terminals = a .few;
@@ -112,7 +115,7 @@ module _ (b : Bool) (s out work : List ℕ) where
   back : (n : ℕ) → Derivable b s out work n → saidOf answered ≡ good n
   back n d =
       let σ = d .sheet in
-      let w = d .within in
+      let w = d .conditions in
       let m = netOf (make (σ .table) (σ .term) [] 0) in
       let e : answered ≡ good (netBytes (asked b m)) =
       answer-of b s (length work) (length out) m (w .memory) (full-of s σ (d .type) (w .reads) (d .typed) (w .terminals)) (subst (λ (x : ℕ). x ≤ length out) (sym (w .needs)) (w .room)) in
@@ -139,5 +142,30 @@ module _ (b : Bool) (s out work : List ℕ) where
 
 -- ---- demand 3
 
-pub demand-3 : (s : List ℕ) (m : Net) → full s ≡ good m → Demand3 m
-demand-3 s m e = record { one = driven s m e; same = λ law. same-circuit law s m e }
+one-driver : (s : List ℕ) (m : Net) → full s ≡ good m → OneDriver m
+one-driver s m e = record {
+  made-once = made-once s m e;
+  driven = driven s m e;
+  undriven = λ i h. let u = undriven s m e i h in omega (arith, u .0, u .1);
+}
+
+module _ (b : Bool) (s out work : List ℕ) where
+  circuit-of : (n : ℕ) (a : Answer (List ℕ)) → answer (length work) b s (length out) ≡ a → saidOf a ≡ good n → Circuit b s out n (outOf a out)
+  circuit-of n (refused number place) e h = absurd (refused≢good h)
+  circuit-of n (good bytes) e h =
+      let w = went b s (length work) (length out) bytes e in
+      let k : length bytes ≡ n = good-inj h in
+      record {
+        net = w .net;
+        of-sheet = w .made;
+        needs = ap length (w .is) ∙ k;
+        wrote = ap₂ (λ (x : List ℕ) (j : ℕ). x ++ drop j out) (sym (w .is)) k;
+        told = ap readNet (take-at bytes (drop (length bytes) out) n k ∙ sym (w .is)) ∙ bytes-tell s (w .net) (w .made) b;
+        one = one-driver s (w .net) (w .made);
+        same = same-circuit-01 s (w .net) (w .made);
+        same-any = λ law. same-circuit law s (w .net) (w .made);
+      }
+
+  pub demand-3 : Demand3 b s out work (call b s out work)
+  unfolding call
+  demand-3 = record { circuit = λ n h. circuit-of n (answer (length work) b s (length out)) refl h }

@@ -4,16 +4,17 @@ use mathlib.Core.Path.{_≡_}
 use mathlib.Core.Bool.{Bool}
 use mathlib.Core.Logic.{_↔_}
 use mathlib.Core.List.{List, [], _++_}
-use lib.ListN.{length, getD, drop}
+use lib.ListN.{length, getD, take, drop}
 use Rattle.calculus.specs.Answer.{Answer, good, refused}
 use Rattle.calculus.specs.Types.{Ty}
 use Rattle.calculus.specs.Read.{Sheet, readSheet}
 use Rattle.calculus.specs.Rules.{Typed}
 use Rattle.calculus.specs.Net.{Net, make, netOf, netBytes}
 use Rattle.calculus.specs.Lean.{lean}
-use Rattle.calculus.specs.Record.{Bits, Law, Outside}
-use Rattle.calculus.specs.Formed.{made, targets, ins}
-use Rattle.calculus.specs.Translate.{asked, Call}
+use Rattle.calculus.specs.Record.{Bits, Law, partLaw, Outside}
+use Rattle.calculus.specs.Inputs.{madeAt, targets, ins}
+use Rattle.calculus.specs.NetRead.{readNet}
+use Rattle.calculus.specs.Translate.{full, asked, Call}
 
 -- ---- demand 1
 
@@ -38,7 +39,7 @@ pub record Demand1 (wantLean : Bool) (s out work : List ℕ) (c : Call) : Type 0
 -- ---- demand 2
 
 -- form, limits and room of a call that is to write the netlist of a sheet σ in n bytes
-pub record Within (wantLean : Bool) (s out work : List ℕ) (σ : Sheet) (n : ℕ) : Type 0 where
+pub record Conditions (wantLean : Bool) (s out work : List ℕ) (σ : Sheet) (n : ℕ) : Type 0 where
   pub memory : 32768 ≤ length work
   pub reads : readSheet s ≡ good σ
   pub terminals : make (σ .table) (σ .term) [] 0 .next ≤ 8192
@@ -48,7 +49,7 @@ pub record Within (wantLean : Bool) (s out work : List ℕ) (σ : Sheet) (n : �
 -- .. and Figure 2 has a derivation
 pub record Derivable (wantLean : Bool) (s out work : List ℕ) (n : ℕ) : Type 0 where
   pub sheet : Sheet
-  pub within : Within wantLean s out work sheet n
+  pub conditions : Conditions wantLean s out work sheet n
   pub type : Ty
   pub typed : Typed (sheet .table) [] (sheet .term) type
 
@@ -61,9 +62,27 @@ pub record Demand2 (wantLean : Bool) (s out work : List ℕ) (c : Call) : Type 0
 
 -- ---- demand 3
 
--- of the full netlist of an accepted sheet
-pub record Demand3 (m : Net) : Type 1 where
-  -- each input has exactly one wire or stands exactly once among the pins, never both
-  pub one : (i : ℕ) → made (m .elements) i ≡ 1 → targets (m .wires) i + ins (m .pins) i ≡ 1
-  -- the lean netlist is the same circuit, over any law of the parts, for any number of ticks
-  pub same : (law : Law) (n : ℕ) (γ π : Bits) → Outside law m n γ π ↔ Outside law (lean m) n γ π
+-- each input has exactly one wire or stands exactly once among the pins, never both; none is made twice, and nothing else has either
+pub record OneDriver (m : Net) : Type 0 where
+  pub made-once : (i : ℕ) → madeAt (m .elements) i ≤ 1
+  pub driven : (i : ℕ) → madeAt (m .elements) i ≡ 1 → targets (m .wires) i + ins (m .pins) i ≡ 1
+  pub undriven : (i : ℕ) → madeAt (m .elements) i ≡ 0 → targets (m .wires) i + ins (m .pins) i ≡ 0
+
+-- two netlists have the same possible records of pins and part terminals, for any number of ticks
+abbrev pub SameRecords : Law → Net → Net → Type 0
+SameRecords law m m′ = (n : ℕ) (γ π : Bits) → Outside law m n γ π ↔ Outside law m′ n γ π
+
+-- the full netlist behind n bytes written: they are its own or those of its lean netlist, and read again they tell it
+pub record Circuit (wantLean : Bool) (s out : List ℕ) (n : ℕ) (after : List ℕ) : Type 1 where
+  pub net : Net
+  pub of-sheet : full s ≡ good net
+  pub needs : length (netBytes (asked wantLean net)) ≡ n
+  pub wrote : after ≡ netBytes (asked wantLean net) ++ drop n out
+  pub told : readNet (take n after) ≡ good (asked wantLean net)
+  pub one : OneDriver net
+  -- the lean netlist is the same circuit, for document 01's law and over any other
+  pub same : SameRecords partLaw net (lean net)
+  pub same-any : (law : Law) → SameRecords law net (lean net)
+
+pub record Demand3 (wantLean : Bool) (s out work : List ℕ) (c : Call) : Type 1 where
+  pub circuit : (n : ℕ) → c .said ≡ good n → Circuit wantLean s out n (c .out)

@@ -5,7 +5,7 @@ ghost use lib.ListN.{length, drop};
 ghost use Rattle.calculus.specs.Lean.{lean};
 ghost use Rattle.calculus.specs.Record.{All};
 ghost use Rattle.memory.specs.Map.{netIn, Ready};
-ghost use Rattle.netlist.specs.Elements.{Known};
+ghost use Rattle.calculus.specs.NetRead.{Known};
 ghost use Rattle.translator.specs.Said.{Says, netAnswer, Keeps};
 
 // The full netlist; 17 with the length needed where the output is shorter.

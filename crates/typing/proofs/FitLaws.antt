@@ -12,7 +12,7 @@ use Rattle.calculus.proofs.Answers.{refused≢good, good-inj, on-need}
 use Rattle.calculus.specs.Types.{TyRec, Table}
 use Rattle.calculus.specs.Terms.{Term, var, lvar, fun, app, lfun, lapp, pair, proj, fix, con, nodes}
 use Rattle.calculus.specs.Write.{termBytes}
-use Rattle.calculus.specs.Laid.{Ranged, Stands, depth}
+use Rattle.sheet_theorems.specs.Laid.{Ranged, Stands, depth}
 use Rattle.calculus.specs.Walk.{shared, Stack, Found, found, walk}
 use Rattle.laws.proofs.Tests.{on-cond}
 use Rattle.records.specs.Forms.{recIn}

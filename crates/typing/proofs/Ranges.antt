@@ -12,7 +12,7 @@ use Rattle.calculus.specs.Types.{Ty, bit, prod, arrow, lolli, sharable, tyEq, T
 use Rattle.calculus.specs.Terms.{Term}
 use Rattle.calculus.specs.Read.{Sheet}
 use Rattle.calculus.specs.Write.{tableBytes, termBytes, sheetBytes}
-use Rattle.calculus.specs.Laid.{Agrees, Below, TableOk, Ranged, Laid}
+use Rattle.sheet_theorems.specs.Laid.{Agrees, Below, TableOk, Ranged, Laid}
 use Rattle.calculus.specs.Rules.{Ctx}
 use Rattle.calculus.specs.Walk.{Stack, Found, walk}
 use Rattle.laws.proofs.Tests.{T-is}

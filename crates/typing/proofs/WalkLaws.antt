@@ -9,7 +9,7 @@ use lib.ListN.{length, drop}
 use Rattle.calculus.specs.Answer.{Answer, good, refused, _>>=_, need}
 use Rattle.calculus.specs.Types.{TyRec, rec01, rec02, rec03, rec04, Table, recAt}
 use Rattle.calculus.specs.Terms.{Term, var, lvar, fun, app, lfun, lapp, pair, proj, fix, con, nodes, partAt}
-use Rattle.calculus.specs.Laid.{TableOk, Ranged}
+use Rattle.sheet_theorems.specs.Laid.{TableOk, Ranged}
 use Rattle.calculus.specs.Walk.{shared, linear, Stack, product, sharableArrow, linearArrow, Found, found, pop, topUsed, walk}
 use Rattle.records.specs.Heads.{nodeOf}
 use Rattle.sheet_theorems.proofs.Complete.{Numbers}

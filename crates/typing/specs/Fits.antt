@@ -6,7 +6,7 @@ use lib.ListN.{length}
 use Rattle.calculus.specs.Types.{Table, recAt}
 use Rattle.calculus.specs.Terms.{Term, nodes}
 use Rattle.calculus.specs.Write.{termBytes}
-use Rattle.calculus.specs.Laid.{TableOk, Stands, Ranged, depth}
+use Rattle.sheet_theorems.specs.Laid.{TableOk, Stands, Ranged, depth}
 use Rattle.calculus.specs.Walk.{Stack, walk}
 use Rattle.records.specs.Forms.{recIn}
 use Rattle.sheet_theorems.proofs.Complete.{Numbers}

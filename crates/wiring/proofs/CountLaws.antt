@@ -7,7 +7,7 @@ use lib.ListN.{length, getD, drop}
 use Rattle.calculus.specs.Types.{Ty, size, TyRec, rec01, rec02, rec03, rec04, Table, recAt, tree}
 use Rattle.calculus.specs.Terms.{Term, var, lvar, fun, app, lfun, lapp, pair, proj, fix, con, nodes, partAt}
 use Rattle.calculus.specs.Write.{termBytes}
-use Rattle.calculus.specs.Laid.{Agrees, Below, TableOk, Stands, Ranged}
+use Rattle.sheet_theorems.specs.Laid.{Agrees, Below, TableOk, Stands, Ranged}
 use Rattle.calculus.specs.Net.{leftOf, make}
 use Rattle.calculus.specs.Record.{All}
 use Rattle.records.specs.Record.{nodeAt}

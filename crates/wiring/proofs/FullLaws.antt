@@ -14,15 +14,16 @@ use Rattle.calculus.specs.Types.{size, tree}
 use Rattle.calculus.specs.Terms.{nodes, partAt}
 use Rattle.calculus.specs.Read.{Sheet, readSheet}
 use Rattle.calculus.specs.Write.{tableBytes}
-use Rattle.calculus.specs.Laid as laid-as
+use Rattle.sheet_theorems.specs.Laid as laid-as
 use Rattle.calculus.specs.Net.{Terminal, Interface, Element, point, part, Wire, Net, Made, make, netOf}
 use Rattle.calculus.specs.Lean.{driver}
 use Rattle.calculus.specs.Record.{All}
-use Rattle.calculus.specs.Formed.{Tiled, targets, Formed}
+use Rattle.calculus.specs.Inputs.{targets}
+use Rattle.circuit_theorems.specs.Formed.{Tiled, Formed}
 use Rattle.calculus.specs.Translate.{full}
 use Rattle.memory.specs.Map.{region, kindOf, elementsFrom, wiresFrom, code, terminalOf, netIn}
-use Rattle.netlist.specs.Elements.{Known}
-use Rattle.netlist.proofs.KnownParts.{made-known}
+use Rattle.calculus.specs.NetRead.{Known}
+use Rattle.circuit_theorems.proofs.KnownParts.{made-known}
 use Rattle.sheet_theorems.proofs.Laying.{laid}
 use Rattle.sheet_theorems.proofs.Standing.{sheet-stands}
 use Rattle.sheet.specs.Tables.{sizesOf}
@@ -32,7 +33,7 @@ use Rattle.circuit_theorems.specs.Drive.{driveAll}
 use Rattle.circuit_theorems.proofs.Drivers.{env-end}
 use Rattle.circuit_theorems.proofs.Lists.{all-map}
 use Rattle.circuit_theorems.proofs.Wiring.{target-one}
-use Rattle.circuit_theorems.proofs.Forming.{Whole}
+use Rattle.circuit_theorems.proofs.Forming.{Gapless}
 use Rattle.circuit_theorems.proofs.Main.{Accepts, accepts, formed}
 use Rattle.circuit_theorems.proofs.Drive.{mem-driver, table-list}
 use Rattle.circuit_theorems.proofs.Bounds.{few-elements, few-wires, few-pins, names}
@@ -186,8 +187,8 @@ module _ {s sizes w : List ℕ} {at : ℕ} (q : Accepted s sizes w at) (m : Net)
     is-net : netOf mk ≡ m
     is-net = A .is
 
-    whole : Whole (netOf mk)
-    whole = subst Whole (sym is-net) (formed s m ok)
+    whole : Gapless (netOf mk)
+    whole = subst Gapless (sym is-net) (formed s m ok)
 
     -- a list of the memory, as a region
     list-region : (from room k : ℕ) (xs : List ℕ) → Lies w′ from room xs → from + room ≤ length w′ → k ≡ length xs → region w′ from k ≡ xs

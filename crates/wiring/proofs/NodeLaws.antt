@@ -8,7 +8,7 @@ use lib.ListN.{length, length-append}
 use Rattle.calculus.specs.Types.{Ty, bit, prod, arrow, lolli, size, TyRec, rec01, rec02, rec03, rec04, Table, recAt, tree}
 use Rattle.calculus.specs.Terms.{Term, pair, proj}
 use Rattle.calculus.specs.Write.{termBytes}
-use Rattle.calculus.specs.Laid.{Agrees, Below, Stands, Ranged}
+use Rattle.sheet_theorems.specs.Laid.{Agrees, Below, Stands, Ranged}
 use Rattle.calculus.specs.Rules.{Ctx, many, once, InΓ, in-here, in-many, in-away, IsΔ, is-here, is-many, is-away, Typed, Var, LVar, →I, →E, ⊸I, ⊸E, ×I, ×E, Fix, Con}
 use Rattle.calculus.specs.Net.{Bound, leftOf, rightOf, binder, madePair, firstHalf, secondHalf, make}
 use Rattle.records.specs.Heads.{nodeOf}

@@ -11,7 +11,7 @@ use lib.ListN.{length, getD, replicate, length-append, length-map, length-replic
 use lib.Seq.{sets}
 use Rattle.calculus.specs.Types.{Ty, size, Table, tree}
 use Rattle.calculus.specs.Write.{termBytes}
-use Rattle.calculus.specs.Laid.{Stands, depth}
+use Rattle.sheet_theorems.specs.Laid.{Stands, depth}
 use Rattle.calculus.specs.Net.{turns, points, inSide, binder, Made, make, madeFix, join, Interface, Element}
 use Rattle.records.specs.Heads.{nodeOf}
 use Rattle.records.specs.declared.Node.{Node}

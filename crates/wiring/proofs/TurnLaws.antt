@@ -10,7 +10,7 @@ use lib.Seq.{sets}
 use Rattle.laws.proofs.Regions.{sets-append}
 use Rattle.laws.proofs.Tests.{and-both, and-of}
 use Rattle.calculus.specs.Types.{Ty, bit, prod, arrow, lolli, size, sharable, TyRec, rec01, rec02, rec03, rec04, Table, recAt, tree}
-use Rattle.calculus.specs.Laid.{Agrees, Below}
+use Rattle.sheet_theorems.specs.Laid.{Agrees, Below}
 use Rattle.calculus.specs.Net.{turns}
 use Rattle.records.specs.Forms.{recIn}
 use Rattle.circuit_theorems.proofs.Drivers.{turns-not, turns-size}

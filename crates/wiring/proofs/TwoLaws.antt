@@ -13,7 +13,7 @@ use Rattle.laws.proofs.Parts.{map-take, map-drop}
 use Rattle.calculus.specs.Types.{Ty, size, Table, tree}
 use Rattle.calculus.specs.Terms.{Term, var, lvar, fun, app, lfun, lapp, pair, proj, fix, con}
 use Rattle.calculus.specs.Write.{termBytes}
-use Rattle.calculus.specs.Laid.{Stands, depth}
+use Rattle.sheet_theorems.specs.Laid.{Stands, depth}
 use Rattle.calculus.specs.Net.{turns, Interface, Made, make, leftOf, rightOf, join, firstHalf, secondHalf}
 use Rattle.records.specs.Heads.{nodeOf}
 use Rattle.records.specs.Forms.{recIn}

@@ -10,7 +10,7 @@ use lib.Dec.{eqb}
 use Rattle.calculus.specs.Types.{Ty, size, Table, tree}
 use Rattle.calculus.specs.Terms.{Term}
 use Rattle.calculus.specs.Write.{termBytes}
-use Rattle.calculus.specs.Laid.{Stands, Ranged, depth}
+use Rattle.sheet_theorems.specs.Laid.{Stands, Ranged, depth}
 use Rattle.calculus.specs.Rules.{Ctx, Typed}
 use Rattle.calculus.specs.Net.{turns, Interface, outSide, Bound, unbound, Made, make}
 use Rattle.records.specs.Heads.{nodeOf}

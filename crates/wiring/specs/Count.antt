@@ -8,7 +8,7 @@ use lib.Dec.{eqb}
 use Rattle.calculus.specs.Types.{Table}
 use Rattle.calculus.specs.Terms.{Term, nodes, partAt}
 use Rattle.calculus.specs.Write.{termBytes}
-use Rattle.calculus.specs.Laid.{Stands, Ranged}
+use Rattle.sheet_theorems.specs.Laid.{Stands, Ranged}
 use Rattle.calculus.specs.Record.{All}
 use Rattle.circuit_theorems.specs.Terminals.{terminals}
 use Rattle.records.specs.declared.Node.{Node}

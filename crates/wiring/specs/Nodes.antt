@@ -8,7 +8,7 @@ use lib.ListN.{length, getD}
 use Rattle.calculus.specs.Types.{Ty, bit, size, Table, tree}
 use Rattle.calculus.specs.Terms.{Term}
 use Rattle.calculus.specs.Write.{termBytes}
-use Rattle.calculus.specs.Laid.{Stands, Ranged, depth}
+use Rattle.sheet_theorems.specs.Laid.{Stands, Ranged, depth}
 use Rattle.calculus.specs.Rules.{Ctx, Typed}
 use Rattle.calculus.specs.Net.{turns, points, inSide, Bound, Made, leftOf, rightOf, binder, madeApp, madePair, firstHalf, secondHalf, madeProj, madeFix, madeVar, madeCon, unbound, make}
 use Rattle.records.specs.Heads.{nodeOf}

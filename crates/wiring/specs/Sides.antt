@@ -5,7 +5,7 @@ use mathlib.Core.Bool.{Bool, true, false, cond, Bool·beq}
 use mathlib.Core.List.{List, [], _∷_}
 use lib.ListN.{length, getD}
 use Rattle.calculus.specs.Types.{size, TyRec, rec01, rec02, rec03, rec04, Table, recAt, tree}
-use Rattle.calculus.specs.Laid.{TableOk}
+use Rattle.sheet_theorems.specs.Laid.{TableOk}
 use Rattle.records.specs.Forms.{recIn}
 use Rattle.wiring.specs.declared.faces.Sides.{Sides}
 

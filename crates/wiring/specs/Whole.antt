@@ -8,7 +8,7 @@ use Rattle.calculus.specs.Net.{Net}
 use Rattle.calculus.specs.Record.{All}
 use Rattle.calculus.specs.Translate.{full}
 use Rattle.memory.specs.Map.{netIn, Ready}
-use Rattle.netlist.specs.Elements.{Known}
+use Rattle.calculus.specs.NetRead.{Known}
 use Rattle.sheet.proofs.Told.{Told}
 use Rattle.wiring.specs.declared.Counts.{Counts}
 

@@ -9,7 +9,7 @@ use Rattle.calculus.specs.Net.{Net, netBytes}
 use Rattle.calculus.specs.Lean.{lean}
 use Rattle.calculus.specs.Record.{All}
 use Rattle.memory.specs.Map.{netIn}
-use Rattle.netlist.specs.Elements.{Known}
+use Rattle.calculus.specs.NetRead.{Known}
 use Rattle.translator.proofs.WriteLaws.{says-short, says-fits, within-keeps}
 use borrow.Author.Needs.{needs}
 use Rattle.translator.proofs.write.write_lean.Statement.{statement}

@@ -2,42 +2,14 @@
 -- (document 01, "The full netlist"; demand 3, first half). Assumes nothing.
 use Prim.Native.Nat.{ℕ, _+_, _≤_}
 use mathlib.Core.Path.{_≡_}
-use mathlib.Core.Bool.{Bool, false, _||_, cond}
 use mathlib.Core.List.{List, [], _∷_}
-use lib.Dec.{T, eqb}
+use lib.Dec.{T}
 use Rattle.calculus.specs.Terms.{partAt}
-use Rattle.calculus.specs.Net.{Terminal, inp, out, Interface, Element, point, part, Wire, partSide, Net}
+use Rattle.calculus.specs.Net.{Terminal, inp, out, Element, point, part, Net}
+use Rattle.calculus.specs.Inputs.{ins, madeAt, targets, isOut}
 use Rattle.calculus.specs.Record.{All}
 
--- ---- how often input i stands ..
-
-abbrev pub is : ℕ → ℕ → ℕ
-is i j = cond (eqb j i) 1 0
-
--- .. in an interface
-abbrev pub ins : Interface → ℕ → ℕ
-ins [] i = 0
-ins (inp j ∷ s) i = is i j + ins s i
-ins (out o ∷ s) i = ins s i
-
--- .. among the inputs that elements have
-abbrev pub made : List Element → ℕ → ℕ
-made [] i = 0
-made (point j ∷ es) i = is i j + made es i
-made (part p j ∷ es) i = ins (partSide (partAt p .inputs) j) i + made es i
-
--- .. as the target of a wire
-abbrev pub targets : List Wire → ℕ → ℕ
-targets [] i = 0
-targets (w ∷ ws) i = is i (w .to) + targets ws i
-
--- ---- x is an output that an element has
-
-abbrev pub isOut : List Element → ℕ → Bool
-isOut [] x = false
-isOut (point i ∷ es) x = eqb (i + 1) x || isOut es x
-isOut (part p i ∷ es) x = eqb (i + partAt p .inputs) x || isOut es x
-
+-- an output that an element has
 abbrev pub Shown : List Element → Terminal → Type 0
 Shown es (inp i) = Unit {0}
 Shown es (out o) = T (isOut es o)
@@ -65,4 +37,4 @@ pub record Formed (m : Net) : Type 0 where
   pub from : All (λ w. T (isOut (m .elements) (w .from))) (m .wires)
   pub shown : All (Shown (m .elements)) (m .pins)
   -- wires and pins reach each input that is made exactly once, and no other
-  pub once : (i : ℕ) → targets (m .wires) i + ins (m .pins) i ≡ made (m .elements) i
+  pub reached : (i : ℕ) → targets (m .wires) i + ins (m .pins) i ≡ madeAt (m .elements) i

@@ -29,7 +29,7 @@ Below n (rec04 a b) = (a < n) × (b < n)
 pub record TableOk (Θ : Table) : Type 0 where
   pub agrees : (n : ℕ) → Agrees Θ (recAt Θ n) (tree Θ n)
   pub earlier : (n : ℕ) → n < length Θ → Below n (recAt Θ n)
-  pub once : (a b : ℕ) → a < length Θ → b < length Θ → tree Θ a ≡ tree Θ b → a ≡ b
+  pub distinct : (a b : ℕ) → a < length Θ → b < length Θ → tree Θ a ≡ tree Θ b → a ≡ b
   pub few : length Θ ≤ 256
   pub small : (n : ℕ) → size (tree Θ n) ≤ 128
 
