@@ -2,13 +2,18 @@
 use mathlib.Core.Path.{_≡_, refl}
 use mathlib.Core.List.{map}
 use Rattle.calculus.specs.Net.{netBytes}
-use Rattle.calculus.specs.Read.{readSheet, readTypes, readTerm, headAt}
+use Rattle.calculus.specs.Read.{editionOf, recordsOf, readSheet, readRecords, readTypes, readTerm, headAt}
 use Rattle.calculus.specs.Lean.{root, lean}
 use Rattle.calculus.specs.Translate.{full, answer}
 use Rattle.calculus.specs.Listing.{listing, netLines}
-use Rattle.calculus.specs.Known.{table, run, lacking, lacks, answers, expected}
+use Rattle.calculus.specs.Known.{table, editions, run, lacking, lacks, answers, expected}
 
 -- P1 to P11: both netlists and their bytes, or the refusal; refusals 1 and 17 where memory or room is lacking; and P3's listing
 pub known-results : map answers table ≡ map expected table
-unfolding table run lacking lacks full answer netBytes readSheet readTypes readTerm headAt lean root listing netLines
+unfolding table run lacking lacks full answer netBytes editionOf recordsOf readSheet readRecords readTypes readTerm headAt lean root listing netLines
 known-results = refl
+
+-- the same over both editions: 31, kind 1B, and gates that take a pair
+pub known-editions : map answers editions ≡ map expected editions
+unfolding editions run lacking lacks full answer netBytes editionOf recordsOf readSheet readRecords readTypes readTerm headAt lean root listing netLines
+known-editions = refl

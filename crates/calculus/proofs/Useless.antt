@@ -7,7 +7,7 @@ use native.Mathlib.Omega.{arith}
 use lib.ListN.{length, replicate, getD, length-replicate}
 use Rattle.calculus.specs.Answer.{Answer, good, refused}
 use Rattle.calculus.specs.Net.{netBytes}
-use Rattle.calculus.specs.Read.{readSheet, readTypes, readTerm, headAt}
+use Rattle.calculus.specs.Read.{editionOf, recordsOf, readSheet, readRecords, readTypes, readTerm, headAt}
 use Rattle.calculus.specs.Lean.{root, lean}
 use Rattle.calculus.specs.Translate.{full, answer, saidOf, outOf, Call, call}
 use Rattle.calculus.specs.Known.{P1, P2, P3}
@@ -33,23 +33,23 @@ module _ (b : Bool) (s out : List ℕ) where
 
 -- P1's netlist has 7 bytes, P2's 9, P3's 32, and P3's lean one 16
 said-P1 : saidOf (answer 32768 false (P1 .sheet) 7) ≡ good 7
-unfolding answer full netBytes readSheet readTypes readTerm headAt
+unfolding answer full netBytes editionOf recordsOf readSheet readRecords readTypes readTerm headAt
 said-P1 = refl
 
 said-P2 : saidOf (answer 32768 false (P2 .sheet) 9) ≡ good 9
-unfolding answer full netBytes readSheet readTypes readTerm headAt
+unfolding answer full netBytes editionOf recordsOf readSheet readRecords readTypes readTerm headAt
 said-P2 = refl
 
 said-P3 : saidOf (answer 32768 false (P3 .sheet) 32) ≡ good 32
-unfolding answer full netBytes readSheet readTypes readTerm headAt
+unfolding answer full netBytes editionOf recordsOf readSheet readRecords readTypes readTerm headAt
 said-P3 = refl
 
 lean-P3 : saidOf (answer 32768 true (P3 .sheet) 32) ≡ good 16
-unfolding answer full netBytes readSheet readTypes readTerm headAt lean root
+unfolding answer full netBytes editionOf recordsOf readSheet readRecords readTypes readTerm headAt lean root
 lean-P3 = refl
 
 first-P1 : getD (outOf (answer 32768 false (P1 .sheet) 7) (zeros 7)) 0 0 ≡ 0x22
-unfolding answer full netBytes readSheet readTypes readTerm headAt
+unfolding answer full netBytes editionOf recordsOf readSheet readRecords readTypes readTerm headAt
 first-P1 = refl
 
 said-of : {c d : Call} → c ≡ d → c .said ≡ d .said

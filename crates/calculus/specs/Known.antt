@@ -1,4 +1,5 @@
--- The sheets with known results, P1 to P11 (document 01), in one table: a call's answers on each. Assumes nothing.
+-- The sheets with known results, P1 to P11 (document 01), in one table, and some of the second edition in another: a call's answers on each.
+-- Assumes nothing.
 use Prim.Native.Nat.{ℕ}
 use mathlib.Core.Bool.{Bool, true, false}
 use mathlib.Core.List.{List, [], _∷_, map}
@@ -139,6 +140,89 @@ P11 =
 
 unfoldable pub table : List Row
 table = P1 ∷ P2 ∷ P3 ∷ P4 ∷ P5 ∷ P6 ∷ P7 ∷ P8 ∷ P9 ∷ P10 ∷ P11 ∷ []
+
+-- ---- the two editions (document 02, L7)
+
+-- P2 in the second edition
+abbrev pub S1 : Row
+S1 =
+    row (0x31 ∷ 0x01 ∷ 0x03 ∷ 0x00 ∷ 0x00 ∷ 0x13 ∷ 0x01 ∷ 0x11 ∷ 0x00 ∷ [])
+    (net (point 0 ∷ []) [] (inp 0 ∷ out 1 ∷ []))
+    (0x21 ∷ 0 ∷ 0 ∷ 0x24 ∷ 0 ∷ 0 ∷ 0x24 ∷ 1 ∷ 0 ∷ [])
+    (net (point 0 ∷ []) [] (inp 0 ∷ out 1 ∷ []))
+    (0x21 ∷ 0 ∷ 0 ∷ 0x24 ∷ 0 ∷ 0 ∷ 0x24 ∷ 1 ∷ 0 ∷ [])
+
+-- a gate that takes a pair: terminals as before
+abbrev pub S2 : Row
+S2 =
+    row (0x31 ∷ 0x01 ∷ 0x02 ∷ 0x00 ∷ 0x00 ∷ 0x03 ∷ 0x01 ∷ 0x00 ∷ 0x1A ∷ 0x02 ∷ 0x02 ∷ [])
+    (net (part 2 0 ∷ []) [] (inp 0 ∷ inp 1 ∷ out 2 ∷ []))
+    (0x22 ∷ 2 ∷ 0 ∷ 0 ∷ 0x24 ∷ 0 ∷ 0 ∷ 0x24 ∷ 1 ∷ 0 ∷ 0x24 ∷ 2 ∷ 0 ∷ [])
+    (net (part 2 0 ∷ []) [] (inp 0 ∷ inp 1 ∷ out 2 ∷ []))
+    (0x22 ∷ 2 ∷ 0 ∷ 0 ∷ 0x24 ∷ 0 ∷ 0 ∷ 0x24 ∷ 1 ∷ 0 ∷ 0x24 ∷ 2 ∷ 0 ∷ [])
+
+-- document 000, section 5.2: proj zero of x in and (x, x), without a point
+abbrev pub S3 : Row
+S3 =
+    row (0x31 ∷ 0x01 ∷ 0x02 ∷ 0x00 ∷ 0x00 ∷ 0x03 ∷ 0x01 ∷ 0x00 ∷ 0x1B ∷ 0x1A ∷ 0x00 ∷ 0x00 ∷ 0x14 ∷ 0x1A ∷ 0x02 ∷ 0x02 ∷ 0x17 ∷ 0x01 ∷ 0x11 ∷ 0x00 ∷ 0x11 ∷ 0x00 ∷ [])
+    (net (part 0 0 ∷ part 2 1 ∷ []) (0 ⟶ 1 ∷ 0 ⟶ 2 ∷ []) (out 3 ∷ []))
+    (0x22 ∷ 0 ∷ 0 ∷ 0 ∷ 0x22 ∷ 2 ∷ 1 ∷ 0 ∷ 0x23 ∷ 0 ∷ 0 ∷ 1 ∷ 0 ∷ 0x23 ∷ 0 ∷ 0 ∷ 2 ∷ 0 ∷ 0x24 ∷ 3 ∷ 0 ∷ [])
+    (net (part 0 0 ∷ part 2 1 ∷ []) (0 ⟶ 1 ∷ 0 ⟶ 2 ∷ []) (out 3 ∷ []))
+    (0x22 ∷ 0 ∷ 0 ∷ 0 ∷ 0x22 ∷ 2 ∷ 1 ∷ 0 ∷ 0x23 ∷ 0 ∷ 0 ∷ 1 ∷ 0 ∷ 0x23 ∷ 0 ∷ 0 ∷ 2 ∷ 0 ∷ 0x24 ∷ 3 ∷ 0 ∷ [])
+
+-- it binds one variable, and the nearest is counted 0
+abbrev pub S4 : Row
+S4 =
+    row (0x31 ∷ 0x01 ∷ 0x1B ∷ 0x1A ∷ 0x00 ∷ 0x00 ∷ 0x1B ∷ 0x1A ∷ 0x06 ∷ 0x00 ∷ 0x11 ∷ 0x01 ∷ [])
+    (net (part 0 0 ∷ part 6 1 ∷ []) [] (out 0 ∷ []))
+    (0x22 ∷ 0 ∷ 0 ∷ 0 ∷ 0x22 ∷ 6 ∷ 1 ∷ 0 ∷ 0x24 ∷ 0 ∷ 0 ∷ [])
+    (net (part 0 0 ∷ part 6 1 ∷ []) [] (out 0 ∷ []))
+    (0x22 ∷ 0 ∷ 0 ∷ 0 ∷ 0x22 ∷ 6 ∷ 1 ∷ 0 ∷ 0x24 ∷ 0 ∷ 0 ∷ [])
+
+-- its first subterm is not sharable: 12 at the new node
+abbrev pub S5 : Row
+S5 =
+    refusal (0x31 ∷ 0x01 ∷ 0x03 ∷ 0x00 ∷ 0x00 ∷ 0x1B ∷ 0x1A ∷ 0x01 ∷ 0x01 ∷ 0x1A ∷ 0x00 ∷ 0x00 ∷ []) 12 0
+
+-- .. before its body, whose variable is out of scope
+abbrev pub S6 : Row
+S6 =
+    refusal (0x31 ∷ 0x01 ∷ 0x03 ∷ 0x00 ∷ 0x00 ∷ 0x13 ∷ 0x01 ∷ 0x1B ∷ 0x1A ∷ 0x01 ∷ 0x01 ∷ 0x11 ∷ 0x02 ∷ []) 12 1
+
+-- gates of the other edition: 12
+abbrev pub S7 : Row
+S7 =
+    refusal (0x31 ∷ 0x01 ∷ 0x03 ∷ 0x00 ∷ 0x00 ∷ 0x03 ∷ 0x00 ∷ 0x01 ∷ 0x1A ∷ 0x02 ∷ 0x02 ∷ []) 12 0
+
+abbrev pub S8 : Row
+S8 =
+    refusal (0x01 ∷ 0x02 ∷ 0x00 ∷ 0x00 ∷ 0x03 ∷ 0x01 ∷ 0x00 ∷ 0x1A ∷ 0x02 ∷ 0x02 ∷ []) 12 0
+
+-- 1B in the first edition: 4
+abbrev pub S9 : Row
+S9 =
+    refusal (0x01 ∷ 0x1B ∷ 0x1A ∷ 0x00 ∷ 0x00 ∷ 0x11 ∷ 0x00 ∷ []) 4 1
+
+-- 31 anywhere but first: 4 where a record is due, 9 behind the term
+abbrev pub S10 : Row
+S10 =
+    refusal (0x01 ∷ 0x31 ∷ 0x1A ∷ 0x00 ∷ 0x00 ∷ []) 4 1
+
+abbrev pub S11 : Row
+S11 =
+    refusal (0x31 ∷ 0x31 ∷ 0x01 ∷ 0x1A ∷ 0x00 ∷ 0x00 ∷ []) 4 1
+
+abbrev pub S12 : Row
+S12 =
+    refusal (0x31 ∷ 0x01 ∷ 0x1A ∷ 0x00 ∷ 0x00 ∷ 0x31 ∷ []) 9 5
+
+-- 31 alone: the term is unfinished at the end
+abbrev pub S13 : Row
+S13 =
+    refusal (0x31 ∷ []) 3 1
+
+unfoldable pub editions : List Row
+editions = S1 ∷ S2 ∷ S3 ∷ S4 ∷ S5 ∷ S6 ∷ S7 ∷ S8 ∷ S9 ∷ S10 ∷ S11 ∷ S12 ∷ S13 ∷ []
 
 -- ---- what the definitions answer
 

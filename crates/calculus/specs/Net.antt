@@ -1,10 +1,10 @@
--- The full netlist (document 01, "The full netlist"; document 000, Figures 3 to 5). Assumes nothing.
+-- The full netlist (document 01, "The full netlist"; document 000, Figures 3 to 5, and section 5.2 for kind 1B). Assumes nothing.
 use Prim.Native.Nat.{ℕ, zero, suc, _+_, _*_, _/_, _%_}
 use mathlib.Core.Bool.{Bool, true, false, not}
 use mathlib.Core.List.{List, [], _∷_, _++_}
 use lib.ListN.{getD, take, drop}
 use Rattle.calculus.specs.Types.{Ty, bit, prod, arrow, lolli, size, Table, tree}
-use Rattle.calculus.specs.Terms.{Term, var, lvar, fun, app, lfun, lapp, pair, proj, fix, con, partAt}
+use Rattle.calculus.specs.Terms.{Term, var, lvar, fun, app, lfun, lapp, pair, proj, fix, con, name, partAt}
 
 -- ---- terminals and interfaces
 
@@ -148,6 +148,10 @@ firstHalf a = record { type = leftOf (a .type); side = take (size (leftOf (a .ty
 abbrev pub secondHalf : Made → Bound
 secondHalf a = record { type = rightOf (a .type); side = drop (size (leftOf (a .type))) (a .side) }
 
+-- the one variable of kind 1B: no new points
+abbrev pub wholeOf : Made → Bound
+wholeOf a = record { type = a .type; side = a .side }
+
 abbrev pub madeProj : Made → Made → Made
 madeProj a e = record {
   elements = a .elements ++ e .elements;
@@ -166,11 +170,12 @@ madeFix τ n e = record {
   next = e .next;
 }
 
-abbrev pub madeCon : ℕ → ℕ → Made
-madeCon p n = record {
+-- a constant of written type τ
+abbrev pub madeCon : Ty → ℕ → ℕ → Made
+madeCon τ p n = record {
   elements = part p n ∷ [];
   wires = [];
-  type = partAt p .type;
+  type = τ;
   side = partSide (partAt p .inputs) n;
   next = n + partAt p .inputs + 1;
 }
@@ -200,7 +205,10 @@ make Θ (proj a e) env n =
 make Θ (fix t e) env n =
     let θ = tree Θ t in
     madeFix θ n (make Θ e (binder θ n ∷ env) (n + 2 * size θ))
-make Θ (con p t) env n = madeCon p n
+make Θ (con p t) env n = madeCon (tree Θ t) p n
+make Θ (name a e) env n =
+    let x = make Θ a env n in
+    madeProj x (make Θ e (wholeOf x ∷ env) (x .next))
 
 abbrev pub netOf : Made → Net
 netOf m = record { elements = m .elements; wires = m .wires; pins = m .side }

@@ -1,12 +1,13 @@
--- The reader of sheets (document 01, "The sheet"; refusals 2 to 9, in the order given there). Assumes nothing.
+-- The reader of sheets (document 01, "The sheet"; refusals 2 to 9, in the order given there), of both editions (document 02, L7). Assumes
+-- nothing.
 use Prim.Native.Nat.{ℕ, zero, suc, _+_}
-use mathlib.Core.Bool.{Bool, true, false, not, _&&_, _||_}
+use mathlib.Core.Bool.{Bool, true, false, not, _&&_, _||_, cond}
 use mathlib.Core.List.{List, [], _∷_, _++_}
 use lib.Dec.{leb, ltb, eqb}
-use lib.ListN.{length, getD}
+use lib.ListN.{length, getD, drop}
 use Rattle.calculus.specs.Answer.{Answer, good, refused, _>>=_, need}
 use Rattle.calculus.specs.Types.{size, sharable, isArrow, TyRec, rec01, rec02, rec03, rec04, recEq, Table, tyOf, tysFrom, tree}
-use Rattle.calculus.specs.Terms.{Term, var, lvar, fun, app, lfun, lapp, pair, proj, fix, con}
+use Rattle.calculus.specs.Terms.{Edition, first, second, isSecond, opening, Term, var, lvar, fun, app, lfun, lapp, pair, proj, fix, con, name}
 
 -- ---- kinds
 
@@ -14,24 +15,38 @@ pub data TypeKind : Type 0 where
   k01 k02 k03 k04 : TypeKind
 
 pub data NodeKind : Type 0 where
-  k11 k12 k13 k14 k15 k16 k17 k18 k19 k1A : NodeKind
+  k11 k12 k13 k14 k15 k16 k17 k18 k19 k1A k1B : NodeKind
 
 pub data Kind : Type 0 where
   unknown : Kind
   type : TypeKind → Kind
   node : NodeKind → Kind
 
--- by the kind byte, eight a row
+-- by the kind byte, eight a row; 31 is no kind of a record
 abbrev pub kinds : List Kind
 kinds =
     unknown ∷ type k01 ∷ type k02 ∷ type k03 ∷ type k04 ∷ unknown ∷ unknown ∷ unknown  -- 00 to 07
     ∷ unknown ∷ unknown ∷ unknown ∷ unknown ∷ unknown ∷ unknown ∷ unknown ∷ unknown  -- 08 to 0F
     ∷ unknown ∷ node k11 ∷ node k12 ∷ node k13 ∷ node k14 ∷ node k15 ∷ node k16 ∷ node k17  -- 10 to 17
-    ∷ node k18 ∷ node k19 ∷ node k1A  -- 18 to 1A
+    ∷ node k18 ∷ node k19 ∷ node k1A ∷ node k1B  -- 18 to 1B
     ∷ []
 
 abbrev pub kindOf : ℕ → Kind
 kindOf b = getD kinds b unknown
+
+-- the nodes that an edition knows: 1B stands in the second alone
+abbrev pub knows : Edition → NodeKind → Bool
+knows E k11 = true
+knows E k12 = true
+knows E k13 = true
+knows E k14 = true
+knows E k15 = true
+knows E k16 = true
+knows E k17 = true
+knows E k18 = true
+knows E k19 = true
+knows E k1A = true
+knows E k1B = isSecond E
 
 abbrev pub typeBody : TypeKind → ℕ
 typeBody k01 = 0
@@ -50,6 +65,7 @@ nodeBody k17 = 1
 nodeBody k18 = 0
 nodeBody k19 = 1
 nodeBody k1A = 2
+nodeBody k1B = 0
 
 abbrev pub byte : List ℕ → ℕ → ℕ
 byte s i = getD s i 0
@@ -126,6 +142,7 @@ nodeTyped k17 = 1
 nodeTyped k18 = 0
 nodeTyped k19 = 1
 nodeTyped k1A = 2
+nodeTyped k1B = 0
 
 abbrev pub nodeKind : Kind → ℕ → Answer NodeKind
 nodeKind unknown at = refused 4 at
@@ -133,10 +150,11 @@ nodeKind (type k) at = refused 4 at
 nodeKind (node k) at = good k
 
 -- the node's record at an offset: record due, kind, body, count, depth, type number; `more` is how many levels of depth there may still be
-unfoldable pub headAt : ℕ → List ℕ → ℕ → ℕ → ℕ → Answer NodeKind
-headAt more s types at n = do
+unfoldable pub headAt : Edition → ℕ → List ℕ → ℕ → ℕ → ℕ → Answer NodeKind
+headAt E more s types at n = do
   _ ← need (ltb at (length s)) 3 at
   k ← nodeKind (kindOf (byte s at)) at
+  _ ← need (knows E k) 4 at
   _ ← need (leb (at + 1 + nodeBody k) (length s)) 3 at
   _ ← need (ltb n 2048) 8 at
   _ ← need (ltb 0 more) 8 at
@@ -173,26 +191,48 @@ nodeAt k19 x y next n go = do
   e ← go next n
   got (fix x (e .term)) (e .next) (e .count)
 nodeAt k1A x y next n go = got (con x y) next n
+nodeAt k1B x y next n go = do
+  a ← go next n
+  e ← go (a .next) (a .count)
+  got (name (a .term) (e .term)) (e .next) (e .count)
 
 -- the term at an offset, with n nodes before it. At depth 65 `headAt` refuses by itself (3, 4 or 8), and the last line is never reached
-unfoldable pub readTerm : ℕ → List ℕ → ℕ → ℕ → ℕ → Answer Got
-readTerm zero s types at n = do
-  k ← headAt zero s types at n
+unfoldable pub readTerm : Edition → ℕ → List ℕ → ℕ → ℕ → ℕ → Answer Got
+readTerm E zero s types at n = do
+  k ← headAt E zero s types at n
   refused 8 at
-readTerm (suc more) s types at n = do
-  k ← headAt (suc more) s types at n
-  nodeAt k (byte s (at + 1)) (byte s (at + 2)) (at + 1 + nodeBody k) (n + 1) (λ next count. readTerm more s types next count)
+readTerm E (suc more) s types at n = do
+  k ← headAt E (suc more) s types at n
+  nodeAt k (byte s (at + 1)) (byte s (at + 2)) (at + 1 + nodeBody k) (n + 1) (λ next count. readTerm E more s types next count)
 
 -- ---- the sheet
 
 pub record Sheet : Type 0 where
+  pub edition : Edition
   pub table : Table
   pub term : Term
+
+-- the records of a sheet: types, then the term, and nothing behind it
+unfoldable pub readRecords : Edition → List ℕ → Answer Sheet
+readRecords E s = do
+  types ← readTypes 256 s [] 0
+  e ← readTerm E 64 s (length (types .0)) (types .1) 0
+  _ ← need (eqb (e .next) (length s)) 9 (e .next)
+  good (record { edition = E; table = types .0; term = e .term })
+
+-- the first byte tells the edition, and the records stand behind its opening
+unfoldable pub editionOf : List ℕ → Edition
+editionOf s = cond (eqb (byte s 0) 0x31) second first
+
+unfoldable pub recordsOf : List ℕ → List ℕ
+recordsOf s = drop (length (opening (editionOf s))) s
+
+-- with n bytes before the records, offsets are n more
+abbrev pub offsetBy : {A : Type 0} → ℕ → Answer A → Answer A
+offsetBy n (good a) = good a
+offsetBy n (refused number place) = refused number (n + place)
 
 unfoldable pub readSheet : List ℕ → Answer Sheet
 readSheet s = do
   _ ← need (leb (length s) 16384) 2 0
-  types ← readTypes 256 s [] 0
-  e ← readTerm 64 s (length (types .0)) (types .1) 0
-  _ ← need (eqb (e .next) (length s)) 9 (e .next)
-  good (record { table = types .0; term = e .term })
+  offsetBy (length (opening (editionOf s))) (readRecords (editionOf s) (recordsOf s))

@@ -1,4 +1,5 @@
--- The type system (document 000, Figure 2), plus the rule for constants (document 01, "Typing"). Assumes nothing.
+-- The type system (document 000, Figure 2), plus the rule for constants (document 01, "Typing") and, in the second edition, the rule of
+-- document 000, section 5.2. Assumes nothing.
 -- A context is one list, the nearest binder first, since binders of both sorts share one count. An entry is `many θ` for x : θ in Γ,
 -- `once κ` for f : κ in Δ, and `away` for a linear binder that is in scope and not in this Δ.
 use Prim.Native.Nat.{ℕ, zero, suc, _<_}
@@ -7,7 +8,7 @@ use mathlib.Core.List.{List, [], _∷_}
 use lib.Dec.{T}
 use lib.ListN.{length}
 use Rattle.calculus.specs.Types.{Ty, prod, arrow, lolli, sharable, isArrow, Table, tree}
-use Rattle.calculus.specs.Terms.{Term, var, lvar, fun, app, lfun, lapp, pair, proj, fix, con, parts, partAt}
+use Rattle.calculus.specs.Terms.{Edition, second, Term, var, lvar, fun, app, lfun, lapp, pair, proj, fix, con, name, parts, partAt}
 
 pub data Entry : Type 0 where
   many once : Ty → Entry
@@ -44,78 +45,88 @@ pub data Split : Ctx → Ctx → Ctx → Type 0 where
 
 -- Γ; Δ ⊢ e : τ, over the sheet's table of types: a written type must equal the one that the rule gives. Γ; Δ is the one context Γ. Each
 -- rule is set as in the figure, its premises one below the other; θ stands for sharable types, κ for arrows
-pub data Typed (Θ : Table) : Ctx → Term → Ty → Type 0 where
+pub data Typed (E : Edition) (Θ : Table) : Ctx → Term → Ty → Type 0 where
   Var :
       {Γ : Ctx} {i : ℕ} {θ : Ty}
       → InΓ Γ i θ
       -- ---------------------------------------------
-      → Typed Θ Γ (var i) θ
+      → Typed E Θ Γ (var i) θ
   LVar :
       {Γ : Ctx} {i : ℕ} {κ : Ty}
       → IsΔ Γ i κ
       -- ---------------------------------------------
-      → Typed Θ Γ (lvar i) κ
+      → Typed E Θ Γ (lvar i) κ
   →I :
       {Γ : Ctx} {t : ℕ} {e : Term} {θ τ : Ty}
       → tree Θ t ≡ arrow θ τ
       → T (sharable θ)
-      → Typed Θ (many θ ∷ Γ) e τ
+      → Typed E Θ (many θ ∷ Γ) e τ
       -- ---------------------------------------------
-      → Typed Θ Γ (fun t e) (arrow θ τ)
+      → Typed E Θ Γ (fun t e) (arrow θ τ)
   →E :
       {Γ Γ₁ Γ₂ : Ctx} {f a : Term} {θ τ : Ty}
       → Split Γ Γ₁ Γ₂
       → T (sharable θ)
-      → Typed Θ Γ₁ f (arrow θ τ)
-      → Typed Θ Γ₂ a θ
+      → Typed E Θ Γ₁ f (arrow θ τ)
+      → Typed E Θ Γ₂ a θ
       -- ---------------------------------------------
-      → Typed Θ Γ (app f a) τ
+      → Typed E Θ Γ (app f a) τ
   ⊸I :
       {Γ : Ctx} {t : ℕ} {e : Term} {κ τ : Ty}
       → tree Θ t ≡ lolli κ τ
       → T (isArrow κ)
-      → Typed Θ (once κ ∷ Γ) e τ
+      → Typed E Θ (once κ ∷ Γ) e τ
       -- ---------------------------------------------
-      → Typed Θ Γ (lfun t e) (lolli κ τ)
+      → Typed E Θ Γ (lfun t e) (lolli κ τ)
   ⊸E :
       {Γ Γ₁ Γ₂ : Ctx} {f a : Term} {κ τ : Ty}
       → Split Γ Γ₁ Γ₂
       → T (isArrow κ)
-      → Typed Θ Γ₁ f (lolli κ τ)
-      → Typed Θ Γ₂ a κ
+      → Typed E Θ Γ₁ f (lolli κ τ)
+      → Typed E Θ Γ₂ a κ
       -- ---------------------------------------------
-      → Typed Θ Γ (lapp f a) τ
+      → Typed E Θ Γ (lapp f a) τ
   ×I :
       {Γ Γ₁ Γ₂ : Ctx} {t : ℕ} {a b : Term} {θ₁ θ₂ : Ty}
       → Split Γ Γ₁ Γ₂
       → tree Θ t ≡ prod θ₁ θ₂
       → T (sharable θ₁)
       → T (sharable θ₂)
-      → Typed Θ Γ₁ a θ₁
-      → Typed Θ Γ₂ b θ₂
+      → Typed E Θ Γ₁ a θ₁
+      → Typed E Θ Γ₂ b θ₂
       -- ---------------------------------------------
-      → Typed Θ Γ (pair t a b) (prod θ₁ θ₂)
+      → Typed E Θ Γ (pair t a b) (prod θ₁ θ₂)
   ×E :
       {Γ Γ₁ Γ₂ : Ctx} {a e : Term} {θ₁ θ₂ τ : Ty}
       → Split Γ Γ₁ Γ₂
       → T (sharable θ₁)
       → T (sharable θ₂)
-      → Typed Θ Γ₁ a (prod θ₁ θ₂)
-      → Typed Θ (many θ₂ ∷ many θ₁ ∷ Γ₂) e τ
+      → Typed E Θ Γ₁ a (prod θ₁ θ₂)
+      → Typed E Θ (many θ₂ ∷ many θ₁ ∷ Γ₂) e τ
       -- ---------------------------------------------
-      → Typed Θ Γ (proj a e) τ
+      → Typed E Θ Γ (proj a e) τ
   Fix :
       {Γ : Ctx} {t : ℕ} {e : Term} {θ : Ty}
       → tree Θ t ≡ θ
       → T (sharable θ)
-      → Typed Θ (many θ ∷ Γ) e θ
+      → Typed E Θ (many θ ∷ Γ) e θ
       -- ---------------------------------------------
-      → Typed Θ Γ (fix t e) θ
+      → Typed E Θ Γ (fix t e) θ
   -- a constant has its part's type and an empty linear context
   Con :
       {Γ : Ctx} {p t : ℕ}
       → p < length parts
-      → tree Θ t ≡ partAt p .type
+      → tree Θ t ≡ partAt p .type E
       → NoLinear Γ
       -- ---------------------------------------------
-      → Typed Θ Γ (con p t) (partAt p .type)
+      → Typed E Θ Γ (con p t) (partAt p .type E)
+  -- the projection with one variable, in the second edition
+  ×E′ :
+      {Γ Γ₁ Γ₂ : Ctx} {a e : Term} {θ τ : Ty}
+      → E ≡ second
+      → Split Γ Γ₁ Γ₂
+      → T (sharable θ)
+      → Typed E Θ Γ₁ a θ
+      → Typed E Θ (many θ ∷ Γ₂) e τ
+      -- ---------------------------------------------
+      → Typed E Θ Γ (name a e) τ

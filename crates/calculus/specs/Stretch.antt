@@ -3,7 +3,7 @@ use Prim.Native.Nat.{ℕ, _+_}
 use mathlib.Core.List.{List, [], _∷_, _++_}
 use lib.ListN.{length, getD, take, drop}
 use Rattle.calculus.specs.Answer.{Answer, good, refused}
-use Rattle.calculus.specs.Terms.{Term, var, lvar, fun, app, lfun, lapp, pair, proj, fix, con}
+use Rattle.calculus.specs.Terms.{opening, Term, var, lvar, fun, app, lfun, lapp, pair, proj, fix, con, name}
 use Rattle.calculus.specs.Read.{Sheet, readSheet}
 use Rattle.calculus.specs.Write.{tableBytes, termBytes}
 
@@ -34,9 +34,14 @@ stretches (pair t a b) at = whole (pair t a b) at ∷ (stretches a (at + 2) ++ s
 stretches (proj a e) at = whole (proj a e) at ∷ (stretches a (at + 1) ++ stretches e (at + 1 + length (termBytes a)))
 stretches (fix t e) at = whole (fix t e) at ∷ stretches e (at + 2)
 stretches (con p t) at = whole (con p t) at ∷ []
+stretches (name a e) at = whole (name a e) at ∷ (stretches a (at + 1) ++ stretches e (at + 1 + length (termBytes a)))
+
+-- the term stands behind the opening and the table
+abbrev pub termStart : Sheet → ℕ
+termStart σ = length (opening (σ .edition)) + length (tableBytes (σ .table))
 
 abbrev pub stretchIn : Answer Sheet → ℕ → Stretch
-stretchIn (good σ) node = getD (stretches (σ .term) (length (tableBytes (σ .table)))) node nowhere
+stretchIn (good σ) node = getD (stretches (σ .term) (termStart σ)) node nowhere
 stretchIn (refused number place) node = nowhere
 
 -- empty where refusals 2 to 9 apply or the number is too large

@@ -14,7 +14,7 @@ use Rattle.calculus.specs.Lean.{lean}
 unfoldable pub full : List ℕ → Answer Net
 full s = do
   σ ← readSheet s
-  _ ← walk (σ .table) (σ .term) 0 []
+  _ ← walk (σ .edition) (σ .table) (σ .term) 0 []
   let m = make (σ .table) (σ .term) [] 0 in do
     _ ← need (leb (m .next) 8192) 16 0
     good (netOf m)

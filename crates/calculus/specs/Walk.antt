@@ -1,4 +1,5 @@
--- The typing walk (document 01, "Numbers of the refusals": 10 to 15), on type numbers. Its places are node numbers. Assumes nothing.
+-- The typing walk (document 01, "Numbers of the refusals": 10 to 15; document 02, L7), on type numbers. Its places are node numbers. Assumes
+-- nothing.
 use Prim.Native.Nat.{ℕ, zero, suc, _+_}
 use mathlib.Core.Bool.{Bool, true, false}
 use mathlib.Core.List.{List, [], _∷_}
@@ -6,7 +7,7 @@ use lib.Dec.{ltb, eqb}
 use lib.ListN.{length}
 use Rattle.calculus.specs.Answer.{Answer, good, refused, _>>=_, need}
 use Rattle.calculus.specs.Types.{sharable, tyEq, TyRec, rec01, rec02, rec03, rec04, Table, recAt, tree}
-use Rattle.calculus.specs.Terms.{Term, var, lvar, fun, app, lfun, lapp, pair, proj, fix, con, nodes, parts, partAt}
+use Rattle.calculus.specs.Terms.{Edition, Term, var, lvar, fun, app, lfun, lapp, pair, proj, fix, con, name, nodes, parts, partAt}
 
 -- a binder's sort, its type number, and for a linear one if it has been used
 pub data Binder : Type 0 where
@@ -86,50 +87,55 @@ topUsed (linear t u ∷ st) = u
 
 -- ---- the walk, at node n
 
-abbrev pub walk : Table → Term → ℕ → Stack → Answer Found
-walk Θ (var i) n st = useShared st i n
-walk Θ (lvar i) n st = useLinear st i n
-walk Θ (fun t e) n st = do
+abbrev pub walk : Edition → Table → Term → ℕ → Stack → Answer Found
+walk E Θ (var i) n st = useShared st i n
+walk E Θ (lvar i) n st = useLinear st i n
+walk E Θ (fun t e) n st = do
   τ ← sharableArrow (recAt Θ t) n
-  r ← walk Θ e (n + 1) (shared (τ .left) ∷ st)
+  r ← walk E Θ e (n + 1) (shared (τ .left) ∷ st)
   _ ← need (eqb (r .type) (τ .right)) 12 n
   found t (pop (r .stack))
-walk Θ (app f a) n st = do
-  x ← walk Θ f (n + 1) st
-  y ← walk Θ a (n + 1 + nodes f) (x .stack)
+walk E Θ (app f a) n st = do
+  x ← walk E Θ f (n + 1) st
+  y ← walk E Θ a (n + 1 + nodes f) (x .stack)
   τ ← sharableArrow (recAt Θ (x .type)) n
   _ ← need (eqb (y .type) (τ .left)) 12 n
   found (τ .right) (y .stack)
-walk Θ (lfun t e) n st = do
+walk E Θ (lfun t e) n st = do
   τ ← linearArrow (recAt Θ t) n
-  r ← walk Θ e (n + 1) (linear (τ .left) false ∷ st)
+  r ← walk E Θ e (n + 1) (linear (τ .left) false ∷ st)
   _ ← need (topUsed (r .stack)) 14 n
   _ ← need (eqb (r .type) (τ .right)) 12 n
   found t (pop (r .stack))
-walk Θ (lapp g b) n st = do
-  x ← walk Θ g (n + 1) st
-  y ← walk Θ b (n + 1 + nodes g) (x .stack)
+walk E Θ (lapp g b) n st = do
+  x ← walk E Θ g (n + 1) st
+  y ← walk E Θ b (n + 1 + nodes g) (x .stack)
   τ ← linearArrow (recAt Θ (x .type)) n
   _ ← need (eqb (y .type) (τ .left)) 12 n
   found (τ .right) (y .stack)
-walk Θ (pair t a b) n st = do
+walk E Θ (pair t a b) n st = do
   τ ← product (recAt Θ t) n
-  x ← walk Θ a (n + 1) st
-  y ← walk Θ b (n + 1 + nodes a) (x .stack)
+  x ← walk E Θ a (n + 1) st
+  y ← walk E Θ b (n + 1 + nodes a) (x .stack)
   _ ← need (eqb (x .type) (τ .left)) 12 n
   _ ← need (eqb (y .type) (τ .right)) 12 n
   found t (y .stack)
-walk Θ (proj a e) n st = do
-  x ← walk Θ a (n + 1) st
+walk E Θ (proj a e) n st = do
+  x ← walk E Θ a (n + 1) st
   τ ← product (recAt Θ (x .type)) n
-  y ← walk Θ e (n + 1 + nodes a) (shared (τ .right) ∷ shared (τ .left) ∷ x .stack)
+  y ← walk E Θ e (n + 1 + nodes a) (shared (τ .right) ∷ shared (τ .left) ∷ x .stack)
   found (y .type) (pop (pop (y .stack)))
-walk Θ (fix t e) n st = do
+walk E Θ (fix t e) n st = do
   _ ← need (sharable (tree Θ t)) 12 n
-  r ← walk Θ e (n + 1) (shared t ∷ st)
+  r ← walk E Θ e (n + 1) (shared t ∷ st)
   _ ← need (eqb (r .type) t) 12 n
   found t (pop (r .stack))
-walk Θ (con p t) n st = do
+walk E Θ (con p t) n st = do
   _ ← need (ltb p (length parts)) 15 n
-  _ ← need (tyEq (tree Θ t) (partAt p .type)) 12 n
+  _ ← need (tyEq (tree Θ t) (partAt p .type E)) 12 n
   found t st
+walk E Θ (name a e) n st = do
+  x ← walk E Θ a (n + 1) st
+  _ ← need (sharable (tree Θ (x .type))) 12 n
+  y ← walk E Θ e (n + 1 + nodes a) (shared (x .type) ∷ x .stack)
+  found (y .type) (pop (y .stack))

@@ -9,9 +9,9 @@ use native.Mathlib.Nat.{le-refl}
 use lib.ListN.{length, take, length-append, length-map}
 use Rattle.calculus.specs.Answer.{good}
 use Rattle.calculus.specs.Types.{Ty, bit, prod, arrow, lolli, size, Table, tree}
-use Rattle.calculus.specs.Terms.{Term, var, lvar, fun, app, lfun, lapp, pair, proj, fix, con, nodes, partAt}
+use Rattle.calculus.specs.Terms.{Edition, Term, var, lvar, fun, app, lfun, lapp, pair, proj, fix, con, name, nodes, partAt}
 use Rattle.calculus.specs.Rules.{Ctx, Typed}
-use Rattle.calculus.specs.Net.{Terminal, inp, out, number, Interface, turns, Element, point, part, Net, points, inSide, join, Bound, Made, leftOf, binder, firstHalf, secondHalf, madeApp, madeFix, make, netOf, netBytes}
+use Rattle.calculus.specs.Net.{Terminal, inp, out, number, Interface, turns, Element, point, part, Net, points, inSide, join, Bound, Made, leftOf, binder, firstHalf, secondHalf, wholeOf, madeApp, madeFix, make, netOf, netBytes}
 use Rattle.calculus.specs.Lean.{pointCount, lean}
 use Rattle.calculus.specs.Record.{All}
 use Rattle.circuit_theorems.specs.Formed.{Tiled, Rising}
@@ -58,6 +58,7 @@ constants (pair t a b) = constants a + constants b
 constants (proj a e) = constants a + constants e
 constants (fix t e) = constants e
 constants (con p t) = 1
+constants (name a e) = constants a + constants e
 
 pub constants-nodes : (e : Term) → constants e ≤ nodes e
 constants-nodes (var i) = omega arith
@@ -70,6 +71,7 @@ constants-nodes (pair t a b) = omega (arith, constants-nodes a, constants-nodes 
 constants-nodes (proj a e) = omega (arith, constants-nodes a, constants-nodes e)
 constants-nodes (fix t e) = omega (arith, constants-nodes e)
 constants-nodes (con p t) = omega arith
+constants-nodes (name a e) = omega (arith, constants-nodes a, constants-nodes e)
 
 -- each constant makes its part, and nothing else does
 pub parts-made : (Θ : Table) (e : Term) (env : List Bound) (n : ℕ) → partCount (make Θ e env n .elements) ≡ constants e
@@ -97,6 +99,9 @@ parts-made Θ (fix t e) env n =
     let θ = tree Θ t in
     omega (arith, parts-append (points (turns false θ) n) (make Θ e (binder θ n ∷ env) (n + 2 * size θ) .elements), parts-points (turns false θ) n, parts-made Θ e (binder θ n ∷ env) (n + 2 * size θ))
 parts-made Θ (con p t) env n = refl
+parts-made Θ (name a e) env n =
+    let x = make Θ a env n in
+    omega (arith, parts-append (x .elements) (make Θ e (wholeOf x ∷ env) (x .next) .elements), parts-made Θ a env n, parts-made Θ e (wholeOf x ∷ env) (x .next))
 
 -- two terminals for each point, and one or more for each part
 pub elements-made : (Θ : Table) (e : Term) (env : List Bound) (n : ℕ) → n + 2 * pointCount (make Θ e env n .elements) + constants e ≤ make Θ e env n .next
@@ -118,6 +123,7 @@ next-is Θ (pair t a b) env n = let x = make Θ a env n in omega (arith, next-is
 next-is Θ (proj a e) env n = let x = make Θ a env n in omega (arith, next-is Θ a env n, next-is Θ e (secondHalf x ∷ firstHalf x ∷ env) (x .next))
 next-is Θ (fix t e) env n = let θ = tree Θ t in omega (arith, next-is Θ e (binder θ n ∷ env) (n + 2 * size θ))
 next-is Θ (con p t) env n = omega arith
+next-is Θ (name a e) env n = let x = make Θ a env n in omega (arith, next-is Θ a env n, next-is Θ e (wholeOf x ∷ env) (x .next))
 
 pub left-size : (τ : Ty) → size (leftOf τ) ≤ size τ
 left-size bit = le-refl 1
@@ -137,13 +143,14 @@ terminals-few Θ (pair t a b) h = omega (arith, terminals-few Θ a h, terminals-
 terminals-few Θ (proj a e) h = omega (arith, terminals-few Θ a h, terminals-few Θ e h)
 terminals-few Θ (fix t e) h = omega (arith, h t, terminals-few Θ e h)
 terminals-few Θ (con p t) h = omega (arith, part-inputs p)
+terminals-few Θ (name a e) h = omega (arith, terminals-few Θ a h, terminals-few Θ e h)
 
 -- ---- interfaces
 
 pub side-length : (s : Interface) (τ : Ty) → dirs s ≡ turns false τ → length s ≡ size τ
 side-length s τ e = sym (length-map s _) ∙ ap length e ∙ turns-size false τ
 
-module _ {Θ : Table} {Γ : Ctx} {e : Term} {τ : Ty} (d : Typed Θ Γ e τ) (env : List Bound) (v : Env Γ env) (n : ℕ) where
+module _ {E : Edition} {Θ : Table} {Γ : Ctx} {e : Term} {τ : Ty} (d : Typed E Θ Γ e τ) (env : List Bound) (v : Env Γ env) (n : ℕ) where
   -- the type made is the type derived, and the interface has a terminal for each of its bits
   pub made-type : make Θ e env n .type ≡ τ
   made-type = term-driven d env v n .type

@@ -9,7 +9,7 @@ use native.Mathlib.Nat.{not-suc-le-zero, le-refl}
 use lib.ListN.{length, length-append, length-map}
 use Rattle.laws.proofs.Tests.{by-eqb}
 use Rattle.calculus.specs.Types.{Ty, Table}
-use Rattle.calculus.specs.Terms.{Term, partAt}
+use Rattle.calculus.specs.Terms.{Edition, Term, partAt}
 use Rattle.calculus.specs.Rules.{many, once, away, Ctx, Typed}
 use Rattle.calculus.specs.Net.{inp, out, Interface, Element, point, part, Wire, Net, partSide, Bound, make, elementBytes, wireBytes, pinBytes, netBytes}
 use Rattle.calculus.specs.Lean.{isPin, pointCount, kept, keep, leanWires, leanPin, lean}
@@ -232,10 +232,10 @@ module _ (N : ℕ) where
   linears-all (away ∷ Γ) (b ∷ env) a = linears-all Γ env (a .1)
 
   -- each input that is made, or comes with a linear variable, gets a wire or is shown
-  pub wires-made : {Θ : Table} {Γ : Ctx} {e : Term} {τ : Ty} → Typed Θ Γ e τ → (env : List Bound) → Env Γ env → (n : ℕ)
+  pub wires-made : {E : Edition} {Θ : Table} {Γ : Ctx} {e : Term} {τ : Ty} → Typed E Θ Γ e τ → (env : List Bound) → Env Γ env → (n : ℕ)
       → All (BoundShows Low Low) env → make Θ e env n .next ≤ N
       → length (make Θ e env n .wires) + inCount (make Θ e env n .side) ≡ inputCount (make Θ e env n .elements) + linearCount Γ env
-  wires-made {Θ} {Γ} {e} d env v n low h =
+  wires-made {Θ = Θ} {Γ} {e} d env v n low h =
       let m = make Θ e env n in
       let r = names-below N Θ e env n low h in
       omega (

@@ -11,9 +11,9 @@ use lib.Seq.{take-at, drop-at}
 use Rattle.laws.proofs.Tests.{and-both, and-of}
 use Rattle.laws.proofs.Parts.{map-take, map-drop}
 use Rattle.calculus.specs.Types.{Ty, bit, prod, arrow, lolli, size, sharable, Table}
-use Rattle.calculus.specs.Terms.{Term, partAt}
-use Rattle.calculus.specs.Rules.{many, once, away, Ctx, NoLinear, none-end, none-many, none-away, InΓ, in-here, in-many, in-away, IsΔ, is-here, is-many, is-away, Split, split-end, split-many, split-first, split-second, split-away, Typed, Var, LVar, →I, →E, ⊸I, ⊸E, ×I, ×E, Fix, Con}
-use Rattle.calculus.specs.Net.{Terminal, inp, out, Interface, turns, Element, point, part, Wire, points, inSide, outSide, join, partSide, Bound, unbound, Made, leftOf, rightOf, binder, madeVar, madeFun, madeApp, madePair, firstHalf, secondHalf, madeProj, madeFix, madeCon, make}
+use Rattle.calculus.specs.Terms.{Edition, first, second, Term, partAt}
+use Rattle.calculus.specs.Rules.{many, once, away, Ctx, NoLinear, none-end, none-many, none-away, InΓ, in-here, in-many, in-away, IsΔ, is-here, is-many, is-away, Split, split-end, split-many, split-first, split-second, split-away, Typed, Var, LVar, →I, →E, ⊸I, ⊸E, ×I, ×E, Fix, Con, ×E′}
+use Rattle.calculus.specs.Net.{Terminal, inp, out, Interface, turns, Element, point, part, Wire, points, inSide, outSide, join, partSide, Bound, unbound, Made, leftOf, rightOf, binder, madeVar, madeFun, madeApp, madePair, firstHalf, secondHalf, wholeOf, madeProj, madeFix, madeCon, make}
 use Rattle.calculus.specs.Inputs.{ins, madeAt, targets}
 
 -- ---- counts of an input terminal
@@ -201,15 +201,20 @@ in-dirs α τ n s e =
 pub opposite : (α : Ty) (a f : Interface) → dirs a ≡ turns false α → dirs f ≡ turns true α → dirs f ≡ map not (dirs a)
 opposite α a f p q = q ∙ turns-not false α ∙ ap (map not) (sym p)
 
-part-dirs : (p n : ℕ) → dirs (partSide (partAt p .inputs) n) ≡ turns false (partAt p .type)
-part-dirs zero n = refl
-part-dirs (suc zero) n = refl
-part-dirs (suc (suc zero)) n = refl
-part-dirs (suc (suc (suc zero))) n = refl
-part-dirs (suc (suc (suc (suc zero)))) n = refl
-part-dirs (suc (suc (suc (suc (suc zero))))) n = refl
-part-dirs (suc (suc (suc (suc (suc (suc zero)))))) n = refl
-part-dirs (suc (suc (suc (suc (suc (suc (suc p))))))) n = refl
+-- two inputs, one after the other or as a pair
+gate-dirs : (E : Edition) (n : ℕ) → dirs (partSide 2 n) ≡ turns false (partAt 2 .type E)
+gate-dirs first n = refl
+gate-dirs second n = refl
+
+part-dirs : (E : Edition) (p n : ℕ) → dirs (partSide (partAt p .inputs) n) ≡ turns false (partAt p .type E)
+part-dirs E zero n = refl
+part-dirs E (suc zero) n = refl
+part-dirs E (suc (suc zero)) n = gate-dirs E n
+part-dirs E (suc (suc (suc zero))) n = gate-dirs E n
+part-dirs E (suc (suc (suc (suc zero)))) n = gate-dirs E n
+part-dirs E (suc (suc (suc (suc (suc zero))))) n = refl
+part-dirs E (suc (suc (suc (suc (suc (suc zero)))))) n = refl
+part-dirs E (suc (suc (suc (suc (suc (suc (suc p))))))) n = refl
 
 module _ {Γ : Ctx} {env : List Bound} where
   fun-driven : (θ τ : Ty) (n : ℕ) (e : Made) → T (sharable θ) → Driven (many θ ∷ Γ) (binder θ n ∷ env) τ e → Driven Γ env (arrow θ τ) (madeFun (arrow θ τ) n e)
@@ -233,10 +238,10 @@ module _ {Γ : Ctx} {env : List Bound} where
     count = λ i. omega (arith, d .count i, made-append (points (turns false θ) n) (e .elements) i, targets-append (e .wires) (join (e .side) (inSide (turns false θ) n)) i, joined (e .side) (inSide (turns false θ) n) i (dirs-in (turns false θ) n ∙ ap (map not) (sym (d .dirs))), sides (turns false θ) n i, outputs-only θ (e .side) i sh (d .dirs), outputs-only θ (outSide (turns false θ) n) i sh (dirs-out (turns false θ) n));
   }
 
-  con-driven : (p n : ℕ) → NoLinear Γ → Driven Γ env (partAt p .type) (madeCon p n)
-  con-driven p n z = record {
+  con-driven : (E : Edition) (p n : ℕ) → NoLinear Γ → Driven Γ env (partAt p .type E) (madeCon (partAt p .type E) p n)
+  con-driven E p n z = record {
     type = refl;
-    dirs = part-dirs p n;
+    dirs = part-dirs E p n;
     count = λ i. omega (arith, none-linears env i z);
   }
 
@@ -266,44 +271,57 @@ module _ {Γ : Ctx} {env : List Bound} where
       count = λ i. omega (arith, c .count i, d .count i, split-linears env i z, made-append (a .elements) (e .elements) i, targets-append (a .wires) (e .wires) i, outputs-only (prod θ₁ θ₂) (a .side) i (and-of (sharable θ₁) (sharable θ₂) s₁ s₂) (c .dirs));
     }
 
+    -- one variable: its interface is the first subterm's own, which has no input
+    name-driven : (θ τ : Ty) (a e : Made) → T (sharable θ) → Driven Γ₁ env θ a → Driven (many θ ∷ Γ₂) (wholeOf a ∷ env) τ e → Driven Γ env τ (madeProj a e)
+    name-driven θ τ a e sh c d = record {
+      type = d .type;
+      dirs = d .dirs;
+      count = λ i. omega (arith, c .count i, d .count i, split-linears env i z, made-append (a .elements) (e .elements) i, targets-append (a .wires) (e .wires) i, outputs-only θ (a .side) i sh (c .dirs));
+    }
+
 pub halves : (θ₁ θ₂ : Ty) (a : Made) → a .type ≡ prod θ₁ θ₂ → dirs (a .side) ≡ turns false (prod θ₁ θ₂) → Fits θ₁ (firstHalf a) × Fits θ₂ (secondHalf a)
 halves θ₁ θ₂ a et ed = (
   record { type = ap leftOf et; dirs = rw et (dirs-left false θ₁ (turns false θ₂) (a .side) ed) },
   record { type = ap rightOf et; dirs = rw et (dirs-right false θ₁ (turns false θ₂) (a .side) ed) },
 )
 
-pub term-driven : {Θ : Table} {Γ : Ctx} {e : Term} {τ : Ty} → Typed Θ Γ e τ → (env : List Bound) → Env Γ env → (n : ℕ) → Driven Γ env τ (make Θ e env n)
+pub term-driven : {E : Edition} {Θ : Table} {Γ : Ctx} {e : Term} {τ : Ty} → Typed E Θ Γ e τ → (env : List Bound) → Env Γ env → (n : ℕ) → Driven Γ env τ (make Θ e env n)
 term-driven (Var x) env v n = var-driven n (shown-shared x v)
 term-driven (LVar x) env v n = var-driven n (shown-linear x v)
-term-driven {Θ} (→I {t = t} {e = e} {θ = θ} {τ = τ} eτ sh d) env v n =
+term-driven {Θ = Θ} (→I {t = t} {e = e} {θ = θ} {τ = τ} eτ sh d) env v n =
     rw eτ (fun-driven θ τ n (make Θ e (binder θ n ∷ env) (n + 2 * size θ)) sh (term-driven d (binder θ n ∷ env) (env-many sh (binder-fits θ n) v) (n + 2 * size θ)))
-term-driven {Θ} (→E {f = f} {a = a} {θ = θ} {τ = τ} z sh d c) env v n =
+term-driven {Θ = Θ} (→E {f = f} {a = a} {θ = θ} {τ = τ} z sh d c) env v n =
     let (p, q) = split-env z v in
     let x = term-driven d env p n in
     let m = make Θ f env n in
     app-driven z θ τ m (make Θ a env (m .next)) (ap leftOf (x .type)) (ap rightOf (x .type)) (x .dirs) (x .count) (term-driven c env q (m .next))
-term-driven {Θ} (⊸I {t = t} {e = e} {κ = κ} {τ = τ} eτ ar d) env v n =
+term-driven {Θ = Θ} (⊸I {t = t} {e = e} {κ = κ} {τ = τ} eτ ar d) env v n =
     rw eτ (lfun-driven κ τ n (make Θ e (binder κ n ∷ env) (n + 2 * size κ)) (term-driven d (binder κ n ∷ env) (env-once (binder-fits κ n) v) (n + 2 * size κ)))
-term-driven {Θ} (⊸E {f = f} {a = a} {κ = κ} {τ = τ} z ar d c) env v n =
+term-driven {Θ = Θ} (⊸E {f = f} {a = a} {κ = κ} {τ = τ} z ar d c) env v n =
     let (p, q) = split-env z v in
     let x = term-driven d env p n in
     let m = make Θ f env n in
     app-driven z κ τ m (make Θ a env (m .next)) (ap leftOf (x .type)) (ap rightOf (x .type)) (x .dirs) (x .count) (term-driven c env q (m .next))
-term-driven {Θ} (×I {a = a} {b = b} {θ₁ = θ₁} {θ₂ = θ₂} z eτ s₁ s₂ d c) env v n =
+term-driven {Θ = Θ} (×I {a = a} {b = b} {θ₁ = θ₁} {θ₂ = θ₂} z eτ s₁ s₂ d c) env v n =
     let (p, q) = split-env z v in
     let m = make Θ a env n in
     rw eτ (pair-driven z θ₁ θ₂ m (make Θ b env (m .next)) (term-driven d env p n) (term-driven c env q (m .next)))
-term-driven {Θ} (×E {a = a} {e = e} {θ₁ = θ₁} {θ₂ = θ₂} {τ = τ} z s₁ s₂ d c) env v n =
+term-driven {Θ = Θ} (×E {a = a} {e = e} {θ₁ = θ₁} {θ₂ = θ₂} {τ = τ} z s₁ s₂ d c) env v n =
     let (p, q) = split-env z v in
     let m = make Θ a env n in
     let x = term-driven d env p n in
     let (h₁, h₂) = halves θ₁ θ₂ m (x .type) (x .dirs) in
     proj-driven z θ₁ θ₂ τ m (make Θ e (secondHalf m ∷ firstHalf m ∷ env) (m .next)) s₁ s₂ x (term-driven c _ (env-many s₂ h₂ (env-many s₁ h₁ q)) (m .next))
-term-driven {Θ} (Fix {t = t} {e = e} {θ = θ} eτ sh d) env v n =
+term-driven {Θ = Θ} (Fix {t = t} {e = e} {θ = θ} eτ sh d) env v n =
     rw eτ (fix-driven θ n (make Θ e (binder θ n ∷ env) (n + 2 * size θ)) sh (term-driven d (binder θ n ∷ env) (env-many sh (binder-fits θ n) v) (n + 2 * size θ)))
-term-driven (Con {p = p} h e z) env v n = con-driven p n z
+term-driven {E} (Con {p = p} h e z) env v n = rw e (con-driven E p n z)
+term-driven {Θ = Θ} (×E′ {a = a} {e = e} {θ = θ} {τ = τ} eE z sh d c) env v n =
+    let (p, q) = split-env z v in
+    let m = make Θ a env n in
+    let x = term-driven d env p n in
+    name-driven z θ τ m (make Θ e (wholeOf m ∷ env) (m .next)) sh x (term-driven c _ (env-many sh (record { type = x .type; dirs = x .dirs }) q) (m .next))
 
 -- a whole sheet: each input is the target of one wire or shown by one pin
-pub drivers : {Θ : Table} {e : Term} {τ : Ty} → Typed Θ [] e τ → (i : ℕ) →
+pub drivers : {E : Edition} {Θ : Table} {e : Term} {τ : Ty} → Typed E Θ [] e τ → (i : ℕ) →
     madeAt (make Θ e [] 0 .elements) i ≡ targets (make Θ e [] 0 .wires) i + ins (make Θ e [] 0 .side) i
 drivers d i = omega (arith, term-driven d [] env-end 0 .count i)

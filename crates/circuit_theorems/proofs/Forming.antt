@@ -7,7 +7,7 @@ use native.Mathlib.Omega.{arith}
 use lib.Dec.{T, eqb, eqb→eq, eqb-refl}
 use Rattle.laws.proofs.Tests.{by-eqb, or-elim, or-left, or-right, and-both, not-true, on-cond}
 use Rattle.calculus.specs.Types.{Ty, Table}
-use Rattle.calculus.specs.Terms.{Term, partAt}
+use Rattle.calculus.specs.Terms.{Edition, Term, partAt}
 use Rattle.calculus.specs.Net.{Terminal, inp, out, Interface, Element, point, part, Wire, Net, partSide, make, netOf}
 use Rattle.calculus.specs.Lean.{driver, isPin, root, kept, keep, toInputs, toElement, leanWires, leanPin, lean}
 use Rattle.calculus.specs.Rules.{Typed}
@@ -27,8 +27,8 @@ shown : (es : List Element) (p : Terminal) → Named (λ x. 1 ≤ madeAt es x) (
 shown es (inp i) s = tt
 shown es (out o) s = s
 
-pub formed-net : {Θ : Table} {e : Term} {τ : Ty} → Typed Θ [] e τ → Formed (netOf (make Θ e [] 0))
-formed-net {Θ} {e} d =
+pub formed-net : {E : Edition} {Θ : Table} {e : Term} {τ : Ty} → Typed E Θ [] e τ → Formed (netOf (make Θ e [] 0))
+formed-net {Θ = Θ} {e} d =
     let m = make Θ e [] 0 in
     let r = outputs (λ x. 1 ≤ madeAt (m .elements) x) (λ x. T (isOut (m .elements) x)) Θ e [] 0 tt (record { ins = λ x a. a; outs = λ x t. t }) in
     record {
@@ -45,9 +45,9 @@ pub record Gapless (m : Net) : Type 0 where
   pub tiled : Tiled (m .elements) 0 (net .end)
   pub few : net .end ≤ 8192
 
-pub gapless-net : {Θ : Table} {e : Term} {τ : Ty} → Typed Θ [] e τ → make Θ e [] 0 .next ≤ 8192 → Gapless (netOf (make Θ e [] 0))
+pub gapless-net : {E : Edition} {Θ : Table} {e : Term} {τ : Ty} → Typed E Θ [] e τ → make Θ e [] 0 .next ≤ 8192 → Gapless (netOf (make Θ e [] 0))
 unfolding formed-net
-gapless-net {Θ} {e} d h = record { net = formed-net d; tiled = tiled Θ e [] 0; few = h }
+gapless-net {Θ = Θ} {e} d h = record { net = formed-net d; tiled = tiled Θ e [] 0; few = h }
 
 -- ---- the lean netlist
 

@@ -28,7 +28,7 @@ pub record Accepts (s : List ℕ) (m : Net) : Type 0 where
   pub sheet : Sheet
   pub reads : readSheet s ≡ good sheet
   pub type : ℕ
-  pub typed : Typed (sheet .table) [] (sheet .term) (tree (sheet .table) type)
+  pub typed : Typed (sheet .edition) (sheet .table) [] (sheet .term) (tree (sheet .table) type)
   pub few : make (sheet .table) (sheet .term) [] 0 .next ≤ 8192
   pub is : netOf (make (sheet .table) (sheet .term) [] 0) ≡ m
 
@@ -36,13 +36,14 @@ pub accepts : (s : List ℕ) (m : Net) → full s ≡ good m → Accepts s m
 unfolding full
 accepts s m e =
     on-bind (readSheet s) _ m e λ σ h₁ e₁.
-    on-bind (walk (σ .table) (σ .term) 0 []) _ m e₁ λ r h₂ e₂.
+    on-bind (walk (σ .edition) (σ .table) (σ .term) 0 []) _ m e₁ λ r h₂ e₂.
     on-need (leb (make (σ .table) (σ .term) [] 0 .next) 8192) 16 0 _ m e₂ λ h₃ e₃.
+    let l = laid s σ h₁ in
     record {
       sheet = σ;
       reads = h₁;
       type = r .type;
-      typed = sound (σ .table) (laid s σ h₁ .table) (σ .term) r h₂;
+      typed = sound (σ .edition) (σ .table) (l .table) (σ .term) (l .ranged) r h₂;
       few = leb→le _ 8192 h₃;
       is = good-inj e₃;
     }

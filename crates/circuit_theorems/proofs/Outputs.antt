@@ -10,8 +10,8 @@ use lib.Dec.{T, eqb, eqb-refl}
 use lib.ListN.{length, take}
 use Rattle.laws.proofs.Tests.{by-eqb, or-elim, or-left, or-right}
 use Rattle.calculus.specs.Types.{Ty, size, Table, tree}
-use Rattle.calculus.specs.Terms.{Term, var, lvar, fun, app, lfun, lapp, pair, proj, fix, con, partAt}
-use Rattle.calculus.specs.Net.{Terminal, inp, out, Interface, turns, Element, point, part, Wire, points, inSide, outSide, join, partSide, Bound, unbound, Made, leftOf, binder, madeFun, madeApp, madePair, madeProj, madeFix, firstHalf, secondHalf, make}
+use Rattle.calculus.specs.Terms.{Term, var, lvar, fun, app, lfun, lapp, pair, proj, fix, con, name, partAt}
+use Rattle.calculus.specs.Net.{Terminal, inp, out, Interface, turns, Element, point, part, Wire, points, inSide, outSide, join, partSide, Bound, unbound, Made, leftOf, binder, madeFun, madeApp, madePair, madeProj, madeFix, firstHalf, secondHalf, wholeOf, make}
 use Rattle.calculus.specs.Record.{All}
 use Rattle.calculus.specs.Inputs.{ins, madeAt, isOut}
 use Rattle.circuit_theorems.specs.Formed.{Tiled}
@@ -44,6 +44,7 @@ tiled Θ (pair t a b) env n = tiled-append (make Θ a env n .elements) _ n _ _ (
 tiled Θ (proj a e) env n = tiled-append (make Θ a env n .elements) _ n _ _ (tiled Θ a env n) (tiled Θ e _ _)
 tiled Θ (fix t e) env n = tiled-append (points (turns false (tree Θ t)) n) _ n _ _ (tiled-binder (tree Θ t) n) (tiled Θ e _ _)
 tiled Θ (con p t) env n = (refl, refl)
+tiled Θ (name a e) env n = tiled-append (make Θ a env n .elements) _ n _ _ (tiled Θ a env n) (tiled Θ e _ _)
 
 -- ---- the outputs that interfaces and wires name are made
 
@@ -193,6 +194,11 @@ module _ (I O : ℕ → Type 0) where
       let f = first (points (turns false θ) n) (y .elements) c in
       fix-shows θ n y f (outputs Θ e (binder θ n ∷ env) (n + 2 * size θ) (side-out (turns false θ) n f, v) (second (points (turns false θ) n) (y .elements) c))
   outputs Θ (con p t) env n v c = record { side = part-shows p n c; wires = tt }
+  outputs Θ (name a e) env n v c =
+      let x = make Θ a env n in
+      let y = make Θ e (wholeOf x ∷ env) (x .next) in
+      let r = outputs Θ a env n v (first (x .elements) (y .elements) c) in
+      proj-shows x y r (outputs Θ e (wholeOf x ∷ env) (x .next) (r .side, v) (second (x .elements) (y .elements) c))
 
 -- ---- all terminals are below the next free one
 

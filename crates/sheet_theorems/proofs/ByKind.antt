@@ -3,11 +3,11 @@ use Prim.Native.Nat.{ℕ, _+_}
 use mathlib.Core.Path.{_≡_, refl, sym, ap, ap₂, subst, _∙_}
 use mathlib.Core.List.{List}
 use lib.ListN.{length}
-use Rattle.calculus.specs.Terms.{Term, var, lvar, fun, app, lfun, lapp, pair, proj, fix, con}
-use Rattle.calculus.specs.Read.{node, NodeKind, k11, k12, k13, k14, k15, k16, k17, k18, k19, k1A, kindOf, byte}
+use Rattle.calculus.specs.Terms.{Term, var, lvar, fun, app, lfun, lapp, pair, proj, fix, con, name}
+use Rattle.calculus.specs.Read.{node, NodeKind, k11, k12, k13, k14, k15, k16, k17, k18, k19, k1A, k1B, kindOf, byte}
 use Rattle.calculus.specs.Write.{termBytes}
 use Rattle.sheet_theorems.specs.Laid.{Stands}
-use Rattle.sheet_theorems.proofs.Standing.{kindIn, stands-kind, stands-node, var-binder, lvar-binder, fun-type, fun-body, app-function, app-argument, lfun-type, lfun-body, lapp-function, lapp-argument, pair-type, pair-first, pair-second, proj-pair, proj-body, fix-type, fix-body, con-part, con-type}
+use Rattle.sheet_theorems.proofs.Standing.{kindIn, stands-kind, stands-node, var-binder, lvar-binder, fun-type, fun-body, app-function, app-argument, lfun-type, lfun-body, lapp-function, lapp-argument, pair-type, pair-first, pair-second, proj-pair, proj-body, fix-type, fix-body, con-part, con-type, name-first, name-body}
 
 -- a node with one subterm, after a type number
 pub record One (mk : ℕ → Term → Term) (s : List ℕ) (at : ℕ) (e : Term) : Type 0 where
@@ -42,6 +42,7 @@ Form k17 s at e = Both s at e
 Form k18 s at e = Two proj s at e
 Form k19 s at e = One fix s at e
 Form k1A s at e = e ≡ con (byte s (at + 1)) (byte s (at + 2))
+Form k1B s at e = Two name s at e
 
 module _ {s : List ℕ} {at : ℕ} where
   own-form : (e : Term) → Stands s at e → Form (kindIn e) s at e
@@ -55,6 +56,7 @@ module _ {s : List ℕ} {at : ℕ} where
   own-form (proj a e) h = record { first = a; second = e; is = refl; stands-first = proj-pair h; stands-second = proj-body h }
   own-form (fix t e) h = record { body = e; is = ap (λ (t : ℕ). fix t e) (sym (fix-type h)); stands = fix-body h }
   own-form (con p t) h = ap₂ con (sym (con-part h)) (sym (con-type h))
+  own-form (name a e) h = record { first = a; second = e; is = refl; stands-first = name-first h; stands-second = name-body h }
 
   pub by-kind : {e : Term} → Stands s at e → (k : NodeKind) → kindOf (byte s at) ≡ node k → Form k s at e
   by-kind {e} h k d =
@@ -93,6 +95,9 @@ module _ {s : List ℕ} {at : ℕ} where
   pub at-1A : {e : Term} → Stands s at e → byte s at ≡ 0x1A → e ≡ con (byte s (at + 1)) (byte s (at + 2))
   at-1A h d = by-kind h k1A (ap kindOf d)
 
+  pub at-1B : {e : Term} → Stands s at e → byte s at ≡ 0x1B → Two name s at e
+  at-1B h d = by-kind h k1B (ap kindOf d)
+
 -- ---- prefix order is unambiguous: one term stands at an offset
 
 module _ (s : List ℕ) where
@@ -124,3 +129,4 @@ module _ (s : List ℕ) where
   stands-one (proj a e) u at h k = same-two proj at a e u (at-18 k (stands-kind h)) (λ b l. stands-one a b (at + 1) (proj-pair h) l) (λ b l. stands-one e b _ (proj-body h) l)
   stands-one (fix t e) u at h k = same-one fix t at e u (fix-type h) (at-19 k (stands-kind h)) (λ b l. stands-one e b (at + 2) (fix-body h) l)
   stands-one (con p t) u at h k = ap₂ con (sym (con-part h)) (sym (con-type h)) ∙ sym (at-1A k (stands-kind h))
+  stands-one (name a e) u at h k = same-two name at a e u (at-1B k (stands-kind h)) (λ b l. stands-one a b (at + 1) (name-first h) l) (λ b l. stands-one e b _ (name-body h) l)

@@ -20,16 +20,16 @@ use Rattle.sheet_theorems.proofs.Complete.{complete, tyEq-refl}
 
 -- the walk accepts exactly the terms that have a derivation from empty contexts
 pub exact : (s : List ℕ) (σ : Sheet) → readSheet s ≡ good σ
-    → ((r : Found) × (walk (σ .table) (σ .term) 0 [] ≡ good r)) ↔ ((τ : Ty) × Typed (σ .table) [] (σ .term) τ)
+    → ((r : Found) × (walk (σ .edition) (σ .table) (σ .term) 0 [] ≡ good r)) ↔ ((τ : Ty) × Typed (σ .edition) (σ .table) [] (σ .term) τ)
 exact s σ e =
     let l = laid s σ e in (
-      (λ a. (tree (σ .table) (a .0 .type), sound (σ .table) (l .table) (σ .term) (a .0) (a .1))),
-      (λ a. let c = complete (σ .table) (l .table) (a .1) (l .ranged) 0 step-end tt in (record { type = c .type; stack = [] }, c .answer)),
+      (λ a. (tree (σ .table) (a .0 .type), sound (σ .edition) (σ .table) (l .table) (σ .term) (l .ranged) (a .0) (a .1))),
+      (λ a. let c = complete (σ .edition) (σ .table) (l .table) (a .1) (l .ranged) 0 step-end tt in (record { type = c .type; stack = [] }, c .answer)),
     )
 
 -- and the type that the walk finds is the derivation's
-pub exact-type : (s : List ℕ) (σ : Sheet) (r : Found) (τ : Ty) → readSheet s ≡ good σ → walk (σ .table) (σ .term) 0 [] ≡ good r → Typed (σ .table) [] (σ .term) τ → tree (σ .table) (r .type) ≡ τ
-exact-type s σ r τ e h d = one-type (sound (σ .table) (laid s σ e .table) (σ .term) r h) d
+pub exact-type : (s : List ℕ) (σ : Sheet) (r : Found) (τ : Ty) → readSheet s ≡ good σ → walk (σ .edition) (σ .table) (σ .term) 0 [] ≡ good r → Typed (σ .edition) (σ .table) [] (σ .term) τ → tree (σ .table) (r .type) ≡ τ
+exact-type s σ r τ e h d = let l = laid s σ e in one-type (sound (σ .edition) (σ .table) (l .table) (σ .term) (l .ranged) r h) d
 
 -- document 01 compares types and the walk compares type numbers: in a table that the reader accepts it is the same
 pub type-numbers : (Θ : Table) → TableOk Θ → (a b : ℕ) → a < length Θ → b < length Θ → (a ≡ b) ↔ (tree Θ a ≡ tree Θ b)

@@ -7,7 +7,7 @@ use native.Mathlib.Decide.{decLt}
 use lib.Dec.{T, eqb, eqb→eq}
 use lib.ListN.{List·getD-eq-default}
 use Rattle.laws.proofs.Below.{below}
-use Rattle.calculus.specs.Read.{Kind, unknown, type, node, TypeKind, k01, k02, k03, k04, NodeKind, k11, k12, k13, k14, k15, k16, k17, k18, k19, k1A, kinds, kindOf}
+use Rattle.calculus.specs.Read.{Kind, unknown, type, node, TypeKind, k01, k02, k03, k04, NodeKind, k11, k12, k13, k14, k15, k16, k17, k18, k19, k1A, k1B, kinds, kindOf}
 
 abbrev pub typeByte : TypeKind → ℕ
 typeByte k01 = 0x01
@@ -26,6 +26,7 @@ nodeByte k17 = 0x17
 nodeByte k18 = 0x18
 nodeByte k19 = 0x19
 nodeByte k1A = 0x1A
+nodeByte k1B = 0x1B
 
 abbrev fits : Kind → ℕ → Bool
 fits unknown b = true
@@ -33,8 +34,8 @@ fits (type k) b = eqb (typeByte k) b
 fits (node k) b = eqb (nodeByte k) b
 
 fits-all : (b : ℕ) → T (fits (kindOf b) b)
-fits-all b = elim (decLt b 27) [
-  | yes h ↦ below 27 (λ b. fits (kindOf b) b) tt b h
+fits-all b = elim (decLt b 28) [
+  | yes h ↦ below 28 (λ b. fits (kindOf b) b) tt b h
   | no h ↦ subst⁻¹ (λ (k : Kind). T (fits k b)) (List·getD-eq-default kinds unknown {n = b} (omega arith)) tt
 ]
 
@@ -61,8 +62,9 @@ node-kind k17 = refl
 node-kind k18 = refl
 node-kind k19 = refl
 node-kind k1A = refl
+node-kind k1B = refl
 
-pub node-range : (k : NodeKind) → (0x11 ≤ nodeByte k) × (nodeByte k ≤ 0x1A)
+pub node-range : (k : NodeKind) → (0x11 ≤ nodeByte k) × (nodeByte k ≤ 0x1B)
 node-range k11 = omega arith
 node-range k12 = omega arith
 node-range k13 = omega arith
@@ -73,3 +75,4 @@ node-range k17 = omega arith
 node-range k18 = omega arith
 node-range k19 = omega arith
 node-range k1A = omega arith
+node-range k1B = omega arith

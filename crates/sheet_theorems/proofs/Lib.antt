@@ -16,3 +16,4 @@ pub mod StretchHolds
 pub mod WalkKeeps
 pub mod SubtermRead
 pub mod TypeForms
+pub mod Editions

@@ -3,8 +3,8 @@ use Prim.Native.Nat.{ℕ}
 use mathlib.Core.Path.{_≡_, refl, sym, _∙_}
 use mathlib.Core.List.{[], _∷_}
 use Rattle.calculus.specs.Types.{Ty, prod, arrow, lolli, Table}
-use Rattle.calculus.specs.Terms.{Term}
-use Rattle.calculus.specs.Rules.{many, once, away, Ctx, InΓ, in-here, in-many, in-away, IsΔ, is-here, is-many, is-away, Split, split-end, split-many, split-first, split-second, split-away, Typed, Var, LVar, →I, →E, ⊸I, ⊸E, ×I, ×E, Fix, Con}
+use Rattle.calculus.specs.Terms.{Edition, Term}
+use Rattle.calculus.specs.Rules.{many, once, away, Ctx, InΓ, in-here, in-many, in-away, IsΔ, is-here, is-many, is-away, Split, split-end, split-many, split-first, split-second, split-away, Typed, Var, LVar, →I, →E, ⊸I, ⊸E, ×I, ×E, Fix, Con, ×E′}
 
 -- two contexts that do not differ where a binder is in both
 pub data Alike : Ctx → Ctx → Type 0 where
@@ -63,7 +63,7 @@ prod-left e = cc
 prod-right : {a b c d : Ty} → prod a b ≡ prod c d → b ≡ d
 prod-right e = cc
 
-pub one-type-alike : {Θ : Table} {Γ Γ′ : Ctx} {e : Term} {τ τ′ : Ty} → Alike Γ Γ′ → Typed Θ Γ e τ → Typed Θ Γ′ e τ′ → τ ≡ τ′
+pub one-type-alike : {E : Edition} {Θ : Table} {Γ Γ′ : Ctx} {e : Term} {τ τ′ : Ty} → Alike Γ Γ′ → Typed E Θ Γ e τ → Typed E Θ Γ′ e τ′ → τ ≡ τ′
 one-type-alike l (Var x) (Var y) = one-shared l x y
 one-type-alike l (LVar x) (LVar y) = one-linear l x y
 one-type-alike l (→I p sh d) (→I q sh′ d′) = sym p ∙ q
@@ -77,6 +77,9 @@ one-type-alike l (×E z s₁ s₂ d c) (×E w t₁ t₂ d′ c′) =
     one-type-alike (rw (prod-left e, prod-right e) (alike-many (alike-many n))) c c′
 one-type-alike l (Fix p sh d) (Fix q sh′ d′) = sym p ∙ q
 one-type-alike l (Con h p z) (Con k q w) = refl
+one-type-alike l (×E′ eE z sh d c) (×E′ eF w sh′ d′ c′) =
+    let (m, n) = split-alike l z w in
+    one-type-alike (rw (one-type-alike m d d′) (alike-many n)) c c′
 
-pub one-type : {Θ : Table} {Γ : Ctx} {e : Term} {τ τ′ : Ty} → Typed Θ Γ e τ → Typed Θ Γ e τ′ → τ ≡ τ′
+pub one-type : {E : Edition} {Θ : Table} {Γ : Ctx} {e : Term} {τ τ′ : Ty} → Typed E Θ Γ e τ → Typed E Θ Γ e τ′ → τ ≡ τ′
 one-type {Γ = Γ} d d′ = one-type-alike (alike-refl Γ) d d′

@@ -8,11 +8,11 @@ use lib.ListN.{length}
 use Rattle.calculus.specs.Answer.{Answer, good, refused}
 use Rattle.calculus.proofs.Answers.{refused≢good, good-inj, on-bind, on-need}
 use Rattle.calculus.specs.Types.{Ty, bit, prod, arrow, lolli, sharable, isArrow, tyEq, TyRec, rec01, rec02, rec03, rec04, Table, recAt, tree}
-use Rattle.calculus.specs.Terms.{Term, var, lvar, fun, app, lfun, lapp, pair, proj, fix, con, nodes, parts, partAt}
-use Rattle.sheet_theorems.specs.Laid.{Agrees, TableOk}
+use Rattle.calculus.specs.Terms.{Edition, second, Term, var, lvar, fun, app, lfun, lapp, pair, proj, fix, con, name, nodes, parts, partAt}
+use Rattle.sheet_theorems.specs.Laid.{Agrees, TableOk, Ranged}
 use Rattle.laws.proofs.Tests.{and-both}
 use Rattle.calculus.specs.Walk.{Binder, shared, linear, Stack, Sides, product, sharableArrow, linearArrow, Found, under, useShared, useLinear, pop, topUsed, walk}
-use Rattle.calculus.specs.Rules.{many, once, away, Ctx, NoLinear, none-end, none-many, none-away, InΓ, in-here, in-many, in-away, IsΔ, is-here, is-many, is-away, Split, split-end, split-many, split-first, split-second, split-away, Typed, Var, LVar, →I, →E, ⊸I, ⊸E, ×I, ×E, Fix, Con}
+use Rattle.calculus.specs.Rules.{many, once, away, Ctx, NoLinear, none-end, none-many, none-away, InΓ, in-here, in-many, in-away, IsΔ, is-here, is-many, is-away, Split, split-end, split-many, split-first, split-second, split-away, Typed, Var, LVar, →I, →E, ⊸I, ⊸E, ×I, ×E, Fix, Con, ×E′}
 
 -- ---- forms of types
 
@@ -66,10 +66,10 @@ pop-linear (step-took s) u = (_, refl, s)
 
 -- ---- soundness
 
-pub record Derived (Θ : Table) (st : Stack) (e : Term) (r : Found) : Type 0 where
+pub record Derived (E : Edition) (Θ : Table) (st : Stack) (e : Term) (r : Found) : Type 0 where
   pub ctx : Ctx
   pub step : Step Θ st (r .stack) ctx
-  pub typed : Typed Θ ctx e (tree Θ (r .type))
+  pub typed : Typed E Θ ctx e (tree Θ (r .type))
 
 -- an answer under one more binder
 pub under-good : (b : Binder) (m : Answer Found) (r : Found) → under b m ≡ good r → (q : Found) × (m ≡ good q) × (record { type = q .type; stack = b ∷ q .stack } ≡ r)
@@ -156,39 +156,39 @@ tyEq→eq (lolli a b) (lolli c d) t =
 abbrev at-type : ℕ → Stack → Found
 at-type t st = record { type = t; stack = st }
 
-module _ (Θ : Table) (st : Stack) where
+module _ (E : Edition) (Θ : Table) (st : Stack) where
   fun-rule : (t a b : ℕ) (e : Term) (q : Found) → tree Θ t ≡ arrow (tree Θ a) (tree Θ b) → T (sharable (tree Θ a)) → q .type ≡ b
-      → Derived Θ (shared a ∷ st) e q → Derived Θ st (fun t e) (at-type t (pop (q .stack)))
+      → Derived E Θ (shared a ∷ st) e q → Derived E Θ st (fun t e) (at-type t (pop (q .stack)))
   fun-rule t a b e q eτ sh eb d =
       let (Γ, eΓ, s) = pop-shared (d .step) in
       record { ctx = Γ; step = s; typed = rw eτ (→I eτ sh (rw (eΓ, eb) at (d .typed))) }
 
   lfun-rule : (t a b : ℕ) (e : Term) (q : Found) → tree Θ t ≡ lolli (tree Θ a) (tree Θ b) → T (isArrow (tree Θ a)) → T (topUsed (q .stack)) → q .type ≡ b
-      → Derived Θ (linear a false ∷ st) e q → Derived Θ st (lfun t e) (at-type t (pop (q .stack)))
+      → Derived E Θ (linear a false ∷ st) e q → Derived E Θ st (lfun t e) (at-type t (pop (q .stack)))
   lfun-rule t a b e q eτ ar u eb d =
       let (Γ, eΓ, s) = pop-linear (d .step) u in
       record { ctx = Γ; step = s; typed = rw eτ (⊸I eτ ar (rw (eΓ, eb) at (d .typed))) }
 
   app-rule : (l r : ℕ) (f a : Term) (x y : Found) → tree Θ (x .type) ≡ arrow (tree Θ l) (tree Θ r) → T (sharable (tree Θ l)) → y .type ≡ l
-      → Derived Θ st f x → Derived Θ (x .stack) a y → Derived Θ st (app f a) (at-type r (y .stack))
+      → Derived E Θ st f x → Derived E Θ (x .stack) a y → Derived E Θ st (app f a) (at-type r (y .stack))
   app-rule l r f a x y eτ sh el d c =
       let (Γ, s, z) = both (d .step) (c .step) in
       record { ctx = Γ; step = s; typed = →E z sh (rw eτ at (d .typed)) (rw el at (c .typed)) }
 
   lapp-rule : (l r : ℕ) (f a : Term) (x y : Found) → tree Θ (x .type) ≡ lolli (tree Θ l) (tree Θ r) → T (isArrow (tree Θ l)) → y .type ≡ l
-      → Derived Θ st f x → Derived Θ (x .stack) a y → Derived Θ st (lapp f a) (at-type r (y .stack))
+      → Derived E Θ st f x → Derived E Θ (x .stack) a y → Derived E Θ st (lapp f a) (at-type r (y .stack))
   lapp-rule l r f a x y eτ ar el d c =
       let (Γ, s, z) = both (d .step) (c .step) in
       record { ctx = Γ; step = s; typed = ⊸E z ar (rw eτ at (d .typed)) (rw el at (c .typed)) }
 
   pair-rule : (t l r : ℕ) (a b : Term) (x y : Found) → tree Θ t ≡ prod (tree Θ l) (tree Θ r) → T (sharable (tree Θ l)) → T (sharable (tree Θ r)) → x .type ≡ l → y .type ≡ r
-      → Derived Θ st a x → Derived Θ (x .stack) b y → Derived Θ st (pair t a b) (at-type t (y .stack))
+      → Derived E Θ st a x → Derived E Θ (x .stack) b y → Derived E Θ st (pair t a b) (at-type t (y .stack))
   pair-rule t l r a b x y eτ s₁ s₂ el er d c =
       let (Γ, s, z) = both (d .step) (c .step) in
       record { ctx = Γ; step = s; typed = rw eτ (×I z eτ s₁ s₂ (rw el at (d .typed)) (rw er at (c .typed))) }
 
   proj-rule : (l r : ℕ) (a e : Term) (x y : Found) → tree Θ (x .type) ≡ prod (tree Θ l) (tree Θ r) → T (sharable (tree Θ l)) → T (sharable (tree Θ r))
-      → Derived Θ st a x → Derived Θ (shared r ∷ shared l ∷ x .stack) e y → Derived Θ st (proj a e) (at-type (y .type) (pop (pop (y .stack))))
+      → Derived E Θ st a x → Derived E Θ (shared r ∷ shared l ∷ x .stack) e y → Derived E Θ st (proj a e) (at-type (y .type) (pop (pop (y .stack))))
   proj-rule l r a e x y eτ p q d c =
       let (Γ₁, e₁, s₁) = pop-shared (c .step) in
       let (Γ₂, e₂, s₂) = pop-shared s₁ in
@@ -196,81 +196,93 @@ module _ (Θ : Table) (st : Stack) where
       record { ctx = Γ; step = s; typed = ×E z p q (rw eτ at (d .typed)) (rw (e₁, e₂) at (c .typed)) }
 
   fix-rule : (t : ℕ) (e : Term) (q : Found) → T (sharable (tree Θ t)) → q .type ≡ t
-      → Derived Θ (shared t ∷ st) e q → Derived Θ st (fix t e) (at-type t (pop (q .stack)))
+      → Derived E Θ (shared t ∷ st) e q → Derived E Θ st (fix t e) (at-type t (pop (q .stack)))
   fix-rule t e q sh eb d =
       let (Γ, eΓ, s) = pop-shared (d .step) in
       record { ctx = Γ; step = s; typed = Fix refl sh (rw (eΓ, eb) at (d .typed)) }
 
-  con-rule : (p t : ℕ) → T (ltb p (length parts)) → T (tyEq (tree Θ t) (partAt p .type)) → Derived Θ st (con p t) (at-type t st)
+  con-rule : (p t : ℕ) → T (ltb p (length parts)) → T (tyEq (tree Θ t) (partAt p .type E)) → Derived E Θ st (con p t) (at-type t st)
   con-rule p t h k =
       let (Γ, s, z) = idle Θ st in
-      let e = tyEq→eq (tree Θ t) (partAt p .type) k in
+      let e = tyEq→eq (tree Θ t) (partAt p .type E) k in
       record { ctx = Γ; step = s; typed = rw e (Con (ltb→lt p (length parts) h) e z) }
 
+  name-rule : (a e : Term) (x y : Found) → E ≡ second → T (sharable (tree Θ (x .type)))
+      → Derived E Θ st a x → Derived E Θ (shared (x .type) ∷ x .stack) e y → Derived E Θ st (name a e) (at-type (y .type) (pop (y .stack)))
+  name-rule a e x y eE sh d c =
+      let (Γ₂, e₂, s₂) = pop-shared (c .step) in
+      let (Γ, s, z) = both (d .step) s₂ in
+      record { ctx = Γ; step = s; typed = ×E′ eE z sh (d .typed) (rw e₂ at (c .typed)) }
+
 -- the walk
-pub derived : (Θ : Table) → TableOk Θ → (e : Term) (n : ℕ) (st : Stack) (r : Found) → walk Θ e n st ≡ good r → Derived Θ st e r
-derived Θ ok (var i) n st r h =
+pub derived : (E : Edition) (Θ : Table) → TableOk Θ → (e : Term) → Ranged E Θ e → (n : ℕ) (st : Stack) (r : Found) → walk E Θ e n st ≡ good r → Derived E Θ st e r
+derived E Θ ok (var i) g n st r h =
     let s = shares Θ st i n r h in
     record { ctx = s .ctx; step = s .step; typed = Var (s .at) }
-derived Θ ok (lvar i) n st r h =
+derived E Θ ok (lvar i) g n st r h =
     let s = takes Θ st i n r h in
     record { ctx = s .ctx; step = s .step; typed = LVar (s .at) }
-derived Θ ok (fun t e) n st r h =
+derived E Θ ok (fun t e) g n st r h =
     on-bind (sharableArrow (recAt Θ t) n) _ r h λ τ h₁ k₁.
-    on-bind (walk Θ e (n + 1) (shared (τ .left) ∷ st)) _ r k₁ λ q h₂ k₂.
+    on-bind (walk E Θ e (n + 1) (shared (τ .left) ∷ st)) _ r k₁ λ q h₂ k₂.
     on-need (eqb (q .type) (τ .right)) 12 n _ r k₂ λ h₃ k₃.
     let (eτ, sh) = subst (λ (q : TyRec). Agrees Θ q (tree Θ t)) (sharable-good (recAt Θ t) n τ h₁) (ok .agrees t) in
-    rw (← good-inj k₃) (fun-rule Θ st t (τ .left) (τ .right) e q eτ sh (eqb→eq _ _ h₃) (derived Θ ok e (n + 1) _ q h₂))
-derived Θ ok (app f a) n st r h =
-    on-bind (walk Θ f (n + 1) st) _ r h λ x h₁ k₁.
-    on-bind (walk Θ a (n + 1 + nodes f) (x .stack)) _ r k₁ λ y h₂ k₂.
+    rw (← good-inj k₃) (fun-rule E Θ st t (τ .left) (τ .right) e q eτ sh (eqb→eq _ _ h₃) (derived E Θ ok e (g .1) (n + 1) _ q h₂))
+derived E Θ ok (app f a) g n st r h =
+    on-bind (walk E Θ f (n + 1) st) _ r h λ x h₁ k₁.
+    on-bind (walk E Θ a (n + 1 + nodes f) (x .stack)) _ r k₁ λ y h₂ k₂.
     on-bind (sharableArrow (recAt Θ (x .type)) n) _ r k₂ λ τ h₃ k₃.
     on-need (eqb (y .type) (τ .left)) 12 n _ r k₃ λ h₄ k₄.
     let (eτ, sh) = subst (λ (q : TyRec). Agrees Θ q (tree Θ (x .type))) (sharable-good (recAt Θ (x .type)) n τ h₃) (ok .agrees (x .type)) in
-    rw (← good-inj k₄) (app-rule Θ st (τ .left) (τ .right) f a x y eτ sh (eqb→eq _ _ h₄) (derived Θ ok f (n + 1) st x h₁) (derived Θ ok a _ (x .stack) y h₂))
-derived Θ ok (lfun t e) n st r h =
+    rw (← good-inj k₄) (app-rule E Θ st (τ .left) (τ .right) f a x y eτ sh (eqb→eq _ _ h₄) (derived E Θ ok f (g .0) (n + 1) st x h₁) (derived E Θ ok a (g .1) _ (x .stack) y h₂))
+derived E Θ ok (lfun t e) g n st r h =
     on-bind (linearArrow (recAt Θ t) n) _ r h λ τ h₁ k₁.
-    on-bind (walk Θ e (n + 1) (linear (τ .left) false ∷ st)) _ r k₁ λ q h₂ k₂.
+    on-bind (walk E Θ e (n + 1) (linear (τ .left) false ∷ st)) _ r k₁ λ q h₂ k₂.
     on-need (topUsed (q .stack)) 14 n _ r k₂ λ h₃ k₃.
     on-need (eqb (q .type) (τ .right)) 12 n _ r k₃ λ h₄ k₄.
     let (eτ, ar) = subst (λ (q : TyRec). Agrees Θ q (tree Θ t)) (linear-good (recAt Θ t) n τ h₁) (ok .agrees t) in
-    rw (← good-inj k₄) (lfun-rule Θ st t (τ .left) (τ .right) e q eτ ar h₃ (eqb→eq _ _ h₄) (derived Θ ok e (n + 1) _ q h₂))
-derived Θ ok (lapp f a) n st r h =
-    on-bind (walk Θ f (n + 1) st) _ r h λ x h₁ k₁.
-    on-bind (walk Θ a (n + 1 + nodes f) (x .stack)) _ r k₁ λ y h₂ k₂.
+    rw (← good-inj k₄) (lfun-rule E Θ st t (τ .left) (τ .right) e q eτ ar h₃ (eqb→eq _ _ h₄) (derived E Θ ok e (g .1) (n + 1) _ q h₂))
+derived E Θ ok (lapp f a) g n st r h =
+    on-bind (walk E Θ f (n + 1) st) _ r h λ x h₁ k₁.
+    on-bind (walk E Θ a (n + 1 + nodes f) (x .stack)) _ r k₁ λ y h₂ k₂.
     on-bind (linearArrow (recAt Θ (x .type)) n) _ r k₂ λ τ h₃ k₃.
     on-need (eqb (y .type) (τ .left)) 12 n _ r k₃ λ h₄ k₄.
     let (eτ, ar) = subst (λ (q : TyRec). Agrees Θ q (tree Θ (x .type))) (linear-good (recAt Θ (x .type)) n τ h₃) (ok .agrees (x .type)) in
-    rw (← good-inj k₄) (lapp-rule Θ st (τ .left) (τ .right) f a x y eτ ar (eqb→eq _ _ h₄) (derived Θ ok f (n + 1) st x h₁) (derived Θ ok a _ (x .stack) y h₂))
-derived Θ ok (pair t a b) n st r h =
+    rw (← good-inj k₄) (lapp-rule E Θ st (τ .left) (τ .right) f a x y eτ ar (eqb→eq _ _ h₄) (derived E Θ ok f (g .0) (n + 1) st x h₁) (derived E Θ ok a (g .1) _ (x .stack) y h₂))
+derived E Θ ok (pair t a b) g n st r h =
     on-bind (product (recAt Θ t) n) _ r h λ τ h₁ k₁.
-    on-bind (walk Θ a (n + 1) st) _ r k₁ λ x h₂ k₂.
-    on-bind (walk Θ b (n + 1 + nodes a) (x .stack)) _ r k₂ λ y h₃ k₃.
+    on-bind (walk E Θ a (n + 1) st) _ r k₁ λ x h₂ k₂.
+    on-bind (walk E Θ b (n + 1 + nodes a) (x .stack)) _ r k₂ λ y h₃ k₃.
     on-need (eqb (x .type) (τ .left)) 12 n _ r k₃ λ h₄ k₄.
     on-need (eqb (y .type) (τ .right)) 12 n _ r k₄ λ h₅ k₅.
     let (eτ, s₁, s₂) = subst (λ (q : TyRec). Agrees Θ q (tree Θ t)) (product-good (recAt Θ t) n τ h₁) (ok .agrees t) in
-    rw (← good-inj k₅) (pair-rule Θ st t (τ .left) (τ .right) a b x y eτ s₁ s₂ (eqb→eq _ _ h₄) (eqb→eq _ _ h₅) (derived Θ ok a (n + 1) st x h₂) (derived Θ ok b _ (x .stack) y h₃))
-derived Θ ok (proj a e) n st r h =
-    on-bind (walk Θ a (n + 1) st) _ r h λ x h₁ k₁.
+    rw (← good-inj k₅) (pair-rule E Θ st t (τ .left) (τ .right) a b x y eτ s₁ s₂ (eqb→eq _ _ h₄) (eqb→eq _ _ h₅) (derived E Θ ok a (g .1) (n + 1) st x h₂) (derived E Θ ok b (g .2) _ (x .stack) y h₃))
+derived E Θ ok (proj a e) g n st r h =
+    on-bind (walk E Θ a (n + 1) st) _ r h λ x h₁ k₁.
     on-bind (product (recAt Θ (x .type)) n) _ r k₁ λ τ h₂ k₂.
-    on-bind (walk Θ e (n + 1 + nodes a) (shared (τ .right) ∷ shared (τ .left) ∷ x .stack)) _ r k₂ λ y h₃ k₃.
+    on-bind (walk E Θ e (n + 1 + nodes a) (shared (τ .right) ∷ shared (τ .left) ∷ x .stack)) _ r k₂ λ y h₃ k₃.
     let (eτ, s₁, s₂) = subst (λ (q : TyRec). Agrees Θ q (tree Θ (x .type))) (product-good (recAt Θ (x .type)) n τ h₂) (ok .agrees (x .type)) in
-    rw (← good-inj k₃) (proj-rule Θ st (τ .left) (τ .right) a e x y eτ s₁ s₂ (derived Θ ok a (n + 1) st x h₁) (derived Θ ok e _ _ y h₃))
-derived Θ ok (fix t e) n st r h =
+    rw (← good-inj k₃) (proj-rule E Θ st (τ .left) (τ .right) a e x y eτ s₁ s₂ (derived E Θ ok a (g .0) (n + 1) st x h₁) (derived E Θ ok e (g .1) _ _ y h₃))
+derived E Θ ok (fix t e) g n st r h =
     on-need (sharable (tree Θ t)) 12 n _ r h λ h₁ k₁.
-    on-bind (walk Θ e (n + 1) (shared t ∷ st)) _ r k₁ λ q h₂ k₂.
+    on-bind (walk E Θ e (n + 1) (shared t ∷ st)) _ r k₁ λ q h₂ k₂.
     on-need (eqb (q .type) t) 12 n _ r k₂ λ h₃ k₃.
-    rw (← good-inj k₃) (fix-rule Θ st t e q h₁ (eqb→eq _ _ h₃) (derived Θ ok e (n + 1) _ q h₂))
-derived Θ ok (con p t) n st r h =
+    rw (← good-inj k₃) (fix-rule E Θ st t e q h₁ (eqb→eq _ _ h₃) (derived E Θ ok e (g .1) (n + 1) _ q h₂))
+derived E Θ ok (con p t) g n st r h =
     on-need (ltb p (length parts)) 15 n _ r h λ h₁ k₁.
-    on-need (tyEq (tree Θ t) (partAt p .type)) 12 n _ r k₁ λ h₂ k₂.
-    rw (← good-inj k₂) (con-rule Θ st p t h₁ h₂)
+    on-need (tyEq (tree Θ t) (partAt p .type E)) 12 n _ r k₁ λ h₂ k₂.
+    rw (← good-inj k₂) (con-rule E Θ st p t h₁ h₂)
+derived E Θ ok (name a e) g n st r h =
+    on-bind (walk E Θ a (n + 1) st) _ r h λ x h₁ k₁.
+    on-need (sharable (tree Θ (x .type))) 12 n _ r k₁ λ h₂ k₂.
+    on-bind (walk E Θ e (n + 1 + nodes a) (shared (x .type) ∷ x .stack)) _ r k₂ λ y h₃ k₃.
+    rw (← good-inj k₃) (name-rule E Θ st a e x y (g .0) h₂ (derived E Θ ok a (g .1) (n + 1) st x h₁) (derived E Θ ok e (g .2) _ _ y h₃))
 
 -- from the empty stack: a derivation in the empty context
 closed : {Θ : Table} {st : Stack} {Γ : Ctx} → Step Θ [] st Γ → Γ ≡ []
 closed step-end = refl
 
-pub sound : (Θ : Table) → TableOk Θ → (e : Term) (r : Found) → walk Θ e 0 [] ≡ good r → Typed Θ [] e (tree Θ (r .type))
-sound Θ ok e r h =
-    let d = derived Θ ok e 0 [] r h in
+pub sound : (E : Edition) (Θ : Table) → TableOk Θ → (e : Term) → Ranged E Θ e → (r : Found) → walk E Θ e 0 [] ≡ good r → Typed E Θ [] e (tree Θ (r .type))
+sound E Θ ok e g r h =
+    let d = derived E Θ ok e g 0 [] r h in
     rw (closed (d .step)) at (d .typed)

@@ -4,11 +4,12 @@ use mathlib.Core.Path.{_≡_, refl, sym, ap, _∙_}
 use mathlib.Core.List.{List, [], _∷_, _++_, append-assoc, append-nil}
 use native.Mathlib.Omega.{arith}
 use lib.ListN.{length, drop, length-append}
-use lib.Seq.{drop-append-seam}
-use Rattle.calculus.specs.Terms.{Term, var, lvar, fun, app, lfun, lapp, pair, proj, fix, con}
-use Rattle.calculus.specs.Read.{node, NodeKind, k11, k12, k13, k14, k15, k16, k17, k18, k19, k1A, kindOf, byte, Sheet}
-use Rattle.calculus.specs.Write.{tableBytes, termBytes, sheetBytes}
+use lib.Seq.{drop-append-seam, drop-append-add}
+use Rattle.calculus.specs.Terms.{opening, Term, var, lvar, fun, app, lfun, lapp, pair, proj, fix, con, name}
+use Rattle.calculus.specs.Read.{node, NodeKind, k11, k12, k13, k14, k15, k16, k17, k18, k19, k1A, k1B, kindOf, byte, Sheet}
+use Rattle.calculus.specs.Write.{tableBytes, termBytes, recordBytes, sheetBytes}
 use Rattle.sheet_theorems.specs.Laid.{Stands, Laid}
+use Rattle.calculus.specs.Stretch.{termStart}
 use Rattle.sheet_theorems.proofs.KindBytes.{nodeByte, node-kind, node-range}
 use Rattle.sheet_theorems.proofs.Bytes.{first-byte, second-byte, third-byte, behind, within}
 
@@ -26,6 +27,7 @@ kindIn (pair t a b) = k17
 kindIn (proj a e) = k18
 kindIn (fix t e) = k19
 kindIn (con p t) = k1A
+kindIn (name a e) = k1B
 
 -- the bytes behind a term's kind byte
 abbrev pub behindKind : Term → List ℕ
@@ -39,6 +41,7 @@ behindKind (pair t a b) = t ∷ (termBytes a ++ termBytes b)
 behindKind (proj a e) = termBytes a ++ termBytes e
 behindKind (fix t e) = t ∷ termBytes e
 behindKind (con p t) = p ∷ t ∷ []
+behindKind (name a e) = termBytes a ++ termBytes e
 
 pub kind-first : (e : Term) → termBytes e ≡ nodeByte (kindIn e) ∷ behindKind e
 kind-first (var i) = refl
@@ -51,6 +54,7 @@ kind-first (pair t a b) = refl
 kind-first (proj a e) = refl
 kind-first (fix t e) = refl
 kind-first (con p t) = refl
+kind-first (name a e) = refl
 
 pub term-nonempty : (e : Term) → 0 < length (termBytes e)
 term-nonempty e = rw (kind-first e) (omega arith)
@@ -79,7 +83,7 @@ module _ {s : List ℕ} {at : ℕ} where
   pub stands-node : {e : Term} → Stands s at e → kindOf (byte s at) ≡ node (kindIn e)
   stands-node {e} h = rw (stands-kind h) (node-kind (kindIn e))
 
-  pub stands-range : {e : Term} → Stands s at e → (0x11 ≤ byte s at) × (byte s at ≤ 0x1A)
+  pub stands-range : {e : Term} → Stands s at e → (0x11 ≤ byte s at) × (byte s at ≤ 0x1B)
   stands-range {e} h = rw (stands-kind h) (node-range (kindIn e))
 
   pub stands-end : {e : Term} → Stands s at e → at + length (termBytes e) ≤ length s
@@ -147,16 +151,32 @@ module _ {s : List ℕ} {at : ℕ} where
   pub con-type : {p t : ℕ} → Stands s at (con p t) → byte s (at + 2) ≡ t
   con-type {p} {t} h = third-byte s (h .rest) at 0x1A p t (h .here)
 
--- ---- the term of a sheet
+  pub name-first : {a e : Term} → Stands s at (name a e) → Stands s (at + 1) a
+  name-first {a} {e} h = sub-first s at (0x1B ∷ []) a e (h .rest) (h .here)
+
+  pub name-body : {a e : Term} → Stands s at (name a e) → Stands s (at + 1 + length (termBytes a)) e
+  name-body {a} {e} h = sub-second s at (0x1B ∷ []) a e (h .rest) (h .here)
+
+-- ---- the term of a sheet, in its records
 
 module _ {s : List ℕ} {σ : Sheet} where
   pub sheet-stands : Laid s σ → Stands s (length (tableBytes (σ .table))) (σ .term)
-  unfolding sheetBytes
+  unfolding recordBytes
   sheet-stands l = record {
     rest = [];
     here = rw (l .bytes, append-nil (termBytes (σ .term))) (drop-append-seam (tableBytes (σ .table)) (termBytes (σ .term)));
   }
 
   pub sheet-ends : Laid s σ → length (tableBytes (σ .table)) + length (termBytes (σ .term)) ≡ length s
-  unfolding sheetBytes
+  unfolding recordBytes
   sheet-ends l = rw (l .bytes) (sym (length-append (tableBytes (σ .table)) (termBytes (σ .term))))
+
+-- ---- and in the whole sheet
+
+module _ {s : List ℕ} (σ : Sheet) (bytes : s ≡ sheetBytes (σ .edition) (σ .table) (σ .term)) where
+  pub whole-stands : Stands s (termStart σ) (σ .term)
+  unfolding sheetBytes recordBytes
+  whole-stands = record {
+    rest = [];
+    here = rw (bytes, append-nil (termBytes (σ .term))) (drop-append-add (opening (σ .edition)) (tableBytes (σ .table) ++ termBytes (σ .term)) (length (tableBytes (σ .table))) ∙ drop-append-seam (tableBytes (σ .table)) (termBytes (σ .term)));
+  }

@@ -9,14 +9,14 @@ use native.Mathlib.Decide.{decLt}
 use lib.ListN.{length, getD, length-append, List·getD-eq-default}
 use lib.Seq.{take-append-seam}
 use Rattle.calculus.specs.Answer.{Answer, good, refused}
-use Rattle.calculus.specs.Terms.{Term, var, lvar, fun, app, lfun, lapp, pair, proj, fix, con, nodes}
+use Rattle.calculus.specs.Terms.{Term, var, lvar, fun, app, lfun, lapp, pair, proj, fix, con, name, nodes}
 use Rattle.calculus.specs.Read.{Kind, nodeBody, Sheet, readSheet}
-use Rattle.calculus.specs.Write.{tableBytes, termBytes}
+use Rattle.calculus.specs.Write.{termBytes}
 use Rattle.sheet_theorems.specs.Laid.{Stands}
-use Rattle.calculus.specs.Stretch.{Stretch, nowhere, whole, stretches, stretchOf, cut}
+use Rattle.calculus.specs.Stretch.{Stretch, nowhere, whole, stretches, termStart, stretchOf, cut}
 use Rattle.sheet_theorems.specs.Subterms.{subterms, bodyOf, after, skip}
-use Rattle.sheet_theorems.proofs.Laying.{laid}
-use Rattle.sheet_theorems.proofs.Standing.{kindIn, term-nonempty, stands-node, stands-end, fun-body, app-function, app-argument, lfun-body, lapp-function, lapp-argument, pair-first, pair-second, proj-pair, proj-body, fix-body, sheet-stands}
+use Rattle.sheet_theorems.proofs.Laying.{sheet-bytes}
+use Rattle.sheet_theorems.proofs.Standing.{kindIn, term-nonempty, stands-node, stands-end, fun-body, app-function, app-argument, lfun-body, lapp-function, lapp-argument, pair-first, pair-second, proj-pair, proj-body, fix-body, name-first, name-body, whole-stands}
 
 -- ---- stretches one record after the other
 
@@ -57,6 +57,9 @@ module _ (s : List ℕ) where
       run-first (proj a e) at (at + 1) h (omega arith) (run-append (runs a (at + 1) (proj-pair h)) (run-to (runs e (at + 1 + length (termBytes a)) (proj-body h)) (omega arith)))
   runs (fix t e) at h = run-first (fix t e) at (at + 2) h (omega arith) (run-to (runs e (at + 2) (fix-body h)) (omega arith))
   runs (con p t) at h = run-first (con p t) at (at + 3) h (omega arith) run-end
+  runs (name a e) at h =
+      let l = length-append (termBytes a) (termBytes e) in
+      run-first (name a e) at (at + 1) h (omega arith) (run-append (runs a (at + 1) (name-first h)) (run-to (runs e (at + 1 + length (termBytes a)) (name-body h)) (omega arith)))
 
 -- ---- the k-th
 
@@ -90,6 +93,7 @@ count-subterms (pair t a b) = omega (arith, length-append (subterms a) (subterms
 count-subterms (proj a e) = omega (arith, length-append (subterms a) (subterms e), count-subterms a, count-subterms e)
 count-subterms (fix t e) = ap suc (count-subterms e)
 count-subterms (con p t) = refl
+count-subterms (name a e) = omega (arith, length-append (subterms a) (subterms e), count-subterms a, count-subterms e)
 
 pub count-stretches : (e : Term) (at : ℕ) → length (stretches e at) ≡ nodes e
 count-stretches (var i) at = refl
@@ -102,6 +106,7 @@ count-stretches (pair t a b) at = omega (arith, length-append (stretches a (at +
 count-stretches (proj a e) at = omega (arith, length-append (stretches a (at + 1)) (stretches e (at + 1 + length (termBytes a))), count-stretches a (at + 1), count-stretches e (at + 1 + length (termBytes a)))
 count-stretches (fix t e) at = ap suc (count-stretches e (at + 2))
 count-stretches (con p t) at = refl
+count-stretches (name a e) at = omega (arith, length-append (stretches a (at + 1)) (stretches e (at + 1 + length (termBytes a))), count-stretches a (at + 1), count-stretches e (at + 1 + length (termBytes a)))
 
 -- node k of a term that stands
 pub node-stretch : (s : List ℕ) (e : Term) (at k : ℕ) → Stands s at e → k < nodes e → Kth s at k (getD (stretches e at) k nowhere) (getD (subterms e) k e)
@@ -119,9 +124,9 @@ skip-next s (suc k) at = skip-next s k (after s at)
 
 -- ---- the stretch of a node of a sheet
 
--- the bytes of the node's subterm, k records on from the table's end, in the sheet
+-- the bytes of the node's subterm, k records on from the table's end, in the caller's own sheet
 pub record Shown (s : List ℕ) (σ : Sheet) (k : ℕ) (p : Stretch) (u : Term) : Type 0 where
-  pub node : Kth s (length (tableBytes (σ .table))) k p u
+  pub node : Kth s (termStart σ) k p u
   pub bytes : cut s p ≡ termBytes u
   pub nonempty : 0 < p .size
   pub within : p .start + p .size ≤ length s
@@ -133,7 +138,7 @@ pub stretch-holds : (s : List ℕ) (σ : Sheet) (k : ℕ) → readSheet s ≡ go
 unfolding stretchOf
 stretch-holds s σ k e h =
     let u = getD (subterms (σ .term)) k (σ .term) in
-    let q = node-stretch s (σ .term) (length (tableBytes (σ .table))) k (sheet-stands (laid s σ e)) h in
+    let q = node-stretch s (σ .term) (termStart σ) k (whole-stands σ (sheet-bytes s σ e)) h in
     rw e (record {
       node = q;
       bytes = stands-cut s _ u (q .stands) (q .size);
@@ -145,7 +150,7 @@ stretch-holds s σ k e h =
 pub stretch-past : (s : List ℕ) (σ : Sheet) (k : ℕ) → readSheet s ≡ good σ → nodes (σ .term) ≤ k → stretchOf s k ≡ nowhere
 unfolding stretchOf
 stretch-past s σ k e h =
-    let at = length (tableBytes (σ .table)) in
+    let at = termStart σ in
     let l : length (stretches (σ .term) at) ≤ k = rw (count-stretches (σ .term) at) h in
     rw e (List·getD-eq-default (stretches (σ .term) at) nowhere l)
 

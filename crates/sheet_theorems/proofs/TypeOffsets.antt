@@ -8,7 +8,7 @@ use lib.ListN.{length, drop, length-append}
 use lib.Seq.{drop-append-add}
 use Rattle.calculus.specs.Types.{bit, TyRec, rec01, rec02, rec03, rec04, Table, recAt, tree}
 use Rattle.calculus.specs.Read.{type, TypeKind, k01, k02, k03, k04, kindOf, byte, typeRec, Sheet}
-use Rattle.calculus.specs.Write.{recBytes, tableBytes, termBytes, sheetBytes}
+use Rattle.calculus.specs.Write.{recBytes, tableBytes, termBytes, recordBytes}
 use Rattle.sheet_theorems.specs.Laid.{Agrees, Below, TableOk, Laid}
 use Rattle.sheet_theorems.proofs.Bytes.{front-one, first-byte, second-byte, third-byte, within}
 use Rattle.sheet_theorems.proofs.KindBytes.{typeByte, type-kind}
@@ -153,5 +153,5 @@ type-kinds s Θ rest ok e t h = later-kind s (3 * t + 1) (recAt Θ (suc t)) (typ
 -- ---- a sheet that is read
 
 pub sheet-type-at : {s : List ℕ} {σ : Sheet} → Laid s σ → (t : ℕ) → t < length (σ .table) → StandsRec s (3 * t - 2) (recAt (σ .table) t)
-unfolding sheetBytes
+unfolding recordBytes
 sheet-type-at {s} {σ} l t h = type-at s (σ .table) (termBytes (σ .term)) (l .table) (l .bytes) t h

@@ -1,13 +1,13 @@
--- How a sheet that is read lies in its bytes: the table's records, then the term's, within the limits. Assumes nothing.
+-- How a sheet that is read lies in its bytes behind the opening: the table's records, then the term's, within the limits. Assumes nothing.
 use Prim.Native.Nat.{ℕ, suc, _+_, _≤_, _<_, max}
 use mathlib.Core.Path.{_≡_}
 use mathlib.Core.List.{List, _++_}
 use lib.ListN.{length, drop}
 use lib.Dec.{T}
 use Rattle.calculus.specs.Types.{Ty, bit, prod, arrow, lolli, size, sharable, isArrow, TyRec, rec01, rec02, rec03, rec04, Table, recAt, tree}
-use Rattle.calculus.specs.Terms.{Term, var, lvar, fun, app, lfun, lapp, pair, proj, fix, con, nodes}
+use Rattle.calculus.specs.Terms.{Edition, second, Term, var, lvar, fun, app, lfun, lapp, pair, proj, fix, con, name, nodes}
 use Rattle.calculus.specs.Read.{Sheet}
-use Rattle.calculus.specs.Write.{termBytes, sheetBytes}
+use Rattle.calculus.specs.Write.{termBytes, recordBytes}
 
 -- ---- the table
 
@@ -52,24 +52,26 @@ depth (pair t a b) = suc (max (depth a) (depth b))
 depth (proj a e) = suc (max (depth a) (depth e))
 depth (fix t e) = suc (depth e)
 depth (con p t) = 1
+depth (name a e) = suc (max (depth a) (depth e))
 
--- each written type number names a type
-abbrev pub Ranged : Table → Term → Type 0
-Ranged Θ (var i) = Unit {0}
-Ranged Θ (lvar i) = Unit {0}
-Ranged Θ (fun t e) = (t < length Θ) × Ranged Θ e
-Ranged Θ (app f a) = Ranged Θ f × Ranged Θ a
-Ranged Θ (lfun t e) = (t < length Θ) × Ranged Θ e
-Ranged Θ (lapp f a) = Ranged Θ f × Ranged Θ a
-Ranged Θ (pair t a b) = (t < length Θ) × Ranged Θ a × Ranged Θ b
-Ranged Θ (proj a e) = Ranged Θ a × Ranged Θ e
-Ranged Θ (fix t e) = (t < length Θ) × Ranged Θ e
-Ranged Θ (con p t) = t < length Θ
+-- each written type number names a type, and 1B stands in the second edition alone
+abbrev pub Ranged : Edition → Table → Term → Type 0
+Ranged E Θ (var i) = Unit {0}
+Ranged E Θ (lvar i) = Unit {0}
+Ranged E Θ (fun t e) = (t < length Θ) × Ranged E Θ e
+Ranged E Θ (app f a) = Ranged E Θ f × Ranged E Θ a
+Ranged E Θ (lfun t e) = (t < length Θ) × Ranged E Θ e
+Ranged E Θ (lapp f a) = Ranged E Θ f × Ranged E Θ a
+Ranged E Θ (pair t a b) = (t < length Θ) × Ranged E Θ a × Ranged E Θ b
+Ranged E Θ (proj a e) = Ranged E Θ a × Ranged E Θ e
+Ranged E Θ (fix t e) = (t < length Θ) × Ranged E Θ e
+Ranged E Θ (con p t) = t < length Θ
+Ranged E Θ (name a e) = (E ≡ second) × Ranged E Θ a × Ranged E Θ e
 
 pub record Laid (s : List ℕ) (σ : Sheet) : Type 0 where
-  pub bytes : s ≡ sheetBytes (σ .table) (σ .term)
+  pub bytes : s ≡ recordBytes (σ .table) (σ .term)
   pub short : length s ≤ 16384
   pub table : TableOk (σ .table)
-  pub ranged : Ranged (σ .table) (σ .term)
+  pub ranged : Ranged (σ .edition) (σ .table) (σ .term)
   pub deep : depth (σ .term) ≤ 64
   pub few : nodes (σ .term) ≤ 2048

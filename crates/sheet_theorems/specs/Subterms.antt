@@ -1,7 +1,7 @@
 -- The subterms of a term in record order, and going on by records. Assumes nothing.
 use Prim.Native.Nat.{ℕ, zero, suc, _+_}
 use mathlib.Core.List.{List, [], _∷_, _++_}
-use Rattle.calculus.specs.Terms.{Term, var, lvar, fun, app, lfun, lapp, pair, proj, fix, con}
+use Rattle.calculus.specs.Terms.{Term, var, lvar, fun, app, lfun, lapp, pair, proj, fix, con, name}
 use Rattle.calculus.specs.Read.{Kind, unknown, type, node, kindOf, byte, typeBody, nodeBody}
 
 -- the term of node k is the k-th, the term itself the first
@@ -16,6 +16,7 @@ subterms (pair t a b) = pair t a b ∷ (subterms a ++ subterms b)
 subterms (proj a e) = proj a e ∷ (subterms a ++ subterms e)
 subterms (fix t e) = fix t e ∷ subterms e
 subterms (con p t) = con p t ∷ []
+subterms (name a e) = name a e ∷ (subterms a ++ subterms e)
 
 -- the length of a record's body
 abbrev pub bodyOf : Kind → ℕ
