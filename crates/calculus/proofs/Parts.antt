@@ -8,7 +8,7 @@ use native.Mathlib.Omega.{arith}
 use lib.ListN.{getD, take}
 use Rattle.calculus.specs.Answer.{good}
 use Rattle.calculus.specs.Terms.{partAt}
-use Rattle.calculus.specs.Read.{readSheet, readTypes, readTerm, headAt}
+use Rattle.calculus.specs.Read.{editionOf, recordsOf, readSheet, readRecords, readTypes, readTerm, headAt}
 use Rattle.calculus.specs.Net.{Net, inp, out, part}
 use Rattle.calculus.specs.Translate.{full}
 use Rattle.calculus.specs.Record.{Stream, Bits, Law, Follows, Delayed, Delays, partLaw, Outside}
@@ -24,7 +24,7 @@ abbrev register : Net
 register = record { elements = part 1 0 ∷ []; wires = []; pins = inp 0 ∷ out 1 ∷ [] }
 
 pub register-alone : full registerSheet ≡ good register
-unfolding full readSheet readTypes readTerm headAt
+unfolding full editionOf recordsOf readSheet readRecords readTypes readTerm headAt
 register-alone = refl
 
 -- terminal 0 has the bits x; terminal 1 starts with bit b, and then shows them one tick later
