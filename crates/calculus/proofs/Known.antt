@@ -6,7 +6,7 @@ use Rattle.calculus.specs.Read.{editionOf, recordsOf, readSheet, readRec
 use Rattle.calculus.specs.Lean.{root, lean}
 use Rattle.calculus.specs.Translate.{full, answer}
 use Rattle.calculus.specs.Listing.{listing, netLines}
-use Rattle.calculus.specs.Known.{table, editions, run, lacking, lacks, answers, expected}
+use Rattle.calculus.specs.Known.{table, editions, clashes, run, lacking, lacks, answers, expected}
 
 -- P1 to P11: both netlists and their bytes, or the refusal; refusals 1 and 17 where memory or room is lacking; and P3's listing
 pub known-results : map answers table ≡ map expected table
@@ -17,3 +17,8 @@ known-results = refl
 pub known-editions : map answers editions ≡ map expected editions
 unfolding editions run lacking lacks full answer netBytes editionOf recordsOf readSheet readRecords readTypes readTerm headAt lean root listing netLines
 known-editions = refl
+
+-- .. and over the causes of refusal 12, with the two types that each names
+pub known-clashes : map answers clashes ≡ map expected clashes
+unfolding clashes run lacking lacks full answer netBytes editionOf recordsOf readSheet readRecords readTypes readTerm headAt lean root listing netLines
+known-clashes = refl

@@ -1,10 +1,10 @@
--- The sheets with known results, P1 to P11 (document 01), in one table, and some of the second edition in another: a call's answers on each.
--- Assumes nothing.
+-- The sheets with known results, P1 to P11 (document 01), in one table; some of the second edition and some that clash in two more: a
+-- call's answers on each. Assumes nothing.
 use Prim.Native.Nat.{ℕ}
 use mathlib.Core.Bool.{Bool, true, false}
 use mathlib.Core.List.{List, [], _∷_, map}
 use lib.ListN.{length}
-use Rattle.calculus.specs.Answer.{Answer, good, refused, _>>=_}
+use Rattle.calculus.specs.Answer.{Answer, good, refused, _>>=_, refuse, clash, aForm}
 use Rattle.calculus.specs.Net.{Net, Interface, inp, out, Element, point, part, Wire}
 use Rattle.calculus.specs.Lean.{lean}
 use Rattle.calculus.specs.Translate.{full, answer}
@@ -34,7 +34,11 @@ abbrev row : List ℕ → Net → List ℕ → Net → List ℕ → Row
 row s f fb l lb = record { sheet = s; result = good (record { full = f; fullBytes = fb; lean = l; leanBytes = lb }); texts = [] }
 
 abbrev refusal : List ℕ → ℕ → ℕ → Row
-refusal s number place = record { sheet = s; result = refused number place; texts = [] }
+refusal s number place = record { sheet = s; result = refuse number place; texts = [] }
+
+-- refusal 12, with the type wanted and the one found (document 02, L3)
+abbrev misfits : List ℕ → ℕ → ℕ → ℕ → Row
+misfits s node wanted found = record { sheet = s; result = refused (clash node wanted found); texts = [] }
 
 abbrev withText : Row → Text → Row
 withText r text = record { sheet = r .sheet; result = r .result; texts = text ∷ [] }
@@ -136,7 +140,7 @@ P10 =
 
 abbrev pub P11 : Row
 P11 =
-    refusal (0x01 ∷ 0x14 ∷ 0x1A ∷ 0x00 ∷ 0x00 ∷ 0x1A ∷ 0x00 ∷ 0x00 ∷ []) 12 0
+    misfits (0x01 ∷ 0x14 ∷ 0x1A ∷ 0x00 ∷ 0x00 ∷ 0x1A ∷ 0x00 ∷ 0x00 ∷ []) 0 aForm 0
 
 unfoldable pub table : List Row
 table = P1 ∷ P2 ∷ P3 ∷ P4 ∷ P5 ∷ P6 ∷ P7 ∷ P8 ∷ P9 ∷ P10 ∷ P11 ∷ []
@@ -182,21 +186,21 @@ S4 =
 -- its first subterm is not sharable: 12 at the new node
 abbrev pub S5 : Row
 S5 =
-    refusal (0x31 ∷ 0x01 ∷ 0x03 ∷ 0x00 ∷ 0x00 ∷ 0x1B ∷ 0x1A ∷ 0x01 ∷ 0x01 ∷ 0x1A ∷ 0x00 ∷ 0x00 ∷ []) 12 0
+    misfits (0x31 ∷ 0x01 ∷ 0x03 ∷ 0x00 ∷ 0x00 ∷ 0x1B ∷ 0x1A ∷ 0x01 ∷ 0x01 ∷ 0x1A ∷ 0x00 ∷ 0x00 ∷ []) 0 aForm 1
 
 -- .. before its body, whose variable is out of scope
 abbrev pub S6 : Row
 S6 =
-    refusal (0x31 ∷ 0x01 ∷ 0x03 ∷ 0x00 ∷ 0x00 ∷ 0x13 ∷ 0x01 ∷ 0x1B ∷ 0x1A ∷ 0x01 ∷ 0x01 ∷ 0x11 ∷ 0x02 ∷ []) 12 1
+    misfits (0x31 ∷ 0x01 ∷ 0x03 ∷ 0x00 ∷ 0x00 ∷ 0x13 ∷ 0x01 ∷ 0x1B ∷ 0x1A ∷ 0x01 ∷ 0x01 ∷ 0x11 ∷ 0x02 ∷ []) 1 aForm 1
 
 -- gates of the other edition: 12
 abbrev pub S7 : Row
 S7 =
-    refusal (0x31 ∷ 0x01 ∷ 0x03 ∷ 0x00 ∷ 0x00 ∷ 0x03 ∷ 0x00 ∷ 0x01 ∷ 0x1A ∷ 0x02 ∷ 0x02 ∷ []) 12 0
+    misfits (0x31 ∷ 0x01 ∷ 0x03 ∷ 0x00 ∷ 0x00 ∷ 0x03 ∷ 0x00 ∷ 0x01 ∷ 0x1A ∷ 0x02 ∷ 0x02 ∷ []) 0 aForm 2
 
 abbrev pub S8 : Row
 S8 =
-    refusal (0x01 ∷ 0x02 ∷ 0x00 ∷ 0x00 ∷ 0x03 ∷ 0x01 ∷ 0x00 ∷ 0x1A ∷ 0x02 ∷ 0x02 ∷ []) 12 0
+    misfits (0x01 ∷ 0x02 ∷ 0x00 ∷ 0x00 ∷ 0x03 ∷ 0x01 ∷ 0x00 ∷ 0x1A ∷ 0x02 ∷ 0x02 ∷ []) 0 aForm 2
 
 -- 1B in the first edition: 4
 abbrev pub S9 : Row
@@ -223,6 +227,59 @@ S13 =
 
 unfoldable pub editions : List Row
 editions = S1 ∷ S2 ∷ S3 ∷ S4 ∷ S5 ∷ S6 ∷ S7 ∷ S8 ∷ S9 ∷ S10 ∷ S11 ∷ S12 ∷ S13 ∷ []
+
+-- ---- which two types clash (document 02, L3)
+
+-- a function's body
+abbrev pub T1 : Row
+T1 = misfits (0x01 ∷ 0x03 ∷ 0x00 ∷ 0x00 ∷ 0x13 ∷ 0x01 ∷ 0x1A ∷ 0x01 ∷ 0x01 ∷ []) 0 0 1
+
+-- a linear function's body, of its own arrow's type
+abbrev pub T2 : Row
+T2 = misfits (0x01 ∷ 0x03 ∷ 0x00 ∷ 0x00 ∷ 0x04 ∷ 0x01 ∷ 0x00 ∷ 0x15 ∷ 0x02 ∷ 0x12 ∷ 0x00 ∷ []) 0 0 1
+
+-- a function's written type is no arrow
+abbrev pub T3 : Row
+T3 = misfits (0x01 ∷ 0x13 ∷ 0x00 ∷ 0x11 ∷ 0x00 ∷ []) 0 aForm 0
+
+-- a fixed point's body
+abbrev pub T4 : Row
+T4 = misfits (0x01 ∷ 0x03 ∷ 0x00 ∷ 0x00 ∷ 0x19 ∷ 0x00 ∷ 0x1A ∷ 0x01 ∷ 0x01 ∷ []) 0 0 1
+
+-- a fixed point's written type is not sharable
+abbrev pub T5 : Row
+T5 = misfits (0x01 ∷ 0x03 ∷ 0x00 ∷ 0x00 ∷ 0x19 ∷ 0x01 ∷ 0x11 ∷ 0x00 ∷ []) 0 aForm 1
+
+-- an argument of another type than the arrow's left side
+abbrev pub T6 : Row
+T6 = misfits (0x01 ∷ 0x03 ∷ 0x00 ∷ 0x00 ∷ 0x14 ∷ 0x1A ∷ 0x01 ∷ 0x01 ∷ 0x1A ∷ 0x01 ∷ 0x01 ∷ []) 0 0 1
+
+-- an arrow of the other sort
+abbrev pub T7 : Row
+T7 = misfits (0x01 ∷ 0x03 ∷ 0x00 ∷ 0x00 ∷ 0x16 ∷ 0x1A ∷ 0x01 ∷ 0x01 ∷ 0x1A ∷ 0x00 ∷ 0x00 ∷ []) 0 aForm 1
+
+-- a pair of which both halves differ: the first is named
+abbrev pub T8 : Row
+T8 = misfits (0x01 ∷ 0x02 ∷ 0x00 ∷ 0x00 ∷ 0x02 ∷ 0x01 ∷ 0x00 ∷ 0x17 ∷ 0x02 ∷ 0x1A ∷ 0x00 ∷ 0x00 ∷ 0x17 ∷ 0x01 ∷ 0x1A ∷ 0x00 ∷ 0x00 ∷ 0x1A ∷ 0x00 ∷ 0x00 ∷ []) 0 1 0
+
+-- a pair's second half
+abbrev pub T9 : Row
+T9 = misfits (0x01 ∷ 0x02 ∷ 0x00 ∷ 0x00 ∷ 0x02 ∷ 0x01 ∷ 0x00 ∷ 0x17 ∷ 0x02 ∷ 0x17 ∷ 0x01 ∷ 0x1A ∷ 0x00 ∷ 0x00 ∷ 0x1A ∷ 0x00 ∷ 0x00 ∷ 0x17 ∷ 0x01 ∷ 0x1A ∷ 0x00 ∷ 0x00 ∷ 0x1A ∷ 0x00 ∷ 0x00 ∷ []) 0 0 1
+
+-- a projection of a bit
+abbrev pub T10 : Row
+T10 = misfits (0x01 ∷ 0x18 ∷ 0x1A ∷ 0x00 ∷ 0x00 ∷ 0x11 ∷ 0x00 ∷ []) 0 aForm 0
+
+-- a constant whose type stands in the sheet
+abbrev pub T11 : Row
+T11 = misfits (0x01 ∷ 0x03 ∷ 0x00 ∷ 0x00 ∷ 0x1A ∷ 0x01 ∷ 0x00 ∷ []) 0 1 0
+
+-- a constant whose type stands nowhere in it
+abbrev pub T12 : Row
+T12 = misfits (0x01 ∷ 0x1A ∷ 0x01 ∷ 0x00 ∷ []) 0 aForm 0
+
+unfoldable pub clashes : List Row
+clashes = T1 ∷ T2 ∷ T3 ∷ T4 ∷ T5 ∷ T6 ∷ T7 ∷ T8 ∷ T9 ∷ T10 ∷ T11 ∷ T12 ∷ []
 
 -- ---- what the definitions answer
 
@@ -253,12 +310,12 @@ lacking s (good b) = record {
   fullRoom = answer 32768 false s (short (b .fullBytes));
   leanRoom = answer 32768 true s (short (b .leanBytes));
 }
-lacking s (refused number place) = record { memory = answer 32767 false s 0; fullRoom = answer 32768 false s 0; leanRoom = answer 32768 true s 0 }
+lacking s (refused why) = record { memory = answer 32767 false s 0; fullRoom = answer 32768 false s 0; leanRoom = answer 32768 true s 0 }
 
 -- 1 before all else; 17 with the length needed, after all else
 unfoldable pub lacks : Answer Both → Lacking
-lacks (good b) = record { memory = refused 1 0; fullRoom = refused 17 (length (b .fullBytes)); leanRoom = refused 17 (length (b .leanBytes)) }
-lacks (refused number place) = record { memory = refused 1 0; fullRoom = refused number place; leanRoom = refused number place }
+lacks (good b) = record { memory = refuse 1 0; fullRoom = refuse 17 (length (b .fullBytes)); leanRoom = refuse 17 (length (b .leanBytes)) }
+lacks (refused why) = record { memory = refuse 1 0; fullRoom = refused why; leanRoom = refused why }
 
 -- a row, as the definitions answer and as document 01 has it
 abbrev pub answers : Row → Answer Both × Lacking × List Text

@@ -79,7 +79,7 @@ listingOf (good m) =
     ++ (line (108 ∷ 101 ∷ 97 ∷ 110 ∷ [])  -- lean
     ++ (netLines (lean m)
     ++ line (101 ∷ 110 ∷ 100 ∷ []))))  -- end
-listingOf (refused number place) = line (114 ∷ 101 ∷ 102 ∷ 117 ∷ 115 ∷ 101 ∷ 100 ∷ (field number ++ field place))  -- refused
+listingOf (refused why) = line (114 ∷ 101 ∷ 102 ∷ 117 ∷ 115 ∷ 101 ∷ 100 ∷ (field (why .number) ++ field (why .place)))  -- refused
 
 unfoldable pub listing : List ℕ → Text
 listing s = listingOf (full s)

@@ -5,7 +5,7 @@ use mathlib.Core.Bool.{cond}
 use mathlib.Core.List.{List, [], _∷_, map}
 use lib.Dec.{leb, ltb, eqb}
 use lib.ListN.{length}
-use Rattle.calculus.specs.Answer.{Answer, good, refused, _>>=_}
+use Rattle.calculus.specs.Answer.{Answer, good, refuse, _>>=_}
 use Rattle.calculus.specs.Terms.{parts}
 use Rattle.calculus.specs.Read.{byte}
 use Rattle.calculus.specs.Net.{Terminal, inp, out, Element, point, part, Wire, Net, Item, element, wire, pin}
@@ -66,7 +66,7 @@ andRest (item r) at rest = do
   rs ← rest r
   good (r ∷ rs)
 andRest ended at rest = good []
-andRest broken at rest = refused 21 at
+andRest broken at rest = refuse 21 at
 
 -- all records from an offset on. `left` bytes are left at most, so that at zero nothing is
 unfoldable pub itemsFrom : ℕ → List ℕ → ℕ → Answer (List Item)

@@ -5,7 +5,7 @@ use mathlib.Core.Bool.{Bool, true, false, not, _&&_, _||_, cond}
 use mathlib.Core.List.{List, [], _∷_, _++_}
 use lib.Dec.{leb, ltb, eqb}
 use lib.ListN.{length, getD, drop}
-use Rattle.calculus.specs.Answer.{Answer, good, refused, _>>=_, need}
+use Rattle.calculus.specs.Answer.{Answer, good, refused, _>>=_, refuse, need}
 use Rattle.calculus.specs.Types.{size, sharable, isArrow, TyRec, rec01, rec02, rec03, rec04, recEq, Table, tyOf, tysFrom, tree}
 use Rattle.calculus.specs.Terms.{Edition, first, second, isSecond, opening, Term, var, lvar, fun, app, lfun, lapp, pair, proj, fix, con, name}
 
@@ -116,7 +116,7 @@ typeAt (type k) more s Θ at go = do
 -- the first byte that isn't 01 to 04 ends them. With none left `typeAt` refuses a type record itself (8), and the last argument is never
 -- reached
 unfoldable pub readTypes : ℕ → List ℕ → Table → ℕ → Answer (Table × ℕ)
-readTypes zero s Θ at = typeAt (kindOf (byte s at)) zero s Θ at (λ Φ next. refused 8 at)
+readTypes zero s Θ at = typeAt (kindOf (byte s at)) zero s Θ at (λ Φ next. refuse 8 at)
 readTypes (suc more) s Θ at = typeAt (kindOf (byte s at)) (suc more) s Θ at (λ Φ next. readTypes more s Φ next)
 
 -- ---- the term
@@ -145,8 +145,8 @@ nodeTyped k1A = 2
 nodeTyped k1B = 0
 
 abbrev pub nodeKind : Kind → ℕ → Answer NodeKind
-nodeKind unknown at = refused 4 at
-nodeKind (type k) at = refused 4 at
+nodeKind unknown at = refuse 4 at
+nodeKind (type k) at = refuse 4 at
 nodeKind (node k) at = good k
 
 -- the node's record at an offset: record due, kind, body, count, depth, type number; `more` is how many levels of depth there may still be
@@ -200,7 +200,7 @@ nodeAt k1B x y next n go = do
 unfoldable pub readTerm : Edition → ℕ → List ℕ → ℕ → ℕ → ℕ → Answer Got
 readTerm E zero s types at n = do
   k ← headAt E zero s types at n
-  refused 8 at
+  refuse 8 at
 readTerm E (suc more) s types at n = do
   k ← headAt E (suc more) s types at n
   nodeAt k (byte s (at + 1)) (byte s (at + 2)) (at + 1 + nodeBody k) (n + 1) (λ next count. readTerm E more s types next count)
@@ -230,7 +230,7 @@ recordsOf s = drop (length (opening (editionOf s))) s
 -- with n bytes before the records, offsets are n more
 abbrev pub offsetBy : {A : Type 0} → ℕ → Answer A → Answer A
 offsetBy n (good a) = good a
-offsetBy n (refused number place) = refused number (n + place)
+offsetBy n (refused why) = refused (record { number = why .number; place = n + why .place; wanted = why .wanted; found = why .found })
 
 unfoldable pub readSheet : List ℕ → Answer Sheet
 readSheet s = do

@@ -42,7 +42,7 @@ termStart σ = length (opening (σ .edition)) + length (tableBytes (σ .table))
 
 abbrev pub stretchIn : Answer Sheet → ℕ → Stretch
 stretchIn (good σ) node = getD (stretches (σ .term) (termStart σ)) node nowhere
-stretchIn (refused number place) node = nowhere
+stretchIn (refused why) node = nowhere
 
 -- empty where refusals 2 to 9 apply or the number is too large
 unfoldable pub stretchOf : List ℕ → ℕ → Stretch

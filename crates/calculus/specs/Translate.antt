@@ -41,12 +41,12 @@ zeroed n w = replicate n 0 ++ drop n w
 -- a success gives the number of bytes written
 abbrev pub saidOf : Answer (List ℕ) → Answer ℕ
 saidOf (good bytes) = good (length bytes)
-saidOf (refused number place) = refused number place
+saidOf (refused why) = refused why
 
 -- output bytes after those written stay; on a refusal all stay
 abbrev pub outOf : Answer (List ℕ) → List ℕ → List ℕ
 outOf (good bytes) out = bytes ++ drop (length bytes) out
-outOf (refused number place) out = out
+outOf (refused why) out = out
 
 -- refusal 1 changes none of the working memory; every other call clears the first 32,768
 unfoldable pub workOf : List ℕ → List ℕ

@@ -4,7 +4,7 @@ use mathlib.Core.Path.{_≡_}
 use mathlib.Core.Bool.{Bool, false}
 use mathlib.Core.List.{List, [], _∷_, _++_}
 use lib.ListN.{length, drop}
-use Rattle.calculus.specs.Answer.{Answer, good, refused}
+use Rattle.calculus.specs.Answer.{Answer, good, refuse, refused}
 use Rattle.calculus.specs.Translate.{workOf, Call, call}
 
 abbrev pub Program : Type 0
@@ -12,7 +12,7 @@ Program = Bool → List ℕ → List ℕ → List ℕ → Call
 
 -- it refuses all sheets, with whichever number and place
 abbrev pub refusesAll : ℕ → ℕ → Program
-refusesAll number place wantLean s out work = record { said = refused number place; out = out; work = workOf work }
+refusesAll number place wantLean s out work = record { said = refuse number place; out = out; work = workOf work }
 
 -- it writes P1's netlist for all
 abbrev pub writesP1 : Program
@@ -27,7 +27,7 @@ writesNothing n wantLean s out work = record { said = good n; out = out; work = 
 -- it reports an invented length: k + 1 too many
 abbrev pub longer : ℕ → Answer ℕ → Answer ℕ
 longer k (good n) = good (n + suc k)
-longer k (refused number place) = refused number place
+longer k (refused why) = refused why
 
 abbrev pub inventsLength : ℕ → Program
 inventsLength k wantLean s out work = let c = call wantLean s out work in record { said = longer k (c .said); out = c .out; work = c .work }
