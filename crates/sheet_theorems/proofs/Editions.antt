@@ -6,7 +6,7 @@ use mathlib.Core.List.{List, _∷_}
 use native.Mathlib.Omega.{arith}
 use lib.Dec.{T, leb, ltb, lt→ltb}
 use lib.ListN.{length, drop, getD}
-use Rattle.calculus.specs.Answer.{Answer, good, refused, _>>=_, need}
+use Rattle.calculus.specs.Answer.{Answer, good, refused, _>>=_, refuse, need}
 use Rattle.calculus.specs.Terms.{Edition, first, second, isSecond, opening, Term, name, nodes}
 use Rattle.calculus.specs.Read.{byte, headAt, readTerm, Sheet, readRecords, editionOf, recordsOf, offsetBy, readSheet}
 use Rattle.sheet_theorems.specs.Laid.{Ranged}
@@ -20,7 +20,9 @@ use Rattle.sheet_theorems.proofs.SubtermRead.{subterm-limits}
 
 offset-none : {A : Type 0} (m : Answer A) → offsetBy 0 m ≡ m
 offset-none (good a) = refl
-offset-none (refused number place) = let z : 0 + place ≡ place = omega arith in ap (λ (p : ℕ). refused number p) z
+offset-none (refused why) =
+    let z : 0 + why .place ≡ why .place = omega arith in
+    ap (λ (p : ℕ). refused (record { number = why .number; place = p; wanted = why .wanted; found = why .found })) z
 
 edition-first : (s : List ℕ) → ¬ (byte s 0 ≡ 0x31) → editionOf s ≡ first
 unfolding editionOf
@@ -41,25 +43,25 @@ second-sheet s = refl
 -- ---- kinds that are unknown where a node is due
 
 module _ (s : List ℕ) (types at n : ℕ) (here : at < length s) where
-  unread : (E : Edition) (more : ℕ) → ((more : ℕ) → headAt E more s types at n ≡ refused 4 at) → readTerm E more s types at n ≡ refused 4 at
+  unread : (E : Edition) (more : ℕ) → ((more : ℕ) → headAt E more s types at n ≡ refuse 4 at) → readTerm E more s types at n ≡ refuse 4 at
   unfolding readTerm
   unread E zero h = rw (h zero) refl
   unread E (suc more) h = rw (h (suc more)) refl
 
-  head-1B : (more : ℕ) → byte s at ≡ 0x1B → headAt first more s types at n ≡ refused 4 at
+  head-1B : (more : ℕ) → byte s at ≡ 0x1B → headAt first more s types at n ≡ refuse 4 at
   unfolding headAt
   head-1B more e = passes (ltb at (length s)) 3 at _ (lt→ltb at (length s) here) (rw e refl)
 
-  head-31 : (E : Edition) (more : ℕ) → byte s at ≡ 0x31 → headAt E more s types at n ≡ refused 4 at
+  head-31 : (E : Edition) (more : ℕ) → byte s at ≡ 0x31 → headAt E more s types at n ≡ refuse 4 at
   unfolding headAt
   head-31 E more e = passes (ltb at (length s)) 3 at _ (lt→ltb at (length s) here) (rw e refl)
 
   -- 1B in the first edition
-  pub first-1B : (more : ℕ) → byte s at ≡ 0x1B → readTerm first more s types at n ≡ refused 4 at
+  pub first-1B : (more : ℕ) → byte s at ≡ 0x1B → readTerm first more s types at n ≡ refuse 4 at
   first-1B more e = unread first more (λ more. head-1B more e)
 
   -- 31 anywhere but first
-  pub later-31 : (E : Edition) (more : ℕ) → byte s at ≡ 0x31 → readTerm E more s types at n ≡ refused 4 at
+  pub later-31 : (E : Edition) (more : ℕ) → byte s at ≡ 0x31 → readTerm E more s types at n ≡ refuse 4 at
   later-31 E more e = unread E more (λ more. head-31 E more e)
 
 -- ---- a first-edition sheet that is read has no node of kind 1B

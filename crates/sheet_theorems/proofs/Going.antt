@@ -16,4 +16,4 @@ passes false n p f h e = absurd h
 
 pub goes : {A B : Type 0} {b : Answer B} (m : Answer A) (a : A) (f : A → Answer B) → m ≡ good a → f a ≡ b → (m >>= f) ≡ b
 goes (good x) a f h e = let z : x ≡ a = cc in rw z e
-goes (refused n p) a f h e = absurd (refused≢good h)
+goes (refused why) a f h e = absurd (refused≢good h)

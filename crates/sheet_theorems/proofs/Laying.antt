@@ -232,7 +232,7 @@ records-length s = omega (arith, length-drop (length (opening (editionOf s))) s)
 
 offset-good : {A : Type 0} (n : ℕ) (m : Answer A) (a : A) → offsetBy n m ≡ good a → m ≡ good a
 offset-good n (good b) a e = e
-offset-good n (refused number place) a e = absurd (refused≢good e)
+offset-good n (refused why) a e = absurd (refused≢good e)
 
 -- a sheet that is read: what the first byte tells, and its records behind the opening
 pub record Opened (s : List ℕ) (σ : Sheet) : Type 0 where

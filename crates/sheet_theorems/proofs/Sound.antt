@@ -6,7 +6,7 @@ use mathlib.Core.List.{[], _∷_}
 use lib.Dec.{T, eqb, ltb, eqb→eq, ltb→lt}
 use lib.ListN.{length}
 use Rattle.calculus.specs.Answer.{Answer, good, refused}
-use Rattle.calculus.proofs.Answers.{refused≢good, good-inj, on-bind, on-need}
+use Rattle.calculus.proofs.Answers.{refused≢good, good-inj, on-bind, on-require, on-need}
 use Rattle.calculus.specs.Types.{Ty, bit, prod, arrow, lolli, sharable, isArrow, tyEq, TyRec, rec01, rec02, rec03, rec04, Table, recAt, tree}
 use Rattle.calculus.specs.Terms.{Edition, second, Term, var, lvar, fun, app, lfun, lapp, pair, proj, fix, con, name, nodes, parts, partAt}
 use Rattle.sheet_theorems.specs.Laid.{Agrees, TableOk, Ranged}
@@ -16,23 +16,23 @@ use Rattle.calculus.specs.Rules.{many, once, away, Ctx, NoLinear, none-end, non
 
 -- ---- forms of types
 
-pub product-good : (q : TyRec) (n : ℕ) (s : Sides) → product q n ≡ good s → q ≡ rec02 (s .left) (s .right)
-product-good rec01 n s e = absurd (refused≢good e)
-product-good (rec02 a b) n s e = ap (λ (s : Sides). rec02 (s .left) (s .right)) (good-inj e)
-product-good (rec03 a b) n s e = absurd (refused≢good e)
-product-good (rec04 a b) n s e = absurd (refused≢good e)
+pub product-good : (q : TyRec) (t n : ℕ) (s : Sides) → product q t n ≡ good s → q ≡ rec02 (s .left) (s .right)
+product-good rec01 t n s e = absurd (refused≢good e)
+product-good (rec02 a b) t n s e = ap (λ (s : Sides). rec02 (s .left) (s .right)) (good-inj e)
+product-good (rec03 a b) t n s e = absurd (refused≢good e)
+product-good (rec04 a b) t n s e = absurd (refused≢good e)
 
-pub sharable-good : (q : TyRec) (n : ℕ) (s : Sides) → sharableArrow q n ≡ good s → q ≡ rec03 (s .left) (s .right)
-sharable-good rec01 n s e = absurd (refused≢good e)
-sharable-good (rec02 a b) n s e = absurd (refused≢good e)
-sharable-good (rec03 a b) n s e = ap (λ (s : Sides). rec03 (s .left) (s .right)) (good-inj e)
-sharable-good (rec04 a b) n s e = absurd (refused≢good e)
+pub sharable-good : (q : TyRec) (t n : ℕ) (s : Sides) → sharableArrow q t n ≡ good s → q ≡ rec03 (s .left) (s .right)
+sharable-good rec01 t n s e = absurd (refused≢good e)
+sharable-good (rec02 a b) t n s e = absurd (refused≢good e)
+sharable-good (rec03 a b) t n s e = ap (λ (s : Sides). rec03 (s .left) (s .right)) (good-inj e)
+sharable-good (rec04 a b) t n s e = absurd (refused≢good e)
 
-pub linear-good : (q : TyRec) (n : ℕ) (s : Sides) → linearArrow q n ≡ good s → q ≡ rec04 (s .left) (s .right)
-linear-good rec01 n s e = absurd (refused≢good e)
-linear-good (rec02 a b) n s e = absurd (refused≢good e)
-linear-good (rec03 a b) n s e = absurd (refused≢good e)
-linear-good (rec04 a b) n s e = ap (λ (s : Sides). rec04 (s .left) (s .right)) (good-inj e)
+pub linear-good : (q : TyRec) (t n : ℕ) (s : Sides) → linearArrow q t n ≡ good s → q ≡ rec04 (s .left) (s .right)
+linear-good rec01 t n s e = absurd (refused≢good e)
+linear-good (rec02 a b) t n s e = absurd (refused≢good e)
+linear-good (rec03 a b) t n s e = absurd (refused≢good e)
+linear-good (rec04 a b) t n s e = ap (λ (s : Sides). rec04 (s .left) (s .right)) (good-inj e)
 
 -- ---- a stretch of the walk takes some linear binders: those are its Δ
 
@@ -74,7 +74,7 @@ pub record Derived (E : Edition) (Θ : Table) (st : Stack) (e : Term) (r : Found
 -- an answer under one more binder
 pub under-good : (b : Binder) (m : Answer Found) (r : Found) → under b m ≡ good r → (q : Found) × (m ≡ good q) × (record { type = q .type; stack = b ∷ q .stack } ≡ r)
 under-good b (good q) r e = (q, refl, good-inj e)
-under-good b (refused n p) r e = absurd (refused≢good e)
+under-good b (refused why) r e = absurd (refused≢good e)
 
 -- a sharable variable
 pub record Shares (Θ : Table) (st : Stack) (i : ℕ) (r : Found) : Type 0 where
@@ -223,58 +223,58 @@ derived E Θ ok (lvar i) g n st r h =
     let s = takes Θ st i n r h in
     record { ctx = s .ctx; step = s .step; typed = LVar (s .at) }
 derived E Θ ok (fun t e) g n st r h =
-    on-bind (sharableArrow (recAt Θ t) n) _ r h λ τ h₁ k₁.
+    on-bind (sharableArrow (recAt Θ t) t n) _ r h λ τ h₁ k₁.
     on-bind (walk E Θ e (n + 1) (shared (τ .left) ∷ st)) _ r k₁ λ q h₂ k₂.
-    on-need (eqb (q .type) (τ .right)) 12 n _ r k₂ λ h₃ k₃.
-    let (eτ, sh) = subst (λ (q : TyRec). Agrees Θ q (tree Θ t)) (sharable-good (recAt Θ t) n τ h₁) (ok .agrees t) in
+    on-require (eqb (q .type) (τ .right)) _ _ r k₂ λ h₃ k₃.
+    let (eτ, sh) = subst (λ (q : TyRec). Agrees Θ q (tree Θ t)) (sharable-good (recAt Θ t) t n τ h₁) (ok .agrees t) in
     rw (← good-inj k₃) (fun-rule E Θ st t (τ .left) (τ .right) e q eτ sh (eqb→eq _ _ h₃) (derived E Θ ok e (g .1) (n + 1) _ q h₂))
 derived E Θ ok (app f a) g n st r h =
     on-bind (walk E Θ f (n + 1) st) _ r h λ x h₁ k₁.
     on-bind (walk E Θ a (n + 1 + nodes f) (x .stack)) _ r k₁ λ y h₂ k₂.
-    on-bind (sharableArrow (recAt Θ (x .type)) n) _ r k₂ λ τ h₃ k₃.
-    on-need (eqb (y .type) (τ .left)) 12 n _ r k₃ λ h₄ k₄.
-    let (eτ, sh) = subst (λ (q : TyRec). Agrees Θ q (tree Θ (x .type))) (sharable-good (recAt Θ (x .type)) n τ h₃) (ok .agrees (x .type)) in
+    on-bind (sharableArrow (recAt Θ (x .type)) (x .type) n) _ r k₂ λ τ h₃ k₃.
+    on-require (eqb (y .type) (τ .left)) _ _ r k₃ λ h₄ k₄.
+    let (eτ, sh) = subst (λ (q : TyRec). Agrees Θ q (tree Θ (x .type))) (sharable-good (recAt Θ (x .type)) (x .type) n τ h₃) (ok .agrees (x .type)) in
     rw (← good-inj k₄) (app-rule E Θ st (τ .left) (τ .right) f a x y eτ sh (eqb→eq _ _ h₄) (derived E Θ ok f (g .0) (n + 1) st x h₁) (derived E Θ ok a (g .1) _ (x .stack) y h₂))
 derived E Θ ok (lfun t e) g n st r h =
-    on-bind (linearArrow (recAt Θ t) n) _ r h λ τ h₁ k₁.
+    on-bind (linearArrow (recAt Θ t) t n) _ r h λ τ h₁ k₁.
     on-bind (walk E Θ e (n + 1) (linear (τ .left) false ∷ st)) _ r k₁ λ q h₂ k₂.
     on-need (topUsed (q .stack)) 14 n _ r k₂ λ h₃ k₃.
-    on-need (eqb (q .type) (τ .right)) 12 n _ r k₃ λ h₄ k₄.
-    let (eτ, ar) = subst (λ (q : TyRec). Agrees Θ q (tree Θ t)) (linear-good (recAt Θ t) n τ h₁) (ok .agrees t) in
+    on-require (eqb (q .type) (τ .right)) _ _ r k₃ λ h₄ k₄.
+    let (eτ, ar) = subst (λ (q : TyRec). Agrees Θ q (tree Θ t)) (linear-good (recAt Θ t) t n τ h₁) (ok .agrees t) in
     rw (← good-inj k₄) (lfun-rule E Θ st t (τ .left) (τ .right) e q eτ ar h₃ (eqb→eq _ _ h₄) (derived E Θ ok e (g .1) (n + 1) _ q h₂))
 derived E Θ ok (lapp f a) g n st r h =
     on-bind (walk E Θ f (n + 1) st) _ r h λ x h₁ k₁.
     on-bind (walk E Θ a (n + 1 + nodes f) (x .stack)) _ r k₁ λ y h₂ k₂.
-    on-bind (linearArrow (recAt Θ (x .type)) n) _ r k₂ λ τ h₃ k₃.
-    on-need (eqb (y .type) (τ .left)) 12 n _ r k₃ λ h₄ k₄.
-    let (eτ, ar) = subst (λ (q : TyRec). Agrees Θ q (tree Θ (x .type))) (linear-good (recAt Θ (x .type)) n τ h₃) (ok .agrees (x .type)) in
+    on-bind (linearArrow (recAt Θ (x .type)) (x .type) n) _ r k₂ λ τ h₃ k₃.
+    on-require (eqb (y .type) (τ .left)) _ _ r k₃ λ h₄ k₄.
+    let (eτ, ar) = subst (λ (q : TyRec). Agrees Θ q (tree Θ (x .type))) (linear-good (recAt Θ (x .type)) (x .type) n τ h₃) (ok .agrees (x .type)) in
     rw (← good-inj k₄) (lapp-rule E Θ st (τ .left) (τ .right) f a x y eτ ar (eqb→eq _ _ h₄) (derived E Θ ok f (g .0) (n + 1) st x h₁) (derived E Θ ok a (g .1) _ (x .stack) y h₂))
 derived E Θ ok (pair t a b) g n st r h =
-    on-bind (product (recAt Θ t) n) _ r h λ τ h₁ k₁.
+    on-bind (product (recAt Θ t) t n) _ r h λ τ h₁ k₁.
     on-bind (walk E Θ a (n + 1) st) _ r k₁ λ x h₂ k₂.
     on-bind (walk E Θ b (n + 1 + nodes a) (x .stack)) _ r k₂ λ y h₃ k₃.
-    on-need (eqb (x .type) (τ .left)) 12 n _ r k₃ λ h₄ k₄.
-    on-need (eqb (y .type) (τ .right)) 12 n _ r k₄ λ h₅ k₅.
-    let (eτ, s₁, s₂) = subst (λ (q : TyRec). Agrees Θ q (tree Θ t)) (product-good (recAt Θ t) n τ h₁) (ok .agrees t) in
+    on-require (eqb (x .type) (τ .left)) _ _ r k₃ λ h₄ k₄.
+    on-require (eqb (y .type) (τ .right)) _ _ r k₄ λ h₅ k₅.
+    let (eτ, s₁, s₂) = subst (λ (q : TyRec). Agrees Θ q (tree Θ t)) (product-good (recAt Θ t) t n τ h₁) (ok .agrees t) in
     rw (← good-inj k₅) (pair-rule E Θ st t (τ .left) (τ .right) a b x y eτ s₁ s₂ (eqb→eq _ _ h₄) (eqb→eq _ _ h₅) (derived E Θ ok a (g .1) (n + 1) st x h₂) (derived E Θ ok b (g .2) _ (x .stack) y h₃))
 derived E Θ ok (proj a e) g n st r h =
     on-bind (walk E Θ a (n + 1) st) _ r h λ x h₁ k₁.
-    on-bind (product (recAt Θ (x .type)) n) _ r k₁ λ τ h₂ k₂.
+    on-bind (product (recAt Θ (x .type)) (x .type) n) _ r k₁ λ τ h₂ k₂.
     on-bind (walk E Θ e (n + 1 + nodes a) (shared (τ .right) ∷ shared (τ .left) ∷ x .stack)) _ r k₂ λ y h₃ k₃.
-    let (eτ, s₁, s₂) = subst (λ (q : TyRec). Agrees Θ q (tree Θ (x .type))) (product-good (recAt Θ (x .type)) n τ h₂) (ok .agrees (x .type)) in
+    let (eτ, s₁, s₂) = subst (λ (q : TyRec). Agrees Θ q (tree Θ (x .type))) (product-good (recAt Θ (x .type)) (x .type) n τ h₂) (ok .agrees (x .type)) in
     rw (← good-inj k₃) (proj-rule E Θ st (τ .left) (τ .right) a e x y eτ s₁ s₂ (derived E Θ ok a (g .0) (n + 1) st x h₁) (derived E Θ ok e (g .1) _ _ y h₃))
 derived E Θ ok (fix t e) g n st r h =
-    on-need (sharable (tree Θ t)) 12 n _ r h λ h₁ k₁.
+    on-require (sharable (tree Θ t)) _ _ r h λ h₁ k₁.
     on-bind (walk E Θ e (n + 1) (shared t ∷ st)) _ r k₁ λ q h₂ k₂.
-    on-need (eqb (q .type) t) 12 n _ r k₂ λ h₃ k₃.
+    on-require (eqb (q .type) t) _ _ r k₂ λ h₃ k₃.
     rw (← good-inj k₃) (fix-rule E Θ st t e q h₁ (eqb→eq _ _ h₃) (derived E Θ ok e (g .1) (n + 1) _ q h₂))
 derived E Θ ok (con p t) g n st r h =
     on-need (ltb p (length parts)) 15 n _ r h λ h₁ k₁.
-    on-need (tyEq (tree Θ t) (partAt p .type E)) 12 n _ r k₁ λ h₂ k₂.
+    on-require (tyEq (tree Θ t) (partAt p .type E)) _ _ r k₁ λ h₂ k₂.
     rw (← good-inj k₂) (con-rule E Θ st p t h₁ h₂)
 derived E Θ ok (name a e) g n st r h =
     on-bind (walk E Θ a (n + 1) st) _ r h λ x h₁ k₁.
-    on-need (sharable (tree Θ (x .type))) 12 n _ r k₁ λ h₂ k₂.
+    on-require (sharable (tree Θ (x .type))) _ _ r k₁ λ h₂ k₂.
     on-bind (walk E Θ e (n + 1 + nodes a) (shared (x .type) ∷ x .stack)) _ r k₂ λ y h₃ k₃.
     rw (← good-inj k₃) (name-rule E Θ st a e x y (g .0) h₂ (derived E Θ ok a (g .1) (n + 1) st x h₁) (derived E Θ ok e (g .2) _ _ y h₃))
 

@@ -8,7 +8,7 @@ use native.Mathlib.Nat.{not-suc-le-zero, le-of-suc-le-suc}
 use native.Mathlib.Decide.{decLt}
 use lib.ListN.{length, getD, length-append, List·getD-eq-default}
 use lib.Seq.{take-append-seam}
-use Rattle.calculus.specs.Answer.{Answer, good, refused}
+use Rattle.calculus.specs.Answer.{Refusal, Answer, good, refused}
 use Rattle.calculus.specs.Terms.{Term, var, lvar, fun, app, lfun, lapp, pair, proj, fix, con, name, nodes}
 use Rattle.calculus.specs.Read.{Kind, nodeBody, Sheet, readSheet}
 use Rattle.calculus.specs.Write.{termBytes}
@@ -155,9 +155,9 @@ stretch-past s σ k e h =
     rw e (List·getD-eq-default (stretches (σ .term) at) nowhere l)
 
 -- no sheet
-pub stretch-refused : (s : List ℕ) (number place k : ℕ) → readSheet s ≡ refused number place → stretchOf s k ≡ nowhere
+pub stretch-refused : (s : List ℕ) (why : Refusal) (k : ℕ) → readSheet s ≡ refused why → stretchOf s k ≡ nowhere
 unfolding stretchOf
-stretch-refused s number place k e = rw e
+stretch-refused s why k e = rw e
 
 -- empty exactly where refusals 2 to 9 apply or the number is too large
 pub stretch-empty : (s : List ℕ) (k : ℕ) → (stretchOf s k .size ≡ 0) ↔ ((σ : Sheet) → readSheet s ≡ good σ → nodes (σ .term) ≤ k)
@@ -168,4 +168,4 @@ stretch-empty s k = (
   where
     none : (a : Answer Sheet) → readSheet s ≡ a → ((σ : Sheet) → readSheet s ≡ good σ → nodes (σ .term) ≤ k) → stretchOf s k .size ≡ 0
     none (good σ) e f = ap (λ (p : Stretch). p .size) (stretch-past s σ k e (f σ e))
-    none (refused number place) e f = ap (λ (p : Stretch). p .size) (stretch-refused s number place k e)
+    none (refused why) e f = ap (λ (p : Stretch). p .size) (stretch-refused s why k e)

@@ -7,7 +7,7 @@ use native.Mathlib.Omega.{arith}
 use lib.Dec.{eqb, ltb}
 use lib.ListN.{length}
 use Rattle.calculus.specs.Answer.{good}
-use Rattle.calculus.proofs.Answers.{refused≢good, good-inj, on-bind, on-need}
+use Rattle.calculus.proofs.Answers.{refused≢good, good-inj, on-bind, on-require, on-need}
 use Rattle.calculus.specs.Types.{sharable, tyEq, TyRec, rec02, rec03, rec04, Table, recAt, tree}
 use Rattle.calculus.specs.Terms.{Edition, Term, var, lvar, fun, app, lfun, lapp, pair, proj, fix, con, name, nodes, parts, partAt}
 use Rattle.calculus.specs.Walk.{Binder, shared, linear, Stack, Sides, product, sharableArrow, linearArrow, Found, useShared, useLinear, pop, topUsed, walk}
@@ -79,52 +79,52 @@ pub walk-keeps : (E : Edition) (Θ : Table) (e : Term) (n : ℕ) (st : Stack) (r
 walk-keeps E Θ (var i) n st r h = use-shared-keeps st i n r h
 walk-keeps E Θ (lvar i) n st r h = use-linear-keeps st i n r h
 walk-keeps E Θ (fun t e) n st r h =
-    on-bind (sharableArrow (recAt Θ t) n) _ r h λ τ h₁ k₁.
+    on-bind (sharableArrow (recAt Θ t) t n) _ r h λ τ h₁ k₁.
     on-bind (walk E Θ e (n + 1) (shared (τ .left) ∷ st)) _ r k₁ λ q h₂ k₂.
-    on-need (eqb (q .type) (τ .right)) 12 n _ r k₂ λ h₃ k₃.
+    on-require (eqb (q .type) (τ .right)) _ _ r k₂ λ h₃ k₃.
     rw (← good-inj k₃) (kept-pop (walk-keeps E Θ e (n + 1) _ q h₂))
 walk-keeps E Θ (app f a) n st r h =
     on-bind (walk E Θ f (n + 1) st) _ r h λ x h₁ k₁.
     on-bind (walk E Θ a (n + 1 + nodes f) (x .stack)) _ r k₁ λ y h₂ k₂.
-    on-bind (sharableArrow (recAt Θ (x .type)) n) _ r k₂ λ τ h₃ k₃.
-    on-need (eqb (y .type) (τ .left)) 12 n _ r k₃ λ h₄ k₄.
+    on-bind (sharableArrow (recAt Θ (x .type)) (x .type) n) _ r k₂ λ τ h₃ k₃.
+    on-require (eqb (y .type) (τ .left)) _ _ r k₃ λ h₄ k₄.
     rw (← good-inj k₄) (kept-trans (walk-keeps E Θ f (n + 1) st x h₁) (walk-keeps E Θ a _ (x .stack) y h₂))
 walk-keeps E Θ (lfun t e) n st r h =
-    on-bind (linearArrow (recAt Θ t) n) _ r h λ τ h₁ k₁.
+    on-bind (linearArrow (recAt Θ t) t n) _ r h λ τ h₁ k₁.
     on-bind (walk E Θ e (n + 1) (linear (τ .left) false ∷ st)) _ r k₁ λ q h₂ k₂.
     on-need (topUsed (q .stack)) 14 n _ r k₂ λ h₃ k₃.
-    on-need (eqb (q .type) (τ .right)) 12 n _ r k₃ λ h₄ k₄.
+    on-require (eqb (q .type) (τ .right)) _ _ r k₃ λ h₄ k₄.
     rw (← good-inj k₄) (kept-pop (walk-keeps E Θ e (n + 1) _ q h₂))
 walk-keeps E Θ (lapp f a) n st r h =
     on-bind (walk E Θ f (n + 1) st) _ r h λ x h₁ k₁.
     on-bind (walk E Θ a (n + 1 + nodes f) (x .stack)) _ r k₁ λ y h₂ k₂.
-    on-bind (linearArrow (recAt Θ (x .type)) n) _ r k₂ λ τ h₃ k₃.
-    on-need (eqb (y .type) (τ .left)) 12 n _ r k₃ λ h₄ k₄.
+    on-bind (linearArrow (recAt Θ (x .type)) (x .type) n) _ r k₂ λ τ h₃ k₃.
+    on-require (eqb (y .type) (τ .left)) _ _ r k₃ λ h₄ k₄.
     rw (← good-inj k₄) (kept-trans (walk-keeps E Θ f (n + 1) st x h₁) (walk-keeps E Θ a _ (x .stack) y h₂))
 walk-keeps E Θ (pair t a b) n st r h =
-    on-bind (product (recAt Θ t) n) _ r h λ τ h₁ k₁.
+    on-bind (product (recAt Θ t) t n) _ r h λ τ h₁ k₁.
     on-bind (walk E Θ a (n + 1) st) _ r k₁ λ x h₂ k₂.
     on-bind (walk E Θ b (n + 1 + nodes a) (x .stack)) _ r k₂ λ y h₃ k₃.
-    on-need (eqb (x .type) (τ .left)) 12 n _ r k₃ λ h₄ k₄.
-    on-need (eqb (y .type) (τ .right)) 12 n _ r k₄ λ h₅ k₅.
+    on-require (eqb (x .type) (τ .left)) _ _ r k₃ λ h₄ k₄.
+    on-require (eqb (y .type) (τ .right)) _ _ r k₄ λ h₅ k₅.
     rw (← good-inj k₅) (kept-trans (walk-keeps E Θ a (n + 1) st x h₂) (walk-keeps E Θ b _ (x .stack) y h₃))
 walk-keeps E Θ (proj a e) n st r h =
     on-bind (walk E Θ a (n + 1) st) _ r h λ x h₁ k₁.
-    on-bind (product (recAt Θ (x .type)) n) _ r k₁ λ τ h₂ k₂.
+    on-bind (product (recAt Θ (x .type)) (x .type) n) _ r k₁ λ τ h₂ k₂.
     on-bind (walk E Θ e (n + 1 + nodes a) (shared (τ .right) ∷ shared (τ .left) ∷ x .stack)) _ r k₂ λ y h₃ k₃.
     rw (← good-inj k₃) (kept-trans (walk-keeps E Θ a (n + 1) st x h₁) (kept-pop (kept-pop (walk-keeps E Θ e _ _ y h₃))))
 walk-keeps E Θ (fix t e) n st r h =
-    on-need (sharable (tree Θ t)) 12 n _ r h λ h₁ k₁.
+    on-require (sharable (tree Θ t)) _ _ r h λ h₁ k₁.
     on-bind (walk E Θ e (n + 1) (shared t ∷ st)) _ r k₁ λ q h₂ k₂.
-    on-need (eqb (q .type) t) 12 n _ r k₂ λ h₃ k₃.
+    on-require (eqb (q .type) t) _ _ r k₂ λ h₃ k₃.
     rw (← good-inj k₃) (kept-pop (walk-keeps E Θ e (n + 1) _ q h₂))
 walk-keeps E Θ (con p t) n st r h =
     on-need (ltb p (length parts)) 15 n _ r h λ h₁ k₁.
-    on-need (tyEq (tree Θ t) (partAt p .type E)) 12 n _ r k₁ λ h₂ k₂.
+    on-require (tyEq (tree Θ t) (partAt p .type E)) _ _ r k₁ λ h₂ k₂.
     rw (← good-inj k₂) (kept-refl st)
 walk-keeps E Θ (name a e) n st r h =
     on-bind (walk E Θ a (n + 1) st) _ r h λ x h₁ k₁.
-    on-need (sharable (tree Θ (x .type))) 12 n _ r k₁ λ h₂ k₂.
+    on-require (sharable (tree Θ (x .type))) _ _ r k₁ λ h₂ k₂.
     on-bind (walk E Θ e (n + 1 + nodes a) (shared (x .type) ∷ x .stack)) _ r k₂ λ y h₃ k₃.
     rw (← good-inj k₃) (kept-trans (walk-keeps E Θ a (n + 1) st x h₁) (kept-pop (walk-keeps E Θ e _ _ y h₃)))
 
@@ -160,65 +160,65 @@ module _ (Θ : Table) (ok : TableOk Θ) where
       let k = f t (subst (λ (q : TyRec). Below t q) e (ok .earlier t h)) in
       (omega arith, omega arith)
 
-  pub arrow-in : (t n : ℕ) (τ : Sides) → t < length Θ → sharableArrow (recAt Θ t) n ≡ good τ → (τ .left < length Θ) × (τ .right < length Θ)
-  arrow-in t n τ h e = sides-in t (τ .left) (τ .right) rec03 h (sharable-good (recAt Θ t) n τ e) (λ m k. k)
+  pub arrow-in : (t n : ℕ) (τ : Sides) → t < length Θ → sharableArrow (recAt Θ t) t n ≡ good τ → (τ .left < length Θ) × (τ .right < length Θ)
+  arrow-in t n τ h e = sides-in t (τ .left) (τ .right) rec03 h (sharable-good (recAt Θ t) t n τ e) (λ m k. k)
 
-  pub lolli-in : (t n : ℕ) (τ : Sides) → t < length Θ → linearArrow (recAt Θ t) n ≡ good τ → (τ .left < length Θ) × (τ .right < length Θ)
-  lolli-in t n τ h e = sides-in t (τ .left) (τ .right) rec04 h (linear-good (recAt Θ t) n τ e) (λ m k. k)
+  pub lolli-in : (t n : ℕ) (τ : Sides) → t < length Θ → linearArrow (recAt Θ t) t n ≡ good τ → (τ .left < length Θ) × (τ .right < length Θ)
+  lolli-in t n τ h e = sides-in t (τ .left) (τ .right) rec04 h (linear-good (recAt Θ t) t n τ e) (λ m k. k)
 
-  pub product-in : (t n : ℕ) (τ : Sides) → t < length Θ → product (recAt Θ t) n ≡ good τ → (τ .left < length Θ) × (τ .right < length Θ)
-  product-in t n τ h e = sides-in t (τ .left) (τ .right) rec02 h (product-good (recAt Θ t) n τ e) (λ m k. k)
+  pub product-in : (t n : ℕ) (τ : Sides) → t < length Θ → product (recAt Θ t) t n ≡ good τ → (τ .left < length Θ) × (τ .right < length Θ)
+  product-in t n τ h e = sides-in t (τ .left) (τ .right) rec02 h (product-good (recAt Θ t) t n τ e) (λ m k. k)
 
   pub walk-in : (E : Edition) (e : Term) (n : ℕ) (st : Stack) (r : Found) → Ranged E Θ e → Numbers st (length Θ) → walk E Θ e n st ≡ good r → r .type < length Θ
   walk-in E (var i) n st r g k h = use-shared-in st i n (length Θ) r k h
   walk-in E (lvar i) n st r g k h = use-linear-in st i n (length Θ) r k h
   walk-in E (fun t e) n st r g k h =
-      on-bind (sharableArrow (recAt Θ t) n) _ r h λ τ h₁ k₁.
+      on-bind (sharableArrow (recAt Θ t) t n) _ r h λ τ h₁ k₁.
       on-bind (walk E Θ e (n + 1) (shared (τ .left) ∷ st)) _ r k₁ λ q h₂ k₂.
-      on-need (eqb (q .type) (τ .right)) 12 n _ r k₂ λ h₃ k₃.
+      on-require (eqb (q .type) (τ .right)) _ _ r k₂ λ h₃ k₃.
       rw (← good-inj k₃) (g .0)
   walk-in E (app f a) n st r g k h =
       on-bind (walk E Θ f (n + 1) st) _ r h λ x h₁ k₁.
       on-bind (walk E Θ a (n + 1 + nodes f) (x .stack)) _ r k₁ λ y h₂ k₂.
-      on-bind (sharableArrow (recAt Θ (x .type)) n) _ r k₂ λ τ h₃ k₃.
-      on-need (eqb (y .type) (τ .left)) 12 n _ r k₃ λ h₄ k₄.
+      on-bind (sharableArrow (recAt Θ (x .type)) (x .type) n) _ r k₂ λ τ h₃ k₃.
+      on-require (eqb (y .type) (τ .left)) _ _ r k₃ λ h₄ k₄.
       rw (← good-inj k₄) (arrow-in (x .type) n τ (walk-in E f (n + 1) st x (g .0) k h₁) h₃ .1)
   walk-in E (lfun t e) n st r g k h =
-      on-bind (linearArrow (recAt Θ t) n) _ r h λ τ h₁ k₁.
+      on-bind (linearArrow (recAt Θ t) t n) _ r h λ τ h₁ k₁.
       on-bind (walk E Θ e (n + 1) (linear (τ .left) false ∷ st)) _ r k₁ λ q h₂ k₂.
       on-need (topUsed (q .stack)) 14 n _ r k₂ λ h₃ k₃.
-      on-need (eqb (q .type) (τ .right)) 12 n _ r k₃ λ h₄ k₄.
+      on-require (eqb (q .type) (τ .right)) _ _ r k₃ λ h₄ k₄.
       rw (← good-inj k₄) (g .0)
   walk-in E (lapp f a) n st r g k h =
       on-bind (walk E Θ f (n + 1) st) _ r h λ x h₁ k₁.
       on-bind (walk E Θ a (n + 1 + nodes f) (x .stack)) _ r k₁ λ y h₂ k₂.
-      on-bind (linearArrow (recAt Θ (x .type)) n) _ r k₂ λ τ h₃ k₃.
-      on-need (eqb (y .type) (τ .left)) 12 n _ r k₃ λ h₄ k₄.
+      on-bind (linearArrow (recAt Θ (x .type)) (x .type) n) _ r k₂ λ τ h₃ k₃.
+      on-require (eqb (y .type) (τ .left)) _ _ r k₃ λ h₄ k₄.
       rw (← good-inj k₄) (lolli-in (x .type) n τ (walk-in E f (n + 1) st x (g .0) k h₁) h₃ .1)
   walk-in E (pair t a b) n st r g k h =
-      on-bind (product (recAt Θ t) n) _ r h λ τ h₁ k₁.
+      on-bind (product (recAt Θ t) t n) _ r h λ τ h₁ k₁.
       on-bind (walk E Θ a (n + 1) st) _ r k₁ λ x h₂ k₂.
       on-bind (walk E Θ b (n + 1 + nodes a) (x .stack)) _ r k₂ λ y h₃ k₃.
-      on-need (eqb (x .type) (τ .left)) 12 n _ r k₃ λ h₄ k₄.
-      on-need (eqb (y .type) (τ .right)) 12 n _ r k₄ λ h₅ k₅.
+      on-require (eqb (x .type) (τ .left)) _ _ r k₃ λ h₄ k₄.
+      on-require (eqb (y .type) (τ .right)) _ _ r k₄ λ h₅ k₅.
       rw (← good-inj k₅) (g .0)
   walk-in E (proj a e) n st r g k h =
       on-bind (walk E Θ a (n + 1) st) _ r h λ x h₁ k₁.
-      on-bind (product (recAt Θ (x .type)) n) _ r k₁ λ τ h₂ k₂.
+      on-bind (product (recAt Θ (x .type)) (x .type) n) _ r k₁ λ τ h₂ k₂.
       on-bind (walk E Θ e (n + 1 + nodes a) (shared (τ .right) ∷ shared (τ .left) ∷ x .stack)) _ r k₂ λ y h₃ k₃.
       let z = product-in (x .type) n τ (walk-in E a (n + 1) st x (g .0) k h₁) h₂ in
       rw (← good-inj k₃) (walk-in E e _ _ y (g .1) (z .1, (z .0, kept-numbers (length Θ) (walk-keeps E Θ a (n + 1) st x h₁) k)) h₃)
   walk-in E (fix t e) n st r g k h =
-      on-need (sharable (tree Θ t)) 12 n _ r h λ h₁ k₁.
+      on-require (sharable (tree Θ t)) _ _ r h λ h₁ k₁.
       on-bind (walk E Θ e (n + 1) (shared t ∷ st)) _ r k₁ λ q h₂ k₂.
-      on-need (eqb (q .type) t) 12 n _ r k₂ λ h₃ k₃.
+      on-require (eqb (q .type) t) _ _ r k₂ λ h₃ k₃.
       rw (← good-inj k₃) (g .0)
   walk-in E (con p t) n st r g k h =
       on-need (ltb p (length parts)) 15 n _ r h λ h₁ k₁.
-      on-need (tyEq (tree Θ t) (partAt p .type E)) 12 n _ r k₁ λ h₂ k₂.
+      on-require (tyEq (tree Θ t) (partAt p .type E)) _ _ r k₁ λ h₂ k₂.
       rw (← good-inj k₂) g
   walk-in E (name a e) n st r g k h =
       on-bind (walk E Θ a (n + 1) st) _ r h λ x h₁ k₁.
-      on-need (sharable (tree Θ (x .type))) 12 n _ r k₁ λ h₂ k₂.
+      on-require (sharable (tree Θ (x .type))) _ _ r k₁ λ h₂ k₂.
       on-bind (walk E Θ e (n + 1 + nodes a) (shared (x .type) ∷ x .stack)) _ r k₂ λ y h₃ k₃.
       rw (← good-inj k₃) (walk-in E e _ _ y (g .2) (walk-in E a (n + 1) st x (g .1) k h₁, kept-numbers (length Θ) (walk-keeps E Θ a (n + 1) st x h₁) k) h₃)
