@@ -17,3 +17,5 @@ pub mod WalkKeeps
 pub mod SubtermRead
 pub mod TypeForms
 pub mod Editions
+pub mod Judging
+pub mod Clashing
