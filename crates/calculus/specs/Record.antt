@@ -34,7 +34,7 @@ abbrev pub delayed : Stream → Stream
 delayed x zero = false
 delayed x (suc t) = x t
 
--- input k of a part
+-- input k of a part, which has it, so that the default is never reached
 abbrev pub input : List Stream → ℕ → Stream
 input xs k = getD xs k (λ t. false)
 
