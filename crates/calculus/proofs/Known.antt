@@ -5,10 +5,12 @@ use Rattle.calculus.specs.Net.{netBytes}
 use Rattle.calculus.specs.Read.{readSheet, readTypes, readTerm, headAt}
 use Rattle.calculus.specs.Lean.{root, lean}
 use Rattle.calculus.specs.Translate.{full, answer}
+use Rattle.calculus.specs.NetRead.{itemAt, itemsFrom, readNet}
 use Rattle.calculus.specs.Listing.{listing, netLines}
 use Rattle.calculus.specs.Known.{table, run, lacking, lacks, answers, expected}
 
--- P1 to P11: both netlists and their bytes, or the refusal; refusals 1 and 17 where memory or room is lacking; and P3's listing
+-- P1 to P11: both netlists and their bytes, or the refusal; refusals 1 and 17 where memory or room is lacking; the netlists
+-- read again from their bytes; and P3's listing
 pub known-results : map answers table ≡ map expected table
-unfolding table run lacking lacks full answer netBytes readSheet readTypes readTerm headAt lean root listing netLines
+unfolding table run lacking lacks full answer netBytes readSheet readTypes readTerm headAt lean root listing netLines readNet itemsFrom itemAt
 known-results = refl
