@@ -61,6 +61,20 @@ fn named_cases_come_first() {
 }
 
 #[test]
+fn the_stored_corpus_has_every_named_edge() {
+    let path = concat!(env!("CARGO_MANIFEST_DIR"), "/../crates/corpus/stdin");
+    let stored = unpack(&std::fs::read(path).unwrap()).unwrap();
+    let whole = named(Kind::Whole);
+    assert!(stored[..whole.len()] == whole[..]);
+    let sheets: BTreeSet<&[u8]> = stored.iter().map(|case| &case.sheet[..]).collect();
+    for kind in KINDS {
+        assert!(named(kind).iter().all(|case| sheets.contains(&case.sheet[..])), "{kind:?}");
+    }
+    let lines: Vec<String> = stored.iter().map(|case| answer(Kind::Whole, case)).collect();
+    assert_eq!(numbers(Kind::Whole, &lines), (0..=17).collect());
+}
+
+#[test]
 fn a_cut_corpus_is_told() {
     let packed = pack_cases(&pack(Kind::Typing, 1, 5, 700).0);
     assert!(unpack(&packed[..packed.len() - 1]).is_err());
