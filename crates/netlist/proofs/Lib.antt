@@ -6,5 +6,4 @@ pub mod Targets
 pub mod InMemory
 pub mod Whole
 pub mod KnownParts
-pub mod OneResult
 pub mod Determined
