@@ -10,7 +10,7 @@ use Rattle.calculus.specs.Net.{Net}
 use Rattle.calculus.specs.Record.{All}
 use Rattle.calculus.specs.Translate.{full, workOf}
 use Rattle.memory.specs.Map.{netIn, Ready}
-use Rattle.netlist.specs.Elements.{Known}
+use Rattle.calculus.specs.NetRead.{Known}
 use Rattle.translator.specs.declared.Made as code
 use Rattle.translator.specs.declared.Made.the-variants as made
 

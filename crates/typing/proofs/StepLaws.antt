@@ -10,7 +10,7 @@ use Rattle.calculus.specs.Answer.{refused}
 use Rattle.calculus.specs.Types.{TyRec}
 use Rattle.calculus.specs.Terms.{parts, partAt}
 use Rattle.calculus.specs.Walk.{Stack, found, topUsed}
-use Rattle.parts.specs.Table.{Entry, listed, unlisted, saidPart, entryOf, named, shapeTy}
+use Rattle.parts.specs.Table.{Entry, isPart, noPart, saidPart, entryOf, named, shapeTy}
 use Rattle.parts.specs.declared.Part.{Part}
 use Rattle.typing.specs.declared.rules.Sided.{Sided}
 use Rattle.typing.specs.declared.rules.Opening.the-variants as opening
@@ -167,20 +167,20 @@ closes-none k d = rw (ne-eqb k 0x18 d)
 
 -- ---- constants
 
-looked-none : (x : Entry) (b : Bool) → unlisted ≡ cond b (listed x) unlisted → b ≡ false
+looked-none : (x : Entry) (b : Bool) → noPart ≡ cond b (isPart x) noPart → b ≡ false
 looked-none x true e = absurd (let z : _≡_ {A = ℕ} 0 1 = cc in omega arith)
 looked-none x false e = refl
 
-looked-is : (x y : Entry) (b : Bool) → listed y ≡ cond b (listed x) unlisted → (b ≡ true) × (y ≡ x)
+looked-is : (x y : Entry) (b : Bool) → isPart y ≡ cond b (isPart x) noPart → (b ≡ true) × (y ≡ x)
 looked-is x y true e = (refl, cc)
 looked-is x y false e = absurd (let z : _≡_ {A = ℕ} 0 1 = cc in omega arith)
 
 module _ (p : ℕ) where
-  unknown-part : unlisted ≡ named p → ltb p (length parts) ≡ false
+  unknown-part : noPart ≡ named p → ltb p (length parts) ≡ false
   unfolding named
   unknown-part e = looked-none (entryOf p) (ltb p (length parts)) e
 
-  module _ (q : Part) (e : listed (saidPart q) ≡ named p) where
+  module _ (q : Part) (e : isPart (saidPart q) ≡ named p) where
     known-part : (ltb p (length parts) ≡ true) × (saidPart q ≡ entryOf p)
     unfolding named
     known-part = looked-is (entryOf p) (saidPart q) (ltb p (length parts)) e
@@ -189,11 +189,11 @@ module _ (p : ℕ) where
     shape-is = ap (λ (x : Entry). x .type) (known-part .1)
 
 module _ (R : Types) (p t n : ℕ) (st : Stack) where
-  pub constant-unknown : unlisted ≡ named p → refused 15 n ≡ constantOf R p t n st
+  pub constant-unknown : noPart ≡ named p → refused 15 n ≡ constantOf R p t n st
   unfolding constantOf
   constant-unknown e = rw (unknown-part p e)
 
-  module _ (q : Part) (e : listed (saidPart q) ≡ named p) where
+  module _ (q : Part) (e : isPart (saidPart q) ≡ named p) where
     pub constant-misfit : standsFor R (shapeTy (q .shape)) t ≡ false → refused 12 n ≡ constantOf R p t n st
     unfolding constantOf
     constant-misfit d = rw (known-part p q e .0, ← shape-is p q e, d)

@@ -12,8 +12,12 @@ module _ {n : ℕ} (ps : List (PK n)) (r : RK n) (Post : Out n ps r) where
   abbrev pub Result : Type 0
   Result = (κs : Lfts n) (a : Dens κs ps) (x y : resT r κs .Denot) (s t : AtExit (endedOf n ps r) κs) → Post κs a x s → Post κs a y t → x ≡ y
 
-  -- the result, and the bytes of the output as the function returns
+  -- what the function leaves of what it was lent
+  abbrev pub Left : ((κs : Lfts n) → AtExit (endedOf n ps r) κs → List ℕ) → Type 0
+  Left held = (κs : Lfts n) (a : Dens κs ps) (x y : resT r κs .Denot) (s t : AtExit (endedOf n ps r) κs) → Post κs a x s → Post κs a y t → held κs s ≡ held κs t
+
+  -- the result, and what it leaves
   abbrev pub Results : ((κs : Lfts n) → AtExit (endedOf n ps r) κs → List ℕ) → Type 0
-  Results bytes =
+  Results held =
       (κs : Lfts n) (a : Dens κs ps) (x y : resT r κs .Denot) (s t : AtExit (endedOf n ps r) κs) → Post κs a x s → Post κs a y t
-      → (x ≡ y) × (bytes κs s ≡ bytes κs t)
+      → (x ≡ y) × (held κs s ≡ held κs t)
