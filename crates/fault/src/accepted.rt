@@ -34,7 +34,7 @@ fn depth_at(s: &[u8], at: usize, more: usize) -> Deep
     if more == 0 {
         return Deep { next: at, depth: 0 };
     }
-    let Record::Node(r) = records::record_at(s, at) else {
+    let Record::Node(r) = records::record_at(s, at, true) else {
         return Deep { next: at, depth: 0 };
     };
     let next = r.next;
