@@ -1,4 +1,4 @@
-//! Links the archive that `rt staticlib translator` wrote, where it was made for the processor that
+//! Links the archive that `rt staticlib deltawobble` wrote, where it was made for the processor that
 //! this program is built for. Elsewhere the program calls it through the host process (host.c).
 
 use std::path::Path;
@@ -9,7 +9,7 @@ const MACHINES: [(&str, u16); 2] = [("x86_64", 62), ("aarch64", 183)];
 fn main() {
     let here = std::env::var("CARGO_MANIFEST_DIR").expect("cargo names the folder");
     let folder = Path::new(&here).join("../target/staticlib");
-    let archive = folder.join("libtranslator.a");
+    let archive = folder.join("libdeltawobble.a");
     println!("cargo:rustc-check-cfg=cfg(linked)");
     println!("cargo:rerun-if-changed=build.rs");
     println!("cargo:rerun-if-changed={}", archive.display());
@@ -19,7 +19,7 @@ fn main() {
     if found.is_some() && found == wanted {
         println!("cargo:rustc-cfg=linked");
         println!("cargo:rustc-link-search=native={}", folder.display());
-        println!("cargo:rustc-link-lib=static=translator");
+        println!("cargo:rustc-link-lib=static=deltawobble");
     }
 }
 

@@ -1,22 +1,15 @@
 # Sourced by the scripts of this folder and of examples/callers, in the repository's root: the
-# archive of the proved translator, the processor it is for, and tools that may have to be installed.
-archive=target/staticlib/libtranslator.a
+# archive of the proved translator, the processor it is for, and the compiler and the emulator for it.
+archive=target/staticlib/libdeltawobble.a
 
-# need COMMAND PACKAGE: install a Debian package where its command is missing
-need() {
-    command -v "$1" >/dev/null && return
-    echo "installing $2 for $1" >&2
-    { apt-get update && apt-get install -y --no-install-recommends "$2"; } >/dev/null ||
-        { echo "this needs $1 (Debian package $2)" >&2; exit 2; }
-}
-
-for tool in cargo gcc readelf; do
-    command -v "$tool" >/dev/null || { echo "this needs $tool on the PATH" >&2; exit 2; }
-done
+. bench/tools.sh
+asked cargo
+need gcc gcc
+need readelf binutils
 
 if [ ! -f "$archive" ]; then
-    command -v rt >/dev/null || { echo "this needs rt on the PATH, to make $archive" >&2; exit 2; }
-    rt staticlib translator >&2
+    asked rt
+    rt staticlib deltawobble >&2
 fi
 
 # native: whether the archive is for this machine. cc and emulator make and run programs for it.

@@ -1,13 +1,43 @@
 # Sourced in the repository's root, by the scripts that run proved programs on examples. They need rt and python3.
 
-# on_program NAME: proves and builds target/bin/NAME of the present sources, and sets the array `run` to the words that run it
+# there NAME..: ends, and says so, where there is no such example
+there() {
+    for name in "$@"; do
+        [ -f "examples/$name.hex" ] || { echo "there is no examples/$name.hex" >&2; exit 2; }
+    done
+}
+
+# crates NAME: the crates that NAME stands on, and itself, one to a line
+crates() {
+    awk -F: -v name="$1" '
+        function walk(crate, list, n, i) {
+            if (crate in seen || !(crate in deps)) return
+            seen[crate]
+            n = split(deps[crate], list, " ")
+            for (i = 1; i <= n; i++) walk(list[i])
+            print crate
+        }
+        /^[a-z]/ { deps[$1] = $2 }
+        END { walk(name) }' crates.txt
+}
+
+# on_program NAME: proves and builds target/bin/NAME of the present sources, and sets the array `run` to the words that run it.
+# The first time that takes minutes: each crate is told as it is proved.
 on_program() {
     program=target/bin/$1
     for tool in rt python3; do
         command -v "$tool" >/dev/null || { echo "this needs $tool on the PATH" >&2; exit 2; }
     done
-    [ -x "$program" ] || echo "proving and building $program: that takes minutes, the first time" >&2
-    said=$(rt check "$1" 2>&1) || { echo "$said" >&2; exit 1; }
+    first=no
+    if [ ! -x "$program" ]; then
+        first=yes
+        echo "proving and building $program: that takes minutes, the first time" >&2
+    fi
+    mkdir -p target
+    said=target/$1.said
+    rt check "$1" 2>&1 | tee "$said" | awk -v first="$first" -v total="$(crates "$1" | wc -l)" '
+        first == "yes" && /^rt: [a-z_]+ proved/ { print ++n " of " total ": " $2 " proved"; fflush() }' >&2 ||
+        { cat "$said" >&2; exit 1; }
     # The program is for x86-64. It runs as rt runs it: with the toolchain's loader and C library, and on
     # another processor under the emulator that stands beside the toolchain's compiler.
     kit=$(readlink -f "$(command -v rt)")
@@ -23,7 +53,6 @@ on_program() {
 
 # bytes NAME: the sheet of examples/NAME.hex, where # starts a comment
 bytes() {
-    [ -f "examples/$1.hex" ] || { echo "there is no examples/$1.hex" >&2; exit 2; }
     python3 -c '
 import sys
 text = "".join(line.split("#")[0] for line in open(sys.argv[1], encoding="utf-8"))

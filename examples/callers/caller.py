@@ -1,6 +1,6 @@
 """Calls the proved translator from Python: prints P3's full and lean netlist in hex, or the refusal.
 
-    python3 caller.py SHARED-OBJECT      # made from libtranslator.a, see the script 'run'
+    python3 caller.py SHARED-OBJECT      # made from libdeltawobble.a, see the script 'run'
 """
 import ctypes
 import sys

@@ -1,4 +1,4 @@
-/* The C boundary of the proved translator (libtranslator.a). */
+/* The C boundary of the proved translator (libdeltawobble.a). */
 #ifndef DELTAWOBBLE_H
 #define DELTAWOBBLE_H
 #include <stdbool.h>

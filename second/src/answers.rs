@@ -22,7 +22,10 @@ pub fn answer(kind: Kind, case: &Case) -> String {
         Kind::Reading => reading(&case.sheet),
         Kind::Typing => typing(&case.sheet),
         Kind::Making => making(&case.sheet),
-        Kind::Whole => format!("{} {}", whole(case, false), whole(case, true)),
+        Kind::Whole => {
+            let (value, full) = whole(case, false);
+            format!("{full} {}{}", whole(case, true).1, stretches(&case.sheet, value))
+        }
     }
 }
 
@@ -73,8 +76,19 @@ fn made(full: &Netlist) -> String {
     line
 }
 
-/// Number, value, and the checksums of output and memory after the call.
-fn whole(case: &Case, lean: bool) -> String {
+/// The first two nodes, the one that a refusal may name, and the last that a sheet may have and the
+/// next: where each stretch begins, and its length.
+fn stretches(sheet: &[u8], value: usize) -> String {
+    let mut line = String::new();
+    for node in [0, 1, value, 2_047, 2_048] {
+        let (start, length) = stretch(sheet, node);
+        write!(line, " {start} {length}").expect("a string takes any text");
+    }
+    line
+}
+
+/// The value; and number, value, and the checksums of output and memory after the call.
+fn whole(case: &Case, lean: bool) -> (usize, String) {
     let mut output: Vec<u8> = (0..case.room).map(|index| (index % 251 + 1) as u8).collect();
     let mut memory: Vec<u16> = (0..case.memory).map(|index| (index % 65_521 + 1) as u16).collect();
     let result = translate_into(&case.sheet, lean, &mut output, &mut memory);
@@ -84,7 +98,7 @@ fn whole(case: &Case, lean: bool) -> String {
     };
     let output = checksum(output.into_iter().map(u64::from));
     let memory = checksum(memory.into_iter().map(u64::from));
-    format!("{number} {value} {output} {memory}")
+    (value, format!("{number} {value} {output} {memory}"))
 }
 
 /// How many cases there are, how large, and what becomes of them.

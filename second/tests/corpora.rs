@@ -61,6 +61,20 @@ fn named_cases_come_first() {
 }
 
 #[test]
+fn the_stored_corpus_has_every_named_edge() {
+    let path = concat!(env!("CARGO_MANIFEST_DIR"), "/../crates/corpus/stdin");
+    let stored = unpack(&std::fs::read(path).unwrap()).unwrap();
+    let whole = named(Kind::Whole);
+    assert!(stored[..whole.len()] == whole[..]);
+    let sheets: BTreeSet<&[u8]> = stored.iter().map(|case| &case.sheet[..]).collect();
+    for kind in KINDS {
+        assert!(named(kind).iter().all(|case| sheets.contains(&case.sheet[..])), "{kind:?}");
+    }
+    let lines: Vec<String> = stored.iter().map(|case| answer(Kind::Whole, case)).collect();
+    assert_eq!(numbers(Kind::Whole, &lines), (0..=17).collect());
+}
+
+#[test]
 fn a_cut_corpus_is_told() {
     let packed = pack_cases(&pack(Kind::Typing, 1, 5, 700).0);
     assert!(unpack(&packed[..packed.len() - 1]).is_err());
@@ -81,8 +95,11 @@ fn answers_are_lines_of_fields() {
     // P10 in room 0 and memory 0: nothing to sum up
     let p10 = case("0000 0000 0000");
     assert_eq!(answer(Kind::Reading, &p10), "refused 3 0 0 0 0 0");
-    assert_eq!(answer(Kind::Whole, &p10), "1 0 0 0 1 0 0 0");
+    assert_eq!(answer(Kind::Whole, &p10), "1 0 0 0 1 0 0 0 0 0 0 0 0 0 0 0 0 0");
     // one output byte of 1: 0 * 257 + 1 + 1
     let one = case("0100 0000 0000");
-    assert_eq!(answer(Kind::Whole, &one), "1 0 2 0 1 0 2 0");
+    assert_eq!(answer(Kind::Whole, &one), "1 0 2 0 1 0 2 0 0 0 0 0 0 0 0 0 0 0");
+    // P2 in room 0 and memory 0: the stretches of nodes 0, 1 and 0, its place
+    let p2 = case("0000 0000 0800 01 03 00 00 13 01 11 00");
+    assert_eq!(answer(Kind::Whole, &p2), "1 0 0 0 1 0 0 0 4 4 6 2 4 4 0 0 0 0");
 }

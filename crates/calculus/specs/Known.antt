@@ -7,6 +7,7 @@ use lib.ListN.{length}
 use Rattle.calculus.specs.Answer.{Answer, good, refused, _>>=_, refuse, clash, aForm}
 use Rattle.calculus.specs.Net.{Net, Interface, inp, out, Element, point, part, Wire}
 use Rattle.calculus.specs.Lean.{lean}
+use Rattle.calculus.specs.NetRead.{readNet}
 use Rattle.calculus.specs.Translate.{full, answer}
 use Rattle.calculus.specs.Listing.{Text, listing}
 
@@ -317,9 +318,18 @@ unfoldable pub lacks : Answer Both → Lacking
 lacks (good b) = record { memory = refuse 1 0; fullRoom = refuse 17 (length (b .fullBytes)); leanRoom = refuse 17 (length (b .leanBytes)) }
 lacks (refused why) = record { memory = refuse 1 0; fullRoom = refused why; leanRoom = refused why }
 
--- a row, as the definitions answer and as document 01 has it
-abbrev pub answers : Row → Answer Both × Lacking × List Text
-answers r = (run (r .sheet), lacking (r .sheet) (r .result), map (λ _. listing (r .sheet)) (r .texts))
+-- both netlists, as their bytes tell them
+abbrev pub reads : Answer Both → List (Answer Net)
+reads (good b) = readNet (b .fullBytes) ∷ readNet (b .leanBytes) ∷ []
+reads (refused number place) = []
 
-abbrev pub expected : Row → Answer Both × Lacking × List Text
-expected r = (r .result, lacks (r .result), r .texts)
+abbrev pub nets : Answer Both → List (Answer Net)
+nets (good b) = good (b .full) ∷ good (b .lean) ∷ []
+nets (refused number place) = []
+
+-- a row, as the definitions answer and as document 01 has it
+abbrev pub answers : Row → Answer Both × Lacking × List (Answer Net) × List Text
+answers r = (run (r .sheet), lacking (r .sheet) (r .result), reads (r .result), map (λ _. listing (r .sheet)) (r .texts))
+
+abbrev pub expected : Row → Answer Both × Lacking × List (Answer Net) × List Text
+expected r = (r .result, lacks (r .result), nets (r .result), r .texts)

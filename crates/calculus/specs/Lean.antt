@@ -76,7 +76,7 @@ keep m (e ∷ es) = let rest = keep m es in cond (kept m e) (e ∷ rest) rest
 
 -- ---- the wires, by rising target
 
--- to k inputs from i on
+-- to k inputs from i on. One that is no pin has a driver (theorem `driven`), so the 0 is never reached
 abbrev pub toInputs : Net → ℕ → ℕ → List Wire
 toInputs m zero i = []
 toInputs m (suc k) i =

@@ -95,6 +95,7 @@ pub record Made : Type 0 where
   pub side : Interface
   pub next : ℕ
 
+-- the two sides of a product or an arrow; of **1** never asked in a term that the walk accepts
 abbrev pub leftOf : Ty → Ty
 leftOf bit = bit
 leftOf (prod a b) = a

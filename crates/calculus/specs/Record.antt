@@ -29,7 +29,7 @@ Same n β i o = (t : ℕ) → t < n → β i t ≡ β o t
 abbrev pub Law : Type 1
 Law = ℕ → ℕ → List Stream → Stream → Type 0
 
--- input k of a part
+-- input k of a part, which has it, so that the default is never reached
 abbrev pub input : List Stream → ℕ → Stream
 input xs k = getD xs k (λ t. false)
 

@@ -77,7 +77,7 @@ useLinear (linear t false ∷ st) zero n = found t (linear t true ∷ st)
 useLinear (linear t true ∷ st) zero n = refuse 13 n
 useLinear (b ∷ st) (suc i) n = under b (useLinear st i n)
 
--- ---- leaving a binder's scope
+-- ---- leaving a binder's scope: it is there (theorem `walk-keeps`), so the clauses for the empty stack are never reached
 
 abbrev pub pop : Stack → Stack
 pop [] = []

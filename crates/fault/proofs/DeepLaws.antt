@@ -125,8 +125,8 @@ module _ (s : List ℕ) (at : ℕ) where
   double (con p t) y z h = absurd (y refl)
 
   -- the record that stands there is the first one's
-  first-record : {r : Node} (e : Term) → recordAt s at ≡ rec.Node r → Stands s at e → r ≡ nodeOf e at
-  first-record e g h = let f = stands-record s at e h in cc
+  first-record : {r : Node} (e : Term) → recordAt true s at ≡ rec.Node r → Stands s at e → r ≡ nodeOf e at
+  first-record e g h = let f = stands-record true s at e h in cc
 
   same-subterms : {r : Node} (e : Term) → r ≡ nodeOf e at → nodeOf e at .subterms ≡ r .subterms
   same-subterms e q = sym (ap (λ (r : Node). r .subterms) q)
@@ -139,12 +139,12 @@ module _ (s : List ℕ) (at : ℕ) where
     none-left z = record { low = omega arith; right = λ e h d. absurd (omega (arith, deep-some e)) }
 
     -- no node's record stands there, so no term does
-    pub no-term : (r : Record) → OneOf (0 ∷ 2 ∷ []) (tagOf the-type r) → r ≡ recordAt s at → Measured s at more at 0
-    no-term (rec.Type q) h g = record { low = omega arith; right = λ e w d. (let f = stands-record s at e w in let z : _≡_ {A = ℕ} 0 1 = cc in absurd (omega arith)) }
-    no-term (rec.Refused i p) h g = record { low = omega arith; right = λ e w d. (let f = stands-record s at e w in let z : _≡_ {A = ℕ} 0 1 = cc in absurd (omega arith)) }
+    pub no-term : (r : Record) → OneOf (0 ∷ 2 ∷ []) (tagOf the-type r) → r ≡ recordAt true s at → Measured s at more at 0
+    no-term (rec.Type q next) h g = record { low = omega arith; right = λ e w d. (let f = stands-record true s at e w in let z : _≡_ {A = ℕ} 0 1 = cc in absurd (omega arith)) }
+    no-term (rec.Refused i p) h g = record { low = omega arith; right = λ e w d. (let f = stands-record true s at e w in let z : _≡_ {A = ℕ} 0 1 = cc in absurd (omega arith)) }
     no-term (rec.Node q) h g = ⊎-elim (λ (z : 1 ≡ 0). absurd (omega arith)) (λ (z : 1 ≡ 2). absurd (omega arith)) h
 
-    module _ (some : 0 < more) (r : Node) (here : recordAt s at ≡ rec.Node r) where
+    module _ (some : 0 < more) (r : Node) (here : recordAt true s at ≡ rec.Node r) where
       pub measures-leaf : r .subterms ≡ 0 → Measured s at more (r .next) 1
       measures-leaf z = record { low = omega arith; right = λ e h d. of e (first-record e here h) }
         where

@@ -1,9 +1,10 @@
 // What an accepted sheet's report counts.
 use crate::text::put;
 use crate::text::put_count;
+use deltawobble::Answer;
+use deltawobble::Wish;
 use records::Record;
 use sheet::Verdict;
-use translator::Answer;
 ghost use mathlib.Core.Path.{_≡_};
 ghost use Prim.Native.Nat.{_≤_, max};
 ghost use lib.ListN.{length, take};
@@ -33,7 +34,7 @@ fn depth_at(s: &[u8], at: usize, more: usize) -> Deep
     if more == 0 {
         return Deep { next: at, depth: 0 };
     }
-    let Record::Node(r) = records::record_at(s, at) else {
+    let Record::Node(r) = records::record_at(s, at, true) else {
         return Deep { next: at, depth: 0 };
     };
     let next = r.next;
@@ -143,7 +144,7 @@ fn tally(net: &[u8]) -> Counts
 
 // The length of the lean netlist, which is then in the output.
 fn lean(s: &[u8], out: &mut [u8], work: &mut [u16]) -> usize {
-    match translator::translate(s, out, work, true) {
+    match deltawobble::translate(s, out, work, Wish { lean: true }) {
         Answer::Written(n) => n,
         Answer::Refused(_, _) => 0,
     }

@@ -18,10 +18,11 @@ mod refused;
 mod text;
 mod words;
 
-use translator::Answer;
+use deltawobble::Answer;
+use deltawobble::Wish;
 
 fn answer(s: &[u8], out: &mut [u8], work: &mut [u16]) {
-    match translator::translate(s, out, work, false) {
+    match deltawobble::translate(s, out, work, Wish { lean: false }) {
         Answer::Written(length) => {
             accepted::show(s, out, work, length);
         }

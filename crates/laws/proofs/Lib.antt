@@ -3,3 +3,4 @@ pub mod Below
 pub mod Regions
 pub mod Runs
 pub mod Parts
+pub mod OneResult

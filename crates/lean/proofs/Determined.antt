@@ -8,13 +8,11 @@ use native.Mathlib.Omega.{arith}
 use native.Mathlib.Decide.{decLe}
 use lib.ListN.{getD}
 use lib.Seq.{ext-getD}
-use contract.Lifetimes.{Lfts}
-use denote.Triple.Clauses.{AtExit}
-use borrow.Fn.Kind.{PK, RK}
-use borrow.Fn.Kinds.{Out, Dens, resT, endedOf}
+use Rattle.laws.proofs.OneResult.{Result, Results, Left}
 use Rattle.calculus.specs.Net.{Net}
 use Rattle.calculus.specs.Lean.{root}
 use Rattle.calculus.specs.Inputs.{isOut}
+use Rattle.memory.specs.Map.{rootsAt, rootsEnd}
 use Rattle.lean.specs.Table.{entry, Rooted}
 use Rattle.lean.proofs.roots.Kinds as roots
 use Rattle.lean.proofs.roots.Reads as roots-reads
@@ -22,21 +20,6 @@ use Rattle.lean.proofs.lean_length.Kinds as lean-length
 use Rattle.lean.proofs.lean_length.Reads as lean-length-reads
 use Rattle.lean.proofs.write_lean.Kinds as write-lean
 use Rattle.lean.proofs.write_lean.Reads as write-lean-reads
-
-module _ {n : ℕ} (ps : List (PK n)) (r : RK n) (Post : Out n ps r) where
-  -- the result
-  abbrev Result : Type 0
-  Result = (κs : Lfts n) (a : Dens κs ps) (x y : resT r κs .Denot) (s t : AtExit (endedOf n ps r) κs) → Post κs a x s → Post κs a y t → x ≡ y
-
-  -- what a lent slice holds as the function returns
-  abbrev Left : ((κs : Lfts n) → AtExit (endedOf n ps r) κs → List ℕ) → Type 0
-  Left held = (κs : Lfts n) (a : Dens κs ps) (x y : resT r κs .Denot) (s t : AtExit (endedOf n ps r) κs) → Post κs a x s → Post κs a y t → held κs s ≡ held κs t
-
-  -- both
-  abbrev Results : ((κs : Lfts n) → AtExit (endedOf n ps r) κs → List ℕ) → Type 0
-  Results held =
-      (κs : Lfts n) (a : Dens κs ps) (x y : resT r κs .Denot) (s t : AtExit (endedOf n ps r) κs) → Post κs a x s → Post κs a y t
-      → (x ≡ y) × (held κs s ≡ held κs t)
 
 -- below the table, in it, and above it
 one-memory : (w u v : List ℕ) (e k p : ℕ) → Rooted w u e k p → Rooted w v e k p → u ≡ v
@@ -48,11 +31,11 @@ one-memory w u v e k p a b = ext-getD 0 u v (a .within .size ∙ sym (b .within 
 
     at : (i : ℕ) → getD u i 0 ≡ getD v i 0
     at i =
-        elim (decLe 19072 i) [
+        elim (decLe rootsAt i) [
           | no l ↦ a .within .below i (omega arith) ∙ sym (b .within .below i (omega arith))
-          | yes l ↦ elim (decLe 27264 i) [
+          | yes l ↦ elim (decLe rootsEnd i) [
             | yes h ↦ a .within .above i h ∙ sym (b .within .above i h)
-            | no h ↦ let z : 19072 + (i - 19072) ≡ i = omega arith in rw z at (inside (i - 19072) (omega arith))
+            | no h ↦ let z : rootsAt + (i - rootsAt) ≡ i = omega arith in rw z at (inside (i - rootsAt) (omega arith))
           ]
         ]
 

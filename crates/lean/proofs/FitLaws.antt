@@ -7,7 +7,7 @@ use lib.ListN.{length, length-append}
 use lib.Seq.{sets}
 use Rattle.calculus.specs.Net.{netBytes}
 use Rattle.calculus.specs.Lean.{lean}
-use Rattle.memory.specs.Map.{region, netIn}
+use Rattle.memory.specs.Map.{elementsAt, stackAt, region, netIn}
 use Rattle.netlist.proofs.InMemory.{kind-here}
 use Rattle.lean.specs.InMemory.{keptRow, wireRow, pinRow}
 use Rattle.lean.specs.Fitting.{Fits, RowFits, PinsFit}
@@ -16,13 +16,13 @@ use Rattle.lean.proofs.LeanLaws.{lean-bytes, driven, kinds-low, pins-lo
 
 module _ (w : List ℕ) (e k p room : ℕ) (f : Fits w e k p room) where
   abbrev first : List ℕ
-  first = keptRow w (region w 13824 e) 0
+  first = keptRow w (region w elementsAt e) 0
 
   abbrev second : List ℕ
-  second = wireRow w (region w 13824 e) 0
+  second = wireRow w (region w elementsAt e) 0
 
   abbrev third : List ℕ
-  third = pinRow w (region w 18944 p)
+  third = pinRow w (region w stackAt p)
 
   fits : length first + (length second + length third) ≤ room
   fits =

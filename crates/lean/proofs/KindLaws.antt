@@ -1,5 +1,5 @@
 -- Laws of elements that their kinds tell: the terminals that they take. Assumes nothing.
-use Prim.Native.Nat.{ℕ, zero, suc, _+_, _≤_, _<_}
+use Prim.Native.Nat.{ℕ, _+_, _≤_, _<_}
 use mathlib.Core.Path.{_≡_, refl}
 use mathlib.Core.Bool.{Bool, true, false, cond}
 use mathlib.Core.List.{List, [], _∷_}
@@ -13,21 +13,9 @@ use Rattle.laws.proofs.Regions.{drop-past}
 use Rattle.calculus.specs.Terms.{partAt}
 use Rattle.circuit_theorems.specs.Formed.{Tiled}
 use Rattle.memory.specs.Map.{region, elementsFrom}
-use Rattle.netlist.specs.Elements.{after, afterAll}
+use Rattle.netlist.specs.Elements.{outputOf, after, afterAll}
 use Rattle.netlist.proofs.Elements.{kinds-tiled, tiled-end}
 use Rattle.laws.proofs.Regions.{region-length}
-use Rattle.lean.specs.Table.{outputOf}
-
--- no kind from 7 on is a part's
-pub inputs-none : (k : ℕ) → 7 ≤ k → 0 ≡ partAt k .inputs
-inputs-none zero h = refl
-inputs-none (suc zero) h = absurd (omega arith)
-inputs-none (suc (suc zero)) h = absurd (omega arith)
-inputs-none (suc (suc (suc zero))) h = absurd (omega arith)
-inputs-none (suc (suc (suc (suc zero)))) h = absurd (omega arith)
-inputs-none (suc (suc (suc (suc (suc zero))))) h = absurd (omega arith)
-inputs-none (suc (suc (suc (suc (suc (suc zero)))))) h = refl
-inputs-none (suc (suc (suc (suc (suc (suc (suc k))))))) h = refl
 
 -- the next free terminal is one behind the output
 pub after-output : (k n : ℕ) → outputOf k n + 1 ≡ after k n
@@ -58,12 +46,6 @@ pub region-end : (w : List ℕ) (at n i : ℕ) → at + n ≤ length w → n ≤
 region-end w at n i h le = drop-past (region w at n) i (omega (arith, region-length w at n h))
 
 -- ---- a choice by the kind
-
-pub point-kind : {A : Type 0} (k : ℕ) (x y : A) → k ≡ 7 → x ≡ cond (eqb k 7) x y
-point-kind k x y e = rw (eq-eqb k 7 e)
-
-pub part-kind : {A : Type 0} (k : ℕ) (x y : A) → (k ≡ 7 → ⊥) → y ≡ cond (eqb k 7) x y
-part-kind k x y d = rw (ne-eqb k 7 d)
 
 pub output-low : (k n e : ℕ) → after k n ≤ e → outputOf k n < e
 output-low k n e h = omega (arith, after-output k n)

@@ -14,7 +14,7 @@ use Rattle.calculus.specs.Lean.{driver, isPin, root, keep, toInputs, toElement,
 use Rattle.calculus.specs.Record.{All}
 use Rattle.calculus.specs.Inputs.{tally, ins, madeAt, isOut}
 use Rattle.circuit_theorems.specs.Formed.{Shown}
-use Rattle.memory.specs.Map.{region, terminalOf, netIn}
+use Rattle.memory.specs.Map.{elementsAt, stackAt, region, terminalOf, netIn}
 use Rattle.netlist.specs.Said.{wire}
 use Rattle.netlist.specs.Elements.{afterAll}
 use Rattle.laws.proofs.Regions.{region-length, region-at}
@@ -107,20 +107,20 @@ module _ (w : List ℕ) (e k p : ℕ) (q : Whole w e k p) where
   -- ---- the whole
 
   abbrev ks : List ℕ
-  ks = region w 13824 e
+  ks = region w elementsAt e
 
-  pub lean-bytes : netBytes (lean m) ≡ keptRow w ks 0 ++ (wireRow w ks 0 ++ pinRow w (region w 18944 p))
+  pub lean-bytes : netBytes (lean m) ≡ keptRow w ks 0 ++ (wireRow w ks 0 ++ pinRow w (region w stackAt p))
   unfolding netBytes lean keptRow wireRow pinRow netIn
   lean-bytes =
-      rw (← keep-in (m .elements) (λ x t. t), ← wires-in (m .elements) (λ y h. h) (λ y t. t), ← pins-in (region w 18944 p) (q .ready .formed .shown))
+      rw (← keep-in (m .elements) (λ x t. t), ← wires-in (m .elements) (λ y h. h) (λ y t. t), ← pins-in (region w stackAt p) (q .ready .formed .shown))
 
-  pub pins-length : 18944 + p ≤ length w → length (pinRow w (region w 18944 p)) ≡ 3 * p
+  pub pins-length : stackAt + p ≤ length w → length (pinRow w (region w stackAt p)) ≡ 3 * p
   unfolding pinRow
-  pins-length h = records.pins-length (map (λ c. pinIn w (terminalOf c)) (region w 18944 p)) ∙ ap (λ (x : ℕ). 3 * x) (length-map (region w 18944 p) (λ c. pinIn w (terminalOf c)) ∙ region-length w 18944 p h)
+  pins-length h = records.pins-length (map (λ c. pinIn w (terminalOf c)) (region w stackAt p)) ∙ ap (λ (x : ℕ). 3 * x) (length-map (region w stackAt p) (λ c. pinIn w (terminalOf c)) ∙ region-length w stackAt p h)
 
-  pub lean-length : 18944 + p ≤ length w → length (netBytes (lean m)) ≡ 3 * p + rowsSize w ks 0
+  pub lean-length : stackAt + p ≤ length w → length (netBytes (lean m)) ≡ 3 * p + rowsSize w ks 0
   lean-length h =
-      omega (arith, ap length lean-bytes, length-append (keptRow w ks 0) (wireRow w ks 0 ++ pinRow w (region w 18944 p)), length-append (wireRow w ks 0) (pinRow w (region w 18944 p)), pins-length h)
+      omega (arith, ap length lean-bytes, length-append (keptRow w ks 0) (wireRow w ks 0 ++ pinRow w (region w stackAt p)), length-append (wireRow w ks 0) (pinRow w (region w stackAt p)), pins-length h)
 
   -- ---- what the writers ask
 
@@ -135,14 +135,14 @@ module _ (w : List ℕ) (e k p : ℕ) (q : Whole w e k p) where
   low-pin (inp i) s = tt
   low-pin (out o) s = output-below w e k p (q .ready) o s
 
-  pub pins-low : (i : ℕ) → i < p → LowPin (terminalOf (getD w (18944 + i) 0))
+  pub pins-low : (i : ℕ) → i < p → LowPin (terminalOf (getD w (stackAt + i) 0))
   unfolding netIn
   pins-low i h =
       let z = q .ready .size in
       let f = q .ready .few-pins in
-      let l : length (region w 18944 p) ≡ p = region-length w 18944 p (omega arith) in
-      subst (λ (x : ℕ). LowPin (terminalOf x)) (region-at w 18944 p i h)
-      (by (region w 18944 p) i (q .ready .formed .shown) (omega arith))
+      let l : length (region w stackAt p) ≡ p = region-length w stackAt p (omega arith) in
+      subst (λ (x : ℕ). LowPin (terminalOf x)) (region-at w stackAt p i h)
+      (by (region w stackAt p) i (q .ready .formed .shown) (omega arith))
     where
       by : (cs : List ℕ) (j : ℕ) → All (Shown (m .elements)) (map terminalOf cs) → j < length cs → LowPin (terminalOf (getD cs j 0))
       by [] j a l = absurd (omega arith)

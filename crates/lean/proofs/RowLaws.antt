@@ -12,7 +12,7 @@ use borrow.Author.Tests.{ne-eqb, eq-eqb}
 use Rattle.laws.proofs.Regions.{sets-append}
 use Rattle.calculus.specs.Terms.{partAt}
 use Rattle.calculus.specs.Net.{Element, point, part, Wire, elementBytes, wireBytes, pinBytes}
-use Rattle.memory.specs.Map.{region, elementsFrom, terminalOf}
+use Rattle.memory.specs.Map.{elementsAt, stackAt, region, elementsFrom, terminalOf}
 use Rattle.netlist.specs.Elements.{after, afterAll}
 use Rattle.netlist.proofs.Elements.{kinds-append, after-rises}
 use Rattle.netlist.proofs.Records.{elements-append, wires-append}
@@ -214,15 +214,15 @@ wire-rows w = record { none = wire-none w; first = wire-first w }
 
 -- i elements are done, n is the next free terminal
 pub record Row (F : List ℕ → ℕ → List ℕ) (w : List ℕ) (elements : ℕ) (out₀ : List ℕ) (from : ℕ) (o : List ℕ) (at n i : ℕ) : Type 0 where
-  pub low : afterAll (drop i (region w 13824 elements)) n ≤ 8192
-  pub writing : Writing out₀ from (F (region w 13824 elements) 0) o at (F (drop i (region w 13824 elements)) n)
+  pub low : afterAll (drop i (region w elementsAt elements)) n ≤ 8192
+  pub writing : Writing out₀ from (F (region w elementsAt elements) 0) o at (F (drop i (region w elementsAt elements)) n)
 
 module _ {F : List ℕ → ℕ → List ℕ} (rows : Rows F) (out₀ : List ℕ) {w : List ℕ} {elements from : ℕ}
-    (f : RowFits w elements (F (region w 13824 elements) 0) (length out₀) from) where
+    (f : RowFits w elements (F (region w elementsAt elements) 0) (length out₀) from) where
   abbrev ks : List ℕ
-  ks = region w 13824 elements
+  ks = region w elementsAt elements
 
-  pub row-size : 13824 + elements ≤ length w
+  pub row-size : elementsAt + elements ≤ length w
   row-size = let a = f .driven .size in let b = f .few in omega arith
 
   pub row-start : Row F w elements out₀ from out₀ from 0 0
@@ -231,14 +231,14 @@ module _ {F : List ℕ → ℕ → List ℕ} (rows : Rows F) (out₀ : List ℕ)
   module _ {o : List ℕ} {at n i : ℕ} (r : Row F w elements out₀ from o at n i) where
     pub row-end : elements ≤ i → (at ≡ from + length (F ks 0)) × (o ≡ sets out₀ from (F ks 0))
     row-end h =
-        writing-end out₀ from (F ks 0) o at (F (drop i ks) n) (r .writing) (ap (λ (x : List ℕ). F x n) (region-end w 13824 elements i row-size h) ∙ rows .none n)
+        writing-end out₀ from (F ks 0) o at (F (drop i ks) n) (r .writing) (ap (λ (x : List ℕ). F x n) (region-end w elementsAt elements i row-size h) ∙ rows .none n)
 
     module _ (lt : i < elements) where
       abbrev k : ℕ
-      k = getD w (13824 + i) 0
+      k = getD w (elementsAt + i) 0
 
       next : drop i ks ≡ k ∷ drop (i + 1) ks
-      next = region-next w 13824 elements i row-size lt
+      next = region-next w elementsAt elements i row-size lt
 
       low-next : afterAll (drop (i + 1) ks) (after k n) ≤ 8192
       low-next = subst (λ (xs : List ℕ). afterAll xs n ≤ 8192) next (r .low)
@@ -265,13 +265,13 @@ module _ {F : List ℕ → ℕ → List ℕ} (rows : Rows F) (out₀ : List ℕ)
 
 -- ---- the row of pins
 
-module _ (w : List ℕ) (pins i : ℕ) (size : 18944 + pins ≤ length w) where
+module _ (w : List ℕ) (pins i : ℕ) (size : stackAt + pins ≤ length w) where
   pub pins-first : i < pins
-      → pinRow w (drop i (region w 18944 pins)) ≡ pinBytes (pinIn w (terminalOf (getD w (18944 + i) 0)) ∷ []) ++ pinRow w (drop (i + 1) (region w 18944 pins))
+      → pinRow w (drop i (region w stackAt pins)) ≡ pinBytes (pinIn w (terminalOf (getD w (stackAt + i) 0)) ∷ []) ++ pinRow w (drop (i + 1) (region w stackAt pins))
   pins-first lt =
-      ap (pinRow w) (region-next w 18944 pins i size lt)
-      ∙ pin-first w (getD w (18944 + i) 0) (drop (i + 1) (region w 18944 pins))
-      ∙ ap (λ (x : List ℕ). x ++ pinRow w (drop (i + 1) (region w 18944 pins))) (pin-one w (getD w (18944 + i) 0))
+      ap (pinRow w) (region-next w stackAt pins i size lt)
+      ∙ pin-first w (getD w (stackAt + i) 0) (drop (i + 1) (region w stackAt pins))
+      ∙ ap (λ (x : List ℕ). x ++ pinRow w (drop (i + 1) (region w stackAt pins))) (pin-one w (getD w (stackAt + i) 0))
 
-  pub pins-end : pins ≤ i → pinRow w (drop i (region w 18944 pins)) ≡ []
-  pins-end h = ap (pinRow w) (region-end w 18944 pins i size h) ∙ pin-none w
+  pub pins-end : pins ≤ i → pinRow w (drop i (region w stackAt pins)) ≡ []
+  pins-end h = ap (pinRow w) (region-end w stackAt pins i size h) ∙ pin-none w

@@ -13,7 +13,7 @@ use Rattle.calculus.specs.Lean.{root}
 use Rattle.calculus.specs.Inputs.{isOut}
 use Rattle.circuit_theorems.proofs.RootLaws.{root-reached, root-back}
 use Rattle.circuit_theorems.proofs.BackLaws.{back-out, backs-out}
-use Rattle.memory.specs.Map.{netIn, Ready}
+use Rattle.memory.specs.Map.{rootsAt, netIn, Ready}
 use Rattle.lean.specs.Table.{entry, Within, Partly, Met, Settled, Rooted}
 use Rattle.lean.proofs.TableLaws.{within-none, within-then, within-set, entry-same, entry-other}
 use Rattle.memory.proofs.NetStays.{net-same}
@@ -47,23 +47,23 @@ module _ (w : List ℕ) (e k p : ℕ) (q : Partly w e k p) where
       by false f = let g = q .other x l f in absurd (omega arith)
 
   module _ (o : ℕ) (t : T (isOut (m .elements) o)) where
-    set-says : (x : ℕ) → T (isOut (m .elements) x) → Says w e k p (q .ready) x (entry (set w (19072 + o) (root m o)) x)
+    set-says : (x : ℕ) → T (isOut (m .elements) x) → Says w e k p (q .ready) x (entry (set w (rootsAt + o) (root m o)) x)
     set-says x h =
         elim (ℕ-discrete x o) [
-          | yes z ↦ subst (λ (y : ℕ). Says w e k p (q .ready) y (entry (set w (19072 + o) (root m o)) y)) (sym z)
+          | yes z ↦ subst (λ (y : ℕ). Says w e k p (q .ready) y (entry (set w (rootsAt + o) (root m o)) y)) (sym z)
               (subst (λ (y : ℕ). Says w e k p (q .ready) o y) (sym (entry-same w o (root m o) (q .ready .size) (output-below w e k p (q .ready) o t)))
               ((λ d. refl), λ f. absurd (let l = root-below o t in omega arith)))
           | no d ↦ subst (λ (y : ℕ). Says w e k p (q .ready) x y) (sym (entry-other w o x (root m o) d)) (says-of x h)
         ]
 
-    set-other : (x : ℕ) → x < 8192 → isOut (m .elements) x ≡ false → entry (set w (19072 + o) (root m o)) x ≡ 0
+    set-other : (x : ℕ) → x < 8192 → isOut (m .elements) x ≡ false → entry (set w (rootsAt + o) (root m o)) x ≡ 0
     set-other x l h =
         entry-other w o x (root m o) (λ z. false-not-T (isOut (m .elements) x) h (subst (λ (y : ℕ). T (isOut (m .elements) y)) (sym z) t))
         ∙ q .other x l h
 
     -- its root is entered
-    pub partly-set : Partly (set w (19072 + o) (root m o)) e k p
-    partly-set = partly-of w e k p (q .ready) (set w (19072 + o) (root m o)) (within-set w o (root m o) (output-below w e k p (q .ready) o t)) set-other set-says
+    pub partly-set : Partly (set w (rootsAt + o) (root m o)) e k p
+    partly-set = partly-of w e k p (q .ready) (set w (rootsAt + o) (root m o)) (within-set w o (root m o) (output-below w e k p (q .ready) o t)) set-other set-says
 
 -- what is met on the way back from o has the same root
 pub met-root : (w : List ℕ) (e k p o x r : ℕ) → Met w e k p o x → r ≡ root (netIn w e k p) x → r ≡ root (netIn w e k p) o
@@ -108,7 +108,7 @@ module _ (w₀ w : List ℕ) (e k p o r x left : ℕ) (s : Settling w₀ w e k p
   x-below = output-below w e k p (s .partly .ready) x (s .output)
 
   abbrev w₁ : List ℕ
-  w₁ = set w (19072 + x) r
+  w₁ = set w (rootsAt + x) r
 
   r-below : r < 8192
   r-below = rw (s .same) (root-below w e k p (s .partly) x (s .output))
@@ -134,7 +134,7 @@ module _ (w₀ w : List ℕ) (e k p o r x left : ℕ) (s : Settling w₀ w e k p
       let net = net-same w e k p (s .partly .ready) w₁ (h .size) (h .below) in
       record {
         within = within-then (s .within) h;
-        partly = subst (λ (y : ℕ). Partly (set w (19072 + x) y) e k p) (sym (s .same)) (partly-set w e k p (s .partly) x (s .output));
+        partly = subst (λ (y : ℕ). Partly (set w (rootsAt + x) y) e k p) (sym (s .same)) (partly-set w e k p (s .partly) x (s .output));
         output = rw net (back-below w e k p (s .partly) x (s .output) z);
         same = rw net (s .same ∙ sym (root-back m₁ x) ∙ ap (root m₁) (s .partly .loose x (s .output) z .1));
         still = λ y d. set-still y (s .still y d);

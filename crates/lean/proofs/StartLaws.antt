@@ -15,9 +15,9 @@ use Rattle.calculus.specs.Inputs.{isOut}
 use Rattle.circuit_theorems.proofs.Terminals.{pointIn, point-made, out-high}
 use Rattle.circuit_theorems.proofs.RootLaws.{root-stays}
 use Rattle.circuit_theorems.proofs.BackLaws.{PartStays, back-parts}
-use Rattle.memory.specs.Map.{region, elementsFrom, netIn, Ready}
-use Rattle.netlist.specs.Elements.{after, afterAll}
-use Rattle.lean.specs.Table.{outputOf, entry, Within, Blank, firstOf, started, Partly}
+use Rattle.memory.specs.Map.{elementsAt, rootsAt, memorySize, region, elementsFrom, netIn, Ready}
+use Rattle.netlist.specs.Elements.{outputOf, after, afterAll}
+use Rattle.lean.specs.Table.{entry, Within, Blank, firstOf, started, Partly}
 use Rattle.netlist.proofs.Elements.{after-rises}
 use Rattle.lean.proofs.KindLaws.{output-low, after-output, output-from, tiled-after}
 use Rattle.lean.proofs.TableLaws.{within-none, within-then, within-set, entry-same, entry-other}
@@ -30,7 +30,7 @@ pub started-within : (ks : List ℕ) (n : ℕ) (w : List ℕ) → afterAll ks n 
 started-within [] n w h = within-none w
 started-within (k ∷ ks) n w h =
     let l : after k n ≤ 8192 = omega (arith, after-rises ks (after k n)) in
-    within-then (within-set w (outputOf k n) (firstOf w k n) (output-low k n 8192 l)) (started-within ks (after k n) (set w (19072 + outputOf k n) (firstOf w k n)) h)
+    within-then (within-set w (outputOf k n) (firstOf w k n) (output-low k n 8192 l)) (started-within ks (after k n) (set w (rootsAt + outputOf k n) (firstOf w k n)) h)
 
 -- an entry before the elements
 started-before : (ks : List ℕ) (n : ℕ) (w : List ℕ) (x : ℕ) → x < n → entry (started w ks n) x ≡ entry w x
@@ -38,7 +38,7 @@ started-before [] n w x h = refl
 started-before (k ∷ ks) n w x h =
     let a = output-from k n in
     let b = after-output k n in
-    started-before ks (after k n) (set w (19072 + outputOf k n) (firstOf w k n)) x (omega arith) ∙ entry-other w (outputOf k n) x (firstOf w k n) (λ e. absurd (omega arith))
+    started-before ks (after k n) (set w (rootsAt + outputOf k n) (firstOf w k n)) x (omega arith) ∙ entry-other w (outputOf k n) x (firstOf w k n) (λ e. absurd (omega arith))
 
 -- an entry that is no output's
 started-other : (ks : List ℕ) (n : ℕ) (w : List ℕ) (x : ℕ) → isOut (elementsFrom ks n) x ≡ false → entry (started w ks n) x ≡ entry w x
@@ -50,7 +50,7 @@ started-other (k ∷ ks) n w x h = by (eqb k 7) h (λ v n. started-other ks n v 
 
     by : (b : Bool) → isOut (cond b (point n ∷ elementsFrom ks (n + 2)) (part k n ∷ elementsFrom ks (n + partAt k .inputs + 1))) x ≡ false
         → ((v : List ℕ) (n : ℕ) → isOut (elementsFrom ks n) x ≡ false → entry (started v ks n) x ≡ entry v x)
-        → entry (started (set w (19072 + cond b (n + 1) (n + partAt k .inputs)) (cond b (cond (eqb (getD w n 0) 65535) (n + 1) 65535) (n + partAt k .inputs))) ks (cond b (n + 2) (n + partAt k .inputs + 1))) x
+        → entry (started (set w (rootsAt + cond b (n + 1) (n + partAt k .inputs)) (cond b (cond (eqb (getD w n 0) 65535) (n + 1) 65535) (n + partAt k .inputs))) ks (cond b (n + 2) (n + partAt k .inputs + 1))) x
         ≡ entry w x
     by true g f = let a = apart (n + 1) (isOut (elementsFrom ks (n + 2)) x) g in f _ (n + 2) (a .1) ∙ entry-other w (n + 1) x _ (a .0)
     by false g f = let a = apart (n + partAt k .inputs) (isOut (elementsFrom ks (n + partAt k .inputs + 1)) x) g in f _ (n + partAt k .inputs + 1) (a .1) ∙ entry-other w (n + partAt k .inputs) x _ (a .0)
@@ -98,18 +98,18 @@ module _ (u : List ℕ) (e k p : ℕ) (r : Ready u e k p) where
 
   -- the entries of the elements that are still to come, in a memory v that has u's drivers
   abbrev Rest : List ℕ → ℕ → List ℕ → Type 0
-  Rest ks n v = afterAll ks n ≤ 8192 → 32768 ≤ length v → ((j : ℕ) → j < 8192 → getD v j 0 ≡ getD u j 0) → All (PartStays m) (elementsFrom ks n)
+  Rest ks n v = afterAll ks n ≤ 8192 → memorySize ≤ length v → ((j : ℕ) → j < 8192 → getD v j 0 ≡ getD u j 0) → All (PartStays m) (elementsFrom ks n)
       → ((x : ℕ) → T (pointIn (elementsFrom ks n) x) → T (pointIn (m .elements) x)) → (o : ℕ) → T (isOut (elementsFrom ks n) o) → Says o (entry (started v ks n) o)
 
   -- one element's output, and the rest
-  one-says : (ks : List ℕ) (n o a : ℕ) (v : List ℕ) (x : ℕ) → o < n → afterAll ks n ≤ 8192 → 32768 ≤ length v → ((j : ℕ) → j < 8192 → getD v j 0 ≡ getD u j 0)
+  one-says : (ks : List ℕ) (n o a : ℕ) (v : List ℕ) (x : ℕ) → o < n → afterAll ks n ≤ 8192 → memorySize ≤ length v → ((j : ℕ) → j < 8192 → getD v j 0 ≡ getD u j 0)
       → All (PartStays m) (elementsFrom ks n) → ((x : ℕ) → T (pointIn (elementsFrom ks n) x) → T (pointIn (m .elements) x))
-      → T (eqb o x || isOut (elementsFrom ks n) x) → Says o a → Rest ks n (set v (19072 + o) a) → Says x (entry (started (set v (19072 + o) a) ks n) x)
+      → T (eqb o x || isOut (elementsFrom ks n) x) → Says o a → Rest ks n (set v (rootsAt + o) a) → Says x (entry (started (set v (rootsAt + o) a) ks n) x)
   one-says ks n o a v x lt h l same stays f t says rest =
       let low : o < 8192 = omega (arith, after-rises ks n) in
       or-elim (eqb o x) (isOut (elementsFrom ks n) x) t
-      (λ z. subst (λ (y : ℕ). Says y (entry (started (set v (19072 + o) a) ks n) y)) (eqb→eq o x z)
-      (subst (λ (y : ℕ). Says o y) (sym (started-before ks n (set v (19072 + o) a) o lt ∙ entry-same v o a l low)) says))
+      (λ z. subst (λ (y : ℕ). Says y (entry (started (set v (rootsAt + o) a) ks n) y)) (eqb→eq o x z)
+      (subst (λ (y : ℕ). Says o y) (sym (started-before ks n (set v (rootsAt + o) a) o lt ∙ entry-same v o a l low)) says))
       (λ z. rest h (simp length-set l) (λ j b. within-set v o a low .below j (omega arith) ∙ same j b) stays f x z)
 
   started-says : (ks : List ℕ) (n : ℕ) (v : List ℕ) → Rest ks n v
@@ -121,16 +121,16 @@ module _ (u : List ℕ) (e k p : ℕ) (r : Ready u e k p) where
           → ((x : ℕ) → T (pointIn (cond b (point n ∷ elementsFrom ks (n + 2)) (part k n ∷ elementsFrom ks (n + partAt k .inputs + 1))) x) → T (pointIn (m .elements) x))
           → T (isOut (cond b (point n ∷ elementsFrom ks (n + 2)) (part k n ∷ elementsFrom ks (n + partAt k .inputs + 1))) o)
           → ((n : ℕ) (v : List ℕ) → Rest ks n v)
-          → Says o (entry (started (set v (19072 + cond b (n + 1) (n + partAt k .inputs)) (cond b (cond (eqb (getD v n 0) 65535) (n + 1) 65535) (n + partAt k .inputs))) ks (cond b (n + 2) (n + partAt k .inputs + 1))) o)
+          → Says o (entry (started (set v (rootsAt + cond b (n + 1) (n + partAt k .inputs)) (cond b (cond (eqb (getD v n 0) 65535) (n + 1) 65535) (n + partAt k .inputs))) ks (cond b (n + 2) (n + partAt k .inputs + 1))) o)
       by true h stays f t rest =
           let a : ℕ = cond (eqb (getD v n 0) 65535) (n + 1) 65535 in
           let low : n < 8192 = omega (arith, after-rises ks (n + 2)) in
           one-says ks (n + 2) (n + 1) a v o (omega arith) h l same (stays .1) (λ x z. f x (or-right (eqb n x) _ z)) t
           (subst (λ (y : ℕ). Says (n + 1) (cond (eqb y 65535) (n + 1) 65535)) (sym (same n low)) (point-says n (f n (or-left (eqb n n) _ (eqb-refl n)))))
-          (rest (n + 2) (set v (19072 + (n + 1)) a))
+          (rest (n + 2) (set v (rootsAt + (n + 1)) a))
       by false h stays f t rest =
           let o₁ : ℕ = n + partAt k .inputs in
-          one-says ks (o₁ + 1) o₁ o₁ v o (omega arith) h l same (stays .1) f t (part-says o₁ (omega (arith, after-rises ks (o₁ + 1))) (stays .0)) (rest (o₁ + 1) (set v (19072 + o₁) o₁))
+          one-says ks (o₁ + 1) o₁ o₁ v o (omega arith) h l same (stays .1) f t (part-says o₁ (omega (arith, after-rises ks (o₁ + 1))) (stays .0)) (rest (o₁ + 1) (set v (rootsAt + o₁) o₁))
 
 -- ---- the whole
 
@@ -146,7 +146,7 @@ module _ (w v : List ℕ) (e k p : ℕ) (r : Ready w e k p) (b : Blank w v) wher
   rv = ready-same w e k p r v (b .within .size) (b .within .below)
 
   abbrev ks : List ℕ
-  ks = region v 13824 e
+  ks = region v elementsAt e
 
   pub kinds-low : afterAll ks 0 ≤ 8192
   unfolding netIn

@@ -8,7 +8,7 @@ use native.Mathlib.Decide.{ℕ-discrete}
 use lib.ListN.{length, getD, drop, length-append}
 use Rattle.calculus.specs.Terms.{partAt}
 use Rattle.calculus.specs.Net.{point}
-use Rattle.memory.specs.Map.{region}
+use Rattle.memory.specs.Map.{elementsAt, region}
 use Rattle.netlist.specs.Elements.{after, afterAll}
 use Rattle.netlist.proofs.PartInputs.{inputs-few}
 use Rattle.netlist.proofs.Elements.{after-rises}
@@ -42,25 +42,25 @@ module _ (w : List ℕ) where
 
 -- i elements are done, n is the next free terminal
 pub record Summing (w : List ℕ) (elements all sum n i : ℕ) : Type 0 where
-  pub low : afterAll (drop i (region w 13824 elements)) n ≤ 8192
-  pub adds : sum + rowsSize w (drop i (region w 13824 elements)) n ≡ all
+  pub low : afterAll (drop i (region w elementsAt elements)) n ≤ 8192
+  pub adds : sum + rowsSize w (drop i (region w elementsAt elements)) n ≡ all
 
-module _ {w : List ℕ} {elements all sum n i : ℕ} (size : 13824 + elements ≤ length w) (s : Summing w elements all sum n i) where
+module _ {w : List ℕ} {elements all sum n i : ℕ} (size : elementsAt + elements ≤ length w) (s : Summing w elements all sum n i) where
   pub summing-end : elements ≤ i → sum ≡ all
   summing-end h =
       let z = s .adds in
-      let e = ap (λ (x : List ℕ). rowsSize w x n) (region-end w 13824 elements i size h) in
+      let e = ap (λ (x : List ℕ). rowsSize w x n) (region-end w elementsAt elements i size h) in
       omega (arith, e, ap length (kept-none w n), ap length (wire-none w n))
 
   module _ (lt : i < elements) where
     abbrev k : ℕ
-    k = getD w (13824 + i) 0
+    k = getD w (elementsAt + i) 0
 
     abbrev rest : List ℕ
-    rest = drop (i + 1) (region w 13824 elements)
+    rest = drop (i + 1) (region w elementsAt elements)
 
-    next : drop i (region w 13824 elements) ≡ k ∷ rest
-    next = region-next w 13824 elements i size lt
+    next : drop i (region w elementsAt elements) ≡ k ∷ rest
+    next = region-next w elementsAt elements i size lt
 
     low-next : afterAll rest (after k n) ≤ 8192
     low-next = subst (λ (xs : List ℕ). afterAll xs n ≤ 8192) next (s .low)

@@ -6,7 +6,7 @@ use lib.ListN.{length, getD}
 use Rattle.calculus.specs.Net.{Terminal, inp, out, netBytes}
 use Rattle.calculus.specs.Lean.{lean}
 use Rattle.calculus.specs.Record.{All}
-use Rattle.memory.specs.Map.{region, netIn, terminalOf}
+use Rattle.memory.specs.Map.{elementsAt, stackAt, memorySize, region, netIn, terminalOf}
 use Rattle.calculus.specs.NetRead.{Known}
 use Rattle.netlist.specs.Elements.{after, afterAll}
 use Rattle.lean.specs.Table.{Whole}
@@ -19,7 +19,7 @@ pub record Fits (w : List ℕ) (elements wires pins room : ℕ) : Type 0 where
 
 -- a driver is below 8,192
 pub record Driven (w : List ℕ) : Type 0 where
-  pub size : 32768 ≤ length w
+  pub size : memorySize ≤ length w
   pub low : (i : ℕ) → i < 8192 → (getD w i 0 ≡ 65535 → ⊥) → getD w i 0 < 8192
 
 -- an element of kind k that starts at n, and room for its records
@@ -33,8 +33,8 @@ pub record ElementFits (w : List ℕ) (k n : ℕ) (bytes : List ℕ) (room at : 
 pub record RowFits (w : List ℕ) (elements : ℕ) (bytes : List ℕ) (room from : ℕ) : Type 0 where
   pub driven : Driven w
   pub few : elements ≤ 5120
-  pub known : (i : ℕ) → i < elements → getD w (13824 + i) 0 < 8
-  pub low : afterAll (region w 13824 elements) 0 ≤ 8192
+  pub known : (i : ℕ) → i < elements → getD w (elementsAt + i) 0 < 8
+  pub low : afterAll (region w elementsAt elements) 0 ≤ 8192
   pub target : from + length bytes ≤ room
 
 -- an output that a pin shows is below 8,192
@@ -43,9 +43,9 @@ LowPin (inp i) = Unit {0}
 LowPin (out o) = o < 8192
 
 pub record PinsFit (w : List ℕ) (pins : ℕ) (bytes : List ℕ) (room from : ℕ) : Type 0 where
-  pub size : 32768 ≤ length w
+  pub size : memorySize ≤ length w
   pub few : pins ≤ 128
-  pub low : (i : ℕ) → i < pins → LowPin (terminalOf (getD w (18944 + i) 0))
+  pub low : (i : ℕ) → i < pins → LowPin (terminalOf (getD w (stackAt + i) 0))
   pub target : from + length bytes ≤ room
 
 -- an input, and room for its wire

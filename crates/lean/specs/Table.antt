@@ -9,26 +9,22 @@ use Rattle.calculus.specs.Terms.{partAt}
 use Rattle.calculus.specs.Net.{Net}
 use Rattle.calculus.specs.Lean.{back, backs, root}
 use Rattle.calculus.specs.Inputs.{isOut}
-use Rattle.memory.specs.Map.{netIn, Ready}
-use Rattle.netlist.specs.Elements.{after}
+use Rattle.memory.specs.Map.{rootsAt, rootsEnd, netIn, Ready}
+use Rattle.netlist.specs.Elements.{outputOf, after}
 
 -- the entry of terminal x
 abbrev pub entry : List ℕ → ℕ → ℕ
-entry w x = getD w (19072 + x) 0
+entry w x = getD w (rootsAt + x) 0
 
 -- nothing changes outside the table
 pub record Within (w w′ : List ℕ) : Type 0 where
   pub size : length w′ ≡ length w
-  pub below : (j : ℕ) → j < 19072 → getD w′ j 0 ≡ getD w j 0
-  pub above : (j : ℕ) → 27264 ≤ j → getD w′ j 0 ≡ getD w j 0
+  pub below : (j : ℕ) → j < rootsAt → getD w′ j 0 ≡ getD w j 0
+  pub above : (j : ℕ) → rootsEnd ≤ j → getD w′ j 0 ≡ getD w j 0
 
 pub record Blank (w w′ : List ℕ) : Type 0 where
   pub within : Within w w′
   pub none : (x : ℕ) → x < 8192 → entry w′ x ≡ 0
-
--- the output of an element of kind k that starts at n
-abbrev pub outputOf : ℕ → ℕ → ℕ
-outputOf k n = cond (eqb k 7) (n + 1) (n + partAt k .inputs)
 
 -- ---- how it starts: an output that stays is its own root; that of a point whose input has a driver is not settled, 65,535
 
@@ -37,7 +33,7 @@ firstOf w k n = cond (eqb k 7) (cond (eqb (getD w n 0) 65535) (n + 1) 65535) (n 
 
 abbrev pub started : List ℕ → List ℕ → ℕ → List ℕ
 started w [] n = w
-started w (k ∷ ks) n = started (set w (19072 + outputOf k n) (firstOf w k n)) ks (after k n)
+started w (k ∷ ks) n = started (set w (rootsAt + outputOf k n) (firstOf w k n)) ks (after k n)
 
 -- ---- until it is whole: each entry is right or not settled
 

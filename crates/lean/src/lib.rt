@@ -20,10 +20,10 @@ pub fn roots(work: &mut [u16], elements: usize, wires: usize, pins: usize)
 {
     table::blank(work);
     let end = table::start(work, elements);
-    let mut o: usize = 0;
-    while o < end {
-        table::root_one(work, elements, wires, pins, o);
-        o = o + 1;
+    let mut n: u16 = 0;
+    while n < end {
+        table::root_one(work, elements, wires, pins, n);
+        n = n + 1;
     }
 }
 
@@ -44,12 +44,12 @@ pub fn lean_length(work: &[u16], elements: usize, wires: usize, pins: usize) -> 
     ensures { λ r. ⌜ r ≡ length (netBytes (lean (netIn (now (work .entry)) elements wires pins))) ⌝ }
 {
     let mut sum = 3 * pins;
-    let mut n: usize = 0;
+    let mut n: u16 = 0;
     let mut i: usize = 0;
     while i < elements {
         let kind = work[ELEMENTS + i];
         sum = sum + sizes::element_size(work, kind, n);
-        n = table::next_after(kind, n);
+        n = netlist::next_after(kind, n);
         i = i + 1;
     }
     sum

@@ -4,50 +4,21 @@ use memory::NONE;
 use memory::POINT;
 use memory::ROOTS;
 use memory::TERMINALS;
+use netlist::In;
+use netlist::Out;
 ghost use mathlib.Core.Path.{_≡_};
 ghost use Prim.Native.Nat.{_+_, _-_, _≤_, _<_};
 ghost use lib.ListN.{length, getD, set};
-ghost use Rattle.calculus.specs.Terms.{partAt};
 ghost use Rattle.calculus.specs.Lean.{root};
 ghost use Rattle.calculus.specs.Net.{point};
-ghost use Rattle.memory.specs.Map.{region, netIn};
-ghost use Rattle.netlist.specs.Elements.{after, afterAll};
-ghost use Rattle.lean.specs.Table.{outputOf, entry, Blank, firstOf, started, Partly, Output, Comes, Met, Settled};
+ghost use Rattle.memory.specs.Map.{elementsAt, rootsAt, memorySize, region, netIn};
+ghost use Rattle.netlist.specs.Elements.{outputOf, after, afterAll};
+ghost use Rattle.lean.specs.Table.{entry, Blank, firstOf, started, Partly, Output, Comes, Met, Settled};
 ghost use Rattle.lean.specs.InMemory.{keptIn};
-
-// The number of inputs of an element of this kind that is a part.
-pub fn inputs_of(kind: u16) -> usize
-    ensures { λ r. ⌜ r ≡ partAt kind .inputs ⌝ }
-{
-    if kind < POINT {
-        return netlist::inputs_of(kind as u8) as usize;
-    }
-    0
-}
-
-// The output of the element of this kind whose first terminal is `at`.
-fn output_of(kind: u16, at: usize) -> usize
-    requires { ⌜ after kind at ≤ 8192 ⌝ }
-    ensures { λ r. ⌜ (r ≡ outputOf kind at) × (r < 8192) ⌝ }
-{
-    if kind == POINT {
-        at + 1
-    } else {
-        at + inputs_of(kind)
-    }
-}
-
-// The next free terminal behind it.
-pub fn next_after(kind: u16, at: usize) -> usize
-    requires { ⌜ after kind at ≤ 8192 ⌝ }
-    ensures { λ r. ⌜ r ≡ after kind at ⌝ }
-{
-    output_of(kind, at) + 1
-}
 
 // Every entry of the table is 0.
 pub fn blank(work: &mut [u16])
-    requires { ⌜ 32768 ≤ length (now work) ⌝ }
+    requires { ⌜ memorySize ≤ length (now work) ⌝ }
     ensures { λ _. ⌜ Blank (now (work .entry)) (now (work .exit)) ⌝ }
 {
     let mut i: usize = 0;
@@ -58,58 +29,59 @@ pub fn blank(work: &mut [u16])
 }
 
 // An output that stays is its own root; any other is not settled yet.
-fn first_of(work: &[u16], kind: u16, at: usize) -> u16
-    requires { ⌜ (32768 ≤ length (now work)) × (after kind at ≤ 8192) ⌝ }
-    ensures { λ r. ⌜ r ≡ firstOf (now (work .entry)) kind at ⌝ }
+fn first_of(work: &[u16], kind: u16, n: u16) -> u16
+    requires { ⌜ (memorySize ≤ length (now work)) × (after kind n ≤ 8192) ⌝ }
+    ensures { λ r. ⌜ r ≡ firstOf (now (work .entry)) kind n ⌝ }
 {
-    let o = output_of(kind, at);
+    let o = netlist::output_of(kind, n);
     if kind == POINT {
-        if work[at] != NONE {
+        if work[n as usize] != NONE {
             return NONE;
         }
     }
-    o as u16
+    o.0
 }
 
-fn start_one(work: &mut [u16], kind: u16, at: usize) -> usize
-    requires { ⌜ (32768 ≤ length (now work)) × (after kind at ≤ 8192) ⌝ }
-    ensures { λ r. ⌜ (r ≡ after kind at)
-        × (now (work .exit) ≡ set (now (work .entry)) (19072 + outputOf kind at) (firstOf (now (work .entry)) kind at)) ⌝ }
+// The entry of the element of this kind that starts at terminal n; the next free terminal.
+fn start_one(work: &mut [u16], kind: u16, n: u16) -> u16
+    requires { ⌜ (memorySize ≤ length (now work)) × (after kind n ≤ 8192) ⌝ }
+    ensures { λ r. ⌜ (r ≡ after kind n)
+        × (now (work .exit) ≡ set (now (work .entry)) (rootsAt + outputOf kind n) (firstOf (now (work .entry)) kind n)) ⌝ }
 {
-    let first = first_of(work, kind, at);
-    let o = output_of(kind, at);
-    work[ROOTS + o] = first;
-    o + 1
+    let first = first_of(work, kind, n);
+    let o = netlist::output_of(kind, n);
+    work[ROOTS + o.0 as usize] = first;
+    netlist::next_after(kind, n)
 }
 
 // The table as it starts; the first terminal that no element takes.
-pub fn start(work: &mut [u16], elements: usize) -> usize
-    requires { ⌜ (32768 ≤ length (now work)) × ((elements ≤ 5120) × (afterAll (region (now work) 13824 elements) 0 ≤ 8192)) ⌝ }
-    ensures { λ r. ⌜ (r ≡ afterAll (region (now (work .entry)) 13824 elements) 0)
-        × (now (work .exit) ≡ started (now (work .entry)) (region (now (work .entry)) 13824 elements) 0) ⌝ }
+pub fn start(work: &mut [u16], elements: usize) -> u16
+    requires { ⌜ (memorySize ≤ length (now work)) × ((elements ≤ 5120) × (afterAll (region (now work) elementsAt elements) 0 ≤ 8192)) ⌝ }
+    ensures { λ r. ⌜ (r ≡ afterAll (region (now (work .entry)) elementsAt elements) 0)
+        × (now (work .exit) ≡ started (now (work .entry)) (region (now (work .entry)) elementsAt elements) 0) ⌝ }
 {
-    let mut at: usize = 0;
+    let mut n: u16 = 0;
     let mut i: usize = 0;
     while i < elements {
         let kind = work[ELEMENTS + i];
-        at = start_one(work, kind, at);
+        n = start_one(work, kind, n);
         i = i + 1;
     }
-    at
+    n
 }
 
 // One step back from output x, which is not settled.
-fn back_of(work: &[u16], elements: usize, wires: usize, pins: usize, x: usize) -> usize
-    requires { ⌜ Partly (now work) elements wires pins × (Output (now work) elements wires pins x × (entry (now work) x ≡ 65535)) ⌝ }
-    ensures { λ r. ⌜ r ≡ getD (now (work .entry)) (x - 1) 0 ⌝ }
+fn back_of(work: &[u16], elements: usize, wires: usize, pins: usize, x: Out) -> Out
+    requires { ⌜ Partly (now work) elements wires pins × (Output (now work) elements wires pins (x .0) × (entry (now work) (x .0) ≡ 65535)) ⌝ }
+    ensures { λ r. ⌜ r .0 ≡ getD (now (work .entry)) (x .0 - 1) 0 ⌝ }
 {
-    work[x - 1] as usize
+    Out(work[x.0 as usize - 1])
 }
 
 // Steps back from output o, to one that is settled or comes round: Brent's way, with a mark that moves up after 1, 2, 4, 8, .. steps.
-fn meet(work: &[u16], elements: usize, wires: usize, pins: usize, o: usize) -> usize
-    requires { ⌜ Partly (now work) elements wires pins × Output (now work) elements wires pins o ⌝ }
-    ensures { λ r. ⌜ Met (now (work .entry)) elements wires pins o r ⌝ }
+fn meet(work: &[u16], elements: usize, wires: usize, pins: usize, o: Out) -> Out
+    requires { ⌜ Partly (now work) elements wires pins × Output (now work) elements wires pins (o .0) ⌝ }
+    ensures { λ r. ⌜ Met (now (work .entry)) elements wires pins (o .0) (r .0) ⌝ }
 {
     let mut x = o;
     let mut mark = o;
@@ -117,13 +89,13 @@ fn meet(work: &[u16], elements: usize, wires: usize, pins: usize, o: usize) -> u
     let mut span: usize = 1;
     let mut left = TERMINALS;
     while left > 0 {
-        if work[ROOTS + x] != NONE {
+        if work[ROOTS + x.0 as usize] != NONE {
             return x;
         }
         x = back_of(work, elements, wires, pins, x);
         steps = steps + 1;
         left = left - 1;
-        if x == mark {
+        if x.0 == mark.0 {
             return x;
         }
         if steps == span {
@@ -136,67 +108,68 @@ fn meet(work: &[u16], elements: usize, wires: usize, pins: usize, o: usize) -> u
 }
 
 // The root of output o, which is settled or comes round: the lowest, once round.
-fn round(work: &[u16], elements: usize, wires: usize, pins: usize, o: usize) -> u16
-    requires { ⌜ Partly (now work) elements wires pins × (Output (now work) elements wires pins o
-        × (entry (now work) o ≡ 65535 → Comes (netIn (now work) elements wires pins) o)) ⌝ }
-    ensures { λ r. ⌜ r ≡ root (netIn (now (work .entry)) elements wires pins) o ⌝ }
+fn round(work: &[u16], elements: usize, wires: usize, pins: usize, o: Out) -> Out
+    requires { ⌜ Partly (now work) elements wires pins × (Output (now work) elements wires pins (o .0)
+        × (entry (now work) (o .0) ≡ 65535 → Comes (netIn (now work) elements wires pins) (o .0))) ⌝ }
+    ensures { λ r. ⌜ r .0 ≡ root (netIn (now (work .entry)) elements wires pins) (o .0) ⌝ }
 {
     let mut x = o;
     let mut low = o;
     let mut left = TERMINALS;
     while left > 0 {
-        let r = work[ROOTS + x];
+        let r = work[ROOTS + x.0 as usize];
         if r != NONE {
-            return r;
+            return Out(r);
         }
         x = back_of(work, elements, wires, pins, x);
         left = left - 1;
-        if x == o {
-            return low as u16;
+        if x.0 == o.0 {
+            return low;
         }
-        if x < low {
+        if x.0 < low.0 {
             low = x;
         }
     }
-    low as u16
+    low
 }
 
 // From o back, each output that is not settled gets o's root r.
-fn settle(work: &mut [u16], elements: usize, wires: usize, pins: usize, o: usize, r: u16)
-    requires { ⌜ Partly (now work) elements wires pins × (Output (now work) elements wires pins o
-        × (r ≡ root (netIn (now work) elements wires pins) o)) ⌝ }
-    ensures { λ _. ⌜ Settled (now (work .entry)) (now (work .exit)) elements wires pins o ⌝ }
+fn settle(work: &mut [u16], elements: usize, wires: usize, pins: usize, o: Out, r: Out)
+    requires { ⌜ Partly (now work) elements wires pins × (Output (now work) elements wires pins (o .0)
+        × (r .0 ≡ root (netIn (now work) elements wires pins) (o .0))) ⌝ }
+    ensures { λ _. ⌜ Settled (now (work .entry)) (now (work .exit)) elements wires pins (o .0) ⌝ }
 {
     let mut x = o;
     let mut left = TERMINALS;
     while left > 0 {
-        if work[ROOTS + x] != NONE {
+        if work[ROOTS + x.0 as usize] != NONE {
             return;
         }
         let next = back_of(work, elements, wires, pins, x);
-        work[ROOTS + x] = r;
+        work[ROOTS + x.0 as usize] = r.0;
         x = next;
         left = left - 1;
     }
 }
 
-// Output o is settled.
-pub fn root_one(work: &mut [u16], elements: usize, wires: usize, pins: usize, o: usize)
-    requires { ⌜ Partly (now work) elements wires pins × (o < 8192) ⌝ }
-    ensures { λ _. ⌜ Settled (now (work .entry)) (now (work .exit)) elements wires pins o ⌝ }
+// Terminal n is settled, if it is an output.
+pub fn root_one(work: &mut [u16], elements: usize, wires: usize, pins: usize, n: u16)
+    requires { ⌜ Partly (now work) elements wires pins × (n < 8192) ⌝ }
+    ensures { λ _. ⌜ Settled (now (work .entry)) (now (work .exit)) elements wires pins n ⌝ }
 {
-    if work[ROOTS + o] == NONE {
+    if work[ROOTS + n as usize] == NONE {
+        let o = Out(n);
         let x = meet(work, elements, wires, pins, o);
         let r = round(work, elements, wires, pins, x);
         settle(work, elements, wires, pins, o, r);
     }
 }
 
-// The point whose input is n is kept: its output is its own root.
-pub fn is_kept(work: &[u16], n: usize) -> bool
-    requires { ⌜ (32768 ≤ length (now work)) × (n + 2 ≤ 8192) ⌝ }
-    ensures { λ r. ⌜ r ≡ keptIn (now (work .entry)) (point n) ⌝ }
+// The point whose input is i is kept: its output is its own root.
+pub fn is_kept(work: &[u16], i: In) -> bool
+    requires { ⌜ (memorySize ≤ length (now work)) × (i .0 + 2 ≤ 8192) ⌝ }
+    ensures { λ r. ⌜ r ≡ keptIn (now (work .entry)) (point (i .0)) ⌝ }
 {
-    let o = n + 1;
-    work[ROOTS + o] as usize == o
+    let o = Out(i.0 + 1);
+    work[ROOTS + o.0 as usize] == o.0
 }

@@ -14,50 +14,50 @@ ghost use mathlib.Core.List.{_∷_, []};
 ghost use lib.Seq.{sets};
 ghost use lib.ListN.{length};
 ghost use Rattle.calculus.specs.Net.{wireBytes};
-ghost use Rattle.memory.specs.Map.{region, terminalOf};
+ghost use Rattle.memory.specs.Map.{elementsAt, stackAt, memorySize, region, terminalOf};
 ghost use Rattle.lean.specs.InMemory.{inputIn, inputsIn, pinIn, keptRow, wireRow, pinRow};
 ghost use Rattle.lean.specs.Fitting.{ElementFits, InputFits, InputsFit, RowFits, LowPin, PinsFit};
 ghost use Rattle.netlist.specs.Said.{saidTerminal};
 
 // The record of the element of this kind that starts at terminal n, where it is kept. As each function that follows, it answers the
 // offset past what it wrote.
-fn put_kept(work: &[u16], kind: u16, n: usize, out: &mut [u8], at: usize) -> usize
+fn put_kept(work: &[u16], kind: u16, n: u16, out: &mut [u8], at: usize) -> usize
     requires { ⌜ ElementFits (now work) kind n (keptRow (now work) (kind ∷ []) n) (length (now out)) at ⌝ }
     ensures { λ r. ⌜ (r ≡ at + length (keptRow (now (work .entry)) (kind ∷ []) n))
         × (now (out .exit) ≡ sets (now (out .entry)) at (keptRow (now (work .entry)) (kind ∷ []) n)) ⌝ }
 {
     if kind != POINT {
-        return netlist::put_part(out, at, kind as u8, n as u16);
+        return netlist::put_part(out, at, kind as u8, n);
     }
-    if table::is_kept(work, n) {
-        return netlist::put_point(out, at, In(n as u16));
+    if table::is_kept(work, In(n)) {
+        return netlist::put_point(out, at, In(n));
     }
     at
 }
 
 // The wire to input i, from its driver's root, where it has a driver.
-fn put_input(work: &[u16], i: usize, out: &mut [u8], at: usize) -> usize
-    requires { ⌜ InputFits (now work) i (wireBytes (inputIn (now work) i)) (length (now out)) at ⌝ }
-    ensures { λ r. ⌜ (r ≡ at + length (wireBytes (inputIn (now (work .entry)) i)))
-        × (now (out .exit) ≡ sets (now (out .entry)) at (wireBytes (inputIn (now (work .entry)) i))) ⌝ }
+fn put_input(work: &[u16], i: In, out: &mut [u8], at: usize) -> usize
+    requires { ⌜ InputFits (now work) (i .0) (wireBytes (inputIn (now work) (i .0))) (length (now out)) at ⌝ }
+    ensures { λ r. ⌜ (r ≡ at + length (wireBytes (inputIn (now (work .entry)) (i .0))))
+        × (now (out .exit) ≡ sets (now (out .entry)) at (wireBytes (inputIn (now (work .entry)) (i .0)))) ⌝ }
 {
-    let driver = work[i];
+    let driver = work[i.0 as usize];
     if driver == NONE {
         return at;
     }
-    netlist::put_wire(out, at, Out(work[ROOTS + driver as usize]), In(i as u16))
+    netlist::put_wire(out, at, Out(work[ROOTS + driver as usize]), i)
 }
 
 // The wires to `count` inputs from `first` on.
-fn put_inputs(work: &[u16], count: usize, first: usize, out: &mut [u8], from: usize) -> usize
+fn put_inputs(work: &[u16], count: u16, first: u16, out: &mut [u8], from: usize) -> usize
     requires { ⌜ InputsFit (now work) count first (wireBytes (inputsIn (now work) count first)) (length (now out)) from ⌝ }
     ensures { λ r. ⌜ (r ≡ from + length (wireBytes (inputsIn (now (work .entry)) count first)))
         × (now (out .exit) ≡ sets (now (out .entry)) from (wireBytes (inputsIn (now (work .entry)) count first))) ⌝ }
 {
     let mut at = from;
-    let mut i: usize = 0;
+    let mut i: u16 = 0;
     while i < count {
-        at = put_input(work, first + i, out, at);
+        at = put_input(work, In(first + i), out, at);
         i = i + 1;
     }
     at
@@ -65,36 +65,37 @@ fn put_inputs(work: &[u16], count: usize, first: usize, out: &mut [u8], from: us
 
 // The wires to the element of this kind that starts at terminal n: to a part's inputs; to a kept point's, from its own output, where
 // the input is no pin.
-fn put_to(work: &[u16], kind: u16, n: usize, out: &mut [u8], at: usize) -> usize
+fn put_to(work: &[u16], kind: u16, n: u16, out: &mut [u8], at: usize) -> usize
     requires { ⌜ ElementFits (now work) kind n (wireRow (now work) (kind ∷ []) n) (length (now out)) at ⌝ }
     ensures { λ r. ⌜ (r ≡ at + length (wireRow (now (work .entry)) (kind ∷ []) n))
         × (now (out .exit) ≡ sets (now (out .entry)) at (wireRow (now (work .entry)) (kind ∷ []) n)) ⌝ }
 {
     if kind != POINT {
-        return put_inputs(work, table::inputs_of(kind), n, out, at);
+        let part = parts::part_of(kind);
+        return put_inputs(work, part.inputs as u16, n, out, at);
     }
-    if work[n] == NONE {
+    if work[n as usize] == NONE {
         return at;
     }
-    if table::is_kept(work, n) {
-        return netlist::put_wire(out, at, Out((n + 1) as u16), In(n as u16));
+    if table::is_kept(work, In(n)) {
+        return netlist::put_wire(out, at, Out(n + 1), In(n));
     }
     at
 }
 
 // The records of the elements that are kept, from an offset on.
 pub fn put_elements(work: &[u16], elements: usize, out: &mut [u8], from: usize) -> usize
-    requires { ⌜ RowFits (now work) elements (keptRow (now work) (region (now work) 13824 elements) 0) (length (now out)) from ⌝ }
-    ensures { λ r. ⌜ (r ≡ from + length (keptRow (now (work .entry)) (region (now (work .entry)) 13824 elements) 0))
-        × (now (out .exit) ≡ sets (now (out .entry)) from (keptRow (now (work .entry)) (region (now (work .entry)) 13824 elements) 0)) ⌝ }
+    requires { ⌜ RowFits (now work) elements (keptRow (now work) (region (now work) elementsAt elements) 0) (length (now out)) from ⌝ }
+    ensures { λ r. ⌜ (r ≡ from + length (keptRow (now (work .entry)) (region (now (work .entry)) elementsAt elements) 0))
+        × (now (out .exit) ≡ sets (now (out .entry)) from (keptRow (now (work .entry)) (region (now (work .entry)) elementsAt elements) 0)) ⌝ }
 {
     let mut at = from;
-    let mut n: usize = 0;
+    let mut n: u16 = 0;
     let mut i: usize = 0;
     while i < elements {
         let kind = work[ELEMENTS + i];
         at = put_kept(work, kind, n, out, at);
-        n = table::next_after(kind, n);
+        n = netlist::next_after(kind, n);
         i = i + 1;
     }
     at
@@ -102,17 +103,17 @@ pub fn put_elements(work: &[u16], elements: usize, out: &mut [u8], from: usize) 
 
 // The records of the wires, by rising target.
 pub fn put_wires(work: &[u16], elements: usize, out: &mut [u8], from: usize) -> usize
-    requires { ⌜ RowFits (now work) elements (wireRow (now work) (region (now work) 13824 elements) 0) (length (now out)) from ⌝ }
-    ensures { λ r. ⌜ (r ≡ from + length (wireRow (now (work .entry)) (region (now (work .entry)) 13824 elements) 0))
-        × (now (out .exit) ≡ sets (now (out .entry)) from (wireRow (now (work .entry)) (region (now (work .entry)) 13824 elements) 0)) ⌝ }
+    requires { ⌜ RowFits (now work) elements (wireRow (now work) (region (now work) elementsAt elements) 0) (length (now out)) from ⌝ }
+    ensures { λ r. ⌜ (r ≡ from + length (wireRow (now (work .entry)) (region (now (work .entry)) elementsAt elements) 0))
+        × (now (out .exit) ≡ sets (now (out .entry)) from (wireRow (now (work .entry)) (region (now (work .entry)) elementsAt elements) 0)) ⌝ }
 {
     let mut at = from;
-    let mut n: usize = 0;
+    let mut n: u16 = 0;
     let mut i: usize = 0;
     while i < elements {
         let kind = work[ELEMENTS + i];
         at = put_to(work, kind, n, out, at);
-        n = table::next_after(kind, n);
+        n = netlist::next_after(kind, n);
         i = i + 1;
     }
     at
@@ -120,7 +121,7 @@ pub fn put_wires(work: &[u16], elements: usize, out: &mut [u8], from: usize) -> 
 
 // A pin, with an output's root in the output's place.
 fn lean_pin(work: &[u16], coded: u16) -> Terminal
-    requires { ⌜ (32768 ≤ length (now work)) × LowPin (terminalOf coded) ⌝ }
+    requires { ⌜ (memorySize ≤ length (now work)) × LowPin (terminalOf coded) ⌝ }
     ensures { λ r. ⌜ saidTerminal r ≡ pinIn (now (work .entry)) (terminalOf coded) ⌝ }
 {
     match netlist::terminal_of(coded) {
@@ -131,9 +132,9 @@ fn lean_pin(work: &[u16], coded: u16) -> Terminal
 
 // The records of the pins.
 pub fn put_pins(work: &[u16], pins: usize, out: &mut [u8], from: usize) -> usize
-    requires { ⌜ PinsFit (now work) pins (pinRow (now work) (region (now work) 18944 pins)) (length (now out)) from ⌝ }
-    ensures { λ r. ⌜ (r ≡ from + length (pinRow (now (work .entry)) (region (now (work .entry)) 18944 pins)))
-        × (now (out .exit) ≡ sets (now (out .entry)) from (pinRow (now (work .entry)) (region (now (work .entry)) 18944 pins))) ⌝ }
+    requires { ⌜ PinsFit (now work) pins (pinRow (now work) (region (now work) stackAt pins)) (length (now out)) from ⌝ }
+    ensures { λ r. ⌜ (r ≡ from + length (pinRow (now (work .entry)) (region (now (work .entry)) stackAt pins)))
+        × (now (out .exit) ≡ sets (now (out .entry)) from (pinRow (now (work .entry)) (region (now (work .entry)) stackAt pins))) ⌝ }
 {
     let mut at = from;
     let mut i: usize = 0;

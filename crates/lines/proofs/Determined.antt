@@ -3,7 +3,7 @@
 use mathlib.Core.Path.{_≡_, sym, _∙_}
 use mathlib.Core.List.{List}
 use Prim.Native.Nat.{ℕ}
-use Rattle.netlist.proofs.OneResult.{Result, Results}
+use Rattle.laws.proofs.OneResult.{Result, Results}
 use Rattle.lines.specs.Wrote.{Wrote}
 use Rattle.lines.proofs.put_word.Kinds as put-word
 use Rattle.lines.proofs.put_word.Reads as put-word-reads

@@ -8,16 +8,16 @@ use borrow.Author.Tests.{le-leb, lt-leb, leb-true, eq-eqb, ne-eqb}
 use native.Mathlib.Nat.{lt-of-not-le}
 use lib.Dec.{leb}
 use lib.ListN.{length, getD, List·getD-eq-default}
-use Rattle.lines.specs.InBytes.{sizeOf, sizeAt, textOf, lineAt}
+use Rattle.lines.specs.InBytes.{recordSize, sizeAt, textOf, lineAt}
 
 module _ (s : List ℕ) (at : ℕ) where
-  pub size-whole : at + sizeOf (getD s at 0) ≤ length s → sizeOf (getD s at 0) ≡ sizeAt s at
+  pub size-whole : at + recordSize (getD s at 0) ≤ length s → recordSize (getD s at 0) ≡ sizeAt s at
   unfolding sizeAt
-  size-whole h = rw (le-leb (at + sizeOf (getD s at 0)) (length s) h)
+  size-whole h = rw (le-leb (at + recordSize (getD s at 0)) (length s) h)
 
-  pub size-cut : length s < at + sizeOf (getD s at 0) → 0 ≡ sizeAt s at
+  pub size-cut : length s < at + recordSize (getD s at 0) → 0 ≡ sizeAt s at
   unfolding sizeAt
-  size-cut h = rw (lt-leb (at + sizeOf (getD s at 0)) (length s) h)
+  size-cut h = rw (lt-leb (at + recordSize (getD s at 0)) (length s) h)
 
   pub size-past : length s ≤ at → 0 ≡ sizeAt s at
   unfolding sizeAt
@@ -28,18 +28,18 @@ module _ (s : List ℕ) (at : ℕ) where
       by false = refl
 
   -- a record that stands, stands whole
-  pub size-room : (sizeAt s at ≡ 0 → ⊥) → at + sizeOf (getD s at 0) ≤ length s
+  pub size-room : (sizeAt s at ≡ 0 → ⊥) → at + recordSize (getD s at 0) ≤ length s
   unfolding sizeAt
   size-room f = by (leb (at + n) (length s)) refl f
     where
       n : ℕ
-      n = sizeOf (getD s at 0)
+      n = recordSize (getD s at 0)
 
       by : (b : Bool) → leb (at + n) (length s) ≡ b → (cond b n 0 ≡ 0 → ⊥) → at + n ≤ length s
       by true e g = leb-true (at + n) (length s) e
       by false e g = absurd (g refl)
 
-  pub room : (k : ℕ) → (sizeAt s at ≡ 0 → ⊥) → getD s at 0 ≡ k → at + sizeOf k ≤ length s
+  pub room : (k : ℕ) → (sizeAt s at ≡ 0 → ⊥) → getD s at 0 ≡ k → at + recordSize k ≤ length s
   room k f e = rw e at (size-room f)
 
   pub line-none : sizeAt s at ≡ 0 → [] ≡ lineAt s at

@@ -1,11 +1,13 @@
 -- The lines of the definitions, piece by piece. Assumes nothing.
 use mathlib.Core.Path.{_≡_, refl, ap, ap₂, sym, _∙_}
-use mathlib.Core.List.{[], _∷_, _++_, append-nil, append-assoc}
-use Prim.Native.Nat.{ℕ, zero, suc, _+_, _≤_}
+use mathlib.Core.List.{List, [], _∷_, _++_, append-nil, append-assoc}
+use Prim.Native.Nat.{ℕ, zero, suc, _+_, _-_, _≤_}
 use native.Mathlib.Omega.{arith}
-use lib.ListN.{length, getD}
+use lib.ListN.{length, getD, take, replicate, length-append}
+use lib.Seq.{take-append-seam}
 use Rattle.calculus.specs.Terms.{partAt}
 use Rattle.calculus.specs.Listing.{Text, line, field, terminalFields, names}
+use Rattle.parts.specs.Table.{nameAt, padded}
 use Rattle.lines.specs.OneLine.{pointLine, partLine, wiredLine, pinLine, refusedLine}
 use Rattle.lines.specs.Figure.{figure, figures}
 use Rattle.lines.proofs.Decimal.{figures-are}
@@ -49,6 +51,15 @@ unfolding refusedLine
 refused-text number place =
     ap (λ (x : Text). (114 ∷ 101 ∷ 102 ∷ 117 ∷ 115 ∷ 101 ∷ 100 ∷ []) ++ x)
     (ap₂ (λ (x y : Text). x ++ line y) (field-is number) (field-is place) ∙ ended (field number) (field place))
+
+-- ---- the name of a part, as the table of parts has it
+
+module _ (p n : ℕ) (letters : List ℕ) (e : letters ≡ padded (nameAt p)) (f : n ≡ length (nameAt p)) where
+  pub name-taken : take n letters ≡ nameAt p
+  name-taken = rw (e, f) (take-append-seam (nameAt p) (replicate (4 - length (nameAt p)) 0))
+
+  pub name-room : n ≤ length letters
+  name-room = rw (e, f, length-append (nameAt p) (replicate (4 - length (nameAt p)) 0)) (omega arith)
 
 pub name-short : (p : ℕ) → length (getD names p []) ≤ 4
 name-short zero = omega arith

@@ -10,7 +10,7 @@ use Rattle.calculus.specs.Listing.{Text, line, field, elementLine, wireLine, el
 use Rattle.netlist.proofs.Bytes.{two-back}
 use Rattle.netlist.proofs.Records.{elements-append, wires-append, pins-append}
 use Rattle.lines.specs.OneLine.{pointLine, partLine, wiredLine, pinLine}
-use Rattle.lines.specs.InBytes.{numberAt, sizeOf, sizeAt, textOf, lineAt, linesFrom}
+use Rattle.lines.specs.InBytes.{numberAt, recordSize, sizeAt, textOf, lineAt, linesFrom}
 use Rattle.lines.proofs.Standing.{size-whole, line-some}
 
 -- a number whose two bytes stand j bytes behind an offset
@@ -22,14 +22,14 @@ number-read s at j n e f =
     omega (arith, two-back n)
 
 -- at an offset stands a record of n bytes with this line
-pub record Read (s : List ℕ) (at n : ℕ) (text : Text) : Type 0 where
+pub record RecordAt (s : List ℕ) (at n : ℕ) (text : Text) : Type 0 where
   pub size : sizeAt s at ≡ n
   pub line : lineAt s at ≡ text
 
 -- by its kind, where it stands whole
-read-by : (s : List ℕ) (at k : ℕ) (text : Text) → getD s at 0 ≡ k → (sizeOf k ≡ 0 → ⊥) → at + sizeOf k ≤ length s → textOf k s at ≡ text → Read s at (sizeOf k) text
+read-by : (s : List ℕ) (at k : ℕ) (text : Text) → getD s at 0 ≡ k → (recordSize k ≡ 0 → ⊥) → at + recordSize k ≤ length s → textOf k s at ≡ text → RecordAt s at (recordSize k) text
 read-by s at k text e some fits t =
-    let n : sizeOf k ≡ sizeAt s at = rw (← e) (size-whole s at (rw e fits)) in
+    let n : recordSize k ≡ sizeAt s at = rw (← e) (size-whole s at (rw e fits)) in
     record { size = sym n; line = sym (line-some s at (λ z. some (n ∙ z))) ∙ rw e t }
 
 module _ (s : List ℕ) (at : ℕ) (r rest : List ℕ) (h : drop at s ≡ r ++ rest) where
@@ -52,7 +52,7 @@ byte : {xs ys : List ℕ} → xs ≡ ys → (j : ℕ) → getD xs j 0 ≡ getD y
 byte h j = ap (λ (x : List ℕ). getD x j 0) h
 
 pub element-read : (e : Element) (s : List ℕ) (at : ℕ) (rest : List ℕ) → Stands s at (elementBytes (e ∷ [])) rest
-    → Read s at (length (elementBytes (e ∷ []))) (elementLine e)
+    → RecordAt s at (length (elementBytes (e ∷ []))) (elementLine e)
 unfolding pointLine partLine
 element-read (point i) s at rest h =
     let r = elementBytes (point i ∷ []) in
@@ -64,7 +64,7 @@ element-read (part p i) s at rest h =
     (rw (byte-read s at r rest h 1) (ap (partLine p) (number-read s at 2 i (byte h 2) (byte h 3))))
 
 pub wire-read : (w : Wire) (s : List ℕ) (at : ℕ) (rest : List ℕ) → Stands s at (wireBytes (w ∷ [])) rest
-    → Read s at (length (wireBytes (w ∷ []))) (wireLine w)
+    → RecordAt s at (length (wireBytes (w ∷ []))) (wireLine w)
 unfolding wiredLine
 wire-read w s at rest h =
     let r = wireBytes (w ∷ []) in
@@ -72,7 +72,7 @@ wire-read w s at rest h =
     (rw (number-read s at 1 (w .from) (byte h 1) (byte h 2), number-read s at 3 (w .to) (byte h 3) (byte h 4)))
 
 pub pin-read : (t : Terminal) (s : List ℕ) (at : ℕ) (rest : List ℕ) → Stands s at (pinBytes (t ∷ [])) rest
-    → Read s at (length (pinBytes (t ∷ []))) (pinLines (t ∷ []))
+    → RecordAt s at (length (pinBytes (t ∷ []))) (pinLines (t ∷ []))
 unfolding pinLine
 pin-read t s at rest h =
     let r = pinBytes (t ∷ []) in
@@ -85,7 +85,7 @@ pin-read t s at rest h =
 module _ {A : Type 0} (bytes text : A → List ℕ) (row lines : List A → List ℕ)
     (none : row [] ≡ []) (more : (x : A) (xs : List A) → row (x ∷ xs) ≡ bytes x ++ row xs)
     (empty : lines [] ≡ []) (longer : (x : A) (xs : List A) → lines (x ∷ xs) ≡ text x ++ lines xs)
-    (reads : (x : A) (s : List ℕ) (at : ℕ) (rest : List ℕ) → Stands s at (bytes x) rest → Read s at (length (bytes x)) (text x)) where
+    (reads : (x : A) (s : List ℕ) (at : ℕ) (rest : List ℕ) → Stands s at (bytes x) rest → RecordAt s at (length (bytes x)) (text x)) where
   row-read : (xs : List A) (s : List ℕ) (at : ℕ) (rest : List ℕ) (k : ℕ) → Stands s at (row xs) rest
       → linesFrom (length xs + k) s at ≡ lines xs ++ linesFrom k s (at + length (row xs))
   row-read [] s at rest k h =

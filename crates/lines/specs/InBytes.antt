@@ -12,12 +12,12 @@ abbrev pub numberAt : List ℕ → ℕ → ℕ
 numberAt s at = getD s at 0 + 256 * getD s (at + 1) 0
 
 -- the length of a record of kind k; none where the kind is unknown
-abbrev pub sizeOf : ℕ → ℕ
-sizeOf k = cond (eqb k 0x21) 3 (cond (eqb k 0x22) 4 (cond (eqb k 0x23) 5 (cond (eqb k 0x24) 3 0)))
+abbrev pub recordSize : ℕ → ℕ
+recordSize k = cond (eqb k 0x21) 3 (cond (eqb k 0x22) 4 (cond (eqb k 0x23) 5 (cond (eqb k 0x24) 3 0)))
 
 -- the length of the record at an offset; 0 where none stands whole
 unfoldable pub sizeAt : List ℕ → ℕ → ℕ
-sizeAt s at = let n = sizeOf (getD s at 0) in cond (leb (at + n) (length s)) n 0
+sizeAt s at = let n = recordSize (getD s at 0) in cond (leb (at + n) (length s)) n 0
 
 abbrev pub textOf : ℕ → List ℕ → ℕ → Text
 textOf k s at =

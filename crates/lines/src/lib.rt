@@ -1,12 +1,13 @@
 // The text of a listing: words, numbers in decimal, and lines.
 ghost use mathlib.Core.Path.{_≡_};
-ghost use mathlib.Core.List.{_∷_, []};
+ghost use mathlib.Core.List.{_∷_};
 ghost use Prim.Native.Nat.{_+_, _*_, _≤_, _<_};
-ghost use lib.ListN.{length, getD};
-ghost use Rattle.calculus.specs.Listing.{line, names};
+ghost use lib.ListN.{length};
+ghost use Rattle.calculus.specs.Listing.{line};
+ghost use Rattle.parts.specs.Table.{nameAt};
 ghost use Rattle.lines.specs.Figure.{figure, figures};
 ghost use Rattle.lines.specs.OneLine.{pointLine, partLine, wiredLine, pinLine, refusedLine};
-ghost use Rattle.lines.specs.InBytes.{numberAt, sizeOf, sizeAt, lineAt};
+ghost use Rattle.lines.specs.InBytes.{numberAt, recordSize, sizeAt, lineAt};
 ghost use Rattle.lines.specs.Wrote.{Wrote};
 
 // A word. As each function here, it answers the offset past what it wrote.
@@ -72,18 +73,12 @@ pub fn end_line(text: &mut [u8], at: usize, count: usize, first: usize) -> usize
 // The name of a part; none where there is no such part.
 pub fn put_name(text: &mut [u8], at: usize, p: u8) -> usize
     requires { ⌜ at + 4 ≤ length (now text) ⌝ }
-    ensures { λ r. ⌜ Wrote (now (text .entry)) at (getD names p []) (now (text .exit)) r ⌝ }
+    ensures { λ r. ⌜ Wrote (now (text .entry)) at (nameAt p) (now (text .exit)) r ⌝ }
 {
-    match p {
-        0 => put_word(text, at, b"zero"),
-        1 => put_word(text, at, b"reg"),
-        2 => put_word(text, at, b"and"),
-        3 => put_word(text, at, b"or"),
-        4 => put_word(text, at, b"xor"),
-        5 => put_word(text, at, b"inv"),
-        6 => put_word(text, at, b"one"),
-        _ => at,
-    }
+    let name = parts::name_of(p);
+    let letters = name.letters;
+    let count = name.count as usize;
+    put_word(text, at, &letters[..count])
 }
 
 // A point's line: its input and its output.
@@ -102,7 +97,8 @@ pub fn part_line(text: &mut [u8], at: usize, p: u8, first: usize) -> usize
 {
     let mid = put_word(text, at, b"part ");
     let end = put_name(text, mid, p);
-    let terminals = netlist::inputs_of(p) as usize + 1;
+    let part = parts::part_of(p as u16);
+    let terminals = part.inputs as usize + part.outputs as usize;
     end_line(text, end, terminals, first)
 }
 
@@ -139,7 +135,7 @@ pub fn refused_line(text: &mut [u8], at: usize, number: u8, place: usize) -> usi
 
 // The length of a record of a kind; 0 where the kind is unknown.
 fn size_of(kind: u8) -> usize
-    ensures { λ r. ⌜ r ≡ sizeOf kind ⌝ }
+    ensures { λ r. ⌜ r ≡ recordSize kind ⌝ }
 {
     match kind {
         0x21 => 3,

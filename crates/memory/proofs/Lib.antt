@@ -1,2 +1,3 @@
 pub mod Zeroed
 pub mod NetStays
+pub mod Determined

@@ -1,4 +1,4 @@
--- The netlist in the memory stays where nothing below 19,072 changes. Assumes nothing.
+-- The netlist in the memory stays where nothing below the table of roots changes. Assumes nothing.
 use Prim.Native.Nat.{ℕ, _+_, _≤_, _<_}
 use mathlib.Core.Path.{_≡_, refl, sym, ap, _∙_}
 use mathlib.Core.List.{List, [], _∷_}
@@ -12,13 +12,13 @@ use Rattle.calculus.specs.Inputs.{targets}
 use Rattle.calculus.specs.Lean.{driver}
 use Rattle.circuit_theorems.proofs.Lists.{all-map}
 use Rattle.circuit_theorems.proofs.Terminals.{each-target, made-high, tiled-rising}
-use Rattle.memory.specs.Map.{region, wiresFrom, netIn, Ready}
+use Rattle.memory.specs.Map.{targetsAt, elementsAt, stackAt, rootsAt, region, wiresFrom, netIn, Ready}
 
 wires-to : (w is : List ℕ) (P : ℕ → Type 0) → All (λ x. P (x .to)) (wiresFrom w is) → All P is
 wires-to w [] P a = tt
 wires-to w (i ∷ is) P a = (a .0, wires-to w is P (a .1))
 
-wires-same : (w w′ is : List ℕ) → ((j : ℕ) → j < 19072 → getD w′ j 0 ≡ getD w j 0) → All (λ i. i < 8192) is → wiresFrom w′ is ≡ wiresFrom w is
+wires-same : (w w′ is : List ℕ) → ((j : ℕ) → j < rootsAt → getD w′ j 0 ≡ getD w j 0) → All (λ i. i < 8192) is → wiresFrom w′ is ≡ wiresFrom w is
 wires-same w w′ [] h a = refl
 wires-same w w′ (i ∷ is) h a = let l = a .0 in rw (h i (omega arith), wires-same w w′ is h (a .1))
 
@@ -31,14 +31,14 @@ module _ (w : List ℕ) (e k p : ℕ) (r : Ready w e k p) where
         | no l ↦ let b = r .below in omega arith
       ]
 
-  targets-low : All (λ i. i < 8192) (region w 8192 k)
+  targets-low : All (λ i. i < 8192) (region w targetsAt k)
   unfolding netIn
   targets-low =
-      wires-to w (region w 8192 k) (λ i. i < 8192)
+      wires-to w (region w targetsAt k) (λ i. i < 8192)
       (all-map (λ x. 1 ≤ targets (netIn w e k p .wires) (x .to)) (λ x. x .to < 8192) (λ x h. made-low (x .to) h) (netIn w e k p .wires) (each-target (netIn w e k p .wires)))
 
-  module _ (w′ : List ℕ) (z : length w′ ≡ length w) (h : (j : ℕ) → j < 19072 → getD w′ j 0 ≡ getD w j 0) where
-    low-same : (at n : ℕ) → at + n ≤ 19072 → region w′ at n ≡ region w at n
+  module _ (w′ : List ℕ) (z : length w′ ≡ length w) (h : (j : ℕ) → j < rootsAt → getD w′ j 0 ≡ getD w j 0) where
+    low-same : (at n : ℕ) → at + n ≤ rootsAt → region w′ at n ≡ region w at n
     low-same at n l =
         let s = r .size in
         region-ext at n w w′ (omega arith) (omega arith) (λ j a b. h j (omega arith))
@@ -49,7 +49,7 @@ module _ (w : List ℕ) (e k p : ℕ) (r : Ready w e k p) where
         let a = r .few-elements in
         let b = r .few-wires in
         let c = r .few-pins in
-        rw (low-same 13824 e (omega arith), low-same 8192 k (omega arith), low-same 18944 p (omega arith), wires-same w w′ (region w 8192 k) h targets-low)
+        rw (low-same elementsAt e (omega arith), low-same targetsAt k (omega arith), low-same stackAt p (omega arith), wires-same w w′ (region w targetsAt k) h targets-low)
 
     pub ready-same : Ready w′ e k p
     ready-same =

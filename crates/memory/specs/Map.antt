@@ -12,6 +12,31 @@ use Rattle.calculus.specs.Net.{Terminal, inp, out, Interface, Element, point, p
 use Rattle.calculus.specs.Lean.{driver}
 use Rattle.circuit_theorems.specs.Formed.{Tiled, Formed}
 
+-- ---- where each table begins, and how many numbers there are
+
+abbrev pub targetsAt : ℕ
+targetsAt = 8192
+
+abbrev pub elementsAt : ℕ
+elementsAt = 13824
+
+-- the interfaces; at the end the pins
+abbrev pub stackAt : ℕ
+stackAt = 18944
+
+-- the roots, in the interfaces' room above the pins
+abbrev pub rootsAt : ℕ
+rootsAt = 19072
+
+abbrev pub rootsEnd : ℕ
+rootsEnd = 27264
+
+abbrev pub bindersAt : ℕ
+bindersAt = 27392
+
+abbrev pub memorySize : ℕ
+memorySize = 32768
+
 -- n numbers from an offset on
 abbrev pub region : List ℕ → ℕ → ℕ → List ℕ
 region w at n = take n (drop at w)
@@ -41,14 +66,14 @@ terminalOf c = cond (eqb (c % 2) 0) (inp (c / 2)) (out (c / 2))
 -- the netlist of so many elements, wires and pins
 unfoldable pub netIn : List ℕ → ℕ → ℕ → ℕ → Net
 netIn w elements wires pins = record {
-  elements = elementsFrom (region w 13824 elements) 0;
-  wires = wiresFrom w (region w 8192 wires);
-  pins = map terminalOf (region w 18944 pins);
+  elements = elementsFrom (region w elementsAt elements) 0;
+  wires = wiresFrom w (region w targetsAt wires);
+  pins = map terminalOf (region w stackAt pins);
 }
 
 -- a whole netlist of an accepted sheet stands in the memory, and the table of drivers says the same as the list of wires
 pub record Ready (w : List ℕ) (elements wires pins : ℕ) : Type 0 where
-  pub size : 32768 ≤ length w
+  pub size : memorySize ≤ length w
   pub few-elements : elements ≤ 5120
   pub few-wires : wires ≤ 5461
   pub few-pins : pins ≤ 128

@@ -3,6 +3,7 @@ ghost use mathlib.Core.Path.{_≡_};
 ghost use Prim.Native.Nat.{_≤_};
 ghost use lib.ListN.{length};
 ghost use Rattle.calculus.specs.Translate.{zeroed};
+ghost use Rattle.memory.specs.Map.{memorySize};
 
 // By input terminal, the output that drives it; NONE where no wire does. 8,192 numbers.
 pub const DRIVERS: usize = 0;
@@ -32,8 +33,8 @@ pub const POINT: u16 = 7;
 
 // The first 32,768 numbers are 0 afterwards, and the later ones as they were.
 pub fn clear(work: &mut [u16])
-    requires { ⌜ 32768 ≤ length (now work) ⌝ }
-    ensures { λ _. ⌜ now (work .exit) ≡ zeroed 32768 (now (work .entry)) ⌝ }
+    requires { ⌜ memorySize ≤ length (now work) ⌝ }
+    ensures { λ _. ⌜ now (work .exit) ≡ zeroed memorySize (now (work .entry)) ⌝ }
 {
     let mut i: usize = 0;
     while i < SIZE {

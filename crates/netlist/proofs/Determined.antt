@@ -2,10 +2,11 @@
 -- call are equal. Assumes nothing.
 use mathlib.Core.Path.{_≡_, ap, sym, _∙_}
 use Prim.Native.Nat.{ℕ}
+use Rattle.netlist.specs.declared.Out.{Out}
 use Rattle.netlist.specs.declared.Terminal.{Terminal}
 use Rattle.netlist.specs.declared.Terminal.the-variants.{Input, Output}
 use Rattle.netlist.specs.Said.{saidTerminal}
-use Rattle.netlist.proofs.OneResult.{Result, Results}
+use Rattle.laws.proofs.OneResult.{Result, Results}
 use Rattle.netlist.proofs.terminal_of.Kinds as terminal-of
 use Rattle.netlist.proofs.terminal_of.Reads as terminal-of-reads
 use Rattle.netlist.proofs.code_of.Kinds as code-of
@@ -24,6 +25,10 @@ use Rattle.netlist.proofs.put_pin.Kinds as put-pin
 use Rattle.netlist.proofs.put_pin.Reads as put-pin-reads
 use Rattle.netlist.proofs.inputs_of.Kinds as inputs-of
 use Rattle.netlist.proofs.inputs_of.Reads as inputs-of-reads
+use Rattle.netlist.proofs.output_of.Kinds as output-of
+use Rattle.netlist.proofs.output_of.Reads as output-of-reads
+use Rattle.netlist.proofs.next_after.Kinds as next-after
+use Rattle.netlist.proofs.next_after.Reads as next-after-reads
 use Rattle.netlist.proofs.full_length.Kinds as full-length
 use Rattle.netlist.proofs.full_length.Reads as full-length-reads
 use Rattle.netlist.proofs.write_full.Kinds as write-full
@@ -34,6 +39,9 @@ one-terminal (Input i) (Input j) e = let h : i .0 ≡ j .0 = cc in ap (λ (x : �
 one-terminal (Input i) (Output p) e = cc
 one-terminal (Output o) (Input j) e = cc
 one-terminal (Output o) (Output p) e = let h : o .0 ≡ p .0 = cc in ap (λ (x : ℕ). Output (record { 0 = x })) h
+
+one-out : (x y : Out) → x .0 ≡ y .0 → x ≡ y
+one-out x y e = ap (λ (n : ℕ). record { 0 = n }) e
 
 pub terminal-of-determined : Result terminal-of.ps terminal-of.r terminal-of-reads.Post
 terminal-of-determined κs a x y s t f g = one-terminal x y (f ∙ sym g)
@@ -61,6 +69,12 @@ put-pin-determined κs a x y s t f g = (f .0 ∙ sym (g .0), f .1 ∙ sym (g .1)
 
 pub inputs-of-determined : Result inputs-of.ps inputs-of.r inputs-of-reads.Post
 inputs-of-determined κs a x y s t f g = f ∙ sym g
+
+pub output-of-determined : Result output-of.ps output-of.r output-of-reads.Post
+output-of-determined κs a x y s t f g = one-out x y (f ∙ sym g)
+
+pub next-after-determined : Result next-after.ps next-after.r next-after-reads.Post
+next-after-determined κs a x y s t f g = f ∙ sym g
 
 pub full-length-determined : Result full-length.ps full-length.r full-length-reads.Post
 full-length-determined κs a x y s t f g = f ∙ sym g

@@ -15,7 +15,7 @@ use Rattle.calculus.specs.Record.{All}
 use Rattle.laws.proofs.Tests.{by-eqb}
 use Rattle.memory.specs.Map.{elementsFrom}
 use Rattle.calculus.specs.NetRead.{Known}
-use Rattle.netlist.specs.Elements.{after, afterAll, sizeOf}
+use Rattle.netlist.specs.Elements.{after, afterAll, elementSize}
 use Rattle.netlist.proofs.Records.{elements-append}
 
 -- the element of kind k at n, and what comes behind it
@@ -51,14 +51,14 @@ after-rises [] n = omega arith
 after-rises (k ∷ xs) n = omega (arith, after-more k n, after-rises xs (after k n))
 
 -- the bytes of one record
-pub kind-size : (k n : ℕ) → length (elementBytes (elementsFrom (k ∷ []) n)) ≡ sizeOf k
+pub kind-size : (k n : ℕ) → length (elementBytes (elementsFrom (k ∷ []) n)) ≡ elementSize k
 kind-size k n = by (eqb k 7)
   where
     by : (b : Bool) → length (elementBytes (cond b (point n ∷ []) (part k n ∷ []))) ≡ cond b 3 4
     by true = refl
     by false = refl
 
-pub size-small : (k : ℕ) → sizeOf k ≤ 4
+pub size-small : (k : ℕ) → elementSize k ≤ 4
 size-small k = by (eqb k 7)
   where
     by : (b : Bool) → cond b 3 4 ≤ 4
@@ -107,7 +107,7 @@ module _ (ks : List ℕ) (i : ℕ) where
   bytes-more h =
       rw (add-one i, take-suc ks i 0 h, kinds-append (take i ks) (getD ks i 0 ∷ []) 0, elements-append (elementsFrom (take i ks) 0) (elementsFrom (getD ks i 0 ∷ []) (firstAfter ks i)))
 
-  pub length-more : i < length ks → length (firstBytes ks (i + 1)) ≡ length (firstBytes ks i) + sizeOf (getD ks i 0)
+  pub length-more : i < length ks → length (firstBytes ks (i + 1)) ≡ length (firstBytes ks i) + elementSize (getD ks i 0)
   length-more h =
       ap length (bytes-more h) ∙ length-append (firstBytes ks i) (elementBytes (elementsFrom (getD ks i 0 ∷ []) (firstAfter ks i)))
       ∙ ap (λ (x : ℕ). length (firstBytes ks i) + x) (kind-size (getD ks i 0) (firstAfter ks i))

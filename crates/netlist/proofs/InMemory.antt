@@ -10,9 +10,9 @@ use Rattle.laws.proofs.Regions.{region-length, region-at}
 use Rattle.calculus.specs.Net.{elementBytes, wireBytes, pinBytes, netBytes}
 use Rattle.calculus.specs.Record.{All}
 use Rattle.calculus.specs.Inputs.{targets}
-use Rattle.memory.specs.Map.{region, elementsFrom, wiresFrom, terminalOf, netIn, Ready}
+use Rattle.memory.specs.Map.{targetsAt, elementsAt, stackAt, region, elementsFrom, wiresFrom, terminalOf, netIn, Ready}
 use Rattle.calculus.specs.NetRead.{Known}
-use Rattle.netlist.specs.Elements.{after, afterAll, sizeOf}
+use Rattle.netlist.specs.Elements.{after, afterAll, elementSize}
 use Rattle.netlist.proofs.Records.{wires-append, pins-append, wires-length, pins-length, net-length}
 use Rattle.netlist.proofs.Elements.{firstBytes, firstAfter, bytes-more, length-more, after-one, bytes-within, after-within, kinds-tiled, tiled-end, kinds-known}
 use Rattle.netlist.proofs.Targets.{made-past, target-counted}
@@ -34,13 +34,13 @@ module _ (w : List ℕ) (a i : ℕ) (h : a + i < length w) where
   pub element-more : firstBytes (drop a w) (i + 1) ≡ firstBytes (drop a w) i ++ elementBytes (elementsFrom (getD w (a + i) 0 ∷ []) (firstAfter (drop a w) i))
   element-more = rw (← getD-drop a w i 0) (bytes-more (drop a w) i here)
 
-  pub element-length : length (firstBytes (drop a w) (i + 1)) ≡ length (firstBytes (drop a w) i) + sizeOf (getD w (a + i) 0)
+  pub element-length : length (firstBytes (drop a w) (i + 1)) ≡ length (firstBytes (drop a w) i) + elementSize (getD w (a + i) 0)
   element-length = rw (← getD-drop a w i 0) (length-more (drop a w) i here)
 
   pub element-after : firstAfter (drop a w) (i + 1) ≡ after (getD w (a + i) 0) (firstAfter (drop a w) i)
   element-after = rw (← getD-drop a w i 0) (after-one (drop a w) i here)
 
-  pub element-fits : (n : ℕ) → i < n → length (firstBytes (drop a w) i) + sizeOf (getD w (a + i) 0) ≤ length (firstBytes (drop a w) n)
+  pub element-fits : (n : ℕ) → i < n → length (firstBytes (drop a w) i) + elementSize (getD w (a + i) 0) ≤ length (firstBytes (drop a w) n)
   element-fits n lt =
       let e : i + 1 + (n - (i + 1)) ≡ n = omega arith in
       let within = rw e at (bytes-within (drop a w) (i + 1) (n - (i + 1))) in
@@ -72,37 +72,37 @@ pins-first w a n h = rw (pins-length (map terminalOf (region w a n)), length-map
 -- ---- a whole netlist
 
 module _ (w : List ℕ) (e k p : ℕ) (r : Ready w e k p) where
-  pub length-here : length (netBytes (netIn w e k p)) ≡ 5 * k + 3 * p + length (firstBytes (drop 13824 w) e)
+  pub length-here : length (netBytes (netIn w e k p)) ≡ 5 * k + 3 * p + length (firstBytes (drop elementsAt w) e)
   unfolding netIn
   length-here =
       let l = net-length (netIn w e k p) in
-      let a = wires-first w 8192 k (omega arith) in
-      let b = pins-first w 18944 p (omega arith) in
+      let a = wires-first w targetsAt k (omega arith) in
+      let b = pins-first w stackAt p (omega arith) in
       omega arith
 
   -- the elements' terminals end by 8,192
-  pub after-here : firstAfter (drop 13824 w) e ≤ 8192
+  pub after-here : firstAfter (drop elementsAt w) e ≤ 8192
   unfolding netIn
   after-here =
-      let ks = region w 13824 e in
+      let ks = region w elementsAt e in
       let t = tiled-end (elementsFrom ks 0) 0 (afterAll ks 0) (r .end) (kinds-tiled ks 0) (r .tiled) in
       let b = r .below in
       omega arith
 
   -- and each wire runs to one of them
-  pub target-here : (j : ℕ) → j < k → getD w (8192 + j) 0 < 8192
+  pub target-here : (j : ℕ) → j < k → getD w (targetsAt + j) 0 < 8192
   unfolding netIn
   target-here j h =
-      let ts = region w 8192 k in
-      let t = getD w (8192 + j) 0 in
-      let l = region-length w 8192 k (omega arith) in
-      let counted : 1 ≤ targets (wiresFrom w ts) t = rw (← region-at w 8192 k j h) (target-counted w ts j (omega arith)) in
+      let ts = region w targetsAt k in
+      let t = getD w (targetsAt + j) 0 in
+      let l = region-length w targetsAt k (omega arith) in
+      let counted : 1 ≤ targets (wiresFrom w ts) t = rw (← region-at w targetsAt k j h) (target-counted w ts j (omega arith)) in
       let once = r .formed .reached t in
-      let past : 8192 ≤ t → ⊥ = λ g. omega (arith, made-past (elementsFrom (region w 13824 e) 0) 0 (r .end) t (r .tiled) (omega arith)) in
+      let past : 8192 ≤ t → ⊥ = λ g. omega (arith, made-past (elementsFrom (region w elementsAt e) 0) 0 (r .end) t (r .tiled) (omega arith)) in
       omega arith
 
-  pub kind-here : All Known (netIn w e k p .elements) → (i : ℕ) → i < e → getD w (13824 + i) 0 < 8
+  pub kind-here : All Known (netIn w e k p .elements) → (i : ℕ) → i < e → getD w (elementsAt + i) 0 < 8
   unfolding netIn
   kind-here a i h =
-      let l = region-length w 13824 e (omega arith) in
-      rw (← region-at w 13824 e i h) (kinds-known (region w 13824 e) 0 i a (omega arith))
+      let l = region-length w elementsAt e (omega arith) in
+      rw (← region-at w elementsAt e i h) (kinds-known (region w elementsAt e) 0 i a (omega arith))

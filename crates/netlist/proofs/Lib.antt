@@ -5,5 +5,4 @@ pub mod PartInputs
 pub mod Targets
 pub mod InMemory
 pub mod Whole
-pub mod OneResult
 pub mod Determined

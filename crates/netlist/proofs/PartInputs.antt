@@ -1,26 +1,17 @@
 -- The inputs of a part, as the table of parts gives them. Assumes nothing.
-use mathlib.Core.Path.{_≡_, refl}
+use mathlib.Core.Path.{_≡_, ap}
 use Prim.Native.Nat.{ℕ, zero, suc, _≤_}
 use native.Mathlib.Omega.{arith}
-use borrow.Author.Tests.{le-ltb}
 use Rattle.calculus.specs.Terms.{partAt}
-use Rattle.parts.specs.Table.{Lookup, listed, unlisted, named}
+use Rattle.parts.specs.declared.Part.{Part}
+use Rattle.parts.specs.Table.{Entry, saidPart, entryOf}
 
-abbrev pub inputsIn : Lookup → ℕ
-inputsIn (listed e) = e .inputs
-inputsIn unlisted = 0
+-- what the table says of part p
+pub part-inputs : (q : Part) (p : ℕ) → saidPart q ≡ entryOf p → q .inputs ≡ partAt p .inputs
+part-inputs q p e = ap (λ (x : Entry). x .inputs) e
 
--- none where there is no such part
-pub inputs-named : (p : ℕ) → inputsIn (named p) ≡ partAt p .inputs
-unfolding named
-inputs-named zero = refl
-inputs-named (suc zero) = refl
-inputs-named (suc (suc zero)) = refl
-inputs-named (suc (suc (suc zero))) = refl
-inputs-named (suc (suc (suc (suc zero)))) = refl
-inputs-named (suc (suc (suc (suc (suc zero))))) = refl
-inputs-named (suc (suc (suc (suc (suc (suc zero)))))) = refl
-inputs-named (suc (suc (suc (suc (suc (suc (suc p))))))) = rw (le-ltb (suc (suc (suc (suc (suc (suc (suc p))))))) 7 (omega arith))
+pub part-outputs : (q : Part) (p : ℕ) → saidPart q ≡ entryOf p → q .outputs ≡ 1
+part-outputs q p e = ap (λ (x : Entry). x .outputs) e
 
 pub inputs-few : (p : ℕ) → partAt p .inputs ≤ 2
 inputs-few zero = omega arith

@@ -6,20 +6,20 @@ use native.Mathlib.Omega.{arith}
 use lib.ListN.{length, length-append}
 use lib.Seq.{sets}
 use Rattle.calculus.specs.Net.{elementBytes, wireBytes, pinBytes, netBytes}
-use Rattle.memory.specs.Map.{region, elementsFrom, wiresFrom, terminalOf, netIn}
+use Rattle.memory.specs.Map.{targetsAt, elementsAt, stackAt, region, elementsFrom, wiresFrom, terminalOf, netIn}
 use Rattle.netlist.specs.Fitting.{ElementsFit, WiresFit, PinsFit, Writable}
 use Rattle.netlist.proofs.Records.{record-more}
 use Rattle.netlist.proofs.InMemory.{wires-first, length-here, after-here, target-here, kind-here}
 
 -- the three rows
 abbrev pub elementRow : List ℕ → ℕ → List ℕ
-elementRow w e = elementBytes (elementsFrom (region w 13824 e) 0)
+elementRow w e = elementBytes (elementsFrom (region w elementsAt e) 0)
 
 abbrev pub wireRow : List ℕ → ℕ → List ℕ
-wireRow w k = wireBytes (wiresFrom w (region w 8192 k))
+wireRow w k = wireBytes (wiresFrom w (region w targetsAt k))
 
 abbrev pub pinRow : List ℕ → ℕ → List ℕ
-pinRow w p = pinBytes (map terminalOf (region w 18944 p))
+pinRow w p = pinBytes (map terminalOf (region w stackAt p))
 
 module _ (w : List ℕ) (e k p room : ℕ) (ok : Writable w e k p room) where
   pub elements-fit : ElementsFit w e room 0
@@ -50,7 +50,7 @@ module _ (w : List ℕ) (e k p room : ℕ) (ok : Writable w e k p room) where
   unfolding netBytes netIn
   written out o₁ o₂ o₃ f s t hf h₁ hs h₂ ht h₃ =
       let r = ok .ready in
-      let l = wires-first w 8192 k (omega arith) in
+      let l = wires-first w targetsAt k (omega arith) in
       let n = length-append (elementRow w e) (wireRow w k) in
       let b : s ≡ 0 + length (elementRow w e ++ wireRow w k) = omega arith in
       let two = record-more out (elementRow w e) (wireRow w k) _ 0 f hf refl in (

@@ -4,7 +4,7 @@ use mathlib.Core.List.{List}
 use lib.ListN.{length, getD}
 use Rattle.calculus.specs.Net.{elementBytes, netBytes}
 use Rattle.calculus.specs.Record.{All}
-use Rattle.memory.specs.Map.{region, elementsFrom, netIn, Ready}
+use Rattle.memory.specs.Map.{targetsAt, elementsAt, stackAt, region, elementsFrom, netIn, Ready}
 use Rattle.calculus.specs.NetRead.{Known}
 use Rattle.netlist.specs.Elements.{afterAll}
 
@@ -16,18 +16,18 @@ pub record Writable (w : List ℕ) (elements wires pins room : ℕ) : Type 0 whe
 
 -- from an offset on, n elements of known kinds, that take no terminal from 8,192 on
 pub record ElementsFit (w : List ℕ) (n room from : ℕ) : Type 0 where
-  pub source : 13824 + n ≤ length w
-  pub target : from + length (elementBytes (elementsFrom (region w 13824 n) 0)) ≤ room
-  pub known : (i : ℕ) → i < n → getD w (13824 + i) 0 < 8
-  pub low : afterAll (region w 13824 n) 0 ≤ 8192
+  pub source : elementsAt + n ≤ length w
+  pub target : from + length (elementBytes (elementsFrom (region w elementsAt n) 0)) ≤ room
+  pub known : (i : ℕ) → i < n → getD w (elementsAt + i) 0 < 8
+  pub low : afterAll (region w elementsAt n) 0 ≤ 8192
 
 -- n wires, to inputs below 8,192
 pub record WiresFit (w : List ℕ) (n room from : ℕ) : Type 0 where
-  pub source : 8192 + n ≤ length w
+  pub source : targetsAt + n ≤ length w
   pub target : from + 5 * n ≤ room
-  pub low : (i : ℕ) → i < n → getD w (8192 + i) 0 < 8192
+  pub low : (i : ℕ) → i < n → getD w (targetsAt + i) 0 < 8192
 
 -- n pins
 pub record PinsFit (w : List ℕ) (n room from : ℕ) : Type 0 where
-  pub source : 18944 + n ≤ length w
+  pub source : stackAt + n ≤ length w
   pub target : from + 3 * n ≤ room

@@ -1,5 +1,4 @@
 // Terminals, the records of a netlist as bytes, and the full netlist.
-use parts::Named;
 ghost use mathlib.Core.Path.{_≡_};
 ghost use mathlib.Core.List.{_∷_, [], map};
 ghost use Prim.Native.Nat.{_+_, _*_, _≤_, _<_};
@@ -7,9 +6,9 @@ ghost use lib.ListN.{length};
 ghost use lib.Seq.{sets};
 ghost use Rattle.calculus.specs.Net.{two, number, point, part, elementBytes, wireBytes, pinBytes, netBytes};
 ghost use Rattle.calculus.specs.Terms.{partAt};
-ghost use Rattle.memory.specs.Map.{code, terminalOf, region, elementsFrom, wiresFrom, netIn, Ready};
+ghost use Rattle.memory.specs.Map.{targetsAt, elementsAt, stackAt, code, terminalOf, region, elementsFrom, wiresFrom, netIn, Ready};
 ghost use Rattle.netlist.specs.Said.{saidTerminal, wire};
-ghost use Rattle.netlist.specs.Elements.{after, sizeOf};
+ghost use Rattle.netlist.specs.Elements.{outputOf, after, elementSize};
 ghost use Rattle.netlist.specs.Fitting.{ElementsFit, WiresFit, PinsFit, Writable};
 
 // An input terminal, and an output terminal, by its number.
@@ -107,27 +106,37 @@ pub fn put_pin(out: &mut [u8], at: usize, t: Terminal) -> usize
 pub fn inputs_of(kind: u8) -> u16
     ensures { λ r. ⌜ r ≡ partAt kind .inputs ⌝ }
 {
-    match parts::part_at(kind) {
-        Named::Part(q) => q.inputs as u16,
-        Named::Unknown => 0,
-    }
+    let part = parts::part_of(kind as u16);
+    part.inputs as u16
 }
 
-// The next free terminal behind an element of a kind that starts at n.
-fn next_after(kind: u16, n: u16) -> u16
-    requires { ⌜ (kind < 8) × (n ≤ 8192) ⌝ }
+// The output of an element of a kind that starts at n.
+pub fn output_of(kind: u16, n: u16) -> Out
+    requires { ⌜ n ≤ 8192 ⌝ }
+    ensures { λ r. ⌜ r .0 ≡ outputOf kind n ⌝ }
+{
+    if kind == memory::POINT {
+        return Out(n + 1);
+    }
+    let part = parts::part_of(kind);
+    Out(n + part.inputs as u16)
+}
+
+// The next free terminal behind it.
+pub fn next_after(kind: u16, n: u16) -> u16
+    requires { ⌜ n ≤ 8192 ⌝ }
     ensures { λ r. ⌜ r ≡ after kind n ⌝ }
 {
     if kind == memory::POINT {
-        n + 2
-    } else {
-        n + inputs_of(kind as u8) + 1
+        return n + 2;
     }
+    let part = parts::part_of(kind);
+    n + part.inputs as u16 + part.outputs as u16
 }
 
 // The bytes of the record of an element of a kind.
 fn size_of(kind: u16) -> usize
-    ensures { λ r. ⌜ r ≡ sizeOf kind ⌝ }
+    ensures { λ r. ⌜ r ≡ elementSize kind ⌝ }
 {
     if kind == memory::POINT { 3 } else { 4 }
 }
@@ -148,8 +157,8 @@ pub fn full_length(work: &[u16], elements: usize, wires: usize, pins: usize) -> 
 
 // The record of an element of a kind that starts at terminal n.
 fn put_element(out: &mut [u8], at: usize, kind: u16, n: u16) -> usize
-    requires { ⌜ (kind < 8) × (at + sizeOf kind ≤ length (now out)) ⌝ }
-    ensures { λ r. ⌜ (r ≡ at + sizeOf kind)
+    requires { ⌜ (kind < 8) × (at + elementSize kind ≤ length (now out)) ⌝ }
+    ensures { λ r. ⌜ (r ≡ at + elementSize kind)
         × (now (out .exit) ≡ sets (now (out .entry)) at (elementBytes (elementsFrom (kind ∷ []) n))) ⌝ }
 {
     if kind == memory::POINT {
@@ -162,8 +171,8 @@ fn put_element(out: &mut [u8], at: usize, kind: u16, n: u16) -> usize
 // The records of all elements, from an offset on.
 fn put_elements(work: &[u16], elements: usize, out: &mut [u8], from: usize) -> usize
     requires { ⌜ ElementsFit (now work) elements (length (now out)) from ⌝ }
-    ensures { λ r. ⌜ (r ≡ from + length (elementBytes (elementsFrom (region (now (work .entry)) 13824 elements) 0)))
-        × (now (out .exit) ≡ sets (now (out .entry)) from (elementBytes (elementsFrom (region (now (work .entry)) 13824 elements) 0))) ⌝ }
+    ensures { λ r. ⌜ (r ≡ from + length (elementBytes (elementsFrom (region (now (work .entry)) elementsAt elements) 0)))
+        × (now (out .exit) ≡ sets (now (out .entry)) from (elementBytes (elementsFrom (region (now (work .entry)) elementsAt elements) 0))) ⌝ }
 {
     let mut at = from;
     let mut n: u16 = 0;
@@ -181,7 +190,7 @@ fn put_elements(work: &[u16], elements: usize, out: &mut [u8], from: usize) -> u
 fn put_wires(work: &[u16], wires: usize, out: &mut [u8], from: usize) -> usize
     requires { ⌜ WiresFit (now work) wires (length (now out)) from ⌝ }
     ensures { λ r. ⌜ (r ≡ from + 5 * wires)
-        × (now (out .exit) ≡ sets (now (out .entry)) from (wireBytes (wiresFrom (now (work .entry)) (region (now (work .entry)) 8192 wires)))) ⌝ }
+        × (now (out .exit) ≡ sets (now (out .entry)) from (wireBytes (wiresFrom (now (work .entry)) (region (now (work .entry)) targetsAt wires)))) ⌝ }
 {
     let mut at = from;
     let mut i: usize = 0;
@@ -198,7 +207,7 @@ fn put_wires(work: &[u16], wires: usize, out: &mut [u8], from: usize) -> usize
 fn put_pins(work: &[u16], pins: usize, out: &mut [u8], from: usize) -> usize
     requires { ⌜ PinsFit (now work) pins (length (now out)) from ⌝ }
     ensures { λ r. ⌜ (r ≡ from + 3 * pins)
-        × (now (out .exit) ≡ sets (now (out .entry)) from (pinBytes (map terminalOf (region (now (work .entry)) 18944 pins)))) ⌝ }
+        × (now (out .exit) ≡ sets (now (out .entry)) from (pinBytes (map terminalOf (region (now (work .entry)) stackAt pins)))) ⌝ }
 {
     let mut at = from;
     let mut i: usize = 0;

@@ -6,20 +6,26 @@ use Prim.Native.Nat.{ℕ, zero, suc, _<_, _≤_}
 use native.Mathlib.Omega.{arith}
 use borrow.Author.Tests.{lt-ltb, le-ltb, ltb-true, ltb-false}
 use lib.Dec.{T, eqb, ltb, leb, eqb→eq, leb→le}
-use lib.ListN.{getD, List·getD-eq-default}
+use lib.ListN.{length, getD, List·getD-eq-default}
 use Rattle.calculus.specs.Types.{Ty, bit, prod, arrow, lolli, size, tyEq}
 use Rattle.calculus.specs.Terms.{parts, partAt}
+use Rattle.calculus.specs.Listing.{names}
 use Rattle.laws.proofs.Tests.{and-both}
 use Rattle.laws.proofs.Below.{below}
-use Rattle.parts.specs.declared.Part.{Part}
-use Rattle.parts.specs.Table.{Entry, listed, unlisted, saidPart, entryOf, named, shapeTy}
+use Rattle.parts.specs.declared.Row.{Row}
+use Rattle.parts.specs.Table.{Entry, isPart, noPart, saidPart, entryOf, named, nameAt, padded, shapeTy}
 
-abbrev part : ℕ → ℕ → ℕ → Part
-part i o k = record { inputs = i; outputs = o; shape = k }
+abbrev row : ℕ → ℕ → ℕ → List ℕ → ℕ → Row
+row i o k letters n = record { part = record { inputs = i; outputs = o; shape = k }; name = record { letters = letters; count = n } }
 
 -- the table of the code
-abbrev pub table : List Part
-table = part 0 1 0 ∷ part 1 1 1 ∷ part 2 1 2 ∷ part 2 1 2 ∷ part 2 1 2 ∷ part 1 1 1 ∷ part 0 1 0 ∷ []
+abbrev pub table : List Row
+table =
+    row 0 1 0 (122 ∷ 101 ∷ 114 ∷ 111 ∷ []) 4 ∷ row 1 1 1 (114 ∷ 101 ∷ 103 ∷ 0 ∷ []) 3 ∷ row 2 1 2 (97 ∷ 110 ∷ 100 ∷ 0 ∷ []) 3 ∷ row 2 1 2 (111 ∷ 114 ∷ 0 ∷ 0 ∷ []) 2
+    ∷ row 2 1 2 (120 ∷ 111 ∷ 114 ∷ 0 ∷ []) 3 ∷ row 1 1 1 (105 ∷ 110 ∷ 118 ∷ 0 ∷ []) 3 ∷ row 0 1 0 (111 ∷ 110 ∷ 101 ∷ 0 ∷ []) 3 ∷ []
+
+abbrev rowAt : ℕ → Row
+rowAt p = getD table p (row 0 0 0 [] 0)
 
 -- two types that pass the test are one
 same-type : (σ τ : Ty) → T (tyEq σ τ) → σ ≡ τ
@@ -53,16 +59,35 @@ same-entry i j o q σ τ t =
     rw (eqb→eq i j (h .0), eqb→eq o q (k .0), same-type σ τ (k .1))
 
 -- the rule: every entry of the table is the part's
-pub right : (p : ℕ) → p < 7 → saidPart (getD table p (part 0 0 0)) ≡ entryOf p
-right p h = same-entry _ _ _ _ _ _ (below 7 (λ k. entryEq (saidPart (getD table k (part 0 0 0))) (entryOf k)) tt p h)
+pub right : (p : ℕ) → p < 7 → saidPart (rowAt p .part) ≡ entryOf p
+right p h = same-entry _ _ _ _ _ _ (below 7 (λ k. entryEq (saidPart (rowAt k .part)) (entryOf k)) tt p h)
 
-pub named-part : (p : ℕ) → p < 7 → listed (saidPart (getD table p (part 0 0 0))) ≡ named p
+-- any other number is zero's
+pub right-past : (p : ℕ) → 7 ≤ p → saidPart (rowAt 0 .part) ≡ entryOf p
+right-past p h = rw (List·getD-eq-default parts (partAt 0) {n = p} h)
+
+pub named-part : (p : ℕ) → p < 7 → isPart (saidPart (rowAt p .part)) ≡ named p
 unfolding named
 named-part p h = rw (lt-ltb p 7 h, right p h)
 
-pub named-none : (p : ℕ) → 7 ≤ p → unlisted ≡ named p
+pub named-none : (p : ℕ) → 7 ≤ p → noPart ≡ named p
 unfolding named
 named-none p h = rw (le-ltb p 7 h)
+
+-- ---- the names: every row has the part's
+
+pub name-right : (p : ℕ) → p < 7 → (rowAt p .name .letters ≡ padded (nameAt p)) × (rowAt p .name .count ≡ length (nameAt p))
+name-right zero h = (refl, refl)
+name-right (suc zero) h = (refl, refl)
+name-right (suc (suc zero)) h = (refl, refl)
+name-right (suc (suc (suc zero))) h = (refl, refl)
+name-right (suc (suc (suc (suc zero)))) h = (refl, refl)
+name-right (suc (suc (suc (suc (suc zero))))) h = (refl, refl)
+name-right (suc (suc (suc (suc (suc (suc zero)))))) h = (refl, refl)
+name-right (suc (suc (suc (suc (suc (suc (suc p))))))) h = absurd (omega arith)
+
+pub name-none : (p : ℕ) → 7 ≤ p → nameAt p ≡ []
+name-none p h = List·getD-eq-default names [] {n = p} h
 
 -- ---- no part has more than two arrows
 

@@ -1,10 +1,12 @@
 -- The table of parts, as its entries say it, and as document 01 has it. Assumes nothing.
-use Prim.Native.Nat.{ℕ, zero, suc}
+use Prim.Native.Nat.{ℕ, zero, suc, _-_}
 use mathlib.Core.Bool.{cond}
+use mathlib.Core.List.{List, [], _++_}
 use lib.Dec.{ltb}
-use lib.ListN.{length}
+use lib.ListN.{length, getD, replicate}
 use Rattle.calculus.specs.Types.{Ty, bit, arrow}
 use Rattle.calculus.specs.Terms.{parts, partAt}
+use Rattle.calculus.specs.Listing.{names}
 use Rattle.parts.specs.declared.Part.{Part}
 use Rattle.parts.specs.declared.Named.{Named}
 use Rattle.parts.specs.declared.Named.the-variants as of
@@ -21,19 +23,27 @@ pub record Entry : Type 0 where
   pub type : Ty
 
 pub data Lookup : Type 0 where
-  listed : Entry → Lookup
-  unlisted : Lookup
+  isPart : Entry → Lookup
+  noPart : Lookup
 
 abbrev pub saidPart : Part → Entry
 saidPart q = record { inputs = q .inputs; outputs = q .outputs; type = shapeTy (q .shape) }
 
 abbrev pub saidNamed : Named → Lookup
-saidNamed (of.Part q) = listed (saidPart q)
-saidNamed of.Unknown = unlisted
+saidNamed (of.Part q) = isPart (saidPart q)
+saidNamed of.Unknown = noPart
 
 -- each part has one output
 abbrev pub entryOf : ℕ → Entry
 entryOf p = record { inputs = partAt p .inputs; outputs = 1; type = partAt p .type }
 
 unfoldable pub named : ℕ → Lookup
-named p = cond (ltb p (length parts)) (listed (entryOf p)) unlisted
+named p = cond (ltb p (length parts)) (isPart (entryOf p)) noPart
+
+-- the letters of a part's name; none where there is no such part
+abbrev pub nameAt : ℕ → List ℕ
+nameAt p = getD names p []
+
+-- letters, and zeros behind them up to four
+abbrev pub padded : List ℕ → List ℕ
+padded letters = letters ++ replicate (4 - length letters) 0

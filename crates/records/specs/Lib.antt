@@ -1,3 +1,4 @@
 pub mod Record
 pub mod Heads
+pub mod Rules
 pub mod Forms

@@ -2,21 +2,34 @@
 ghost use mathlib.Core.Path.{_≡_};
 ghost use lib.ListN.{getD, take, drop, length};
 ghost use Prim.Native.Nat.{_+_, _≤_};
-ghost use Rattle.records.specs.Record.{shapeOf, recordAt, noNode, nodeAt};
+ghost use Rattle.records.specs.Record.{shapeOf, formOf, recordAt, noNode, nodeAt};
 ghost use Rattle.records.specs.Forms.{saidForm, recIn};
 
-// What the bytes of a body are: none, two type numbers, a binder, a type, or a part and a type.
-pub enum Rule {
-    Bare,
-    Sides,
-    Binder,
-    Typed,
-    Part,
+// The rule for a type.
+pub enum TypeRule {
+    Bit,
+    Product,
+    Arrow,
+    Linear,
 }
 
-// What a kind byte fixes: the body's length, of a node the number of subterms, and the rule for the body.
+// The rule for a node.
+pub enum Rule {
+    Variable,
+    LinearVariable,
+    Function,
+    Application,
+    LinearFunction,
+    LinearApplication,
+    Pair,
+    Projection,
+    FixedPoint,
+    Constant,
+}
+
+// What a kind byte fixes: the body's length, of a node the number of subterms, and the rule.
 pub enum Shape {
-    Type(usize, Rule),
+    Type(usize, TypeRule),
     Node(usize, usize, Rule),
     Unknown,
 }
@@ -26,39 +39,59 @@ pub fn shape_of(kind: u8) -> Shape
     ensures { λ r. ⌜ r ≡ shapeOf kind ⌝ }
 {
     match kind {
-        0x01 => Shape::Type(0, Rule::Bare),
-        0x02..=0x04 => Shape::Type(2, Rule::Sides),
-        0x11..=0x12 => Shape::Node(1, 0, Rule::Binder),
-        0x13 | 0x15 | 0x19 => Shape::Node(1, 1, Rule::Typed),
-        0x14 | 0x16 | 0x18 => Shape::Node(0, 2, Rule::Bare),
-        0x17 => Shape::Node(1, 2, Rule::Typed),
-        0x1A => Shape::Node(2, 0, Rule::Part),
+        0x01..=0x04 => match kind {
+            0x01 => Shape::Type(0, TypeRule::Bit),
+            0x02 => Shape::Type(2, TypeRule::Product),
+            0x03 => Shape::Type(2, TypeRule::Arrow),
+            _ => Shape::Type(2, TypeRule::Linear),
+        },
+        0x11..=0x1A => match kind {
+            0x11 => Shape::Node(1, 0, Rule::Variable),
+            0x12 => Shape::Node(1, 0, Rule::LinearVariable),
+            0x13 => Shape::Node(1, 1, Rule::Function),
+            0x14 => Shape::Node(0, 2, Rule::Application),
+            0x15 => Shape::Node(1, 1, Rule::LinearFunction),
+            0x16 => Shape::Node(0, 2, Rule::LinearApplication),
+            0x17 => Shape::Node(1, 2, Rule::Pair),
+            0x18 => Shape::Node(0, 2, Rule::Projection),
+            0x19 => Shape::Node(1, 1, Rule::FixedPoint),
+            _ => Shape::Node(2, 0, Rule::Constant),
+        },
         _ => Shape::Unknown,
     }
 }
 
-// A type record: its kind, its two type numbers, and the offset past it.
-pub struct TypeRecord {
-    pub kind: u8,
-    pub left: u8,
-    pub right: u8,
-    pub next: usize,
+// A type record: the single bit, or a product, a sharable or a linear arrow with its two type numbers.
+pub enum Form {
+    Bit,
+    Product(u8, u8),
+    Arrow(u8, u8),
+    Linear(u8, u8),
 }
 
-// A node's record: its kind, its two bytes (0 where the body is shorter), its number of subterms, the rule for its body, and the
-// offset past it.
+fn form_of(rule: TypeRule, left: u8, right: u8) -> Form
+    ensures { λ r. ⌜ r ≡ formOf rule left right ⌝ }
+{
+    match rule {
+        TypeRule::Bit => Form::Bit,
+        TypeRule::Product => Form::Product(left, right),
+        TypeRule::Arrow => Form::Arrow(left, right),
+        TypeRule::Linear => Form::Linear(left, right),
+    }
+}
+
+// A node's record: its rule, its two bytes (0 where the body is shorter), its number of subterms, and the offset past it.
 pub struct Node {
-    pub kind: u8,
+    pub rule: Rule,
     pub first: u8,
     pub second: u8,
     pub subterms: usize,
-    pub rule: Rule,
     pub next: usize,
 }
 
-// What stands at an offset: a type, a node, or a refusal (3 or 4) with its number and its place.
+// What stands at an offset: a type and the offset past its record, a node, or a refusal (3 or 4) with its number and its place.
 pub enum Record {
-    Type(TypeRecord),
+    Type(Form, usize),
     Node(Node),
     Refused(u8, usize),
 }
@@ -71,23 +104,24 @@ fn body(s: &[u8], from: usize, len: usize, j: usize) -> u8
     if j < len { s[from + j] } else { 0 }
 }
 
-pub fn record_at(s: &[u8], at: usize) -> Record
-    ensures { λ r. ⌜ r ≡ recordAt (now (s .entry)) at ⌝ }
+// Inside the term no type's kind is known.
+pub fn record_at(s: &[u8], at: usize, term: bool) -> Record
+    ensures { λ r. ⌜ r ≡ recordAt term (now (s .entry)) at ⌝ }
 {
     if s.len() <= at {
-        return Record::Refused(3, s.len());
+        return Record::Refused(3, at);
     }
-    let kind = s[at];
     let from = at + 1;
-    match shape_of(kind) {
-        Shape::Type(n, _) => {
+    match shape_of(s[at]) {
+        Shape::Type(n, rule) => {
+            if term {
+                return Record::Refused(4, at);
+            }
             if n <= s.len() - from {
-                Record::Type(TypeRecord {
-                    kind,
-                    left: body(s, from, n, 0),
-                    right: body(s, from, n, 1),
-                    next: from + n,
-                })
+                Record::Type(
+                    form_of(rule, body(s, from, n, 0), body(s, from, n, 1)),
+                    from + n,
+                )
             } else {
                 Record::Refused(3, at)
             }
@@ -95,11 +129,10 @@ pub fn record_at(s: &[u8], at: usize) -> Record
         Shape::Node(n, subterms, rule) => {
             if n <= s.len() - from {
                 Record::Node(Node {
-                    kind,
+                    rule,
                     first: body(s, from, n, 0),
                     second: body(s, from, n, 1),
                     subterms,
-                    rule,
                     next: from + n,
                 })
             } else {
@@ -114,11 +147,10 @@ fn no_node() -> Node
     ensures { λ r. ⌜ r ≡ noNode ⌝ }
 {
     Node {
-        kind: 0,
+        rule: Rule::Variable,
         first: 0,
         second: 0,
         subterms: 0,
-        rule: Rule::Bare,
         next: 0,
     }
 }
@@ -128,37 +160,10 @@ fn no_node() -> Node
 pub fn node_at(s: &[u8], at: usize) -> Node
     ensures { λ r. ⌜ r ≡ nodeAt (now (s .entry)) at ⌝ }
 {
-    if s.len() <= at {
+    let Record::Node(n) = record_at(s, at, true) else {
         return no_node();
-    }
-    let kind = s[at];
-    let from = at + 1;
-    match shape_of(kind) {
-        Shape::Node(n, subterms, rule) => {
-            if n <= s.len() - from {
-                Node {
-                    kind,
-                    first: body(s, from, n, 0),
-                    second: body(s, from, n, 1),
-                    subterms,
-                    rule,
-                    next: from + n,
-                }
-            } else {
-                no_node()
-            }
-        }
-        Shape::Type(_, _) => no_node(),
-        Shape::Unknown => no_node(),
-    }
-}
-
-// A type record: the single bit, or a product, a sharable or a linear arrow with its two type numbers.
-pub enum Form {
-    Bit,
-    Product(u8, u8),
-    Arrow(u8, u8),
-    Linear(u8, u8),
+    };
+    n
 }
 
 // The record of type t, in a sheet whose types have been read: the first is the single bit, of one byte, and every other has three.
@@ -172,15 +177,10 @@ pub fn type_at(s: &[u8], t: u8) -> Form
     if s.len() < at + 3 {
         return Form::Bit;
     }
-    let kind = s[at];
-    let left = s[at + 1];
-    let right = s[at + 2];
-    match kind {
-        0x02 => Form::Product(left, right),
-        0x03 => Form::Arrow(left, right),
-        0x04 => Form::Linear(left, right),
-        _ => Form::Bit,
-    }
+    let Shape::Type(_, rule) = shape_of(s[at]) else {
+        return Form::Bit;
+    };
+    form_of(rule, s[at + 1], s[at + 2])
 }
 
 pub fn wide(x: u8) -> usize

@@ -1,46 +1,75 @@
 -- What `headAt` says, by the record that stands at an offset. Assumes nothing.
-use Prim.Native.Nat.{ℕ, _+_, _≤_, _<_}
-use mathlib.Core.Path.{_≡_, refl, sym, _∙_}
-use mathlib.Core.Bool.{Bool, true, false, not, _||_}
+use Prim.Native.Nat.{ℕ, zero, suc, _+_, _-_, _≤_, _<_}
+use mathlib.Core.Path.{_≡_, refl, sym, ap, ap₂, _∙_}
+use mathlib.Core.Bool.{Bool, true, false, not, _||_, cond}
 use mathlib.Core.List.{List, [], _∷_}
 use native.Mathlib.Omega.{arith}
+use native.Mathlib.Decide.{decLt}
 use denote.Enum.Declared.{tagOf}
-use types.Run.{OneOf}
+use types.Run.{OneOf, miss}
 use lib.Dec.{ltb, leb, eqb}
 use lib.ListN.{length}
 use borrow.Author.Tests.{lt-ltb, le-ltb, le-leb, lt-leb, leb-true, leb-false}
-use Rattle.calculus.specs.Answer.{good, refused, _>>=_, need}
-use Rattle.calculus.specs.Read.{Kind, unknown, type, node, NodeKind, k11, k12, k13, k14, k15, k16, k17, k18, k19, k1A, kindOf, nodeBody, nodeTyped, byte, headAt}
-use Rattle.records.specs.Record.{recordAt, shapeOf, bodyAt}
+use Rattle.calculus.specs.Answer.{Answer, good, refused, _>>=_, need}
+use Rattle.calculus.specs.Read.{Kind, unknown, type, node, NodeKind, k11, k12, k13, k14, k15, k16, k17, k18, k19, k1A, kindOf, nodeBody, nodeTyped, byte, headAt, readTerm}
+use Rattle.records.specs.Record.{shapeOf, recordOf, recordAt, bodyAt}
+use Rattle.records.specs.declared.Rule.{Rule}
+use Rattle.records.specs.declared.Rule.the-variants as rule
+use Rattle.records.specs.declared.Form.{Form}
 use Rattle.records.specs.declared.Node.{Node}
 use Rattle.records.specs.declared.Shape.{Shape}
 use Rattle.records.specs.declared.Shape.the-variants as shape
 use Rattle.records.specs.declared.Record.the-variants as rec
-use Rattle.records.proofs.Record.{the-type}
-use Rattle.sheet.specs.Said.{nodeSubs, opening, headed, opens, mistyped, limitsOf, noNode}
-use Rattle.sheet.proofs.KindLaws.{kindShape, shape-kind, nodeRule, nodeAs, node-here, node-cut, body-at}
-
--- the refusal by the shape of the kind
-abbrev numberOf : Shape → ℕ
-numberOf (shape.Type n u) = 4
-numberOf (shape.Node n m u) = 3
-numberOf shape.Unknown = 4
+use Rattle.records.proofs.Rule.{the-type as rule-type}
+use Rattle.records.proofs.Laws.{node-next}
+use Rattle.sheet.specs.Said.{nodeSubs, opening, headed, opens, mistyped, limitsOf}
+use Rattle.sheet.proofs.KindLaws.{kindShape, record-kind, record-past, nodeRule, nodeAs, node-here, body-at}
 
 -- ---- no node's record
 
+no-node : {q : Node} {i p : ℕ} → rec.Node q ≡ rec.Refused i p → ⊥
+no-node e = let z : _≡_ {A = ℕ} 0 1 = cc in omega arith
+
+by-head : (more : ℕ) (s : List ℕ) (types at n : ℕ) {i p : ℕ} → headAt more s types at n ≡ refused i p → readTerm more s types at n ≡ refused i p
+unfolding readTerm
+by-head zero s types at n e = simp e
+by-head (suc more) s types at n e = simp e
+
 module _ (more : ℕ) (s : List ℕ) (types at n : ℕ) where
-  pub head-end : length s ≤ at → refused 3 at ≡ opens more s types at n
-  unfolding opens headAt
-  head-end h = simp (le-ltb at (length s) h)
+  refused-by : {A : Type 0} {i p j q : ℕ} → rec.Refused i p ≡ rec.Refused j q → _≡_ {A = Answer A} (refused i p) (refused j q)
+  refused-by {A} {i} {p} {j} {q} e = let a : i ≡ j = cc in let b : p ≡ q = cc in ap₂ {C = Answer A} refused a b
 
-  no-node-by : (k : Kind) → kindOf (byte s at) ≡ k → at < length s → OneOf (0 ∷ 2 ∷ []) (tagOf the-type (recordAt s at)) → refused (noNode k) at ≡ opens more s types at n
-  unfolding opens headAt noNode
-  no-node-by unknown e h o = simp (lt-ltb at (length s) h, e)
-  no-node-by (type k) e h o = simp (lt-ltb at (length s) h, e)
-  no-node-by (node k) e h o = simp (lt-ltb at (length s) h, e, lt-leb (at + 1 + nodeBody k) (length s) (node-cut s at h k e o))
+  past-end : length s ≤ at → headAt more s types at n ≡ refused 3 at
+  unfolding headAt
+  past-end h = simp (le-ltb at (length s) h)
 
-  pub head-none : at < length s → OneOf (0 ∷ 2 ∷ []) (tagOf the-type (recordAt s at)) → refused (noNode (kindOf (byte s at))) at ≡ opens more s types at n
-  head-none h o = no-node-by (kindOf (byte s at)) refl h o
+  cut-here : (k : NodeKind) → kindOf (byte s at) ≡ node k → at < length s → length s - (at + 1) < nodeBody k → headAt more s types at n ≡ refused 3 at
+  unfolding headAt
+  cut-here k e h c = simp (lt-ltb at (length s) h, e, lt-leb (at + 1 + nodeBody k) (length s) (omega arith))
+
+  head-by : (k : Kind) {i p : ℕ} → kindOf (byte s at) ≡ k → at < length s → recordOf true (kindShape k) s at ≡ rec.Refused i p → headAt more s types at n ≡ refused i p
+  unfolding headAt
+  head-by unknown e h g = simp (lt-ltb at (length s) h, e) (refused-by g)
+  head-by (type k) e h g = simp (lt-ltb at (length s) h, e) (refused-by g)
+  head-by (node k) {i} {p} e h g = by (leb (nodeBody k) (length s - (at + 1))) refl g
+    where
+      by : (t : Bool) → leb (nodeBody k) (length s - (at + 1)) ≡ t → cond t (rec.Node (nodeAs s at k)) (rec.Refused 3 at) ≡ rec.Refused i p → headAt more s types at n ≡ refused i p
+      by true f g = absurd (no-node g)
+      by false f g = cut-here k e h (leb-false _ _ f) ∙ refused-by g
+
+  -- the refusal of a record that is due is the reader's
+  pub head-refused : {i p : ℕ} → recordAt true s at ≡ rec.Refused i p → headAt more s types at n ≡ refused i p
+  head-refused {i} {p} e = elim (decLt at (length s)) [
+    | yes h ↦ head-by (kindOf (byte s at)) refl h (sym (record-kind true s at _ h refl) ∙ e)
+    | no h ↦ past-end (omega arith) ∙ refused-by (sym (record-past true s at (omega arith)) ∙ e)
+  ]
+
+  pub term-refused : {i p : ℕ} → recordAt true s at ≡ rec.Refused i p → readTerm more s types at n ≡ refused i p
+  term-refused e = by-head more s types at n (head-refused e)
+
+  pub opens-refused : {i p : ℕ} → recordAt true s at ≡ rec.Refused i p → refused i p ≡ opens more s types at n
+  unfolding opens
+  opens-refused e = sym (ap (headed at) (head-refused e))
 
 -- ---- a whole record
 
@@ -79,8 +108,11 @@ limits-here more s types at n r k h is whole same =
     rw (lt-ltb at (length s) h, is, le-leb (at + 1 + nodeBody k) (length s) whole, same, typed-by s at types k)
     (headed-chain (ltb n 2048) (ltb 0 more) (eqb (nodeTyped k) 0 || ltb (byte s (at + nodeTyped k)) types) at k)
 
-pub head-limits : (more : ℕ) (s : List ℕ) (types at n : ℕ) (r : Node) → recordAt s at ≡ rec.Node r → at < length s → limitsOf r at n more types ≡ opens more s types at n
-head-limits more s types at n r e h = let w = node-here s at h r e in limits-here more s types at n r (w .kind) h (w .is) (w .whole) (w .same)
+pub head-limits : (more : ℕ) (s : List ℕ) (types at n : ℕ) (r : Node) → recordAt true s at ≡ rec.Node r → limitsOf r at n more types ≡ opens more s types at n
+head-limits more s types at n r e =
+    let l = node-next true s at e in
+    let h : at < length s = omega arith in
+    let w = node-here s at h r e in limits-here more s types at n r (w .kind) h (w .is) (w .whole) (w .same)
 
 -- ---- the limits, by the facts that the tests find one after the other
 
@@ -103,13 +135,48 @@ module _ (r : Node) (at n more types : ℕ) where
       unfolding limitsOf
       limit-none t = simp (lt-ltb n 2048 c, lt-ltb 0 more (omega arith), t)
 
--- ---- the kind byte where no node's record stands
+-- ---- no type stands inside the term
 
-no-node-of : (k : Kind) (b : Shape) → kindShape k ≡ b → numberOf b ≡ noNode k
-unfolding noNode
-no-node-of unknown b e = rw (← e)
-no-node-of (type k) b e = rw (← e)
-no-node-of (node k) b e = rw (← e)
+no-type : (s : List ℕ) (at : ℕ) (h : Shape) {f : Form} {next : ℕ} → recordOf true h s at ≡ rec.Type f next → ⊥
+no-type s at (shape.Type n u) e = let z : _≡_ {A = ℕ} 0 1 = cc in omega arith
+no-type s at (shape.Node n m u) {f} {next} e = by (leb n (length s - (at + 1))) _ e
+  where
+    by : (t : Bool) (q : Node) → cond t (rec.Node q) (rec.Refused 3 at) ≡ rec.Type f next → ⊥
+    by true q e = let z : _≡_ {A = ℕ} 0 1 = cc in omega arith
+    by false q e = let z : _≡_ {A = ℕ} 0 1 = cc in omega arith
+no-type s at shape.Unknown e = let z : _≡_ {A = ℕ} 0 1 = cc in omega arith
 
-pub no-node-is : (b : ℕ) (h : Shape) → shapeOf b ≡ h → numberOf h ≡ noNode (kindOf b)
-no-node-is b h e = no-node-of (kindOf b) h (sym (shape-kind b) ∙ e)
+pub no-type-inside : (s : List ℕ) (at : ℕ) {f : Form} {next : ℕ} → recordAt true s at ≡ rec.Type f next → ⊥
+unfolding recordAt
+no-type-inside s at {f} {next} e = by (leb (length s) at) e
+  where
+    by : (t : Bool) → cond t (rec.Refused 3 at) (recordOf true (shapeOf (byte s at)) s at) ≡ rec.Type f next → ⊥
+    by true e = let z : _≡_ {A = ℕ} 0 1 = cc in omega arith
+    by false e = no-type s at (shapeOf (byte s at)) e
+
+-- ---- the type number of a record, by the tags that a match on its rule leaves
+
+module _ (x y types : ℕ) where
+  pub typed-first : (u : Rule) → OneOf (2 ∷ 4 ∷ 6 ∷ 8 ∷ []) (tagOf rule-type u) → mistyped u x y types ≡ leb types x
+  typed-first rule.Variable o = absurd (miss (2 ∷ 4 ∷ 6 ∷ 8 ∷ []) 0 tt o)
+  typed-first rule.LinearVariable o = absurd (miss (2 ∷ 4 ∷ 6 ∷ 8 ∷ []) 1 tt o)
+  typed-first rule.Function o = refl
+  typed-first rule.Application o = absurd (miss (2 ∷ 4 ∷ 6 ∷ 8 ∷ []) 3 tt o)
+  typed-first rule.LinearFunction o = refl
+  typed-first rule.LinearApplication o = absurd (miss (2 ∷ 4 ∷ 6 ∷ 8 ∷ []) 5 tt o)
+  typed-first rule.Pair o = refl
+  typed-first rule.Projection o = absurd (miss (2 ∷ 4 ∷ 6 ∷ 8 ∷ []) 7 tt o)
+  typed-first rule.FixedPoint o = refl
+  typed-first rule.Constant o = absurd (miss (2 ∷ 4 ∷ 6 ∷ 8 ∷ []) 9 tt o)
+
+  pub typed-none : (u : Rule) → OneOf (0 ∷ 1 ∷ 3 ∷ 5 ∷ 7 ∷ []) (tagOf rule-type u) → mistyped u x y types ≡ false
+  typed-none rule.Variable o = refl
+  typed-none rule.LinearVariable o = refl
+  typed-none rule.Function o = absurd (miss (0 ∷ 1 ∷ 3 ∷ 5 ∷ 7 ∷ []) 2 tt o)
+  typed-none rule.Application o = refl
+  typed-none rule.LinearFunction o = absurd (miss (0 ∷ 1 ∷ 3 ∷ 5 ∷ 7 ∷ []) 4 tt o)
+  typed-none rule.LinearApplication o = refl
+  typed-none rule.Pair o = absurd (miss (0 ∷ 1 ∷ 3 ∷ 5 ∷ 7 ∷ []) 6 tt o)
+  typed-none rule.Projection o = refl
+  typed-none rule.FixedPoint o = absurd (miss (0 ∷ 1 ∷ 3 ∷ 5 ∷ 7 ∷ []) 8 tt o)
+  typed-none rule.Constant o = absurd (miss (0 ∷ 1 ∷ 3 ∷ 5 ∷ 7 ∷ []) 9 tt o)

@@ -16,8 +16,12 @@ use Rattle.calculus.specs.Write.{tableBytes}
 use Rattle.sheet_theorems.proofs.Tables.{empty-ok}
 use Rattle.sheet_theorems.proofs.Laying.{types-listed, termed}
 use Rattle.sheet.specs.Tables.{sizesOf}
-use Rattle.sheet.specs.Said.{Count, TypesSaid, allTypes, typesOf, End, end, spanned, endedOf}
+use Rattle.sheet.specs.Said.{Count, TypesSaid, allTypes, typesOf, dueOf, typesIn, End, end, spanned, endedOf}
 use Rattle.sheet.specs.Sheets.{wholeSheet, noSheet, readingOf}
+use Rattle.records.specs.Record.{recordAt}
+use Rattle.records.specs.declared.Record.{Record}
+use Rattle.records.specs.declared.Record.the-variants as rec
+use Rattle.sheet.proofs.HeadLaws.{term-refused}
 
 -- ---- behind the types
 
@@ -48,16 +52,26 @@ module _ (s : List ℕ) where
   read-long h = simp (lt-leb (length s) 16384 h)
 
   module _ (short : length s ≤ 16384) where
-    types-bad : (m : Answer (Table × ℕ)) (number place : ℕ) → readTypes 256 s [] 0 ≡ m → refused number place ≡ typesOf m .answer → noSheet number place ≡ readingOf (readSheet s)
+    types-refused : (m : Answer (Table × ℕ)) (number place : ℕ) → readTypes 256 s [] 0 ≡ m → refused number place ≡ typesOf (m >>= λ q. dueOf (recordAt true s (q .1)) q) .answer
+        → noSheet number place ≡ readingOf (readSheet s)
     unfolding typesOf readingOf readSheet
-    types-bad (good r) number place e h = absurd (refused≢good h)
-    types-bad (refused i p) number place e h =
+    types-refused (refused i p) number place e h =
         let a : number ≡ i = cc in
         let b : place ≡ p = cc in
         simp (le-leb (length s) 16384 short, e, a, b)
+    types-refused (good q) number place e h = due (recordAt true s (q .1)) refl h
+      where
+        due : (r : Record) → recordAt true s (q .1) ≡ r → refused number place ≡ typesOf (dueOf r q) .answer → noSheet number place ≡ readingOf (readSheet s)
+        due (rec.Type f next) g h = absurd (refused≢good h)
+        due (rec.Node n) g h = absurd (refused≢good h)
+        due (rec.Refused i p) g h =
+            let a : number ≡ i = cc in
+            let b : place ≡ p = cc in
+            simp (le-leb (length s) 16384 short, e, term-refused 64 s (length (q .0)) (q .1) 0 g, a, b)
 
-    pub read-types-bad : (number place : ℕ) → refused number place ≡ typesOf (readTypes 256 s [] 0) .answer → noSheet number place ≡ readingOf (readSheet s)
-    read-types-bad number place h = types-bad (readTypes 256 s [] 0) number place refl h
+    pub read-types-bad : (number place : ℕ) → refused number place ≡ typesOf (typesIn s) .answer → noSheet number place ≡ readingOf (readSheet s)
+    unfolding typesIn
+    read-types-bad number place h = types-refused (readTypes 256 s [] 0) number place refl h
 
     -- the term, behind a table that ends at an offset
     term-read : (Θ : Table) (start : ℕ) (m : Answer Got) → readTypes 256 s [] 0 ≡ good (Θ, start) → readTerm 64 s (length Θ) start 0 ≡ m
@@ -69,17 +83,26 @@ module _ (s : List ℕ) where
         let t = termed Θ s 64 start 0 g f in
         simp (le-leb (length s) 16384 short, e, f) (sheet-end (eqb (g .next) (length s)) Θ g start (omega (arith, t .count)) (l .end))
 
-    types-good : (m : Answer (Table × ℕ)) (count start : ℕ) (sizes : List ℕ) → readTypes 256 s [] 0 ≡ m → allTypes count start sizes ≡ typesOf m
+    types-good : (m : Answer (Table × ℕ)) (count start : ℕ) (sizes : List ℕ) → readTypes 256 s [] 0 ≡ m → allTypes count start sizes ≡ typesOf (m >>= λ q. dueOf (recordAt true s (q .1)) q)
         → endedOf (spanned (readTerm 64 s count start 0)) (length s) count start sizes ≡ readingOf (readSheet s)
     unfolding typesOf
     types-good (refused i p) count start sizes e h = absurd (refused≢good (sym (ap (λ (t : TypesSaid). t .answer) h)))
-    types-good (good r) count start sizes e h =
-        let f = good-inj (ap (λ (t : TypesSaid). t .answer) h) in
-        let a : count ≡ length (r .0) = ap (λ (c : Count). c .count) f in
-        let b : start ≡ r .1 = ap (λ (c : Count). c .end) f in
-        let z : sizes ≡ sizesOf (r .0) = ap (λ (t : TypesSaid). t .sizes) h in
-        rw (a, b, z) (term-read (r .0) (r .1) _ e refl)
+    types-good (good q) count start sizes e h = due (recordAt true s (q .1)) h
+      where
+        goes : allTypes count start sizes ≡ typesOf (good q) → endedOf (spanned (readTerm 64 s count start 0)) (length s) count start sizes ≡ readingOf (readSheet s)
+        goes h =
+            let f = good-inj (ap (λ (t : TypesSaid). t .answer) h) in
+            let a : count ≡ length (q .0) = ap (λ (c : Count). c .count) f in
+            let b : start ≡ q .1 = ap (λ (c : Count). c .end) f in
+            let z : sizes ≡ sizesOf (q .0) = ap (λ (t : TypesSaid). t .sizes) h in
+            rw (a, b, z) (term-read (q .0) (q .1) _ e refl)
 
-    pub read-types-good : (count start : ℕ) (sizes : List ℕ) → allTypes count start sizes ≡ typesOf (readTypes 256 s [] 0)
+        due : (r : Record) → allTypes count start sizes ≡ typesOf (dueOf r q) → endedOf (spanned (readTerm 64 s count start 0)) (length s) count start sizes ≡ readingOf (readSheet s)
+        due (rec.Type f next) h = goes h
+        due (rec.Node n) h = goes h
+        due (rec.Refused i p) h = absurd (refused≢good (sym (ap (λ (t : TypesSaid). t .answer) h)))
+
+    pub read-types-good : (count start : ℕ) (sizes : List ℕ) → allTypes count start sizes ≡ typesOf (typesIn s)
         → endedOf (spanned (readTerm 64 s count start 0)) (length s) count start sizes ≡ readingOf (readSheet s)
+    unfolding typesIn
     read-types-good count start sizes h = types-good (readTypes 256 s [] 0) count start sizes refl h

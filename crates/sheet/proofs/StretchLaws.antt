@@ -1,13 +1,11 @@
 -- Where a node's stretch begins and ends, by the reader. Assumes nothing.
 use Prim.Native.Nat.{ℕ, _+_, _-_, _≤_, _<_}
 use mathlib.Core.Path.{_≡_, refl, sym, ap, ap₂, _∙_}
-use mathlib.Core.Logic.{⊎-elim}
-use mathlib.Core.List.{List, [], _∷_}
+use mathlib.Core.Bool.{true}
+use mathlib.Core.List.{List}
 use native.Mathlib.Omega.{arith}
 use native.Mathlib.Numerals.{add-one}
 use native.Mathlib.Decide.{decLt}
-use denote.Enum.Declared.{tagOf}
-use types.Run.{OneOf}
 use lib.ListN.{length, getD}
 use Rattle.calculus.specs.Answer.{Answer, good, refused}
 use Rattle.calculus.proofs.Answers.{refused≢good, good-inj}
@@ -17,11 +15,10 @@ use Rattle.calculus.specs.Stretch.{nowhere, stretchOf}
 use Rattle.sheet_theorems.specs.Subterms.{subterms, bodyOf, after, skip}
 use Rattle.sheet_theorems.proofs.StretchHolds.{skip-next, stretch-holds, stretch-past, stretch-refused}
 use Rattle.sheet_theorems.proofs.SubtermRead.{stretch-read}
-use Rattle.records.specs.Record.{recordAt}
+use Rattle.records.specs.Record.{recordAt, nodeAt}
 use Rattle.records.specs.declared.Node.{Node}
 use Rattle.records.specs.declared.Record.the-variants as rec
-use Rattle.records.proofs.Record.{the-type}
-use Rattle.records.proofs.Laws.{node-next, stands-record}
+use Rattle.records.proofs.Laws.{node-next, stands-record, stands-node}
 use Rattle.sheet.specs.Nodes.{NodesFrom}
 use Rattle.sheet.specs.Said.{End, end, spanned}
 use Rattle.sheet.proofs.Told.{Told}
@@ -33,18 +30,14 @@ after-here : (s : List ℕ) (at : ℕ) (r : Node) → NodeHere s at r → r .nex
 after-here s at r w = ap (λ (x : Node). x .next) (w .same) ∙ ap (λ (k : Kind). at + 1 + bodyOf k) (sym (w .is))
 
 -- the record of a node ends where the next begins
-pub after-node : (s : List ℕ) (at : ℕ) (r : Node) → recordAt s at ≡ rec.Node r → r .next ≡ after s at
-after-node s at r e = let l = node-next s at e in after-here s at r (node-here s at (omega arith) r e)
+after-node : (s : List ℕ) (at : ℕ) (r : Node) → recordAt true s at ≡ rec.Node r → r .next ≡ after s at
+after-node s at r e = let l = node-next true s at e in after-here s at r (node-here s at (omega arith) r e)
 
-pub skip-more : (s : List ℕ) (start k at : ℕ) (r : Node) → at ≡ skip s k start → recordAt s at ≡ rec.Node r → r .next ≡ skip s (k + 1) start
-skip-more s start k at r e f = after-node s at r f ∙ ap (after s) e ∙ sym (rw (add-one k) (skip-next s k start))
-
--- a node stands there, so its record does
-pub node-stands : {A : Type 0} (s : List ℕ) (start n k at : ℕ) → NodesFrom s start n → k < n → at ≡ skip s k start → OneOf (0 ∷ 2 ∷ []) (tagOf the-type (recordAt s at)) → A
-node-stands s start n k at f h e o =
+pub skip-more : (s : List ℕ) (start n k at : ℕ) {r : Node} → NodesFrom s start n → k < n → at ≡ skip s k start → r ≡ nodeAt s at → r .next ≡ skip s (k + 1) start
+skip-more s start n k at f h e g =
     let w = f k h in
-    let q = ap (recordAt s) e ∙ stands-record s (skip s k start) (w .term) (w .stands) in
-    ⊎-elim (λ (z : 1 ≡ 0). absurd (omega arith)) (λ (z : 1 ≡ 2). absurd (omega arith)) (rw q at o)
+    let x = skip s k start in
+    ap (λ (r : Node). r .next) (g ∙ ap (nodeAt s) e ∙ stands-node s x (w .term) (w .stands)) ∙ after-node s x _ (stands-record true s x (w .term) (w .stands)) ∙ sym (rw (add-one k) (skip-next s k start))
 
 -- ---- the stretch of a node of a sheet that is read
 

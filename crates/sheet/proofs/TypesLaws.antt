@@ -1,12 +1,14 @@
 -- The reader of type records, one record further or at its end. Assumes nothing.
 use Prim.Native.Nat.{ℕ, zero, suc, _+_, _*_, _-_, _≤_, _<_}
 use mathlib.Core.Path.{_≡_, refl, sym, ap, _∙_}
+use mathlib.Core.Bool.{true, false}
 use mathlib.Core.List.{List, [], _∷_, _++_}
 use native.Mathlib.Omega.{arith}
+use native.Mathlib.Decide.{decLt}
 use borrow.Author.Tests.{lt-ltb, le-ltb, le-leb, lt-leb}
 use lib.Dec.{ltb, ltb→lt}
 use denote.Enum.Declared.{tagOf}
-use types.Run.{OneOf}
+use types.Run.{OneOf, miss}
 use lib.ListN.{length, set, length-append, List·getD-eq-default}
 use lib.Seq.{getD-at}
 use Rattle.calculus.specs.Answer.{Answer, good, refused, _>>=_}
@@ -21,14 +23,14 @@ use Rattle.sheet_theorems.proofs.Laying.{table-snoc, rec-length}
 use Rattle.sheet_theorems.proofs.TypeOffsets.{record-zero, record-later, table-length}
 use Rattle.records.specs.Forms.{recOf, recIn}
 use Rattle.records.proofs.FormLaws.{rec-first, rec-later, rec-long}
-use Rattle.records.specs.Record.{recordAt, shapeOf}
-use Rattle.records.specs.declared.Rule.{Rule}
-use Rattle.records.specs.declared.Shape.the-variants as shape
+use Rattle.records.specs.Record.{recordAt}
+use Rattle.records.specs.declared.Form.{Form}
+use Rattle.records.specs.declared.Record.{Record}
+use Rattle.records.specs.declared.Record.the-variants as rec
 use Rattle.records.proofs.Record.{the-type}
-use Rattle.records.specs.declared.TypeRecord.{TypeRecord}
 use Rattle.sheet.specs.Tables.{tableIn, sizesOf, Before, sizeOf}
-use Rattle.sheet.specs.Said.{allTypes, noTypes, typesOf, endOf}
-use Rattle.sheet.proofs.KindLaws.{TypeHere, type-cut, kindShape, shape-kind}
+use Rattle.sheet.specs.Said.{allTypes, noTypes, typesOf, endOf, dueOf, typesIn}
+use Rattle.sheet.proofs.KindLaws.{TypeHere, type-cut, record-kind, record-past}
 use Rattle.sheet.proofs.TableLaws.{table-more, table-count, sizes-more}
 
 -- ---- one record of `readTypes`
@@ -101,7 +103,7 @@ first-rec : (s : List ℕ) (q : TyRec) → TableOk (tableIn s 0 ++ q ∷ []) →
 unfolding tableIn
 first-rec s q ok = record-zero (q ∷ []) ok
 
-module _ (s : List ℕ) (at : ℕ) (r : TypeRecord) (t : TypeHere s at r) where
+module _ (s : List ℕ) (at : ℕ) {f : Form} {next : ℕ} (t : TypeHere s at f next) where
   abbrev q : TyRec
   q = typeRec (t .kind) (byte s (at + 1)) (byte s (at + 2))
 
@@ -129,7 +131,7 @@ module _ (s : List ℕ) (at : ℕ) (r : TypeRecord) (t : TypeHere s at r) where
     went = i .left ∙ types-whole s Θ at (256 - count) (t .kind) room (t .is) (t .whole)
 
     -- one type further
-    pub next-type : (z : ℕ) → good z ≡ sizeOf Θ q at → SoFar s (r .next) (count + 1) (set sizes count z)
+    pub next-type : (z : ℕ) → good z ≡ sizeOf Θ q at → SoFar s next (count + 1) (set sizes count z)
     next-type z e =
         let (few, ok, is) = size-tells Θ q at z (sym e) in
         let c : length Θ ≡ count = table-count s count in
@@ -140,61 +142,51 @@ module _ (s : List ℕ) (at : ℕ) (r : TypeRecord) (t : TypeHere s at r) where
             ok = rw same at more;
             sizes-are = rw (i .before .sizes-are, ← same) (sizes-more Θ q count z c (omega arith) is);
           };
-          end = rw (← same, table-snoc Θ q) (omega (arith, t .next, i .end, length-append (tableBytes Θ) (recBytes q), rec-length (t .kind) (byte s (at + 1)) (byte s (at + 2))));
-          left = went ∙ rw (← e, same, ← t .next) (ap (λ (m : ℕ). readTypes m s (tableIn s (count + 1)) (r .next)) (omega arith));
-          within = rw (t .next) (t .whole);
+          end = rw (← same, table-snoc Θ q) (omega (arith, t .past, i .end, length-append (tableBytes Θ) (recBytes q), rec-length (t .kind) (byte s (at + 1)) (byte s (at + 2))));
+          left = went ∙ rw (← e, same, ← t .past) (ap (λ (m : ℕ). readTypes m s (tableIn s (count + 1)) next) (omega arith));
+          within = rw (t .past) (t .whole);
         }
 
-    pub type-refused : (number place : ℕ) → refused number place ≡ sizeOf Θ q at → noTypes number place ≡ typesOf (readTypes 256 s [] 0)
-    unfolding typesOf
+    pub type-refused : (number place : ℕ) → refused number place ≡ sizeOf Θ q at → noTypes number place ≡ typesOf (typesIn s)
+    unfolding typesOf typesIn
     type-refused number place e = rw (went, ← e)
 
 -- ---- the end of the types
 
+types-refused : (s : List ℕ) (at count : ℕ) (sizes : List ℕ) → readTypes 256 s [] 0 ≡ refused 3 at → endOf (rec.Refused 3 at) at count sizes ≡ typesOf (typesIn s)
+unfolding endOf typesOf typesIn
+types-refused s at count sizes e = rw e
+
 module _ (s : List ℕ) (at count : ℕ) (sizes : List ℕ) (i : SoFar s at count sizes) where
-  all-read : readTypes (256 - count) s (tableIn s count) at ≡ good (tableIn s count, at) → allTypes count at sizes ≡ typesOf (readTypes 256 s [] 0)
-  unfolding typesOf
-  all-read e = rw (i .left, e, table-count s count, i .before .sizes-are)
-
-  pub types-over : length s ≤ at → allTypes count at sizes ≡ typesOf (readTypes 256 s [] 0)
-  types-over h = all-read (types-none s (tableIn s count) at (256 - count) (rw (List·getD-eq-default s 0 h)))
-
-  stop : (k : Kind) → kindOf (byte s at) ≡ k → at < length s → OneOf (1 ∷ 2 ∷ []) (tagOf the-type (recordAt s at)) → endOf k at count sizes ≡ typesOf (readTypes 256 s [] 0)
+  -- the types are read, and this record is due behind them
+  ended : (r : Record) → endOf r at count sizes ≡ typesOf (dueOf r (tableIn s count, at))
   unfolding endOf typesOf
-  stop unknown e h o = all-read (types-none s (tableIn s count) at (256 - count) e)
-  stop (node k) e h o = all-read (types-node s (tableIn s count) at (256 - count) e)
-  stop (type k) e h o = rw (i .left, types-cut s (tableIn s count) at (256 - count) k e (type-cut s at h k e o))
+  ended (rec.Type f next) = rw (table-count s count, i .before .sizes-are)
+  ended (rec.Node n) = rw (table-count s count, i .before .sizes-are)
+  ended (rec.Refused number place) = refl
+
+  all-read : {r : Record} → readTypes (256 - count) s (tableIn s count) at ≡ good (tableIn s count, at) → r ≡ recordAt true s at → endOf r at count sizes ≡ typesOf (typesIn s)
+  unfolding typesIn
+  all-read {r} e h = ended r ∙ rw (i .left, e, ← h) refl
+
+  stop : (k : Kind) {r : Record} → kindOf (byte s at) ≡ k → at < length s → r ≡ recordAt false s at → OneOf (1 ∷ 2 ∷ []) (tagOf the-type r) → endOf r at count sizes ≡ typesOf (typesIn s)
+  stop unknown e h g o = all-read (types-none s (tableIn s count) at (256 - count) e) (g ∙ record-kind false s at unknown h e ∙ sym (record-kind true s at unknown h e))
+  stop (node k) e h g o = all-read (types-node s (tableIn s count) at (256 - count) e) (g ∙ record-kind false s at (node k) h e ∙ sym (record-kind true s at (node k) h e))
+  stop (type k) {r} e h g o = let c = type-cut s at k h e g o in rw (c .0) (cut-off (i .left ∙ types-cut s (tableIn s count) at (256 - count) k e (c .1)))
+    where
+      cut-off : readTypes 256 s [] 0 ≡ refused 3 at → endOf (rec.Refused 3 at) at count sizes ≡ typesOf (typesIn s)
+      cut-off e = types-refused s at count sizes e
 
   -- where no type record stands
-  pub types-stop : at < length s → OneOf (1 ∷ 2 ∷ []) (tagOf the-type (recordAt s at)) → endOf (kindOf (byte s at)) at count sizes ≡ typesOf (readTypes 256 s [] 0)
-  types-stop h o = stop (kindOf (byte s at)) refl h o
+  pub types-stop : {r : Record} → r ≡ recordAt false s at → OneOf (1 ∷ 2 ∷ []) (tagOf the-type r) → endOf r at count sizes ≡ typesOf (typesIn s)
+  types-stop {r} g o = elim (decLt at (length s)) [
+    | yes h ↦ stop (kindOf (byte s at)) refl h g o
+    | no h ↦ all-read (types-none s (tableIn s count) at (256 - count) (rw (List·getD-eq-default s 0 {n = at} (omega arith)))) (g ∙ record-past false s at (omega arith) ∙ sym (record-past true s at (omega arith)))
+  ]
 
--- ---- a kind byte where no type record stands
-
-module _ (at n : ℕ) (sizes : List ℕ) where
-  end-of-type : (k : Kind) {m : ℕ} {u : Rule} → kindShape k ≡ shape.Type m u → noTypes 3 at ≡ endOf k at n sizes
-  unfolding endOf
-  end-of-type unknown e = let z : _≡_ {A = ℕ} 0 1 = cc in absurd (omega arith)
-  end-of-type (type k) e = refl
-  end-of-type (node k) e = let z : _≡_ {A = ℕ} 0 1 = cc in absurd (omega arith)
-
-  end-of-node : (k : Kind) {m i : ℕ} {u : Rule} → kindShape k ≡ shape.Node m i u → allTypes n at sizes ≡ endOf k at n sizes
-  unfolding endOf
-  end-of-node unknown e = refl
-  end-of-node (type k) e = let z : _≡_ {A = ℕ} 0 1 = cc in absurd (omega arith)
-  end-of-node (node k) e = refl
-
-  end-of-unknown : (k : Kind) → kindShape k ≡ shape.Unknown → allTypes n at sizes ≡ endOf k at n sizes
-  unfolding endOf
-  end-of-unknown unknown e = refl
-  end-of-unknown (type k) e = let z : _≡_ {A = ℕ} 0 1 = cc in absurd (omega arith)
-  end-of-unknown (node k) e = refl
-
-  pub end-type : (b : ℕ) {m : ℕ} {u : Rule} → shapeOf b ≡ shape.Type m u → noTypes 3 at ≡ endOf (kindOf b) at n sizes
-  end-type b e = end-of-type (kindOf b) (sym (shape-kind b) ∙ e)
-
-  pub end-node : (b : ℕ) {m i : ℕ} {u : Rule} → shapeOf b ≡ shape.Node m i u → allTypes n at sizes ≡ endOf (kindOf b) at n sizes
-  end-node b e = end-of-node (kindOf b) (sym (shape-kind b) ∙ e)
-
-  pub end-unknown : (b : ℕ) → shapeOf b ≡ shape.Unknown → allTypes n at sizes ≡ endOf (kindOf b) at n sizes
-  end-unknown b e = end-of-unknown (kindOf b) (sym (shape-kind b) ∙ e)
+-- a record that is no refusal
+pub end-none : (r : Record) (at n : ℕ) (sizes : List ℕ) → OneOf (0 ∷ 1 ∷ []) (tagOf the-type r) → endOf r at n sizes ≡ allTypes n at sizes
+unfolding endOf
+end-none (rec.Type f next) at n sizes o = refl
+end-none (rec.Node r) at n sizes o = refl
+end-none (rec.Refused number place) at n sizes o = absurd (miss (0 ∷ 1 ∷ []) 2 tt o)

@@ -1,12 +1,12 @@
 -- What the answers on type records, nodes' records and terms say, in the terms of the definitions: one case for each variant. Assumes nothing.
 use Prim.Native.Nat.{ℕ, _+_}
-use mathlib.Core.Bool.{Bool, false, not, cond}
+use mathlib.Core.Bool.{Bool, true, false, not, cond}
 use mathlib.Core.List.{List, []}
 use lib.Dec.{ltb, leb, eqb}
 use lib.ListN.{length}
 use Rattle.calculus.specs.Answer.{Answer, good, refused, _>>=_, need}
 use Rattle.calculus.specs.Types.{Table}
-use Rattle.calculus.specs.Read.{Kind, unknown, type, node, NodeKind, k11, k12, k13, k14, k15, k16, k17, k18, k19, k1A, nodeBody, headAt, Got}
+use Rattle.calculus.specs.Read.{NodeKind, k11, k12, k13, k14, k15, k16, k17, k18, k19, k1A, nodeBody, readTypes, headAt, Got}
 use Rattle.sheet.specs.Tables.{sizesOf}
 use Rattle.sheet.specs.Sheets.{ReadSaid, wholeSheet, noSheet}
 use Rattle.sheet.specs.declared.types.Listed.{Listed}
@@ -19,6 +19,9 @@ use Rattle.sheet.specs.declared.term.Span.the-variants as span
 use Rattle.records.specs.declared.Rule.{Rule}
 use Rattle.records.specs.declared.Rule.the-variants as rule
 use Rattle.records.specs.declared.Node.{Node}
+use Rattle.records.specs.declared.Record.{Record}
+use Rattle.records.specs.declared.Record.the-variants as rec
+use Rattle.records.specs.Record.{recordAt}
 
 -- ---- the type records
 
@@ -50,11 +53,20 @@ unfoldable pub typesOf : Answer (Table × ℕ) → TypesSaid
 typesOf (good r) = allTypes (length (r .0)) (r .1) (sizesOf (r .0))
 typesOf (refused number place) = noTypes number place
 
--- at a kind byte where no type record stands: a type's is that of a record cut short, any other ends the types
-unfoldable pub endOf : Kind → ℕ → ℕ → List ℕ → TypesSaid
-endOf unknown at n sizes = allTypes n at sizes
-endOf (node k) at n sizes = allTypes n at sizes
-endOf (type k) at n sizes = noTypes 3 at
+-- where no type's record stands: a node's ends the types, and a refusal is the sheet's
+unfoldable pub endOf : Record → ℕ → ℕ → List ℕ → TypesSaid
+endOf (rec.Type f next) at n sizes = allTypes n at sizes
+endOf (rec.Node r) at n sizes = allTypes n at sizes
+endOf (rec.Refused number place) at n sizes = noTypes number place
+
+-- behind the types a node's record is due
+abbrev pub dueOf : Record → Table × ℕ → Answer (Table × ℕ)
+dueOf (rec.Type f next) q = good q
+dueOf (rec.Node r) q = good q
+dueOf (rec.Refused number place) q = refused number place
+
+unfoldable pub typesIn : List ℕ → Answer (Table × ℕ)
+typesIn s = readTypes 256 s [] 0 >>= λ q. dueOf (recordAt true s (q .1)) q
 
 -- ---- a node's record
 
@@ -92,11 +104,16 @@ opens more s types at n = headed at (headAt more s types at n)
 
 -- a type number that the record holds names no type
 abbrev pub mistyped : Rule → ℕ → ℕ → ℕ → Bool
-mistyped rule.Bare x y types = false
-mistyped rule.Sides x y types = false
-mistyped rule.Binder x y types = false
-mistyped rule.Typed x y types = leb types x
-mistyped rule.Part x y types = leb types y
+mistyped rule.Variable x y types = false
+mistyped rule.LinearVariable x y types = false
+mistyped rule.Function x y types = leb types x
+mistyped rule.Application x y types = false
+mistyped rule.LinearFunction x y types = leb types x
+mistyped rule.LinearApplication x y types = false
+mistyped rule.Pair x y types = leb types x
+mistyped rule.Projection x y types = false
+mistyped rule.FixedPoint x y types = leb types x
+mistyped rule.Constant x y types = leb types y
 
 -- a whole record: count, depth, type number
 unfoldable pub limitsOf : Node → ℕ → ℕ → ℕ → ℕ → Answer Opened
@@ -105,12 +122,6 @@ limitsOf r at n more types = do
   _ ← need (ltb 0 more) 8 at
   _ ← need (not (mistyped (r .rule) (r .first) (r .second) types)) 5 at
   opening (r .next) (r .subterms)
-
--- the refusal at a kind byte where no node's record stands: a node's is that of a record cut short
-unfoldable pub noNode : Kind → ℕ
-noNode unknown = 4
-noNode (type k) = 4
-noNode (node k) = 3
 
 -- ---- a term
 

@@ -1,5 +1,4 @@
 // A sheet is read: refusals 2 to 9, the sizes of its types, and the stretch of a node.
-use records::Record;
 use term::Span;
 use types::Listed;
 ghost use mathlib.Core.Path.{_≡_};
@@ -95,9 +94,7 @@ fn skip(s: &[u8], start: usize, n: usize) -> usize
     let mut at = start;
     let mut k: usize = 0;
     while k < n {
-        let Record::Node(r) = records::record_at(s, at) else {
-            return at;
-        };
+        let r = records::node_at(s, at);
         at = r.next;
         k = k + 1;
     }

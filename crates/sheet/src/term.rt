@@ -2,10 +2,9 @@
 use records::Node;
 use records::Record;
 use records::Rule;
-use records::Shape;
 ghost use mathlib.Core.Path.{_≡_};
-ghost use Rattle.calculus.specs.Read.{kindOf, readTerm};
-ghost use Rattle.sheet.specs.Said.{noNode, mistyped, saidHead, limitsOf, opens, saidSpan, spanned};
+ghost use Rattle.calculus.specs.Read.{readTerm};
+ghost use Rattle.sheet.specs.Said.{mistyped, saidHead, limitsOf, opens, saidSpan, spanned};
 
 const MOST_NODES: usize = 2048;
 
@@ -15,28 +14,17 @@ pub enum Head {
     Refused(u8, usize),
 }
 
-// The refusal at a kind byte where no node's record stands: a node's is that of a record cut short, and no other is known here.
-fn no_node(kind: u8) -> u8
-    ensures { λ r. ⌜ r ≡ noNode (kindOf kind) ⌝ }
-{
-    match records::shape_of(kind) {
-        Shape::Node(_, _, _) => 3,
-        Shape::Type(_, _) => 4,
-        Shape::Unknown => 4,
-    }
-}
-
 // A type number that a node's record holds names no type.
 fn unknown_type(r: Node, types: usize) -> bool
     ensures { λ b. ⌜ b ≡ mistyped (r .rule) (r .first) (r .second) types ⌝ }
 {
     let rule = r.rule;
     match rule {
-        Rule::Bare => false,
-        Rule::Sides => false,
-        Rule::Binder => false,
-        Rule::Typed => types <= records::wide(r.first),
-        Rule::Part => types <= records::wide(r.second),
+        Rule::Function | Rule::LinearFunction | Rule::Pair | Rule::FixedPoint => {
+            types <= records::wide(r.first)
+        }
+        Rule::Constant => types <= records::wide(r.second),
+        _ => false,
     }
 }
 
@@ -56,16 +44,15 @@ fn limits(r: Node, at: usize, count: usize, more: usize, types: usize) -> Head
     Head::Opens(r.next, r.subterms)
 }
 
+// The refusal of a record that cannot be read is passed on.
 fn head_at(s: &[u8], at: usize, count: usize, more: usize, types: usize) -> Head
     ensures { λ h. ⌜ saidHead h ≡ opens more (now (s .entry)) types at count ⌝ }
 {
-    if s.len() <= at {
-        return Head::Refused(3, at);
+    match records::record_at(s, at, true) {
+        Record::Node(r) => limits(r, at, count, more, types),
+        Record::Refused(number, place) => Head::Refused(number, place),
+        Record::Type(_, _) => Head::Refused(4, at),
     }
-    let Record::Node(r) = records::record_at(s, at) else {
-        return Head::Refused(no_node(s[at]), at);
-    };
-    limits(r, at, count, more, types)
 }
 
 // The end of a term: where the next record is due and how many nodes there have been, or a refusal.

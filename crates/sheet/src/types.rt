@@ -1,8 +1,6 @@
 // The type records of a sheet: refusals 3 and 5 to 8, and the sizes of the types.
 use records::Form;
 use records::Record;
-use records::Shape;
-use records::TypeRecord;
 ghost use mathlib.Core.Path.{_≡_};
 ghost use mathlib.Core.Bool.{_&&_};
 ghost use mathlib.Core.List.{[]};
@@ -10,10 +8,10 @@ ghost use Prim.Native.Nat.{_+_, _≤_, _<_};
 ghost use lib.Dec.{ltb};
 ghost use lib.ListN.{length, getD};
 ghost use Rattle.calculus.specs.Types.{recEq};
-ghost use Rattle.calculus.specs.Read.{kindOf, byte, repeated, readTypes};
+ghost use Rattle.calculus.specs.Read.{repeated};
 ghost use Rattle.records.specs.Forms.{saidForm, recOf, recIn};
 ghost use Rattle.sheet.specs.Tables.{tableIn, sharableRec, arrowRec, knownBelow, formedIn, sizeIn, sizesOf, Before, sizeOf, saidChecked};
-ghost use Rattle.sheet.specs.Said.{saidTypes, noTypes, typesOf, endOf};
+ghost use Rattle.sheet.specs.Said.{saidTypes, noTypes, typesOf, typesIn, endOf};
 
 const MOST_TYPES: usize = 256;
 
@@ -40,19 +38,6 @@ fn arrow(s: &[u8], t: u8) -> bool
         Form::Product(_, _) => false,
         Form::Arrow(_, _) => true,
         Form::Linear(_, _) => true,
-    }
-}
-
-// A record that has been read, by its kind.
-fn form_of(r: TypeRecord) -> Form
-    ensures { λ f. ⌜ saidForm f ≡ recOf (r .kind) (r .left) (r .right) ⌝ }
-{
-    let kind = r.kind;
-    match kind {
-        0x02 => Form::Product(r.left, r.right),
-        0x03 => Form::Arrow(r.left, r.right),
-        0x04 => Form::Linear(r.left, r.right),
-        _ => Form::Bit,
     }
 }
 
@@ -224,47 +209,39 @@ fn no_types(number: u8, place: usize) -> Types
     }
 }
 
-// Where no type record stands at an offset: a type's kind byte is that of a record cut short, any other ends the types.
-fn types_end(s: &[u8], at: usize, count: usize, sizes: [u8; 256]) -> Types
-    requires { ⌜ at < length (now s) ⌝ }
-    ensures { λ r. ⌜ saidTypes r ≡ endOf (kindOf (byte (now (s .entry)) at)) at count sizes ⌝ }
+// Where no type's record stands: a node's ends the types, and a refusal is the sheet's, since a record is due there in any case.
+fn types_end(r: Record, at: usize, count: usize, sizes: [u8; 256]) -> Types
+    ensures { λ t. ⌜ saidTypes t ≡ endOf r at count sizes ⌝ }
 {
-    match records::shape_of(s[at]) {
-        Shape::Type(_, _) => no_types(3, at),
-        Shape::Node(_, _, _) => Types {
+    let Record::Refused(number, place) = r else {
+        return Types {
             listed: Listed::All(count, at),
             sizes,
-        },
-        Shape::Unknown => Types {
-            listed: Listed::All(count, at),
-            sizes,
-        },
-    }
+        };
+    };
+    no_types(number, place)
 }
 
 pub fn read_types(s: &[u8]) -> Types
-    ensures { λ r. ⌜ saidTypes r ≡ typesOf (readTypes 256 (now (s .entry)) [] 0) ⌝ }
+    ensures { λ r. ⌜ saidTypes r ≡ typesOf (typesIn (now (s .entry))) ⌝ }
 {
     let mut sizes = no_sizes();
     let mut at: usize = 0;
     let mut count: usize = 0;
-    while at < s.len() {
-        let Record::Type(r) = records::record_at(s, at) else {
-            return types_end(s, at, count, sizes);
+    loop {
+        let r = records::record_at(s, at, false);
+        let Record::Type(f, next) = r else {
+            return types_end(r, at, count, sizes);
         };
-        match check_type(s, at, count, &sizes, form_of(r)) {
+        match check_type(s, at, count, &sizes, f) {
             Checked::Refused(number, place) => {
                 return no_types(number, place);
             }
             Checked::Size(size) => {
                 sizes[count] = size;
                 count = count + 1;
-                at = r.next;
+                at = next;
             }
         }
-    }
-    Types {
-        listed: Listed::All(count, at),
-        sizes,
     }
 }

@@ -1,44 +1,46 @@
--- Two results that the contract of a public function allows are equal: the answer, the output and the working memory. Assumes nothing.
-use Prim.Native.Nat.{ℕ}
-use mathlib.Core.Path.{_≡_, sym, ap, _∙_}
-use mathlib.Core.Bool.{Bool}
+-- The contracts of the public functions determine what they answer: two results that one allows for a call are equal. Of the working
+-- memory, `make` determines the netlist and what the clearing leaves. Assumes nothing.
+use Prim.Native.Nat.{ℕ, _≤_}
+use mathlib.Core.Path.{_≡_, refl, sym, ap, _∙_}
 use mathlib.Core.List.{List}
+use lib.ListN.{length, drop}
+use contract.Lifetimes.{Lfts}
+use denote.Triple.Clauses.{AtExit}
+use borrow.Fn.Kinds.{Dens, resT, endedOf}
+use Rattle.calculus.specs.Answer.{Answer, good, refused}
+use Rattle.calculus.specs.Net.{Net}
+use Rattle.calculus.specs.Translate.{workOf}
 use Rattle.calculus.proofs.Answers.{refused≢good, good-inj}
-use Rattle.calculus.specs.Stretch.{stretchOf}
-use Rattle.calculus.specs.Translate.{Call, call}
-use Rattle.translator.specs.Said.{saidAnswer, called}
-use Rattle.translator.specs.Boundary.{packedStretch, Packs}
-use Rattle.translator.specs.declared.Answer as code
-use Rattle.translator.specs.declared.Answer.the-variants as answer
+use Rattle.memory.specs.Map.{netIn}
+use Rattle.memory.proofs.Zeroed.{zeroed-later}
+use Rattle.wiring.specs.Whole.{Stands}
+use Rattle.wiring.proofs.Determined.{one-netlist}
+use Rattle.translator.specs.Made.{Makes}
+use Rattle.translator.specs.declared.Made as code
+use Rattle.translator.specs.declared.Made.the-variants as made
+use Rattle.translator.proofs.Keeping.{work-large}
+use Rattle.translator.proofs.make.Kinds as make
+use Rattle.translator.proofs.make.Reads as make-reads
 
--- an answer, what is left of the output, and what is left of the working memory
-pub record Same {A : Type 0} (r q : A) (o o′ w w′ : List ℕ) : Type 0 where
-  pub answer : r ≡ q
-  pub out : o ≡ o′
-  pub work : w ≡ w′
+-- two memories that are cleared to the same are the same from number 32,768 on
+same-later : (u v : List ℕ) → 32768 ≤ length u → 32768 ≤ length v → workOf u ≡ workOf v → drop 32768 v ≡ drop 32768 u
+same-later u v h k e = sym (zeroed-later 32768 v) ∙ ap (drop 32768) (sym (work-large v k) ∙ sym e ∙ work-large u h) ∙ zeroed-later 32768 u
 
--- an answer says what it is
-same-answer : (r q : code.Answer) → saidAnswer r ≡ saidAnswer q → r ≡ q
-same-answer (answer.Written m) (answer.Written n) e = ap answer.Written (good-inj e)
-same-answer (answer.Written m) (answer.Refused j p) e = absurd (refused≢good (sym e))
-same-answer (answer.Refused i p) (answer.Written n) e = absurd (refused≢good e)
-same-answer (answer.Refused i p) (answer.Refused j q) e =
+one-made : (s w u v : List ℕ) (x y : code.Made) → Makes x s w u → Makes y s w v → x ≡ y
+one-made s w u v (made.Net c) (made.Net d) f g =
+    let n : netIn v (d .elements) (d .wires) (d .pins) ≡ netIn u (c .elements) (c .wires) (c .pins) = good-inj (g .said ∙ sym (f .said)) in
+    let a : Stands (netIn u (c .elements) (c .wires) (c .pins)) c u u = record { net = refl; ready = f .standing .0; known = f .standing .1; later = refl } in
+    let b : Stands (netIn u (c .elements) (c .wires) (c .pins)) d u v =
+    record { net = n; ready = g .standing .0; known = g .standing .1; later = same-later u v (f .standing .0 .size) (g .standing .0 .size) (f .keeps ∙ sym (g .keeps)) } in
+    ap made.Net (one-netlist a b .0)
+one-made s w u v (made.Net c) (made.Refused j q) f g = absurd (refused≢good (g .said ∙ sym (f .said)))
+one-made s w u v (made.Refused i p) (made.Net d) f g = absurd (refused≢good (f .said ∙ sym (g .said)))
+one-made s w u v (made.Refused i p) (made.Refused j q) f g =
+    let e : _≡_ {A = Answer Net} (refused i p) (refused j q) = f .said ∙ sym (g .said) in
     let a : i ≡ j = cc in
     let b : p ≡ q = cc in
     rw (a, b)
 
-module _ (b : Bool) (s out work : List ℕ) where
-  pub determined-translate : (r q : code.Answer) (o o′ w w′ : List ℕ) → called r o w ≡ call b s out work → called q o′ w′ ≡ call b s out work → Same r q o o′ w w′
-  determined-translate r q o o′ w w′ e f =
-      let g : called r o w ≡ called q o′ w′ = e ∙ sym f in
-      record {
-        answer = same-answer r q (ap (λ (c : Call). c .said) g);
-        out = ap (λ (c : Call). c .out) g;
-        work = ap (λ (c : Call). c .work) g;
-      }
-
-  pub determined-deltawobble-translate : (r q : ℕ) (o o′ w w′ : List ℕ) → Packs r o w (call b s out work) → Packs q o′ w′ (call b s out work) → Same r q o o′ w w′
-  determined-deltawobble-translate r q o o′ w w′ e f = record { answer = e .said ∙ sym (f .said); out = e .wrote ∙ sym (f .wrote); work = e .kept ∙ sym (f .kept) }
-
-pub determined-deltawobble-stretch : (s : List ℕ) (node r q : ℕ) → r ≡ packedStretch (stretchOf s node) → q ≡ packedStretch (stretchOf s node) → r ≡ q
-determined-deltawobble-stretch s node r q e f = e ∙ sym f
+pub make-determined : (κs : Lfts 2) (a : Dens κs make.ps) (x y : resT make.r κs .Denot) (s t : AtExit (endedOf 2 make.ps make.r) κs)
+    → make-reads.Post κs a x s → make-reads.Post κs a y t → x ≡ y
+make-determined κs a x y s t f g = one-made _ _ _ _ x y f g

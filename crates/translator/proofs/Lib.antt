@@ -1,7 +1,4 @@
-pub mod Places
-pub mod Demands
-pub mod Determined
-pub mod BoundaryLaws
-pub mod WriteLaws
+pub mod Keeping
 pub mod StageLaws
-pub mod Written
+pub mod Lent
+pub mod Determined

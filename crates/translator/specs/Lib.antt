@@ -1,4 +1,2 @@
-pub mod Boundary
-pub mod Demands
-pub mod Said
+pub mod Made
 pub mod Stages

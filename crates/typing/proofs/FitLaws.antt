@@ -17,6 +17,9 @@ use Rattle.calculus.specs.Walk.{shared, Stack, Found, found, walk}
 use Rattle.laws.proofs.Tests.{on-cond}
 use Rattle.records.specs.Forms.{recIn}
 use Rattle.records.specs.Heads.{nodeOf}
+use Rattle.records.specs.Rules.{isProjection}
+use Rattle.records.specs.declared.Rule.{Rule}
+use Rattle.records.specs.declared.Rule.the-variants as rule
 use Rattle.sheet_theorems.proofs.Standing.{fun-body, app-function, app-argument, lfun-body, lapp-function, lapp-argument, pair-first, pair-second, proj-pair, proj-body, fix-body}
 use Rattle.sheet_theorems.proofs.Complete.{Numbers}
 use Rattle.typing.specs.declared.rules.Opening.{Opening}
@@ -40,13 +43,18 @@ pub record Within (l m : ℕ) (st : Stack) : Type 0 where
   pub few : length st ≤ m
 
 module _ (l : ℕ) where
-  opening-in : (k t : ℕ) (q : TyRec) → t < l → leftOf q < l → OpensIn l (openingOf k t q)
+  opening-in : (u : Rule) (t : ℕ) (q : TyRec) → t < l → leftOf q < l → OpensIn l (openingOf u t q)
   unfolding openingOf
-  opening-in k t q h g =
-      on-cond (OpensIn l) (eqb k 0x13) _ _ (λ _. on-cond (OpensIn l) (eqb (kindNo q) 3) _ _ (λ _. g) tt)
-      (on-cond (OpensIn l) (eqb k 0x15) _ _ (λ _. on-cond (OpensIn l) (eqb (kindNo q) 4) _ _ (λ _. g) tt)
-      (on-cond (OpensIn l) (eqb k 0x17) _ _ (λ _. on-cond (OpensIn l) (eqb (kindNo q) 2) _ _ (λ _. tt) tt)
-      (on-cond (OpensIn l) (eqb k 0x19) _ _ (λ _. on-cond (OpensIn l) (leb (kindNo q) 2) _ _ (λ _. h) tt) tt)))
+  opening-in rule.Variable t q h g = tt
+  opening-in rule.LinearVariable t q h g = tt
+  opening-in rule.Function t q h g = on-cond (OpensIn l) (eqb (kindNo q) 3) _ _ (λ _. g) tt
+  opening-in rule.Application t q h g = tt
+  opening-in rule.LinearFunction t q h g = on-cond (OpensIn l) (eqb (kindNo q) 4) _ _ (λ _. g) tt
+  opening-in rule.LinearApplication t q h g = tt
+  opening-in rule.Pair t q h g = on-cond (OpensIn l) (eqb (kindNo q) 2) _ _ (λ _. tt) tt
+  opening-in rule.Projection t q h g = tt
+  opening-in rule.FixedPoint t q h g = on-cond (OpensIn l) (leb (kindNo q) 2) _ _ (λ _. h) tt
+  opening-in rule.Constant t q h g = tt
 
   opened-in : (x : Opening) (t n : ℕ) (st : Stack) (o : Found) → OpensIn l x → Numbers st l → opened x t n st ≡ good o → Within l (suc (length st)) (o .stack)
   opened-in opening.Nothing t n st o h k e = subst (λ (o : Found). Within l (suc (length st)) (o .stack)) (good-inj e) (record { numbers = k; few = omega arith })
@@ -229,21 +237,21 @@ module _ (s : List ℕ) (at node : ℕ) (Θ : Table) (st : Stack) where
   right-side : (e : Term) → Fits s at node Θ e st → (t : ℕ) → t < length Θ → rightOf (recIn s t) < length Θ
   right-side e F t h = rw (F .types t h) (right-in Θ (F .table) t h)
 
-  typed-in : (e : Term) → Fits s at node Θ e st → (k t : ℕ) → t < length Θ → (o : Found) → enterOf (recIn s) k t node st ≡ good o → Within (length Θ) (suc (length st)) (o .stack)
-  typed-in e F k t h o g = opened-in (length Θ) (openingOf k t (recIn s t)) t node st o (opening-in (length Θ) k t (recIn s t) h (left-side e F t h)) (F .numbers) g
+  typed-in : (e : Term) → Fits s at node Θ e st → (u : Rule) (t : ℕ) → t < length Θ → (o : Found) → enterOf (recIn s) u t node st ≡ good o → Within (length Θ) (suc (length st)) (o .stack)
+  typed-in e F u t h o g = opened-in (length Θ) (openingOf u t (recIn s t)) t node st o (opening-in (length Θ) u t (recIn s t) h (left-side e F t h)) (F .numbers) g
 
   enter-in : (e : Term) → Fits s at node Θ e st → ¬ (nodeOf e at .subterms ≡ 0) → (o : Found)
-      → enterOf (recIn s) (nodeOf e at .kind) (nodeOf e at .first) node st ≡ good o → Within (length Θ) (suc (length st)) (o .stack)
+      → enterOf (recIn s) (nodeOf e at .rule) (nodeOf e at .first) node st ≡ good o → Within (length Θ) (suc (length st)) (o .stack)
   unfolding openingOf
   enter-in (var i) F d o g = absurd (d refl)
   enter-in (lvar i) F d o g = absurd (d refl)
-  enter-in (fun t e) F d o g = typed-in (fun t e) F 0x13 t (F .ranged .0) o g
+  enter-in (fun t e) F d o g = typed-in (fun t e) F rule.Function t (F .ranged .0) o g
   enter-in (app f a) F d o g = opened-in (length Θ) opening.Nothing 0 node st o tt (F .numbers) g
-  enter-in (lfun t e) F d o g = typed-in (lfun t e) F 0x15 t (F .ranged .0) o g
+  enter-in (lfun t e) F d o g = typed-in (lfun t e) F rule.LinearFunction t (F .ranged .0) o g
   enter-in (lapp f a) F d o g = opened-in (length Θ) opening.Nothing 0 node st o tt (F .numbers) g
-  enter-in (pair t a b) F d o g = typed-in (pair t a b) F 0x17 t (F .ranged .0) o g
+  enter-in (pair t a b) F d o g = typed-in (pair t a b) F rule.Pair t (F .ranged .0) o g
   enter-in (proj a e) F d o g = opened-in (length Θ) opening.Nothing 0 node st o tt (F .numbers) g
-  enter-in (fix t e) F d o g = typed-in (fix t e) F 0x19 t (F .ranged .0) o g
+  enter-in (fix t e) F d o g = typed-in (fix t e) F rule.FixedPoint t (F .ranged .0) o g
   enter-in (con p t) F d o g = absurd (d refl)
 
   -- a node with one subterm binds a variable on entering
@@ -259,7 +267,7 @@ module _ (s : List ℕ) (at node : ℕ) (Θ : Table) (st : Stack) where
   bound-linear u t o g = omega (arith, ap (λ (x : Found). length (x .stack)) (good-inj g))
 
   pub enter-one : (e : Term) → nodeOf e at .subterms ≡ 1 → (o : Found)
-      → enterOf (recIn s) (nodeOf e at .kind) (nodeOf e at .first) node st ≡ good o → length (o .stack) ≡ length st + 1
+      → enterOf (recIn s) (nodeOf e at .rule) (nodeOf e at .first) node st ≡ good o → length (o .stack) ≡ length st + 1
   unfolding openingOf
   enter-one (var i) z o g = absurd (omega arith)
   enter-one (lvar i) z o g = absurd (omega arith)
@@ -278,7 +286,7 @@ module _ (s : List ℕ) (at node : ℕ) (Θ : Table) (st : Stack) where
   tested false t o g = absurd (refused≢good g)
 
   pub enter-two : (e : Term) → ¬ (nodeOf e at .subterms ≡ 0) → ¬ (nodeOf e at .subterms ≡ 1) → (o : Found)
-      → enterOf (recIn s) (nodeOf e at .kind) (nodeOf e at .first) node st ≡ good o → o .stack ≡ st
+      → enterOf (recIn s) (nodeOf e at .rule) (nodeOf e at .first) node st ≡ good o → o .stack ≡ st
   unfolding openingOf
   enter-two (var i) d f o g = absurd (d refl)
   enter-two (lvar i) d f o g = absurd (d refl)
@@ -292,7 +300,7 @@ module _ (s : List ℕ) (at node : ℕ) (Θ : Table) (st : Stack) where
   enter-two (con p t) d f o g = absurd (d refl)
 
   module _ (e : Term) (F : Fits s at node Θ e st) (d : ¬ (nodeOf e at .subterms ≡ 0)) (o : Found)
-      (g : enterOf (recIn s) (nodeOf e at .kind) (nodeOf e at .first) node st ≡ good o) where
+      (g : enterOf (recIn s) (nodeOf e at .rule) (nodeOf e at .first) node st ≡ good o) where
     pub fits-first : Fits s (nodeOf e at .next) (node + 1) Θ (firstOf e) (o .stack)
     fits-first =
         let w = enter-in e F d o g in
@@ -310,26 +318,26 @@ module _ (s : List ℕ) (at node : ℕ) (Θ : Table) (st : Stack) where
       pub first-kept : Kept Θ (o .stack) x
       first-kept = kept Θ (F .table) (firstOf e) (first-ranged Θ e (F .ranged)) (node + 1) (o .stack) (enter-in e F d o g .numbers) x h
 
-      between-in : (k : ℕ) (m : Found) → betweenOf (recIn s) k node x ≡ good m → Within (length Θ) (length (o .stack) + 2) (m .stack)
+      between-in : (u : Rule) (m : Found) → betweenOf (recIn s) u node x ≡ good m → Within (length Θ) (length (o .stack) + 2) (m .stack)
       unfolding betweenOf
-      between-in k m = by-kind (eqb k 0x18)
+      between-in u m = by-rule (isProjection u)
         where
-          by-kind : (b : Bool)
+          by-rule : (b : Bool)
               → cond b (need (eqb (kindNo (recIn s (x .type))) 2) 12 node >>= λ _. found (x .type) (shared (rightOf (recIn s (x .type))) ∷ shared (leftOf (recIn s (x .type))) ∷ x .stack)) (good x) ≡ good m
               → Within (length Θ) (length (o .stack) + 2) (m .stack)
-          by-kind true z =
+          by-rule true z =
               let k : Numbers (shared (rightOf (recIn s (x .type))) ∷ shared (leftOf (recIn s (x .type))) ∷ x .stack) (length Θ) =
               (right-side e F (x .type) (first-kept .type-in), (left-side e F (x .type) (first-kept .type-in), first-kept .numbers)) in
               let w : Within (length Θ) (length (o .stack) + 2) (shared (rightOf (recIn s (x .type))) ∷ shared (leftOf (recIn s (x .type))) ∷ x .stack) =
               record { numbers = k; few = omega (arith, first-kept .count) } in
               on-need (eqb (kindNo (recIn s (x .type))) 2) 12 node (λ _. found (x .type) (shared (rightOf (recIn s (x .type))) ∷ shared (leftOf (recIn s (x .type))) ∷ x .stack)) m z λ _ y.
               subst (λ (m : Found). Within (length Θ) (length (o .stack) + 2) (m .stack)) (good-inj y) w
-          by-kind false z = subst (λ (m : Found). Within (length Θ) (length (o .stack) + 2) (m .stack)) (good-inj z) (record { numbers = first-kept .numbers; few = omega (arith, first-kept .count) })
+          by-rule false z = subst (λ (m : Found). Within (length Θ) (length (o .stack) + 2) (m .stack)) (good-inj z) (record { numbers = first-kept .numbers; few = omega (arith, first-kept .count) })
 
-      pub fits-second : (m : Found) → betweenOf (recIn s) (nodeOf e at .kind) node x ≡ good m
+      pub fits-second : (m : Found) → betweenOf (recIn s) (nodeOf e at .rule) node x ≡ good m
           → Fits s (nodeOf e at .next + length (termBytes (firstOf e))) (node + 1 + nodes (firstOf e)) Θ (secondOf e) (m .stack)
       fits-second m z =
-          let w = between-in (nodeOf e at .kind) m z in
+          let w = between-in (nodeOf e at .rule) m z in
           let l : length (o .stack) ≡ length st = ap length (enter-two e d d₁ o g) in
           record {
             table = F .table;

@@ -2,7 +2,9 @@
 use Prim.Native.Nat.{ℕ, _+_, _≤_, _<_}
 use mathlib.Core.Path.{_≡_, refl, sym, subst}
 use mathlib.Core.Bool.{Bool, true, false, cond}
-use mathlib.Core.List.{_∷_}
+use mathlib.Core.List.{List, [], _∷_}
+use denote.Enum.Declared.{tagOf}
+use types.Run.{OneOf, miss}
 use native.Mathlib.Omega.{arith}
 use native.Mathlib.Nat.{add-zero}
 use borrow.Author.Tests.{eq-eqb, ne-eqb}
@@ -11,6 +13,10 @@ use lib.ListN.{length, getD, set, drop, length-set}
 use Rattle.calculus.specs.Answer.{Answer, refused}
 use Rattle.calculus.specs.Walk.{shared, Stack, Found, found}
 use Rattle.laws.proofs.Tests.{on-cond}
+use Rattle.records.specs.Rules.{isProjection}
+use Rattle.records.specs.declared.Rule.{Rule}
+use Rattle.records.specs.declared.Rule.the-variants as rule
+use Rattle.records.proofs.Rule.{the-type}
 use Rattle.binders.specs.declared.Binders.{Binders}
 use Rattle.binders.specs.declared.Use.{Use}
 use Rattle.binders.specs.Stacks.{binderOf, stackFrom, stackOf, slotOf, sharedUse, linearUse, saidUse}
@@ -33,19 +39,31 @@ use Rattle.typing.proofs.VerdictLaws.{foundAt, follows-on, follows-at}
 
 -- ---- leaves
 
-module _ (R : Types) (k x y n : ℕ) (b : Binders) {i at : ℕ} (e : i ≡ x) (p : at ≡ slotOf (b .count) i) {u : Use} where
-  pub leaf-shared : k ≡ 0x11 → u ≡ sharedUse (b .count) i (binderOf (getD (b .types) at 0) (getD (b .sorts) at 0) 0) → saidUse u (stackOf b) n ≡ leafOf R k x y n (stackOf b)
+module _ (R : Types) (w : Rule) (x y n : ℕ) (b : Binders) {i at : ℕ} (e : i ≡ x) (p : at ≡ slotOf (b .count) i) {u : Use} where
+  pub leaf-shared : w ≡ rule.Variable → u ≡ sharedUse (b .count) i (binderOf (getD (b .types) at 0) (getD (b .sorts) at 0) 0) → saidUse u (stackOf b) n ≡ leafOf R w x y n (stackOf b)
   unfolding leafOf
   leaf-shared h g = rw (g, p, h, ← e) (shared-said (b .types) (b .sorts) (b .used) n (b .count) i)
 
-  pub leaf-linear : k ≡ 0x12 → b .count ≤ length (b .used) → u ≡ linearUse (b .count) i (binderOf (getD (b .types) at 0) (getD (b .sorts) at 0) (getD (b .used) at 0))
-      → saidUse u (stackFrom (b .types) (b .sorts) (set (b .used) at 1) (b .count)) n ≡ leafOf R k x y n (stackOf b)
+  pub leaf-linear : w ≡ rule.LinearVariable → b .count ≤ length (b .used) → u ≡ linearUse (b .count) i (binderOf (getD (b .types) at 0) (getD (b .sorts) at 0) (getD (b .used) at 0))
+      → saidUse u (stackFrom (b .types) (b .sorts) (set (b .used) at 1) (b .count)) n ≡ leafOf R w x y n (stackOf b)
   unfolding leafOf
   leaf-linear h l g = rw (g, p, h, ← e) (linear-said (b .types) (b .sorts) (b .used) n (b .count) i l)
 
-pub leaf-constant : (R : Types) (k x y n : ℕ) (st : Stack) → ¬ (k ≡ 0x11) → ¬ (k ≡ 0x12) → constantOf R x y n st ≡ leafOf R k x y n st
+abbrev others : List ℕ
+others = 2 ∷ 3 ∷ 4 ∷ 5 ∷ 6 ∷ 7 ∷ 8 ∷ 9 ∷ []
+
+pub leaf-constant : (R : Types) (w : Rule) (x y n : ℕ) (st : Stack) → OneOf others (tagOf the-type w) → constantOf R x y n st ≡ leafOf R w x y n st
 unfolding leafOf
-leaf-constant R k x y n st a b = rw (ne-eqb k 0x11 a, ne-eqb k 0x12 b)
+leaf-constant R rule.Variable x y n st o = absurd (miss others 0 tt o)
+leaf-constant R rule.LinearVariable x y n st o = absurd (miss others 1 tt o)
+leaf-constant R rule.Function x y n st o = refl
+leaf-constant R rule.Application x y n st o = refl
+leaf-constant R rule.LinearFunction x y n st o = refl
+leaf-constant R rule.LinearApplication x y n st o = refl
+leaf-constant R rule.Pair x y n st o = refl
+leaf-constant R rule.Projection x y n st o = refl
+leaf-constant R rule.FixedPoint x y n st o = refl
+leaf-constant R rule.Constant x y n st o = refl
 
 -- ---- entering
 
@@ -66,17 +84,17 @@ module _ (b : Binders) (L : Long b) (r : b .count < 128) where
   opens-is (opening.Linear u) t n h = rw (pushed (b .types) (b .sorts) (b .used) u 1 0 (b .count) (omega arith) (omega arith) (omega arith))
   opens-is opening.Misfit t n h = absurd (let z : _≡_ {A = ℕ} 0 1 = cc in omega arith)
 
-module _ (R : Types) (k t n : ℕ) {o : Opening} {q : Binding} (e : o ≡ openingOf k t (R t)) (g : q ≡ bindingOf o) where
-  pub enter-misfit : (st : Stack) → q .fits ≡ false → refused 12 n ≡ enterOf R k t n st
+module _ (R : Types) (w : Rule) (t n : ℕ) {o : Opening} {q : Binding} (e : o ≡ openingOf w t (R t)) (g : q ≡ bindingOf o) where
+  pub enter-misfit : (st : Stack) → q .fits ≡ false → refused 12 n ≡ enterOf R w t n st
   enter-misfit st h = by-opening o (sym e) (rw g at h)
     where
-      by-opening : (o : Opening) → openingOf k t (R t) ≡ o → bindingOf o .fits ≡ false → refused 12 n ≡ enterOf R k t n st
+      by-opening : (o : Opening) → openingOf w t (R t) ≡ o → bindingOf o .fits ≡ false → refused 12 n ≡ enterOf R w t n st
       by-opening opening.Nothing e h = absurd (let z : _≡_ {A = ℕ} 0 1 = cc in omega arith)
       by-opening (opening.Shared u) e h = absurd (let z : _≡_ {A = ℕ} 0 1 = cc in omega arith)
       by-opening (opening.Linear u) e h = absurd (let z : _≡_ {A = ℕ} 0 1 = cc in omega arith)
       by-opening opening.Misfit e h = rw e
 
-  pub enter-opened : (b : Binders) → Long b → b .count < 128 → q .fits ≡ true → found t (stackOf (boundTo b q)) ≡ enterOf R k t n (stackOf b)
+  pub enter-opened : (b : Binders) → Long b → b .count < 128 → q .fits ≡ true → found t (stackOf (boundTo b q)) ≡ enterOf R w t n (stackOf b)
   enter-opened b L r h = rw (g, ← e) (opens-is b L r o t n (rw g at h))
 
 -- one variable at most
@@ -88,34 +106,34 @@ binds-few opening.Misfit g = rw g (omega arith)
 
 -- ---- leaving a node with one subterm
 
-module _ (R : Types) (k t n : ℕ) (st : Stack) where
-  module _ (u : ℕ) {b : Bool} (e : b ≡ usedUp k st) where
-    pub leave-unused : b ≡ false → refused 14 n ≡ leaveOne R k t n (foundAt u st)
+module _ (R : Types) (w : Rule) (t n : ℕ) (st : Stack) where
+  module _ (u : ℕ) {b : Bool} (e : b ≡ usedUp w st) where
+    pub leave-unused : b ≡ false → refused 14 n ≡ leaveOne R w t n (foundAt u st)
     unfolding leaveOne
     leave-unused h = rw (← e, h)
 
-    module _ (h : b ≡ true) {w : ℕ} (g : w ≡ wantedOf k t (R t)) where
-      pub leave-misfit : ¬ (u ≡ w) → refused 12 n ≡ leaveOne R k t n (foundAt u st)
+    module _ (h : b ≡ true) {v : ℕ} (g : v ≡ wantedOf w t (R t)) where
+      pub leave-misfit : ¬ (u ≡ v) → refused 12 n ≡ leaveOne R w t n (foundAt u st)
       unfolding leaveOne
-      leave-misfit d = rw (← e, h, ← g, ne-eqb u w d)
+      leave-misfit d = rw (← e, h, ← g, ne-eqb u v d)
 
-      pub leave-fine : u ≡ w → found t (drop 1 st) ≡ leaveOne R k t n (foundAt u st)
+      pub leave-fine : u ≡ v → found t (drop 1 st) ≡ leaveOne R w t n (foundAt u st)
       unfolding leaveOne
-      leave-fine d = rw (← e, h, ← g, eq-eqb u w d)
+      leave-fine d = rw (← e, h, ← g, eq-eqb u v d)
 
 -- ---- between two subterms
 
-module _ (R : Types) (k n u : ℕ) (st : Stack) where
-  pub between-other : ¬ (k ≡ 0x18) → found u (halvesOf R k u st) ≡ betweenOf R k n (foundAt u st)
+module _ (R : Types) (w : Rule) (n u : ℕ) (st : Stack) where
+  pub between-other : isProjection w ≡ false → found u (halvesOf R w u st) ≡ betweenOf R w n (foundAt u st)
   unfolding betweenOf
-  between-other d = rw (ne-eqb k 0x18 d)
+  between-other d = rw d
 
-  module _ (h : k ≡ 0x18) {q : Sided} (e : q ≡ sidedOf (R u)) where
-    pub between-misfit : ¬ (q .kind ≡ 2) → refused 12 n ≡ betweenOf R k n (foundAt u st)
+  module _ (h : w ≡ rule.Projection) {q : Sided} (e : q ≡ sidedOf (R u)) where
+    pub between-misfit : ¬ (q .kind ≡ 2) → refused 12 n ≡ betweenOf R w n (foundAt u st)
     unfolding betweenOf
     between-misfit d = rw (h, kind-is (R u) e, ne-eqb (q .kind) 2 d)
 
-    pub between-fine : q .kind ≡ 2 → found u (halvesOf R k u st) ≡ betweenOf R k n (foundAt u st)
+    pub between-fine : q .kind ≡ 2 → found u (halvesOf R w u st) ≡ betweenOf R w n (foundAt u st)
     unfolding betweenOf
     between-fine d = rw (h, kind-is (R u) e, d)
 
@@ -144,31 +162,31 @@ module _ (b : Binders) (L : Long b) (c : ℕ) (r : c + 1 < 128) where
         past (b .types) (b .sorts) (b .used) c (q .left) 0 0 c (omega arith),
       )
 
-  halves-are : (R : Types) (k u : ℕ) {q : Sided} {m : ℕ} → q ≡ sidedOf (R u) → m ≡ closesOf k → stackOf (halvedTo b c q m) ≡ halvesOf R k u (inScope b c)
+  halves-are : (R : Types) (w : Rule) (u : ℕ) {q : Sided} {m : ℕ} → q ≡ sidedOf (R u) → m ≡ closesOf w → stackOf (halvedTo b c q m) ≡ halvesOf R w u (inScope b c)
   unfolding closesOf
-  halves-are R k u {q} e h = rw (h, left-is (R u) e, right-is (R u) e) (halves-at q (eqb k 0x18))
+  halves-are R w u {q} e h = rw (h, left-is (R u) e, right-is (R u) e) (halves-at q (isProjection w))
 
 -- two at most
-pub closes-few : (k : ℕ) → closesOf k ≤ 2
+pub closes-few : (w : Rule) → closesOf w ≤ 2
 unfolding closesOf
-closes-few k = on-cond (λ (m : ℕ). m ≤ 2) (eqb k 0x18) 2 0 (λ _. omega arith) (omega arith)
+closes-few w = on-cond (λ (m : ℕ). m ≤ 2) (isProjection w) 2 0 (λ _. omega arith) (omega arith)
 
 -- the second subterm, after a first one that has c binders
-module _ (R : Types) (k : ℕ) (x : Checked) {f : Found → Answer Found} {v : Verdict} where
-  pub follows-refused : {r : Refusal} → v ≡ verdict.Refused r → FollowsOn (x .verdict) (stackOf (x .binders)) v (halves R k v (stackOf (x .binders))) f → Follows x (checked v (x .binders)) f
+module _ (R : Types) (w : Rule) (x : Checked) {f : Found → Answer Found} {v : Verdict} where
+  pub follows-refused : {r : Refusal} → v ≡ verdict.Refused r → FollowsOn (x .verdict) (stackOf (x .binders)) v (halves R w v (stackOf (x .binders))) f → Follows x (checked v (x .binders)) f
   follows-refused e F = follows-on x (x .binders) (subst (λ (st : Stack). FollowsOn (x .verdict) (stackOf (x .binders)) v st f) (rw e refl) F)
 
   pub follows-halves : Long (x .binders) → (c : ℕ) → c + 1 < 128 → Counts c x → {u i j : ℕ} → v ≡ verdict.Fine u i j
-      → FollowsOn (x .verdict) (inScope (x .binders) c) v (halves R k v (inScope (x .binders) c)) f
-      → {q : Sided} {m : ℕ} → q ≡ sidedOf (R u) → m ≡ closesOf k → Follows x (checked (verdict.Fine u i j) (halvedTo (x .binders) c q m)) f
+      → FollowsOn (x .verdict) (inScope (x .binders) c) v (halves R w v (inScope (x .binders) c)) f
+      → {q : Sided} {m : ℕ} → q ≡ sidedOf (R u) → m ≡ closesOf w → Follows x (checked (verdict.Fine u i j) (halvedTo (x .binders) c q m)) f
   follows-halves L c r n {u} e F {q} {m} g h =
-      follows-at x (halvedTo (x .binders) c q m) c n (rw (halves-are (x .binders) L c r R k u g h) (rw e at F))
+      follows-at x (halvedTo (x .binders) c q m) c n (rw (halves-are (x .binders) L c r R w u g h) (rw e at F))
 
 -- ---- leaving a node with two subterms
 
-module _ (R : Types) (k t n a u : ℕ) (st : Stack) {f : Fit} (e : f ≡ joinedOf R k t a u) where
-  pub two-misfit : f ≡ fit.Misfit → refused 12 n ≡ leaveTwo R k t n a (foundAt u st)
+module _ (R : Types) (w : Rule) (t n a u : ℕ) (st : Stack) {f : Fit} (e : f ≡ joinedOf R w t a u) where
+  pub two-misfit : f ≡ fit.Misfit → refused 12 n ≡ leaveTwo R w t n a (foundAt u st)
   two-misfit h = rw (← e, h)
 
-  pub two-fine : {v : ℕ} → f ≡ fit.Type v → found v (drop (closesOf k) st) ≡ leaveTwo R k t n a (foundAt u st)
+  pub two-fine : {v : ℕ} → f ≡ fit.Type v → found v (drop (closesOf w) st) ≡ leaveTwo R w t n a (foundAt u st)
   two-fine h = rw (← e, h)

@@ -2,7 +2,10 @@
 use Prim.Native.Nat.{ℕ, _≤_, _<_}
 use mathlib.Core.Path.{_≡_, refl, sym, ap}
 use mathlib.Core.Bool.{Bool, true, false, not, cond}
+use mathlib.Core.List.{List, [], _∷_}
 use native.Mathlib.Omega.{arith}
+use denote.Enum.Declared.{tagOf}
+use types.Run.{OneOf, miss}
 use borrow.Author.Tests.{eq-eqb, ne-eqb, le-leb, lt-leb}
 use lib.Dec.{eqb, ltb}
 use lib.ListN.{length}
@@ -10,7 +13,11 @@ use Rattle.calculus.specs.Answer.{refused}
 use Rattle.calculus.specs.Types.{TyRec}
 use Rattle.calculus.specs.Terms.{parts, partAt}
 use Rattle.calculus.specs.Walk.{Stack, found, topUsed}
-use Rattle.parts.specs.Table.{Entry, listed, unlisted, saidPart, entryOf, named, shapeTy}
+use Rattle.records.specs.Rules.{isLinearFunction, isProjection, isFixedPoint}
+use Rattle.records.specs.declared.Rule.{Rule}
+use Rattle.records.specs.declared.Rule.the-variants as rule
+use Rattle.records.proofs.Rule.{the-type}
+use Rattle.parts.specs.Table.{Entry, isPart, noPart, saidPart, entryOf, named, shapeTy}
 use Rattle.parts.specs.declared.Part.{Part}
 use Rattle.typing.specs.declared.rules.Sided.{Sided}
 use Rattle.typing.specs.declared.rules.Opening.the-variants as opening
@@ -57,42 +64,42 @@ module _ {q : Sided} (r : TyRec) (e : q ≡ sidedOf r) where
     both-right h d = rw (kind-is, eq-eqb (q .kind) k h, left-is, d, right-is)
 
   -- entering
-  module _ (k t : ℕ) where
-    pub open-fun : k ≡ 0x13 → q .kind ≡ 3 → opening.Shared (q .left) ≡ openingOf k t r
+  module _ (w : Rule) (t : ℕ) where
+    pub open-fun : w ≡ rule.Function → q .kind ≡ 3 → opening.Shared (q .left) ≡ openingOf w t r
     unfolding openingOf
     open-fun h d = rw (h, kind-is, d, left-is)
 
-    pub open-fun-not : k ≡ 0x13 → ¬ (q .kind ≡ 3) → opening.Misfit ≡ openingOf k t r
+    pub open-fun-not : w ≡ rule.Function → ¬ (q .kind ≡ 3) → opening.Misfit ≡ openingOf w t r
     unfolding openingOf
     open-fun-not h d = rw (h, kind-is, ne-eqb (q .kind) 3 d)
 
-    pub open-lfun : k ≡ 0x15 → q .kind ≡ 4 → opening.Linear (q .left) ≡ openingOf k t r
+    pub open-lfun : w ≡ rule.LinearFunction → q .kind ≡ 4 → opening.Linear (q .left) ≡ openingOf w t r
     unfolding openingOf
     open-lfun h d = rw (h, kind-is, d, left-is)
 
-    pub open-lfun-not : k ≡ 0x15 → ¬ (q .kind ≡ 4) → opening.Misfit ≡ openingOf k t r
+    pub open-lfun-not : w ≡ rule.LinearFunction → ¬ (q .kind ≡ 4) → opening.Misfit ≡ openingOf w t r
     unfolding openingOf
     open-lfun-not h d = rw (h, kind-is, ne-eqb (q .kind) 4 d)
 
-    pub open-pair : k ≡ 0x17 → q .kind ≡ 2 → opening.Nothing ≡ openingOf k t r
+    pub open-pair : w ≡ rule.Pair → q .kind ≡ 2 → opening.Nothing ≡ openingOf w t r
     unfolding openingOf
     open-pair h d = rw (h, kind-is, d)
 
-    pub open-pair-not : k ≡ 0x17 → ¬ (q .kind ≡ 2) → opening.Misfit ≡ openingOf k t r
+    pub open-pair-not : w ≡ rule.Pair → ¬ (q .kind ≡ 2) → opening.Misfit ≡ openingOf w t r
     unfolding openingOf
     open-pair-not h d = rw (h, kind-is, ne-eqb (q .kind) 2 d)
 
-    pub open-fix : k ≡ 0x19 → q .kind ≤ 2 → opening.Shared t ≡ openingOf k t r
+    pub open-fix : w ≡ rule.FixedPoint → q .kind ≤ 2 → opening.Shared t ≡ openingOf w t r
     unfolding openingOf
     open-fix h d = rw (h, kind-is, le-leb (q .kind) 2 d)
 
-    pub open-fix-not : k ≡ 0x19 → 2 < q .kind → opening.Misfit ≡ openingOf k t r
+    pub open-fix-not : w ≡ rule.FixedPoint → 2 < q .kind → opening.Misfit ≡ openingOf w t r
     unfolding openingOf
     open-fix-not h d = rw (h, kind-is, lt-leb (q .kind) 2 d)
 
-    pub wanted-right : ¬ (k ≡ 0x19) → q .right ≡ wantedOf k t r
+    pub wanted-right : isFixedPoint w ≡ false → q .right ≡ wantedOf w t r
     unfolding wantedOf
-    wanted-right d = rw (ne-eqb k 0x19 d, right-is)
+    wanted-right d = rw (d, right-is)
 
   -- an application
   module _ (k a : ℕ) where
@@ -122,65 +129,90 @@ module _ {q : Sided} (r : TyRec) (e : q ≡ sidedOf r) where
     unfolding pairedOf
     paired-fits h d = rw (left-is, eq-eqb a (q .left) h, right-is, eq-eqb b (q .right) d)
 
--- ---- by the kind alone
+-- ---- by the rule alone
 
-pub open-none : (k t : ℕ) (r : TyRec) → ¬ (k ≡ 0x13) → ¬ (k ≡ 0x15) → ¬ (k ≡ 0x17) → ¬ (k ≡ 0x19) → opening.Nothing ≡ openingOf k t r
+-- the tags that are left where a match names the rules of written types, or those that join two types
+abbrev unwritten : List ℕ
+unwritten = 0 ∷ 1 ∷ 3 ∷ 5 ∷ 7 ∷ 9 ∷ []
+
+abbrev unjoined : List ℕ
+unjoined = 0 ∷ 1 ∷ 2 ∷ 4 ∷ 7 ∷ 8 ∷ 9 ∷ []
+
+pub open-none : (w : Rule) (t : ℕ) (r : TyRec) → OneOf unwritten (tagOf the-type w) → opening.Nothing ≡ openingOf w t r
 unfolding openingOf
-open-none k t r a b c d = rw (ne-eqb k 0x13 a, ne-eqb k 0x15 b, ne-eqb k 0x17 c, ne-eqb k 0x19 d)
+open-none rule.Variable t r o = refl
+open-none rule.LinearVariable t r o = refl
+open-none rule.Function t r o = absurd (miss unwritten 2 tt o)
+open-none rule.Application t r o = refl
+open-none rule.LinearFunction t r o = absurd (miss unwritten 4 tt o)
+open-none rule.LinearApplication t r o = refl
+open-none rule.Pair t r o = absurd (miss unwritten 6 tt o)
+open-none rule.Projection t r o = refl
+open-none rule.FixedPoint t r o = absurd (miss unwritten 8 tt o)
+open-none rule.Constant t r o = refl
 
-pub wanted-fix : (k t : ℕ) (r : TyRec) → k ≡ 0x19 → t ≡ wantedOf k t r
+pub wanted-fix : (w : Rule) (t : ℕ) (r : TyRec) → w ≡ rule.FixedPoint → t ≡ wantedOf w t r
 unfolding wantedOf
-wanted-fix k t r h = rw h
+wanted-fix w t r h = rw h
 
-pub used-linear : (k : ℕ) (st : Stack) → k ≡ 0x15 → topUsed st ≡ usedUp k st
+pub used-linear : (w : Rule) (st : Stack) → w ≡ rule.LinearFunction → topUsed st ≡ usedUp w st
 unfolding usedUp
-used-linear k st h = rw h
+used-linear w st h = rw h
 
-pub used-other : (k : ℕ) (st : Stack) → ¬ (k ≡ 0x15) → true ≡ usedUp k st
+pub used-other : (w : Rule) (st : Stack) → isLinearFunction w ≡ false → true ≡ usedUp w st
 unfolding usedUp
-used-other k st d = rw (ne-eqb k 0x15 d)
+used-other w st d = rw d
 
-module _ (R : Types) (k t a b : ℕ) where
-  pub join-app : k ≡ 0x14 → appliedOf (R a) 3 b ≡ joinedOf R k t a b
+module _ (R : Types) (w : Rule) (t a b : ℕ) where
+  pub join-app : w ≡ rule.Application → appliedOf (R a) 3 b ≡ joinedOf R w t a b
   unfolding joinedOf
   join-app h = rw h
 
-  pub join-lapp : k ≡ 0x16 → appliedOf (R a) 4 b ≡ joinedOf R k t a b
+  pub join-lapp : w ≡ rule.LinearApplication → appliedOf (R a) 4 b ≡ joinedOf R w t a b
   unfolding joinedOf
   join-lapp h = rw h
 
-  pub join-pair : k ≡ 0x17 → pairedOf (R t) t a b ≡ joinedOf R k t a b
+  pub join-pair : w ≡ rule.Pair → pairedOf (R t) t a b ≡ joinedOf R w t a b
   unfolding joinedOf
   join-pair h = rw h
 
-  pub join-last : ¬ (k ≡ 0x14) → ¬ (k ≡ 0x16) → ¬ (k ≡ 0x17) → fit.Type b ≡ joinedOf R k t a b
-  unfolding joinedOf
-  join-last x y z = rw (ne-eqb k 0x14 x, ne-eqb k 0x16 y, ne-eqb k 0x17 z)
+pub join-last : (R : Types) (w : Rule) (t a b : ℕ) → OneOf unjoined (tagOf the-type w) → fit.Type b ≡ joinedOf R w t a b
+unfolding joinedOf
+join-last R rule.Variable t a b o = refl
+join-last R rule.LinearVariable t a b o = refl
+join-last R rule.Function t a b o = refl
+join-last R rule.Application t a b o = absurd (miss unjoined 3 tt o)
+join-last R rule.LinearFunction t a b o = refl
+join-last R rule.LinearApplication t a b o = absurd (miss unjoined 5 tt o)
+join-last R rule.Pair t a b o = absurd (miss unjoined 6 tt o)
+join-last R rule.Projection t a b o = refl
+join-last R rule.FixedPoint t a b o = refl
+join-last R rule.Constant t a b o = refl
 
-pub closes-two : (k : ℕ) → k ≡ 0x18 → 2 ≡ closesOf k
+pub closes-two : (w : Rule) → w ≡ rule.Projection → 2 ≡ closesOf w
 unfolding closesOf
-closes-two k h = rw h
+closes-two w h = rw h
 
-pub closes-none : (k : ℕ) → ¬ (k ≡ 0x18) → 0 ≡ closesOf k
+pub closes-none : (w : Rule) → isProjection w ≡ false → 0 ≡ closesOf w
 unfolding closesOf
-closes-none k d = rw (ne-eqb k 0x18 d)
+closes-none w d = rw d
 
 -- ---- constants
 
-looked-none : (x : Entry) (b : Bool) → unlisted ≡ cond b (listed x) unlisted → b ≡ false
+looked-none : (x : Entry) (b : Bool) → noPart ≡ cond b (isPart x) noPart → b ≡ false
 looked-none x true e = absurd (let z : _≡_ {A = ℕ} 0 1 = cc in omega arith)
 looked-none x false e = refl
 
-looked-is : (x y : Entry) (b : Bool) → listed y ≡ cond b (listed x) unlisted → (b ≡ true) × (y ≡ x)
+looked-is : (x y : Entry) (b : Bool) → isPart y ≡ cond b (isPart x) noPart → (b ≡ true) × (y ≡ x)
 looked-is x y true e = (refl, cc)
 looked-is x y false e = absurd (let z : _≡_ {A = ℕ} 0 1 = cc in omega arith)
 
 module _ (p : ℕ) where
-  unknown-part : unlisted ≡ named p → ltb p (length parts) ≡ false
+  unknown-part : noPart ≡ named p → ltb p (length parts) ≡ false
   unfolding named
   unknown-part e = looked-none (entryOf p) (ltb p (length parts)) e
 
-  module _ (q : Part) (e : listed (saidPart q) ≡ named p) where
+  module _ (q : Part) (e : isPart (saidPart q) ≡ named p) where
     known-part : (ltb p (length parts) ≡ true) × (saidPart q ≡ entryOf p)
     unfolding named
     known-part = looked-is (entryOf p) (saidPart q) (ltb p (length parts)) e
@@ -189,11 +221,11 @@ module _ (p : ℕ) where
     shape-is = ap (λ (x : Entry). x .type) (known-part .1)
 
 module _ (R : Types) (p t n : ℕ) (st : Stack) where
-  pub constant-unknown : unlisted ≡ named p → refused 15 n ≡ constantOf R p t n st
+  pub constant-unknown : noPart ≡ named p → refused 15 n ≡ constantOf R p t n st
   unfolding constantOf
   constant-unknown e = rw (unknown-part p e)
 
-  module _ (q : Part) (e : listed (saidPart q) ≡ named p) where
+  module _ (q : Part) (e : isPart (saidPart q) ≡ named p) where
     pub constant-misfit : standsFor R (shapeTy (q .shape)) t ≡ false → refused 12 n ≡ constantOf R p t n st
     unfolding constantOf
     constant-misfit d = rw (known-part p q e .0, ← shape-is p q e, d)

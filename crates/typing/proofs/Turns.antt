@@ -1,6 +1,7 @@
 -- The walk's turns at one node: what each call may take for granted, and what each way out says. Assumes nothing.
 use Prim.Native.Nat.{ℕ, _+_, _-_, _≤_, _<_}
 use mathlib.Core.Path.{_≡_, refl, sym, ap, subst, _∙_}
+use mathlib.Core.Bool.{true}
 use mathlib.Core.List.{List}
 use native.Mathlib.Omega.{arith}
 use lib.ListN.{length}
@@ -14,7 +15,7 @@ use Rattle.records.specs.Record.{nodeAt}
 use Rattle.records.specs.Forms.{recIn}
 use Rattle.records.specs.Heads.{nodeOf}
 use Rattle.records.specs.declared.Node.{Node}
-use Rattle.records.proofs.Laws.{stands-record, node-next}
+use Rattle.records.proofs.Laws.{stands-record, stands-node, node-next}
 use Rattle.binders.specs.Stacks.{stackOf}
 use Rattle.binders.proofs.Laws.{length-of}
 use Rattle.typing.specs.declared.Verdict.{Verdict}
@@ -69,7 +70,7 @@ module _ (s : List ℕ) (at node : ℕ) (st : Stack) (Θ : Table) (e : Term) whe
     pub place : Here
     pub i : Checked
     pub some : ¬ (place .n .subterms ≡ 0)
-    pub says : Says i (enterOf (recIn s) (place .n .kind) (place .n .first) node st) (place .n .next) (node + 1)
+    pub says : Says i (enterOf (recIn s) (place .n .rule) (place .n .first) node st) (place .n .next) (node + 1)
 
   -- .. and not refused
   pub record Opened : Type 0 where
@@ -91,7 +92,7 @@ module _ (s : List ℕ) (at node : ℕ) (st : Stack) (Θ : Table) (e : Term) whe
     pub first : First
     pub m : Checked
     pub two : ¬ (first .opened .inside .place .n .subterms ≡ 1)
-    pub follows : Follows (first .x) m (betweenOf (recIn s) (first .opened .inside .place .n .kind) node)
+    pub follows : Follows (first .x) m (betweenOf (recIn s) (first .opened .inside .place .n .rule) node)
 
   -- .. and not refused
   pub record Second : Type 0 where
@@ -110,22 +111,21 @@ module _ (s : List ℕ) (at node : ℕ) (st : Stack) (Θ : Table) (e : Term) whe
 module _ {s : List ℕ} {at node : ℕ} {st : Stack} {Θ : Table} {e : Term} where
   module _ (h : Here s at node st Θ e) where
     node-is : h .n ≡ nodeOf e at
-    unfolding nodeAt
-    node-is = h .here ∙ rw (stands-record s at e (h .fits .stands)) refl
+    node-is = h .here ∙ stands-node s at e (h .fits .stands)
 
     -- its record ends past its start
     node-ends : (at < h .n .next) × (h .n .next ≤ length s)
-    node-ends = rw node-is (node-next s at (stands-record s at e (h .fits .stands)))
+    node-ends = rw node-is (node-next true s at (stands-record true s at e (h .fits .stands)))
 
     subterms-are : h .n .subterms ≡ nodeOf e at .subterms
     subterms-are = ap (λ (n : Node). n .subterms) node-is
 
-    pub turn-leaf : h .n .subterms ≡ 0 → {c : Checked} → Says c (leafOf (recIn s) (h .n .kind) (h .n .first) (h .n .second) node st) (h .n .next) (node + 1) → Done s at node st Θ e c
+    pub turn-leaf : h .n .subterms ≡ 0 → {c : Checked} → Says c (leafOf (recIn s) (h .n .rule) (h .n .first) (h .n .second) node st) (h .n .next) (node + 1) → Done s at node st Θ e c
     turn-leaf z {c} w =
         let F = h .fits in
         let z₁ : nodeOf e at .subterms ≡ 0 = sym subterms-are ∙ z in
         record {
-          answer = w .answer ∙ ap (λ (n : Node). leafOf (recIn s) (n .kind) (n .first) (n .second) node st) node-is ∙ walk-leaf (recIn s) Θ (F .table) (F .types) at node st (F .numbers) e (F .ranged) z₁;
+          answer = w .answer ∙ ap (λ (n : Node). leafOf (recIn s) (n .rule) (n .first) (n .second) node st) node-is ∙ walk-leaf (recIn s) Θ (F .table) (F .types) at node st (F .numbers) e (F .ranged) z₁;
           ends = ends-as (c .verdict) (ap (λ (n : Node). n .next) node-is ∙ end-none at e z₁ .0) (omega (arith, end-none at e z₁ .1)) (w .ends);
         }
 
@@ -133,8 +133,8 @@ module _ {s : List ℕ} {at node : ℕ} {st : Stack} {Θ : Table} {e : Term} whe
     some-is : ¬ (nodeOf e at .subterms ≡ 0)
     some-is z = h .some (subterms-are (h .place) ∙ z)
 
-    entered : said (h .i) ≡ enterOf (recIn s) (nodeOf e at .kind) (nodeOf e at .first) node st
-    entered = h .says .answer ∙ ap (λ (n : Node). enterOf (recIn s) (n .kind) (n .first) node st) (node-is (h .place))
+    entered : said (h .i) ≡ enterOf (recIn s) (nodeOf e at .rule) (nodeOf e at .first) node st
+    entered = h .says .answer ∙ ap (λ (n : Node). enterOf (recIn s) (n .rule) (n .first) node st) (node-is (h .place))
 
     steps : walk Θ e node st ≡ (said (h .i) >>= λ o. walk Θ (firstOf e) (node + 1) (o .stack) >>= after (recIn s) Θ e node)
     steps = let F = h .place .fits in walk-steps (recIn s) Θ (F .table) (F .types) at node st (F .numbers) e (F .ranged) some-is ∙ rw entered refl
@@ -150,7 +150,7 @@ module _ {s : List ℕ} {at node : ℕ} {st : Stack} {Θ : Table} {e : Term} whe
     next-is : h .start ≡ nodeOf e at .next
     next-is = start-is .0 ∙ ap (λ (n : Node). n .next) (node-is (h .inside .place))
 
-    inside-is : enterOf (recIn s) (nodeOf e at .kind) (nodeOf e at .first) node st ≡ good (foundAt (h .t) (stackOf (h .inside .i .binders)))
+    inside-is : enterOf (recIn s) (nodeOf e at .rule) (nodeOf e at .first) node st ≡ good (foundAt (h .t) (stackOf (h .inside .i .binders)))
     inside-is = sym (entered (h .inside)) ∙ said-fine (h .inside .i) (h .fine)
 
     pub turn-falls : length s - h .start < length s - at
@@ -179,12 +179,12 @@ module _ {s : List ℕ} {at node : ℕ} {st : Stack} {Θ : Table} {e : Term} whe
         (ap length (enter-two s at node Θ st e (some-is (h .opened .inside)) (λ z. d (subterms-are (h .opened .inside .place) ∙ z)) _ (inside-is (h .opened))) ∙ l)
 
     pub turn-one : h .opened .inside .place .n .subterms ≡ 1 → {c : Checked}
-        → Follows (h .x) c (leaveOne (recIn s) (h .opened .inside .place .n .kind) (h .opened .inside .place .n .first) node) → Done s at node st Θ e c
+        → Follows (h .x) c (leaveOne (recIn s) (h .opened .inside .place .n .rule) (h .opened .inside .place .n .first) node) → Done s at node st Θ e c
     turn-one z {c} w =
         let N = node-is (h .opened .inside .place) in
         let z₁ : nodeOf e at .subterms ≡ 1 = sym (subterms-are (h .opened .inside .place)) ∙ z in
         record {
-          answer = w .answer ∙ bind-same (said (h .x)) (λ a _. ap (λ (n : Node). leaveOne (recIn s) (n .kind) (n .first) node a) N ∙ after-one (recIn s) Θ at node a e z₁) ∙ sym rest;
+          answer = w .answer ∙ bind-same (said (h .x)) (λ a _. ap (λ (n : Node). leaveOne (recIn s) (n .rule) (n .first) node a) N ∙ after-one (recIn s) Θ at node a e z₁) ∙ sym rest;
           ends = ends-as (c .verdict) (ap (λ (k : ℕ). k + length (termBytes (firstOf e))) (next-is (h .opened)) ∙ end-one at e z₁ .0) (omega (arith, start-is (h .opened) .1, end-one at e z₁ .1)) (w .ends _ _ (h .says .ends));
         }
 
@@ -193,15 +193,15 @@ module _ {s : List ℕ} {at node : ℕ} {st : Stack} {Θ : Table} {e : Term} whe
     two-is z = h .two (subterms-are (h .first .opened .inside .place) ∙ z)
 
     abbrev second : Found → Answer Found
-    second y = walk Θ (secondOf e) (node + 1 + nodes (firstOf e)) (y .stack) >>= leaveTwo (recIn s) (nodeOf e at .kind) (nodeOf e at .first) node (y .type)
+    second y = walk Θ (secondOf e) (node + 1 + nodes (firstOf e)) (y .stack) >>= leaveTwo (recIn s) (nodeOf e at .rule) (nodeOf e at .first) node (y .type)
 
-    middle-said : said (h .m) ≡ (said (h .first .x) >>= betweenOf (recIn s) (nodeOf e at .kind) node)
-    middle-said = h .follows .answer ∙ ap (λ (n : Node). said (h .first .x) >>= betweenOf (recIn s) (n .kind) node) (node-is (h .first .opened .inside .place))
+    middle-said : said (h .m) ≡ (said (h .first .x) >>= betweenOf (recIn s) (nodeOf e at .rule) node)
+    middle-said = h .follows .answer ∙ ap (λ (n : Node). said (h .first .x) >>= betweenOf (recIn s) (n .rule) node) (node-is (h .first .opened .inside .place))
 
     rest-two : walk Θ e node st ≡ (said (h .m) >>= second)
     rest-two =
         rest (h .first) ∙ bind-same (said (h .first .x)) (λ a _. sym (after-two (recIn s) Θ at node a e (some-is (h .first .opened .inside)) two-is))
-        ∙ sym (bind-assoc (said (h .first .x)) (betweenOf (recIn s) (nodeOf e at .kind) node) second) ∙ ap (λ (z : Answer Found). z >>= second) (sym middle-said)
+        ∙ sym (bind-assoc (said (h .first .x)) (betweenOf (recIn s) (nodeOf e at .rule) node) second) ∙ ap (λ (z : Answer Found). z >>= second) (sym middle-said)
 
     -- refused in the first subterm, or between the two
     pub turn-halfway : {r : Refusal} → h .m .verdict ≡ verdict.Refused r → Done s at node st Θ e (h .m)
@@ -222,18 +222,18 @@ module _ {s : List ℕ} {at node : ℕ} {st : Stack} {Θ : Table} {e : Term} whe
 
     pub turn-second : Fits s (h .start) (h .count) Θ (secondOf e) (stackOf (h .middle .m .binders))
     turn-second =
-        on-bind (said (h .middle .first .x)) (betweenOf (recIn s) (nodeOf e at .kind) node) (foundAt (h .u) (stackOf (h .middle .m .binders))) (sym (middle-said (h .middle)) ∙ said-fine (h .middle .m) (h .fine)) λ a g k.
+        on-bind (said (h .middle .first .x)) (betweenOf (recIn s) (nodeOf e at .rule) node) (foundAt (h .u) (stackOf (h .middle .m .binders))) (sym (middle-said (h .middle)) ∙ said-fine (h .middle .m) (h .fine)) λ a g k.
         fits-at (ap (λ (z : ℕ). z + length (termBytes (firstOf e))) (sym (next-is o)) ∙ sym (mid-is .0)) (sym count-is)
         (fits-second s at node Θ st e (o .inside .place .fits) (some-is (o .inside)) _ (inside-is o) (two-is (h .middle)) a (sym (first-said (h .middle .first)) ∙ g) _ k)
 
     pub turn-two : (y c : Checked) → Says y (walk Θ (secondOf e) (h .count) (stackOf (h .middle .m .binders))) (h .start + length (termBytes (secondOf e))) (h .count + nodes (secondOf e))
-        → Follows y c (leaveTwo (recIn s) (o .inside .place .n .kind) (o .inside .place .n .first) node (h .u)) → Done s at node st Θ e c
+        → Follows y c (leaveTwo (recIn s) (o .inside .place .n .rule) (o .inside .place .n .first) node (h .u)) → Done s at node st Θ e c
     turn-two y c Y w =
         let E = end-two at e (some-is (o .inside)) (two-is (h .middle)) in
         record {
           answer =
-              w .answer ∙ ap (λ (n : Node). said y >>= leaveTwo (recIn s) (n .kind) (n .first) node (h .u)) (node-is (o .inside .place))
-              ∙ ap (λ (z : Answer Found). z >>= leaveTwo (recIn s) (nodeOf e at .kind) (nodeOf e at .first) node (h .u)) (Y .answer ∙ ap (λ (z : ℕ). walk Θ (secondOf e) z (stackOf (h .middle .m .binders))) count-is)
+              w .answer ∙ ap (λ (n : Node). said y >>= leaveTwo (recIn s) (n .rule) (n .first) node (h .u)) (node-is (o .inside .place))
+              ∙ ap (λ (z : Answer Found). z >>= leaveTwo (recIn s) (nodeOf e at .rule) (nodeOf e at .first) node (h .u)) (Y .answer ∙ ap (λ (z : ℕ). walk Θ (secondOf e) z (stackOf (h .middle .m .binders))) count-is)
               ∙ sym (rest-two (h .middle) ∙ rw (said-fine (h .middle .m) (h .fine)) refl);
           ends = ends-as (c .verdict) (omega (arith, mid-is .0, next-is o, E .0)) (omega (arith, count-is, E .1)) (w .ends _ _ (Y .ends));
         }

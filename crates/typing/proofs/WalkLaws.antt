@@ -12,6 +12,7 @@ use Rattle.calculus.specs.Terms.{Term, var, lvar, fun, app, lfun, lapp, pair, p
 use Rattle.sheet_theorems.specs.Laid.{TableOk, Ranged}
 use Rattle.calculus.specs.Walk.{shared, linear, Stack, product, sharableArrow, linearArrow, Found, found, pop, topUsed, walk}
 use Rattle.records.specs.Heads.{nodeOf}
+use Rattle.records.specs.declared.Rule.the-variants as rule
 use Rattle.sheet_theorems.proofs.Complete.{Numbers}
 use Rattle.typing.specs.declared.rules.Fit.the-variants as fit
 use Rattle.typing.specs.Steps.{Types, kindNo, constantOf, leafOf, openingOf, opened, enterOf, wantedOf, usedUp, leaveOne, betweenOf, appliedOf, pairedOf, joinedOf, closesOf, fitted, leaveTwo}
@@ -92,13 +93,13 @@ pair-tests false y t n st = refl
 abbrev pub after : Types → Table → Term → ℕ → Found → Answer Found
 after R Θ (var i) n x = good x
 after R Θ (lvar i) n x = good x
-after R Θ (fun t e) n x = leaveOne R 0x13 t n x
-after R Θ (app f a) n x = betweenOf R 0x14 n x >>= λ m. walk Θ a (n + 1 + nodes f) (m .stack) >>= leaveTwo R 0x14 0 n (m .type)
-after R Θ (lfun t e) n x = leaveOne R 0x15 t n x
-after R Θ (lapp f a) n x = betweenOf R 0x16 n x >>= λ m. walk Θ a (n + 1 + nodes f) (m .stack) >>= leaveTwo R 0x16 0 n (m .type)
-after R Θ (pair t a b) n x = betweenOf R 0x17 n x >>= λ m. walk Θ b (n + 1 + nodes a) (m .stack) >>= leaveTwo R 0x17 t n (m .type)
-after R Θ (proj a e) n x = betweenOf R 0x18 n x >>= λ m. walk Θ e (n + 1 + nodes a) (m .stack) >>= leaveTwo R 0x18 0 n (m .type)
-after R Θ (fix t e) n x = leaveOne R 0x19 t n x
+after R Θ (fun t e) n x = leaveOne R rule.Function t n x
+after R Θ (app f a) n x = betweenOf R rule.Application n x >>= λ m. walk Θ a (n + 1 + nodes f) (m .stack) >>= leaveTwo R rule.Application 0 n (m .type)
+after R Θ (lfun t e) n x = leaveOne R rule.LinearFunction t n x
+after R Θ (lapp f a) n x = betweenOf R rule.LinearApplication n x >>= λ m. walk Θ a (n + 1 + nodes f) (m .stack) >>= leaveTwo R rule.LinearApplication 0 n (m .type)
+after R Θ (pair t a b) n x = betweenOf R rule.Pair n x >>= λ m. walk Θ b (n + 1 + nodes a) (m .stack) >>= leaveTwo R rule.Pair t n (m .type)
+after R Θ (proj a e) n x = betweenOf R rule.Projection n x >>= λ m. walk Θ e (n + 1 + nodes a) (m .stack) >>= leaveTwo R rule.Projection 0 n (m .type)
+after R Θ (fix t e) n x = leaveOne R rule.FixedPoint t n x
 after R Θ (con p t) n x = good x
 
 -- ---- each kind of node
@@ -111,7 +112,7 @@ module _ (R : Types) (Θ : Table) (ok : TableOk Θ) (same : (t : ℕ) → t < le
   module _ (go : ℕ → Stack → Answer Found) where
     fun-steps : (q : TyRec) (t : ℕ) (st : Stack) → R t ≡ q
         → (sharableArrow q n >>= λ τ. go (n + 1) (shared (τ .left) ∷ st) >>= λ r. need (eqb (r .type) (τ .right)) 12 n >>= λ _. found t (pop (r .stack)))
-        ≡ (opened (openingOf 0x13 t q) t n st >>= λ o. go (n + 1) (o .stack) >>= leaveOne R 0x13 t n)
+        ≡ (opened (openingOf rule.Function t q) t n st >>= λ o. go (n + 1) (o .stack) >>= leaveOne R rule.Function t n)
     unfolding openingOf leaveOne usedUp wantedOf
     fun-steps rec01 t st e = refl
     fun-steps (rec02 a b) t st e = refl
@@ -120,7 +121,7 @@ module _ (R : Types) (Θ : Table) (ok : TableOk Θ) (same : (t : ℕ) → t < le
 
     lfun-steps : (q : TyRec) (t : ℕ) (st : Stack) → R t ≡ q
         → (linearArrow q n >>= λ τ. go (n + 1) (linear (τ .left) false ∷ st) >>= λ r. need (topUsed (r .stack)) 14 n >>= λ _. need (eqb (r .type) (τ .right)) 12 n >>= λ _. found t (pop (r .stack)))
-        ≡ (opened (openingOf 0x15 t q) t n st >>= λ o. go (n + 1) (o .stack) >>= leaveOne R 0x15 t n)
+        ≡ (opened (openingOf rule.LinearFunction t q) t n st >>= λ o. go (n + 1) (o .stack) >>= leaveOne R rule.LinearFunction t n)
     unfolding openingOf leaveOne usedUp wantedOf
     lfun-steps rec01 t st e = refl
     lfun-steps (rec02 a b) t st e = refl
@@ -129,7 +130,7 @@ module _ (R : Types) (Θ : Table) (ok : TableOk Θ) (same : (t : ℕ) → t < le
 
     fix-steps : (q : TyRec) (t : ℕ) (st : Stack)
         → (need (leb (kindNo q) 2) 12 n >>= λ _. go (n + 1) (shared t ∷ st) >>= λ r. need (eqb (r .type) t) 12 n >>= λ _. found t (pop (r .stack)))
-        ≡ (opened (openingOf 0x19 t q) t n st >>= λ o. go (n + 1) (o .stack) >>= leaveOne R 0x19 t n)
+        ≡ (opened (openingOf rule.FixedPoint t q) t n st >>= λ o. go (n + 1) (o .stack) >>= leaveOne R rule.FixedPoint t n)
     unfolding openingOf leaveOne usedUp wantedOf
     fix-steps rec01 t st = bind-same (go (n + 1) (shared t ∷ st)) (λ r h. rw (pop-is (r .stack)))
     fix-steps (rec02 a b) t st = bind-same (go (n + 1) (shared t ∷ st)) (λ r h. rw (pop-is (r .stack)))
@@ -137,7 +138,7 @@ module _ (R : Types) (Θ : Table) (ok : TableOk Θ) (same : (t : ℕ) → t < le
     fix-steps (rec04 a b) t st = refl
 
   app-steps : (f a : Term) (st : Stack) → Ranged Θ f → Numbers st (length Θ)
-      → walk Θ (app f a) n st ≡ (enterOf R 0x14 0 n st >>= λ o. walk Θ f (n + 1) (o .stack) >>= after R Θ (app f a) n)
+      → walk Θ (app f a) n st ≡ (enterOf R rule.Application 0 n st >>= λ o. walk Θ f (n + 1) (o .stack) >>= after R Θ (app f a) n)
   unfolding openingOf betweenOf joinedOf closesOf
   app-steps f a st r k =
       bind-same (walk Θ f (n + 1) st) λ x h.
@@ -145,7 +146,7 @@ module _ (R : Types) (Θ : Table) (ok : TableOk Θ) (same : (t : ℕ) → t < le
       rw (same (x .type) (kept Θ ok f r (n + 1) st k x h .type-in)) (sym (app-end (recAt Θ (x .type)) (y .type) n (y .stack)))
 
   lapp-steps : (f a : Term) (st : Stack) → Ranged Θ f → Numbers st (length Θ)
-      → walk Θ (lapp f a) n st ≡ (enterOf R 0x16 0 n st >>= λ o. walk Θ f (n + 1) (o .stack) >>= after R Θ (lapp f a) n)
+      → walk Θ (lapp f a) n st ≡ (enterOf R rule.LinearApplication 0 n st >>= λ o. walk Θ f (n + 1) (o .stack) >>= after R Θ (lapp f a) n)
   unfolding openingOf betweenOf joinedOf closesOf
   lapp-steps f a st r k =
       bind-same (walk Θ f (n + 1) st) λ x h.
@@ -154,7 +155,7 @@ module _ (R : Types) (Θ : Table) (ok : TableOk Θ) (same : (t : ℕ) → t < le
 
   pair-rest : (q : TyRec) (t : ℕ) (a b : Term) (st : Stack) → R t ≡ q
       → (product q n >>= λ τ. walk Θ a (n + 1) st >>= λ x. walk Θ b (n + 1 + nodes a) (x .stack) >>= λ y. need (eqb (x .type) (τ .left)) 12 n >>= λ _. need (eqb (y .type) (τ .right)) 12 n >>= λ _. found t (y .stack))
-      ≡ (opened (openingOf 0x17 t q) t n st >>= λ o. walk Θ a (n + 1) (o .stack) >>= after R Θ (pair t a b) n)
+      ≡ (opened (openingOf rule.Pair t q) t n st >>= λ o. walk Θ a (n + 1) (o .stack) >>= after R Θ (pair t a b) n)
   unfolding openingOf betweenOf joinedOf closesOf pairedOf
   pair-rest rec01 t a b st e = refl
   pair-rest (rec02 u v) t a b st e =
@@ -173,7 +174,7 @@ module _ (R : Types) (Θ : Table) (ok : TableOk Θ) (same : (t : ℕ) → t < le
   proj-rest (rec04 u v) a e x h = rw h
 
   proj-steps : (a e : Term) (st : Stack) → Ranged Θ a → Numbers st (length Θ)
-      → walk Θ (proj a e) n st ≡ (enterOf R 0x18 0 n st >>= λ o. walk Θ a (n + 1) (o .stack) >>= after R Θ (proj a e) n)
+      → walk Θ (proj a e) n st ≡ (enterOf R rule.Projection 0 n st >>= λ o. walk Θ a (n + 1) (o .stack) >>= after R Θ (proj a e) n)
   unfolding openingOf
   proj-steps a e st r k =
       bind-same (walk Θ a (n + 1) st) λ x h.
@@ -183,7 +184,7 @@ module _ (R : Types) (Θ : Table) (ok : TableOk Θ) (same : (t : ℕ) → t < le
 
 module _ (R : Types) (Θ : Table) (ok : TableOk Θ) (same : (t : ℕ) → t < length Θ → R t ≡ recAt Θ t) (at n : ℕ) (st : Stack) (k : Numbers st (length Θ)) where
   -- without subterms
-  pub walk-leaf : (e : Term) → Ranged Θ e → nodeOf e at .subterms ≡ 0 → leafOf R (nodeOf e at .kind) (nodeOf e at .first) (nodeOf e at .second) n st ≡ walk Θ e n st
+  pub walk-leaf : (e : Term) → Ranged Θ e → nodeOf e at .subterms ≡ 0 → leafOf R (nodeOf e at .rule) (nodeOf e at .first) (nodeOf e at .second) n st ≡ walk Θ e n st
   unfolding leafOf
   walk-leaf (var i) r z = refl
   walk-leaf (lvar i) r z = refl
@@ -198,7 +199,7 @@ module _ (R : Types) (Θ : Table) (ok : TableOk Θ) (same : (t : ℕ) → t < le
 
   -- with subterms: entering, the first subterm, and what comes after it
   pub walk-steps : (e : Term) → Ranged Θ e → ¬ (nodeOf e at .subterms ≡ 0)
-      → walk Θ e n st ≡ (enterOf R (nodeOf e at .kind) (nodeOf e at .first) n st >>= λ o. walk Θ (firstOf e) (n + 1) (o .stack) >>= after R Θ e n)
+      → walk Θ e n st ≡ (enterOf R (nodeOf e at .rule) (nodeOf e at .first) n st >>= λ o. walk Θ (firstOf e) (n + 1) (o .stack) >>= after R Θ e n)
   walk-steps (var i) r d = absurd (d refl)
   walk-steps (lvar i) r d = absurd (d refl)
   walk-steps (fun t e) r d = rw (← same t (r .0)) (fun-steps R Θ ok same n (walk Θ e) (R t) t st refl)
@@ -211,7 +212,7 @@ module _ (R : Types) (Θ : Table) (ok : TableOk Θ) (same : (t : ℕ) → t < le
   walk-steps (con p t) r d = absurd (d refl)
 
 module _ (R : Types) (Θ : Table) (at n : ℕ) (x : Found) where
-  pub after-one : (e : Term) → nodeOf e at .subterms ≡ 1 → leaveOne R (nodeOf e at .kind) (nodeOf e at .first) n x ≡ after R Θ e n x
+  pub after-one : (e : Term) → nodeOf e at .subterms ≡ 1 → leaveOne R (nodeOf e at .rule) (nodeOf e at .first) n x ≡ after R Θ e n x
   after-one (var i) z = absurd (omega arith)
   after-one (lvar i) z = absurd (omega arith)
   after-one (fun t e) z = refl
@@ -224,7 +225,7 @@ module _ (R : Types) (Θ : Table) (at n : ℕ) (x : Found) where
   after-one (con p t) z = absurd (omega arith)
 
   pub after-two : (e : Term) → ¬ (nodeOf e at .subterms ≡ 0) → ¬ (nodeOf e at .subterms ≡ 1)
-      → (betweenOf R (nodeOf e at .kind) n x >>= λ m. walk Θ (secondOf e) (n + 1 + nodes (firstOf e)) (m .stack) >>= leaveTwo R (nodeOf e at .kind) (nodeOf e at .first) n (m .type))
+      → (betweenOf R (nodeOf e at .rule) n x >>= λ m. walk Θ (secondOf e) (n + 1 + nodes (firstOf e)) (m .stack) >>= leaveTwo R (nodeOf e at .rule) (nodeOf e at .first) n (m .type))
       ≡ after R Θ e n x
   after-two (var i) d f = absurd (d refl)
   after-two (lvar i) d f = absurd (d refl)

@@ -9,6 +9,9 @@ use Rattle.calculus.specs.Answer.{Answer, good, refused, _>>=_, need}
 use Rattle.calculus.specs.Types.{Ty, bit, prod, arrow, lolli, TyRec, rec01, rec02, rec03, rec04}
 use Rattle.calculus.specs.Terms.{parts, partAt}
 use Rattle.calculus.specs.Walk.{shared, linear, Stack, Found, found, useShared, useLinear, topUsed}
+use Rattle.records.specs.Rules.{isLinearFunction, isProjection, isFixedPoint}
+use Rattle.records.specs.declared.Rule.{Rule}
+use Rattle.records.specs.declared.Rule.the-variants as rule
 use Rattle.typing.specs.declared.rules.Sided.{Sided}
 use Rattle.typing.specs.declared.rules.Opening.{Opening}
 use Rattle.typing.specs.declared.rules.Opening.the-variants as opening
@@ -63,9 +66,18 @@ constantOf R p t n st = do
   _ ← need (standsFor R (partAt p .type) t) 12 n
   found t st
 
--- by kind, with the record's two bytes
-unfoldable pub leafOf : Types → ℕ → ℕ → ℕ → ℕ → Stack → Answer Found
-leafOf R k x y n st = cond (eqb k 0x11) (useShared st x n) (cond (eqb k 0x12) (useLinear st x n) (constantOf R x y n st))
+-- by rule, with the record's two bytes
+unfoldable pub leafOf : Types → Rule → ℕ → ℕ → ℕ → Stack → Answer Found
+leafOf R rule.Variable x y n st = useShared st x n
+leafOf R rule.LinearVariable x y n st = useLinear st x n
+leafOf R rule.Function x y n st = constantOf R x y n st
+leafOf R rule.Application x y n st = constantOf R x y n st
+leafOf R rule.LinearFunction x y n st = constantOf R x y n st
+leafOf R rule.LinearApplication x y n st = constantOf R x y n st
+leafOf R rule.Pair x y n st = constantOf R x y n st
+leafOf R rule.Projection x y n st = constantOf R x y n st
+leafOf R rule.FixedPoint x y n st = constantOf R x y n st
+leafOf R rule.Constant x y n st = constantOf R x y n st
 
 -- ---- entering
 
@@ -73,13 +85,17 @@ leafOf R k x y n st = cond (eqb k 0x11) (useShared st x n) (cond (eqb k 0x12) (u
 abbrev pub whereKind : ℕ → TyRec → Opening → Opening
 whereKind k q o = cond (eqb (kindNo q) k) o opening.Misfit
 
-unfoldable pub openingOf : ℕ → ℕ → TyRec → Opening
-openingOf k t q =
-    cond (eqb k 0x13) (whereKind 3 q (opening.Shared (leftOf q)))
-    (cond (eqb k 0x15) (whereKind 4 q (opening.Linear (leftOf q)))
-    (cond (eqb k 0x17) (whereKind 2 q opening.Nothing)
-    (cond (eqb k 0x19) (cond (leb (kindNo q) 2) (opening.Shared t) opening.Misfit)
-    opening.Nothing)))
+unfoldable pub openingOf : Rule → ℕ → TyRec → Opening
+openingOf rule.Variable t q = opening.Nothing
+openingOf rule.LinearVariable t q = opening.Nothing
+openingOf rule.Function t q = whereKind 3 q (opening.Shared (leftOf q))
+openingOf rule.Application t q = opening.Nothing
+openingOf rule.LinearFunction t q = whereKind 4 q (opening.Linear (leftOf q))
+openingOf rule.LinearApplication t q = opening.Nothing
+openingOf rule.Pair t q = whereKind 2 q opening.Nothing
+openingOf rule.Projection t q = opening.Nothing
+openingOf rule.FixedPoint t q = cond (leb (kindNo q) 2) (opening.Shared t) opening.Misfit
+openingOf rule.Constant t q = opening.Nothing
 
 -- an opening as numbers
 abbrev pub bindingOf : Opening → Binding
@@ -94,30 +110,30 @@ opened (opening.Shared x) t n st = found t (shared x ∷ st)
 opened (opening.Linear x) t n st = found t (linear x false ∷ st)
 opened opening.Misfit t n st = refused 12 n
 
-abbrev pub enterOf : Types → ℕ → ℕ → ℕ → Stack → Answer Found
-enterOf R k t n st = opened (openingOf k t (R t)) t n st
+abbrev pub enterOf : Types → Rule → ℕ → ℕ → Stack → Answer Found
+enterOf R u t n st = opened (openingOf u t (R t)) t n st
 
 -- ---- leaving a node with one subterm
 
-unfoldable pub wantedOf : ℕ → ℕ → TyRec → ℕ
-wantedOf k t q = cond (eqb k 0x19) t (rightOf q)
+unfoldable pub wantedOf : Rule → ℕ → TyRec → ℕ
+wantedOf u t q = cond (isFixedPoint u) t (rightOf q)
 
-unfoldable pub usedUp : ℕ → Stack → Bool
-usedUp k st = cond (eqb k 0x15) (topUsed st) true
+unfoldable pub usedUp : Rule → Stack → Bool
+usedUp u st = cond (isLinearFunction u) (topUsed st) true
 
 -- 14, then 12
-unfoldable pub leaveOne : Types → ℕ → ℕ → ℕ → Found → Answer Found
-leaveOne R k t n x = do
-  _ ← need (usedUp k (x .stack)) 14 n
-  _ ← need (eqb (x .type) (wantedOf k t (R t))) 12 n
+unfoldable pub leaveOne : Types → Rule → ℕ → ℕ → Found → Answer Found
+leaveOne R u t n x = do
+  _ ← need (usedUp u (x .stack)) 14 n
+  _ ← need (eqb (x .type) (wantedOf u t (R t))) 12 n
   found t (drop 1 (x .stack))
 
 -- ---- between two subterms
 
 -- on entering a projection's body: 12
-unfoldable pub betweenOf : Types → ℕ → ℕ → Found → Answer Found
-betweenOf R k n x =
-    cond (eqb k 0x18)
+unfoldable pub betweenOf : Types → Rule → ℕ → Found → Answer Found
+betweenOf R u n x =
+    cond (isProjection u)
     (need (eqb (kindNo (R (x .type))) 2) 12 n >>= λ _. found (x .type) (shared (rightOf (R (x .type))) ∷ shared (leftOf (R (x .type))) ∷ x .stack))
     (good x)
 
@@ -130,20 +146,25 @@ unfoldable pub pairedOf : TyRec → ℕ → ℕ → ℕ → Fit
 pairedOf q t a b = cond (eqb a (leftOf q)) (cond (eqb b (rightOf q)) (fit.Type t) fit.Misfit) fit.Misfit
 
 -- the types a and b of the subterms to the type of the node
-unfoldable pub joinedOf : Types → ℕ → ℕ → ℕ → ℕ → Fit
-joinedOf R k t a b =
-    cond (eqb k 0x14) (appliedOf (R a) 3 b)
-    (cond (eqb k 0x16) (appliedOf (R a) 4 b)
-    (cond (eqb k 0x17) (pairedOf (R t) t a b)
-    (fit.Type b)))
+unfoldable pub joinedOf : Types → Rule → ℕ → ℕ → ℕ → Fit
+joinedOf R rule.Variable t a b = fit.Type b
+joinedOf R rule.LinearVariable t a b = fit.Type b
+joinedOf R rule.Function t a b = fit.Type b
+joinedOf R rule.Application t a b = appliedOf (R a) 3 b
+joinedOf R rule.LinearFunction t a b = fit.Type b
+joinedOf R rule.LinearApplication t a b = appliedOf (R a) 4 b
+joinedOf R rule.Pair t a b = pairedOf (R t) t a b
+joinedOf R rule.Projection t a b = fit.Type b
+joinedOf R rule.FixedPoint t a b = fit.Type b
+joinedOf R rule.Constant t a b = fit.Type b
 
 -- the binders that go out of scope
-unfoldable pub closesOf : ℕ → ℕ
-closesOf k = cond (eqb k 0x18) 2 0
+unfoldable pub closesOf : Rule → ℕ
+closesOf u = cond (isProjection u) 2 0
 
 abbrev pub fitted : Fit → ℕ → ℕ → Stack → Answer Found
 fitted (fit.Type t) closes n st = found t (drop closes st)
 fitted fit.Misfit closes n st = refused 12 n
 
-abbrev pub leaveTwo : Types → ℕ → ℕ → ℕ → ℕ → Found → Answer Found
-leaveTwo R k t n a y = fitted (joinedOf R k t a (y .type)) (closesOf k) n (y .stack)
+abbrev pub leaveTwo : Types → Rule → ℕ → ℕ → ℕ → Found → Answer Found
+leaveTwo R u t n a y = fitted (joinedOf R u t a (y .type)) (closesOf u) n (y .stack)

@@ -3,9 +3,10 @@ use Prim.Native.Nat.{ℕ, _+_}
 use mathlib.Core.Path.{_≡_}
 use mathlib.Core.Bool.{cond}
 use mathlib.Core.List.{_∷_}
-use lib.Dec.{eqb}
 use Rattle.calculus.specs.Answer.{Answer, refused, _>>=_}
 use Rattle.calculus.specs.Walk.{shared, Stack, Found, found}
+use Rattle.records.specs.Rules.{isProjection}
+use Rattle.records.specs.declared.Rule.{Rule}
 use Rattle.binders.specs.Stacks.{stackOf}
 use Rattle.binders.specs.declared.Binders.{Binders}
 use Rattle.binders.specs.declared.Use.{Use}
@@ -35,12 +36,12 @@ settledOf (use·.Type t) next n = verdict.Fine t next (n + 1)
 settledOf (use·.Refused number) next n = refusedOf number n
 
 -- the binders on entering a second subterm: a projection binds the halves of the first one's type t, the second half nearer
-abbrev pub halvesOf : Types → ℕ → ℕ → Stack → Stack
-halvesOf R k t st = cond (eqb k 0x18) (shared (rightOf (R t)) ∷ shared (leftOf (R t)) ∷ st) st
+abbrev pub halvesOf : Types → Rule → ℕ → Stack → Stack
+halvesOf R u t st = cond (isProjection u) (shared (rightOf (R t)) ∷ shared (leftOf (R t)) ∷ st) st
 
-abbrev pub halves : Types → ℕ → Verdict → Stack → Stack
-halves R k (verdict.Fine t next count) st = halvesOf R k t st
-halves R k (verdict.Refused r) st = st
+abbrev pub halves : Types → Rule → Verdict → Stack → Stack
+halves R u (verdict.Fine t next count) st = halvesOf R u t st
+halves R u (verdict.Refused r) st = st
 
 -- a verdict that is fine has the offset past the term, and the nodes up to there
 abbrev pub EndsAt : Verdict → ℕ → ℕ → Type 0

@@ -2,6 +2,7 @@
 use binders::Binders;
 use binders::Use;
 use records::Node;
+use records::Rule;
 use rules::Fit;
 ghost use mathlib.Core.Path.{_≡_};
 ghost use mathlib.Core.List.{_∷_};
@@ -72,16 +73,16 @@ fn settled(u: Use, next: usize, node: usize) -> Verdict
 // A node without subterms. A linear variable is marked whatever the answer: after a refusal nobody looks at the marks.
 fn leaf(s: &[u8], n: Node, node: usize, b: Binders) -> Checked
     requires { ⌜ (b .count ≤ 128) × (node < 2048) ⌝ }
-    ensures { λ r. ⌜ Says r (leafOf (recIn (now (s .entry))) (n .kind) (n .first) (n .second) node (stackOf b)) (n .next) (node + 1) ⌝ }
+    ensures { λ r. ⌜ Says r (leafOf (recIn (now (s .entry))) (n .rule) (n .first) (n .second) node (stackOf b)) (n .next) (node + 1) ⌝ }
 {
     let mut own = b;
     let c = own.count;
     let i = records::wide(n.first);
     let k = binders::slot(c, i);
-    let kind = n.kind;
-    let u = match kind {
-        0x11 => binders::use_shared(c, i, own.types[k], own.sorts[k]),
-        0x12 => {
+    let rule = n.rule;
+    let u = match rule {
+        Rule::Variable => binders::use_shared(c, i, own.types[k], own.sorts[k]),
+        Rule::LinearVariable => {
             let taken = binders::use_linear(c, i, own.types[k], own.sorts[k], own.used[k]);
             own.used[k] = 1;
             taken
@@ -97,12 +98,12 @@ fn leaf(s: &[u8], n: Node, node: usize, b: Binders) -> Checked
 // ---- leaving a node with one subterm
 
 // A linear function's variable, the nearest binder, has been used.
-fn used_up(kind: u8, sort: u8, mark: u8) -> bool
-    ensures { λ r. ⌜ ((t : ℕ) (st : Stack) → r ≡ usedUp kind (binderOf t sort mark ∷ st)) ⌝ }
+fn used_up(rule: Rule, sort: u8, mark: u8) -> bool
+    ensures { λ r. ⌜ ((t : ℕ) (st : Stack) → r ≡ usedUp rule (binderOf t sort mark ∷ st)) ⌝ }
 {
-    if kind != 0x15 {
+    let Rule::LinearFunction = rule else {
         return true;
-    }
+    };
     if sort == 0 {
         return true;
     }
@@ -111,12 +112,13 @@ fn used_up(kind: u8, sort: u8, mark: u8) -> bool
 
 // 14, then 12.
 fn after_one(s: &[u8], n: Node, node: usize, v: Verdict, used: bool) -> Verdict
-    ensures { λ r. ⌜ ((st : Stack) → used ≡ usedUp (n .kind) st → FollowsOn v st r (drop 1 st) (leaveOne (recIn (now (s .entry))) (n .kind) (n .first) node)) ⌝ }
+    ensures { λ r. ⌜ ((st : Stack) → used ≡ usedUp (n .rule) st → FollowsOn v st r (drop 1 st) (leaveOne (recIn (now (s .entry))) (n .rule) (n .first) node)) ⌝ }
 {
     let Verdict::Fine { ty, next, count } = v else {
         return v;
     };
-    let body = rules::wanted(s, n.kind, n.first);
+    let rule = n.rule;
+    let body = rules::wanted(s, rule, n.first);
     if !used {
         return refused(14, node);
     }
@@ -133,11 +135,12 @@ fn after_one(s: &[u8], n: Node, node: usize, v: Verdict, used: bool) -> Verdict
 // The variable, at c, goes out of scope.
 fn leave_one(s: &[u8], n: Node, node: usize, c: usize, x: Checked) -> Checked
     requires { ⌜ (c < 128) × Counts (c + 1) x ⌝ }
-    ensures { λ r. ⌜ Follows x r (leaveOne (recIn (now (s .entry))) (n .kind) (n .first) node) ⌝ }
+    ensures { λ r. ⌜ Follows x r (leaveOne (recIn (now (s .entry))) (n .rule) (n .first) node) ⌝ }
 {
     let v = x.verdict;
     let mut own = x.binders;
-    let used = used_up(n.kind, own.sorts[c], own.used[c]);
+    let rule = n.rule;
+    let used = used_up(rule, own.sorts[c], own.used[c]);
     own.count = c;
     Checked {
         verdict: after_one(s, n, node, v, used),
@@ -148,8 +151,8 @@ fn leave_one(s: &[u8], n: Node, node: usize, c: usize, x: Checked) -> Checked
 // ---- between two subterms
 
 // On entering a projection's body: 12 if the first subterm is no product.
-fn between(s: &[u8], kind: u8, node: usize, v: Verdict) -> Verdict
-    ensures { λ r. ⌜ ((st : Stack) → FollowsOn v st r (halves (recIn (now (s .entry))) kind r st) (betweenOf (recIn (now (s .entry))) kind node)) ⌝ }
+fn between(s: &[u8], rule: Rule, node: usize, v: Verdict) -> Verdict
+    ensures { λ r. ⌜ ((st : Stack) → FollowsOn v st r (halves (recIn (now (s .entry))) rule r st) (betweenOf (recIn (now (s .entry))) rule node)) ⌝ }
 {
     let Verdict::Fine {
         ty,
@@ -159,9 +162,9 @@ fn between(s: &[u8], kind: u8, node: usize, v: Verdict) -> Verdict
     else {
         return v;
     };
-    if kind != 0x18 {
+    let Rule::Projection = rule else {
         return v;
-    }
+    };
     if rules::sides_of(s, ty).kind == 2 {
         v
     } else {
@@ -173,12 +176,13 @@ fn between(s: &[u8], kind: u8, node: usize, v: Verdict) -> Verdict
 
 // 12 if the types of the subterms, a and that of v, do not fit.
 fn after_two(s: &[u8], n: Node, node: usize, a: u8, v: Verdict) -> Verdict
-    ensures { λ r. ⌜ ((st : Stack) → FollowsOn v st r (drop (closesOf (n .kind)) st) (leaveTwo (recIn (now (s .entry))) (n .kind) (n .first) node a)) ⌝ }
+    ensures { λ r. ⌜ ((st : Stack) → FollowsOn v st r (drop (closesOf (n .rule)) st) (leaveTwo (recIn (now (s .entry))) (n .rule) (n .first) node a)) ⌝ }
 {
     let Verdict::Fine { ty, next, count } = v else {
         return v;
     };
-    match rules::joined(s, n.kind, n.first, a, ty) {
+    let rule = n.rule;
+    match rules::joined(s, rule, n.first, a, ty) {
         Fit::Misfit => refused(12, node),
         Fit::Type(t) => Verdict::Fine { ty: t, next, count },
     }
@@ -186,8 +190,8 @@ fn after_two(s: &[u8], n: Node, node: usize, a: u8, v: Verdict) -> Verdict
 
 // A projection's variables, from c, go out of scope.
 fn leave_two(s: &[u8], n: Node, node: usize, a: u8, c: usize, y: Checked) -> Checked
-    requires { ⌜ Counts (c + closesOf (n .kind)) y ⌝ }
-    ensures { λ r. ⌜ Follows y r (leaveTwo (recIn (now (s .entry))) (n .kind) (n .first) node a) ⌝ }
+    requires { ⌜ Counts (c + closesOf (n .rule)) y ⌝ }
+    ensures { λ r. ⌜ Follows y r (leaveTwo (recIn (now (s .entry))) (n .rule) (n .first) node a) ⌝ }
 {
     let v = y.verdict;
     let mut own = y.binders;
@@ -211,7 +215,8 @@ fn walk(s: &[u8], at: usize, node: usize, b: Binders) -> Checked
     if n.subterms == 0 {
         return leaf(s, n, node, b);
     }
-    let o = rules::bound(rules::opens(s, n.kind, n.first));
+    let rule = n.rule;
+    let o = rules::bound(rules::opens(s, rule, n.first));
     if !o.fits {
         return stopped(refused(12, node), b);
     }
@@ -226,7 +231,7 @@ fn walk(s: &[u8], at: usize, node: usize, b: Binders) -> Checked
         return leave_one(s, n, node, c, x);
     }
     let first = x.verdict;
-    let v = between(s, n.kind, node, first);
+    let v = between(s, rule, node, first);
     own = x.binders;
     let Verdict::Fine { ty, next, count } = v else {
         return stopped(v, own);
@@ -239,7 +244,7 @@ fn walk(s: &[u8], at: usize, node: usize, b: Binders) -> Checked
     own.types[d] = q.right;
     own.sorts[d] = 0;
     own.used[d] = 0;
-    own.count = c + rules::closes(n.kind);
+    own.count = c + rules::closes(rule);
     leave_two(s, n, node, ty, c, walk(s, next, count, own))
 }
 

@@ -2,6 +2,7 @@
 use binders::Use;
 use parts::Named;
 use records::Form;
+use records::Rule;
 ghost use mathlib.Core.Path.{_≡_};
 ghost use Prim.Native.Nat.{ℕ, _≤_};
 ghost use Rattle.calculus.specs.Types.{bit};
@@ -115,33 +116,33 @@ pub enum Opening {
     Misfit,
 }
 
-pub fn opens(s: &[u8], kind: u8, t: u8) -> Opening
-    ensures { λ r. ⌜ r ≡ openingOf kind t (recIn (now (s .entry)) t) ⌝ }
+pub fn opens(s: &[u8], rule: Rule, t: u8) -> Opening
+    ensures { λ r. ⌜ r ≡ openingOf rule t (recIn (now (s .entry)) t) ⌝ }
 {
     let q = sides_of(s, t);
-    match kind {
-        0x13 => {
+    match rule {
+        Rule::Function => {
             if q.kind == 3 {
                 Opening::Shared(q.left)
             } else {
                 Opening::Misfit
             }
         }
-        0x15 => {
+        Rule::LinearFunction => {
             if q.kind == 4 {
                 Opening::Linear(q.left)
             } else {
                 Opening::Misfit
             }
         }
-        0x17 => {
+        Rule::Pair => {
             if q.kind == 2 {
                 Opening::Nothing
             } else {
                 Opening::Misfit
             }
         }
-        0x19 => {
+        Rule::FixedPoint => {
             if q.kind <= 2 {
                 Opening::Shared(t)
             } else {
@@ -192,13 +193,13 @@ pub fn bound(o: Opening) -> Binding
 }
 
 // The type that the body of a function or a fixed point of type t must have.
-pub fn wanted(s: &[u8], kind: u8, t: u8) -> u8
-    ensures { λ r. ⌜ r ≡ wantedOf kind t (recIn (now (s .entry)) t) ⌝ }
+pub fn wanted(s: &[u8], rule: Rule, t: u8) -> u8
+    ensures { λ r. ⌜ r ≡ wantedOf rule t (recIn (now (s .entry)) t) ⌝ }
 {
-    if kind == 0x19 {
-        return t;
+    match rule {
+        Rule::FixedPoint => t,
+        _ => sides_of(s, t).right,
     }
-    sides_of(s, t).right
 }
 
 // The type of a node, or none that the rule gives.
@@ -236,20 +237,23 @@ fn paired(s: &[u8], t: u8, a: u8, b: u8) -> Fit
 }
 
 // Types of the two subterms to the type of the node.
-pub fn joined(s: &[u8], kind: u8, t: u8, a: u8, b: u8) -> Fit
-    ensures { λ r. ⌜ r ≡ joinedOf (recIn (now (s .entry))) kind t a b ⌝ }
+pub fn joined(s: &[u8], rule: Rule, t: u8, a: u8, b: u8) -> Fit
+    ensures { λ r. ⌜ r ≡ joinedOf (recIn (now (s .entry))) rule t a b ⌝ }
 {
-    match kind {
-        0x14 => applied(s, 3, a, b),
-        0x16 => applied(s, 4, a, b),
-        0x17 => paired(s, t, a, b),
+    match rule {
+        Rule::Application => applied(s, 3, a, b),
+        Rule::LinearApplication => applied(s, 4, a, b),
+        Rule::Pair => paired(s, t, a, b),
         _ => Fit::Type(b),
     }
 }
 
 // The binders that go out of scope: a projection's two.
-pub fn closes(kind: u8) -> usize
-    ensures { λ r. ⌜ r ≡ closesOf kind ⌝ }
+pub fn closes(rule: Rule) -> usize
+    ensures { λ r. ⌜ r ≡ closesOf rule ⌝ }
 {
-    if kind == 0x18 { 2 } else { 0 }
+    match rule {
+        Rule::Projection => 2,
+        _ => 0,
+    }
 }

@@ -20,7 +20,7 @@ use Rattle.circuit_theorems.specs.Terminals.{terminals}
 use Rattle.circuit_theorems.proofs.Bounds.{next-is, terminals-few}
 use Rattle.circuit_theorems.proofs.Lists.{all-append}
 use Rattle.wiring.specs.Sides.{sidesOf, Knows}
-use Rattle.wiring.proofs.StepLaws.{stands-node}
+use Rattle.records.proofs.Laws.{stands-node}
 use Rattle.wiring.specs.Count.{ownIn, Counting, rowBytes, rowNodes, rowTerminals, Row}
 
 -- ---- one node
@@ -228,7 +228,7 @@ module _ {s sizes : List ℕ} {from count : ℕ} (q : Counting s sizes from coun
 
     module _ (h : 0 < left) {node : Node} (e : node ≡ nodeAt s at) where
       row-is : node ≡ nodeOf (row-next h .term) at
-      row-is = e ∙ stands-node (row-next h .stands)
+      row-is = e ∙ stands-node s at (row-next h .term) (row-next h .stands)
 
       row-own : ownIn s sizes node ≡ own (q .table) (row-next h .term)
       row-own = ap (ownIn s sizes) row-is ∙ own-is (q .knows) (row-next h .term) at (row-next h .ranged)

@@ -2,11 +2,9 @@
 use Prim.Native.Nat.{ℕ, _+_, _-_, _≤_, _<_}
 use mathlib.Core.Path.{_≡_, refl, sym, ap, ap₂, _∙_, subst}
 use mathlib.Core.Logic.{⊎-elim}
-use mathlib.Core.Bool.{Bool, true, false, not, cond}
-use mathlib.Core.List.{List, [], _++_, map, map-append, append-assoc, append-nil}
+use mathlib.Core.Bool.{Bool, true, false, not, cond, true≢false}
+use mathlib.Core.List.{List, [], _∷_, _++_, map, map-append, append-assoc, append-nil}
 use native.Mathlib.Omega.{arith}
-use borrow.Author.Tests.{eq-eqb, ne-eqb}
-use lib.Dec.{eqb}
 use lib.ListN.{length, take, drop, length-append, length-map, length-drop, take-append-drop}
 use lib.Seq.{sets, length-take-le}
 use Rattle.calculus.specs.Types.{Ty, size, tree}
@@ -14,6 +12,12 @@ use Rattle.calculus.specs.Write.{termBytes}
 use Rattle.calculus.specs.Net.{turns, Interface, Wire, Made, leftOf, rightOf, join}
 use Rattle.records.specs.Heads.{nodeOf}
 use Rattle.records.specs.Forms.{recIn}
+use Rattle.records.specs.Rules.{isPair, isProjection}
+use Rattle.records.specs.declared.Rule.{Rule}
+use Rattle.records.specs.declared.Rule.the-variants as rule
+use Rattle.records.proofs.Rule.{the-type}
+use denote.Enum.Declared.{tagOf}
+use types.Run.{OneOf, miss}
 use Rattle.records.specs.declared.Node.{Node}
 use Rattle.memory.specs.Map.{region, code, kindOf}
 use Rattle.circuit_theorems.specs.Drive.{driveAll}
@@ -31,6 +35,22 @@ use Rattle.wiring.proofs.StoreLaws.{cut-binders}
 use Rattle.wiring.proofs.NodeLaws.{sided-at}
 use Rattle.wiring.proofs.JoinLaws.{Part, wired-apart, wired-holds, moved-holds}
 use Rattle.wiring.proofs.TwoLaws as two
+
+-- the tags that are left where a match names a projection and a pair
+abbrev others : List ℕ
+others = 0 ∷ 1 ∷ 2 ∷ 3 ∷ 4 ∷ 5 ∷ 8 ∷ 9 ∷ []
+
+pub application : (u : Rule) → OneOf others (tagOf the-type u) → (isProjection u ≡ false) × (isPair u ≡ false)
+application rule.Variable o = (refl, refl)
+application rule.LinearVariable o = (refl, refl)
+application rule.Function o = (refl, refl)
+application rule.Application o = (refl, refl)
+application rule.LinearFunction o = (refl, refl)
+application rule.LinearApplication o = (refl, refl)
+application rule.Pair o = absurd (miss others 6 tt o)
+application rule.Projection o = absurd (miss others 7 tt o)
+application rule.FixedPoint o = (refl, refl)
+application rule.Constant o = (refl, refl)
 
 -- a list, then another, are one
 more : {A : Type 0} (g : A → ℕ) (l : List ℕ) (a b : List A) → (l ++ map g a) ++ map g b ≡ l ++ map g (a ++ b)
@@ -113,7 +133,7 @@ module _ {s sizes w : List ℕ} {node : Node} {st : State} (q : Here s sizes w n
 
     -- binders of the halves are forgotten
     forget : {v : List ℕ} (k : Store) → k .binders ≡ two.binders₂ q h2 L → Holds v k → Holds v (atBinders k (m .binders))
-    forget k e G = forget-by (eqb (node .kind) 0x18) (m .binders) _ _ k e G
+    forget k e G = forget-by (isProjection (node .rule)) (m .binders) _ _ k e G
 
     -- ---- a pair
 
@@ -224,15 +244,15 @@ module _ {s sizes w : List ℕ} {node : Node} {st : State} (q : Here s sizes w n
 
     -- ---- all three
 
-    kind-is : node .kind ≡ nodeOf (Q .term) (q .at) .kind
-    kind-is = two.kind-is q h2
+    rule-is : (f : Rule → Bool) → f (node .rule) ≡ f (nodeOf (Q .term) (q .at) .rule)
+    rule-is = two.rule-is q h2
 
     pub finish-ready : Finishable w₃ node (st .top) f b
     finish-ready = record {
       memory = H .size;
       small = (two.first-small q h2 L, omega (arith, len-b, two.second-length q h2, ap size (two.second-left q h2 L er ew K .2), Q .knows .ok .small (b .ty)), omega (arith, two.second-left q h2 L er ew K .6, two.two-wires q h2, Q .few-wires));
       height = omega (arith, whole-length, H .stack .fits);
-      apart = λ h₁ h₂. ⊎-elim (λ z. (fits z, app-apart z)) (⊎-elim (λ z. absurd (h₂ (kind-is ∙ z .pair))) (λ z. absurd (h₁ (kind-is ∙ z .proj)))) (T .sort);
+      apart = λ h₁ h₂. ⊎-elim (λ z. (fits z, app-apart z)) (⊎-elim (λ z. absurd (true≢false (sym (rule-is isPair ∙ z .pair) ∙ h₂))) (λ z. absurd (true≢false (sym (rule-is isProjection ∙ z .proj) ∙ h₁)))) (T .sort);
     }
 
     past-is : b .past ≡ q .at + length (termBytes (Q .term))
@@ -250,55 +270,55 @@ module _ {s sizes w : List ℕ} {node : Node} {st : State} (q : Here s sizes w n
       where
         applied : App → Leaves Q (finished s node f b) (finishedIn w₃ node (st .top) f b)
         applied z =
-            let e₁ = ne-eqb (node .kind) 0x18 (λ k. z .not-proj (sym kind-is ∙ k)) in
-            let e₂ = ne-eqb (node .kind) 0x17 (λ k. z .not-pair (sym kind-is ∙ k)) in
+            let e₁ = rule-is isProjection ∙ z .not-proj in
+            let e₂ = rule-is isPair ∙ z .not-pair in
             let S = sided-at (Q .knows) (f .ty) (two.first-left q h2 L .1) (λ k. z .arrow (sym (two.first-left q h2 L .2) ∙ k)) in
             let t = sidesOf (recIn s (f .ty)) .right in
             let tn : t < length (Q .table) = omega (arith, S .right-below, two.first-left q h2 L .1) in
             let tt′ : tree (Q .table) t ≡ Q .type = sym (S .right) ∙ ap rightOf (two.first-left q h2 L .2) ∙ z .right in
             record {
-              holds = subst (λ (c : Bool). Holds (cond c moved (cond (eqb (node .kind) 0x17) w₃ (appliedIn w₃ (18944 + st .top) (f .len) (b .len) (b .wires)))) (after m (madeOf Q))) (sym e₁)
+              holds = subst (λ (c : Bool). Holds (cond c moved (cond (isPair (node .rule)) w₃ (appliedIn w₃ (18944 + st .top) (f .len) (b .len) (b .wires)))) (after m (madeOf Q))) (sym e₁)
                   (subst (λ (c : Bool). Holds (cond c w₃ (appliedIn w₃ (18944 + st .top) (f .len) (b .len) (b .wires))) (after m (madeOf Q))) (sym e₂) (app-holds z));
               past = past-is;
-              named = subst (λ (c : Bool). cond c (b .ty) (cond (eqb (node .kind) 0x17) (node .first) t) < length (Q .table)) (sym e₁) (subst (λ (c : Bool). cond c (node .first) t < length (Q .table)) (sym e₂) tn);
-              type = subst (λ (c : Bool). tree (Q .table) (cond c (b .ty) (cond (eqb (node .kind) 0x17) (node .first) t)) ≡ Q .type) (sym e₁) (subst (λ (c : Bool). tree (Q .table) (cond c (node .first) t) ≡ Q .type) (sym e₂) tt′);
-              len = ap (λ (c : Bool). cond c (b .len) (cond (eqb (node .kind) 0x17) (f .len + b .len) (f .len - b .len))) e₁ ∙ ap (λ (c : Bool). cond c (f .len + b .len) (f .len - b .len)) e₂ ∙ sym (end-length z) ∙ ap (λ (k : Made). length (k .side)) (sym (z .is));
+              named = subst (λ (c : Bool). cond c (b .ty) (cond (isPair (node .rule)) (node .first) t) < length (Q .table)) (sym e₁) (subst (λ (c : Bool). cond c (node .first) t < length (Q .table)) (sym e₂) tn);
+              type = subst (λ (c : Bool). tree (Q .table) (cond c (b .ty) (cond (isPair (node .rule)) (node .first) t)) ≡ Q .type) (sym e₁) (subst (λ (c : Bool). tree (Q .table) (cond c (node .first) t) ≡ Q .type) (sym e₂) tt′);
+              len = ap (λ (c : Bool). cond c (b .len) (cond (isPair (node .rule)) (f .len + b .len) (f .len - b .len))) e₁ ∙ ap (λ (c : Bool). cond c (f .len + b .len) (f .len - b .len)) e₂ ∙ sym (end-length z) ∙ ap (λ (k : Made). length (k .side)) (sym (z .is));
               next = next-is;
               elements = elements-is;
-              wires = ap (λ (c : Bool). cond c (b .wires) (cond (eqb (node .kind) 0x17) (b .wires) (b .wires + b .len))) e₁ ∙ ap (λ (c : Bool). cond c (b .wires) (b .wires + b .len)) e₂ ∙ omega (arith, wires-b z, app-wires z);
+              wires = ap (λ (c : Bool). cond c (b .wires) (cond (isPair (node .rule)) (b .wires) (b .wires + b .len))) e₁ ∙ ap (λ (c : Bool). cond c (b .wires) (b .wires + b .len)) e₂ ∙ omega (arith, wires-b z, app-wires z);
             }
 
         paired : Pair → Leaves Q (finished s node f b) (finishedIn w₃ node (st .top) f b)
         paired z =
-            let e₂ = eq-eqb (node .kind) 0x17 (kind-is ∙ z .pair) in
-            let e₁ = ne-eqb (node .kind) 0x18 (λ k. omega (arith, kind-is, z .pair)) in
+            let e₂ = rule-is isPair ∙ z .pair in
+            let e₁ = rule-is isProjection ∙ z .not-proj in
             let t = sidesOf (recIn s (f .ty)) .right in
             let en : node .first ≡ nodeOf (Q .term) (q .at) .first = ap (λ (k : Node). k .first) (q .is) in
             let tn : node .first < length (Q .table) = subst (λ (k : ℕ). k < length (Q .table)) (sym en) (z .first) in
             let tt′ : tree (Q .table) (node .first) ≡ Q .type = ap (tree (Q .table)) en ∙ z .is-type in
             record {
-              holds = subst (λ (c : Bool). Holds (cond c moved (cond (eqb (node .kind) 0x17) w₃ (appliedIn w₃ (18944 + st .top) (f .len) (b .len) (b .wires)))) (after m (madeOf Q))) (sym e₁)
+              holds = subst (λ (c : Bool). Holds (cond c moved (cond (isPair (node .rule)) w₃ (appliedIn w₃ (18944 + st .top) (f .len) (b .len) (b .wires)))) (after m (madeOf Q))) (sym e₁)
                   (subst (λ (c : Bool). Holds (cond c w₃ (appliedIn w₃ (18944 + st .top) (f .len) (b .len) (b .wires))) (after m (madeOf Q))) (sym e₂) (pair-holds z));
               past = past-is;
-              named = subst (λ (c : Bool). cond c (b .ty) (cond (eqb (node .kind) 0x17) (node .first) t) < length (Q .table)) (sym e₁) (subst (λ (c : Bool). cond c (node .first) t < length (Q .table)) (sym e₂) tn);
-              type = subst (λ (c : Bool). tree (Q .table) (cond c (b .ty) (cond (eqb (node .kind) 0x17) (node .first) t)) ≡ Q .type) (sym e₁) (subst (λ (c : Bool). tree (Q .table) (cond c (node .first) t) ≡ Q .type) (sym e₂) tt′);
-              len = ap (λ (c : Bool). cond c (b .len) (cond (eqb (node .kind) 0x17) (f .len + b .len) (f .len - b .len))) e₁ ∙ ap (λ (c : Bool). cond c (f .len + b .len) (f .len - b .len)) e₂ ∙ omega (arith, len-f, len-b, length-append (x .side) (y .side), ap (λ (k : Made). length (k .side)) (z .is));
+              named = subst (λ (c : Bool). cond c (b .ty) (cond (isPair (node .rule)) (node .first) t) < length (Q .table)) (sym e₁) (subst (λ (c : Bool). cond c (node .first) t < length (Q .table)) (sym e₂) tn);
+              type = subst (λ (c : Bool). tree (Q .table) (cond c (b .ty) (cond (isPair (node .rule)) (node .first) t)) ≡ Q .type) (sym e₁) (subst (λ (c : Bool). tree (Q .table) (cond c (node .first) t) ≡ Q .type) (sym e₂) tt′);
+              len = ap (λ (c : Bool). cond c (b .len) (cond (isPair (node .rule)) (f .len + b .len) (f .len - b .len))) e₁ ∙ ap (λ (c : Bool). cond c (f .len + b .len) (f .len - b .len)) e₂ ∙ omega (arith, len-f, len-b, length-append (x .side) (y .side), ap (λ (k : Made). length (k .side)) (z .is));
               next = next-is;
               elements = elements-is;
-              wires = ap (λ (c : Bool). cond c (b .wires) (cond (eqb (node .kind) 0x17) (b .wires) (b .wires + b .len))) e₁ ∙ ap (λ (c : Bool). cond c (b .wires) (b .wires + b .len)) e₂ ∙ omega (arith, two.second-left q h2 L er ew K .6, ap (λ (k : Made). length (k .wires)) (z .is), length-append (x .wires) (y .wires));
+              wires = ap (λ (c : Bool). cond c (b .wires) (cond (isPair (node .rule)) (b .wires) (b .wires + b .len))) e₁ ∙ ap (λ (c : Bool). cond c (b .wires) (b .wires + b .len)) e₂ ∙ omega (arith, two.second-left q h2 L er ew K .6, ap (λ (k : Made). length (k .wires)) (z .is), length-append (x .wires) (y .wires));
             }
 
         projected : Proj → Leaves Q (finished s node f b) (finishedIn w₃ node (st .top) f b)
         projected z =
-            let e₁ = eq-eqb (node .kind) 0x18 (kind-is ∙ z .proj) in
+            let e₁ = rule-is isProjection ∙ z .proj in
             let t = sidesOf (recIn s (f .ty)) .right in
             record {
-              holds = subst (λ (c : Bool). Holds (cond c moved (cond (eqb (node .kind) 0x17) w₃ (appliedIn w₃ (18944 + st .top) (f .len) (b .len) (b .wires)))) (after m (madeOf Q))) (sym e₁) (proj-holds z);
+              holds = subst (λ (c : Bool). Holds (cond c moved (cond (isPair (node .rule)) w₃ (appliedIn w₃ (18944 + st .top) (f .len) (b .len) (b .wires)))) (after m (madeOf Q))) (sym e₁) (proj-holds z);
               past = past-is;
-              named = subst (λ (c : Bool). cond c (b .ty) (cond (eqb (node .kind) 0x17) (node .first) t) < length (Q .table)) (sym e₁) (two.second-left q h2 L er ew K .1);
-              type = subst (λ (c : Bool). tree (Q .table) (cond c (b .ty) (cond (eqb (node .kind) 0x17) (node .first) t)) ≡ Q .type) (sym e₁) (two.second-left q h2 L er ew K .2 ∙ z .same);
-              len = ap (λ (c : Bool). cond c (b .len) (cond (eqb (node .kind) 0x17) (f .len + b .len) (f .len - b .len))) e₁ ∙ len-b ∙ ap (λ (k : Made). length (k .side)) (sym (z .is));
+              named = subst (λ (c : Bool). cond c (b .ty) (cond (isPair (node .rule)) (node .first) t) < length (Q .table)) (sym e₁) (two.second-left q h2 L er ew K .1);
+              type = subst (λ (c : Bool). tree (Q .table) (cond c (b .ty) (cond (isPair (node .rule)) (node .first) t)) ≡ Q .type) (sym e₁) (two.second-left q h2 L er ew K .2 ∙ z .same);
+              len = ap (λ (c : Bool). cond c (b .len) (cond (isPair (node .rule)) (f .len + b .len) (f .len - b .len))) e₁ ∙ len-b ∙ ap (λ (k : Made). length (k .side)) (sym (z .is));
               next = next-is;
               elements = elements-is;
-              wires = ap (λ (c : Bool). cond c (b .wires) (cond (eqb (node .kind) 0x17) (b .wires) (b .wires + b .len))) e₁ ∙ omega (arith, two.second-left q h2 L er ew K .6, ap (λ (k : Made). length (k .wires)) (z .is), length-append (x .wires) (y .wires));
+              wires = ap (λ (c : Bool). cond c (b .wires) (cond (isPair (node .rule)) (b .wires) (b .wires + b .len))) e₁ ∙ omega (arith, two.second-left q h2 L er ew K .6, ap (λ (k : Made). length (k .wires)) (z .is), length-append (x .wires) (y .wires));
             }

@@ -13,6 +13,7 @@ use Rattle.calculus.specs.Types.{size, tree}
 use Rattle.calculus.specs.Terms.{partAt}
 use Rattle.calculus.specs.Net.{turns, outSide, inSide, partSide, Bound, unbound, Made, madeVar, madeCon}
 use Rattle.calculus.specs.Record.{All}
+use Rattle.records.specs.Rules.{isConstant}
 use Rattle.records.specs.declared.Node.{Node}
 use Rattle.memory.specs.Map.{region, code}
 use Rattle.circuit_theorems.proofs.Bounds.{made-type, made-side}
@@ -62,7 +63,7 @@ low-at (x ∷ xs) a (suc j) = low-at xs (a .1) j
 
 -- ---- a variable
 
-module _ {s sizes w : List ℕ} {node : Node} {st : State} (q : Here s sizes w node st) (none : node .subterms ≡ 0) (f : node .kind ≡ 0x1A → ⊥) where
+module _ {s sizes w : List ℕ} {node : Node} {st : State} (q : Here s sizes w node st) (none : node .subterms ≡ 0) (f : isConstant (node .rule) ≡ false) where
   abbrev Q : Asks s sizes w (q .at) st
   Q = q .asks
 
@@ -185,7 +186,7 @@ module _ {s sizes w : List ℕ} {node : Node} {st : State} (q : Here s sizes w n
 
 -- ---- a constant
 
-module _ {s sizes w : List ℕ} {node : Node} {st : State} (q : Here s sizes w node st) (f : node .kind ≡ 0x1A) where
+module _ {s sizes w : List ℕ} {node : Node} {st : State} (q : Here s sizes w node st) (f : isConstant (node .rule) ≡ true) where
   abbrev C : Asks s sizes w (q .at) st
   C = q .asks
 

@@ -1,5 +1,6 @@
 -- A typed term with one subterm or two, by its derivation. Assumes nothing.
 use Prim.Native.Nat.{ℕ, _+_, _*_, _<_}
+use mathlib.Core.Bool.{true, false, true≢false}
 use mathlib.Core.Path.{_≡_, refl, sym, ap, _∙_}
 use mathlib.Core.Logic.{inl, inr}
 use mathlib.Core.List.{List, _∷_}
@@ -12,6 +13,7 @@ use Rattle.sheet_theorems.specs.Laid.{Agrees, Below, Stands, Ranged}
 use Rattle.calculus.specs.Rules.{Ctx, many, once, InΓ, in-here, in-many, in-away, IsΔ, is-here, is-many, is-away, Typed, Var, LVar, →I, →E, ⊸I, ⊸E, ×I, ×E, Fix, Con}
 use Rattle.calculus.specs.Net.{Bound, leftOf, rightOf, binder, madePair, firstHalf, secondHalf, make}
 use Rattle.records.specs.Heads.{nodeOf}
+use Rattle.records.specs.Rules.{isConstant}
 use Rattle.records.specs.Forms.{recIn}
 use Rattle.sheet_theorems.proofs.Standing.{fun-body, lfun-body, fix-body, app-function, app-argument, lapp-function, lapp-argument, pair-first, pair-second, proj-pair, proj-body}
 use Rattle.circuit_theorems.proofs.Drivers.{Fits, Env, env-many, env-once, env-away, split-env, binder-fits, halves, term-driven}
@@ -80,7 +82,7 @@ module _ {s sizes : List ℕ} {Θ : Table} (K : Knows s sizes Θ) (at n : ℕ) (
         number = refl;
         first = rg .0;
         is-type = eτ;
-        is = inr ((λ z. omega arith), ap (λ (ρ : Ty). funOf (leftOf (tree Θ t)) ρ n (make Θ e (binder (leftOf (tree Θ t)) n ∷ env) (n + 2 * size (leftOf (tree Θ t))))) eτ ∙ ap (λ (α : Ty). funOf α (arrow θ τ) n (make Θ e (binder α n ∷ env) (n + 2 * size α))) (S .left));
+        is = inr (refl, ap (λ (ρ : Ty). funOf (leftOf (tree Θ t)) ρ n (make Θ e (binder (leftOf (tree Θ t)) n ∷ env) (n + 2 * size (leftOf (tree Θ t))))) eτ ∙ ap (λ (α : Ty). funOf α (arrow θ τ) n (make Θ e (binder α n ∷ env) (n + 2 * size α))) (S .left));
       }
   binding (⊸I {t = t} {e = e} {κ = κ} {τ = τ} eτ ar d) st rg v h =
       let S = sided-at K t (rg .0) (not-lolli eτ) in
@@ -101,7 +103,7 @@ module _ {s sizes : List ℕ} {Θ : Table} (K : Knows s sizes Θ) (at n : ℕ) (
         number = refl;
         first = rg .0;
         is-type = eτ;
-        is = inr ((λ z. omega arith), ap (λ (ρ : Ty). funOf (leftOf (tree Θ t)) ρ n (make Θ e (binder (leftOf (tree Θ t)) n ∷ env) (n + 2 * size (leftOf (tree Θ t))))) eτ ∙ ap (λ (α : Ty). funOf α (lolli κ τ) n (make Θ e (binder α n ∷ env) (n + 2 * size α))) (S .left));
+        is = inr (refl, ap (λ (ρ : Ty). funOf (leftOf (tree Θ t)) ρ n (make Θ e (binder (leftOf (tree Θ t)) n ∷ env) (n + 2 * size (leftOf (tree Θ t))))) eτ ∙ ap (λ (α : Ty). funOf α (lolli κ τ) n (make Θ e (binder α n ∷ env) (n + 2 * size α))) (S .left));
       }
   binding (Fix {t = t} {e = e} {θ = θ} eτ sh d) st rg v h = record {
     body = e;
@@ -156,7 +158,7 @@ module _ {s sizes : List ℕ} {Θ : Table} (K : Knows s sizes Θ) (at n : ℕ) (
         env₂ = env;
         typed₂ = c;
         fits₂ = q;
-        sort = inl (record { not-pair = λ z. omega arith; not-proj = λ z. omega arith; same = refl; arrow = not-arrow refl; left = refl; right = refl; turned = refl; is = refl });
+        sort = inl (record { not-pair = refl; not-proj = refl; same = refl; arrow = not-arrow refl; left = refl; right = refl; turned = refl; is = refl });
       }
   twofold (⊸E {f = f} {a = a} {κ = κ} {τ = τ} z ar d c) st rg v h =
       let (p, q) = split-env z v in
@@ -179,7 +181,7 @@ module _ {s sizes : List ℕ} {Θ : Table} (K : Knows s sizes Θ) (at n : ℕ) (
         env₂ = env;
         typed₂ = c;
         fits₂ = q;
-        sort = inl (record { not-pair = λ z. omega arith; not-proj = λ z. omega arith; same = refl; arrow = not-lolli refl; left = refl; right = refl; turned = refl; is = refl });
+        sort = inl (record { not-pair = refl; not-proj = refl; same = refl; arrow = not-lolli refl; left = refl; right = refl; turned = refl; is = refl });
       }
   twofold (×I {t = t} {a = a} {b = b} {θ₁ = θ₁} {θ₂ = θ₂} z eτ s₁ s₂ d c) st rg v h =
       let (p, q) = split-env z v in
@@ -202,7 +204,7 @@ module _ {s sizes : List ℕ} {Θ : Table} (K : Knows s sizes Θ) (at n : ℕ) (
         env₂ = env;
         typed₂ = c;
         fits₂ = q;
-        sort = inr (inl (record { pair = refl; same = refl; first = rg .0; is-type = eτ; is = ap (λ (ρ : Ty). madePair ρ (make Θ a env n) (make Θ b env (make Θ a env n .next))) eτ }));
+        sort = inr (inl (record { pair = refl; not-proj = refl; same = refl; first = rg .0; is-type = eτ; is = ap (λ (ρ : Ty). madePair ρ (make Θ a env n) (make Θ b env (make Θ a env n .next))) eτ }));
       }
   twofold (×E {a = a} {e = e} {θ₁ = θ₁} {θ₂ = θ₂} {τ = τ} z s₁ s₂ d c) st rg v h =
       let (p, q) = split-env z v in
@@ -246,7 +248,7 @@ linear-bound (is-away x) (env-away v) = omega (arith, linear-bound x v)
 -- ---- no subterm
 
 module _ {Θ : Table} (s : List ℕ) (at n : ℕ) (env : List Bound) where
-  pub variable : {Γ : Ctx} {e : Term} {τ : Ty} → Typed Θ Γ e τ → Env Γ env → nodeOf e at .subterms ≡ 0 → (nodeOf e at .kind ≡ 0x1A → ⊥) → Variable Θ s at n env e τ
+  pub variable : {Γ : Ctx} {e : Term} {τ : Ty} → Typed Θ Γ e τ → Env Γ env → nodeOf e at .subterms ≡ 0 → (isConstant (nodeOf e at .rule) ≡ false) → Variable Θ s at n env e τ
   variable (Var x) v h f = record { bound = shared-bound x v; is = refl; bytes = omega arith; shallow = refl }
   variable (LVar x) v h f = record { bound = linear-bound x v; is = refl; bytes = omega arith; shallow = refl }
   variable (→I eτ sh d) v h f = absurd (omega arith)
@@ -256,16 +258,16 @@ module _ {Θ : Table} (s : List ℕ) (at n : ℕ) (env : List Bound) where
   variable (⊸E z ar d c) v h f = absurd (omega arith)
   variable (×I z eτ s₁ s₂ d c) v h f = absurd (omega arith)
   variable (×E z s₁ s₂ d c) v h f = absurd (omega arith)
-  variable (Con p e z) v h f = absurd (f refl)
+  variable (Con p e z) v h f = absurd (true≢false f)
 
-  pub constant : {Γ : Ctx} {e : Term} {τ : Ty} → Typed Θ Γ e τ → Ranged Θ e → nodeOf e at .kind ≡ 0x1A → Constant Θ s at n env e τ
-  constant (Var x) rg f = absurd (omega arith)
-  constant (LVar x) rg f = absurd (omega arith)
-  constant (→I eτ sh d) rg f = absurd (omega arith)
-  constant (⊸I eτ ar d) rg f = absurd (omega arith)
-  constant (Fix eτ sh d) rg f = absurd (omega arith)
-  constant (→E z sh d c) rg f = absurd (omega arith)
-  constant (⊸E z ar d c) rg f = absurd (omega arith)
-  constant (×I z eτ s₁ s₂ d c) rg f = absurd (omega arith)
-  constant (×E z s₁ s₂ d c) rg f = absurd (omega arith)
+  pub constant : {Γ : Ctx} {e : Term} {τ : Ty} → Typed Θ Γ e τ → Ranged Θ e → isConstant (nodeOf e at .rule) ≡ true → Constant Θ s at n env e τ
+  constant (Var x) rg f = absurd (true≢false (sym f))
+  constant (LVar x) rg f = absurd (true≢false (sym f))
+  constant (→I eτ sh d) rg f = absurd (true≢false (sym f))
+  constant (⊸I eτ ar d) rg f = absurd (true≢false (sym f))
+  constant (Fix eτ sh d) rg f = absurd (true≢false (sym f))
+  constant (→E z sh d c) rg f = absurd (true≢false (sym f))
+  constant (⊸E z ar d c) rg f = absurd (true≢false (sym f))
+  constant (×I z eτ s₁ s₂ d c) rg f = absurd (true≢false (sym f))
+  constant (×E z s₁ s₂ d c) rg f = absurd (true≢false (sym f))
   constant (Con p e z) rg f = record { known = p; named = rg; is-type = e; is = refl; bytes = omega arith; shallow = refl }

@@ -2,11 +2,9 @@
 use Prim.Native.Nat.{ℕ, suc, _+_, _*_, _-_, _≤_, _<_}
 use mathlib.Core.Path.{_≡_, refl, sym, ap, ap₂, _∙_, subst}
 use mathlib.Core.Logic.{_⊎_, inl, inr, ⊎-elim}
-use mathlib.Core.Bool.{Bool, false, not, cond}
+use mathlib.Core.Bool.{Bool, true, false, not, cond, true≢false}
 use mathlib.Core.List.{List, [], _∷_, _++_, map, map-append, append-assoc, append-nil}
 use native.Mathlib.Omega.{arith}
-use borrow.Author.Tests.{eq-eqb, ne-eqb}
-use lib.Dec.{eqb}
 use lib.ListN.{length, getD, replicate, length-append, length-map, length-replicate}
 use lib.Seq.{sets}
 use Rattle.calculus.specs.Types.{Ty, size, Table, tree}
@@ -14,6 +12,7 @@ use Rattle.calculus.specs.Write.{termBytes}
 use Rattle.sheet_theorems.specs.Laid.{Stands, depth}
 use Rattle.calculus.specs.Net.{turns, points, inSide, binder, Made, make, madeFix, join, Interface, Element}
 use Rattle.records.specs.Heads.{nodeOf}
+use Rattle.records.specs.Rules.{isFixedPoint}
 use Rattle.records.specs.declared.Node.{Node}
 use Rattle.memory.specs.Map.{code, kindOf}
 use Rattle.circuit_theorems.specs.Drive.{driveAll}
@@ -102,11 +101,11 @@ module _ {s sizes w : List ℕ} {node : Node} {st : State} (q : Here s sizes w n
   body = make Θ (one-binding .body) (binder α n ∷ Q .env) (n + 2 * size α)
 
   -- a fixed point, or a function
-  one-is : ((node .kind ≡ 0x19) × (one-binding .type ≡ α) × (madeOf Q ≡ madeFix α n body)) ⊎ ((node .kind ≡ 0x19 → ⊥) × (madeOf Q ≡ funOf α (Q .type) n body))
+  one-is : ((isFixedPoint (node .rule) ≡ true) × (one-binding .type ≡ α) × (madeOf Q ≡ madeFix α n body)) ⊎ ((isFixedPoint (node .rule) ≡ false) × (madeOf Q ≡ funOf α (Q .type) n body))
   one-is =
-      let ek : node .kind ≡ nodeOf (Q .term) (q .at) .kind = ap (λ (x : Node). x .kind) (q .is) in
+      let ek : isFixedPoint (node .rule) ≡ isFixedPoint (nodeOf (Q .term) (q .at) .rule) = ap (λ (x : Node). isFixedPoint (x .rule)) (q .is) in
       ⊎-elim (λ z. inl (ek ∙ z .0, z .1 ∙ ap (tree Θ) (sym bound-is), z .2 ∙ ap (λ (b : ℕ). madeFix (tree Θ b) n (make Θ (one-binding .body) (binder (tree Θ b) n ∷ Q .env) (n + 2 * size (tree Θ b)))) (sym bound-is)))
-      (λ z. inr ((λ h. z .0 (sym ek ∙ h)), z .1 ∙ ap (λ (b : ℕ). funOf (tree Θ b) (Q .type) n (make Θ (one-binding .body) (binder (tree Θ b) n ∷ Q .env) (n + 2 * size (tree Θ b)))) (sym bound-is)))
+      (λ z. inr (ek ∙ z .0, z .1 ∙ ap (λ (b : ℕ). funOf (tree Θ b) (Q .type) n (make Θ (one-binding .body) (binder (tree Θ b) n ∷ Q .env) (n + 2 * size (tree Θ b)))) (sym bound-is)))
       (one-binding .is)
 
   pub one-named : t < length Θ
@@ -310,7 +309,7 @@ module _ {s sizes w : List ℕ} {node : Node} {st : State} (q : Here s sizes w n
             small = (r₅, body-small .0, omega arith, omega (arith, body-counts .3, one-wires, Q .few-wires));
             apart = λ k. ⊎-elim
                 (λ z. wired-apart body-holds (body .side) (inSide bs n) high-part low-part (18944 + st .top + l) (18944 + st .top) l (b .wires) (omega (arith, high-at, el)) (omega (arith, Q .top)) (same-length (z .1)) (in-length ∙ sym el) wires-at (fix-room (z .1) (z .2)))
-                (λ z. absurd (z .0 k)) one-is;
+                (λ z. absurd (true≢false (sym k ∙ z .0))) one-is;
           }
 
       -- a fixed point: the wires, and the body's interface moved down
@@ -332,11 +331,11 @@ module _ {s sizes w : List ℕ} {node : Node} {st : State} (q : Here s sizes w n
       unfolding closed closedIn
       close-leaves = ⊎-elim fixed function one-is
         where
-          fixed : (node .kind ≡ 0x19) × (one-binding .type ≡ α) × (madeOf Q ≡ madeFix α n body) → Leaves Q (closed node l b) (closedIn w₂ node (st .top) l b)
+          fixed : (isFixedPoint (node .rule) ≡ true) × (one-binding .type ≡ α) × (madeOf Q ≡ madeFix α n body) → Leaves Q (closed node l b) (closedIn w₂ node (st .top) l b)
           fixed z =
-              let k = eq-eqb (node .kind) 0x19 (z .0) in
+              let k = z .0 in
               record {
-                holds = subst (λ (m : Made). Holds (cond (eqb (node .kind) 0x19) (looped w₂ (18944 + st .top) l (b .wires)) w₂) (after (Q .store) m)) (sym (z .2))
+                holds = subst (λ (m : Made). Holds (cond (isFixedPoint (node .rule)) (looped w₂ (18944 + st .top) l (b .wires)) w₂) (after (Q .store) m)) (sym (z .2))
                     (subst (λ (c : Bool). Holds (cond c (looped w₂ (18944 + st .top) l (b .wires)) w₂) (after (Q .store) (madeFix α n body))) (sym k) (loop-holds (z .1) (z .2)));
                 past = one-past;
                 named = one-first .0;
@@ -347,11 +346,11 @@ module _ {s sizes w : List ℕ} {node : Node} {st : State} (q : Here s sizes w n
                 wires = ap (λ (c : Bool). cond c (b .wires + l) (b .wires)) k ∙ omega (arith, body-counts .3, ap (λ (m : Made). length (m .wires)) (z .2), length-append (body .wires) (join (body .side) (inSide bs n)), join-length (body .side) (inSide bs n) (opposite (z .1)), same-length (z .1));
               }
 
-          function : (node .kind ≡ 0x19 → ⊥) × (madeOf Q ≡ funOf α (Q .type) n body) → Leaves Q (closed node l b) (closedIn w₂ node (st .top) l b)
+          function : (isFixedPoint (node .rule) ≡ false) × (madeOf Q ≡ funOf α (Q .type) n body) → Leaves Q (closed node l b) (closedIn w₂ node (st .top) l b)
           function z =
-              let k = ne-eqb (node .kind) 0x19 (z .0) in
+              let k = z .0 in
               record {
-                holds = subst (λ (m : Made). Holds (cond (eqb (node .kind) 0x19) (looped w₂ (18944 + st .top) l (b .wires)) w₂) (after (Q .store) m)) (sym (z .1))
+                holds = subst (λ (m : Made). Holds (cond (isFixedPoint (node .rule)) (looped w₂ (18944 + st .top) l (b .wires)) w₂) (after (Q .store) m)) (sym (z .1))
                     (subst (λ (c : Bool). Holds (cond c (looped w₂ (18944 + st .top) l (b .wires)) w₂) (after (Q .store) (funOf α (Q .type) n body))) (sym k) (fun-holds (Q .store) Θ t n (Q .type) body body-holds));
                 past = one-past;
                 named = one-first .0;

@@ -1,5 +1,6 @@
 -- The first record of a term's place, and its subterms' number. Assumes nothing.
 use Prim.Native.Nat.{ℕ, _≤_, _<_}
+use mathlib.Core.Bool.{true}
 use mathlib.Core.Path.{_≡_, refl, ap, _∙_}
 use mathlib.Core.List.{List}
 use lib.ListN.{length}
@@ -8,7 +9,7 @@ use Rattle.sheet_theorems.specs.Laid.{Stands}
 use Rattle.records.specs.Record.{nodeAt}
 use Rattle.records.specs.Heads.{nodeOf}
 use Rattle.records.specs.declared.Node.{Node}
-use Rattle.records.proofs.Laws.{node-next, stands-record}
+use Rattle.records.proofs.Laws.{node-next, stands-record, stands-node}
 use Rattle.wiring.specs.declared.walk.State.{State}
 use Rattle.wiring.specs.Asks.{Asks, Here}
 
@@ -24,21 +25,16 @@ subterms-of (proj a b) at f g = refl
 subterms-of (fix t e) at f g = absurd (g refl)
 subterms-of (con p t) at f g = absurd (f refl)
 
--- the node at the offset of a term is its first
-pub stands-node : {s : List ℕ} {at : ℕ} {e : Term} → Stands s at e → nodeAt s at ≡ nodeOf e at
-unfolding nodeAt
-stands-node {s} {at} {e} h = rw (stands-record s at e h)
-
 module _ {s sizes w : List ℕ} {at : ℕ} {st : State} (q : Asks s sizes w at st) {node : Node} (e : node ≡ nodeAt s at) where
   pub node-of : node ≡ nodeOf (q .term) at
-  node-of = e ∙ stands-node (q .stands)
+  node-of = e ∙ stands-node s at (q .term) (q .stands)
 
   abbrev pub here : Here s sizes w node st
   here = record { at = at; asks = q; is = node-of }
 
   -- the record ends past its start and within the sheet
   pub behind : (at < node .next) × (node .next ≤ length s)
-  behind = rw node-of (node-next s at (stands-record s at (q .term) (q .stands)))
+  behind = rw node-of (node-next true s at (stands-record true s at (q .term) (q .stands)))
 
   pub two-subterms : (node .subterms ≡ 0 → ⊥) → (node .subterms ≡ 1 → ⊥) → node .subterms ≡ 2
   two-subterms f h =

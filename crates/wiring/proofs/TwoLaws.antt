@@ -5,8 +5,6 @@ use mathlib.Core.Logic.{_⊎_, inr, ⊎-elim}
 use mathlib.Core.Bool.{Bool, true, false, cond}
 use mathlib.Core.List.{List, [], _∷_, _++_, map}
 use native.Mathlib.Omega.{arith}
-use borrow.Author.Tests.{eq-eqb, ne-eqb}
-use lib.Dec.{eqb}
 use lib.ListN.{length, getD, take, drop, length-append, length-map, length-drop}
 use lib.Seq.{take-all, drop-at, drop-drop}
 use Rattle.laws.proofs.Parts.{map-take, map-drop}
@@ -17,6 +15,8 @@ use Rattle.sheet_theorems.specs.Laid.{Stands, depth}
 use Rattle.calculus.specs.Net.{turns, Interface, Made, make, leftOf, rightOf, join, firstHalf, secondHalf}
 use Rattle.records.specs.Heads.{nodeOf}
 use Rattle.records.specs.Forms.{recIn}
+use Rattle.records.specs.Rules.{isProjection}
+use Rattle.records.specs.declared.Rule.{Rule}
 use Rattle.records.specs.declared.Node.{Node}
 use Rattle.memory.specs.Map.{region, code, kindOf}
 use Rattle.sheet_theorems.proofs.Standing.{stands-in}
@@ -78,8 +78,8 @@ module _ {s sizes w : List ℕ} {node : Node} {st : State} (q : Here s sizes w n
       ⊎ (Paired Θ s (q .at) n (Q .env) (Q .term) (Q .type) x y (both .type) (both .env₂) (both .type₂)
       ⊎ Projected Θ s (q .at) n (Q .env) (Q .term) (Q .type) x y (both .type) (both .env₂) (both .type₂))
 
-  pub kind-is : node .kind ≡ nodeOf (Q .term) (q .at) .kind
-  kind-is = ap (λ (z : Node). z .kind) (q .is)
+  pub rule-is : (f : Rule → Bool) → f (node .rule) ≡ f (nodeOf (Q .term) (q .at) .rule)
+  rule-is f = ap (λ (z : Node). f (z .rule)) (q .is)
 
   -- what holds of all three sorts
   pub two-next : madeOf Q .next ≡ y .next
@@ -178,7 +178,7 @@ module _ {s sizes w : List ℕ} {node : Node} {st : State} (q : Here s sizes w n
     both-bound = bound ++ right ∷ (2 * (st .top + getD sizes left 0)) ∷ []
 
     abbrev pub binders₂ : List ℕ
-    binders₂ = cond (eqb (node .kind) 0x18) both-bound (Q .store .binders)
+    binders₂ = cond (isProjection (node .rule)) both-bound (Q .store .binders)
 
     abbrev pub store₂ : Store
     store₂ = atBinders (after (Q .store) x) binders₂
@@ -196,7 +196,7 @@ module _ {s sizes w : List ℕ} {node : Node} {st : State} (q : Here s sizes w n
 
     pub between-holds : (w₂ : List ℕ) → w₂ ≡ betweenIn s sizes w₁ node st f → Holds w₂ store₂
     unfolding betweenIn
-    between-holds w₂ e = rw e (by (eqb (node .kind) 0x18))
+    between-holds w₂ e = rw e (by (isProjection (node .rule)))
       where
         by : (c : Bool) → Holds (cond c (halved s sizes w₁ (f .ty) (st .scope) (st .top)) w₁) (atBinders (after (Q .store) x) (cond c both-bound (Q .store .binders)))
         by true = halved-holds
@@ -253,21 +253,21 @@ module _ {s sizes w : List ℕ} {node : Node} {st : State} (q : Here s sizes w n
           subst (λ (k : ℕ). Binds Θ (Q .store .stack ++ map code (x .side)) both-bound k (secondHalf x ∷ firstHalf x ∷ Q .env)) e
           (binds-push bound (binds-push (Q .store .binders) (binds-grow (map code (x .side)) (Q .binds)) left (2 * st .top) (firstHalf x) first-bound) right (2 * (st .top + getD sizes left 0)) (secondHalf x) second-bound)
 
-    same-binds : (node .kind ≡ 0x18 → ⊥) → both .env₂ ≡ Q .env → Binds Θ (Q .store .stack ++ map code (x .side)) binders₂ (cond (eqb (node .kind) 0x18) (st .scope + 2) (st .scope)) (both .env₂)
+    same-binds : (isProjection (node .rule) ≡ false) → both .env₂ ≡ Q .env → Binds Θ (Q .store .stack ++ map code (x .side)) binders₂ (cond (isProjection (node .rule)) (st .scope + 2) (st .scope)) (both .env₂)
     same-binds h e =
-        subst (λ (c : Bool). Binds Θ (Q .store .stack ++ map code (x .side)) (cond c both-bound (Q .store .binders)) (cond c (st .scope + 2) (st .scope)) (both .env₂)) (sym (ne-eqb (node .kind) 0x18 h))
+        subst (λ (c : Bool). Binds Θ (Q .store .stack ++ map code (x .side)) (cond c both-bound (Q .store .binders)) (cond c (st .scope + 2) (st .scope)) (both .env₂)) (sym h)
         (subst (Binds Θ (Q .store .stack ++ map code (x .side)) (Q .store .binders) (st .scope)) (sym e) (binds-grow (map code (x .side)) (Q .binds)))
 
-    pub two-binds : Binds Θ (Q .store .stack ++ map code (x .side)) binders₂ (cond (eqb (node .kind) 0x18) (st .scope + 2) (st .scope)) (both .env₂)
-    two-binds = ⊎-elim (λ z. same-binds (λ k. z .not-proj (sym kind-is ∙ k)) (z .same))
-        (⊎-elim (λ z. same-binds (λ k. omega (arith, kind-is, z .pair)) (z .same))
-        (λ z. subst (λ (c : Bool). Binds Θ (Q .store .stack ++ map code (x .side)) (cond c both-bound (Q .store .binders)) (cond c (st .scope + 2) (st .scope)) (both .env₂)) (sym (eq-eqb (node .kind) 0x18 (kind-is ∙ z .proj)))
+    pub two-binds : Binds Θ (Q .store .stack ++ map code (x .side)) binders₂ (cond (isProjection (node .rule)) (st .scope + 2) (st .scope)) (both .env₂)
+    two-binds = ⊎-elim (λ z. same-binds (rule-is isProjection ∙ z .not-proj) (z .same))
+        (⊎-elim (λ z. same-binds (rule-is isProjection ∙ z .not-proj) (z .same))
+        (λ z. subst (λ (c : Bool). Binds Θ (Q .store .stack ++ map code (x .side)) (cond c both-bound (Q .store .binders)) (cond c (st .scope + 2) (st .scope)) (both .env₂)) (sym (rule-is isProjection ∙ z .proj))
         (subst (Binds Θ (Q .store .stack ++ map code (x .side)) both-bound (st .scope + 2)) (sym (z .halves)) (halves-bind z)))) (both .sort)
 
     -- ---- the second
 
     module _ {r : State} {w₂ : List ℕ} (er : r ≡ middle node st f) (ew : w₂ ≡ betweenIn s sizes w₁ node st f) where
-      middle-is : (r .next ≡ x .next) × (r .elements ≡ st .elements + length (x .elements)) × (r .wires ≡ st .wires + length (x .wires)) × (r .top ≡ st .top + length (x .side)) × (r .scope ≡ cond (eqb (node .kind) 0x18) (st .scope + 2) (st .scope))
+      middle-is : (r .next ≡ x .next) × (r .elements ≡ st .elements + length (x .elements)) × (r .wires ≡ st .wires + length (x .wires)) × (r .top ≡ st .top + length (x .side)) × (r .scope ≡ cond (isProjection (node .rule)) (st .scope + 2) (st .scope))
       unfolding middle
       middle-is =
           let l = first-left in (
@@ -279,7 +279,7 @@ module _ {s sizes w : List ℕ} {node : Node} {st : State} (q : Here s sizes w n
           )
 
       scope-most : r .scope ≤ st .scope + 2
-      scope-most = rw (middle-is .4) (by (eqb (node .kind) 0x18))
+      scope-most = rw (middle-is .4) (by (isProjection (node .rule)))
         where
           by : (c : Bool) → cond c (st .scope + 2) (st .scope) ≤ st .scope + 2
           by true = omega arith

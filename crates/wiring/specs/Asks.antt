@@ -16,6 +16,7 @@ use Rattle.calculus.specs.Net.{turns, Interface, outSide, Bound, unbound, Made,
 use Rattle.records.specs.Heads.{nodeOf}
 use Rattle.records.specs.Forms.{recIn}
 use Rattle.records.specs.declared.Node.{Node}
+use Rattle.records.specs.Rules.{isPair, isProjection, isFixedPoint}
 use Rattle.memory.specs.Map.{region, code}
 use Rattle.circuit_theorems.proofs.Drivers.{Env}
 use Rattle.wiring.specs.declared.walk.State.{State}
@@ -110,7 +111,7 @@ pub record Here (s sizes w : List ℕ) (node : Node) (st : State) : Type 0 where
 
 -- the type number that a function or a fixed point binds
 abbrev pub boundIn : List ℕ → Node → ℕ
-boundIn s node = cond (eqb (node .kind) 0x19) (node .first) (sidesOf (recIn s (node .first)) .left)
+boundIn s node = cond (isFixedPoint (node .rule)) (node .first) (sidesOf (recIn s (node .first)) .left)
 
 -- ---- a function or a fixed point
 
@@ -140,7 +141,7 @@ looped w at l k =
     sets v at (region v (at + l) l)
 
 unfoldable pub closedIn : List ℕ → Node → ℕ → ℕ → Built → List ℕ
-closedIn w node top l r = cond (eqb (node .kind) 0x19) (looped w (18944 + top) l (r .wires)) w
+closedIn w node top l r = cond (isFixedPoint (node .rule)) (looped w (18944 + top) l (r .wires)) w
 
 -- the same, with another type, another interface and more wires
 abbrev pub shownAs : Built → ℕ → ℕ → ℕ → Built
@@ -150,15 +151,15 @@ unfoldable pub closed : Node → ℕ → Built → Built
 closed node l r = record {
   past = r .past;
   ty = node .first;
-  len = cond (eqb (node .kind) 0x19) l (l + r .len);
+  len = cond (isFixedPoint (node .rule)) l (l + r .len);
   next = r .next;
   elements = r .elements;
-  wires = cond (eqb (node .kind) 0x19) (r .wires + l) (r .wires);
+  wires = cond (isFixedPoint (node .rule)) (r .wires + l) (r .wires);
 }
 
 pub record Closable (w : List ℕ) (node : Node) (top l : ℕ) (r : Built) : Type 0 where
   pub small : (l ≤ 128) × (r .len ≤ 128) × (top ≤ 8448) × (r .wires ≤ 5632)
-  pub apart : node .kind ≡ 0x19 → Apart w (18944 + top + l) (18944 + top) l (r .wires)
+  pub apart : isFixedPoint (node .rule) ≡ true → Apart w (18944 + top + l) (18944 + top) l (r .wires)
 
 -- ---- a node of two subterms
 
@@ -170,7 +171,7 @@ halved s sizes w t scope top =
 
 -- between the subterms
 unfoldable pub betweenIn : List ℕ → List ℕ → List ℕ → Node → State → Built → List ℕ
-betweenIn s sizes w node st f = cond (eqb (node .kind) 0x18) (halved s sizes w (f .ty) (st .scope) (st .top)) w
+betweenIn s sizes w node st f = cond (isProjection (node .rule)) (halved s sizes w (f .ty) (st .scope) (st .top)) w
 
 unfoldable pub middle : Node → State → Built → State
 middle node st f = record {
@@ -178,7 +179,7 @@ middle node st f = record {
   elements = f .elements;
   wires = f .wires;
   top = st .top + f .len;
-  scope = cond (eqb (node .kind) 0x18) (st .scope + 2) (st .scope);
+  scope = cond (isProjection (node .rule)) (st .scope + 2) (st .scope);
 }
 
 pub record Between (sizes w : List ℕ) (st : State) (f : Built) : Type 0 where
@@ -194,21 +195,21 @@ appliedIn w at l m k =
 
 unfoldable pub finishedIn : List ℕ → Node → ℕ → Built → Built → List ℕ
 finishedIn w node top f x =
-    cond (eqb (node .kind) 0x18) (sets w (18944 + top) (region w (18944 + top + f .len) (x .len)))
-    (cond (eqb (node .kind) 0x17) w (appliedIn w (18944 + top) (f .len) (x .len) (x .wires)))
+    cond (isProjection (node .rule)) (sets w (18944 + top) (region w (18944 + top + f .len) (x .len)))
+    (cond (isPair (node .rule)) w (appliedIn w (18944 + top) (f .len) (x .len) (x .wires)))
 
 unfoldable pub finished : List ℕ → Node → Built → Built → Built
 finished s node f x = record {
   past = x .past;
-  ty = cond (eqb (node .kind) 0x18) (x .ty) (cond (eqb (node .kind) 0x17) (node .first) (sidesOf (recIn s (f .ty)) .right));
-  len = cond (eqb (node .kind) 0x18) (x .len) (cond (eqb (node .kind) 0x17) (f .len + x .len) (f .len - x .len));
+  ty = cond (isProjection (node .rule)) (x .ty) (cond (isPair (node .rule)) (node .first) (sidesOf (recIn s (f .ty)) .right));
+  len = cond (isProjection (node .rule)) (x .len) (cond (isPair (node .rule)) (f .len + x .len) (f .len - x .len));
   next = x .next;
   elements = x .elements;
-  wires = cond (eqb (node .kind) 0x18) (x .wires) (cond (eqb (node .kind) 0x17) (x .wires) (x .wires + x .len));
+  wires = cond (isProjection (node .rule)) (x .wires) (cond (isPair (node .rule)) (x .wires) (x .wires + x .len));
 }
 
 pub record Finishable (w : List ℕ) (node : Node) (top : ℕ) (f x : Built) : Type 0 where
   pub memory : 32768 ≤ length w
   pub small : (f .len ≤ 128) × (x .len ≤ 128) × (x .wires ≤ 5632)
   pub height : top + f .len + x .len ≤ 8448
-  pub apart : (node .kind ≡ 0x18 → ⊥) → (node .kind ≡ 0x17 → ⊥) → (x .len ≤ f .len) × Apart w (18944 + top + f .len) (18944 + top) (x .len) (x .wires)
+  pub apart : (isProjection (node .rule) ≡ false) → (isPair (node .rule) ≡ false) → (x .len ≤ f .len) × Apart w (18944 + top + f .len) (18944 + top) (x .len) (x .wires)

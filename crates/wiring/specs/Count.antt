@@ -12,13 +12,14 @@ use Rattle.sheet_theorems.specs.Laid.{Stands, Ranged}
 use Rattle.calculus.specs.Record.{All}
 use Rattle.circuit_theorems.specs.Terminals.{terminals}
 use Rattle.records.specs.declared.Node.{Node}
+use Rattle.records.specs.Rules.{isConstant}
 use Rattle.wiring.specs.Sides.{Knows}
 use Rattle.wiring.specs.Asks.{boundIn}
 
 -- the terminals that one record makes
 unfoldable pub ownIn : List ℕ → List ℕ → Node → ℕ
 ownIn s sizes node =
-    cond (eqb (node .kind) 0x1A) (partAt (node .first) .inputs + 1) (cond (eqb (node .subterms) 1) (2 * getD sizes (boundIn s node) 0) 0)
+    cond (isConstant (node .rule)) (partAt (node .first) .inputs + 1) (cond (eqb (node .subterms) 1) (2 * getD sizes (boundIn s node) 0) 0)
 
 -- a term that stands in a read sheet, with its number of nodes
 pub record Counting (s sizes : List ℕ) (at count : ℕ) : Type 0 where

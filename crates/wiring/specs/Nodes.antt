@@ -12,6 +12,7 @@ use Rattle.sheet_theorems.specs.Laid.{Stands, Ranged, depth}
 use Rattle.calculus.specs.Rules.{Ctx, Typed}
 use Rattle.calculus.specs.Net.{turns, points, inSide, Bound, Made, leftOf, rightOf, binder, madeApp, madePair, firstHalf, secondHalf, madeProj, madeFix, madeVar, madeCon, unbound, make}
 use Rattle.records.specs.Heads.{nodeOf}
+use Rattle.records.specs.Rules.{isPair, isProjection, isFixedPoint}
 use Rattle.circuit_theorems.proofs.Drivers.{Env}
 use Rattle.wiring.specs.Asks.{boundIn}
 
@@ -43,13 +44,13 @@ module _ (Θ : Table) (s : List ℕ) (at n : ℕ) (env : List Bound) (e : Term) 
     pub first : nodeOf e at .first < length Θ
     pub is-type : tree Θ (nodeOf e at .first) ≡ τ
     -- a fixed point, or a function
-    pub is : ((nodeOf e at .kind ≡ 0x19) × (type ≡ tree Θ bound) × (make Θ e env n ≡ madeFix (tree Θ bound) n (make Θ body (binder (tree Θ bound) n ∷ env) (n + 2 * size (tree Θ bound)))))
-        ⊎ ((nodeOf e at .kind ≡ 0x19 → ⊥) × (make Θ e env n ≡ funOf (tree Θ bound) τ n (make Θ body (binder (tree Θ bound) n ∷ env) (n + 2 * size (tree Θ bound)))))
+    pub is : ((isFixedPoint (nodeOf e at .rule) ≡ true) × (type ≡ tree Θ bound) × (make Θ e env n ≡ madeFix (tree Θ bound) n (make Θ body (binder (tree Θ bound) n ∷ env) (n + 2 * size (tree Θ bound)))))
+        ⊎ ((isFixedPoint (nodeOf e at .rule) ≡ false) × (make Θ e env n ≡ funOf (tree Θ bound) τ n (make Θ body (binder (tree Θ bound) n ∷ env) (n + 2 * size (tree Θ bound)))))
 
   module _ (x y : Made) (τ₁ : Ty) (env₂ : List Bound) (τ₂ : Ty) where
     pub record Applied : Type 0 where
-      pub not-pair : nodeOf e at .kind ≡ 0x17 → ⊥
-      pub not-proj : nodeOf e at .kind ≡ 0x18 → ⊥
+      pub not-pair : isPair (nodeOf e at .rule) ≡ false
+      pub not-proj : isProjection (nodeOf e at .rule) ≡ false
       pub same : env₂ ≡ env
       pub arrow : τ₁ ≡ bit → ⊥
       pub left : leftOf τ₁ ≡ τ₂
@@ -58,14 +59,15 @@ module _ (Θ : Table) (s : List ℕ) (at n : ℕ) (env : List Bound) (e : Term) 
       pub is : make Θ e env n ≡ madeApp x y
 
     pub record Paired : Type 0 where
-      pub pair : nodeOf e at .kind ≡ 0x17
+      pub pair : isPair (nodeOf e at .rule) ≡ true
+      pub not-proj : isProjection (nodeOf e at .rule) ≡ false
       pub same : env₂ ≡ env
       pub first : nodeOf e at .first < length Θ
       pub is-type : tree Θ (nodeOf e at .first) ≡ τ
       pub is : make Θ e env n ≡ madePair τ x y
 
     pub record Projected : Type 0 where
-      pub proj : nodeOf e at .kind ≡ 0x18
+      pub proj : isProjection (nodeOf e at .rule) ≡ true
       pub halves : env₂ ≡ secondHalf x ∷ firstHalf x ∷ env
       pub product : τ₁ ≡ bit → ⊥
       pub sum : size τ₁ ≡ size (leftOf τ₁) + size (rightOf τ₁)

@@ -3,6 +3,7 @@ use memory::DRIVERS;
 use memory::NONE;
 use memory::TERMINALS;
 use records::Node;
+use records::Rule;
 use walk::State;
 ghost use mathlib.Core.Path.{_≡_};
 ghost use mathlib.Core.List.{[]};
@@ -23,13 +24,16 @@ fn own_terminals(s: &[u8], sizes: &[u8], node: Node) -> usize
     requires { ⌜ length (now sizes) ≡ 256 ⌝ }
     ensures { λ r. ⌜ r ≡ ownIn (now (s .entry)) (now (sizes .entry)) node ⌝ }
 {
-    if node.kind == 0x1A {
-        return faces::inputs_of(node.first) + 1;
+    let rule = node.rule;
+    match rule {
+        Rule::Constant => faces::inputs_of(node.first) + 1,
+        _ => {
+            if node.subterms == 1 {
+                return 2 * faces::size_of(sizes, walk::bound(s, node));
+            }
+            0
+        }
     }
-    if node.subterms == 1 {
-        return 2 * faces::size_of(sizes, walk::bound(s, node));
-    }
-    0
 }
 
 // The terminals of a read sheet's term, which begins at an offset and has so many nodes. They can be more than 8,192.

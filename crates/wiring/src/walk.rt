@@ -6,11 +6,14 @@ use memory::ELEMENTS;
 use memory::POINT;
 use memory::STACK;
 use records::Node;
+use records::Rule;
 ghost use mathlib.Core.Path.{_≡_};
+ghost use mathlib.Core.Bool.{true, false};
 ghost use mathlib.Core.List.{_∷_, []};
 ghost use Prim.Native.Nat.{_+_, _*_, _≤_, _<_};
 ghost use lib.ListN.{length, getD};
 ghost use lib.Seq.{sets};
+ghost use Rattle.records.specs.Rules.{isConstant};
 ghost use Rattle.wiring.specs.Links.{Apart};
 ghost use Rattle.wiring.specs.Sides.{Named};
 ghost use Rattle.wiring.specs.Asks.{Asks, Here, Leaves, Showable, shown, boundIn, Opened, looped, shownAs, closed, closedIn, Closable, halved, Between, middle, betweenIn, appliedIn, Finishable, finished, finishedIn};
@@ -59,7 +62,7 @@ fn show(s: &[u8], sizes: &[u8], work: &mut [u16], to: usize, t: u8, place: usize
 
 // A variable: its binder's output interface.
 fn variable(s: &[u8], sizes: &[u8], work: &mut [u16], node: Node, st: State) -> Built
-    requires { ⌜ (Here (now s) (now sizes) (now work) node st) × (node .subterms ≡ 0) × (node .kind ≡ 0x1A → ⊥) ⌝ }
+    requires { ⌜ (Here (now s) (now sizes) (now work) node st) × (node .subterms ≡ 0) × (isConstant (node .rule) ≡ false) ⌝ }
     ensures { λ r. ⌜ ((q : Here (now (s .entry)) (now (sizes .entry)) (now (work .entry)) node st) → Leaves (q .asks) r (now (work .exit))) ⌝ }
 {
     let past = node.next;
@@ -84,7 +87,7 @@ fn variable(s: &[u8], sizes: &[u8], work: &mut [u16], node: Node, st: State) -> 
 
 // A constant: its part.
 fn constant(s: &[u8], sizes: &[u8], work: &mut [u16], node: Node, st: State) -> Built
-    requires { ⌜ (Here (now s) (now sizes) (now work) node st) × (node .kind ≡ 0x1A) ⌝ }
+    requires { ⌜ (Here (now s) (now sizes) (now work) node st) × (isConstant (node .rule) ≡ true) ⌝ }
     ensures { λ r. ⌜ ((q : Here (now (s .entry)) (now (sizes .entry)) (now (work .entry)) node st) → Leaves (q .asks) r (now (work .exit))) ⌝ }
 {
     let past = node.next;
@@ -111,10 +114,10 @@ fn leaf(s: &[u8], sizes: &[u8], work: &mut [u16], node: Node, st: State) -> Buil
     requires { ⌜ (Here (now s) (now sizes) (now work) node st) × (node .subterms ≡ 0) ⌝ }
     ensures { λ r. ⌜ ((q : Here (now (s .entry)) (now (sizes .entry)) (now (work .entry)) node st) → Leaves (q .asks) r (now (work .exit))) ⌝ }
 {
-    if node.kind == 0x1A {
-        constant(s, sizes, work, node, st)
-    } else {
-        variable(s, sizes, work, node, st)
+    let rule = node.rule;
+    match rule {
+        Rule::Constant => constant(s, sizes, work, node, st),
+        _ => variable(s, sizes, work, node, st),
     }
 }
 
@@ -123,10 +126,11 @@ pub fn bound(s: &[u8], node: Node) -> u8
     ensures { λ r. ⌜ r ≡ boundIn (now (s .entry)) node ⌝ }
 {
     let first = node.first;
-    if node.kind == 0x19 {
-        return first;
+    let rule = node.rule;
+    match rule {
+        Rule::FixedPoint => first,
+        _ => faces::sides_at(s, first).left,
     }
-    faces::sides_at(s, first).left
 }
 
 // Before the body of a function or a fixed point: its points, its input interface on the stack, and its binder.
@@ -184,11 +188,14 @@ fn close(work: &mut [u16], node: Node, top: usize, l: usize, r: Built) -> Built
     let ty = node.first;
     let len = r.len;
     let wires = r.wires;
-    if node.kind == 0x19 {
-        close_loop(work, STACK + top, l, wires);
-        return shown_as(r, ty, l, wires + l);
+    let rule = node.rule;
+    match rule {
+        Rule::FixedPoint => {
+            close_loop(work, STACK + top, l, wires);
+            shown_as(r, ty, l, wires + l)
+        }
+        _ => shown_as(r, ty, l + len, wires),
     }
-    shown_as(r, ty, l + len, wires)
 }
 
 // The halves of a product of type t, whose interface stands at height `top`, are bound: the second is the nearer.
@@ -214,22 +221,25 @@ fn between(s: &[u8], sizes: &[u8], work: &mut [u16], node: Node, st: State, f: B
     let wires = f.wires;
     let top = st.top + f.len;
     let scope = st.scope;
-    if node.kind == 0x18 {
-        bind_halves(s, sizes, work, f.ty, scope, st.top);
-        return State {
+    let rule = node.rule;
+    match rule {
+        Rule::Projection => {
+            bind_halves(s, sizes, work, f.ty, scope, st.top);
+            State {
+                next,
+                elements,
+                wires,
+                top,
+                scope: scope + 2,
+            }
+        }
+        _ => State {
             next,
             elements,
             wires,
             top,
-            scope: scope + 2,
-        };
-    }
-    State {
-        next,
-        elements,
-        wires,
-        top,
-        scope,
+            scope,
+        },
     }
 }
 
@@ -254,15 +264,18 @@ fn finish(s: &[u8], work: &mut [u16], node: Node, top: usize, f: Built, x: Built
     let ty = x.ty;
     let len = x.len;
     let wires = x.wires;
-    if node.kind == 0x18 {
-        wires::copy(work, STACK + top + l, STACK + top, len);
-        return shown_as(x, ty, len, wires);
+    let rule = node.rule;
+    match rule {
+        Rule::Projection => {
+            wires::copy(work, STACK + top + l, STACK + top, len);
+            shown_as(x, ty, len, wires)
+        }
+        Rule::Pair => shown_as(x, first, l + len, wires),
+        _ => {
+            apply(work, STACK + top, l, len, wires);
+            shown_as(x, faces::sides_at(s, of).right, l - len, wires + len)
+        }
     }
-    if node.kind == 0x17 {
-        return shown_as(x, first, l + len, wires);
-    }
-    apply(work, STACK + top, l, len, wires);
-    shown_as(x, faces::sides_at(s, of).right, l - len, wires + len)
 }
 
 // The walk: what a term makes, its interface on the stack at the height on entry. The falling number is the bytes left.

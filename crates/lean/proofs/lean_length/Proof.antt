@@ -3,10 +3,12 @@ use native.Mathlib.Omega.{arith}
 use mathlib.Core.Path.{refl, ap, sym, _∙_}
 use mathlib.Core.List.{List}
 use Prim.Native.Nat.{ℕ, _≤_, _-_, _+_, _*_}
-use lib.ListN.{length}
-use Rattle.memory.specs.Map.{region}
+use native.Mathlib.Nat.{le-of-lt}
+use lib.ListN.{length, getD}
+use Rattle.memory.specs.Map.{elementsAt, region}
 use Rattle.laws.proofs.Regions.{region-length}
 use Rattle.lean.specs.Table.{Whole}
+use Rattle.lean.proofs.KindLaws.{first-low}
 use Rattle.lean.proofs.SumLaws.{rowsSize, rows-most, Summing, summing-low, summing-most, summing-step, summing-end}
 use Rattle.lean.proofs.LeanLaws.{lean-length, kinds-low}
 use Rattle.lean.proofs.lean_length.Statement.{statement}
@@ -14,12 +16,12 @@ use Rattle.lean.proofs.lean_length.Tie as tie
 
 abbrev Inv-loop : tie.InvT-loop
 Inv-loop work elements wires pins sum₀ n₀ i₀ sum n i =
-    (i ≤ elements) × Summing work elements (3 * pins + rowsSize work (region work 13824 elements) 0) sum n i
+    (i ≤ elements) × Summing work elements (3 * pins + rowsSize work (region work elementsAt elements) 0) sum n i
 
 abbrev μ-loop : tie.MeasureT-loop
 μ-loop work elements wires pins sum₀ n₀ i₀ sum n i = elements - i
 
-fits : {w : List ℕ} {e k p : ℕ} → Whole w e k p → 13824 + e ≤ length w
+fits : {w : List ℕ} {e k p : ℕ} → Whole w e k p → elementsAt + e ≤ length w
 fits q = let a = q .ready .size in let b = q .ready .few-elements in omega arith
 
 mul-sum : tie.Need-mul-sum Inv-loop μ-loop
@@ -49,10 +51,14 @@ add-sum c =
     let f = s .pre .ready .few-pins in
     let g = s .pre .ready .few-elements in
     let h = summing-most (fits (s .pre)) (b .before .loop .inv .1) (b .loop-test .taken) in
-    omega (arith, h, c .element-size .ensures, rows-most w (region w 13824 e) 0, region-length w 13824 e (fits (s .pre)))
+    omega (arith, h, c .element-size .ensures, rows-most w (region w elementsAt e) 0, region-length w elementsAt e (fits (s .pre)))
 
 next-after-requires : tie.Need-next-after-requires Inv-loop μ-loop
-next-after-requires c κs = let b = c .before .before in summing-low (fits (b .before .before .before .pre)) (b .before .loop .inv .1) (b .loop-test .taken)
+next-after-requires c κs =
+    let b = c .before .before in
+    let l = b .before .loop in
+    let s = b .before .before .before in
+    le-of-lt (first-low (getD (s .args .work .now) (elementsAt + l .i) 0) (l .n) 8192 (summing-low (fits (s .pre)) (l .inv .1) (b .loop-test .taken)))
 
 loop-again : tie.Need-loop-again Inv-loop μ-loop
 loop-again c =

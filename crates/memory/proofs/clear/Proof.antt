@@ -7,16 +7,17 @@ use mathlib.Core.List.{List}
 use Prim.Native.Nat.{ℕ, _≤_, _-_}
 use lib.ListN.{length, set, length-set}
 use Rattle.calculus.specs.Translate.{zeroed}
+use Rattle.memory.specs.Map.{memorySize}
 use Rattle.memory.proofs.clear.Statement.{statement}
 use Rattle.memory.proofs.clear.Tie as tie
 use Rattle.memory.proofs.clear.Reads as reads
 use Rattle.memory.proofs.clear.Lts as lts
 
 abbrev Inv-loop : tie.InvT-loop
-Inv-loop work₀ i₀ work i = (i ≤ 32768) × ((length work ≡ length work₀) × (work ≡ zeroed i work₀))
+Inv-loop work₀ i₀ work i = (i ≤ memorySize) × ((length work ≡ length work₀) × (work ≡ zeroed i work₀))
 
 abbrev μ-loop : tie.MeasureT-loop
-μ-loop work₀ i₀ work i = 32768 - i
+μ-loop work₀ i₀ work i = memorySize - i
 
 loop-holds : tie.Need-loop-holds Inv-loop μ-loop
 loop-holds c = (omega arith, (refl, zeroed-none _))
@@ -30,7 +31,7 @@ loop-again c =
 returns : tie.Need-returns Inv-loop μ-loop
 returns c =
     let l = c .before .loop in
-    let e : l .i ≡ 32768 = omega arith in
+    let e : l .i ≡ memorySize = omega arith in
     l .inv .1 .1 ∙ ap (λ (k : ℕ). zeroed k (c .before .before .args .work .now)) e
 
 pub clear-spec : {M : Type 1} → statement M

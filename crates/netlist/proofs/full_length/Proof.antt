@@ -4,6 +4,7 @@ use native.Mathlib.Omega.{arith}
 use mathlib.Core.Path.{_≡_, sym, _∙_}
 use Prim.Native.Nat.{_≤_, _-_, _+_, _*_}
 use lib.ListN.{length, drop, getD}
+use Rattle.memory.specs.Map.{elementsAt}
 use Rattle.netlist.proofs.Elements.{firstBytes, size-small}
 use Rattle.netlist.proofs.InMemory.{element-length, length-here}
 use Rattle.netlist.proofs.full_length.Statement.{statement}
@@ -11,7 +12,7 @@ use Rattle.netlist.proofs.full_length.Tie as tie
 
 abbrev Inv-loop : tie.InvT-loop
 Inv-loop work elements wires pins sum₀ i₀ sum i =
-    (i ≤ elements) × ((sum ≡ 5 * wires + 3 * pins + length (firstBytes (drop 13824 work) i)) × (sum ≤ 5 * wires + 3 * pins + 4 * i))
+    (i ≤ elements) × ((sum ≡ 5 * wires + 3 * pins + length (firstBytes (drop elementsAt work) i)) × (sum ≤ 5 * wires + 3 * pins + 4 * i))
 
 abbrev μ-loop : tie.MeasureT-loop
 μ-loop work elements wires pins sum₀ i₀ sum i = elements - i
@@ -20,14 +21,14 @@ loop-holds : tie.Need-loop-holds Inv-loop μ-loop
 loop-holds c = (omega arith, (omega arith, omega arith))
 
 add-sum-2 : tie.Need-add-sum-2 Inv-loop μ-loop
-add-sum-2 c = omega (arith, size-small (getD (c .before .before .before .before .before .args .work .now) (13824 + c .before .before .before .loop .i) 0))
+add-sum-2 c = omega (arith, size-small (getD (c .before .before .before .before .before .args .work .now) (elementsAt + c .before .before .before .loop .i) 0))
 
 loop-again : tie.Need-loop-again Inv-loop μ-loop
 loop-again c =
     let w = c .before .before .before .before .before .args .work .now in
     let i = c .before .before .before .loop .i in
-    let kind = getD w (13824 + i) 0 in
-    let e = element-length w 13824 i (omega arith) in
+    let kind = getD w (elementsAt + i) 0 in
+    let e = element-length w elementsAt i (omega arith) in
     let s = size-small kind in
     (omega arith, (omega arith, omega arith))
 

@@ -2,19 +2,19 @@
 use native.Mathlib.Omega.{arith}
 use borrow.Author.Tests.{ne-eqb}
 use mathlib.Core.Path.{_≡_, _∙_}
-use Rattle.netlist.specs.Elements.{sizeOf}
+use Rattle.netlist.specs.Elements.{elementSize}
 use borrow.Author.Needs.{needs}
 use Rattle.netlist.proofs.put_element.Statement.{statement}
 use Rattle.netlist.proofs.put_element.Tie as tie
 
 put-point-requires : tie.Need-put-point-requires
 put-point-requires c κs =
-    let s : sizeOf (c .before .before .before .args .kind) ≡ 3 = rw (c .before .if1 .taken) in
+    let s : elementSize (c .before .before .before .args .kind) ≡ 3 = rw (c .before .if1 .taken) in
     omega arith
 
 put-part-requires : tie.Need-put-part-requires
 put-part-requires c κs =
-    let s : sizeOf (c .before .before .before .args .kind) ≡ 4 = rw (ne-eqb _ _ (c .before .if1 .left)) in
+    let s : elementSize (c .before .before .before .args .kind) ≡ 4 = rw (ne-eqb _ _ (c .before .if1 .left)) in
     omega arith
 
 returns : tie.Need-returns

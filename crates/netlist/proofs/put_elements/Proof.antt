@@ -4,6 +4,7 @@ use mathlib.Core.Path.{_≡_, refl, sym, _∙_}
 use Prim.Native.Nat.{_≤_, _<_, _-_, _+_}
 use lib.ListN.{length, drop}
 use lib.Seq.{sets}
+use Rattle.memory.specs.Map.{elementsAt}
 use Rattle.netlist.proofs.Records.{record-more}
 use Rattle.netlist.proofs.Elements.{firstBytes, firstAfter}
 use Rattle.netlist.proofs.InMemory.{element-more, element-length, element-after, element-fits, after-fits}
@@ -13,8 +14,8 @@ use Rattle.netlist.proofs.put_elements.Tie as tie
 abbrev Inv-loop : tie.InvT-loop
 Inv-loop work elements out₀ from at₀ n₀ i₀ out at n i =
     (i ≤ elements)
-    × ((at ≡ from + length (firstBytes (drop 13824 work) i))
-    × ((n ≡ firstAfter (drop 13824 work) i) × ((length out ≡ length out₀) × (out ≡ sets out₀ from (firstBytes (drop 13824 work) i)))))
+    × ((at ≡ from + length (firstBytes (drop elementsAt work) i))
+    × ((n ≡ firstAfter (drop elementsAt work) i) × ((length out ≡ length out₀) × (out ≡ sets out₀ from (firstBytes (drop elementsAt work) i)))))
 
 abbrev μ-loop : tie.MeasureT-loop
 μ-loop work elements out₀ from at₀ n₀ i₀ out at n i = elements - i
@@ -26,15 +27,15 @@ put-element-requires : tie.Need-put-element-requires Inv-loop μ-loop
 put-element-requires c κs =
     let a = c .before .before .before .before .before .before .args in
     let l = c .before .before .before .loop in
-    let f = element-fits (a .work .now) 13824 (l .i) (omega arith) (a .elements) (omega arith) in
+    let f = element-fits (a .work .now) elementsAt (l .i) (omega arith) (a .elements) (omega arith) in
     (c .before .before .before .before .before .before .pre .known (l .i) (omega arith), omega arith)
 
 next-after-requires : tie.Need-next-after-requires Inv-loop μ-loop
 next-after-requires c κs =
     let a = c .before .before .before .before .before .before .before .before .before .args in
     let l = c .before .before .before .before .before .before .loop in
-    let f = after-fits (drop 13824 (a .work .now)) (l .i) (a .elements) (omega arith) in
-    (c .before .before .before .before .before .before .before .before .before .pre .known (l .i) (omega arith), omega arith)
+    let f = after-fits (drop elementsAt (a .work .now)) (l .i) (a .elements) (omega arith) in
+    omega arith
 
 loop-again : tie.Need-loop-again Inv-loop μ-loop
 loop-again c =
@@ -42,14 +43,14 @@ loop-again c =
     let l = c .before .before .before .before .before .before .before .loop in
     let put = c .before .before .before .put-element in
     let w = a .work .now in
-    let lt : 13824 + l .i < length w = omega arith in
-    let e = element-length w 13824 (l .i) lt in
-    let more = record-more (a .out .now) (firstBytes (drop 13824 w) (l .i)) _ _ (a .from) (l .at) (l .inv .1 .0) (element-more w 13824 (l .i) lt) in (
+    let lt : elementsAt + l .i < length w = omega arith in
+    let e = element-length w elementsAt (l .i) lt in
+    let more = record-more (a .out .now) (firstBytes (drop elementsAt w) (l .i)) _ _ (a .from) (l .at) (l .inv .1 .0) (element-more w elementsAt (l .i) lt) in (
       omega arith,
       (
         omega (arith, put .ensures .0),
         (
-          c .next-after .ensures ∙ rw (l .inv .1 .1 .0) (sym (element-after w 13824 (l .i) lt)),
+          c .next-after .ensures ∙ rw (l .inv .1 .1 .0) (sym (element-after w elementsAt (l .i) lt)),
           (
             put .kept .0 ∙ l .inv .1 .1 .1 .0,
             put .ensures .1 ∙ rw (l .inv .1 .1 .1 .1, l .inv .1 .1 .0) more,

@@ -7,7 +7,7 @@ use mathlib.Core.List.{map}
 use lib.ListN.{length}
 use lib.Seq.{sets}
 use Rattle.calculus.specs.Net.{pinBytes}
-use Rattle.memory.specs.Map.{region, terminalOf}
+use Rattle.memory.specs.Map.{stackAt, region, terminalOf}
 use Rattle.netlist.proofs.Records.{record-more}
 use Rattle.netlist.proofs.InMemory.{pins-more, pins-first}
 use Rattle.netlist.proofs.put_pins.Statement.{statement}
@@ -16,7 +16,7 @@ use Rattle.netlist.proofs.put_pins.Tie as tie
 abbrev Inv-loop : tie.InvT-loop
 Inv-loop work pins out₀ from at₀ i₀ out at i =
     (i ≤ pins)
-    × ((at ≡ from + 3 * i) × ((length out ≡ length out₀) × (out ≡ sets out₀ from (pinBytes (map terminalOf (region work 18944 i))))))
+    × ((at ≡ from + 3 * i) × ((length out ≡ length out₀) × (out ≡ sets out₀ from (pinBytes (map terminalOf (region work stackAt i))))))
 
 abbrev μ-loop : tie.MeasureT-loop
 μ-loop work pins out₀ from at₀ i₀ out at i = pins - i
@@ -30,8 +30,8 @@ loop-again c =
     let l = c .before .before .before .before .before .before .before .loop in
     let put = c .before .before .put-pin in
     let w = a .work .now in
-    let n = pins-first w 18944 (l .i) (omega arith) in
-    let more = record-more (a .out .now) (pinBytes (map terminalOf (region w 18944 (l .i)))) _ _ (a .from) (l .at) (omega arith) (pins-more w 18944 (l .i) (omega arith)) in (
+    let n = pins-first w stackAt (l .i) (omega arith) in
+    let more = record-more (a .out .now) (pinBytes (map terminalOf (region w stackAt (l .i)))) _ _ (a .from) (l .at) (omega arith) (pins-more w stackAt (l .i) (omega arith)) in (
       omega arith,
       (
         omega (arith, put .ensures .0),

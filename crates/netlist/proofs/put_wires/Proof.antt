@@ -6,7 +6,7 @@ use native.Mathlib.Nat.{zero-add}
 use lib.ListN.{length}
 use lib.Seq.{sets}
 use Rattle.calculus.specs.Net.{wireBytes}
-use Rattle.memory.specs.Map.{region, wiresFrom}
+use Rattle.memory.specs.Map.{targetsAt, region, wiresFrom}
 use Rattle.netlist.proofs.Records.{record-more}
 use Rattle.netlist.proofs.InMemory.{wires-more, wires-first}
 use Rattle.netlist.proofs.put_wires.Statement.{statement}
@@ -15,7 +15,7 @@ use Rattle.netlist.proofs.put_wires.Tie as tie
 abbrev Inv-loop : tie.InvT-loop
 Inv-loop work wires out₀ from at₀ i₀ out at i =
     (i ≤ wires)
-    × ((at ≡ from + 5 * i) × ((length out ≡ length out₀) × (out ≡ sets out₀ from (wireBytes (wiresFrom work (region work 8192 i))))))
+    × ((at ≡ from + 5 * i) × ((length out ≡ length out₀) × (out ≡ sets out₀ from (wireBytes (wiresFrom work (region work targetsAt i))))))
 
 abbrev μ-loop : tie.MeasureT-loop
 μ-loop work wires out₀ from at₀ i₀ out at i = wires - i
@@ -41,8 +41,8 @@ loop-again c =
     let l = c .before .before .before .before .before .before .before .loop in
     let put = c .before .before .put-wire in
     let w = a .work .now in
-    let n = wires-first w 8192 (l .i) (omega arith) in
-    let more = record-more (a .out .now) (wireBytes (wiresFrom w (region w 8192 (l .i)))) _ _ (a .from) (l .at) (omega arith) (wires-more w 8192 (l .i) (omega arith)) in (
+    let n = wires-first w targetsAt (l .i) (omega arith) in
+    let more = record-more (a .out .now) (wireBytes (wiresFrom w (region w targetsAt (l .i)))) _ _ (a .from) (l .at) (omega arith) (wires-more w targetsAt (l .i) (omega arith)) in (
       omega arith,
       (
         omega (arith, put .ensures .0),

@@ -1,89 +1,58 @@
--- `records::type_at` meets its contract: by the offset of the record, its length and its kind. Assumes nothing.
-use mathlib.Core.Path.{refl}
-use Rattle.records.proofs.FormLaws.{rec-first, type-short, type-long, rec-bit}
+-- `records::type_at` meets its contract: by the offset of the record, its length and the rule of its kind. Assumes nothing.
+use mathlib.Core.Path.{refl, sym, ap, _∙_}
+use Rattle.records.specs.Forms.{saidForm}
+use Rattle.records.proofs.FormLaws.{rec-first, type-short, type-long, rec-type, rec-none}
 use borrow.Author.Needs.{needs}
 use Rattle.records.proofs.type_at.Statement.{statement}
 use Rattle.records.proofs.type_at.Tie as tie
 
--- src/lib.rt:126:9
 returns : tie.Need-returns
 returns c = rec-first _ _ (c .if1 .taken)
 
--- src/lib.rt:128:18
 wide-requires : tie.Need-wide-requires
 wide-requires c κs = search needs
 
--- src/lib.rt:128:14
 mul-at : tie.Need-mul-at
 mul-at c = search needs
 
--- src/lib.rt:128:14
 sub-at : tie.Need-sub-at
 sub-at c = search needs
 
--- src/lib.rt:129:18
 add-if2 : tie.Need-add-if2
 add-if2 c = search needs
 
--- src/lib.rt:130:9
 returns-2 : tie.Need-returns-2
-returns-2 c =
-    let w = c .before in
-    let a = w .before .before .before .args in
-    type-short (a .s .now) (a .t) (w .wide .result) (w .before .if1 .left) (w .wide .ensures) (c .if2 .taken)
+returns-2 c = type-short (c .before .before .before .before .args .s .now) (c .before .before .before .before .args .t) (c .before .wide .result) (c .before .before .if1 .left) (c .before .wide .ensures) (c .if2 .taken)
 
--- src/lib.rt:132:16
-shared-slice-read-kind : tie.Need-shared-slice-read-kind
-shared-slice-read-kind c = search needs
+shared-slice-read-shape-of : tie.Need-shared-slice-read-shape-of
+shared-slice-read-shape-of c = search needs
 
--- src/lib.rt:133:18
-add-left : tie.Need-add-left
-add-left c = search needs
+shape-of-requires : tie.Need-shape-of-requires
+shape-of-requires c κs = search needs
 
--- src/lib.rt:133:16
-shared-slice-read-left : tie.Need-shared-slice-read-left
-shared-slice-read-left c = search needs
+enum-known-rule : tie.Need-enum-known-rule
+enum-known-rule c = search needs
 
--- src/lib.rt:134:19
-add-right : tie.Need-add-right
-add-right c = search needs
-
--- src/lib.rt:134:17
-shared-slice-read-right : tie.Need-shared-slice-read-right
-shared-slice-read-right c = search needs
-
--- src/lib.rt:122:1
 returns-3 : tie.Need-returns-3
-returns-3 c =
-    let e = c .before .before .before .before in
-    let w = e .before in
-    let a = w .before .before .before .args in
-    type-long (a .s .now) (a .t) (w .wide .result) (w .before .if1 .left) (w .wide .ensures) _ _ (e .if2 .left) (c .match .keys1) refl
+returns-3 c = type-long (c .before .before .before .before .before .before .before .args .s .now) (c .before .before .before .before .before .before .before .args .t) (c .before .before .before .before .wide .result) (c .before .before .before .before .before .if1 .left) (c .before .before .before .before .wide .ensures) _ _ (c .before .before .before .if2 .left) refl (rec-none _ _ _ (c .before .shape-of .ensures) (c .match .keys2))
 
--- src/lib.rt:122:1
+add-form-of : tie.Need-add-form-of
+add-form-of c = search needs
+
+shared-slice-read-form-of : tie.Need-shared-slice-read-form-of
+shared-slice-read-form-of c = search needs
+
+add-form-of-2 : tie.Need-add-form-of-2
+add-form-of-2 c = search needs
+
+shared-slice-read-form-of-2 : tie.Need-shared-slice-read-form-of-2
+shared-slice-read-form-of-2 c = search needs
+
+form-of-requires : tie.Need-form-of-requires
+form-of-requires c κs = search needs
+
 returns-4 : tie.Need-returns-4
-returns-4 c =
-    let e = c .before .before .before .before in
-    let w = e .before in
-    let a = w .before .before .before .args in
-    type-long (a .s .now) (a .t) (w .wide .result) (w .before .if1 .left) (w .wide .ensures) _ _ (e .if2 .left) (c .match .keys2) refl
-
--- src/lib.rt:122:1
-returns-5 : tie.Need-returns-5
-returns-5 c =
-    let e = c .before .before .before .before in
-    let w = e .before in
-    let a = w .before .before .before .args in
-    type-long (a .s .now) (a .t) (w .wide .result) (w .before .if1 .left) (w .wide .ensures) _ _ (e .if2 .left) (c .match .keys3) refl
-
--- src/lib.rt:122:1
-returns-6 : tie.Need-returns-6
-returns-6 c =
-    let e = c .before .before .before .before in
-    let w = e .before in
-    let a = w .before .before .before .args in
-    let r = c .match .rest in
-    type-long (a .s .now) (a .t) (w .wide .result) (w .before .if1 .left) (w .wide .ensures) _ _ (e .if2 .left) refl (rec-bit _ _ _ (r .0 .0 .1) (r .0 .1) (r .1))
+returns-4 c = ap saidForm (c .form-of .ensures) ∙ type-long (c .before .before .before .before .before .before .before .before .before .before .before .before .args .s .now) (c .before .before .before .before .before .before .before .before .before .before .before .before .args .t) (c .before .before .before .before .before .before .before .before .before .wide .result) (c .before .before .before .before .before .before .before .before .before .before .if1 .left) (c .before .before .before .before .before .before .before .before .before .wide .ensures) _ _ (c .before .before .before .before .before .before .before .before .if2 .left) refl (rec-type _ _ _ (sym (c .before .before .before .before .before .before .shape-of .ensures) ∙ c .before .before .before .before .rule .given .1))
 
 pub type-at-spec : {M : Type 1} → statement M
 type-at-spec =
@@ -95,12 +64,13 @@ type-at-spec =
     sub-at
     add-if2
     returns-2
-    shared-slice-read-kind
-    add-left
-    shared-slice-read-left
-    add-right
-    shared-slice-read-right
+    shared-slice-read-shape-of
+    shape-of-requires
+    enum-known-rule
     returns-3
-    returns-4
-    returns-5
-    returns-6)
+    add-form-of
+    shared-slice-read-form-of
+    add-form-of-2
+    shared-slice-read-form-of-2
+    form-of-requires
+    returns-4)

@@ -212,7 +212,7 @@ pub +walk-spec : {M : Type 1} → statement M
     (λ c. let f = few t (from-second t c) in omega arith)
     (λ c. let f = few t (from-second t c) in omega arith)
     (λ c κs. search needs)
-    (λ c. let f = few t (from-second t (c .before)) in let k = closes-few (c .before .before .before .before .before .before .before .before .before .before .before .before .before .before .before .before .before .node-at .result .kind) in let e = c .closes .ensures in search needs)
+    (λ c. let f = few t (from-second t (c .before)) in let k = closes-few (c .before .before .before .before .before .before .before .before .before .before .before .before .before .before .before .before .before .node-at .result .rule) in let e = c .closes .ensures in search needs)
     (λ c κs.
     let p = from-second t (c .before) .pre in
     let h = second t c (p .1 .fits) in

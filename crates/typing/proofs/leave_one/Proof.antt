@@ -25,7 +25,7 @@ returns : tie.Need-returns
 returns c =
     let a = c .before .before .before .before .before .before .args in
     let b = a .x .binders in
-    follows-left (a .x) 1 (a .c) (c .before .before .before .before .before .before .pre .1) (c .after-one .ensures (stackFrom (b .types) (b .sorts) (b .used) _) (c .before .used-up .ensures (getD (b .types) (a .c) 0) _ ∙ ap (usedUp (a .n .kind)) (sym (nearest (b .types) (b .sorts) (b .used) (a .c)))))
+    follows-left (a .x) 1 (a .c) (c .before .before .before .before .before .before .pre .1) (c .after-one .ensures (stackFrom (b .types) (b .sorts) (b .used) _) (c .before .used-up .ensures (getD (b .types) (a .c) 0) _ ∙ ap (usedUp (a .n .rule)) (sym (nearest (b .types) (b .sorts) (b .used) (a .c)))))
 
 pub leave-one-spec : {M : Type 1} → statement M
 leave-one-spec =

@@ -11,7 +11,7 @@ after-two-requires c κs = search needs
 returns : tie.Need-returns
 returns c =
     let a = c .before .before .before .args in
-    follows-left (a .y) (closesOf (a .n .kind)) (a .c) (c .before .before .before .pre) (c .after-two .ensures _)
+    follows-left (a .y) (closesOf (a .n .rule)) (a .c) (c .before .before .before .pre) (c .after-two .ensures _)
 
 pub leave-two-spec : {M : Type 1} → statement M
 leave-two-spec = tie.close (tie.spec after-two-requires returns)

@@ -1,9 +1,8 @@
 -- By the lengths of one element's records. Assumes nothing.
 use borrow.Author.Needs.{needs}
 use native.Mathlib.Omega.{arith}
-use mathlib.Core.Path.{_≡_, sym, _∙_}
-use Rattle.netlist.proofs.PartInputs.{inputs-few}
-use Rattle.calculus.specs.Terms.{partAt}
+use mathlib.Core.Path.{sym, _∙_}
+use Rattle.netlist.proofs.PartInputs.{inputs-few, part-inputs}
 use Rattle.lean.proofs.KindLaws.{point-low, part-low}
 use Rattle.lean.proofs.RowLaws.{inputs-most, input-most, size-part, size-gone, size-point}
 use Rattle.lean.proofs.sizes.element_size.Statement.{statement}
@@ -11,21 +10,24 @@ use Rattle.lean.proofs.sizes.element_size.Tie as tie
 
 inputs-size-requires : tie.Need-inputs-size-requires
 inputs-size-requires c κs =
-    let s = c .before .before .before in
-    let e = c .inputs-of .ensures in
-    let h = part-low (s .args .kind) (s .args .n) 8192 (c .before .if1 .taken) (s .pre .1) in
+    let q = c .before .part-of in
+    let s = c .before .before .before .before in
+    let e = part-inputs (q .result) (s .args .kind) (q .ensures) in
+    let h = part-low (s .args .kind) (s .args .n) 8192 (c .before .before .if1 .taken) (s .pre .1) in
     (s .pre .0, rw e (omega arith))
 
 add-result : tie.Need-add-result
 add-result c =
-    let a = c .before .before .before .before .args in
-    let e : c .before .inputs-of .result ≡ partAt (a .kind) .inputs = c .before .inputs-of .ensures in
-    omega (arith, c .inputs-size .ensures, inputs-most (a .work .now) (c .before .inputs-of .result) (a .n), inputs-few (a .kind))
+    let q = c .before .before .part-of in
+    let a = c .before .before .before .before .before .args in
+    let e = part-inputs (q .result) (a .kind) (q .ensures) in
+    omega (arith, c .inputs-size .ensures, inputs-most (a .work .now) (q .result .inputs) (a .n), inputs-few (a .kind))
 
 returns : tie.Need-returns
 returns c =
-    let a = c .before .before .before .before .args in
-    rw (size-part (a .work .now) (a .kind) (a .n) (c .before .before .if1 .taken), ← c .before .inputs-of .ensures, c .inputs-size .ensures)
+    let q = c .before .before .part-of in
+    let a = c .before .before .before .before .before .args in
+    rw (size-part (a .work .now) (a .kind) (a .n) (c .before .before .before .if1 .taken), ← part-inputs (q .result) (a .kind) (q .ensures), c .inputs-size .ensures)
 
 is-kept-requires : tie.Need-is-kept-requires
 is-kept-requires c κs = let s = c .before .before in (s .pre .0, point-low (s .args .kind) (s .args .n) 8192 (c .if1 .left) (s .pre .1))
@@ -59,6 +61,7 @@ element-size-spec =
     tie.close
     (tie.spec
     (λ c κs. search needs)
+    (λ c. search needs)
     inputs-size-requires
     add-result
     returns

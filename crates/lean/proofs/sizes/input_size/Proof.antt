@@ -7,10 +7,10 @@ use Rattle.lean.proofs.sizes.input_size.Statement.{statement}
 use Rattle.lean.proofs.sizes.input_size.Tie as tie
 
 returns : tie.Need-returns
-returns c = let a = c .before .before .args in sym (ap length (input-none (a .work .now) (a .i) (c .if1 .taken)))
+returns c = let a = c .before .before .before .args in sym (ap length (input-none (a .work .now) (a .i .0) (c .if1 .taken)))
 
 returns-2 : tie.Need-returns-2
-returns-2 c = let a = c .before .before .args in sym (ap length (input-driven (a .work .now) (a .i) (c .if1 .left)))
+returns-2 c = let a = c .before .before .before .args in sym (ap length (input-driven (a .work .now) (a .i .0) (c .if1 .left)))
 
 pub input-size-spec : {M : Type 1} → statement M
-input-size-spec = tie.close (tie.spec (λ c. search needs) (λ c. search needs) returns returns-2)
+input-size-spec = tie.close (tie.spec (λ c. search needs) (λ c. search needs) (λ c. search needs) returns returns-2)

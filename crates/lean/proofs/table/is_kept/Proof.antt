@@ -1,12 +1,8 @@
 -- The entry of the output is compared. Assumes nothing.
 use native.Mathlib.Omega.{arith}
-use Prim.Native.Nat.{_+_}
 use mathlib.Core.Path.{refl}
 use Rattle.lean.proofs.table.is_kept.Statement.{statement}
 use Rattle.lean.proofs.table.is_kept.Tie as tie
-
-cast-result : tie.Need-cast-result
-cast-result c = omega (arith, c .shared-slice-known .given (19072 + (c .before .args .n + 1)))
 
 returns : tie.Need-returns
 returns c = refl
@@ -14,4 +10,4 @@ returns c = refl
 pub is-kept-spec : {M : Type 1} → statement M
 is-kept-spec =
     tie.close
-    (tie.spec (λ c. omega arith) (λ c. omega arith) (λ c. omega arith) (λ c. omega arith) cast-result returns)
+    (tie.spec (λ c. omega arith) (λ c. omega arith) (λ c. omega arith) (λ c. omega arith) (λ c. omega arith) returns)

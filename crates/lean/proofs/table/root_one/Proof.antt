@@ -17,7 +17,7 @@ meet-requires : tie.Need-meet-requires
 meet-requires c κs =
     let s = c .before .before .before .before in
     let a = s .args in
-    (s .pre .0, loose-out (a .work .now) (a .elements) (a .wires) (a .pins) (s .pre .0) (a .o) (s .pre .1) (c .before .if1 .taken))
+    (s .pre .0, loose-out (a .work .now) (a .elements) (a .wires) (a .pins) (s .pre .0) (a .n) (s .pre .1) (c .before .if1 .taken))
 
 round-requires : tie.Need-round-requires
 round-requires c κs = search needs
@@ -29,8 +29,8 @@ settle-requires c κs =
     let met = c .before .before .before .meet in (
       s .pre .0,
       (
-        loose-out (a .work .now) (a .elements) (a .wires) (a .pins) (s .pre .0) (a .o) (s .pre .1) (c .before .before .before .before .before .if1 .taken),
-        met-root (a .work .now) (a .elements) (a .wires) (a .pins) (a .o) (met .result) (c .before .round .result) (met .ensures) (c .before .round .ensures),
+        loose-out (a .work .now) (a .elements) (a .wires) (a .pins) (s .pre .0) (a .n) (s .pre .1) (c .before .before .before .before .before .if1 .taken),
+        met-root (a .work .now) (a .elements) (a .wires) (a .pins) (a .n) (met .result .0) (c .before .round .result .0) (met .ensures) (c .before .round .ensures),
       ),
     )
 

@@ -4,17 +4,19 @@ use mathlib.Core.Path.{refl, sym, subst}
 use Prim.Native.Nat.{ℕ, _≤_, _-_, _+_}
 use mathlib.Core.List.{List}
 use lib.ListN.{getD, set}
-use Rattle.lean.specs.Table.{outputOf, firstOf}
+use Rattle.memory.specs.Map.{elementsAt, rootsAt}
+use Rattle.netlist.specs.Elements.{outputOf}
+use Rattle.lean.specs.Table.{firstOf}
 use Rattle.lean.proofs.KindLaws.{region-end}
 use Rattle.lean.proofs.TableLaws.{within-none, Starting, starting-low, starting-next}
 use Rattle.lean.proofs.table.start.Statement.{statement}
 use Rattle.lean.proofs.table.start.Tie as tie
 
 abbrev Inv-loop : tie.InvT-loop
-Inv-loop work₀ elements at₀ i₀ work at i = (i ≤ elements) × Starting work₀ elements work at i
+Inv-loop work₀ elements n₀ i₀ work n i = (i ≤ elements) × Starting work₀ elements work n i
 
 abbrev μ-loop : tie.MeasureT-loop
-μ-loop work₀ elements at₀ i₀ work at i = elements - i
+μ-loop work₀ elements n₀ i₀ work n i = elements - i
 
 loop-holds : tie.Need-loop-holds Inv-loop μ-loop
 loop-holds c = (omega arith, record { within = within-none _; end = refl; whole = refl })
@@ -27,18 +29,18 @@ start-one-requires c κs =
     let l = c .before .before .before .loop in
     let s = c .before .before .before .before .before in
     let z = l .inv .1 .within .size in
-    (omega arith, starting-low (s .args .work .now) (l .work) (s .args .elements) (l .at) (l .i) (s .pre .0) (s .pre .1 .0) (s .pre .1 .1) (c .before .before .loop-test .taken) (l .inv .1))
+    (omega arith, starting-low (s .args .work .now) (l .work) (s .args .elements) (l .n) (l .i) (s .pre .0) (s .pre .1 .0) (s .pre .1 .1) (c .before .before .loop-test .taken) (l .inv .1))
 
 loop-again : tie.Need-loop-again Inv-loop μ-loop
 loop-again c =
     let r = c .before .before in
     let l = r .before .before .before .before .loop in
     let s = r .before .before .before .before .before .before in
-    let k = getD (l .work) (13824 + l .i) 0 in
-    let n = starting-next (s .args .work .now) (l .work) (s .args .elements) (l .at) (l .i) (s .pre .0) (s .pre .1 .0) (s .pre .1 .1) (r .before .before .before .loop-test .taken) (l .inv .1) in (
+    let k = getD (l .work) (elementsAt + l .i) 0 in
+    let n = starting-next (s .args .work .now) (l .work) (s .args .elements) (l .n) (l .i) (s .pre .0) (s .pre .1 .0) (s .pre .1 .1) (r .before .before .before .loop-test .taken) (l .inv .1) in (
       omega arith,
       subst (λ (x : List ℕ). Starting (s .args .work .now) (s .args .elements) x (r .start-one .result) (l .i + 1)) (sym (r .start-one .ensures .1))
-          (subst (λ (x : ℕ). Starting (s .args .work .now) (s .args .elements) (set (l .work) (19072 + outputOf k (l .at)) (firstOf (l .work) k (l .at))) x (l .i + 1)) (sym (r .start-one .ensures .0)) n),
+          (subst (λ (x : ℕ). Starting (s .args .work .now) (s .args .elements) (set (l .work) (rootsAt + outputOf k (l .n)) (firstOf (l .work) k (l .n))) x (l .i + 1)) (sym (r .start-one .ensures .0)) n),
     )
 
 same-length : tie.Need-same-length Inv-loop μ-loop
@@ -48,7 +50,7 @@ returns : tie.Need-returns Inv-loop μ-loop
 returns c =
     let l = c .before .loop in
     let s = c .before .before .before in
-    let e = region-end (s .args .work .now) 13824 (s .args .elements) (l .i) (omega arith) (omega arith) in
+    let e = region-end (s .args .work .now) elementsAt (s .args .elements) (l .i) (omega arith) (omega arith) in
     (rw e at (l .inv .1 .end), rw e at (l .inv .1 .whole))
 
 pub start-spec : {M : Type 1} → statement M

@@ -13,37 +13,37 @@ use Rattle.lean.proofs.write.put_input.Lts as lts
 
 returns : tie.Need-returns
 returns c =
-    let a = c .before .before .before .before .args in
-    rw (input-none (a .work .now) (a .i) (c .if1 .taken)) (omega arith, refl)
+    let a = c .before .before .before .before .before .args in
+    rw (input-none (a .work .now) (a .i .0) (c .if1 .taken)) (omega arith, refl)
 
 -- the driver is below 8,192
-driver-low : (c : lts.Else1 (put-wire-reads.Asked, put-wire-reads.Learnt) reads.Pre reads.Post) → let a = c .before .before .before .before .args in getD (a .work .now) (a .i) 0 < 8192
-driver-low c = let s = c .before .before .before .before in s .pre .driven .low (s .args .i) (s .pre .low) (c .if1 .left)
+driver-low : (c : lts.Else1 (put-wire-reads.Asked, put-wire-reads.Learnt) reads.Pre reads.Post) → let a = c .before .before .before .before .before .args in getD (a .work .now) (a .i .0) 0 < 8192
+driver-low c = let s = c .before .before .before .before .before in s .pre .driven .low (s .args .i .0) (s .pre .low) (c .if1 .left)
 
 cast-t6 : tie.Need-cast-t6
 cast-t6 c = let h = driver-low (c .before) in omega arith
 
-add-t12 : tie.Need-add-t12
-add-t12 c = let h = driver-low (c .before) in omega arith
+add-t7 : tie.Need-add-t7
+add-t7 c = let h = driver-low (c .before) in omega arith
 
 mul-t13 : tie.Need-mul-t13
 mul-t13 c = let h = driver-low (c .before) in omega arith
 
-shared-slice-read-t8 : tie.Need-shared-slice-read-t8
-shared-slice-read-t8 c = let h = driver-low (c .before .before) in let z = c .before .before .before .before .before .before .pre .driven .size in omega arith
+shared-slice-read-t9 : tie.Need-shared-slice-read-t9
+shared-slice-read-t9 c = let h = driver-low (c .before .before) in let z = c .before .before .before .before .before .before .before .pre .driven .size in omega arith
 
 put-wire-requires : tie.Need-put-wire-requires
 put-wire-requires c κs =
     let e = c .before .before in
-    let s = e .before .before .before .before in
-    rw (input-driven (s .args .work .now) (s .args .i) (e .if1 .left)) at (s .pre .target)
+    let s = e .before .before .before .before .before in
+    rw (input-driven (s .args .work .now) (s .args .i .0) (e .if1 .left)) at (s .pre .target)
 
 returns-2 : tie.Need-returns-2
 returns-2 c =
     let p = c .before .before in
     let e = p .before .before .before in
-    let a = e .before .before .before .before .args in
-    rw (input-driven (a .work .now) (a .i) (e .if1 .left)) (p .put-wire .ensures)
+    let a = e .before .before .before .before .before .args in
+    rw (input-driven (a .work .now) (a .i .0) (e .if1 .left)) (p .put-wire .ensures)
 
 pub put-input-spec : {M : Type 1} → statement M
 put-input-spec =
@@ -51,12 +51,12 @@ put-input-spec =
     (tie.spec
     (λ c. search needs)
     (λ c. search needs)
+    (λ c. search needs)
     returns
     cast-t6
-    add-t12
+    add-t7
     mul-t13
-    shared-slice-read-t8
-    (λ c. search needs)
+    shared-slice-read-t9
     put-wire-requires
     (λ c. search needs)
     returns-2)

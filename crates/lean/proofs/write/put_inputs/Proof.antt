@@ -25,8 +25,8 @@ loop-holds c =
           (sym (inputs-start (a .work .now) (a .count) (a .first))) (writing-start (a .out .now) (a .from) _),
     )
 
-add-put-input : tie.Need-add-put-input Inv-loop μ-loop
-add-put-input c = let h = c .before .before .before .before .pre .low in omega arith
+add-t9 : tie.Need-add-t9 Inv-loop μ-loop
+add-t9 c = let h = c .before .before .before .before .pre .low in omega arith
 
 put-input-requires : tie.Need-put-input-requires Inv-loop μ-loop
 put-input-requires c κs =
@@ -71,7 +71,7 @@ put-inputs-spec =
     Inv-loop
     μ-loop
     loop-holds
-    add-put-input
+    add-t9
     put-input-requires
     (λ c. omega arith)
     (λ c. omega arith)

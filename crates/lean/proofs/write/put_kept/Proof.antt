@@ -2,16 +2,10 @@
 use borrow.Author.Needs.{needs}
 use native.Mathlib.Omega.{arith}
 use mathlib.Core.Path.{refl, sym, _∙_}
-use Rattle.lean.proofs.KindLaws.{point-low, part-low}
+use Rattle.lean.proofs.KindLaws.{point-low}
 use Rattle.lean.proofs.RowLaws.{kept-part, kept-point, kept-gone}
 use Rattle.lean.proofs.write.put_kept.Statement.{statement}
 use Rattle.lean.proofs.write.put_kept.Tie as tie
-
-cast-put-part-2 : tie.Need-cast-put-part-2
-cast-put-part-2 c =
-    let s = c .before .before .before .before in
-    let h = part-low (s .args .kind) (s .args .n) 8192 (c .before .if1 .taken) (s .pre .low) in
-    omega arith
 
 put-part-requires : tie.Need-put-part-requires
 put-part-requires c κs =
@@ -27,13 +21,6 @@ returns c =
 
 is-kept-requires : tie.Need-is-kept-requires
 is-kept-requires c κs = let s = c .before .before .before in (s .pre .driven .size, point-low (s .args .kind) (s .args .n) 8192 (c .if1 .left) (s .pre .low))
-
-cast-t14 : tie.Need-cast-t14
-cast-t14 c =
-    let e = c .before .before .before in
-    let s = e .before .before .before in
-    let h = point-low (s .args .kind) (s .args .n) 8192 (e .if1 .left) (s .pre .low) in
-    omega arith
 
 put-point-requires : tie.Need-put-point-requires
 put-point-requires c κs =
@@ -60,12 +47,10 @@ put-kept-spec =
     tie.close
     (tie.spec
     (λ c. search needs)
-    cast-put-part-2
     put-part-requires
     (λ c. search needs)
     returns
     is-kept-requires
-    cast-t14
     put-point-requires
     (λ c. search needs)
     returns-2

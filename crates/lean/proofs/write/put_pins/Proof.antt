@@ -4,7 +4,7 @@ use mathlib.Core.List.{List, [], _∷_}
 use Prim.Native.Nat.{ℕ, _≤_, _-_, _+_}
 use lib.ListN.{length, getD, drop}
 use Rattle.calculus.specs.Net.{pinBytes}
-use Rattle.memory.specs.Map.{region, terminalOf}
+use Rattle.memory.specs.Map.{stackAt, memorySize, region, terminalOf}
 use Rattle.lean.specs.InMemory.{pinIn, pinRow}
 use Rattle.lean.proofs.RowLaws.{Writing, writing-start, writing-fits, writing-step, writing-end, pins-first, pins-end}
 use Rattle.lean.proofs.write.put_pins.Statement.{statement}
@@ -12,12 +12,12 @@ use Rattle.lean.proofs.write.put_pins.Tie as tie
 
 abbrev Inv-loop : tie.InvT-loop
 Inv-loop work pins out₀ from at₀ i₀ out at i =
-    (i ≤ pins) × Writing out₀ from (pinRow work (region work 18944 pins)) out at (pinRow work (drop i (region work 18944 pins)))
+    (i ≤ pins) × Writing out₀ from (pinRow work (region work stackAt pins)) out at (pinRow work (drop i (region work stackAt pins)))
 
 abbrev μ-loop : tie.MeasureT-loop
 μ-loop work pins out₀ from at₀ i₀ out at i = pins - i
 
-fits : (w : List ℕ) (pins : ℕ) → 32768 ≤ length w → pins ≤ 128 → 18944 + pins ≤ length w
+fits : (w : List ℕ) (pins : ℕ) → memorySize ≤ length w → pins ≤ 128 → stackAt + pins ≤ length w
 fits w pins a b = omega arith
 
 loop-holds : tie.Need-loop-holds Inv-loop μ-loop
@@ -40,7 +40,7 @@ put-pin-requires c κs =
     let a = s .args in
     let w = a .work .now in
     rw (l .inv .1 .size)
-    (writing-fits (a .out .now) (a .from) _ (l .out) (l .at) _ (pinBytes (pinIn w (terminalOf (getD w (18944 + l .i) 0)) ∷ [])) (pinRow w (drop (l .i + 1) (region w 18944 (a .pins)))) (l .inv .1)
+    (writing-fits (a .out .now) (a .from) _ (l .out) (l .at) _ (pinBytes (pinIn w (terminalOf (getD w (stackAt + l .i) 0)) ∷ [])) (pinRow w (drop (l .i + 1) (region w stackAt (a .pins)))) (l .inv .1)
     (pins-first w (a .pins) (l .i) (fits w (a .pins) (s .pre .size) (s .pre .few)) (b .loop-test .taken)) (length (a .out .now)) (s .pre .target))
 
 loop-again : tie.Need-loop-again Inv-loop μ-loop
@@ -53,7 +53,7 @@ loop-again c =
     let a = s .args in
     let w = a .work .now in (
       omega arith,
-      writing-step (a .out .now) (a .from) _ (l .out) (l .at) _ (pinBytes (pinIn w (terminalOf (getD w (18944 + l .i) 0)) ∷ [])) (pinRow w (drop (l .i + 1) (region w 18944 (a .pins)))) (l .inv .1)
+      writing-step (a .out .now) (a .from) _ (l .out) (l .at) _ (pinBytes (pinIn w (terminalOf (getD w (stackAt + l .i) 0)) ∷ [])) (pinRow w (drop (l .i + 1) (region w stackAt (a .pins)))) (l .inv .1)
           (pins-first w (a .pins) (l .i) (fits w (a .pins) (s .pre .size) (s .pre .few)) (b .loop-test .taken)) _ _ (p .put-pin .ensures .0) (rw (← t .lean-pin .ensures) (p .put-pin .ensures .1)),
     )
 

@@ -2,6 +2,7 @@
 use borrow.Author.Needs.{needs}
 use native.Mathlib.Omega.{arith}
 use mathlib.Core.Path.{refl, sym, _∙_}
+use Rattle.netlist.proofs.PartInputs.{part-inputs}
 use Rattle.lean.proofs.KindLaws.{point-low, part-low}
 use Rattle.lean.proofs.RowLaws.{wire-part, wire-gone, wire-pin, wire-point}
 use Rattle.lean.proofs.write.put_to.Statement.{statement}
@@ -9,10 +10,10 @@ use Rattle.lean.proofs.write.put_to.Tie as tie
 
 put-inputs-requires : tie.Need-put-inputs-requires
 put-inputs-requires c κs =
-    let b = c .before in
+    let b = c .before .before in
     let s = b .before .before .before .before in
     let a = s .args in
-    let e = b .inputs-of .ensures in
+    let e = part-inputs (b .part-of .result) (a .kind) (b .part-of .ensures) in
     let h = part-low (a .kind) (a .n) 8192 (b .before .if1 .taken) (s .pre .low) in
     record {
       driven = s .pre .driven;
@@ -23,9 +24,9 @@ put-inputs-requires c κs =
 returns : tie.Need-returns
 returns c =
     let p = c .before .before in
-    let b = p .before .before in
+    let b = p .before .before .before in
     let a = b .before .before .before .before .args in
-    rw (wire-part (a .work .now) (a .kind) (a .n) (b .before .if1 .taken), ← b .inputs-of .ensures) (p .put-inputs .ensures)
+    rw (wire-part (a .work .now) (a .kind) (a .n) (b .before .if1 .taken), ← part-inputs (b .part-of .result) (a .kind) (b .part-of .ensures)) (p .put-inputs .ensures)
 
 -- a point's terminals are below 8,192
 mul-if2 : tie.Need-mul-if2
@@ -48,22 +49,8 @@ is-kept-requires c κs =
     let s = c .before .before .before .before .before in
     (s .pre .driven .size, point-low (s .args .kind) (s .args .n) 8192 (c .before .before .if1 .left) (s .pre .low))
 
-add-t16 : tie.Need-add-t16
-add-t16 c =
-    let k = c .before .before in
-    let s = k .before .before .before .before .before .before in
-    let h = point-low (s .args .kind) (s .args .n) 8192 (k .before .before .before .if1 .left) (s .pre .low) in
-    omega arith
-
-cast-t17 : tie.Need-cast-t17
-cast-t17 c =
-    let k = c .before .before in
-    let s = k .before .before .before .before .before .before in
-    let h = point-low (s .args .kind) (s .args .n) 8192 (k .before .before .before .if1 .left) (s .pre .low) in
-    omega arith
-
-cast-t19 : tie.Need-cast-t19
-cast-t19 c =
+add-t19 : tie.Need-add-t19
+add-t19 c =
     let k = c .before .before in
     let s = k .before .before .before .before .before .before in
     let h = point-low (s .args .kind) (s .args .n) 8192 (k .before .before .before .if1 .left) (s .pre .low) in
@@ -94,6 +81,7 @@ put-to-spec =
     tie.close
     (tie.spec
     (λ c κs. search needs)
+    (λ c. search needs)
     put-inputs-requires
     (λ c. search needs)
     returns
@@ -101,9 +89,7 @@ put-to-spec =
     shared-slice-read-if2
     returns-2
     is-kept-requires
-    add-t16
-    cast-t17
-    cast-t19
+    add-t19
     put-wire-requires
     (λ c. search needs)
     returns-3

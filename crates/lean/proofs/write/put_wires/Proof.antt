@@ -1,7 +1,11 @@
 -- The invariant: what is written and the records that are still to come make the whole. Assumes nothing.
 use native.Mathlib.Omega.{arith}
-use Prim.Native.Nat.{_≤_, _-_}
+use native.Mathlib.Nat.{le-of-lt}
+use Prim.Native.Nat.{_≤_, _-_, _+_}
+use lib.ListN.{getD}
+use Rattle.memory.specs.Map.{elementsAt}
 use Rattle.lean.specs.InMemory.{wireRow}
+use Rattle.lean.proofs.KindLaws.{first-low}
 use Rattle.lean.proofs.RowLaws.{wire-rows, Row, row-size, row-start, row-one, row-step, row-end}
 use Rattle.lean.proofs.write.put_wires.Statement.{statement}
 use Rattle.lean.proofs.write.put_wires.Tie as tie
@@ -28,7 +32,8 @@ next-after-requires : tie.Need-next-after-requires Inv-loop μ-loop
 next-after-requires c κs =
     let b = c .before .before .before .before .before in
     let s = b .before .before .before .before in
-    row-one (wire-rows (s .args .work .now)) (s .args .out .now) (s .pre) (b .before .loop .inv .1) (b .loop-test .taken) .low
+    let l = b .before .loop in
+    le-of-lt (first-low (getD (s .args .work .now) (elementsAt + l .i) 0) (l .n) 8192 (row-one (wire-rows (s .args .work .now)) (s .args .out .now) (s .pre) (l .inv .1) (b .loop-test .taken) .low))
 
 loop-again : tie.Need-loop-again Inv-loop μ-loop
 loop-again c =

@@ -1,13 +1,17 @@
--- `wiring::walk::finish` meets its contract: by the kind. Assumes nothing.
+-- `wiring::finish` meets its contract: by the rule. Assumes nothing.
 use native.Mathlib.Omega.{arith}
 use mathlib.Core.Path.{ap}
 use mathlib.Core.Logic.{inl}
-use borrow.Author.Tests.{eq-eqb, ne-eqb}
+use Rattle.records.specs.Rules.{isPair, isProjection}
 use Rattle.wiring.specs.declared.faces.Sides.{Sides}
 use Rattle.wiring.specs.Asks.{finished, finishedIn}
+use Rattle.wiring.proofs.FinishLaws.{application}
 use borrow.Author.Needs.{needs}
 use Rattle.wiring.proofs.walk.finish.Statement.{statement}
 use Rattle.wiring.proofs.walk.finish.Tie as tie
+
+enum-told : tie.Need-enum-told
+enum-told c = search needs
 
 add-copy : tie.Need-add-copy
 add-copy c = search needs
@@ -19,21 +23,13 @@ add-copy-3 : tie.Need-add-copy-3
 add-copy-3 c = search needs
 
 copy-requires : tie.Need-copy-requires
-copy-requires c κs =
-    let p = c .before .before .before .before .before .pre in
-    (omega (arith, p .height, p .memory), omega (arith, p .height, p .memory), inl (omega arith))
+copy-requires c κs = (omega (arith, c .before .before .before .before .before .pre .height, c .before .before .before .before .before .pre .memory), omega (arith, c .before .before .before .before .before .pre .height, c .before .before .before .before .before .pre .memory), inl (omega arith))
 
 shown-as-requires : tie.Need-shown-as-requires
 shown-as-requires c κs = search needs
 
-same-length : tie.Need-same-length
-same-length c = search needs
-
-returns : tie.Need-returns
-unfolding finished finishedIn
-returns c =
-    let e = eq-eqb _ _ (c .before .before .before .before .before .if1 .taken) in
-    (rw e (c .shown-as .ensures), rw e (c .before .before .before .copy .ensures))
+enum-told-2 : tie.Need-enum-told-2
+enum-told-2 c = search needs
 
 add-shown-as : tie.Need-add-shown-as
 add-shown-as c = search needs
@@ -41,29 +37,22 @@ add-shown-as c = search needs
 shown-as-requires-2 : tie.Need-shown-as-requires-2
 shown-as-requires-2 c κs = search needs
 
-returns-2 : tie.Need-returns-2
-unfolding finished finishedIn
-returns-2 c =
-    let e = ne-eqb _ _ (c .before .before .before .if1 .left) in
-    let g = eq-eqb _ _ (c .before .if2 .taken) in
-    (rw (e, g) (c .shown-as2 .ensures), rw (e, g))
-
 add-apply : tie.Need-add-apply
 add-apply c = search needs
 
 apply-requires : tie.Need-apply-requires
 apply-requires c κs =
-    let p = c .before .before .before .before .before .before .before .pre in
-    let h = p .apart (c .before .before .before .if1 .left) (c .before .if2 .left) in
-    (h .0, omega (arith, p .height, p .memory), h .1)
+    let (e, g) = application (c .before .before .before .before .args .node .rule) (c .before .match .keys3) in
+    let h = c .before .before .before .before .pre .apart e g in
+    (h .0, omega (arith, c .before .before .before .before .pre .height, c .before .before .before .before .pre .memory), h .1)
 
 sides-at-requires : tie.Need-sides-at-requires
 sides-at-requires c κs = search needs
 
 sub-shown-as : tie.Need-sub-shown-as
 sub-shown-as c =
-    let p = c .before .before .before .before .before .before .before .before .before .before .before .pre in
-    p .apart (c .before .before .before .before .before .before .before .if1 .left) (c .before .before .before .before .before .if2 .left) .0
+    let (e, g) = application (c .before .before .before .before .before .before .before .before .args .node .rule) (c .before .before .before .before .before .match .keys3) in
+    c .before .before .before .before .before .before .before .before .pre .apart e g .0
 
 add-shown-as-2 : tie.Need-add-shown-as-2
 add-shown-as-2 c = search needs
@@ -71,35 +60,52 @@ add-shown-as-2 c = search needs
 shown-as-requires-3 : tie.Need-shown-as-requires-3
 shown-as-requires-3 c κs = search needs
 
+same-length : tie.Need-same-length
+same-length c = search needs
+
+returns : tie.Need-returns
+unfolding finished finishedIn
+returns c =
+    let e = ap isProjection (c .before .before .before .before .before .enum-told .given .1) in
+    (rw e (c .shown-as .ensures), rw e (c .before .before .before .copy .ensures))
+
+returns-2 : tie.Need-returns-2
+unfolding finished finishedIn
+returns-2 c =
+    let e = ap isProjection (c .before .enum-told2 .given .1) in
+    let g = ap isPair (c .before .enum-told2 .given .1) in
+    (rw (e, g) (c .shown-as2 .ensures), rw (e, g))
+
 same-length-2 : tie.Need-same-length-2
 same-length-2 c = search needs
 
 returns-3 : tie.Need-returns-3
 unfolding finished finishedIn
 returns-3 c =
-    let e = ne-eqb _ _ (c .before .before .before .before .before .before .before .before .if1 .left) in
-    let g = ne-eqb _ _ (c .before .before .before .before .before .before .if2 .left) in
+    let (e, g) = application (c .before .before .before .before .before .before .before .before .before .args .node .rule) (c .before .before .before .before .before .before .match .keys3) in
     (rw (e, g) (rw (ap (λ (x : Sides). x .right) (c .before .sides-at .ensures)) at (c .shown-as3 .ensures)), rw (e, g) (c .before .before .before .before .apply .ensures))
 
 pub finish-spec : {M : Type 1} → statement M
 finish-spec =
     tie.close
     (tie.spec
+    enum-told
     add-copy
     add-copy-2
     add-copy-3
     copy-requires
     shown-as-requires
-    same-length
-    returns
+    enum-told-2
     add-shown-as
     shown-as-requires-2
-    returns-2
     add-apply
     apply-requires
     sides-at-requires
     sub-shown-as
     add-shown-as-2
     shown-as-requires-3
+    same-length
+    returns
+    returns-2
     same-length-2
     returns-3)

@@ -1,0 +1,39 @@
+-- What a call answers, by what its stages found. Assumes nothing.
+use Prim.Native.Nat.{ℕ}
+use mathlib.Core.Path.{_≡_, refl}
+use mathlib.Core.Bool.{Bool, true, false}
+use mathlib.Core.List.{List}
+use lib.Dec.{leb}
+use lib.ListN.{length}
+use Rattle.calculus.specs.Answer.{Answer, good, refused, _>>=_, need}
+use Rattle.calculus.specs.Net.{Net}
+use Rattle.calculus.specs.Translate.{full, answer, asked, workOf, call}
+use Rattle.translator.specs.Made.{lent, Keeps}
+use Rattle.deltawobble.specs.Said.{netAnswer, Says, called}
+use Rattle.deltawobble.specs.declared.Answer as code
+use Rattle.deltawobble.specs.declared.Answer.the-variants as answer
+
+-- a call's answer is that of the netlist, once there is a full one
+need-first : (t : Bool) (a : Answer Net) (f : Net → Answer (List ℕ)) → (need t 1 0 >>= λ _. a >>= f) ≡ ((need t 1 0 >>= λ _. a) >>= f)
+need-first true a f = refl
+need-first false a f = refl
+
+answer-lent : (memory : ℕ) (b : Bool) (s : List ℕ) (room : ℕ) → answer memory b s room ≡ (lent memory s >>= λ m. netAnswer (asked b m) room)
+unfolding answer lent netAnswer
+answer-lent memory b s room = need-first (leb 32768 memory) (full s) (λ m. netAnswer (asked b m) room)
+
+module _ (b : Bool) (s out : List ℕ) (memory : ℕ) where
+  -- a refusal passes through
+  pub refused-says : (number place : ℕ) → refused number place ≡ lent memory s → Says (answer.Refused number place) out out (answer memory b s (length out))
+  refused-says number place e = rw (answer-lent memory b s (length out), ← e) (record { said = refl; wrote = refl })
+
+  -- a netlist that was written is the one asked for
+  pub net-says : (r : code.Answer) (after : List ℕ) (m : Net) → good m ≡ lent memory s → Says r out after (netAnswer (asked b m) (length out))
+      → Says r out after (answer memory b s (length out))
+  net-says r after m e h = rw (answer-lent memory b s (length out), ← e) h
+
+-- after the stages, the working memory is cleared
+pub call-run : (b : Bool) (s out work : List ℕ) (r : code.Answer) (after mid : List ℕ)
+    → Says r out after (answer (length work) b s (length out)) → Keeps work mid → called r after (workOf mid) ≡ call b s out work
+unfolding call
+call-run b s out work r after mid a k = rw (a .said, a .wrote, k)

@@ -1,0 +1,73 @@
+-- `deltawobble::run` meets its contract: what was made is written, and a refusal passes through. Assumes nothing.
+use mathlib.Core.Path.{_∙_}
+use Rattle.translator.proofs.Lent.{net-stands, net-lent, refusal-lent}
+use Rattle.deltawobble.proofs.CallLaws.{refused-says, net-says}
+use borrow.Author.Needs.{needs}
+use Rattle.deltawobble.proofs.run.Statement.{statement}
+use Rattle.deltawobble.proofs.run.Tie as tie
+
+-- src/lib.rt:28:11
+make-requires : tie.Need-make-requires
+make-requires c κs = search needs
+
+-- src/lib.rt:29:23
+enum-known-number : tie.Need-enum-known-number
+enum-known-number c = search needs
+
+-- src/lib.rt:30:19
+enum-known-counts : tie.Need-enum-known-counts
+enum-known-counts c = search needs
+
+-- src/lib.rt:30:30
+write-requires : tie.Need-write-requires
+write-requires c κs =
+    let v = c .before .before .before in
+    let m = v .before .before .before .before in
+    let a = m .before .before .before .before .before .args in
+    net-stands (m .make .result) (a .sheet .now) (a .work .now) _ (m .make .ensures) _ (v .counts .given .1)
+
+-- src/lib.rt:24:1
+same-length : tie.Need-same-length
+same-length c = search needs
+
+-- src/lib.rt:24:1
+returns : tie.Need-returns
+returns c =
+    let m = c .before .before .before .before .before in
+    let a = m .before .before .before .before .before .args in (
+      refused-says (a .wish .lean) (a .sheet .now) (a .out .now) _ _ _ (refusal-lent (m .make .result) (a .sheet .now) (a .work .now) _ (m .make .ensures) _ _ (c .before .number .given .1)),
+      m .make .ensures .keeps,
+    )
+
+-- src/lib.rt:24:1
+same-length-2 : tie.Need-same-length-2
+same-length-2 c = search needs
+
+-- src/lib.rt:24:1
+same-length-3 : tie.Need-same-length-3
+same-length-3 c = search needs
+
+-- src/lib.rt:24:1
+returns-2 : tie.Need-returns-2
+returns-2 c =
+    let w = c .before .before .before .before in
+    let v = w .before .before .before .before in
+    let m = v .before .before .before .before in
+    let a = m .before .before .before .before .before .args in (
+      net-says (a .wish .lean) (a .sheet .now) (a .out .now) _ (w .write .result) _ _ (net-lent (m .make .result) (a .sheet .now) (a .work .now) _ (m .make .ensures) _ (v .counts .given .1)) (w .write .ensures .0),
+      w .write .ensures .1 ∙ m .make .ensures .keeps,
+    )
+
+pub run-spec : {M : Type 1} → statement M
+run-spec =
+    tie.close
+    (tie.spec
+    make-requires
+    enum-known-number
+    enum-known-counts
+    write-requires
+    same-length
+    returns
+    same-length-2
+    same-length-3
+    returns-2)

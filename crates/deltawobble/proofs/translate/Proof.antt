@@ -1,0 +1,35 @@
+-- `deltawobble::translate` meets its contract: after the stages the working memory is cleared. Assumes nothing.
+use mathlib.Core.Path.{_∙_, ap}
+use Rattle.deltawobble.specs.Said.{called}
+use Rattle.deltawobble.proofs.CallLaws.{call-run}
+use borrow.Author.Needs.{needs}
+use Rattle.deltawobble.proofs.translate.Statement.{statement}
+use Rattle.deltawobble.proofs.translate.Tie as tie
+
+-- src/lib.rt:39:9
+run-requires : tie.Need-run-requires
+run-requires c κs = search needs
+
+-- src/lib.rt:40:5
+clear-requires : tie.Need-clear-requires
+clear-requires c κs = search needs
+
+-- src/lib.rt:36:1
+same-length : tie.Need-same-length
+same-length c = search needs
+
+-- src/lib.rt:36:1
+same-length-2 : tie.Need-same-length-2
+same-length-2 c = search needs
+
+-- src/lib.rt:36:1
+returns : tie.Need-returns
+returns c =
+    let k = c .before .before in
+    let r = k .before .before .before .before .before .before in
+    let a = r .before .before .before .before .before .before .args in
+    ap (called (r .run .result) (r .run .last .1 .0)) (k .clear .ensures)
+    ∙ call-run (a .wish .lean) (a .sheet .now) (a .out .now) (a .work .now) (r .run .result) (r .run .last .1 .0) _ (r .run .ensures .0) (r .run .ensures .1)
+
+pub translate-spec : {M : Type 1} → statement M
+translate-spec = tie.close (tie.spec run-requires clear-requires same-length same-length-2 returns)

@@ -1,0 +1,40 @@
+-- `deltawobble::write::write_full` meets its contract: the length needed is known before the first byte is written. Assumes nothing.
+use mathlib.Core.Path.{subst}
+use Prim.Native.Nat.{ℕ, _≤_}
+use lib.ListN.{length}
+use Rattle.memory.specs.Map.{netIn}
+use Rattle.deltawobble.proofs.WriteLaws.{says-short, says-fits}
+use borrow.Author.Needs.{needs}
+use Rattle.deltawobble.proofs.write.write_full.Statement.{statement}
+use Rattle.deltawobble.proofs.write.write_full.Tie as tie
+
+-- src/write.rt:16:9
+full-length-requires : tie.Need-full-length-requires
+full-length-requires c κs = search needs
+
+-- src/write.rt:18:9
+returns : tie.Need-returns
+returns c =
+    let a = c .before .before .before .before .args in
+    says-short (netIn (a .work .now) (a .elements) (a .wires) (a .pins)) (a .out .now) (c .before .full-length .result) (c .before .full-length .ensures) (c .if1 .taken)
+
+-- src/write.rt:20:21
+write-full-requires : tie.Need-write-full-requires
+write-full-requires c κs = search needs
+
+-- src/write.rt:12:1
+same-length : tie.Need-same-length
+same-length c = search needs
+
+-- src/write.rt:12:1
+returns-2 : tie.Need-returns-2
+returns-2 c =
+    let w = c .before .before in
+    let x = w .before .before in
+    let a = x .before .before .before .before .args in
+    says-fits (netIn (a .work .now) (a .elements) (a .wires) (a .pins)) (a .out .now) (w .write-full .result) (w .write-full .last .1 .0)
+    (subst (λ (n : ℕ). n ≤ length (a .out .now)) (x .before .full-length .ensures) (x .if1 .left)) (w .write-full .ensures .0) (w .write-full .ensures .1)
+
+pub write-full-spec : {M : Type 1} → statement M
+write-full-spec =
+    tie.close (tie.spec full-length-requires returns write-full-requires same-length returns-2)

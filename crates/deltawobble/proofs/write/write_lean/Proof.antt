@@ -1,0 +1,96 @@
+-- `deltawobble::write::write_lean` meets its contract: the roots are found, which changes nothing else, and then the length needed is known
+-- before the first byte is written. Assumes nothing.
+use mathlib.Core.Path.{_≡_, sym, ap, subst, _∙_}
+use Prim.Native.Nat.{ℕ, _≤_}
+use lib.ListN.{length}
+use lib.Seq.{sets}
+use mathlib.Core.List.{List}
+use Rattle.calculus.specs.Net.{Net, netBytes}
+use Rattle.calculus.specs.Lean.{lean}
+use Rattle.calculus.specs.Record.{All}
+use Rattle.memory.specs.Map.{netIn}
+use Rattle.calculus.specs.NetRead.{Known}
+use Rattle.deltawobble.proofs.WriteLaws.{says-short, says-fits, within-keeps}
+use borrow.Author.Needs.{needs}
+use Rattle.deltawobble.proofs.write.write_lean.Statement.{statement}
+use Rattle.deltawobble.proofs.write.write_lean.Tie as tie
+
+-- src/write.rt:29:5
+roots-requires : tie.Need-roots-requires
+roots-requires c κs = search needs
+
+-- src/write.rt:30:9
+lean-length-requires : tie.Need-lean-length-requires
+lean-length-requires c κs = search needs
+
+-- src/write.rt:32:9
+same-length : tie.Need-same-length
+same-length c = search needs
+
+-- src/write.rt:32:9
+returns : tie.Need-returns
+returns c =
+    let l = c .before in
+    let r = l .before .before .before .before in
+    let q = c .before .before .before .before .before .before .before .before .before in
+    let a = q .args in
+    let w = r .roots .ensures in (
+      says-short (lean (netIn (a .work .now) (a .elements) (a .wires) (a .pins))) (a .out .now) (l .lean-length .result)
+          (l .lean-length .ensures ∙ ap (λ (m : Net). length (netBytes (lean m))) (w .net)) (c .if1 .taken),
+      within-keeps _ _ (q .pre .0 .size) (w .within),
+    )
+
+-- src/write.rt:34:21
+write-lean-requires : tie.Need-write-lean-requires
+write-lean-requires c κs =
+    let x = c .before .before in
+    let l = x .before in
+    let r = l .before .before .before .before in
+    let a = x .before .before .before .before .before .before .before .before .before .args in
+    let p = x .before .before .before .before .before .before .before .before .before .pre in
+    let w = r .roots .ensures in
+    record {
+      whole = w .whole;
+      known = subst (λ (m : Net). All Known (m .elements)) (sym (w .net)) (p .1);
+      target = subst (λ (n : ℕ). n ≤ length (a .out .now)) (l .lean-length .ensures) (x .if1 .left);
+    }
+
+-- src/write.rt:24:1
+same-length-2 : tie.Need-same-length-2
+same-length-2 c = search needs
+
+-- src/write.rt:24:1
+same-length-3 : tie.Need-same-length-3
+same-length-3 c = search needs
+
+-- src/write.rt:24:1
+returns-2 : tie.Need-returns-2
+returns-2 c =
+    let k = c .before .before in
+    let x = k .before .before .before in
+    let l = x .before in
+    let r = l .before .before .before .before in
+    let q = x .before .before .before .before .before .before .before .before .before in
+    let a = q .args in
+    let w = r .roots .ensures in
+    let n : netIn (r .roots .last .0) (a .elements) (a .wires) (a .pins) ≡ netIn (a .work .now) (a .elements) (a .wires) (a .pins) = w .net in
+    let e = ap (λ (m : Net). netBytes (lean m)) n in (
+      says-fits (lean (netIn (a .work .now) (a .elements) (a .wires) (a .pins))) (a .out .now) (k .write-lean .result) (k .write-lean .last .1 .0)
+          (subst (λ (n : ℕ). n ≤ length (a .out .now)) (l .lean-length .ensures ∙ ap length e) (x .if1 .left))
+          (k .write-lean .ensures .0 ∙ ap length e)
+          (k .write-lean .ensures .1 ∙ ap (λ (b : List ℕ). sets (a .out .now) 0 b) e),
+      within-keeps _ _ (q .pre .0 .size) (w .within),
+    )
+
+pub write-lean-spec : {M : Type 1} → statement M
+write-lean-spec =
+    tie.close
+    (tie.spec
+    roots-requires
+    lean-length-requires
+    same-length
+    returns
+    write-lean-requires
+    same-length-2
+    same-length-3
+    returns-2)

@@ -1,0 +1,31 @@
+-- What a call answers and leaves, in the terms of the definitions. Assumes nothing.
+use Prim.Native.Nat.{ℕ}
+use mathlib.Core.Path.{_≡_}
+use mathlib.Core.List.{List}
+use lib.Dec.{leb}
+use lib.ListN.{length}
+use Rattle.calculus.specs.Answer.{Answer, good, refused, _>>=_, need}
+use Rattle.calculus.specs.Net.{Net, netBytes}
+use Rattle.calculus.specs.Translate.{saidOf, outOf, Call}
+use Rattle.deltawobble.specs.declared.Answer as code
+use Rattle.deltawobble.specs.declared.Answer.the-variants as answer
+
+-- number and place, or the number of bytes written
+abbrev pub saidAnswer : code.Answer → Answer ℕ
+saidAnswer (answer.Written n) = good n
+saidAnswer (answer.Refused number place) = refused number place
+
+-- a netlist's bytes, or 17
+unfoldable pub netAnswer : Net → ℕ → Answer (List ℕ)
+netAnswer m room = do
+  _ ← need (leb (length (netBytes m)) room) 17 (length (netBytes m))
+  good (netBytes m)
+
+-- an answer and what it leaves of the output are those of `a`
+pub record Says (r : code.Answer) (before after : List ℕ) (a : Answer (List ℕ)) : Type 0 where
+  pub said : saidAnswer r ≡ saidOf a
+  pub wrote : after ≡ outOf a before
+
+-- what a call leaves
+abbrev pub called : code.Answer → List ℕ → List ℕ → Call
+called r out work = record { said = saidAnswer r; out = out; work = work }

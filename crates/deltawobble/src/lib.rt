@@ -1,0 +1,42 @@
+// The public calls. Each makes the netlist in the working memory, goes on from there, and clears.
+mod boundary;
+mod write;
+
+use translator::Made;
+ghost use mathlib.Core.Path.{_≡_};
+ghost use lib.ListN.{length};
+ghost use Rattle.calculus.specs.Translate.{answer, call};
+ghost use Rattle.translator.specs.Made.{Keeps};
+ghost use Rattle.deltawobble.specs.Said.{Says, called};
+
+// What a caller wishes: the lean netlist or the full one.
+pub struct Wish {
+    pub lean: bool,
+}
+
+// The number of bytes written, or a refusal's number and place.
+pub enum Answer {
+    Written(usize),
+    Refused(u8, usize),
+}
+
+// The netlist is made and written. The working memory is not yet cleared.
+fn run(sheet: &[u8], out: &mut [u8], work: &mut [u16], wish: Wish) -> Answer
+    ensures { λ r. ⌜ (Says r (now (out .entry)) (now (out .exit)) (answer (length (now (work .entry))) (wish .lean) (now (sheet .entry)) (length (now (out .entry)))))
+        × (Keeps (now (work .entry)) (now (work .exit))) ⌝ }
+{
+    match translator::make(sheet, work) {
+        Made::Refused(number, place) => Answer::Refused(number, place),
+        Made::Net(counts) => write::write(work, out, counts, wish),
+    }
+}
+
+// The netlist of a sheet, the full one or the lean one, is written to the start of the output; or the sheet is refused, and the output
+// stays. The first 32,768 numbers of the working memory are 0 afterwards; where it has fewer, that is refusal 1, and it stays too.
+pub fn translate(sheet: &[u8], out: &mut [u8], work: &mut [u16], wish: Wish) -> Answer
+    ensures { λ r. ⌜ called r (now (out .exit)) (now (work .exit)) ≡ call (wish .lean) (now (sheet .entry)) (now (out .entry)) (now (work .entry)) ⌝ }
+{
+    let r = run(sheet, out, work, wish);
+    translator::clear(work);
+    r
+}

@@ -1,0 +1,61 @@
+// The netlist that stands in the working memory is written, where it fits.
+use crate::Answer;
+use crate::Wish;
+use wiring::Counts;
+ghost use lib.ListN.{length};
+ghost use Rattle.calculus.specs.Lean.{lean};
+ghost use Rattle.calculus.specs.Record.{All};
+ghost use Rattle.calculus.specs.Translate.{asked};
+ghost use Rattle.memory.specs.Map.{netIn, Ready};
+ghost use Rattle.calculus.specs.NetRead.{Known};
+ghost use Rattle.translator.specs.Made.{Keeps};
+ghost use Rattle.deltawobble.specs.Said.{Says, netAnswer};
+
+// The full netlist; 17 with the length needed where the output is shorter.
+fn write_full(work: &[u16], out: &mut [u8], elements: usize, wires: usize, pins: usize) -> Answer
+    requires { ⌜ (Ready (now work) elements wires pins) × (All Known (netIn (now work) elements wires pins .elements)) ⌝ }
+    ensures { λ r. ⌜ Says r (now (out .entry)) (now (out .exit)) (netAnswer (netIn (now (work .entry)) elements wires pins) (length (now (out .entry)))) ⌝ }
+{
+    let n = netlist::full_length(work, elements, wires, pins);
+    if out.len() < n {
+        return Answer::Refused(17, n);
+    }
+    let length = netlist::write_full(work, out, elements, wires, pins);
+    Answer::Written(length)
+}
+
+// The lean netlist, likewise.
+fn write_lean(
+    work: &mut [u16],
+    out: &mut [u8],
+    elements: usize,
+    wires: usize,
+    pins: usize,
+) -> Answer
+    requires { ⌜ (Ready (now work) elements wires pins) × (All Known (netIn (now work) elements wires pins .elements)) ⌝ }
+    ensures { λ r. ⌜ (Says r (now (out .entry)) (now (out .exit)) (netAnswer (lean (netIn (now (work .entry)) elements wires pins)) (length (now (out .entry)))))
+        × (Keeps (now (work .entry)) (now (work .exit))) ⌝ }
+{
+    lean::roots(work, elements, wires, pins);
+    let n = lean::lean_length(&work[..], elements, wires, pins);
+    if out.len() < n {
+        return Answer::Refused(17, n);
+    }
+    let written = lean::write_lean(&work[..], out, elements, wires, pins);
+    Answer::Written(written)
+}
+
+// The one that is wished.
+pub fn write(work: &mut [u16], out: &mut [u8], counts: Counts, wish: Wish) -> Answer
+    requires { ⌜ (Ready (now work) (counts .elements) (counts .wires) (counts .pins)) × (All Known (netIn (now work) (counts .elements) (counts .wires) (counts .pins) .elements)) ⌝ }
+    ensures { λ r. ⌜ (Says r (now (out .entry)) (now (out .exit)) (netAnswer (asked (wish .lean) (netIn (now (work .entry)) (counts .elements) (counts .wires) (counts .pins))) (length (now (out .entry)))))
+        × (Keeps (now (work .entry)) (now (work .exit))) ⌝ }
+{
+    let elements = counts.elements;
+    let wires = counts.wires;
+    let pins = counts.pins;
+    if wish.lean {
+        return write_lean(work, out, elements, wires, pins);
+    }
+    write_full(&work[..], out, elements, wires, pins)
+}

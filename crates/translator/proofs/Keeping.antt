@@ -1,0 +1,21 @@
+-- When the working memory, cleared, is what it would have been before. Assumes nothing.
+use Prim.Native.Nat.{ℕ, _≤_, _<_}
+use mathlib.Core.Path.{_≡_}
+use mathlib.Core.List.{List}
+use lib.ListN.{length, drop}
+use borrow.Author.Tests.{lt-leb, le-leb}
+use Rattle.calculus.specs.Translate.{workOf, zeroed}
+use Rattle.memory.proofs.Zeroed.{zeroed-same}
+use Rattle.translator.specs.Made.{Keeps}
+
+pub work-small : (w : List ℕ) → length w < 32768 → workOf w ≡ w
+unfolding workOf
+work-small w h = rw (lt-leb 32768 (length w) h)
+
+pub work-large : (w : List ℕ) → 32768 ≤ length w → workOf w ≡ zeroed 32768 w
+unfolding workOf
+work-large w h = rw (le-leb 32768 (length w) h)
+
+-- where nothing changes from number 32,768 on
+pub later-keeps : (w w′ : List ℕ) → 32768 ≤ length w → 32768 ≤ length w′ → drop 32768 w′ ≡ drop 32768 w → Keeps w w′
+later-keeps w w′ h k e = rw (work-large w h, work-large w′ k) (zeroed-same 32768 w′ w e)

@@ -1,0 +1,40 @@
+-- What the stages that every call begins with answer and leave: the full netlist in the working memory, or refusal 1 to 16 (document 01,
+-- "Numbers of the refusals"). Assumes nothing.
+use Prim.Native.Nat.{ℕ}
+use mathlib.Core.Path.{_≡_}
+use mathlib.Core.List.{List}
+use lib.Dec.{leb}
+use lib.ListN.{length}
+use Rattle.calculus.specs.Answer.{Answer, good, refused, _>>=_, need}
+use Rattle.calculus.specs.Net.{Net}
+use Rattle.calculus.specs.Record.{All}
+use Rattle.calculus.specs.Translate.{full, workOf}
+use Rattle.memory.specs.Map.{netIn, Ready}
+use Rattle.calculus.specs.NetRead.{Known}
+use Rattle.translator.specs.declared.Made as code
+use Rattle.translator.specs.declared.Made.the-variants as made
+
+-- the full netlist of a sheet for a call that is lent so much working memory, or refusal 1, then 2 to 16
+unfoldable pub lent : ℕ → List ℕ → Answer Net
+lent memory s = do
+  _ ← need (leb 32768 memory) 1 0
+  full s
+
+-- the netlist that stands in the working memory, or number and place
+abbrev pub saidMade : code.Made → List ℕ → Answer Net
+saidMade (made.Net c) work = good (netIn work (c .elements) (c .wires) (c .pins))
+saidMade (made.Refused number place) work = refused number place
+
+-- what those who go on with that netlist ask for
+abbrev pub Standing : code.Made → List ℕ → Type 0
+Standing (made.Net c) work = (Ready work (c .elements) (c .wires) (c .pins)) × (All Known (netIn work (c .elements) (c .wires) (c .pins) .elements))
+Standing (made.Refused number place) work = Unit {0}
+
+-- cleared, the working memory is what it would have been before
+abbrev pub Keeps : List ℕ → List ℕ → Type 0
+Keeps work after = workOf after ≡ workOf work
+
+pub record Makes (r : code.Made) (s work after : List ℕ) : Type 0 where
+  pub said : saidMade r after ≡ lent (length work) s
+  pub standing : Standing r after
+  pub keeps : Keeps work after
