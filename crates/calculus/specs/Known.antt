@@ -321,11 +321,11 @@ lacks (refused why) = record { memory = refuse 1 0; fullRoom = refused why; lean
 -- both netlists, as their bytes tell them
 abbrev pub reads : Answer Both → List (Answer Net)
 reads (good b) = readNet (b .fullBytes) ∷ readNet (b .leanBytes) ∷ []
-reads (refused number place) = []
+reads (refused why) = []
 
 abbrev pub nets : Answer Both → List (Answer Net)
 nets (good b) = good (b .full) ∷ good (b .lean) ∷ []
-nets (refused number place) = []
+nets (refused why) = []
 
 -- a row, as the definitions answer and as document 01 has it
 abbrev pub answers : Row → Answer Both × Lacking × List (Answer Net) × List Text
