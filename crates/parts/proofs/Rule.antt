@@ -8,24 +8,24 @@ use borrow.Author.Tests.{lt-ltb, le-ltb, ltb-true, ltb-false}
 use lib.Dec.{T, eqb, ltb, leb, eqb→eq, leb→le}
 use lib.ListN.{length, getD, List·getD-eq-default}
 use Rattle.calculus.specs.Types.{Ty, bit, prod, arrow, lolli, size, tyEq}
-use Rattle.calculus.specs.Terms.{parts, partAt}
+use Rattle.calculus.specs.Terms.{first, parts, partAt}
 use Rattle.calculus.specs.Listing.{names}
 use Rattle.laws.proofs.Tests.{and-both}
 use Rattle.laws.proofs.Below.{below}
 use Rattle.parts.specs.declared.Row.{Row}
 use Rattle.parts.specs.Table.{Entry, isPart, noPart, saidPart, entryOf, named, nameAt, padded, shapeTy}
 
-abbrev row : ℕ → ℕ → ℕ → List ℕ → ℕ → Row
-row i o k letters n = record { part = record { inputs = i; outputs = o; shape = k }; name = record { letters = letters; count = n } }
+abbrev row : ℕ → ℕ → ℕ → Bool → List ℕ → ℕ → Row
+row i o k b letters n = record { part = record { inputs = i; outputs = o; shape = k; paired = b }; name = record { letters = letters; count = n } }
 
 -- the table of the code
 abbrev pub table : List Row
 table =
-    row 0 1 0 (122 ∷ 101 ∷ 114 ∷ 111 ∷ []) 4 ∷ row 1 1 1 (114 ∷ 101 ∷ 103 ∷ 0 ∷ []) 3 ∷ row 2 1 2 (97 ∷ 110 ∷ 100 ∷ 0 ∷ []) 3 ∷ row 2 1 2 (111 ∷ 114 ∷ 0 ∷ 0 ∷ []) 2
-    ∷ row 2 1 2 (120 ∷ 111 ∷ 114 ∷ 0 ∷ []) 3 ∷ row 1 1 1 (105 ∷ 110 ∷ 118 ∷ 0 ∷ []) 3 ∷ row 0 1 0 (111 ∷ 110 ∷ 101 ∷ 0 ∷ []) 3 ∷ []
+    row 0 1 0 false (122 ∷ 101 ∷ 114 ∷ 111 ∷ []) 4 ∷ row 1 1 1 false (114 ∷ 101 ∷ 103 ∷ 0 ∷ []) 3 ∷ row 2 1 2 true (97 ∷ 110 ∷ 100 ∷ 0 ∷ []) 3 ∷ row 2 1 2 true (111 ∷ 114 ∷ 0 ∷ 0 ∷ []) 2
+    ∷ row 2 1 2 true (120 ∷ 111 ∷ 114 ∷ 0 ∷ []) 3 ∷ row 1 1 1 false (105 ∷ 110 ∷ 118 ∷ 0 ∷ []) 3 ∷ row 0 1 0 false (111 ∷ 110 ∷ 101 ∷ 0 ∷ []) 3 ∷ []
 
 abbrev rowAt : ℕ → Row
-rowAt p = getD table p (row 0 0 0 [] 0)
+rowAt p = getD table p (row 0 0 0 false [] 0)
 
 -- two types that pass the test are one
 same-type : (σ τ : Ty) → T (tyEq σ τ) → σ ≡ τ
@@ -47,20 +47,21 @@ same-type (lolli a b) (arrow c d) t = absurd t
 same-type (lolli a b) (lolli c d) t = let h = and-both (tyEq a c) (tyEq b d) t in rw (same-type a c (h .0), same-type b d (h .1))
 
 abbrev entryEq : Entry → Entry → Bool
-entryEq x y = eqb (x .inputs) (y .inputs) && (eqb (x .outputs) (y .outputs) && tyEq (x .type) (y .type))
+entryEq x y = eqb (x .inputs) (y .inputs) && (eqb (x .outputs) (y .outputs) && (tyEq (x .in-first) (y .in-first) && tyEq (x .in-second) (y .in-second)))
 
-abbrev entry : ℕ → ℕ → Ty → Entry
-entry i o t = record { inputs = i; outputs = o; type = t }
+abbrev entry : ℕ → ℕ → Ty → Ty → Entry
+entry i o t u = record { inputs = i; outputs = o; in-first = t; in-second = u }
 
-same-entry : (i j o q : ℕ) (σ τ : Ty) → T (entryEq (entry i o σ) (entry j q τ)) → entry i o σ ≡ entry j q τ
-same-entry i j o q σ τ t =
+same-entry : (i j o q : ℕ) (σ τ σ′ τ′ : Ty) → T (entryEq (entry i o σ σ′) (entry j q τ τ′)) → entry i o σ σ′ ≡ entry j q τ τ′
+same-entry i j o q σ τ σ′ τ′ t =
     let h = and-both (eqb i j) _ t in
     let k = and-both (eqb o q) _ (h .1) in
-    rw (eqb→eq i j (h .0), eqb→eq o q (k .0), same-type σ τ (k .1))
+    let l = and-both (tyEq σ τ) _ (k .1) in
+    rw (eqb→eq i j (h .0), eqb→eq o q (k .0), same-type σ τ (l .0), same-type σ′ τ′ (l .1))
 
 -- the rule: every entry of the table is the part's
 pub right : (p : ℕ) → p < 7 → saidPart (rowAt p .part) ≡ entryOf p
-right p h = same-entry _ _ _ _ _ _ (below 7 (λ k. entryEq (saidPart (rowAt k .part)) (entryOf k)) tt p h)
+right p h = same-entry _ _ _ _ _ _ _ _ (below 7 (λ k. entryEq (saidPart (rowAt k .part)) (entryOf k)) tt p h)
 
 -- any other number is zero's
 pub right-past : (p : ℕ) → 7 ≤ p → saidPart (rowAt 0 .part) ≡ entryOf p
@@ -89,18 +90,18 @@ name-right (suc (suc (suc (suc (suc (suc (suc p))))))) h = absurd (omega arith)
 pub name-none : (p : ℕ) → 7 ≤ p → nameAt p ≡ []
 name-none p h = List·getD-eq-default names [] {n = p} h
 
--- ---- no part has more than two arrows
+-- ---- no part has more than two arrows in the first edition
 
-few-type : (p : ℕ) → p < 7 → size (partAt p .type) ≤ 3
-few-type p h = leb→le _ _ (below 7 (λ k. leb (size (partAt k .type)) 3) tt p h)
+few-type : (p : ℕ) → p < 7 → size (partAt p .type first) ≤ 3
+few-type p h = leb→le _ _ (below 7 (λ k. leb (size (partAt k .type first)) 3) tt p h)
 
-past-few : (p : ℕ) → 7 ≤ p → size (partAt p .type) ≤ 3
+past-few : (p : ℕ) → 7 ≤ p → size (partAt p .type first) ≤ 3
 past-few p h = rw (List·getD-eq-default parts (partAt 0) {n = p} h) (omega arith)
 
-part-few : (p : ℕ) → size (partAt p .type) ≤ 3
+part-few : (p : ℕ) → size (partAt p .type first) ≤ 3
 part-few p = by-cases (ltb p 7) refl
   where
-    by-cases : (t : Bool) → ltb p 7 ≡ t → size (partAt p .type) ≤ 3
+    by-cases : (t : Bool) → ltb p 7 ≡ t → size (partAt p .type first) ≤ 3
     by-cases true e = few-type p (ltb-true p 7 e)
     by-cases false e = past-few p (ltb-false p 7 e)
 
@@ -108,5 +109,5 @@ pub shape-size : (k : ℕ) → size (shapeTy k) ≡ suc k
 shape-size zero = refl
 shape-size (suc k) = rw (shape-size k) (omega arith)
 
-pub few-arrows : (p k : ℕ) → shapeTy k ≡ partAt p .type → k ≤ 2
+pub few-arrows : (p k : ℕ) → shapeTy k ≡ partAt p .type first → k ≤ 2
 few-arrows p k e = let h : size (shapeTy k) ≤ 3 = rw e (part-few p) in omega (arith, shape-size k)

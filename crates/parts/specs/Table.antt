@@ -1,11 +1,11 @@
--- The table of parts, as its entries say it, and as document 01 has it. Assumes nothing.
+-- The table of parts, as its entries say it, and as documents 01 and 02 (L7) have it. Assumes nothing.
 use Prim.Native.Nat.{ℕ, zero, suc, _-_}
-use mathlib.Core.Bool.{cond}
+use mathlib.Core.Bool.{Bool, true, false, cond}
 use mathlib.Core.List.{List, [], _++_}
 use lib.Dec.{ltb}
 use lib.ListN.{length, getD, replicate}
-use Rattle.calculus.specs.Types.{Ty, bit, arrow}
-use Rattle.calculus.specs.Terms.{parts, partAt}
+use Rattle.calculus.specs.Types.{Ty, bit, prod, arrow}
+use Rattle.calculus.specs.Terms.{first, second, parts, partAt}
 use Rattle.calculus.specs.Listing.{names}
 use Rattle.parts.specs.declared.Part.{Part}
 use Rattle.parts.specs.declared.Named.{Named}
@@ -16,18 +16,24 @@ abbrev pub shapeTy : ℕ → Ty
 shapeTy zero = bit
 shapeTy (suc n) = arrow bit (shapeTy n)
 
--- a part's terminals and its type, or no part
+-- the type in the second edition of a part that takes a pair or does not
+abbrev pub laterTy : ℕ → Bool → Ty
+laterTy n true = arrow (prod bit bit) bit
+laterTy n false = shapeTy n
+
+-- a part's terminals and its type in each edition, or no part
 pub record Entry : Type 0 where
   pub inputs : ℕ
   pub outputs : ℕ
-  pub type : Ty
+  pub in-first : Ty
+  pub in-second : Ty
 
 pub data Lookup : Type 0 where
   isPart : Entry → Lookup
   noPart : Lookup
 
 abbrev pub saidPart : Part → Entry
-saidPart q = record { inputs = q .inputs; outputs = q .outputs; type = shapeTy (q .shape) }
+saidPart q = record { inputs = q .inputs; outputs = q .outputs; in-first = shapeTy (q .shape); in-second = laterTy (q .shape) (q .paired) }
 
 abbrev pub saidNamed : Named → Lookup
 saidNamed (of.Part q) = isPart (saidPart q)
@@ -35,7 +41,7 @@ saidNamed of.Unknown = noPart
 
 -- each part has one output
 abbrev pub entryOf : ℕ → Entry
-entryOf p = record { inputs = partAt p .inputs; outputs = 1; type = partAt p .type }
+entryOf p = record { inputs = partAt p .inputs; outputs = 1; in-first = partAt p .type first; in-second = partAt p .type second }
 
 unfoldable pub named : ℕ → Lookup
 named p = cond (ltb p (length parts)) (isPart (entryOf p)) noPart

@@ -4,11 +4,12 @@ ghost use lib.ListN.{length};
 ghost use Rattle.parts.specs.Table.{saidPart, entryOf, saidNamed, named, nameAt, padded};
 
 // A part: its inputs, its outputs and the shape of its type, as the number of arrows from the single bit: 0 is the bit itself,
-// 1 reg's type, 2 the arrow from the bit to reg's type.
+// 1 reg's type, 2 the arrow from the bit to reg's type; and if it takes a pair of single bits to one in the second edition.
 pub struct Part {
     pub inputs: u8,
     pub outputs: u8,
     pub shape: u8,
+    pub paired: bool,
 }
 
 // What a part number names.
@@ -36,6 +37,7 @@ const PARTS: [Row; 7] = [
             inputs: 0,
             outputs: 1,
             shape: 0,
+            paired: false,
         },
         name: Name {
             letters: [b'z', b'e', b'r', b'o'],
@@ -47,6 +49,7 @@ const PARTS: [Row; 7] = [
             inputs: 1,
             outputs: 1,
             shape: 1,
+            paired: false,
         },
         name: Name {
             letters: [b'r', b'e', b'g', 0],
@@ -58,6 +61,7 @@ const PARTS: [Row; 7] = [
             inputs: 2,
             outputs: 1,
             shape: 2,
+            paired: true,
         },
         name: Name {
             letters: [b'a', b'n', b'd', 0],
@@ -69,6 +73,7 @@ const PARTS: [Row; 7] = [
             inputs: 2,
             outputs: 1,
             shape: 2,
+            paired: true,
         },
         name: Name {
             letters: [b'o', b'r', 0, 0],
@@ -80,6 +85,7 @@ const PARTS: [Row; 7] = [
             inputs: 2,
             outputs: 1,
             shape: 2,
+            paired: true,
         },
         name: Name {
             letters: [b'x', b'o', b'r', 0],
@@ -91,6 +97,7 @@ const PARTS: [Row; 7] = [
             inputs: 1,
             outputs: 1,
             shape: 1,
+            paired: false,
         },
         name: Name {
             letters: [b'i', b'n', b'v', 0],
@@ -102,6 +109,7 @@ const PARTS: [Row; 7] = [
             inputs: 0,
             outputs: 1,
             shape: 0,
+            paired: false,
         },
         name: Name {
             letters: [b'o', b'n', b'e', 0],
