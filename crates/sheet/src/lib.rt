@@ -97,9 +97,9 @@ fn opening(s: &[u8]) -> usize
 pub fn records_of<'a>(s: &'a [u8]) -> &'a [u8]
     ensures { λ r. ⌜ now r ≡ recordsOf (now (s .entry)) ⌝ }
 {
-    let start = opening(s);
+    let from = opening(s);
     let end = s.len();
-    &s[start..end]
+    &s[from..end]
 }
 
 // Refusals 2 to 9. Offsets count the opening.
