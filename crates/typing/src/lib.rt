@@ -278,7 +278,7 @@ fn walk(s: &[u8], at: usize, node: usize, b: Binders, types: usize, second: bool
     let Verdict::Fine { ty, next, count } = v else {
         return stopped(v, own);
     };
-    let q = rules::halves(s, rule, ty);
+    let q = rules::halves_of(s, rule, ty);
     own.types[c] = q.first;
     own.sorts[c] = 0;
     own.used[c] = 0;

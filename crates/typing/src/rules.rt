@@ -123,10 +123,11 @@ pub fn is_type_of(s: &[u8], t: u8, part: Part, second: bool) -> bool
     requires { ⌜ part .shape ≤ 2 ⌝ }
     ensures { λ r. ⌜ r ≡ standsFor (recIn (now (s .entry))) (tyIn (saidPart part) (editionBy second)) t ⌝ }
 {
-    if second {
-        if part.paired {
-            return is_paired(s, t);
-        }
+    if !second {
+        return has_shape(s, t, part.shape);
+    }
+    if part.paired {
+        return is_paired(s, t);
     }
     has_shape(s, t, part.shape)
 }
@@ -267,7 +268,7 @@ pub struct Halves {
     pub second: u8,
 }
 
-pub fn halves(s: &[u8], rule: Rule, t: u8) -> Halves
+pub fn halves_of(s: &[u8], rule: Rule, t: u8) -> Halves
     ensures { λ r. ⌜ r ≡ halvesIn rule t (recIn (now (s .entry)) t) ⌝ }
 {
     let Rule::Projection = rule else {
