@@ -1,5 +1,6 @@
 -- The depth of a term by its first record: without subterms, with one, with two. Assumes nothing.
 use Prim.Native.Nat.{ℕ, suc, _+_, _-_, _≤_, _<_, max}
+use mathlib.Core.Bool.{true}
 use mathlib.Core.Path.{_≡_, refl, sym, ap, subst, _∙_}
 use mathlib.Core.List.{List, [], _∷_, _++_}
 use mathlib.Core.Logic.{⊎-elim}
@@ -23,7 +24,7 @@ use Rattle.records.specs.declared.Record.the-variants as rec
 use Rattle.sheet_theorems.proofs.Standing.{fun-body, app-function, app-argument, lfun-body, lapp-function, lapp-argument, pair-first, pair-second, proj-pair, proj-body, fix-body}
 use Rattle.sheet_theorems.proofs.Standing.{sheet-stands}
 use Rattle.sheet_theorems.proofs.Laying.{laid}
-use Rattle.sheet.proofs.Told.{Told}
+use Rattle.records.specs.Told.{Told}
 use Rattle.fault.specs.Deep.{Measured, DepthOf}
 
 pub deep-some : (e : Term) → 1 ≤ depth e

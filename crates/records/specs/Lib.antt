@@ -3,3 +3,4 @@ pub mod Heads
 pub mod Rules
 pub mod Editions
 pub mod Forms
+pub mod Told

@@ -1,18 +1,28 @@
 -- Two results that the contract of a public function allows are equal. Assumes nothing.
 use Prim.Native.Nat.{ℕ}
 use mathlib.Core.Path.{_≡_, sym, ap, ap₂, _∙_}
-use mathlib.Core.Bool.{Bool}
 use mathlib.Core.List.{List}
 use Rattle.calculus.specs.Answer.{Refusal}
 use Rattle.calculus.proofs.Answers.{refused≢good, good-inj, refused-inj}
-use Rattle.calculus.specs.Terms.{isSecond}
-use Rattle.calculus.specs.Read.{editionOf, recordsOf, readSheet}
-use Rattle.calculus.specs.Stretch.{Stretch, stretchOf, cut}
-use Rattle.sheet.specs.Sheets.{Counts, ReadSaid, saidVerdict, saidReading, readingOf, saidBounds}
+use Rattle.calculus.specs.Stretch.{Stretch}
+use Rattle.sheet.specs.Sheets.{Counts, ReadSaid, saidVerdict, saidReading}
 use Rattle.sheet.specs.declared.Verdict.{Verdict}
 use Rattle.sheet.specs.declared.Verdict.the-variants as verdict
 use Rattle.sheet.specs.declared.Reading.{Reading}
-use Rattle.sheet.specs.declared.Bounds.{Bounds}
+use contract.Lifetimes.{Lfts}
+use denote.Triple.Clauses.{AtExit}
+use borrow.Fn.Kinds.{Dens, resT, endedOf}
+use Rattle.laws.proofs.OneResult.{Result}
+use Rattle.sheet.proofs.read.Kinds as read
+use Rattle.sheet.proofs.read.Reads as read-reads
+use Rattle.sheet.proofs.stretch_bounds.Kinds as stretch-bounds
+use Rattle.sheet.proofs.stretch_bounds.Reads as stretch-bounds-reads
+use Rattle.sheet.proofs.stretch.Kinds as stretch
+use Rattle.sheet.proofs.stretch.Reads as stretch-reads
+use Rattle.sheet.proofs.is_second.Kinds as is-second
+use Rattle.sheet.proofs.is_second.Reads as is-second-reads
+use Rattle.sheet.proofs.records_of.Kinds as records-of
+use Rattle.sheet.proofs.records_of.Reads as records-of-reads
 
 -- a verdict says what it is
 same-verdict : (v w : Verdict) → saidVerdict v ≡ saidVerdict w → v ≡ w
@@ -30,23 +40,25 @@ same-verdict (verdict.Refused i p) (verdict.Refused j q) e =
     let b : p ≡ q = ap (λ (why : Refusal). why .place) f in
     rw (a, b)
 
-pub determined-read : (s : List ℕ) (r q : Reading) → saidReading r ≡ readingOf (readSheet s) → saidReading q ≡ readingOf (readSheet s) → r ≡ q
-determined-read s r q e f =
-    let g : saidReading r ≡ saidReading q = e ∙ sym f in
+same-reading : (r q : Reading) → saidReading r ≡ saidReading q → r ≡ q
+same-reading r q g =
     ap₂ (λ (v : Verdict) (l : List ℕ). record { verdict = v; sizes = l }) (same-verdict (r .verdict) (q .verdict) (ap (λ (x : ReadSaid). x .answer) g)) (ap (λ (x : ReadSaid). x .sizes) g)
 
-pub determined-bounds : (s : List ℕ) (node : ℕ) (r q : Bounds) → saidBounds r ≡ stretchOf s node → saidBounds q ≡ stretchOf s node → r ≡ q
-determined-bounds s node r q e f =
-    let g : saidBounds r ≡ saidBounds q = e ∙ sym f in
-    ap (λ (p : Stretch). record { start = p .start; size = p .size }) g
+pub determined-read : Result read.ps read.r read-reads.Post
+determined-read κs a x y s t f g = same-reading x y (f ∙ sym g)
+
+pub determined-bounds : Result stretch-bounds.ps stretch-bounds.r stretch-bounds-reads.Post
+determined-bounds κs a x y s t f g = ap (λ (p : Stretch). record { start = p .start; size = p .size }) (f ∙ sym g)
 
 -- the bytes of the part that is returned
-pub determined-stretch : (s : List ℕ) (node : ℕ) (r q : List ℕ) → r ≡ cut s (stretchOf s node) → q ≡ cut s (stretchOf s node) → r ≡ q
-determined-stretch s node r q e f = e ∙ sym f
+pub determined-stretch : (κs : Lfts 1) (a : Dens κs stretch.ps) (x y : resT stretch.r κs .Denot) (s t : AtExit (endedOf 1 stretch.ps stretch.r) κs)
+    → stretch-reads.Post κs a x s → stretch-reads.Post κs a y t → x .now ≡ y .now
+determined-stretch κs a x y s t f g = f ∙ sym g
 
--- the edition, and the records behind the opening
-pub determined-second : (s : List ℕ) (r q : Bool) → r ≡ isSecond (editionOf s) → q ≡ isSecond (editionOf s) → r ≡ q
-determined-second s r q e f = e ∙ sym f
+-- the edition, and the bytes of the records behind the opening
+pub determined-second : Result is-second.ps is-second.r is-second-reads.Post
+determined-second κs a x y s t f g = f ∙ sym g
 
-pub determined-records : (s r q : List ℕ) → r ≡ recordsOf s → q ≡ recordsOf s → r ≡ q
-determined-records s r q e f = e ∙ sym f
+pub determined-records : (κs : Lfts 1) (a : Dens κs records-of.ps) (x y : resT records-of.r κs .Denot) (s t : AtExit (endedOf 1 records-of.ps records-of.r) κs)
+    → records-of-reads.Post κs a x s → records-of-reads.Post κs a y t → x .now ≡ y .now
+determined-records κs a x y s t f g = f ∙ sym g

@@ -10,8 +10,8 @@ use types.Run.{OneOf, miss}
 use lib.Dec.{ltb, leb, eqb}
 use lib.ListN.{length}
 use borrow.Author.Tests.{lt-ltb, le-ltb, le-leb, lt-leb, leb-true, leb-false}
-use Rattle.calculus.specs.Answer.{Answer, good, refused, _>>=_, numbered, refuse, need}
-use Rattle.calculus.specs.Terms.{Edition, isSecond}
+use Rattle.calculus.specs.Answer.{Answer, good, _>>=_, refuse, need}
+use Rattle.calculus.specs.Terms.{Edition}
 use Rattle.calculus.specs.Read.{Kind, unknown, type, node, NodeKind, k11, k12, k13, k14, k15, k16, k17, k18, k19, k1A, k1B, knows, kindOf, nodeBody, nodeTyped, byte, headAt, readTerm}
 use Rattle.records.specs.Record.{shapeOf, recordOf, recordAt, bodyAt}
 use Rattle.records.specs.declared.Rule.{Rule}
@@ -23,7 +23,6 @@ use Rattle.records.specs.declared.Shape.the-variants as shape
 use Rattle.records.specs.declared.Record.the-variants as rec
 use Rattle.records.proofs.Rule.{the-type as rule-type}
 use Rattle.records.proofs.Laws.{node-next}
-use Rattle.records.specs.Rules.{isNaming}
 use Rattle.records.specs.Editions.{knownRule}
 use Rattle.sheet.specs.Said.{nodeSubs, opening, headed, opens, mistyped, limitsOf}
 use Rattle.sheet.proofs.KindLaws.{kindShape, record-kind, record-past, nodeRule, nodeAs, node-here, body-at}

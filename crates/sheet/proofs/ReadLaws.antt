@@ -12,13 +12,13 @@ use Rattle.calculus.specs.Answer.{Refusal, Answer, good, refused, _>>=_, number
 use Rattle.calculus.proofs.Answers.{refused≢good, good-inj, refused-inj}
 use Rattle.calculus.specs.Types.{Table}
 use Rattle.calculus.specs.Terms.{Edition, first, second, isSecond, opening, nodes}
-use Rattle.calculus.specs.Read.{Got, readTypes, readTerm, Sheet, readRecords, editionOf, recordsOf, offsetBy, readSheet}
+use Rattle.calculus.specs.Read.{Got, readTypes, readTerm, Sheet, readRecords, editionOf, recordsOf, readSheet}
 use Rattle.calculus.specs.Write.{tableBytes}
 use Rattle.sheet_theorems.proofs.Tables.{empty-ok}
 use Rattle.sheet_theorems.proofs.Laying.{types-listed, termed, opens}
 use Rattle.sheet_theorems.proofs.Judging.{of-refused}
 use Rattle.sheet_theorems.proofs.Places.{records-places}
-use Rattle.sheet.specs.Tables.{sizesOf}
+use Rattle.records.specs.Told.{sizesOf}
 use Rattle.sheet.specs.Said.{Count, TypesSaid, allTypes, typesOf, dueOf, typesIn, End, end, spanned, endedOf}
 use Rattle.sheet.specs.Sheets.{ReadSaid, saidVerdict, saidReading, wholeSheet, noSheet, readingOf}
 use Rattle.sheet.specs.declared.Verdict.the-variants as verdict

@@ -1,6 +1,6 @@
 -- What `readTerm` says of a term's end, by what the head of its record opens. Assumes nothing.
 use Prim.Native.Nat.{ℕ, zero, suc, _+_, _-_, _≤_, _<_}
-use mathlib.Core.Path.{_≡_, refl, sym, ap, ap₂, subst, _∙_}
+use mathlib.Core.Path.{_≡_, refl, sym, ap, subst, _∙_}
 use mathlib.Core.Bool.{_||_}
 use mathlib.Core.List.{List}
 use native.Mathlib.Omega.{arith}
@@ -81,13 +81,13 @@ headed-bad at (good k) a b e = absurd (refused≢good e)
 headed-bad at (refused why) a b e = ap refused (sym (refused-inj e))
 
 -- the count and the depth are within the limits, and the record within the sheet
-pub record Within (more : ℕ) (s : List ℕ) (at n next : ℕ) : Type 0 where
+pub record InLimits (more : ℕ) (s : List ℕ) (at n next : ℕ) : Type 0 where
   pub few : n < 2048
   pub deep : 0 < more
   pub past : at < next
   pub in-sheet : next ≤ length s
 
-head-tells : (E : Edition) (more : ℕ) (s : List ℕ) (types at n : ℕ) (k : NodeKind) → headAt E more s types at n ≡ good k → Within more s at n (at + 1 + nodeBody k)
+head-tells : (E : Edition) (more : ℕ) (s : List ℕ) (types at n : ℕ) (k : NodeKind) → headAt E more s types at n ≡ good k → InLimits more s at n (at + 1 + nodeBody k)
 unfolding headAt
 head-tells E more s types at n k e =
     on-need (ltb at (length s)) 3 at _ k e λ h₁ e₁.
@@ -97,7 +97,7 @@ head-tells E more s types at n k e =
     on-need (ltb n 2048) 8 at _ k e₃ λ h₄ e₄.
     on-need (ltb 0 more) 8 at _ k e₄ λ h₅ e₅.
     on-need (eqb (nodeTyped q) 0 || ltb (byte s (at + nodeTyped q)) types) 5 at _ k e₅ λ h₆ e₆.
-    subst (λ (k : NodeKind). Within more s at n (at + 1 + nodeBody k)) (good-inj e₆)
+    subst (λ (k : NodeKind). InLimits more s at n (at + 1 + nodeBody k)) (good-inj e₆)
     (record { few = ltb→lt n 2048 h₄; deep = ltb→lt 0 more h₅; past = omega arith; in-sheet = leb→le _ _ h₃ })
 
 module _ (E : Edition) (s : List ℕ) (types at n : ℕ) where
@@ -113,7 +113,7 @@ module _ (E : Edition) (s : List ℕ) (types at n : ℕ) where
   read-bad a b (suc m) h = simp h
 
 module _ (E : Edition) (more : ℕ) (s : List ℕ) (types at n : ℕ) where
-  pub open-tells : {p q : ℕ} → opening p q ≡ opens E more s types at n → Within more s at n p
+  pub open-tells : {p q : ℕ} → opening p q ≡ opens E more s types at n → InLimits more s at n p
   unfolding opens
   open-tells {p} {q} e =
       let (k, h, i, j) = headed-good at (headAt E more s types at n) p q e in

@@ -21,10 +21,10 @@ use Rattle.records.specs.declared.Record.the-variants as rec
 use Rattle.records.proofs.Laws.{node-next, stands-record, stands-node}
 use Rattle.sheet.specs.Nodes.{NodesFrom}
 use Rattle.sheet.specs.Said.{End, end, spanned}
-use Rattle.sheet_theorems.proofs.Laying.{opened}
+use Rattle.sheet_theorems.proofs.Laying.{laid, opened}
 use Rattle.sheet_theorems.proofs.Standing.{sheet-ends}
 use Rattle.records.specs.Editions.{editionBy}
-use Rattle.sheet.proofs.Told.{Told, told-laid}
+use Rattle.records.specs.Told.{Told}
 use Rattle.sheet.proofs.ReadLaws.{edition-by}
 use Rattle.sheet.proofs.KindLaws.{NodeHere, node-here}
 
@@ -54,7 +54,7 @@ module _ {s sizes : List ℕ} {types n start : ℕ} (t : Told s sizes types n st
   told-starts e = rw (e, t .start-is, opened s (t .sheet) (t .is) .edition)
 
   pub told-short : start ≤ 16384
-  told-short = let l = told-laid t in omega (arith, t .start-is, sheet-ends l, l .short)
+  told-short = let l = laid s (t .sheet) (t .is) in omega (arith, t .start-is, sheet-ends l, l .short)
 
 module _ {s sizes : List ℕ} {types n start : ℕ} (t : Told s sizes types n start) (k : ℕ) where
   pub told-past : n ≤ k → nowhere ≡ stretchOf s k

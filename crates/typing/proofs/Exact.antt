@@ -8,7 +8,6 @@ use Rattle.calculus.specs.Answer.{Refusal, good, _>>=_}
 use Rattle.calculus.proofs.Answers.{refused-inj, on-bind}
 use Rattle.calculus.specs.Types.{Ty}
 use Rattle.calculus.specs.Read.{Sheet, editionOf, recordsOf, readSheet}
-use Rattle.calculus.specs.Terms.{Edition}
 use Rattle.calculus.specs.Rules.{Typed}
 use Rattle.calculus.specs.Walk.{Found, walk}
 use Rattle.sheet_theorems.proofs.Laying.{opened}
@@ -16,6 +15,9 @@ use Rattle.sheet_theorems.proofs.Exact.{exact}
 use Rattle.typing.specs.declared.Typing.{Typing}
 use Rattle.typing.specs.declared.Typing.the-variants as typing
 use Rattle.typing.specs.Answers.{saidTyping, checkOf}
+use Rattle.laws.proofs.OneResult.{Result}
+use Rattle.typing.proofs.check.Kinds as check
+use Rattle.typing.proofs.check.Reads as check-reads
 
 -- ---- two answers that the contract of `check` allows are equal
 
@@ -26,8 +28,8 @@ same-typing (typing.Refused r) (typing.Type u) e = absurd (let z : _≡_ {A = �
 same-typing (typing.Refused r) (typing.Refused q) e =
     ap (λ (why : Refusal). typing.Refused (record { number = why .number; place = why .place; wanted = why .wanted; found = why .found })) (refused-inj e)
 
-pub determined : (E : Edition) (s : List ℕ) (r q : Typing) → saidTyping r ≡ checkOf E s → saidTyping q ≡ checkOf E s → r ≡ q
-determined E s r q a b = same-typing r q (a ∙ sym b)
+pub determined : Result check.ps check.r check-reads.Post
+determined κs a x y s t f g = same-typing x y (f ∙ sym g)
 
 -- ---- with Figure 2
 

@@ -7,7 +7,7 @@ use native.Mathlib.Omega.{arith}
 use native.Mathlib.Nat.{le-max-left, le-max-right}
 use lib.Dec.{eqb, leb}
 use lib.ListN.{length, length-append}
-use Rattle.calculus.specs.Answer.{good, _>>=_, aForm, clash}
+use Rattle.calculus.specs.Answer.{good, aForm, clash}
 use Rattle.calculus.proofs.Answers.{refused≢good, good-inj, on-require}
 use Rattle.calculus.specs.Types.{TyRec, Table}
 use Rattle.calculus.specs.Terms.{Edition, Term, var, lvar, fun, app, lfun, lapp, pair, proj, fix, con, name, nodes}
@@ -38,7 +38,7 @@ OpensIn l (opening.Linear t) = t < l
 OpensIn l opening.Misfit = Unit {0}
 
 -- a stack in the table's range, of at most so many binders
-pub record Within (l m : ℕ) (st : Stack) : Type 0 where
+pub record InRange (l m : ℕ) (st : Stack) : Type 0 where
   pub numbers : Numbers st l
   pub few : length st ≤ m
 
@@ -57,10 +57,10 @@ module _ (l : ℕ) where
   opening-in rule.Constant t q h g = tt
   opening-in rule.Naming t q h g = tt
 
-  opened-in : (x : Opening) (t n : ℕ) (st : Stack) (o : Found) → OpensIn l x → Numbers st l → opened x t n st ≡ good o → Within l (suc (length st)) (o .stack)
-  opened-in opening.Nothing t n st o h k e = subst (λ (o : Found). Within l (suc (length st)) (o .stack)) (good-inj e) (record { numbers = k; few = omega arith })
-  opened-in (opening.Shared u) t n st o h k e = subst (λ (o : Found). Within l (suc (length st)) (o .stack)) (good-inj e) (record { numbers = (h, k); few = omega arith })
-  opened-in (opening.Linear u) t n st o h k e = subst (λ (o : Found). Within l (suc (length st)) (o .stack)) (good-inj e) (record { numbers = (h, k); few = omega arith })
+  opened-in : (x : Opening) (t n : ℕ) (st : Stack) (o : Found) → OpensIn l x → Numbers st l → opened x t n st ≡ good o → InRange l (suc (length st)) (o .stack)
+  opened-in opening.Nothing t n st o h k e = subst (λ (o : Found). InRange l (suc (length st)) (o .stack)) (good-inj e) (record { numbers = k; few = omega arith })
+  opened-in (opening.Shared u) t n st o h k e = subst (λ (o : Found). InRange l (suc (length st)) (o .stack)) (good-inj e) (record { numbers = (h, k); few = omega arith })
+  opened-in (opening.Linear u) t n st o h k e = subst (λ (o : Found). InRange l (suc (length st)) (o .stack)) (good-inj e) (record { numbers = (h, k); few = omega arith })
   opened-in opening.Misfit t n st o h k e = absurd (refused≢good e)
 
 -- ---- a node's subterms
@@ -250,11 +250,11 @@ module _ (s : List ℕ) (l : ℕ) (E : Edition) (at node : ℕ) (Θ : Table) (st
   right-side : (e : Term) → Fits s l E at node Θ e st → (t : ℕ) → t < length Θ → rightOf (recIn s t) < length Θ
   right-side e F t h = rw (F .types t h) (right-in Θ (F .table) t h)
 
-  typed-in : (e : Term) → Fits s l E at node Θ e st → (u : Rule) (t : ℕ) → t < length Θ → (o : Found) → enterOf (recIn s) u t node st ≡ good o → Within (length Θ) (suc (length st)) (o .stack)
+  typed-in : (e : Term) → Fits s l E at node Θ e st → (u : Rule) (t : ℕ) → t < length Θ → (o : Found) → enterOf (recIn s) u t node st ≡ good o → InRange (length Θ) (suc (length st)) (o .stack)
   typed-in e F u t h o g = opened-in (length Θ) (openingOf u t (recIn s t)) t node st o (opening-in (length Θ) u t (recIn s t) h (left-side e F t h)) (F .numbers) g
 
   enter-in : (e : Term) → Fits s l E at node Θ e st → ¬ (nodeOf e at .subterms ≡ 0) → (o : Found)
-      → enterOf (recIn s) (nodeOf e at .rule) (nodeOf e at .first) node st ≡ good o → Within (length Θ) (suc (length st)) (o .stack)
+      → enterOf (recIn s) (nodeOf e at .rule) (nodeOf e at .first) node st ≡ good o → InRange (length Θ) (suc (length st)) (o .stack)
   unfolding openingOf
   enter-in (var i) F d o g = absurd (d refl)
   enter-in (lvar i) F d o g = absurd (d refl)
@@ -336,19 +336,19 @@ module _ (s : List ℕ) (l : ℕ) (E : Edition) (at node : ℕ) (Θ : Table) (st
       first-kept = kept E Θ (F .table) (firstOf e) (first-ranged E Θ e (F .ranged)) (node + 1) (o .stack) (enter-in e F d o g .numbers) x h
 
       -- what is bound between the two
-      halves-in : (u : Rule) → Within (length Θ) (length (o .stack) + 2) (halvesOf (recIn s) u (x .type) (x .stack))
+      halves-in : (u : Rule) → InRange (length Θ) (length (o .stack) + 2) (halvesOf (recIn s) u (x .type) (x .stack))
       halves-in u =
-          on-cond (Within (length Θ) (length (o .stack) + 2)) (isProjection u) (shared (rightOf (recIn s (x .type))) ∷ shared (leftOf (recIn s (x .type))) ∷ x .stack) _
+          on-cond (InRange (length Θ) (length (o .stack) + 2)) (isProjection u) (shared (rightOf (recIn s (x .type))) ∷ shared (leftOf (recIn s (x .type))) ∷ x .stack) _
           (λ _. record { numbers = (right-side e F (x .type) (first-kept .type-in), (left-side e F (x .type) (first-kept .type-in), first-kept .numbers)); few = omega (arith, first-kept .count) })
-          (on-cond (Within (length Θ) (length (o .stack) + 2)) (isNaming u) (shared (x .type) ∷ x .stack) (x .stack)
+          (on-cond (InRange (length Θ) (length (o .stack) + 2)) (isNaming u) (shared (x .type) ∷ x .stack) (x .stack)
           (λ _. record { numbers = (first-kept .type-in, first-kept .numbers); few = omega (arith, first-kept .count) })
           (record { numbers = first-kept .numbers; few = omega (arith, first-kept .count) }))
 
-      between-in : (u : Rule) (m : Found) → betweenOf (recIn s) u node x ≡ good m → Within (length Θ) (length (o .stack) + 2) (m .stack)
+      between-in : (u : Rule) (m : Found) → betweenOf (recIn s) u node x ≡ good m → InRange (length Θ) (length (o .stack) + 2) (m .stack)
       unfolding betweenOf
       between-in u m z =
           on-require (entersOf u (recIn s (x .type))) (clash node aForm (x .type)) (λ _. found (x .type) (halvesOf (recIn s) u (x .type) (x .stack))) m z λ _ y.
-          subst (λ (m : Found). Within (length Θ) (length (o .stack) + 2) (m .stack)) (good-inj y) (halves-in u)
+          subst (λ (m : Found). InRange (length Θ) (length (o .stack) + 2) (m .stack)) (good-inj y) (halves-in u)
 
       pub fits-second : (m : Found) → betweenOf (recIn s) (nodeOf e at .rule) node x ≡ good m
           → Fits s l E (nodeOf e at .next + length (termBytes (firstOf e))) (node + 1 + nodes (firstOf e)) Θ (secondOf e) (m .stack)

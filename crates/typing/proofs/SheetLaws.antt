@@ -12,35 +12,35 @@ use Rattle.typing.specs.declared.Verdict.the-variants as verdict
 use Rattle.typing.specs.declared.Refusal.{Refusal}
 use Rattle.typing.specs.declared.Checked.{Checked}
 use Rattle.typing.specs.Verdicts.{saidWhy, said}
-use Rattle.typing.specs.Answers.{checkOf, Read}
+use Rattle.typing.specs.Answers.{checkOf, TermAt}
 use Rattle.typing.specs.Fits.{Fits, Walked}
 use Rattle.typing.proofs.VerdictLaws.{said-fine, said-refused}
-use Rattle.typing.proofs.Ranges.{sheet-types}
+use Rattle.records.proofs.ToldLaws.{sheet-types}
 
-module _ {s : List ℕ} {l : ℕ} {E : Edition} {at : ℕ} (read : Read s l E at) {st : Stack} (empty : st ≡ []) where
-  pub sheet-fits : Fits s l E at 0 (read .sheet .table) (read .sheet .term) st
+module _ {s : List ℕ} {l : ℕ} {E : Edition} {at : ℕ} (term : TermAt s l E at) {st : Stack} (empty : st ≡ []) where
+  pub sheet-fits : Fits s l E at 0 (term .sheet .table) (term .sheet .term) st
   sheet-fits =
-      let w = records-laid E s (read .sheet) (read .short) (read .good) in
-      rw (empty, read .start)
+      let w = records-laid E s (term .sheet) (term .short) (term .read) in
+      rw (empty, term .start)
       (record {
         table = w .table;
-        count = read .count;
-        types = sheet-types s (read .sheet) w;
+        count = term .count;
+        types = sheet-types s (term .sheet) w;
         stands = sheet-stands w;
-        ranged = rw (← records-edition E s (read .sheet) (read .good)) (w .ranged);
+        ranged = rw (← records-edition E s (term .sheet) (term .read)) (w .ranged);
         numbers = tt;
         room = omega (arith, w .deep);
         few = omega (arith, w .few);
       })
 
   module _ (c : Checked) (w : Walked s l E at 0 st c) where
-    walk-said : said c ≡ walk E (read .sheet .table) (read .sheet .term) 0 []
-    walk-said = w _ _ sheet-fits .answer ∙ ap (λ (x : Stack). walk E (read .sheet .table) (read .sheet .term) 0 x) empty
+    walk-said : said c ≡ walk E (term .sheet .table) (term .sheet .term) 0 []
+    walk-said = w _ _ sheet-fits .answer ∙ ap (λ (x : Stack). walk E (term .sheet .table) (term .sheet .term) 0 x) empty
 
     pub check-fine : {t i j : ℕ} → c .verdict ≡ verdict.Fine t i j → good t ≡ checkOf E s
     unfolding checkOf
-    check-fine v = rw (read .good, records-edition E s (read .sheet) (read .good), ← walk-said, said-fine c v)
+    check-fine v = rw (term .read, records-edition E s (term .sheet) (term .read), ← walk-said, said-fine c v)
 
     pub check-refused : {r : Refusal} → c .verdict ≡ verdict.Refused r → refused (saidWhy r) ≡ checkOf E s
     unfolding checkOf
-    check-refused v = rw (read .good, records-edition E s (read .sheet) (read .good), ← walk-said, said-refused c v)
+    check-refused v = rw (term .read, records-edition E s (term .sheet) (term .read), ← walk-said, said-refused c v)

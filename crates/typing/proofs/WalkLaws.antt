@@ -6,7 +6,7 @@ use mathlib.Core.List.{[], _∷_}
 use native.Mathlib.Omega.{arith}
 use lib.Dec.{eqb, leb}
 use lib.ListN.{length, drop}
-use Rattle.calculus.specs.Answer.{Answer, good, refused, _>>=_, refuse, clash, aForm, need, fit}
+use Rattle.calculus.specs.Answer.{Answer, good, refused, _>>=_, aForm, need, fit}
 use Rattle.calculus.specs.Types.{TyRec, rec01, rec02, rec03, rec04, Table, recAt}
 use Rattle.calculus.specs.Terms.{Edition, Term, var, lvar, fun, app, lfun, lapp, pair, proj, fix, con, name, nodes, partAt}
 use Rattle.sheet_theorems.specs.Laid.{TableOk, Ranged}

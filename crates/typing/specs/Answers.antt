@@ -13,10 +13,10 @@ use Rattle.typing.specs.declared.Typing.{Typing}
 use Rattle.typing.specs.declared.Typing.the-variants as typing
 
 -- the records of a sheet that has been read, with l types, whose term starts at an offset
-pub record Read (s : List ℕ) (l : ℕ) (E : Edition) (at : ℕ) : Type 0 where
+pub record TermAt (s : List ℕ) (l : ℕ) (E : Edition) (at : ℕ) : Type 0 where
   pub sheet : Sheet
   pub short : length s ≤ 16384
-  pub good : readRecords E s ≡ Answer.good sheet
+  pub read : readRecords E s ≡ Answer.good sheet
   pub count : l ≡ length (sheet .table)
   pub start : at ≡ length (tableBytes (sheet .table))
 

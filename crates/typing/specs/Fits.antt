@@ -27,7 +27,7 @@ pub record Fits (s : List ℕ) (l : ℕ) (E : Edition) (at node : ℕ) (Θ : Tab
   pub few : node + nodes e ≤ 2048
 
 -- some term does
-pub record Ready (s : List ℕ) (l : ℕ) (E : Edition) (at node : ℕ) (st : Stack) : Type 0 where
+pub record Placed (s : List ℕ) (l : ℕ) (E : Edition) (at node : ℕ) (st : Stack) : Type 0 where
   pub table : Table
   pub term : Term
   pub fits : Fits s l E at node table term st

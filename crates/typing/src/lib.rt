@@ -15,8 +15,8 @@ ghost use Rattle.records.specs.Editions.{editionBy};
 ghost use Rattle.binders.specs.Stacks.{binderOf, stackOf};
 ghost use Rattle.typing.specs.Steps.{constantOf, leafOf, usedUp, leaveOne, betweenOf, closesOf, leaveTwo};
 ghost use Rattle.typing.specs.Verdicts.{saidVerdict, refusedOf, clashOf, checked, settledOf, halves, EndsAt, Says, FollowsOn, Follows};
-ghost use Rattle.typing.specs.Answers.{saidTyping, checkOf, Read};
-ghost use Rattle.typing.specs.Fits.{Ready, Walked, Counts};
+ghost use Rattle.typing.specs.Answers.{saidTyping, checkOf, TermAt};
+ghost use Rattle.typing.specs.Fits.{Placed, Walked, Counts};
 
 mod rules;
 
@@ -250,7 +250,7 @@ fn leave_two(s: &[u8], n: Node, node: usize, a: u8, c: usize, y: Checked) -> Che
 // The binders go through the first subterm into the second with their marks. What a node binds is stored here, past the scope where
 // it binds nothing: to pass the binders through a function costs a copy each time.
 fn walk(s: &[u8], at: usize, node: usize, b: Binders, types: usize, second: bool) -> Checked
-    requires { ⌜ Ready (now s) types (editionBy second) at node (stackOf b) ⌝ }
+    requires { ⌜ Placed (now s) types (editionBy second) at node (stackOf b) ⌝ }
     ensures { λ r. ⌜ Walked (now (s .entry)) types (editionBy second) at node (stackOf b) r ⌝ }
 {
     let n = records::node_at(s, at);
@@ -298,7 +298,7 @@ pub enum Typing {
 
 // The walk over the records of a sheet that has been read, with so many types, whose term starts at an offset.
 pub fn check(s: &[u8], at: usize, types: usize, second: bool) -> Typing
-    requires { ⌜ Read (now s) types (editionBy second) at ⌝ }
+    requires { ⌜ TermAt (now s) types (editionBy second) at ⌝ }
     ensures { λ r. ⌜ saidTyping r ≡ checkOf (editionBy second) (now (s .entry)) ⌝ }
 {
     let b = binders::none();
