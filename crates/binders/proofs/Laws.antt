@@ -2,7 +2,7 @@
 use Prim.Native.Nat.{ℕ, zero, suc, _+_, _-_, _<_, _≤_}
 use mathlib.Core.Path.{_≡_, refl, ap}
 use mathlib.Core.Bool.{Bool, true, false, not, cond}
-use mathlib.Core.List.{List, _∷_}
+use mathlib.Core.List.{List, [], _∷_}
 use native.Mathlib.Omega.{arith}
 use native.Mathlib.Numerals.{add-one}
 use borrow.Author.Tests.{lt-ltb, leb-true, leb-false, ne-eqb}
@@ -15,7 +15,7 @@ use Rattle.calculus.specs.Walk.{Binder, shared, linear, Stack, under, useShared
 use Rattle.binders.specs.declared.Binders.{Binders}
 use Rattle.binders.specs.declared.Use.{Use}
 use Rattle.binders.specs.declared.Use.the-variants as use·
-use Rattle.binders.specs.Stacks.{isUsed, binderOf, stackFrom, stackOf, slotOf, sharedAt, sharedUse, linearAt, linearUse, saidUse}
+use Rattle.binders.specs.Stacks.{isUsed, binderOf, stackFrom, stackOf, noBinders, slotOf, sharedAt, sharedUse, linearAt, linearUse, saidUse}
 
 -- the code's test of a mark
 pub mark-test : (u : ℕ) → not (eqb u 0) ≡ isUsed u
@@ -154,3 +154,8 @@ module _ (ts ss us : List ℕ) where
 -- as many binders as the stack counts
 pub length-of : (b : Binders) → length (stackOf b) ≡ b .count
 length-of b = stack-length (b .types) (b .sorts) (b .used) (b .count)
+
+-- no binder is in scope
+pub none-in-scope : {b : Binders} → b ≡ noBinders → stackOf b ≡ []
+unfolding noBinders stackFrom
+none-in-scope e = rw e

@@ -3,7 +3,7 @@ use Prim.Native.Nat.{ℕ, zero, suc, _-_}
 use mathlib.Core.Bool.{Bool, true, false, cond}
 use mathlib.Core.List.{List, [], _∷_}
 use lib.Dec.{leb, ltb}
-use lib.ListN.{getD}
+use lib.ListN.{getD, replicate}
 use Rattle.calculus.specs.Answer.{Answer, refused}
 use Rattle.calculus.specs.Walk.{Binder, shared, linear, Stack, Found, found}
 use Rattle.binders.specs.declared.Binders.{Binders}
@@ -26,6 +26,10 @@ stackFrom types sorts used (suc n) = binderOf (getD types n 0) (getD sorts n 0) 
 
 abbrev pub stackOf : Binders → Stack
 stackOf b = stackFrom (b .types) (b .sorts) (b .used) (b .count)
+
+-- none in scope, and all numbers 0
+unfoldable pub noBinders : Binders
+noBinders = record { types = replicate 128 0; sorts = replicate 128 0; used = replicate 128 0; count = 0 }
 
 -- where binder i of `count` stands; 0 if it is not in scope
 unfoldable pub slotOf : ℕ → ℕ → ℕ

@@ -1,8 +1,7 @@
 // The binders in scope: a struct by value, the nearest last. Binders of both sorts share one count.
 // The struct is large, so what has to be decided is decided on the numbers of one binder; who holds the struct stores in place.
 ghost use mathlib.Core.Path.{_≡_};
-ghost use mathlib.Core.List.{[]};
-ghost use Rattle.binders.specs.Stacks.{binderOf, stackOf, slotOf, sharedUse, linearUse};
+ghost use Rattle.binders.specs.Stacks.{binderOf, noBinders, slotOf, sharedUse, linearUse};
 
 // For each binder in scope its type number, its sort (0 sharable, 1 linear), and for a linear one if it is used (0 or 1).
 pub struct Binders {
@@ -19,7 +18,7 @@ pub enum Use {
 }
 
 pub fn none() -> Binders
-    ensures { λ r. ⌜ stackOf r ≡ [] ⌝ }
+    ensures { λ r. ⌜ r ≡ noBinders ⌝ }
 {
     Binders {
         types: [0u8; 128],

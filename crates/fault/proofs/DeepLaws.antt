@@ -24,7 +24,7 @@ use Rattle.records.specs.declared.Record.the-variants as rec
 use Rattle.sheet_theorems.proofs.Standing.{fun-body, app-function, app-argument, lfun-body, lapp-function, lapp-argument, pair-first, pair-second, proj-pair, proj-body, fix-body}
 use Rattle.sheet_theorems.proofs.Standing.{sheet-stands}
 use Rattle.sheet_theorems.proofs.Laying.{laid}
-use Rattle.sheet.proofs.Told.{Told}
+use Rattle.records.specs.Told.{Told}
 use Rattle.fault.specs.Deep.{Measured, DepthOf}
 
 pub deep-some : (e : Term) → 1 ≤ depth e

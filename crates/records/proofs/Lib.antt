@@ -1,3 +1,5 @@
 pub mod Laws
 pub mod FormLaws
 pub mod RuleLaws
+pub mod Determined
+pub mod ToldLaws

@@ -2,3 +2,4 @@ pub mod Record
 pub mod Heads
 pub mod Rules
 pub mod Forms
+pub mod Told

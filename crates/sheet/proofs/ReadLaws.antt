@@ -15,7 +15,7 @@ use Rattle.calculus.specs.Read.{Got, readTypes, readTerm, readSheet}
 use Rattle.calculus.specs.Write.{tableBytes}
 use Rattle.sheet_theorems.proofs.Tables.{empty-ok}
 use Rattle.sheet_theorems.proofs.Laying.{types-listed, termed}
-use Rattle.sheet.specs.Tables.{sizesOf}
+use Rattle.records.specs.Told.{sizesOf}
 use Rattle.sheet.specs.Said.{Count, TypesSaid, allTypes, typesOf, dueOf, typesIn, End, end, spanned, endedOf}
 use Rattle.sheet.specs.Sheets.{wholeSheet, noSheet, readingOf}
 use Rattle.records.specs.Record.{recordAt}

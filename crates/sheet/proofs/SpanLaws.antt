@@ -78,13 +78,13 @@ headed-bad at (good k) a b e = absurd (refused≢good e)
 headed-bad at (refused c d) a b e = let p : c ≡ a = cc in let q : d ≡ b = cc in ap₂ {C = Answer NodeKind} refused p q
 
 -- the count and the depth are within the limits, and the record within the sheet
-pub record Within (more : ℕ) (s : List ℕ) (at n next : ℕ) : Type 0 where
+pub record InLimits (more : ℕ) (s : List ℕ) (at n next : ℕ) : Type 0 where
   pub few : n < 2048
   pub deep : 0 < more
   pub past : at < next
   pub in-sheet : next ≤ length s
 
-head-tells : (more : ℕ) (s : List ℕ) (types at n : ℕ) (k : NodeKind) → headAt more s types at n ≡ good k → Within more s at n (at + 1 + nodeBody k)
+head-tells : (more : ℕ) (s : List ℕ) (types at n : ℕ) (k : NodeKind) → headAt more s types at n ≡ good k → InLimits more s at n (at + 1 + nodeBody k)
 unfolding headAt
 head-tells more s types at n k e =
     on-need (ltb at (length s)) 3 at _ k e λ h₁ e₁.
@@ -93,7 +93,7 @@ head-tells more s types at n k e =
     on-need (ltb n 2048) 8 at _ k e₃ λ h₄ e₄.
     on-need (ltb 0 more) 8 at _ k e₄ λ h₅ e₅.
     on-need (eqb (nodeTyped q) 0 || ltb (byte s (at + nodeTyped q)) types) 5 at _ k e₅ λ h₆ e₆.
-    subst (λ (k : NodeKind). Within more s at n (at + 1 + nodeBody k)) (good-inj e₆)
+    subst (λ (k : NodeKind). InLimits more s at n (at + 1 + nodeBody k)) (good-inj e₆)
     (record { few = ltb→lt n 2048 h₄; deep = ltb→lt 0 more h₅; past = omega arith; in-sheet = leb→le _ _ h₃ })
 
 module _ (s : List ℕ) (types at n : ℕ) where
@@ -109,7 +109,7 @@ module _ (s : List ℕ) (types at n : ℕ) where
   read-bad a b (suc m) h = simp h
 
 module _ (more : ℕ) (s : List ℕ) (types at n : ℕ) where
-  pub open-tells : {p q : ℕ} → opening p q ≡ opens more s types at n → Within more s at n p
+  pub open-tells : {p q : ℕ} → opening p q ≡ opens more s types at n → InLimits more s at n p
   unfolding opens
   open-tells {p} {q} e =
       let (k, h, i, j) = headed-good at (headAt more s types at n) p q e in

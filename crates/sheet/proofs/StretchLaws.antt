@@ -21,7 +21,7 @@ use Rattle.records.specs.declared.Record.the-variants as rec
 use Rattle.records.proofs.Laws.{node-next, stands-record, stands-node}
 use Rattle.sheet.specs.Nodes.{NodesFrom}
 use Rattle.sheet.specs.Said.{End, end, spanned}
-use Rattle.sheet.proofs.Told.{Told}
+use Rattle.records.specs.Told.{Told}
 use Rattle.sheet.proofs.KindLaws.{NodeHere, node-here}
 
 -- ---- one record further

@@ -1,5 +1,5 @@
 -- Laws of the table of types that a sheet's bytes hold: its records, their tests, and the sizes. Assumes nothing.
-use Prim.Native.Nat.{ℕ, zero, suc, _+_, _-_, _≤_, _<_}
+use Prim.Native.Nat.{ℕ, zero, suc, _+_, _-_, _<_}
 use mathlib.Core.Path.{_≡_, refl, sym, ap, ap₂, _∙_}
 use mathlib.Core.Logic.{⊎-elim}
 use mathlib.Core.Bool.{Bool, true, false, _&&_, _||_}
@@ -9,15 +9,18 @@ use native.Mathlib.Nat.{not-suc-le-zero, eq-or-lt-of-le, le-of-suc-le-suc}
 use native.Mathlib.Numerals.{add-one}
 use borrow.Author.Tests.{ltb-true}
 use lib.Dec.{ltb}
-use lib.ListN.{length, getD, set, replicate, length-append, length-map, length-replicate, List·getD-append}
+use lib.ListN.{length, set, replicate, length-append, List·getD-append}
 use lib.Seq.{getD-at, set-at}
 use Rattle.laws.proofs.Tests.{T-is, and-both}
-use Rattle.calculus.specs.Types.{Ty, bit, size, sharable, isArrow, TyRec, rec01, rec02, rec03, rec04, recEq, Table, recAt, tyOf, tysFrom, tree}
+use Rattle.calculus.specs.Types.{Ty, size, sharable, isArrow, TyRec, rec01, rec02, rec03, rec04, recEq, Table, recAt, tyOf, tysFrom, tree}
 use Rattle.calculus.specs.Read.{known, formed, repeated}
-use Rattle.sheet_theorems.specs.Laid.{Agrees, TableOk}
-use Rattle.sheet_theorems.proofs.Tables.{tys-snoc, tys-length}
+use Rattle.sheet_theorems.specs.Laid.{TableOk}
+use Rattle.sheet_theorems.proofs.Tables.{tys-snoc}
+use Rattle.sheet_theorems.proofs.TypeForms.{sharable-form, arrow-form}
 use Rattle.records.specs.Forms.{recIn}
-use Rattle.sheet.specs.Tables.{tableIn, sharableRec, arrowRec, knownBelow, formedIn, sizeIn, sizesOf}
+use Rattle.records.specs.Told.{sizesOf}
+use Rattle.records.proofs.ToldLaws.{sizes-front, size-at}
+use Rattle.sheet.specs.Tables.{tableIn, sharableRec, arrowRec, knownBelow, formedIn, sizeIn}
 
 -- ---- the records
 
@@ -78,28 +81,15 @@ known-by s n (rec02 a b) = rw (table-count s n)
 known-by s n (rec03 a b) = rw (table-count s n)
 known-by s n (rec04 a b) = rw (table-count s n)
 
-module _ (Θ : Table) where
-  sharable-by : (q : TyRec) (τ : Ty) → Agrees Θ q τ → sharable τ ≡ sharableRec q
-  sharable-by rec01 τ a = rw a
-  sharable-by (rec02 x y) τ a = rw (a .0, T-is (sharable (tree Θ x)) (a .1), T-is (sharable (tree Θ y)) (a .2))
-  sharable-by (rec03 x y) τ a = rw (a .0)
-  sharable-by (rec04 x y) τ a = rw (a .0)
-
-  arrow-by : (q : TyRec) (τ : Ty) → Agrees Θ q τ → isArrow τ ≡ arrowRec q
-  arrow-by rec01 τ a = rw a
-  arrow-by (rec02 x y) τ a = rw (a .0)
-  arrow-by (rec03 x y) τ a = rw (a .0)
-  arrow-by (rec04 x y) τ a = rw (a .0)
-
 both-lt : (a b n : ℕ) → (ltb a n && ltb b n) ≡ true → (a < n) × (b < n)
 both-lt a b n e = let (p, q) = and-both (ltb a n) (ltb b n) (rw e tt) in (ltb-true a n (T-is _ p), ltb-true b n (T-is _ q))
 
 module _ (s : List ℕ) (n : ℕ) (ok : TableOk (tableIn s n)) where
   sharable-in : (a : ℕ) → a < n → sharable (tree (tableIn s n) a) ≡ sharableRec (recIn s a)
-  sharable-in a h = sharable-by (tableIn s n) (recAt (tableIn s n) a) (tree (tableIn s n) a) (ok .agrees a) ∙ ap sharableRec (table-at s n a h)
+  sharable-in a h = sharable-form (tableIn s n) ok a ∙ ap sharableRec (table-at s n a h)
 
   arrow-in : (a : ℕ) → a < n → isArrow (tree (tableIn s n) a) ≡ arrowRec (recIn s a)
-  arrow-in a h = arrow-by (tableIn s n) (recAt (tableIn s n) a) (tree (tableIn s n) a) (ok .agrees a) ∙ ap arrowRec (table-at s n a h)
+  arrow-in a h = arrow-form (tableIn s n) ok a ∙ ap arrowRec (table-at s n a h)
 
   pub formed-by : (q : TyRec) → knownBelow n q ≡ true → formed (tableIn s n) q ≡ formedIn s q
   formed-by rec01 k = refl
@@ -109,29 +99,9 @@ module _ (s : List ℕ) (n : ℕ) (ok : TableOk (tableIn s n)) where
 
 -- ---- sizes
 
-sizes-front : (Θ : Table) → length (map size (tysFrom [] Θ)) ≡ length Θ
-sizes-front Θ = omega (arith, length-map (tysFrom [] Θ) size, tys-length [] Θ)
-
-map-at : (l : List Ty) (n : ℕ) → n < length l → getD (map size l) n 0 ≡ size (getD l n bit)
-map-at [] n h = absurd (not-suc-le-zero h)
-map-at (τ ∷ l) zero h = refl
-map-at (τ ∷ l) (suc n) h = map-at l n (le-of-suc-le-suc h)
-
 map-snoc : (l : List Ty) (τ : Ty) → map size (l ++ τ ∷ []) ≡ map size l ++ size τ ∷ []
 map-snoc [] τ = refl
 map-snoc (x ∷ l) τ = ap (λ (m : List ℕ). size x ∷ m) (map-snoc l τ)
-
--- entry t is the size of type t
-pub size-at : (Θ : Table) (t : ℕ) → t < length Θ → getD (sizesOf Θ) t 0 ≡ size (tree Θ t)
-unfolding sizesOf
-size-at Θ t h =
-    List·getD-append (map size (tysFrom [] Θ)) (replicate (256 - length Θ) 0) 0 t (rw (sizes-front Θ) h)
-    ∙ map-at (tysFrom [] Θ) t (omega (arith, tys-length [] Θ))
-
-pub sizes-length : (Θ : Table) → length Θ ≤ 256 → length (sizesOf Θ) ≡ 256
-unfolding sizesOf
-sizes-length Θ h =
-    omega (arith, length-append (map size (tysFrom [] Θ)) (replicate (256 - length Θ) 0), sizes-front Θ, length-replicate {A = ℕ} (256 - length Θ) 0)
 
 -- the size of a record's type, from the sizes of earlier types
 pub size-by : (Θ : Table) (q : TyRec) → knownBelow (length Θ) q ≡ true → sizeIn (sizesOf Θ) q ≡ size (tyOf (tysFrom [] Θ) q)

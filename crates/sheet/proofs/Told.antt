@@ -1,38 +1,14 @@
--- What a caller of `read` knows: the sheet, its counts and the sizes of its types; or its refusal. Assumes nothing.
-use Prim.Native.Nat.{ℕ, _<_}
+-- What a caller of `read` is told: the sheet, its counts and the sizes of its types; or its refusal. Assumes nothing.
+use Prim.Native.Nat.{ℕ}
 use mathlib.Core.Path.{_≡_, refl, sym, ap, _∙_}
 use mathlib.Core.List.{List}
-use native.Mathlib.Omega.{arith}
-use lib.ListN.{length, getD}
+use Rattle.records.specs.Told.{Told}
 use Rattle.calculus.specs.Answer.{Answer, good, refused}
 use Rattle.calculus.proofs.Answers.{refused≢good, good-inj}
-use Rattle.calculus.specs.Types.{size, tree}
-use Rattle.calculus.specs.Terms.{nodes}
 use Rattle.calculus.specs.Read.{Sheet, readSheet}
-use Rattle.calculus.specs.Write.{tableBytes}
-use Rattle.sheet_theorems.specs.Laid.{Laid}
-use Rattle.sheet_theorems.proofs.Laying.{laid}
-use Rattle.sheet.specs.Tables.{sizesOf}
 use Rattle.sheet.specs.Sheets.{Counts, ReadSaid, saidVerdict, saidReading, readingOf}
 use Rattle.sheet.specs.declared.Verdict.the-variants as verdict
 use Rattle.sheet.specs.declared.Reading.{Reading}
-use Rattle.sheet.proofs.TableLaws.{size-at}
-
--- a sheet that is read, with its counts and the table of sizes
-pub record Told (s : List ℕ) (sizes : List ℕ) (types n start : ℕ) : Type 0 where
-  pub sheet : Sheet
-  pub is : readSheet s ≡ good sheet
-  pub types-are : types ≡ length (sheet .table)
-  pub nodes-are : n ≡ nodes (sheet .term)
-  pub start-is : start ≡ length (tableBytes (sheet .table))
-  pub sizes-are : sizes ≡ sizesOf (sheet .table)
-
-pub told-laid : {s sizes : List ℕ} {types n start : ℕ} (t : Told s sizes types n start) → Laid s (t .sheet)
-told-laid {s} t = laid s (t .sheet) (t .is)
-
--- entry t of the sizes is the size of type t
-pub told-size : {s sizes : List ℕ} {types n start : ℕ} (t : Told s sizes types n start) (k : ℕ) → k < types → getD sizes k 0 ≡ size (tree (t .sheet .table) k)
-told-size t k h = let e = t .types-are in rw (t .sizes-are) (size-at (t .sheet .table) k (omega arith))
 
 told-by : (s : List ℕ) (r : Reading) (types n start : ℕ) (a : Answer Sheet) → readSheet s ≡ a → saidReading r ≡ readingOf a → r .verdict ≡ verdict.Read types n start → Told s (r .sizes) types n start
 unfolding readingOf

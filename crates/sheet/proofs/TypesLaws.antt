@@ -28,7 +28,8 @@ use Rattle.records.specs.declared.Form.{Form}
 use Rattle.records.specs.declared.Record.{Record}
 use Rattle.records.specs.declared.Record.the-variants as rec
 use Rattle.records.proofs.Record.{the-type}
-use Rattle.sheet.specs.Tables.{tableIn, sizesOf, Before, sizeOf}
+use Rattle.records.specs.Told.{sizesOf}
+use Rattle.sheet.specs.Tables.{tableIn, Before, sizeOf}
 use Rattle.sheet.specs.Said.{allTypes, noTypes, typesOf, endOf, dueOf, typesIn}
 use Rattle.sheet.proofs.KindLaws.{TypeHere, type-cut, record-kind, record-past}
 use Rattle.sheet.proofs.TableLaws.{table-more, table-count, sizes-more}

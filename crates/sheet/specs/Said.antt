@@ -7,7 +7,7 @@ use lib.ListN.{length}
 use Rattle.calculus.specs.Answer.{Answer, good, refused, _>>=_, need}
 use Rattle.calculus.specs.Types.{Table}
 use Rattle.calculus.specs.Read.{NodeKind, k11, k12, k13, k14, k15, k16, k17, k18, k19, k1A, nodeBody, readTypes, headAt, Got}
-use Rattle.sheet.specs.Tables.{sizesOf}
+use Rattle.records.specs.Told.{sizesOf}
 use Rattle.sheet.specs.Sheets.{ReadSaid, wholeSheet, noSheet}
 use Rattle.sheet.specs.declared.types.Listed.{Listed}
 use Rattle.sheet.specs.declared.types.Listed.the-variants as listed

@@ -7,7 +7,7 @@ use Rattle.calculus.specs.Terms.{nodes}
 use Rattle.calculus.specs.Read.{Sheet}
 use Rattle.calculus.specs.Write.{tableBytes}
 use Rattle.calculus.specs.Stretch.{Stretch}
-use Rattle.sheet.specs.Tables.{sizesOf}
+use Rattle.records.specs.Told.{sizesOf}
 use Rattle.sheet.specs.declared.Verdict.{Verdict}
 use Rattle.sheet.specs.declared.Verdict.the-variants as verdict
 use Rattle.sheet.specs.declared.Reading.{Reading}

@@ -1,15 +1,16 @@
 -- The types of a sheet by their numbers: the records of the first n types, each record's tests, and the table of sizes. Assumes nothing.
-use Prim.Native.Nat.{ℕ, zero, suc, _+_, _-_}
+use Prim.Native.Nat.{ℕ, zero, suc, _+_}
 use mathlib.Core.Bool.{Bool, true, false, _&&_}
 use mathlib.Core.Path.{_≡_}
-use mathlib.Core.List.{List, [], _∷_, _++_, map}
+use mathlib.Core.List.{List, [], _∷_, _++_}
 use lib.Dec.{ltb}
-use lib.ListN.{length, getD, replicate}
+use lib.ListN.{length, getD}
 use Rattle.calculus.specs.Answer.{Answer, good, refused, _>>=_, need}
 use Rattle.calculus.specs.Types.{size, TyRec, rec01, rec02, rec03, rec04, Table, tyOf, tysFrom}
 use Rattle.calculus.specs.Read.{checkType}
 use Rattle.sheet_theorems.specs.Laid.{TableOk}
 use Rattle.records.specs.Forms.{recIn}
+use Rattle.records.specs.Told.{sizesOf}
 use Rattle.sheet.specs.declared.types.Checked.{Checked}
 use Rattle.sheet.specs.declared.types.Checked.the-variants as checked
 
@@ -55,11 +56,7 @@ sizeIn sizes (rec02 a b) = getD sizes a 0 + getD sizes b 0
 sizeIn sizes (rec03 a b) = getD sizes a 0 + getD sizes b 0
 sizeIn sizes (rec04 a b) = getD sizes a 0 + getD sizes b 0
 
--- ---- the table of sizes
-
--- the size of each type, and 0 past them, up to 256
-unfoldable pub sizesOf : Table → List ℕ
-sizesOf Θ = map size (tysFrom [] Θ) ++ replicate (256 - length Θ) 0
+-- ---- a record against those before it
 
 -- what is known where a type record is checked: the earlier ones are in order, and their sizes are in the table
 pub record Before (s : List ℕ) (count : ℕ) (sizes : List ℕ) : Type 0 where

@@ -10,7 +10,8 @@ ghost use lib.ListN.{length, getD};
 ghost use Rattle.calculus.specs.Types.{recEq};
 ghost use Rattle.calculus.specs.Read.{repeated};
 ghost use Rattle.records.specs.Forms.{saidForm, recOf, recIn};
-ghost use Rattle.sheet.specs.Tables.{tableIn, sharableRec, arrowRec, knownBelow, formedIn, sizeIn, sizesOf, Before, sizeOf, saidChecked};
+ghost use Rattle.records.specs.Told.{sizesOf};
+ghost use Rattle.sheet.specs.Tables.{tableIn, sharableRec, arrowRec, knownBelow, formedIn, sizeIn, Before, sizeOf, saidChecked};
 ghost use Rattle.sheet.specs.Said.{saidTypes, noTypes, typesOf, typesIn, endOf};
 
 const MOST_TYPES: usize = 256;

@@ -14,6 +14,9 @@ use Rattle.sheet_theorems.proofs.Exact.{exact}
 use Rattle.typing.specs.declared.Typing.{Typing}
 use Rattle.typing.specs.declared.Typing.the-variants as typing
 use Rattle.typing.specs.Answers.{saidTyping, checkOf}
+use Rattle.laws.proofs.OneResult.{Result}
+use Rattle.typing.proofs.check.Kinds as check
+use Rattle.typing.proofs.check.Reads as check-reads
 
 -- ---- two answers that the contract of `check` allows are equal
 
@@ -26,8 +29,8 @@ same-typing (typing.Refused r) (typing.Refused q) e =
     let b : r .place ≡ q .place = cc in
     ap₂ (λ (x y : ℕ). typing.Refused (record { number = x; place = y })) a b
 
-pub determined : (s : List ℕ) (r q : Typing) → saidTyping r ≡ checkOf s → saidTyping q ≡ checkOf s → r ≡ q
-determined s r q a b = same-typing r q (a ∙ sym b)
+pub determined : Result check.ps check.r check-reads.Post
+determined κs a x y s t f g = same-typing x y (f ∙ sym g)
 
 -- ---- with Figure 2
 

@@ -38,7 +38,7 @@ OpensIn l (opening.Linear t) = t < l
 OpensIn l opening.Misfit = Unit {0}
 
 -- a stack in the table's range, of at most so many binders
-pub record Within (l m : ℕ) (st : Stack) : Type 0 where
+pub record InRange (l m : ℕ) (st : Stack) : Type 0 where
   pub numbers : Numbers st l
   pub few : length st ≤ m
 
@@ -56,10 +56,10 @@ module _ (l : ℕ) where
   opening-in rule.FixedPoint t q h g = on-cond (OpensIn l) (leb (kindNo q) 2) _ _ (λ _. h) tt
   opening-in rule.Constant t q h g = tt
 
-  opened-in : (x : Opening) (t n : ℕ) (st : Stack) (o : Found) → OpensIn l x → Numbers st l → opened x t n st ≡ good o → Within l (suc (length st)) (o .stack)
-  opened-in opening.Nothing t n st o h k e = subst (λ (o : Found). Within l (suc (length st)) (o .stack)) (good-inj e) (record { numbers = k; few = omega arith })
-  opened-in (opening.Shared u) t n st o h k e = subst (λ (o : Found). Within l (suc (length st)) (o .stack)) (good-inj e) (record { numbers = (h, k); few = omega arith })
-  opened-in (opening.Linear u) t n st o h k e = subst (λ (o : Found). Within l (suc (length st)) (o .stack)) (good-inj e) (record { numbers = (h, k); few = omega arith })
+  opened-in : (x : Opening) (t n : ℕ) (st : Stack) (o : Found) → OpensIn l x → Numbers st l → opened x t n st ≡ good o → InRange l (suc (length st)) (o .stack)
+  opened-in opening.Nothing t n st o h k e = subst (λ (o : Found). InRange l (suc (length st)) (o .stack)) (good-inj e) (record { numbers = k; few = omega arith })
+  opened-in (opening.Shared u) t n st o h k e = subst (λ (o : Found). InRange l (suc (length st)) (o .stack)) (good-inj e) (record { numbers = (h, k); few = omega arith })
+  opened-in (opening.Linear u) t n st o h k e = subst (λ (o : Found). InRange l (suc (length st)) (o .stack)) (good-inj e) (record { numbers = (h, k); few = omega arith })
   opened-in opening.Misfit t n st o h k e = absurd (refused≢good e)
 
 -- ---- a node's subterms
@@ -237,11 +237,11 @@ module _ (s : List ℕ) (at node : ℕ) (Θ : Table) (st : Stack) where
   right-side : (e : Term) → Fits s at node Θ e st → (t : ℕ) → t < length Θ → rightOf (recIn s t) < length Θ
   right-side e F t h = rw (F .types t h) (right-in Θ (F .table) t h)
 
-  typed-in : (e : Term) → Fits s at node Θ e st → (u : Rule) (t : ℕ) → t < length Θ → (o : Found) → enterOf (recIn s) u t node st ≡ good o → Within (length Θ) (suc (length st)) (o .stack)
+  typed-in : (e : Term) → Fits s at node Θ e st → (u : Rule) (t : ℕ) → t < length Θ → (o : Found) → enterOf (recIn s) u t node st ≡ good o → InRange (length Θ) (suc (length st)) (o .stack)
   typed-in e F u t h o g = opened-in (length Θ) (openingOf u t (recIn s t)) t node st o (opening-in (length Θ) u t (recIn s t) h (left-side e F t h)) (F .numbers) g
 
   enter-in : (e : Term) → Fits s at node Θ e st → ¬ (nodeOf e at .subterms ≡ 0) → (o : Found)
-      → enterOf (recIn s) (nodeOf e at .rule) (nodeOf e at .first) node st ≡ good o → Within (length Θ) (suc (length st)) (o .stack)
+      → enterOf (recIn s) (nodeOf e at .rule) (nodeOf e at .first) node st ≡ good o → InRange (length Θ) (suc (length st)) (o .stack)
   unfolding openingOf
   enter-in (var i) F d o g = absurd (d refl)
   enter-in (lvar i) F d o g = absurd (d refl)
@@ -318,21 +318,21 @@ module _ (s : List ℕ) (at node : ℕ) (Θ : Table) (st : Stack) where
       pub first-kept : Kept Θ (o .stack) x
       first-kept = kept Θ (F .table) (firstOf e) (first-ranged Θ e (F .ranged)) (node + 1) (o .stack) (enter-in e F d o g .numbers) x h
 
-      between-in : (u : Rule) (m : Found) → betweenOf (recIn s) u node x ≡ good m → Within (length Θ) (length (o .stack) + 2) (m .stack)
+      between-in : (u : Rule) (m : Found) → betweenOf (recIn s) u node x ≡ good m → InRange (length Θ) (length (o .stack) + 2) (m .stack)
       unfolding betweenOf
       between-in u m = by-rule (isProjection u)
         where
           by-rule : (b : Bool)
               → cond b (need (eqb (kindNo (recIn s (x .type))) 2) 12 node >>= λ _. found (x .type) (shared (rightOf (recIn s (x .type))) ∷ shared (leftOf (recIn s (x .type))) ∷ x .stack)) (good x) ≡ good m
-              → Within (length Θ) (length (o .stack) + 2) (m .stack)
+              → InRange (length Θ) (length (o .stack) + 2) (m .stack)
           by-rule true z =
               let k : Numbers (shared (rightOf (recIn s (x .type))) ∷ shared (leftOf (recIn s (x .type))) ∷ x .stack) (length Θ) =
               (right-side e F (x .type) (first-kept .type-in), (left-side e F (x .type) (first-kept .type-in), first-kept .numbers)) in
-              let w : Within (length Θ) (length (o .stack) + 2) (shared (rightOf (recIn s (x .type))) ∷ shared (leftOf (recIn s (x .type))) ∷ x .stack) =
+              let w : InRange (length Θ) (length (o .stack) + 2) (shared (rightOf (recIn s (x .type))) ∷ shared (leftOf (recIn s (x .type))) ∷ x .stack) =
               record { numbers = k; few = omega (arith, first-kept .count) } in
               on-need (eqb (kindNo (recIn s (x .type))) 2) 12 node (λ _. found (x .type) (shared (rightOf (recIn s (x .type))) ∷ shared (leftOf (recIn s (x .type))) ∷ x .stack)) m z λ _ y.
-              subst (λ (m : Found). Within (length Θ) (length (o .stack) + 2) (m .stack)) (good-inj y) w
-          by-rule false z = subst (λ (m : Found). Within (length Θ) (length (o .stack) + 2) (m .stack)) (good-inj z) (record { numbers = first-kept .numbers; few = omega (arith, first-kept .count) })
+              subst (λ (m : Found). InRange (length Θ) (length (o .stack) + 2) (m .stack)) (good-inj y) w
+          by-rule false z = subst (λ (m : Found). InRange (length Θ) (length (o .stack) + 2) (m .stack)) (good-inj z) (record { numbers = first-kept .numbers; few = omega (arith, first-kept .count) })
 
       pub fits-second : (m : Found) → betweenOf (recIn s) (nodeOf e at .rule) node x ≡ good m
           → Fits s (nodeOf e at .next + length (termBytes (firstOf e))) (node + 1 + nodes (firstOf e)) Θ (secondOf e) (m .stack)

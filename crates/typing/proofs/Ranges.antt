@@ -1,52 +1,21 @@
 -- The type records of a read sheet are its table's, and the walk keeps to the table and to the binders. Assumes nothing.
-use Prim.Native.Nat.{ℕ, zero, suc, _+_, _*_, _<_}
+use Prim.Native.Nat.{ℕ, suc, _<_}
 use mathlib.Core.Path.{_≡_, refl, sym, ap, _∙_}
 use mathlib.Core.Bool.{Bool}
-use mathlib.Core.List.{List, [], _∷_, _++_}
 use native.Mathlib.Omega.{arith}
 use lib.Dec.{eqb, leb}
-use lib.ListN.{length, drop}
+use lib.ListN.{length}
 use Rattle.calculus.specs.Answer.{good}
 use Rattle.calculus.proofs.Answers.{good-inj}
 use Rattle.calculus.specs.Types.{Ty, bit, prod, arrow, lolli, sharable, tyEq, TyRec, rec01, rec02, rec03, rec04, Table, recAt, tree}
 use Rattle.calculus.specs.Terms.{Term}
-use Rattle.calculus.specs.Read.{Sheet}
-use Rattle.calculus.specs.Write.{tableBytes, termBytes, sheetBytes}
-use Rattle.sheet_theorems.specs.Laid.{Agrees, Below, TableOk, Ranged, Laid}
+use Rattle.sheet_theorems.specs.Laid.{Agrees, Below, TableOk, Ranged}
 use Rattle.calculus.specs.Rules.{Ctx}
 use Rattle.calculus.specs.Walk.{Stack, Found, walk}
 use Rattle.laws.proofs.Tests.{T-is}
-use Rattle.records.specs.Forms.{recOf, recFrom, recIn}
-use Rattle.records.proofs.FormLaws.{rec-long}
-use Rattle.sheet_theorems.proofs.Bytes.{first-byte, behind, within}
-use Rattle.sheet_theorems.proofs.TypeOffsets.{StandsRec, record-zero, record-later, type-stands}
 use Rattle.sheet_theorems.proofs.Sound.{Step, step-end, step-shared, step-same, step-took, derived}
 use Rattle.sheet_theorems.proofs.Complete.{Numbers, complete}
 use Rattle.typing.specs.Steps.{Types, kindNo, leftOf, rightOf, bothSides, standsFor}
-
--- ---- the sheet is its own table of types
-
-module _ (s : List ℕ) (at : ℕ) where
-  three : (k a b : ℕ) (rest : List ℕ) → drop at s ≡ k ∷ a ∷ b ∷ rest → recFrom s at ≡ recOf k a b
-  three k a b rest e =
-      rec-long s at (within s (k ∷ a ∷ b ∷ []) rest at e (omega arith))
-      ∙ rw (first-byte s (a ∷ b ∷ rest) at k e, first-byte s (b ∷ rest) (at + 1) a (behind s (k ∷ []) (a ∷ b ∷ rest) at e), first-byte s rest (at + 2) b (behind s (k ∷ a ∷ []) (b ∷ rest) at e))
-
-  record-from : (r : TyRec) → (r ≡ rec01 → ⊥) → StandsRec s at r → recFrom s at ≡ r
-  record-from rec01 f h = absurd (f refl)
-  record-from (rec02 a b) f h = three 2 a b (h .rest) (h .here)
-  record-from (rec03 a b) f h = three 3 a b (h .rest) (h .here)
-  record-from (rec04 a b) f h = three 4 a b (h .rest) (h .here)
-
--- the bytes begin with a table's records
-pub record-in : (s : List ℕ) (Θ : Table) (rest : List ℕ) → TableOk Θ → s ≡ tableBytes Θ ++ rest → (t : ℕ) → t < length Θ → recIn s t ≡ recAt Θ t
-unfolding recIn
-record-in s Θ rest ok e zero h = sym (record-zero Θ ok)
-record-in s Θ rest ok e (suc t) h = record-from s (3 * t + 1) (recAt Θ (suc t)) (record-later Θ ok t h) (type-stands s Θ rest ok e t h)
-
-pub sheet-types : (s : List ℕ) (σ : Sheet) → Laid s σ → (t : ℕ) → t < length (σ .table) → recIn s t ≡ recAt (σ .table) t
-unfolding sheetBytes
-sheet-types s σ l t h = record-in s (σ .table) (termBytes (σ .term)) (l .table) (l .bytes) t h
 
 -- ---- the sides of a type in range
 

@@ -8,7 +8,6 @@ use types.Run.{OneOf, miss}
 use native.Mathlib.Omega.{arith}
 use native.Mathlib.Nat.{add-zero}
 use borrow.Author.Tests.{eq-eqb, ne-eqb}
-use lib.Dec.{eqb}
 use lib.ListN.{length, getD, set, drop, length-set}
 use Rattle.calculus.specs.Answer.{Answer, refused}
 use Rattle.calculus.specs.Walk.{shared, Stack, Found, found}

@@ -11,9 +11,9 @@ use Rattle.typing.specs.declared.Typing.{Typing}
 use Rattle.typing.specs.declared.Typing.the-variants as typing
 
 -- a sheet that has been read, whose term starts at an offset
-pub record Read (s : List ℕ) (at : ℕ) : Type 0 where
+pub record TermAt (s : List ℕ) (at : ℕ) : Type 0 where
   pub sheet : Sheet
-  pub good : readSheet s ≡ Answer.good sheet
+  pub read : readSheet s ≡ Answer.good sheet
   pub start : at ≡ length (tableBytes (sheet .table))
 
 abbrev pub saidTyping : Typing → Answer ℕ

@@ -26,7 +26,7 @@ pub record Fits (s : List ℕ) (at node : ℕ) (Θ : Table) (e : Term) (st : Sta
   pub few : node + nodes e ≤ 2048
 
 -- some term does
-pub record Ready (s : List ℕ) (at node : ℕ) (st : Stack) : Type 0 where
+pub record Placed (s : List ℕ) (at node : ℕ) (st : Stack) : Type 0 where
   pub table : Table
   pub term : Term
   pub fits : Fits s at node table term st

@@ -13,8 +13,8 @@ ghost use Rattle.records.specs.Forms.{recIn};
 ghost use Rattle.binders.specs.Stacks.{binderOf, stackOf};
 ghost use Rattle.typing.specs.Steps.{leafOf, usedUp, leaveOne, betweenOf, closesOf, leaveTwo};
 ghost use Rattle.typing.specs.Verdicts.{refusedOf, checked, settledOf, halves, Says, FollowsOn, Follows};
-ghost use Rattle.typing.specs.Answers.{saidTyping, checkOf, Read};
-ghost use Rattle.typing.specs.Fits.{Ready, Walked, Counts};
+ghost use Rattle.typing.specs.Answers.{saidTyping, checkOf, TermAt};
+ghost use Rattle.typing.specs.Fits.{Placed, Walked, Counts};
 
 mod rules;
 
@@ -208,7 +208,7 @@ fn leave_two(s: &[u8], n: Node, node: usize, a: u8, c: usize, y: Checked) -> Che
 // The binders go through the first subterm into the second with their marks. What a node binds is stored here, past the scope where
 // it binds nothing: to pass the binders through a function costs a copy each time.
 fn walk(s: &[u8], at: usize, node: usize, b: Binders) -> Checked
-    requires { ⌜ Ready (now s) at node (stackOf b) ⌝ }
+    requires { ⌜ Placed (now s) at node (stackOf b) ⌝ }
     ensures { λ r. ⌜ Walked (now (s .entry)) at node (stackOf b) r ⌝ }
 {
     let n = records::node_at(s, at);
@@ -256,7 +256,7 @@ pub enum Typing {
 
 // The walk over a sheet that has been read, whose term starts at an offset.
 pub fn check(s: &[u8], at: usize) -> Typing
-    requires { ⌜ Read (now s) at ⌝ }
+    requires { ⌜ TermAt (now s) at ⌝ }
     ensures { λ r. ⌜ saidTyping r ≡ checkOf (now (s .entry)) ⌝ }
 {
     let b = binders::none();

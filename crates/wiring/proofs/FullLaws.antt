@@ -26,9 +26,8 @@ use Rattle.calculus.specs.NetRead.{Known}
 use Rattle.circuit_theorems.proofs.KnownParts.{made-known}
 use Rattle.sheet_theorems.proofs.Laying.{laid}
 use Rattle.sheet_theorems.proofs.Standing.{sheet-stands}
-use Rattle.sheet.specs.Tables.{sizesOf}
-use Rattle.sheet.proofs.TableLaws.{size-at, sizes-length}
-use Rattle.typing.proofs.Ranges.{sheet-types}
+use Rattle.records.specs.Told.{sizesOf}
+use Rattle.records.proofs.ToldLaws.{sheet-types, size-at, sizes-length}
 use Rattle.circuit_theorems.specs.Drive.{driveAll}
 use Rattle.circuit_theorems.proofs.Drivers.{env-end}
 use Rattle.circuit_theorems.proofs.Lists.{all-map}

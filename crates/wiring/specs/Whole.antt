@@ -9,7 +9,7 @@ use Rattle.calculus.specs.Record.{All}
 use Rattle.calculus.specs.Translate.{full}
 use Rattle.memory.specs.Map.{netIn, Ready}
 use Rattle.calculus.specs.NetRead.{Known}
-use Rattle.sheet.proofs.Told.{Told}
+use Rattle.records.specs.Told.{Told}
 use Rattle.wiring.specs.declared.Counts.{Counts}
 
 -- the sheet is read: its term begins at an offset and has n nodes

@@ -1,11 +1,11 @@
--- `binders::none` meets its contract: no binder is in scope. Assumes nothing.
+-- `binders::none` meets its contract: all numbers are 0. Assumes nothing.
 use mathlib.Core.Path.{refl}
-use Rattle.binders.specs.Stacks.{stackFrom}
+use Rattle.binders.specs.Stacks.{noBinders}
 use Rattle.binders.proofs.none.Statement.{statement}
 use Rattle.binders.proofs.none.Tie as tie
 
 returns : tie.Need-returns
-unfolding stackFrom
+unfolding noBinders
 returns c = refl
 
 pub none-spec : {M : Type 1} → statement M

@@ -4,7 +4,7 @@ use borrow.Author.Tests.{not-true, not-false}
 use borrow.Author.Needs.{needs}
 use Rattle.sheet.specs.Tables.{tableIn}
 use Rattle.sheet.proofs.CheckLaws.{check-many, check-unknown, check-misformed, check-again, check-large, check-sized}
-use Rattle.sheet.proofs.TableLaws.{sizes-length}
+use Rattle.records.proofs.ToldLaws.{sizes-length}
 use Rattle.sheet.proofs.types.check_type.Statement.{statement}
 use Rattle.sheet.proofs.types.check_type.Tie as tie
 

@@ -1,6 +1,6 @@
 -- `sheet::no_sizes` meets its contract. Assumes nothing.
 use mathlib.Core.Path.{refl}
-use Rattle.sheet.specs.Tables.{sizesOf}
+use Rattle.records.specs.Told.{sizesOf}
 use Rattle.sheet.proofs.types.no_sizes.Statement.{statement}
 use Rattle.sheet.proofs.types.no_sizes.Tie as tie
 

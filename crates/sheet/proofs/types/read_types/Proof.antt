@@ -8,7 +8,8 @@ use lib.ListN.{length}
 use Rattle.calculus.specs.Types.{TyRec}
 use Rattle.records.proofs.Laws.{type-next}
 use Rattle.sheet.specs.Tables.{tableIn, sizeOf, saidChecked}
-use Rattle.sheet.proofs.TableLaws.{table-count, sizes-length}
+use Rattle.sheet.proofs.TableLaws.{table-count}
+use Rattle.records.proofs.ToldLaws.{sizes-length}
 use Rattle.sheet.proofs.TypesLaws.{SoFar, first, next-type, type-refused, types-stop}
 use Rattle.sheet.proofs.KindLaws.{type-here}
 use Rattle.sheet.proofs.types.read_types.Statement.{statement}
