@@ -81,5 +81,5 @@ pub same-circuit : (law : Law) (s : List ℕ) (m : Net) → full s ≡ good m �
 same-circuit law s m e = same-records law m (formed s m e .net)
 
 -- .. and so over document 01's
-pub same-circuit-01 : (s : List ℕ) (m : Net) → full s ≡ good m → (n : ℕ) (γ π : Bits) → Outside partLaw m n γ π ↔ Outside partLaw (lean m) n γ π
-same-circuit-01 = same-circuit partLaw
+pub same-circuit-parts : (s : List ℕ) (m : Net) → full s ≡ good m → (n : ℕ) (γ π : Bits) → Outside partLaw m n γ π ↔ Outside partLaw (lean m) n γ π
+same-circuit-parts = same-circuit partLaw

@@ -17,7 +17,7 @@ use Rattle.calculus.specs.Net.{Net, make, netOf, netBytes}
 use Rattle.calculus.specs.NetRead.{readNet}
 use Rattle.calculus.specs.Translate.{full, asked, answer, zeroed, saidOf, outOf, workOf, call}
 use Rattle.sheet_theorems.proofs.Exact.{exact}
-use Rattle.circuit_theorems.proofs.Main.{accepts, driven, undriven, made-once, same-circuit, same-circuit-01}
+use Rattle.circuit_theorems.proofs.Main.{accepts, driven, undriven, made-once, same-circuit, same-circuit-parts}
 use Rattle.circuit_theorems.proofs.Told.{bytes-tell}
 use Rattle.memory.proofs.Zeroed.{zeroed-length, zeroed-zeros, zeroed-later}
 use Rattle.deltawobble.specs.Demands.{Wrote, Cleared, Demand1, Derivable, Demand2, OneDriver, Circuit, Demand3}
@@ -162,7 +162,7 @@ module _ (b : Bool) (s out work : List ℕ) where
         wrote = ap₂ (λ (x : List ℕ) (j : ℕ). x ++ drop j out) (sym (w .is)) k;
         told = ap readNet (take-at bytes (drop (length bytes) out) n k ∙ sym (w .is)) ∙ bytes-tell s (w .net) (w .made) b;
         one = one-driver s (w .net) (w .made);
-        same = same-circuit-01 s (w .net) (w .made);
+        same = same-circuit-parts s (w .net) (w .made);
         same-any = λ law. same-circuit law s (w .net) (w .made);
       }
 

@@ -80,7 +80,7 @@ pub record Circuit (wantLean : Bool) (s out : List ℕ) (n : ℕ) (after : List 
   pub wrote : after ≡ netBytes (asked wantLean net) ++ drop n out
   pub told : readNet (take n after) ≡ good (asked wantLean net)
   pub one : OneDriver net
-  -- the lean netlist is the same circuit, for document 01's law and over any other
+  -- the lean netlist is the same circuit, for the parts' own law and over any other
   pub same : SameRecords partLaw net (lean net)
   pub same-any : (law : Law) → SameRecords law net (lean net)
 
