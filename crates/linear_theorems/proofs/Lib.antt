@@ -1,0 +1,5 @@
+pub mod Meaning
+pub mod Lines
+pub mod PutTyped
+pub mod PutMeans
+pub mod Heard
