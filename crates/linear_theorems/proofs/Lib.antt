@@ -5,3 +5,5 @@ pub mod PutMeans
 pub mod Heard
 pub mod Below
 pub mod Played
+pub mod Shown
+pub mod Weights
