@@ -129,7 +129,7 @@ module _ (law : Law) (n : ℕ) (ρ : Seen) (β : Bits) where
     fun-heard : (e : Marked) (ε : List Val) (α σ : Ty) (i : ℕ) (m : Made) → (Runs law n ρ β (marks e) m → Means law Θ n ρ e (val n β (binder α i) ∷ ε) (build σ (lines n β (m .side))))
         → All (Works law n β) (points (turns false α) i ++ m .elements) → All (Joined n β) (m .wires) → PartsSeen n ρ β (marks e) (points (turns false α) i ++ m .elements)
         → Shaped n α (build α (take (size α) (lines n β (inSide (turns false α) i ++ m .side))))
-          × Means law Θ n ρ e (build α (take (size α) (lines n β (inSide (turns false α) i ++ m .side))) ∷ ε) (build σ (drop (size α) (lines n β (inSide (turns false α) i ++ m .side))))
+        × Means law Θ n ρ e (build α (take (size α) (lines n β (inSide (turns false α) i ++ m .side))) ∷ ε) (build σ (drop (size α) (lines n β (inSide (turns false α) i ++ m .side))))
     fun-heard e ε α σ i m h w j k =
         let s = inSide (turns false α) i in
         let p : build α (take (size α) (lines n β (s ++ m .side))) ≡ build α (lines n β s) = front n β α s (m .side) (in-length α i) in
@@ -137,7 +137,7 @@ module _ (law : Law) (n : ℕ) (ρ : Seen) (β : Bits) where
         let r : build α (lines n β s) ≡ val n β (binder α i) = in-out α i (all-left (Works law n β) (points (turns false α) i) (m .elements) w) in (
           subst (λ (x : Val). Shaped n α x) (sym p) (build-shaped n α (lines n β s) (lines-cut n β s)),
           subst (λ (x : Val). Means law Θ n ρ e (x ∷ ε) (build σ (drop (size α) (lines n β (s ++ m .side))))) (sym (p ∙ r))
-          (subst (λ (x : Val). Means law Θ n ρ e (val n β (binder α i) ∷ ε) x) (sym q) (h (inner (marks e) α i m w j k))),
+              (subst (λ (x : Val). Means law Θ n ρ e (val n β (binder α i) ∷ ε) x) (sym q) (h (inner (marks e) α i m w j k))),
         )
 
     -- an application, of either sort
@@ -186,8 +186,8 @@ module _ (law : Law) (n : ℕ) (ρ : Seen) (β : Bits) where
     fix-heard e ε θ i m d h r =
         let s = inSide (turns false θ) i in
         let w : build θ (lines n β (m .side)) ≡ val n β (binder θ i) =
-            ap (build θ) (join-lines n β (m .side) s (dirs-in (turns false θ) i ∙ ap (map not) (sym d)) (all-right (Joined n β) (m .wires) (join (m .side) s) (r .joined)))
-            ∙ in-out θ i (all-left (Works law n β) (points (turns false θ) i) (m .elements) (r .works)) in (
+        ap (build θ) (join-lines n β (m .side) s (dirs-in (turns false θ) i ∙ ap (map not) (sym d)) (all-right (Joined n β) (m .wires) (join (m .side) s) (r .joined)))
+        ∙ in-out θ i (all-left (Works law n β) (points (turns false θ) i) (m .elements) (r .works)) in (
           build-shaped n θ (lines n β (m .side)) (lines-cut n β (m .side)),
           subst (λ (u : Val). Means law Θ n ρ e (u ∷ ε) (build θ (lines n β (m .side)))) (sym w) (h (inner (marks e) θ i m (r .works) (all-left (Joined n β) (m .wires) (join (m .side) s) (r .joined)) (r .seen))),
         )
@@ -226,6 +226,6 @@ module _ (law : Law) (n : ℕ) (ρ : Seen) (β : Bits) where
         (hear e c (secondHalf x ∷ firstHalf x ∷ env) (env-many s₂ h₂ (env-many s₁ h₁ v₂)) (x .next)) (r .works) (r .joined) (r .seen)
     hear (mfix t e) (Fix {θ = θ} q s d) env v i =
         rw q (
-          let v′ = env-many s (binder-fits θ i) v in
-          fix-heard e (vals n β env) θ i (make Θ (plain e) (binder θ i ∷ env) (i + 2 * size θ)) (term-driven d (binder θ i ∷ env) v′ (i + 2 * size θ) .dirs) (hear e d (binder θ i ∷ env) v′ (i + 2 * size θ)))
+        let v′ = env-many s (binder-fits θ i) v in
+        fix-heard e (vals n β env) θ i (make Θ (plain e) (binder θ i ∷ env) (i + 2 * size θ)) (term-driven d (binder θ i ∷ env) v′ (i + 2 * size θ) .dirs) (hear e d (binder θ i ∷ env) v′ (i + 2 * size θ)))
     hear (mcon p t k) (Con l q z) env v i = λ r. (β, i, r .works .0, r .seen .0, refl)

@@ -7,3 +7,8 @@ pub mod Below
 pub mod Played
 pub mod Shown
 pub mod Weights
+pub mod Depths
+pub mod OneSheet
+pub mod PutRanged
+pub mod Main
+pub mod Examples

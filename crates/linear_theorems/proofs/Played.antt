@@ -97,8 +97,8 @@ module _ (law : Law) (n : ℕ) (ρ : Seen) where
       let s = inSide (turns false θ) i in
       let b = bound-runs ks θ v i β β′ m h (p .agree) (p .runs) in
       let w : lines n β′ (m .side) ≡ lines n β′ s =
-          build-inj θ (lines n β′ (m .side)) (lines n β′ s) (lines-length n β′ (m .side) ∙ side-length θ false (m .side) d) (lines-length n β′ s ∙ in-length θ i)
-          (sym (p .value) ∙ sym (ap (build θ) (laid-in n θ v i β β′ h (p .agree)) ∙ build-flat n θ v h)) in
+      build-inj θ (lines n β′ (m .side)) (lines n β′ s) (lines-length n β′ (m .side) ∙ side-length θ false (m .side) d) (lines-length n β′ s ∙ in-length θ i)
+      (sym (p .value) ∙ sym (ap (build θ) (laid-in n θ v i β β′ h (p .agree)) ∙ build-flat n θ v h)) in
       record {
         bits = β′;
         agree = laid-agree n θ v i β β′ h (p .agree);
@@ -136,8 +136,8 @@ module _ (law : Law) (n : ℕ) (ρ : Seen) where
       let e : node u v ≡ node (build α (take (size α) (lines n (p .bits) (x .side)))) (build σ (drop (size α) (lines n (p .bits) (x .side)))) = p .value ∙ eb (lines n (p .bits) (x .side)) in
       let s : lines n β′ (x .side) ≡ lines n (p .bits) (x .side) = first-side ks ls i β x y on l p q in
       let w : lines n β′ (y .side) ≡ lines n β′ f =
-          build-inj α (lines n β′ (y .side)) (lines n β′ f) (lines-length n β′ (y .side) ∙ side-length α false (y .side) dy) (lines-length n β′ f ∙ side-length α true f (dirs-left true α (turns false σ) (x .side) dx))
-          (sym (q .value) ∙ node-left e ∙ ap (λ (z : List Stream). build α (take (size α) z)) (sym s) ∙ ap (build α) (sym (lines-take n β′ (size α) (x .side)))) in
+      build-inj α (lines n β′ (y .side)) (lines n β′ f) (lines-length n β′ (y .side) ∙ side-length α false (y .side) dy) (lines-length n β′ f ∙ side-length α true f (dirs-left true α (turns false σ) (x .side) dx))
+      (sym (q .value) ∙ node-left e ∙ ap (λ (z : List Stream). build α (take (size α) z)) (sym s) ∙ ap (build α) (sym (lines-take n β′ (size α) (x .side)))) in
       rw el (record {
         bits = β′;
         agree = both-agree ks ls i β x y on l p q;

@@ -267,8 +267,8 @@ module _ (law : Law) (Θ : Table) (n : ℕ) (ρ : Seen) where
   put-in-means (put-here {t = t} {e = e} {a = a}) (⊸E z (⊸I q s d) c) ε f = λ v. (
     (λ x. put-means law Θ n ρ e a ins-here d ε v .1 (x .0, x .2, x .1 .1)),
     (λ x.
-      let y = put-means law Θ n ρ e a ins-here d ε v .0 x in
-      (y .0, ((rw q (means-shaped a c ε (split-fit n z f .1) (y .0) (y .1))), y .2), y .1)),
+        let y = put-means law Θ n ρ e a ins-here d ε v .0 x in
+        (y .0, ((rw q (means-shaped a c ε (split-fit n z f .1) (y .0) (y .1))), y .2), y .1)),
   )
   put-in-means (in-fun {t = t} {e = e} {e′ = e′} r) (→I q s d) ε f = fun-like law Θ n ρ t e e′ ε ε (λ u h. put-in-means r d (u ∷ ε) (fit-many (rw q at h) f))
   put-in-means (in-app-left {f = g} {f′ = g′} {a = a} r) (→E z d c) ε f = app-like law Θ n ρ g a g′ a ε ε (put-in-means r d ε (split-fit n z f .0)) (λ v. ((λ x. x), (λ x. x)))

@@ -1,2 +1,3 @@
 pub mod Marked
 pub mod PutIn
+pub mod Harmless

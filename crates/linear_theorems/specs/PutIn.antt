@@ -1,19 +1,8 @@
--- Putting a linear argument straight into the body at the one place where its variable stands, binder numbers adjusted, and what it
--- means that this is harmless (document 02, L13). Assumes nothing.
+-- Putting a linear argument straight into the body at the one place where its variable stands, binder numbers adjusted (document 02, L13).
+-- Assumes nothing.
 use Prim.Native.Nat.{ℕ, zero, suc}
-use mathlib.Core.Path.{_≡_}
-use mathlib.Core.Logic.{_↔_}
 use mathlib.Core.Bool.{Bool, true, false, cond}
-use mathlib.Core.List.{List}
-use Rattle.calculus.specs.Answer.{good}
-use Rattle.calculus.specs.Types.{Table}
-use Rattle.calculus.specs.Read.{readSheet}
-use Rattle.calculus.specs.Write.{sheetBytes}
-use Rattle.calculus.specs.Net.{Net}
-use Rattle.calculus.specs.Lean.{lean}
-use Rattle.calculus.specs.Record.{Bits, Law}
-use Rattle.calculus.specs.Translate.{full}
-use Rattle.linear_theorems.specs.Marked.{Marked, mvar, mlvar, mfun, mapp, mlfun, mlapp, mpair, mproj, mfix, mcon, plain, marks, ByNode, times, Seen, ByMarks}
+use Rattle.linear_theorems.specs.Marked.{Marked, mvar, mlvar, mfun, mapp, mlfun, mlapp, mpair, mproj, mfix, mcon}
 
 -- ---- binder numbers
 
@@ -79,25 +68,3 @@ pub data PutIn : Marked → Marked → Type 0 where
   in-proj-left : {a a′ e : Marked} → PutIn a a′ → PutIn (mproj a e) (mproj a′ e)
   in-proj-right : {a e e′ : Marked} → PutIn e e′ → PutIn (mproj a e) (mproj a e′)
   in-fix : {t : ℕ} {e e′ : Marked} → PutIn e e′ → PutIn (mfix t e) (mfix t e′)
-
--- ---- sheets
-
--- the sheet s holds a linear function that is applied to an argument, and s′ is the sheet with the argument put in: the same types, and
--- the constants of s, marked by their nodes there
-pub record Rewritten (s s′ : List ℕ) : Type 0 where
-  pub table : Table
-  pub first : Marked
-  pub second : Marked
-  pub reads : readSheet s ≡ good (record { table = table; term = plain first })
-  pub nodes : ByNode first 0
-  pub puts : PutIn first second
-  pub writes : s′ ≡ sheetBytes table (plain second)
-
--- for an accepted s with the netlist m: s′ is accepted too, each constant of s makes one part of it, and the possible records on pins and
--- parts are the same for any law of the parts and any number of ticks, parts matched by the constant that made them; lean netlists too
-pub record Harmless {s s′ : List ℕ} (r : Rewritten s s′) (m : Net) : Type 1 where
-  pub net : Net
-  pub accepted : full s′ ≡ good net
-  pub constants : (k : ℕ) → times k (marks (r .first)) ≡ times k (marks (r .second))
-  pub records : (law : Law) (n : ℕ) (γ : Bits) (ρ : Seen) → ByMarks law m (marks (r .first)) n γ ρ ↔ ByMarks law net (marks (r .second)) n γ ρ
-  pub lean-records : (law : Law) (n : ℕ) (γ : Bits) (ρ : Seen) → ByMarks law (lean m) (marks (r .first)) n γ ρ ↔ ByMarks law (lean net) (marks (r .second)) n γ ρ
