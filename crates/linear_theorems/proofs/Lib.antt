@@ -6,9 +6,11 @@ pub mod Heard
 pub mod Below
 pub mod Played
 pub mod Shown
+pub mod Marks
 pub mod Weights
 pub mod Depths
 pub mod OneSheet
 pub mod PutRanged
+pub mod Bytes
 pub mod Main
 pub mod Examples

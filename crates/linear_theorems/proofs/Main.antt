@@ -30,6 +30,8 @@ use Rattle.linear_theorems.proofs.PutTyped.{put-in-typed}
 use Rattle.linear_theorems.proofs.PutRanged.{put-in-ranged}
 use Rattle.linear_theorems.proofs.Shown.{same-shown, lean-shown}
 use Rattle.linear_theorems.proofs.Weights.{applied, fewer-nodes, fewer-bytes, fewer-terminals, same-marks}
+use Rattle.linear_theorems.proofs.Marks.{marked-once}
+use Rattle.linear_theorems.proofs.Bytes.{accepted-bytes}
 use Rattle.linear_theorems.proofs.Depths.{put-in-deep}
 use Rattle.linear_theorems.proofs.OneSheet.{read-deep}
 
@@ -124,7 +126,8 @@ module _ {s s′ : List ℕ} (r : Rewritten s s′) (m : Net) (a : full s ≡ go
   harmless-at h = record {
     net = net′;
     accepted = second-accepted h;
-    constants = same-marks (r .puts) (start r m a .typed);
+    bytes = accepted-bytes s′ net′ (second-accepted h);
+    constants = λ k. (marked-once k (r .first) 0 (r .marked), same-marks (r .puts) (start r m a .typed) k);
     records = same-records;
     lean-records = same-lean-records (second-accepted h);
   }

@@ -14,6 +14,7 @@ use Rattle.calculus.specs.Rules.{Ctx, once, away, Typed, Var, LVar, →I, →E,
 use Rattle.circuit_theorems.specs.Terminals.{terminals}
 use Rattle.linear_theorems.specs.Marked.{Marked, mvar, mlvar, mfun, mapp, mlfun, mlapp, mpair, mproj, mfix, mcon, plain, marks, times}
 use Rattle.linear_theorems.specs.PutIn.{raise, put, PutIn, put-here, in-fun, in-app-left, in-app-right, in-lfun, in-lapp-left, in-lapp-right, in-pair-left, in-pair-right, in-proj-left, in-proj-right, in-fix}
+use Rattle.linear_theorems.proofs.Marks.{times-append}
 use Rattle.linear_theorems.proofs.PutTyped.{Ins, ins-here, ins-there, other, itself, Itself, in-once, none-once, split-drop, Dropped, split-take, Taken, by-first, by-second}
 
 -- what a node adds, by its kind: a variable, an application or projection, a pair; a function or a fixed point by its type number, a
@@ -167,10 +168,6 @@ terminals-weight Θ (mpair t a b) = omega (arith, terminals-weight Θ a, termina
 terminals-weight Θ (mproj a e) = omega (arith, terminals-weight Θ a, terminals-weight Θ e)
 terminals-weight Θ (mfix t e) = omega (arith, terminals-weight Θ e)
 terminals-weight Θ (mcon p t k) = refl
-
-times-append : (k : ℕ) (xs ys : List ℕ) → times k (xs ++ ys) ≡ times k xs + times k ys
-times-append k [] ys = omega arith
-times-append k (x ∷ xs) ys = omega (arith, times-append k xs ys)
 
 abbrev byMark : ℕ → Weight
 byMark k = record { var = 0; two = 0; pair = 0; fun = λ t. 0; fix = λ t. 0; con = λ p x. is k x }

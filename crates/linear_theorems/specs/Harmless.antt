@@ -1,6 +1,6 @@
 -- Linear functions are only a way of writing (document 02, L13): what is said of a sheet and of the sheet with an argument put in. Both are
 -- byte strings, and "accepted" is `full`'s answer. Assumes nothing.
-use Prim.Native.Nat.{ℕ, _+_, _*_, _≤_}
+use Prim.Native.Nat.{ℕ, _+_, _*_, _<_, _≤_}
 use mathlib.Core.Path.{_≡_}
 use mathlib.Core.Logic.{_↔_}
 use mathlib.Core.List.{List, []}
@@ -13,7 +13,7 @@ use Rattle.calculus.specs.Write.{sheetBytes}
 use Rattle.calculus.specs.Laid.{depth}
 use Rattle.calculus.specs.Net.{Net, leftOf, make}
 use Rattle.calculus.specs.Lean.{lean}
-use Rattle.calculus.specs.Record.{Bits, Law}
+use Rattle.calculus.specs.Record.{Bits, Law, All}
 use Rattle.calculus.specs.Translate.{full}
 use Rattle.linear_theorems.specs.Marked.{Marked, plain, marks, ByNode, times, Seen, ByMarks}
 use Rattle.linear_theorems.specs.PutIn.{PutIn}
@@ -33,13 +33,18 @@ pub record Rewritten (s s′ : List ℕ) : Type 0 where
 abbrev pub Readable : List ℕ → Type 0
 Readable s′ = (σ : Sheet) × (readSheet s′ ≡ good σ)
 
+-- a number that a byte can hold
+abbrev pub Byte : ℕ → Type 0
+Byte b = b < 256
+
 -- of an accepted s with the full netlist m, where s′ can be read
 pub record Harmless {s s′ : List ℕ} (r : Rewritten s s′) (m : Net) : Type 1 where
-  -- s′ is accepted too
+  -- s′ is a string of bytes and is accepted too
+  pub bytes : All Byte s′
   pub net : Net
   pub accepted : full s′ ≡ good net
-  -- each constant of the one is one of the other
-  pub constants : (k : ℕ) → times k (marks (r .first)) ≡ times k (marks (r .second))
+  -- a mark names at most one constant of s, and that is one constant of s′
+  pub constants : (k : ℕ) → (times k (marks (r .first)) ≤ 1) × (times k (marks (r .first)) ≡ times k (marks (r .second)))
   -- the possible records on pins and parts are the same, parts matched by the constant that made them, over any law of the parts and for
   -- any number of ticks
   pub records : (law : Law) (n : ℕ) (γ : Bits) (ρ : Seen) → ByMarks law m (marks (r .first)) n γ ρ ↔ ByMarks law net (marks (r .second)) n γ ρ
