@@ -2,7 +2,7 @@
 use Prim.Native.Nat.{ℕ, zero, suc, _+_, _*_, _-_, _<_, _≤_}
 use mathlib.Core.Path.{_≡_, refl, sym, ap, ap₂, subst, _∙_}
 use mathlib.Core.Bool.{Bool, true, false, cond}
-use mathlib.Core.List.{List, [], _∷_, _++_}
+use mathlib.Core.List.{List, [], _∷_}
 use native.Mathlib.Omega.{arith}
 use native.Mathlib.Nat.{add-zero}
 use lib.Dec.{eqb, ltb}
@@ -15,11 +15,11 @@ use Rattle.calculus.specs.Record.{Stream, Bits, Law, All, streams, Works, Joine
 use Rattle.calculus.specs.Formed.{Tiled}
 use Rattle.circuit_theorems.proofs.Lists.{all-map}
 use Rattle.circuit_theorems.proofs.Terminals.{tiled-rising, rising-end}
-use Rattle.circuit_theorems.proofs.Outputs.{Named, Shows, Showing, BoundShows, tiled, next-le, names-below}
+use Rattle.circuit_theorems.proofs.Outputs.{Named, Shows, BoundShows, tiled, next-le, names-below}
 use Rattle.circuit_theorems.proofs.Bounds.{Below}
 use Rattle.linear_theorems.specs.Marked.{Seen, PartsSeen}
 use Rattle.linear_theorems.proofs.Meaning.{cut, Cut, lines, Val, build}
-use Rattle.linear_theorems.proofs.Heard.{val, vals, Runs}
+use Rattle.linear_theorems.proofs.Heard.{vals, Runs}
 
 -- ---- a part moved to another place
 

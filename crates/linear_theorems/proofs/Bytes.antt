@@ -1,7 +1,7 @@
 -- A sheet that is accepted, though its definitions speak of numbers, is a string of bytes: no binder number is above 126. Assumes nothing.
-use Prim.Native.Nat.{ℕ, zero, suc, _+_, _*_, _<_, _≤_, max}
+use Prim.Native.Nat.{ℕ, suc, _+_, _*_, _<_, _≤_, max}
 use mathlib.Core.Path.{_≡_, refl, sym, ap, subst}
-use mathlib.Core.List.{List, [], _∷_, _++_}
+use mathlib.Core.List.{List, [], _∷_}
 use native.Mathlib.Omega.{arith}
 use native.Mathlib.Nat.{le-max-left, le-max-right}
 use lib.ListN.{length}
@@ -9,14 +9,14 @@ use Rattle.calculus.specs.Answer.{good}
 use Rattle.calculus.specs.Types.{Ty, TyRec, rec01, rec02, rec03, rec04, Table, recAt}
 use Rattle.calculus.specs.Terms.{Term, var, lvar, fun, app, lfun, lapp, pair, proj, fix, con}
 use Rattle.calculus.specs.Write.{recBytes, tableBytes, termBytes, sheetBytes}
-use Rattle.calculus.specs.Laid.{Below, TableOk, depth, Ranged, Laid}
-use Rattle.calculus.specs.Rules.{Ctx, many, once, away, InΓ, in-here, in-many, in-away, IsΔ, is-here, is-many, is-away, Split, split-end, split-many, split-first, split-second, split-away, Typed, Var, LVar, →I, →E, ⊸I, ⊸E, ×I, ×E, Fix, Con}
+use Rattle.calculus.specs.Laid.{Below, depth, Ranged}
+use Rattle.calculus.specs.Rules.{Ctx, InΓ, in-here, in-many, in-away, IsΔ, is-here, is-many, is-away, Split, split-end, split-many, split-first, split-second, split-away, Typed, Var, LVar, →I, →E, ⊸I, ⊸E, ×I, ×E, Fix, Con}
 use Rattle.calculus.specs.Net.{Net}
 use Rattle.calculus.specs.Record.{All}
 use Rattle.calculus.specs.Translate.{full}
 use Rattle.sheet_theorems.proofs.Laying.{laid}
 use Rattle.circuit_theorems.proofs.Lists.{all-append}
-use Rattle.circuit_theorems.proofs.Main.{Accepts, accepts}
+use Rattle.circuit_theorems.proofs.Main.{accepts}
 use Rattle.linear_theorems.specs.Harmless.{Byte}
 
 -- ---- binder numbers

@@ -9,7 +9,6 @@ use Rattle.calculus.specs.Read.{readSheet, readTypes, readTerm, headAt}
 use Rattle.calculus.specs.Write.{sheetBytes}
 use Rattle.calculus.specs.Laid.{depth}
 use Rattle.calculus.specs.Net.{Net, out, Element, point, part, Wire, make, netOf}
-use Rattle.calculus.specs.Lean.{root, lean}
 use Rattle.calculus.specs.Translate.{full}
 use Rattle.linear_theorems.specs.Marked.{Marked, mvar, mlvar, mfun, mapp, mlfun, mlapp, mcon, plain, marks, ByNode}
 use Rattle.linear_theorems.specs.PutIn.{put-here}

@@ -1,17 +1,16 @@
 -- What a possible record of the made netlist shows is a value that the term can have. By induction on the derivation. Assumes nothing.
-use Prim.Native.Nat.{ℕ, zero, suc, _+_, _*_}
+use Prim.Native.Nat.{ℕ, suc, _+_, _*_}
 use mathlib.Core.Path.{_≡_, refl, sym, ap, ap₂, subst, _∙_}
 use mathlib.Core.Bool.{Bool, true, false, not}
 use mathlib.Core.List.{List, [], _∷_, _++_, map}
-use native.Mathlib.Omega.{arith}
 use lib.ListN.{length, getD, take, drop, List·getD-map}
 use lib.Seq.{take-at, drop-at}
 use Rattle.calculus.specs.Types.{Ty, prod, size, Table, tree}
 use Rattle.calculus.specs.Rules.{Ctx, Typed, Var, LVar, →I, →E, ⊸I, ⊸E, ×I, ×E, Fix, Con}
-use Rattle.calculus.specs.Net.{Interface, turns, Element, point, part, Wire, points, inSide, join, Bound, unbound, Made, leftOf, binder, firstHalf, secondHalf, madeApp, madeFix, make}
+use Rattle.calculus.specs.Net.{Interface, turns, Element, point, part, points, inSide, join, Bound, unbound, Made, leftOf, binder, firstHalf, secondHalf, madeApp, madeFix, make}
 use Rattle.calculus.specs.Record.{Bits, Law, All, Works, Joined}
-use Rattle.circuit_theorems.proofs.Drivers.{dirs, turns-size, dirs-in, dirs-left, opposite, Env, env-many, env-once, split-env, binder-fits, halves, Driven, term-driven}
-use Rattle.circuit_theorems.proofs.Lists.{all-append, all-left, all-right}
+use Rattle.circuit_theorems.proofs.Drivers.{dirs, turns-size, dirs-in, dirs-left, opposite, Env, env-many, env-once, split-env, binder-fits, halves, term-driven}
+use Rattle.circuit_theorems.proofs.Lists.{all-left, all-right}
 use Rattle.linear_theorems.specs.Marked.{Marked, mvar, mlvar, mfun, mapp, mlfun, mlapp, mpair, mproj, mfix, mcon, plain, marks, Seen, PartsSeen}
 use Rattle.linear_theorems.proofs.Meaning.{lines, Val, node, dark, Shaped, build, Means}
 use Rattle.linear_theorems.proofs.Lines.{lines-append, lines-take, lines-drop, lines-length, lines-cut, side-length, build-shaped, points-lines, join-lines}

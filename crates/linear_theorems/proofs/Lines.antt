@@ -1,5 +1,5 @@
 -- What is seen at interfaces: laid out by types and taken apart again, and equal at the two ends of points and of wires. Assumes nothing.
-use Prim.Native.Nat.{ℕ, zero, suc, _+_, _<_}
+use Prim.Native.Nat.{ℕ, _+_, _<_}
 use mathlib.Core.Path.{_≡_, refl, sym, ap, ap₂, _∙_, fun-ext}
 use mathlib.Core.Bool.{Bool, true, false, not, cond, true≢false, false≢true}
 use mathlib.Core.List.{List, [], _∷_, _++_, map, map-append, cons≢nil, nil≢cons, head-eq-of-cons-eq, tail-eq-of-cons-eq}
@@ -10,7 +10,7 @@ use lib.Dec.{ltb}
 use borrow.Author.Tests.{lt-ltb, ltb-true}
 use Rattle.laws.proofs.Parts.{map-take, map-drop}
 use Rattle.calculus.specs.Types.{Ty, bit, prod, arrow, lolli, size}
-use Rattle.calculus.specs.Net.{Terminal, inp, out, number, Interface, turns, points, inSide, outSide, join}
+use Rattle.calculus.specs.Net.{inp, out, number, Interface, turns, points, inSide, outSide, join}
 use Rattle.calculus.specs.Record.{Stream, Bits, Law, All, Works, Joined}
 use Rattle.circuit_theorems.proofs.Drivers.{dir, dirs, turns-size}
 use Rattle.circuit_theorems.proofs.Lists.{all-take, all-drop, all-append}

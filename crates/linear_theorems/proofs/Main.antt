@@ -1,6 +1,6 @@
 -- Linear functions are only a way of writing (document 02, L13). Assumes nothing.
 use Prim.Native.Nat.{ℕ, _+_, _*_, _≤_}
-use mathlib.Core.Path.{_≡_, refl, sym, ap, subst, _∙_}
+use mathlib.Core.Path.{_≡_, sym, ap, subst, _∙_}
 use mathlib.Core.Logic.{_↔_}
 use mathlib.Core.List.{List, []}
 use native.Mathlib.Omega.{arith}
@@ -21,10 +21,8 @@ use Rattle.calculus.specs.Translate.{full}
 use Rattle.sheet_theorems.proofs.SheetRead.{Within, read-written}
 use Rattle.sheet_theorems.proofs.Exact.{exact}
 use Rattle.circuit_theorems.proofs.Bounds.{next-is}
-use Rattle.circuit_theorems.proofs.Forming.{Whole}
-use Rattle.circuit_theorems.proofs.Main.{Accepts, accepts, formed}
+use Rattle.circuit_theorems.proofs.Main.{accepts, formed}
 use Rattle.linear_theorems.specs.Marked.{Marked, plain, marks, Seen, ByMarks}
-use Rattle.linear_theorems.specs.PutIn.{PutIn}
 use Rattle.linear_theorems.specs.Harmless.{Rewritten, Readable, Harmless, Limits}
 use Rattle.linear_theorems.proofs.PutTyped.{put-in-typed}
 use Rattle.linear_theorems.proofs.PutRanged.{put-in-ranged}

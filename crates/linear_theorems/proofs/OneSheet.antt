@@ -1,7 +1,7 @@
 -- The bytes of a sheet determine its table and its term, also where the term is too deep to be read. Assumes nothing.
 use Prim.Native.Nat.{ℕ, _+_, _≤_, max}
-use mathlib.Core.Path.{_≡_, refl, sym, ap, ap₂, _∙_}
-use mathlib.Core.List.{List, [], _++_, append-nil}
+use mathlib.Core.Path.{_≡_, sym, ap, _∙_}
+use mathlib.Core.List.{List, [], append-nil}
 use native.Mathlib.Omega.{arith}
 use native.Mathlib.Nat.{le-max-left, le-max-right}
 use lib.ListN.{length, length-append}
@@ -15,7 +15,7 @@ use Rattle.calculus.specs.Write.{tableBytes, termBytes, sheetBytes}
 use Rattle.calculus.specs.Laid.{TableOk, Stands, depth, Ranged}
 use Rattle.sheet_theorems.proofs.Standing.{kindIn, stands-node}
 use Rattle.sheet_theorems.proofs.TableRead.{types-read}
-use Rattle.sheet_theorems.proofs.SheetRead.{term-read, Within, read-written}
+use Rattle.sheet_theorems.proofs.SheetRead.{term-read, read-written}
 
 -- what the reader's two stages find in the bytes of a table and a term, with so many levels of depth
 pub record Found (s : List ℕ) (Θ : Table) (e : Term) (more : ℕ) : Type 0 where

@@ -8,11 +8,11 @@ use lib.ListN.{getD, take, drop, List·getD-map}
 use Rattle.calculus.specs.Types.{Ty, prod, arrow, lolli, size, Table, tree}
 use Rattle.calculus.specs.Terms.{partAt}
 use Rattle.calculus.specs.Rules.{Ctx, Typed, Var, LVar, →I, →E, ⊸I, ⊸E, ×I, ×E, Fix, Con}
-use Rattle.calculus.specs.Net.{Interface, turns, Element, point, part, points, inSide, outSide, join, Bound, unbound, Made, leftOf, binder, firstHalf, secondHalf, madeVar, madeFun, madeApp, madePair, madeProj, madeFix, madeCon, make}
+use Rattle.calculus.specs.Net.{turns, Element, point, part, points, inSide, outSide, join, Bound, unbound, Made, leftOf, binder, firstHalf, secondHalf, madeVar, madeFun, madeApp, madePair, madeProj, madeFix, madeCon, make}
 use Rattle.calculus.specs.Record.{Stream, Bits, Law, All, Works, Joined}
-use Rattle.circuit_theorems.proofs.Drivers.{dirs, turns-size, dirs-left, Env, env-many, env-once, split-env, binder-fits, halves, Driven, term-driven}
+use Rattle.circuit_theorems.proofs.Drivers.{dirs, turns-size, dirs-left, Env, env-many, env-once, split-env, binder-fits, halves, term-driven}
 use Rattle.circuit_theorems.proofs.Lists.{all-append, all-take, all-drop}
-use Rattle.circuit_theorems.proofs.Outputs.{Named, next-le}
+use Rattle.circuit_theorems.proofs.Outputs.{next-le}
 use Rattle.linear_theorems.specs.Marked.{Marked, mvar, mlvar, mfun, mapp, mlfun, mlapp, mpair, mproj, mfix, mcon, plain, marks, Seen, PartsSeen}
 use Rattle.linear_theorems.proofs.Meaning.{lines, Val, leaf, node, dark, Shaped, build, Means}
 use Rattle.linear_theorems.proofs.Lines.{lines-take, lines-drop, lines-length, side-length, flat, flat-cut, flat-length, build-flat, build-inj, node-left, node-right, points-work, join-works}

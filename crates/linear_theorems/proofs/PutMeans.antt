@@ -2,19 +2,19 @@
 use Prim.Native.Nat.{ℕ, zero, suc}
 use mathlib.Core.Path.{_≡_, refl, sym, subst, _∙_}
 use mathlib.Core.Logic.{_↔_}
-use mathlib.Core.Bool.{Bool, true, false, true≢false, false≢true}
+use mathlib.Core.Bool.{true, false, true≢false, false≢true}
 use mathlib.Core.List.{List, [], _∷_}
 use lib.ListN.{getD}
 use Rattle.calculus.specs.Types.{Ty, Table, tree}
 use Rattle.calculus.specs.Terms.{partAt}
 use Rattle.calculus.specs.Net.{partSide, leftOf}
 use Rattle.calculus.specs.Record.{Law}
-use Rattle.calculus.specs.Rules.{Entry, many, once, away, Ctx, InΓ, in-here, in-many, in-away, IsΔ, is-here, is-many, is-away, Split, split-end, split-many, split-first, split-second, split-away, Typed, Var, LVar, →I, →E, ⊸I, ⊸E, ×I, ×E, Fix, Con}
+use Rattle.calculus.specs.Rules.{many, once, away, Ctx, InΓ, in-here, in-many, in-away, IsΔ, is-here, is-many, is-away, Split, split-end, split-many, split-first, split-second, split-away, Typed, Var, LVar, →I, →E, ⊸I, ⊸E, ×I, ×E, Fix, Con}
 use Rattle.linear_theorems.specs.Marked.{Marked, mvar, mlvar, mfun, mapp, mlfun, mlapp, mpair, mproj, mfix, mcon, plain, Seen}
 use Rattle.linear_theorems.specs.PutIn.{above, without, same, raise, put, PutIn, put-here, in-fun, in-app-left, in-app-right, in-lfun, in-lapp-left, in-lapp-right, in-pair-left, in-pair-right, in-proj-left, in-proj-right, in-fix}
 use Rattle.linear_theorems.proofs.Meaning.{Val, leaf, node, dark, Shaped, Means}
 use Rattle.linear_theorems.proofs.Lines.{lines-cut, build-shaped}
-use Rattle.linear_theorems.proofs.PutTyped.{Ins, ins-here, ins-there, other, none-once, in-once, itself, Itself, split-drop, Dropped, split-take, Taken, by-first, by-second}
+use Rattle.linear_theorems.proofs.PutTyped.{Ins, ins-here, ins-there, other, none-once, in-once, itself, split-drop, split-take, by-first, by-second}
 
 -- ---- values of binders, with one put in
 

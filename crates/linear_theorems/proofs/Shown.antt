@@ -11,7 +11,7 @@ use Rattle.calculus.specs.Types.{Ty, size, Table}
 use Rattle.calculus.specs.Rules.{Typed}
 use Rattle.calculus.specs.Net.{Net, Interface, number, Element, point, part, make, netOf}
 use Rattle.calculus.specs.Lean.{kept, keep, lean}
-use Rattle.calculus.specs.Record.{Stream, Bits, Law, All, PinsShow, PartShows, Outside}
+use Rattle.calculus.specs.Record.{Stream, Bits, Law, All, PinsShow, PartShows}
 use Rattle.calculus.specs.Formed.{Formed}
 use Rattle.circuit_theorems.proofs.Drivers.{env-end, term-driven}
 use Rattle.circuit_theorems.proofs.Same.{same-records}
@@ -20,9 +20,9 @@ use Rattle.linear_theorems.specs.PutIn.{PutIn}
 use Rattle.linear_theorems.proofs.Meaning.{cut, lines, Val, build, Means}
 use Rattle.linear_theorems.proofs.PutTyped.{put-in-typed}
 use Rattle.linear_theorems.proofs.PutMeans.{fit-end, put-in-means}
-use Rattle.linear_theorems.proofs.Lines.{cut-same, same-cut, cut-cut, lines-length, side-length, build-inj}
-use Rattle.linear_theorems.proofs.Heard.{Runs, hear}
-use Rattle.linear_theorems.proofs.Played.{Played, play}
+use Rattle.linear_theorems.proofs.Lines.{cut-same, same-cut, lines-length, side-length, build-inj}
+use Rattle.linear_theorems.proofs.Heard.{hear}
+use Rattle.linear_theorems.proofs.Played.{play}
 
 -- ---- pins
 

@@ -1,8 +1,7 @@
 -- Putting in an argument loses an application, a function and a variable, and nothing else: counted by any weight of nodes, so by nodes,
 -- bytes, terminals and marks. By induction on the derivation, since the variable stands at one place only. Assumes nothing.
-use Prim.Native.Nat.{ℕ, zero, suc, _+_, _*_}
-use mathlib.Core.Path.{_≡_, refl, ap, ap₂}
-use mathlib.Core.List.{List, [], _∷_, _++_}
+use Prim.Native.Nat.{ℕ, suc, _+_, _*_}
+use mathlib.Core.Path.{_≡_, refl}
 use native.Mathlib.Omega.{arith}
 use lib.ListN.{length, length-append}
 use Rattle.calculus.specs.Types.{Ty, size, Table, tree}
@@ -15,7 +14,7 @@ use Rattle.circuit_theorems.specs.Terminals.{terminals}
 use Rattle.linear_theorems.specs.Marked.{Marked, mvar, mlvar, mfun, mapp, mlfun, mlapp, mpair, mproj, mfix, mcon, plain, marks, times}
 use Rattle.linear_theorems.specs.PutIn.{raise, put, PutIn, put-here, in-fun, in-app-left, in-app-right, in-lfun, in-lapp-left, in-lapp-right, in-pair-left, in-pair-right, in-proj-left, in-proj-right, in-fix}
 use Rattle.linear_theorems.proofs.Marks.{times-append}
-use Rattle.linear_theorems.proofs.PutTyped.{Ins, ins-here, ins-there, other, itself, Itself, in-once, none-once, split-drop, Dropped, split-take, Taken, by-first, by-second}
+use Rattle.linear_theorems.proofs.PutTyped.{Ins, ins-here, ins-there, other, itself, in-once, none-once, split-drop, split-take, by-first, by-second}
 
 -- what a node adds, by its kind: a variable, an application or projection, a pair; a function or a fixed point by its type number, a
 -- constant by its part and its mark
