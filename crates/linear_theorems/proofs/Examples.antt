@@ -1,4 +1,4 @@
--- P3 with its argument put in, and a sheet that gets too deep. Assumes nothing.
+-- P3 with its argument put in, an argument that goes under a binder, and a sheet that gets too deep. Assumes nothing.
 use Prim.Native.Nat.{ℕ, zero, suc, _+_}
 use mathlib.Core.Path.{_≡_, refl}
 use mathlib.Core.List.{List, [], _∷_}
@@ -11,7 +11,7 @@ use Rattle.calculus.specs.Laid.{depth}
 use Rattle.calculus.specs.Net.{Net, out, Element, point, part, Wire, make, netOf}
 use Rattle.calculus.specs.Translate.{full}
 use Rattle.linear_theorems.specs.Marked.{Marked, mvar, mlvar, mfun, mapp, mlfun, mlapp, mcon, plain, marks, ByNode}
-use Rattle.linear_theorems.specs.PutIn.{put-here}
+use Rattle.linear_theorems.specs.PutIn.{put-here, in-fun}
 use Rattle.linear_theorems.specs.Harmless.{Rewritten, Readable, Harmless}
 use Rattle.linear_theorems.proofs.Main.{limits, harmless-34}
 
@@ -58,6 +58,33 @@ p3-harmless = harmless-34 p3 p3-net refl (omega arith)
 pub p3-put : (full P3-put ≡ good (net (part 1 0 ∷ part 0 2 ∷ []) (wire 2 0 ∷ []) 1)) × (marks (p3 .first) ≡ 4 ∷ 5 ∷ []) × (marks (p3 .second) ≡ 5 ∷ 4 ∷ [])
 unfolding full readSheet readTypes readTerm headAt p3
 p3-put = (refl, refl, refl)
+
+-- ---- binder numbers
+
+-- λ x. (λ f. λ y. x and (f y)) (and x): in the body x is 2, in the argument 0
+abbrev scoped : List ℕ
+scoped =
+    0x01 ∷ 0x03 ∷ 0x00 ∷ 0x00 ∷ 0x03 ∷ 0x00 ∷ 0x01 ∷ 0x04 ∷ 0x01 ∷ 0x01
+    ∷ 0x13 ∷ 0x02 ∷ 0x16 ∷ 0x15 ∷ 0x03 ∷ 0x13 ∷ 0x01 ∷ 0x14 ∷ 0x14 ∷ 0x1A ∷ 0x02 ∷ 0x02 ∷ 0x11 ∷ 0x02 ∷ 0x14 ∷ 0x12 ∷ 0x01 ∷ 0x11 ∷ 0x00
+    ∷ 0x14 ∷ 0x1A ∷ 0x02 ∷ 0x02 ∷ 0x11 ∷ 0x00 ∷ []
+
+-- λ x. λ y. x and (and x y): both are 1
+abbrev scoped-put : List ℕ
+scoped-put =
+    0x01 ∷ 0x03 ∷ 0x00 ∷ 0x00 ∷ 0x03 ∷ 0x00 ∷ 0x01 ∷ 0x04 ∷ 0x01 ∷ 0x01
+    ∷ 0x13 ∷ 0x02 ∷ 0x13 ∷ 0x01 ∷ 0x14 ∷ 0x14 ∷ 0x1A ∷ 0x02 ∷ 0x02 ∷ 0x11 ∷ 0x01 ∷ 0x14 ∷ 0x14 ∷ 0x1A ∷ 0x02 ∷ 0x02 ∷ 0x11 ∷ 0x01 ∷ 0x11 ∷ 0x00 ∷ []
+
+pub numbers : Rewritten scoped scoped-put
+unfolding readSheet readTypes readTerm headAt sheetBytes
+numbers = record {
+  table = rec01 ∷ rec03 0 0 ∷ rec03 0 1 ∷ rec04 1 1 ∷ [];
+  first = mfun 2 (mlapp (mlfun 3 (mfun 1 (mapp (mapp (mcon 2 2 6) (mvar 2)) (mapp (mlvar 1) (mvar 0))))) (mapp (mcon 2 2 12) (mvar 0)));
+  second = mfun 2 (mfun 1 (mapp (mapp (mcon 2 2 6) (mvar 1)) (mapp (mapp (mcon 2 2 12) (mvar 1)) (mvar 0))));
+  reads = refl;
+  marked = (((refl, tt), (tt, tt)), (refl, tt));
+  puts = in-fun put-here;
+  writes = refl;
+}
 
 -- ---- depth
 
