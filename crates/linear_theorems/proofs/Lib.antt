@@ -12,5 +12,6 @@ pub mod Depths
 pub mod OneSheet
 pub mod PutRanged
 pub mod Bytes
+pub mod Numbered
 pub mod Main
 pub mod Examples

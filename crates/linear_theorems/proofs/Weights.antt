@@ -138,6 +138,9 @@ nodes-weight (mproj a e) = omega (arith, nodes-weight a, nodes-weight e)
 nodes-weight (mfix t e) = omega (arith, nodes-weight e)
 nodes-weight (mcon p t k) = refl
 
+pub raise-nodes : (c : ℕ) (e : Marked) → nodes (plain (raise c e)) ≡ nodes (plain e)
+raise-nodes c e = omega (arith, nodes-weight (raise c e), raise-weight byNodes c e, nodes-weight e)
+
 abbrev byBytes : Weight
 byBytes = record { var = 2; two = 1; pair = 2; fun = λ t. 2; fix = λ t. 2; con = λ p k. 3 }
 

@@ -29,7 +29,7 @@ pub record Rewritten (s s′ : List ℕ) : Type 0 where
   pub puts : PutIn first second
   pub writes : s′ ≡ sheetBytes table (plain second)
 
--- s′ is within the limits: it can be read. That it makes at most 8,192 terminals need not be asked
+-- s′ is within the limits: it can be read. That it makes at most 8,192 terminals need not be asked, since it makes no more than s
 abbrev pub Readable : List ℕ → Type 0
 Readable s′ = (σ : Sheet) × (readSheet s′ ≡ good σ)
 
