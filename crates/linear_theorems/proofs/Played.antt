@@ -126,11 +126,16 @@ module _ (law : Law) (n : ℕ) (ρ : Seen) where
     first-side : lines n (q .bits) (x .side) ≡ lines n (p .bits) (x .side)
     first-side = lines-keep (x .next) (q .bits) (p .bits) (q .agree) n (x .side) (l .side)
 
+  -- what is made second is played over the bits that the first has set
+  abbrev After : ℕ → Bits → List ℕ → Made → Ty → Val → List ℕ → Made → Ty → Val → Type 0
+  After i β ks x α u ls y σ v = (p : Played law n ρ i β ks x α u) → Played law n ρ (x .next) (p .bits) ls y σ v
+
   -- an application, of a function of the type φ, of either sort
   app-played : (φ α σ : Ty) (i : ℕ) (β : Bits) (ks ls : List ℕ) (x y : Made) (u v : Val) → leftOf (x .type) ≡ α → ((ws : List Stream) → build φ ws ≡ node (build α (take (size α) ws)) (build σ (drop (size α) ws)))
       → dirs (x .side) ≡ turns true α ++ turns false σ → dirs (y .side) ≡ turns false α → i ≤ x .next → Lows x
-      → (p : Played law n ρ i β ks x φ (node u v)) → Played law n ρ (x .next) (p .bits) ls y α u → Played law n ρ i β (ks ++ ls) (madeApp x y) σ v
-  app-played φ α σ i β ks ls x y u v el eb dx dy on l p q =
+      → Played law n ρ i β ks x φ (node u v) → After i β ks x φ (node u v) ls y α u → Played law n ρ i β (ks ++ ls) (madeApp x y) σ v
+  app-played φ α σ i β ks ls x y u v el eb dx dy on l p next =
+      let q = next p in
       let β′ = q .bits in
       let f = take (size α) (x .side) in
       let e : node u v ≡ node (build α (take (size α) (lines n (p .bits) (x .side)))) (build σ (drop (size α) (lines n (p .bits) (x .side)))) = p .value ∙ eb (lines n (p .bits) (x .side)) in
@@ -150,8 +155,9 @@ module _ (law : Law) (n : ℕ) (ρ : Seen) where
       })
 
   pair-played : (φ θ₁ θ₂ : Ty) (i : ℕ) (β : Bits) (ks ls : List ℕ) (x y : Made) (u v : Val) → dirs (x .side) ≡ turns false θ₁ → i ≤ x .next → Lows x
-      → (p : Played law n ρ i β ks x θ₁ u) → Played law n ρ (x .next) (p .bits) ls y θ₂ v → Played law n ρ i β (ks ++ ls) (madePair φ x y) (prod θ₁ θ₂) (node u v)
-  pair-played φ θ₁ θ₂ i β ks ls x y u v d on l p q =
+      → Played law n ρ i β ks x θ₁ u → After i β ks x θ₁ u ls y θ₂ v → Played law n ρ i β (ks ++ ls) (madePair φ x y) (prod θ₁ θ₂) (node u v)
+  pair-played φ θ₁ θ₂ i β ks ls x y u v d on l p next =
+      let q = next p in
       let h = side-length θ₁ false (x .side) d in
       record {
         bits = q .bits;
@@ -161,13 +167,15 @@ module _ (law : Law) (n : ℕ) (ρ : Seen) where
       }
 
   proj-played : (φ σ : Ty) (i : ℕ) (β : Bits) (ks ls : List ℕ) (x y : Made) (u v : Val) → i ≤ x .next → Lows x
-      → (p : Played law n ρ i β ks x φ u) → Played law n ρ (x .next) (p .bits) ls y σ v → Played law n ρ i β (ks ++ ls) (madeProj x y) σ v
-  proj-played φ σ i β ks ls x y u v on l p q = record {
-    bits = q .bits;
-    agree = both-agree ks ls i β x y on l p q;
-    runs = record { works = both-work ks ls i β x y on l p q; joined = both-joined ks ls i β x y on l p q; seen = both-seen ks ls i β x y on l p q };
-    value = q .value;
-  }
+      → Played law n ρ i β ks x φ u → After i β ks x φ u ls y σ v → Played law n ρ i β (ks ++ ls) (madeProj x y) σ v
+  proj-played φ σ i β ks ls x y u v on l p next =
+      let q = next p in
+      record {
+        bits = q .bits;
+        agree = both-agree ks ls i β x y on l p q;
+        runs = record { works = both-work ks ls i β x y on l p q; joined = both-joined ks ls i β x y on l p q; seen = both-seen ks ls i β x y on l p q };
+        value = q .value;
+      }
 
   -- the binders' values in a projection's body
   halves-vals : (θ₁ θ₂ : Ty) (β : Bits) (x : Made) (env : List Bound) (ε : List Val) (u w : Val) → x .type ≡ prod θ₁ θ₂
@@ -193,8 +201,51 @@ module _ (law : Law) (n : ℕ) (ρ : Seen) where
 
   module _ (Θ : Table) where
     -- a subterm's meaning, over the bits set so far
-    moved : (e : Marked) (ε ε′ : List Val) (v : Val) → ε ≡ ε′ → Means law Θ n ρ e ε′ v → Means law Θ n ρ e ε v
-    moved e ε ε′ v g m = subst (λ (ε : List Val). Means law Θ n ρ e ε v) (sym g) m
+    moved : (e : Marked) (i : ℕ) (β β′ : Bits) (env : List Bound) (v : Val) → LowEnv i env → Agree i β′ β → Means law Θ n ρ e (vals n β env) v → Means law Θ n ρ e (vals n β′ env) v
+    moved e i β β′ env v a g m = subst (λ (ε : List Val). Means law Θ n ρ e ε v) (sym (vals-keep i β′ β g n env a)) m
+
+    -- a binder's body, over the value laid onto the binder's points
+    inside : (e : Marked) (α : Ty) (u : Val) (i : ℕ) (β : Bits) (env : List Bound) (v : Val) → LowEnv i env → Shaped n α u → Means law Θ n ρ e (u ∷ vals n β env) v
+        → Means law Θ n ρ e (vals n (lay (flat u) i β) (binder α i ∷ env)) v
+    inside e α u i β env v a h m = subst (λ (ε : List Val). Means law Θ n ρ e ε v) (sym (laid-vals n α u i β env h a)) m
+
+    -- a projection's body, over the two halves
+    halved : (e : Marked) (θ₁ θ₂ : Ty) (i : ℕ) (β β′ : Bits) (x : Made) (env : List Bound) (u w v : Val) → LowEnv i env → Agree i β′ β → x .type ≡ prod θ₁ θ₂
+        → node u w ≡ node (build θ₁ (take (size θ₁) (lines n β′ (x .side)))) (build θ₂ (drop (size θ₁) (lines n β′ (x .side)))) → Means law Θ n ρ e (w ∷ u ∷ vals n β env) v
+        → Means law Θ n ρ e (vals n β′ (secondHalf x ∷ firstHalf x ∷ env)) v
+    halved e θ₁ θ₂ i β β′ x env u w v a g t q m =
+        subst (λ (ε : List Val). Means law Θ n ρ e ε v) (sym (halves-vals θ₁ θ₂ β′ x env (vals n β env) u w t q (vals-keep i β′ β g n env a))) m
+
+    fun-step : (e : Marked) (env : List Bound) (φ α σ : Ty) (i : ℕ) (β : Bits) (m : Made) (u w : Val) → leftOf φ ≡ α → ((ws : List Stream) → build φ ws ≡ node (build α (take (size α) ws)) (build σ (drop (size α) ws))) → LowEnv i env
+        → (Means law Θ n ρ e (vals n (lay (flat u) i β) (binder α i ∷ env)) w → Played law n ρ (i + 2 * size α) (lay (flat u) i β) (marks e) m σ w)
+        → Shaped n α u × Means law Θ n ρ e (u ∷ vals n β env) w → Played law n ρ i β (marks e) (madeFun φ i m) φ (node u w)
+    fun-step e env φ α σ i β m u w el eb a go (h, g) = fun-played φ α σ (marks e) i β m u w el eb h (go (inside e α u i β env w a h g))
+
+    fix-step : (e : Marked) (env : List Bound) (θ : Ty) (i : ℕ) (β : Bits) (m : Made) (v : Val) → dirs (m .side) ≡ turns false θ → LowEnv i env
+        → (Means law Θ n ρ e (vals n (lay (flat v) i β) (binder θ i ∷ env)) v → Played law n ρ (i + 2 * size θ) (lay (flat v) i β) (marks e) m θ v)
+        → Shaped n θ v × Means law Θ n ρ e (v ∷ vals n β env) v → Played law n ρ i β (marks e) (madeFix θ i m) θ v
+    fix-step e env θ i β m v d a go (h, g) = fix-played θ (marks e) i β m v d h (go (inside e θ v i β env v a h g))
+
+    app-step : (f b : Marked) (env : List Bound) (φ α σ : Ty) (i : ℕ) (β : Bits) (x y : Made) (v : Val) → leftOf (x .type) ≡ α → ((ws : List Stream) → build φ ws ≡ node (build α (take (size α) ws)) (build σ (drop (size α) ws)))
+        → dirs (x .side) ≡ turns true α ++ turns false σ → dirs (y .side) ≡ turns false α → i ≤ x .next → Lows x → LowEnv i env
+        → ((u : Val) → Means law Θ n ρ f (vals n β env) (node u v) → Played law n ρ i β (marks f) x φ (node u v))
+        → ((β′ : Bits) (u : Val) → Means law Θ n ρ b (vals n β′ env) u → Played law n ρ (x .next) β′ (marks b) y α u)
+        → (u : Val) × Means law Θ n ρ f (vals n β env) (node u v) × Means law Θ n ρ b (vals n β env) u → Played law n ρ i β (marks f ++ marks b) (madeApp x y) σ v
+    app-step f b env φ α σ i β x y v el eb dx dy on l a pf pb (u, mf, mb) =
+        app-played φ α σ i β (marks f) (marks b) x y u v el eb dx dy on l (pf u mf) (λ p. pb (p .bits) u (moved b i β (p .bits) env u a (p .agree) mb))
+
+    pair-step : (f b : Marked) (env : List Bound) (φ θ₁ θ₂ : Ty) (i : ℕ) (β : Bits) (x y : Made) (u v : Val) → dirs (x .side) ≡ turns false θ₁ → i ≤ x .next → Lows x → LowEnv i env
+        → (Means law Θ n ρ f (vals n β env) u → Played law n ρ i β (marks f) x θ₁ u) → ((β′ : Bits) → Means law Θ n ρ b (vals n β′ env) v → Played law n ρ (x .next) β′ (marks b) y θ₂ v)
+        → Means law Θ n ρ f (vals n β env) u × Means law Θ n ρ b (vals n β env) v → Played law n ρ i β (marks f ++ marks b) (madePair φ x y) (prod θ₁ θ₂) (node u v)
+    pair-step f b env φ θ₁ θ₂ i β x y u v d on l a pf pb (mf, mb) =
+        pair-played φ θ₁ θ₂ i β (marks f) (marks b) x y u v d on l (pf mf) (λ p. pb (p .bits) (moved b i β (p .bits) env v a (p .agree) mb))
+
+    proj-step : (f b : Marked) (env : List Bound) (θ₁ θ₂ σ : Ty) (i : ℕ) (β : Bits) (x y : Made) (v : Val) → x .type ≡ prod θ₁ θ₂ → i ≤ x .next → Lows x → LowEnv i env
+        → ((u w : Val) → Means law Θ n ρ f (vals n β env) (node u w) → Played law n ρ i β (marks f) x (prod θ₁ θ₂) (node u w))
+        → ((β′ : Bits) → Means law Θ n ρ b (vals n β′ (secondHalf x ∷ firstHalf x ∷ env)) v → Played law n ρ (x .next) β′ (marks b) y σ v)
+        → (u w : Val) × Means law Θ n ρ f (vals n β env) (node u w) × Means law Θ n ρ b (w ∷ u ∷ vals n β env) v → Played law n ρ i β (marks f ++ marks b) (madeProj x y) σ v
+    proj-step f b env θ₁ θ₂ σ i β x y v t on l a pf pb (u, w, mf, mb) =
+        proj-played (prod θ₁ θ₂) σ i β (marks f) (marks b) x y (node u w) v on l (pf u w mf) (λ p. pb (p .bits) (halved b θ₁ θ₂ i β (p .bits) x env u w v a (p .agree) t (p .value) mb))
 
     con-played : (p t k i : ℕ) (β : Bits) (ε : List Val) (v : Val) → Means law Θ n ρ (mcon p t k) ε v → Played law n ρ i β (k ∷ []) (madeCon p i) (partAt p .type) v
     con-played p t k i β ε v (s, j, w, q, e) =
@@ -216,53 +267,45 @@ module _ (law : Law) (n : ℕ) (ρ : Seen) where
     play {τ = τ} (mlvar k) (LVar x) env o i a β v = var-played i β env k τ v (term-driven {Θ = Θ} (LVar x) env o i .type)
     play (mfun t e) (→I q s d) env o i a β (leaf w) = λ m. absurd m
     play (mfun t e) (→I {θ = θ} {τ = σ} q s d) env o i a β (node u w) =
-        rw q λ m.
-        fun-played (arrow θ σ) θ σ (marks e) i β (make Θ (plain e) (binder θ i ∷ env) (i + 2 * size θ)) u w refl (λ ws. refl) (m .0)
-        (play e d (binder θ i ∷ env) (env-many s (binder-fits θ i) o) (i + 2 * size θ) (laid-env θ i env a) (lay (flat u) i β) w (moved e _ _ w (laid-vals n θ u i β env (m .0) a) (m .1)))
-    play (mapp f b) (→E {θ = θ} {τ = σ} z d c) env o i a β v = λ m.
+        rw q (fun-step e env (arrow θ σ) θ σ i β (make Θ (plain e) (binder θ i ∷ env) (i + 2 * size θ)) u w refl (λ ws. refl) a
+        (play e d (binder θ i ∷ env) (env-many s (binder-fits θ i) o) (i + 2 * size θ) (laid-env θ i env a) (lay (flat u) i β) w))
+    play (mapp f b) (→E {θ = θ} {τ = σ} z d c) env o i a β v =
         let (o₁, o₂) = split-env z o in
         let x = make Θ (plain f) env i in
         let on = next-le Θ (plain f) env i in
         let dx = term-driven d env o₁ i in
-        let p = play f d env o₁ i a β (node (m .0) v) (m .1) in
-        app-played (arrow θ σ) θ σ i β (marks f) (marks b) x (make Θ (plain b) env (x .next)) (m .0) v (ap leftOf (dx .type)) (λ ws. refl) (dx .dirs) (term-driven c env o₂ (x .next) .dirs) on (lows Θ (plain f) env i a) p
-        (play b c env o₂ (x .next) (env-up i (x .next) on env a) (p .bits) (m .0) (moved b _ _ (m .0) (vals-keep i (p .bits) β (p .agree) n env a) (m .2)))
+        app-step f b env (arrow θ σ) θ σ i β x (make Θ (plain b) env (x .next)) v (ap leftOf (dx .type)) (λ ws. refl) (dx .dirs) (term-driven c env o₂ (x .next) .dirs) on (lows Θ (plain f) env i a) a
+        (λ u. play f d env o₁ i a β (node u v)) (λ β′ u. play b c env o₂ (x .next) (env-up i (x .next) on env a) β′ u)
     play (mlfun t e) (⊸I q s d) env o i a β (leaf w) = λ m. absurd m
     play (mlfun t e) (⊸I {κ = κ} {τ = σ} q s d) env o i a β (node u w) =
-        rw q λ m.
-        fun-played (lolli κ σ) κ σ (marks e) i β (make Θ (plain e) (binder κ i ∷ env) (i + 2 * size κ)) u w refl (λ ws. refl) (m .0)
-        (play e d (binder κ i ∷ env) (env-once (binder-fits κ i) o) (i + 2 * size κ) (laid-env κ i env a) (lay (flat u) i β) w (moved e _ _ w (laid-vals n κ u i β env (m .0) a) (m .1)))
-    play (mlapp f b) (⊸E {κ = κ} {τ = σ} z d c) env o i a β v = λ m.
+        rw q (fun-step e env (lolli κ σ) κ σ i β (make Θ (plain e) (binder κ i ∷ env) (i + 2 * size κ)) u w refl (λ ws. refl) a
+        (play e d (binder κ i ∷ env) (env-once (binder-fits κ i) o) (i + 2 * size κ) (laid-env κ i env a) (lay (flat u) i β) w))
+    play (mlapp f b) (⊸E {κ = κ} {τ = σ} z d c) env o i a β v =
         let (o₁, o₂) = split-env z o in
         let x = make Θ (plain f) env i in
         let on = next-le Θ (plain f) env i in
         let dx = term-driven d env o₁ i in
-        let p = play f d env o₁ i a β (node (m .0) v) (m .1) in
-        app-played (lolli κ σ) κ σ i β (marks f) (marks b) x (make Θ (plain b) env (x .next)) (m .0) v (ap leftOf (dx .type)) (λ ws. refl) (dx .dirs) (term-driven c env o₂ (x .next) .dirs) on (lows Θ (plain f) env i a) p
-        (play b c env o₂ (x .next) (env-up i (x .next) on env a) (p .bits) (m .0) (moved b _ _ (m .0) (vals-keep i (p .bits) β (p .agree) n env a) (m .2)))
+        app-step f b env (lolli κ σ) κ σ i β x (make Θ (plain b) env (x .next)) v (ap leftOf (dx .type)) (λ ws. refl) (dx .dirs) (term-driven c env o₂ (x .next) .dirs) on (lows Θ (plain f) env i a) a
+        (λ u. play f d env o₁ i a β (node u v)) (λ β′ u. play b c env o₂ (x .next) (env-up i (x .next) on env a) β′ u)
     play (mpair t f b) (×I z q s₁ s₂ d c) env o i a β (leaf w) = λ m. absurd m
-    play (mpair t f b) (×I {θ₁ = θ₁} {θ₂ = θ₂} z q s₁ s₂ d c) env o i a β (node u v) = λ m.
+    play (mpair t f b) (×I {θ₁ = θ₁} {θ₂ = θ₂} z q s₁ s₂ d c) env o i a β (node u v) =
         let (o₁, o₂) = split-env z o in
         let x = make Θ (plain f) env i in
         let on = next-le Θ (plain f) env i in
-        let p = play f d env o₁ i a β u (m .0) in
-        pair-played (tree Θ t) θ₁ θ₂ i β (marks f) (marks b) x (make Θ (plain b) env (x .next)) u v (term-driven d env o₁ i .dirs) on (lows Θ (plain f) env i a) p
-        (play b c env o₂ (x .next) (env-up i (x .next) on env a) (p .bits) v (moved b _ _ v (vals-keep i (p .bits) β (p .agree) n env a) (m .1)))
-    play (mproj f b) (×E {θ₁ = θ₁} {θ₂ = θ₂} {τ = σ} z s₁ s₂ d c) env o i a β v = λ m.
+        pair-step f b env (tree Θ t) θ₁ θ₂ i β x (make Θ (plain b) env (x .next)) u v (term-driven d env o₁ i .dirs) on (lows Θ (plain f) env i a) a
+        (play f d env o₁ i a β u) (λ β′. play b c env o₂ (x .next) (env-up i (x .next) on env a) β′ v)
+    play (mproj f b) (×E {θ₁ = θ₁} {θ₂ = θ₂} {τ = σ} z s₁ s₂ d c) env o i a β v =
         let (o₁, o₂) = split-env z o in
         let x = make Θ (plain f) env i in
         let on = next-le Θ (plain f) env i in
         let l = lows Θ (plain f) env i a in
         let dx = term-driven d env o₁ i in
         let (h₁, h₂) = halves θ₁ θ₂ x (dx .type) (dx .dirs) in
-        let p = play f d env o₁ i a β (node (m .0) (m .1)) (m .2) in
-        let inside = secondHalf x ∷ firstHalf x ∷ env in
-        proj-played (prod θ₁ θ₂) σ i β (marks f) (marks b) x (make Θ (plain b) inside (x .next)) (node (m .0) (m .1)) v on l p
-        (play b c inside (env-many s₂ h₂ (env-many s₁ h₁ o₂)) (x .next) (halves-low i x env on l a) (p .bits) v
-        (moved b _ _ v (halves-vals θ₁ θ₂ (p .bits) x env (vals n β env) (m .0) (m .1) (dx .type) (p .value) (vals-keep i (p .bits) β (p .agree) n env a)) (m .3)))
+        proj-step f b env θ₁ θ₂ σ i β x (make Θ (plain b) (secondHalf x ∷ firstHalf x ∷ env) (x .next)) v (dx .type) on l a
+        (λ u w. play f d env o₁ i a β (node u w)) (λ β′. play b c (secondHalf x ∷ firstHalf x ∷ env) (env-many s₂ h₂ (env-many s₁ h₁ o₂)) (x .next) (halves-low i x env on l a) β′ v)
     play (mfix t e) (Fix {θ = θ} q s d) env o i a β v =
-        rw q λ m.
+        rw q (
         let o′ = env-many s (binder-fits θ i) o in
-        fix-played θ (marks e) i β (make Θ (plain e) (binder θ i ∷ env) (i + 2 * size θ)) v (term-driven d (binder θ i ∷ env) o′ (i + 2 * size θ) .dirs) (m .0)
-        (play e d (binder θ i ∷ env) o′ (i + 2 * size θ) (laid-env θ i env a) (lay (flat v) i β) v (moved e _ _ v (laid-vals n θ v i β env (m .0) a) (m .1)))
+        fix-step e env θ i β (make Θ (plain e) (binder θ i ∷ env) (i + 2 * size θ)) v (term-driven d (binder θ i ∷ env) o′ (i + 2 * size θ) .dirs) a
+        (play e d (binder θ i ∷ env) o′ (i + 2 * size θ) (laid-env θ i env a) (lay (flat v) i β) v))
     play (mcon p t k) (Con h q z) env o i a β v = con-played p t k i β (vals n β env) v
