@@ -4,10 +4,11 @@ use mathlib.Core.Path.{_≡_, refl, sym, ap, ap₂, subst, _∙_}
 use mathlib.Core.Bool.{Bool, true, false}
 use mathlib.Core.List.{List, [], _∷_, _++_}
 use native.Mathlib.Omega.{arith}
+use lib.Dec.{T}
 use lib.ListN.{getD, take, drop, List·getD-map}
-use Rattle.calculus.specs.Types.{Ty, prod, arrow, lolli, size, Table, tree}
+use Rattle.calculus.specs.Types.{Ty, prod, arrow, lolli, size, sharable, Table, tree}
 use Rattle.calculus.specs.Terms.{partAt}
-use Rattle.calculus.specs.Rules.{Ctx, Typed, Var, LVar, →I, →E, ⊸I, ⊸E, ×I, ×E, Fix, Con}
+use Rattle.calculus.specs.Rules.{Ctx, many, once, Split, Typed, Var, LVar, →I, →E, ⊸I, ⊸E, ×I, ×E, Fix, Con}
 use Rattle.calculus.specs.Net.{turns, Element, point, part, points, inSide, outSide, join, Bound, unbound, Made, leftOf, binder, firstHalf, secondHalf, madeVar, madeFun, madeApp, madePair, madeProj, madeFix, madeCon, make}
 use Rattle.calculus.specs.Record.{Stream, Bits, Law, All, Works, Joined}
 use Rattle.circuit_theorems.proofs.Drivers.{dirs, turns-size, dirs-left, Env, env-many, env-once, split-env, binder-fits, halves, term-driven}
@@ -261,51 +262,77 @@ module _ (law : Law) (n : ℕ) (ρ : Seen) where
           value = e ∙ ap (build (partAt p .type)) (sym (part-lines n (partAt p .inputs) i j β′ s (λ x h. seat-at i s j β x)));
         }
 
-    pub play : {Γ : Ctx} {τ : Ty} (e : Marked) → Typed Θ Γ (plain e) τ → (env : List Bound) → Env Γ env → (i : ℕ) → LowEnv i env → (β : Bits) (v : Val) → Means law Θ n ρ e (vals n β env) v
+    -- e can be played, over binders that fit Γ
+    abbrev pub Plays : Ctx → Marked → Ty → Type 0
+    Plays Γ e τ = (env : List Bound) → Env Γ env → (i : ℕ) → LowEnv i env → (β : Bits) (v : Val) → Means law Θ n ρ e (vals n β env) v
         → Played law n ρ i β (marks e) (make Θ (plain e) env i) τ v
-    play {τ = τ} (mvar k) (Var x) env o i a β v = var-played i β env k τ v (term-driven {Θ = Θ} (Var x) env o i .type)
-    play {τ = τ} (mlvar k) (LVar x) env o i a β v = var-played i β env k τ v (term-driven {Θ = Θ} (LVar x) env o i .type)
-    play (mfun t e) (→I q s d) env o i a β (leaf w) = λ m. absurd m
-    play (mfun t e) (→I {θ = θ} {τ = σ} q s d) env o i a β (node u w) =
+
+    fun-case : {Γ : Ctx} {θ σ : Ty} (t : ℕ) (e : Marked) → tree Θ t ≡ arrow θ σ → T (sharable θ) → Plays (many θ ∷ Γ) e σ → Plays Γ (mfun t e) (arrow θ σ)
+    fun-case t e q s go env o i a β (leaf w) = λ m. absurd m
+    fun-case {θ = θ} {σ = σ} t e q s go env o i a β (node u w) =
         rw q (fun-step e env (arrow θ σ) θ σ i β (make Θ (plain e) (binder θ i ∷ env) (i + 2 * size θ)) u w refl (λ ws. refl) a
-        (play e d (binder θ i ∷ env) (env-many s (binder-fits θ i) o) (i + 2 * size θ) (laid-env θ i env a) (lay (flat u) i β) w))
-    play (mapp f b) (→E {θ = θ} {τ = σ} z d c) env o i a β v =
-        let (o₁, o₂) = split-env z o in
-        let x = make Θ (plain f) env i in
-        let on = next-le Θ (plain f) env i in
-        let dx = term-driven d env o₁ i in
-        app-step f b env (arrow θ σ) θ σ i β x (make Θ (plain b) env (x .next)) v (ap leftOf (dx .type)) (λ ws. refl) (dx .dirs) (term-driven c env o₂ (x .next) .dirs) on (lows Θ (plain f) env i a) a
-        (λ u. play f d env o₁ i a β (node u v)) (λ β′ u. play b c env o₂ (x .next) (env-up i (x .next) on env a) β′ u)
-    play (mlfun t e) (⊸I q s d) env o i a β (leaf w) = λ m. absurd m
-    play (mlfun t e) (⊸I {κ = κ} {τ = σ} q s d) env o i a β (node u w) =
+        (go (binder θ i ∷ env) (env-many s (binder-fits θ i) o) (i + 2 * size θ) (laid-env θ i env a) (lay (flat u) i β) w))
+
+    lfun-case : {Γ : Ctx} {κ σ : Ty} (t : ℕ) (e : Marked) → tree Θ t ≡ lolli κ σ → Plays (once κ ∷ Γ) e σ → Plays Γ (mlfun t e) (lolli κ σ)
+    lfun-case t e q go env o i a β (leaf w) = λ m. absurd m
+    lfun-case {κ = κ} {σ = σ} t e q go env o i a β (node u w) =
         rw q (fun-step e env (lolli κ σ) κ σ i β (make Θ (plain e) (binder κ i ∷ env) (i + 2 * size κ)) u w refl (λ ws. refl) a
-        (play e d (binder κ i ∷ env) (env-once (binder-fits κ i) o) (i + 2 * size κ) (laid-env κ i env a) (lay (flat u) i β) w))
-    play (mlapp f b) (⊸E {κ = κ} {τ = σ} z d c) env o i a β v =
-        let (o₁, o₂) = split-env z o in
-        let x = make Θ (plain f) env i in
-        let on = next-le Θ (plain f) env i in
-        let dx = term-driven d env o₁ i in
-        app-step f b env (lolli κ σ) κ σ i β x (make Θ (plain b) env (x .next)) v (ap leftOf (dx .type)) (λ ws. refl) (dx .dirs) (term-driven c env o₂ (x .next) .dirs) on (lows Θ (plain f) env i a) a
-        (λ u. play f d env o₁ i a β (node u v)) (λ β′ u. play b c env o₂ (x .next) (env-up i (x .next) on env a) β′ u)
-    play (mpair t f b) (×I z q s₁ s₂ d c) env o i a β (leaf w) = λ m. absurd m
-    play (mpair t f b) (×I {θ₁ = θ₁} {θ₂ = θ₂} z q s₁ s₂ d c) env o i a β (node u v) =
-        let (o₁, o₂) = split-env z o in
-        let x = make Θ (plain f) env i in
-        let on = next-le Θ (plain f) env i in
-        pair-step f b env (tree Θ t) θ₁ θ₂ i β x (make Θ (plain b) env (x .next)) u v (term-driven d env o₁ i .dirs) on (lows Θ (plain f) env i a) a
-        (play f d env o₁ i a β u) (λ β′. play b c env o₂ (x .next) (env-up i (x .next) on env a) β′ v)
-    play (mproj f b) (×E {θ₁ = θ₁} {θ₂ = θ₂} {τ = σ} z s₁ s₂ d c) env o i a β v =
-        let (o₁, o₂) = split-env z o in
-        let x = make Θ (plain f) env i in
-        let on = next-le Θ (plain f) env i in
-        let l = lows Θ (plain f) env i a in
-        let dx = term-driven d env o₁ i in
-        let (h₁, h₂) = halves θ₁ θ₂ x (dx .type) (dx .dirs) in
-        proj-step f b env θ₁ θ₂ σ i β x (make Θ (plain b) (secondHalf x ∷ firstHalf x ∷ env) (x .next)) v (dx .type) on l a
-        (λ u w. play f d env o₁ i a β (node u w)) (λ β′. play b c (secondHalf x ∷ firstHalf x ∷ env) (env-many s₂ h₂ (env-many s₁ h₁ o₂)) (x .next) (halves-low i x env on l a) β′ v)
-    play (mfix t e) (Fix {θ = θ} q s d) env o i a β v =
+        (go (binder κ i ∷ env) (env-once (binder-fits κ i) o) (i + 2 * size κ) (laid-env κ i env a) (lay (flat u) i β) w))
+
+    fix-case : {Γ : Ctx} {θ : Ty} (t : ℕ) (e : Marked) → tree Θ t ≡ θ → T (sharable θ) → Typed Θ (many θ ∷ Γ) (plain e) θ → Plays (many θ ∷ Γ) e θ → Plays Γ (mfix t e) θ
+    fix-case {θ = θ} t e q s d go env o i a β v =
         rw q (
         let o′ = env-many s (binder-fits θ i) o in
         fix-step e env θ i β (make Θ (plain e) (binder θ i ∷ env) (i + 2 * size θ)) v (term-driven d (binder θ i ∷ env) o′ (i + 2 * size θ) .dirs) a
-        (play e d (binder θ i ∷ env) o′ (i + 2 * size θ) (laid-env θ i env a) (lay (flat v) i β) v))
-    play (mcon p t k) (Con h q z) env o i a β v = con-played p t k i β (vals n β env) v
+        (go (binder θ i ∷ env) o′ (i + 2 * size θ) (laid-env θ i env a) (lay (flat v) i β) v))
+
+    module _ {Γ Γ₁ Γ₂ : Ctx} (f b : Marked) (z : Split Γ Γ₁ Γ₂) where
+      app-case : {θ σ : Ty} → Typed Θ Γ₁ (plain f) (arrow θ σ) → Typed Θ Γ₂ (plain b) θ → Plays Γ₁ f (arrow θ σ) → Plays Γ₂ b θ → Plays Γ (mapp f b) σ
+      app-case {θ} {σ} d c pf pb env o i a β v =
+          let (o₁, o₂) = split-env z o in
+          let x = make Θ (plain f) env i in
+          let on = next-le Θ (plain f) env i in
+          let dx = term-driven d env o₁ i in
+          app-step f b env (arrow θ σ) θ σ i β x (make Θ (plain b) env (x .next)) v (ap leftOf (dx .type)) (λ ws. refl) (dx .dirs) (term-driven c env o₂ (x .next) .dirs) on (lows Θ (plain f) env i a) a
+          (λ u. pf env o₁ i a β (node u v)) (λ β′ u. pb env o₂ (x .next) (env-up i (x .next) on env a) β′ u)
+
+      lapp-case : {κ σ : Ty} → Typed Θ Γ₁ (plain f) (lolli κ σ) → Typed Θ Γ₂ (plain b) κ → Plays Γ₁ f (lolli κ σ) → Plays Γ₂ b κ → Plays Γ (mlapp f b) σ
+      lapp-case {κ} {σ} d c pf pb env o i a β v =
+          let (o₁, o₂) = split-env z o in
+          let x = make Θ (plain f) env i in
+          let on = next-le Θ (plain f) env i in
+          let dx = term-driven d env o₁ i in
+          app-step f b env (lolli κ σ) κ σ i β x (make Θ (plain b) env (x .next)) v (ap leftOf (dx .type)) (λ ws. refl) (dx .dirs) (term-driven c env o₂ (x .next) .dirs) on (lows Θ (plain f) env i a) a
+          (λ u. pf env o₁ i a β (node u v)) (λ β′ u. pb env o₂ (x .next) (env-up i (x .next) on env a) β′ u)
+
+      pair-case : {θ₁ θ₂ : Ty} (t : ℕ) → Typed Θ Γ₁ (plain f) θ₁ → Plays Γ₁ f θ₁ → Plays Γ₂ b θ₂ → Plays Γ (mpair t f b) (prod θ₁ θ₂)
+      pair-case t d pf pb env o i a β (leaf w) = λ m. absurd m
+      pair-case {θ₁} {θ₂} t d pf pb env o i a β (node u v) =
+          let (o₁, o₂) = split-env z o in
+          let x = make Θ (plain f) env i in
+          let on = next-le Θ (plain f) env i in
+          pair-step f b env (tree Θ t) θ₁ θ₂ i β x (make Θ (plain b) env (x .next)) u v (term-driven d env o₁ i .dirs) on (lows Θ (plain f) env i a) a
+          (pf env o₁ i a β u) (λ β′. pb env o₂ (x .next) (env-up i (x .next) on env a) β′ v)
+
+      proj-case : {θ₁ θ₂ σ : Ty} → T (sharable θ₁) → T (sharable θ₂) → Typed Θ Γ₁ (plain f) (prod θ₁ θ₂) → Plays Γ₁ f (prod θ₁ θ₂) → Plays (many θ₂ ∷ many θ₁ ∷ Γ₂) b σ → Plays Γ (mproj f b) σ
+      proj-case {θ₁} {θ₂} {σ} s₁ s₂ d pf pb env o i a β v =
+          let (o₁, o₂) = split-env z o in
+          let x = make Θ (plain f) env i in
+          let on = next-le Θ (plain f) env i in
+          let l = lows Θ (plain f) env i a in
+          let dx = term-driven d env o₁ i in
+          let (h₁, h₂) = halves θ₁ θ₂ x (dx .type) (dx .dirs) in
+          proj-step f b env θ₁ θ₂ σ i β x (make Θ (plain b) (secondHalf x ∷ firstHalf x ∷ env) (x .next)) v (dx .type) on l a
+          (λ u w. pf env o₁ i a β (node u w)) (λ β′. pb (secondHalf x ∷ firstHalf x ∷ env) (env-many s₂ h₂ (env-many s₁ h₁ o₂)) (x .next) (halves-low i x env on l a) β′ v)
+
+    pub play : {Γ : Ctx} {τ : Ty} (e : Marked) → Typed Θ Γ (plain e) τ → Plays Γ e τ
+    play {τ = τ} (mvar k) (Var x) = λ env o i a β v. var-played i β env k τ v (term-driven {Θ = Θ} (Var x) env o i .type)
+    play {τ = τ} (mlvar k) (LVar x) = λ env o i a β v. var-played i β env k τ v (term-driven {Θ = Θ} (LVar x) env o i .type)
+    play (mfun t e) (→I q s d) = fun-case t e q s (play e d)
+    play (mapp f b) (→E z d c) = app-case f b z d c (play f d) (play b c)
+    play (mlfun t e) (⊸I q s d) = lfun-case t e q (play e d)
+    play (mlapp f b) (⊸E z d c) = lapp-case f b z d c (play f d) (play b c)
+    play (mpair t f b) (×I z q s₁ s₂ d c) = pair-case f b z t d (play f d) (play b c)
+    play (mproj f b) (×E z s₁ s₂ d c) = proj-case f b z s₁ s₂ d (play f d) (play b c)
+    play (mfix t e) (Fix q s d) = fix-case t e q s d (play e d)
+    play (mcon p t k) (Con h q z) = λ env o i a β v. con-played p t k i β (vals n β env) v
