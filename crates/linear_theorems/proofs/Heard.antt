@@ -6,6 +6,7 @@ use mathlib.Core.List.{List, [], _∷_, _++_, map}
 use lib.ListN.{length, getD, take, drop, List·getD-map}
 use lib.Seq.{take-at, drop-at}
 use Rattle.calculus.specs.Types.{Ty, prod, size, Table, tree}
+use Rattle.calculus.specs.Terms.{first}
 use Rattle.calculus.specs.Rules.{Ctx, Typed, Var, LVar, →I, →E, ⊸I, ⊸E, ×I, ×E, Fix, Con}
 use Rattle.calculus.specs.Net.{Interface, turns, Element, point, part, points, inSide, join, Bound, unbound, Made, leftOf, binder, firstHalf, secondHalf, madeApp, madeFix, make}
 use Rattle.calculus.specs.Record.{Bits, Law, All, Works, Joined}
@@ -97,15 +98,15 @@ module _ (law : Law) (n : ℕ) (ρ : Seen) (β : Bits) where
   -- the first and the second of two subterms
   module _ (ks ls : List ℕ) (x y : Made) (k : Counted ks (x .elements)) (a : All (Works law n β) (x .elements ++ y .elements)) (b : All (Joined n β) (x .wires ++ y .wires))
       (c : PartsSeen n ρ β (ks ++ ls) (x .elements ++ y .elements)) where
-    first : Runs law n ρ β ks x
-    first = record {
+    runs-first : Runs law n ρ β ks x
+    runs-first = record {
       works = all-left (Works law n β) (x .elements) (y .elements) a;
       joined = all-left (Joined n β) (x .wires) (y .wires) b;
       seen = seen-left n ρ β ks ls (x .elements) (y .elements) k c;
     }
 
-    second : Runs law n ρ β ls y
-    second = record {
+    runs-second : Runs law n ρ β ls y
+    runs-second = record {
       works = all-right (Works law n β) (x .elements) (y .elements) a;
       joined = all-right (Joined n β) (x .wires) (y .wires) b;
       seen = seen-right n ρ β ks ls (x .elements) (y .elements) k c;
@@ -152,8 +153,8 @@ module _ (law : Law) (n : ℕ) (ρ : Seen) (β : Bits) where
         let p : build α (take (size α) (lines n β (x .side))) ≡ build α (lines n β (y .side)) = ap (build α) (sym (lines-take n β (size α) (x .side)) ∙ sym (join-lines n β (y .side) (take (size α) (x .side)) d j)) in
         let q : build σ (drop (size α) (lines n β (x .side))) ≡ build σ (lines n β (drop (size (leftOf (x .type))) (x .side))) = rw el (ap (build σ) (sym (lines-drop n β (size α) (x .side)))) in (
           build α (lines n β (y .side)),
-          subst (λ (z : Val). Means law Θ n ρ f ε z) (ap₂ node p q) (mf (first (marks f) (marks a) x y k (r .works) b (r .seen))),
-          ma (second (marks f) (marks a) x y k (r .works) b (r .seen)),
+          subst (λ (z : Val). Means law Θ n ρ f ε z) (ap₂ node p q) (mf (runs-first (marks f) (marks a) x y k (r .works) b (r .seen))),
+          ma (runs-second (marks f) (marks a) x y k (r .works) b (r .seen)),
         )
 
     pair-heard : (a b : Marked) (ε : List Val) (θ₁ θ₂ : Ty) (x y : Made) → length (x .side) ≡ size θ₁ → Counted (marks a) (x .elements)
@@ -161,8 +162,8 @@ module _ (law : Law) (n : ℕ) (ρ : Seen) (β : Bits) where
         → All (Works law n β) (x .elements ++ y .elements) → All (Joined n β) (x .wires ++ y .wires) → PartsSeen n ρ β (marks a ++ marks b) (x .elements ++ y .elements)
         → Means law Θ n ρ a ε (build θ₁ (take (size θ₁) (lines n β (x .side ++ y .side)))) × Means law Θ n ρ b ε (build θ₂ (drop (size θ₁) (lines n β (x .side ++ y .side))))
     pair-heard a b ε θ₁ θ₂ x y l k ma mb w j s = (
-      subst (λ (w : Val). Means law Θ n ρ a ε w) (sym (front n β θ₁ (x .side) (y .side) l)) (ma (first (marks a) (marks b) x y k w j s)),
-      subst (λ (w : Val). Means law Θ n ρ b ε w) (sym (behind n β θ₁ (x .side) (y .side) l θ₂)) (mb (second (marks a) (marks b) x y k w j s)),
+      subst (λ (w : Val). Means law Θ n ρ a ε w) (sym (front n β θ₁ (x .side) (y .side) l)) (ma (runs-first (marks a) (marks b) x y k w j s)),
+      subst (λ (w : Val). Means law Θ n ρ b ε w) (sym (behind n β θ₁ (x .side) (y .side) l θ₂)) (mb (runs-second (marks a) (marks b) x y k w j s)),
     )
 
     proj-heard : (a e : Marked) (ε : List Val) (θ₁ θ₂ : Ty) (v : Val) (x y : Made) → x .type ≡ prod θ₁ θ₂ → Counted (marks a) (x .elements)
@@ -175,8 +176,8 @@ module _ (law : Law) (n : ℕ) (ρ : Seen) (β : Bits) where
         let q : build θ₂ (drop (size θ₁) (lines n β (x .side))) ≡ val n β (secondHalf x) = rw t (ap (build θ₂) (sym (lines-drop n β (size θ₁) (x .side)))) in (
           val n β (firstHalf x),
           val n β (secondHalf x),
-          subst (λ (w : Val). Means law Θ n ρ a ε w) (ap₂ node p q) (ma (first (marks a) (marks e) x y k w j s)),
-          me (second (marks a) (marks e) x y k w j s),
+          subst (λ (w : Val). Means law Θ n ρ a ε w) (ap₂ node p q) (ma (runs-first (marks a) (marks e) x y k w j s)),
+          me (runs-second (marks a) (marks e) x y k w j s),
         )
 
     fix-heard : (e : Marked) (ε : List Val) (θ : Ty) (i : ℕ) (m : Made) → dirs (m .side) ≡ turns false θ → (Runs law n ρ β (marks e) m → Means law Θ n ρ e (val n β (binder θ i) ∷ ε) (build θ (lines n β (m .side))))
@@ -191,14 +192,14 @@ module _ (law : Law) (n : ℕ) (ρ : Seen) (β : Bits) where
           subst (λ (u : Val). Means law Θ n ρ e (u ∷ ε) (build θ (lines n β (m .side)))) (sym w) (h (inner (marks e) θ i m (r .works) (all-left (Joined n β) (m .wires) (join (m .side) s) (r .joined)) (r .seen))),
         )
 
-    pub hear : {Γ : Ctx} {τ : Ty} (e : Marked) → Typed Θ Γ (plain e) τ → (env : List Bound) → Env Γ env → (i : ℕ) → Runs law n ρ β (marks e) (make Θ (plain e) env i)
+    pub hear : {Γ : Ctx} {τ : Ty} (e : Marked) → Typed first Θ Γ (plain e) τ → (env : List Bound) → Env Γ env → (i : ℕ) → Runs law n ρ β (marks e) (make Θ (plain e) env i)
         → Means law Θ n ρ e (vals n β env) (build τ (lines n β (make Θ (plain e) env i .side)))
-    hear {τ = τ} (mvar k) (Var x) env v i = λ r. var-heard env k τ (term-driven {Θ = Θ} (Var x) env v i .type)
-    hear {τ = τ} (mlvar k) (LVar x) env v i = λ r. var-heard env k τ (term-driven {Θ = Θ} (LVar x) env v i .type)
+    hear {τ = τ} (mvar k) (Var x) env v i = λ r. var-heard env k τ (term-driven {E = first} {Θ = Θ} (Var x) env v i .type)
+    hear {τ = τ} (mlvar k) (LVar x) env v i = λ r. var-heard env k τ (term-driven {E = first} {Θ = Θ} (LVar x) env v i .type)
     hear (mfun t e) (→I {θ = θ} {τ = σ} q s d) env v i =
         rw q λ r.
         fun-heard e (vals n β env) θ σ i (make Θ (plain e) (binder θ i ∷ env) (i + 2 * size θ)) (hear e d (binder θ i ∷ env) (env-many s (binder-fits θ i) v) (i + 2 * size θ)) (r .works) (r .joined) (r .seen)
-    hear (mapp f a) (→E {θ = θ} {τ = σ} z d c) env v i =
+    hear (mapp f a) (→E {θ = θ} {τ = σ} z s d c) env v i =
         let (v₁, v₂) = split-env z v in
         let x = make Θ (plain f) env i in
         let dx = term-driven d env v₁ i in
@@ -206,7 +207,7 @@ module _ (law : Law) (n : ℕ) (ρ : Seen) (β : Bits) where
     hear (mlfun t e) (⊸I {κ = κ} {τ = σ} q s d) env v i =
         rw q λ r.
         fun-heard e (vals n β env) κ σ i (make Θ (plain e) (binder κ i ∷ env) (i + 2 * size κ)) (hear e d (binder κ i ∷ env) (env-once (binder-fits κ i) v) (i + 2 * size κ)) (r .works) (r .joined) (r .seen)
-    hear (mlapp f a) (⊸E {κ = κ} {τ = σ} z d c) env v i =
+    hear (mlapp f a) (⊸E {κ = κ} {τ = σ} z s d c) env v i =
         let (v₁, v₂) = split-env z v in
         let x = make Θ (plain f) env i in
         let dx = term-driven d env v₁ i in

@@ -7,7 +7,7 @@ use mathlib.Core.List.{List, [], _∷_, map}
 use lib.Dec.{ltb}
 use lib.ListN.{getD, take, drop}
 use Rattle.calculus.specs.Types.{Ty, bit, prod, arrow, lolli, size, Table, tree}
-use Rattle.calculus.specs.Terms.{partAt}
+use Rattle.calculus.specs.Terms.{first, partAt}
 use Rattle.calculus.specs.Net.{number, Interface, part, partSide, leftOf}
 use Rattle.calculus.specs.Record.{Stream, Bits, Law, Works}
 use Rattle.linear_theorems.specs.Marked.{Marked, mvar, mlvar, mfun, mapp, mlfun, mlapp, mpair, mproj, mfix, mcon, Seen, PartSeen}
@@ -65,4 +65,4 @@ Means law Θ n ρ (mproj a e) ε v = (u w : Val) × Means law Θ n ρ a ε (node
 Means law Θ n ρ (mfix t e) ε v = Shaped n (tree Θ t) v × Means law Θ n ρ e (v ∷ ε) v
 -- the part, wherever it stands, works and shows its record. A law may look past n ticks, so the part's own bits are kept whole
 Means law Θ n ρ (mcon p t k) ε v =
-    (β : Bits) × (i : ℕ) × Works law n β (part p i) × PartSeen n (ρ k) β p i × (v ≡ build (partAt p .type) (lines n β (partSide (partAt p .inputs) i)))
+    (β : Bits) × (i : ℕ) × Works law n β (part p i) × PartSeen n (ρ k) β p i × (v ≡ build (partAt p .type first) (lines n β (partSide (partAt p .inputs) i)))

@@ -4,11 +4,14 @@ use Prim.Native.Nat.{ℕ, suc, _+_}
 use mathlib.Core.Path.{_≡_, refl, sym, ap, ap₂, subst, _∙_}
 use mathlib.Core.Bool.{Bool, true, false, cond}
 use mathlib.Core.List.{List}
+use lib.Dec.{T}
 use Rattle.calculus.specs.Answer.{good}
 use Rattle.calculus.specs.Types.{Table}
-use Rattle.calculus.specs.Terms.{Term, fun, app, lfun, lapp, pair, proj, fix, nodes}
-use Rattle.calculus.specs.Read.{readSheet}
+use Rattle.calculus.specs.Terms.{Edition, first, isSecond, Term, var, lvar, fun, app, lfun, lapp, pair, proj, fix, con, name, nodes}
+use Rattle.calculus.specs.Read.{Sheet, readSheet}
 use Rattle.calculus.specs.Write.{sheetBytes}
+use Rattle.sheet_theorems.specs.Laid.{Ranged}
+use Rattle.sheet_theorems.proofs.Laying.{laid}
 use Rattle.linear_theorems.specs.Marked.{Marked, mvar, mlvar, mfun, mapp, mlfun, mlapp, mpair, mproj, mfix, mcon, plain, ByNode}
 use Rattle.linear_theorems.specs.PutIn.{without, same, raise, put, PutIn, put-here, in-fun, in-app-left, in-app-right, in-lfun, in-lapp-left, in-lapp-right, in-pair-left, in-pair-right, in-proj-left, in-proj-right, in-fix}
 use Rattle.linear_theorems.specs.Harmless.{Rewritten}
@@ -112,16 +115,35 @@ step (in-proj-left {e = e} r) n = let s = step r (n + 1) in record { to = _; put
 step (in-proj-right {a = a} r) n = let s = step r (n + 1 + nodes (plain a)) in record { to = _; puts = in-proj-right (s .puts); same = ap₂ proj (numbered-plain a (n + 1)) (s .same) }
 step (in-fix {t = t} r) n = let s = step r (n + 1) in record { to = _; puts = in-fix (s .puts); same = ap (fix t) (s .same) }
 
+-- ---- every first-edition sheet that is read
+
+-- there 1B does not stand, so the term is a marked one without its marks
+unmarked : (Θ : Table) (e : Term) → Ranged first Θ e → (m : Marked) × (plain m ≡ e)
+unmarked Θ (var i) r = (mvar i, refl)
+unmarked Θ (lvar i) r = (mlvar i, refl)
+unmarked Θ (fun t e) r = let h = unmarked Θ e (r .1) in (mfun t (h .0), ap (fun t) (h .1))
+unmarked Θ (app f a) r = let h = unmarked Θ f (r .0) in let k = unmarked Θ a (r .1) in (mapp (h .0) (k .0), ap₂ app (h .1) (k .1))
+unmarked Θ (lfun t e) r = let h = unmarked Θ e (r .1) in (mlfun t (h .0), ap (lfun t) (h .1))
+unmarked Θ (lapp f a) r = let h = unmarked Θ f (r .0) in let k = unmarked Θ a (r .1) in (mlapp (h .0) (k .0), ap₂ lapp (h .1) (k .1))
+unmarked Θ (pair t a b) r = let h = unmarked Θ a (r .1) in let k = unmarked Θ b (r .2) in (mpair t (h .0) (k .0), ap₂ (pair t) (h .1) (k .1))
+unmarked Θ (proj a e) r = let h = unmarked Θ a (r .0) in let k = unmarked Θ e (r .1) in (mproj (h .0) (k .0), ap₂ proj (h .1) (k .1))
+unmarked Θ (fix t e) r = let h = unmarked Θ e (r .1) in (mfix t (h .0), ap (fix t) (h .1))
+unmarked Θ (con p t) r = (mcon p t 0, refl)
+unmarked Θ (name a e) r = absurd (subst (λ (E : Edition). T (isSecond E)) (sym (r .0)) tt)
+
+pub markable : (s : List ℕ) (σ : Sheet) → readSheet s ≡ good σ → σ .edition ≡ first → (m : Marked) × (plain m ≡ σ .term)
+markable s σ h f = unmarked (σ .table) (σ .term) (subst (λ (E : Edition). Ranged E (σ .table) (σ .term)) f (laid s σ h .ranged))
+
 -- each linear function that is applied in a sheet that is read, however its constants are marked, is one that `harmless` speaks of
-pub rewritable : (s : List ℕ) (Θ : Table) (e e′ : Marked) → readSheet s ≡ good (record { table = Θ; term = plain e }) → PutIn e e′ → Rewritten s (sheetBytes Θ (plain e′))
+pub rewritable : (s : List ℕ) (Θ : Table) (e e′ : Marked) → readSheet s ≡ good (record { edition = first; table = Θ; term = plain e }) → PutIn e e′ → Rewritten s (sheetBytes first Θ (plain e′))
 rewritable s Θ e e′ h r =
     let p = step r 0 in
     record {
       table = Θ;
-      first = numbered e 0;
-      second = p .to;
-      reads = h ∙ ap (λ (x : Term). good (record { table = Θ; term = x })) (sym (numbered-plain e 0));
+      before = numbered e 0;
+      after = p .to;
+      reads = h ∙ ap (λ (x : Term). good (record { edition = first; table = Θ; term = x })) (sym (numbered-plain e 0));
       marked = numbered-nodes e 0;
       puts = p .puts;
-      writes = ap (sheetBytes Θ) (sym (p .same));
+      writes = ap (sheetBytes first Θ) (sym (p .same));
     }

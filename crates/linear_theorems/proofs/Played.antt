@@ -7,7 +7,7 @@ use native.Mathlib.Omega.{arith}
 use lib.Dec.{T}
 use lib.ListN.{getD, take, drop, List·getD-map}
 use Rattle.calculus.specs.Types.{Ty, prod, arrow, lolli, size, sharable, Table, tree}
-use Rattle.calculus.specs.Terms.{partAt}
+use Rattle.calculus.specs.Terms.{first, partAt}
 use Rattle.calculus.specs.Rules.{Ctx, many, once, Split, Typed, Var, LVar, →I, →E, ⊸I, ⊸E, ×I, ×E, Fix, Con}
 use Rattle.calculus.specs.Net.{turns, Element, point, part, points, inSide, outSide, join, Bound, unbound, Made, leftOf, binder, firstHalf, secondHalf, madeVar, madeFun, madeApp, madePair, madeProj, madeFix, madeCon, make}
 use Rattle.calculus.specs.Record.{Stream, Bits, Law, All, Works, Joined}
@@ -248,7 +248,7 @@ module _ (law : Law) (n : ℕ) (ρ : Seen) where
     proj-step f b env θ₁ θ₂ σ i β x y v t on l a pf pb (u, w, mf, mb) =
         proj-played (prod θ₁ θ₂) σ i β (marks f) (marks b) x y (node u w) v on l (pf u w mf) (λ p. pb (p .bits) (halved b θ₁ θ₂ i β (p .bits) x env u w v a (p .agree) t (p .value) mb))
 
-    con-played : (p t k i : ℕ) (β : Bits) (ε : List Val) (v : Val) → Means law Θ n ρ (mcon p t k) ε v → Played law n ρ i β (k ∷ []) (madeCon p i) (partAt p .type) v
+    con-played : (p t k i : ℕ) (β : Bits) (ε : List Val) (v : Val) → Means law Θ n ρ (mcon p t k) ε v → Played law n ρ i β (k ∷ []) (madeCon (tree Θ t) p i) (partAt p .type first) v
     con-played p t k i β ε v (s, j, w, q, e) =
         let β′ = seat i s j β in
         record {
@@ -259,7 +259,7 @@ module _ (law : Law) (n : ℕ) (ρ : Seen) where
             joined = tt;
             seen = ((λ x h t l. q x h t l ∙ ap (λ (f : Stream). f t) (sym (seat-at i s j β x))), refl);
           };
-          value = e ∙ ap (build (partAt p .type)) (sym (part-lines n (partAt p .inputs) i j β′ s (λ x h. seat-at i s j β x)));
+          value = e ∙ ap (build (partAt p .type first)) (sym (part-lines n (partAt p .inputs) i j β′ s (λ x h. seat-at i s j β x)));
         }
 
     -- e can be played, over binders that fit Γ
@@ -279,7 +279,7 @@ module _ (law : Law) (n : ℕ) (ρ : Seen) where
         rw q (fun-step e env (lolli κ σ) κ σ i β (make Θ (plain e) (binder κ i ∷ env) (i + 2 * size κ)) u w refl (λ ws. refl) a
         (go (binder κ i ∷ env) (env-once (binder-fits κ i) o) (i + 2 * size κ) (laid-env κ i env a) (lay (flat u) i β) w))
 
-    fix-case : {Γ : Ctx} {θ : Ty} (t : ℕ) (e : Marked) → tree Θ t ≡ θ → T (sharable θ) → Typed Θ (many θ ∷ Γ) (plain e) θ → Plays (many θ ∷ Γ) e θ → Plays Γ (mfix t e) θ
+    fix-case : {Γ : Ctx} {θ : Ty} (t : ℕ) (e : Marked) → tree Θ t ≡ θ → T (sharable θ) → Typed first Θ (many θ ∷ Γ) (plain e) θ → Plays (many θ ∷ Γ) e θ → Plays Γ (mfix t e) θ
     fix-case {θ = θ} t e q s d go env o i a β v =
         rw q (
         let o′ = env-many s (binder-fits θ i) o in
@@ -287,7 +287,7 @@ module _ (law : Law) (n : ℕ) (ρ : Seen) where
         (go (binder θ i ∷ env) o′ (i + 2 * size θ) (laid-env θ i env a) (lay (flat v) i β) v))
 
     module _ {Γ Γ₁ Γ₂ : Ctx} (f b : Marked) (z : Split Γ Γ₁ Γ₂) where
-      app-case : {θ σ : Ty} → Typed Θ Γ₁ (plain f) (arrow θ σ) → Typed Θ Γ₂ (plain b) θ → Plays Γ₁ f (arrow θ σ) → Plays Γ₂ b θ → Plays Γ (mapp f b) σ
+      app-case : {θ σ : Ty} → Typed first Θ Γ₁ (plain f) (arrow θ σ) → Typed first Θ Γ₂ (plain b) θ → Plays Γ₁ f (arrow θ σ) → Plays Γ₂ b θ → Plays Γ (mapp f b) σ
       app-case {θ} {σ} d c pf pb env o i a β v =
           let (o₁, o₂) = split-env z o in
           let x = make Θ (plain f) env i in
@@ -296,7 +296,7 @@ module _ (law : Law) (n : ℕ) (ρ : Seen) where
           app-step f b env (arrow θ σ) θ σ i β x (make Θ (plain b) env (x .next)) v (ap leftOf (dx .type)) (λ ws. refl) (dx .dirs) (term-driven c env o₂ (x .next) .dirs) on (lows Θ (plain f) env i a) a
           (λ u. pf env o₁ i a β (node u v)) (λ β′ u. pb env o₂ (x .next) (env-up i (x .next) on env a) β′ u)
 
-      lapp-case : {κ σ : Ty} → Typed Θ Γ₁ (plain f) (lolli κ σ) → Typed Θ Γ₂ (plain b) κ → Plays Γ₁ f (lolli κ σ) → Plays Γ₂ b κ → Plays Γ (mlapp f b) σ
+      lapp-case : {κ σ : Ty} → Typed first Θ Γ₁ (plain f) (lolli κ σ) → Typed first Θ Γ₂ (plain b) κ → Plays Γ₁ f (lolli κ σ) → Plays Γ₂ b κ → Plays Γ (mlapp f b) σ
       lapp-case {κ} {σ} d c pf pb env o i a β v =
           let (o₁, o₂) = split-env z o in
           let x = make Θ (plain f) env i in
@@ -305,7 +305,7 @@ module _ (law : Law) (n : ℕ) (ρ : Seen) where
           app-step f b env (lolli κ σ) κ σ i β x (make Θ (plain b) env (x .next)) v (ap leftOf (dx .type)) (λ ws. refl) (dx .dirs) (term-driven c env o₂ (x .next) .dirs) on (lows Θ (plain f) env i a) a
           (λ u. pf env o₁ i a β (node u v)) (λ β′ u. pb env o₂ (x .next) (env-up i (x .next) on env a) β′ u)
 
-      pair-case : {θ₁ θ₂ : Ty} (t : ℕ) → Typed Θ Γ₁ (plain f) θ₁ → Plays Γ₁ f θ₁ → Plays Γ₂ b θ₂ → Plays Γ (mpair t f b) (prod θ₁ θ₂)
+      pair-case : {θ₁ θ₂ : Ty} (t : ℕ) → Typed first Θ Γ₁ (plain f) θ₁ → Plays Γ₁ f θ₁ → Plays Γ₂ b θ₂ → Plays Γ (mpair t f b) (prod θ₁ θ₂)
       pair-case t d pf pb env o i a β (leaf w) = λ m. absurd m
       pair-case {θ₁} {θ₂} t d pf pb env o i a β (node u v) =
           let (o₁, o₂) = split-env z o in
@@ -314,7 +314,7 @@ module _ (law : Law) (n : ℕ) (ρ : Seen) where
           pair-step f b env (tree Θ t) θ₁ θ₂ i β x (make Θ (plain b) env (x .next)) u v (term-driven d env o₁ i .dirs) on (lows Θ (plain f) env i a) a
           (pf env o₁ i a β u) (λ β′. pb env o₂ (x .next) (env-up i (x .next) on env a) β′ v)
 
-      proj-case : {θ₁ θ₂ σ : Ty} → T (sharable θ₁) → T (sharable θ₂) → Typed Θ Γ₁ (plain f) (prod θ₁ θ₂) → Plays Γ₁ f (prod θ₁ θ₂) → Plays (many θ₂ ∷ many θ₁ ∷ Γ₂) b σ → Plays Γ (mproj f b) σ
+      proj-case : {θ₁ θ₂ σ : Ty} → T (sharable θ₁) → T (sharable θ₂) → Typed first Θ Γ₁ (plain f) (prod θ₁ θ₂) → Plays Γ₁ f (prod θ₁ θ₂) → Plays (many θ₂ ∷ many θ₁ ∷ Γ₂) b σ → Plays Γ (mproj f b) σ
       proj-case {θ₁} {θ₂} {σ} s₁ s₂ d pf pb env o i a β v =
           let (o₁, o₂) = split-env z o in
           let x = make Θ (plain f) env i in
@@ -325,13 +325,13 @@ module _ (law : Law) (n : ℕ) (ρ : Seen) where
           proj-step f b env θ₁ θ₂ σ i β x (make Θ (plain b) (secondHalf x ∷ firstHalf x ∷ env) (x .next)) v (dx .type) on l a
           (λ u w. pf env o₁ i a β (node u w)) (λ β′. pb (secondHalf x ∷ firstHalf x ∷ env) (env-many s₂ h₂ (env-many s₁ h₁ o₂)) (x .next) (halves-low i x env on l a) β′ v)
 
-    pub play : {Γ : Ctx} {τ : Ty} (e : Marked) → Typed Θ Γ (plain e) τ → Plays Γ e τ
-    play {τ = τ} (mvar k) (Var x) = λ env o i a β v. var-played i β env k τ v (term-driven {Θ = Θ} (Var x) env o i .type)
-    play {τ = τ} (mlvar k) (LVar x) = λ env o i a β v. var-played i β env k τ v (term-driven {Θ = Θ} (LVar x) env o i .type)
+    pub play : {Γ : Ctx} {τ : Ty} (e : Marked) → Typed first Θ Γ (plain e) τ → Plays Γ e τ
+    play {τ = τ} (mvar k) (Var x) = λ env o i a β v. var-played i β env k τ v (term-driven {E = first} {Θ = Θ} (Var x) env o i .type)
+    play {τ = τ} (mlvar k) (LVar x) = λ env o i a β v. var-played i β env k τ v (term-driven {E = first} {Θ = Θ} (LVar x) env o i .type)
     play (mfun t e) (→I q s d) = fun-case t e q s (play e d)
-    play (mapp f b) (→E z d c) = app-case f b z d c (play f d) (play b c)
+    play (mapp f b) (→E z s d c) = app-case f b z d c (play f d) (play b c)
     play (mlfun t e) (⊸I q s d) = lfun-case t e q (play e d)
-    play (mlapp f b) (⊸E z d c) = lapp-case f b z d c (play f d) (play b c)
+    play (mlapp f b) (⊸E z s d c) = lapp-case f b z d c (play f d) (play b c)
     play (mpair t f b) (×I z q s₁ s₂ d c) = pair-case f b z t d (play f d) (play b c)
     play (mproj f b) (×E z s₁ s₂ d c) = proj-case f b z s₁ s₂ d (play f d) (play b c)
     play (mfix t e) (Fix q s d) = fix-case t e q s d (play e d)

@@ -6,7 +6,7 @@ use mathlib.Core.Bool.{true, false, true≢false, false≢true}
 use mathlib.Core.List.{List, [], _∷_}
 use lib.ListN.{getD}
 use Rattle.calculus.specs.Types.{Ty, Table, tree}
-use Rattle.calculus.specs.Terms.{partAt}
+use Rattle.calculus.specs.Terms.{first, partAt}
 use Rattle.calculus.specs.Net.{partSide, leftOf}
 use Rattle.calculus.specs.Record.{Law}
 use Rattle.calculus.specs.Rules.{many, once, away, Ctx, InΓ, in-here, in-many, in-away, IsΔ, is-here, is-many, is-away, Split, split-end, split-many, split-first, split-second, split-away, Typed, Var, LVar, →I, →E, ⊸I, ⊸E, ×I, ×E, Fix, Con}
@@ -102,13 +102,13 @@ module _ (law : Law) (Θ : Table) (n : ℕ) (ρ : Seen) where
 
   -- ---- a linear binder that the term does not use
 
-  pub drop-means : {j : ℕ} {Γ Γ⁺ : Ctx} {τ : Ty} (e a : Marked) → Ins j away Γ Γ⁺ → Typed Θ Γ⁺ (plain e) τ → (u : Val) (ε : List Val) → Like e (into j u ε) (put j a e) ε
+  pub drop-means : {j : ℕ} {Γ Γ⁺ : Ctx} {τ : Ty} (e a : Marked) → Ins j away Γ Γ⁺ → Typed first Θ Γ⁺ (plain e) τ → (u : Val) (ε : List Val) → Like e (into j u ε) (put j a e) ε
   drop-means {j} (mvar i) a p (Var x) u ε = along (look-other j i u ε (apart p x))
   drop-means {j} (mlvar i) a p (LVar x) u ε = rw (other p x) (along (look-other j i u ε (other p x)))
   drop-means {j} (mfun t e) a p (→I q s d) u ε = fun-like t e (put (suc j) (raise 0 a) e) (into j u ε) ε (λ w h. drop-means e (raise 0 a) (ins-there p) d u (w ∷ ε))
-  drop-means {j} (mapp f b) a p (→E z d c) u ε = let h = split-drop p z in app-like f b (put j a f) (put j a b) (into j u ε) ε (drop-means f a (h .ins-one) d u ε) (drop-means b a (h .ins-two) c u ε)
+  drop-means {j} (mapp f b) a p (→E z s d c) u ε = let h = split-drop p z in app-like f b (put j a f) (put j a b) (into j u ε) ε (drop-means f a (h .ins-one) d u ε) (drop-means b a (h .ins-two) c u ε)
   drop-means {j} (mlfun t e) a p (⊸I q s d) u ε = lfun-like t e (put (suc j) (raise 0 a) e) (into j u ε) ε (λ w h. drop-means e (raise 0 a) (ins-there p) d u (w ∷ ε))
-  drop-means {j} (mlapp f b) a p (⊸E z d c) u ε = let h = split-drop p z in app-like f b (put j a f) (put j a b) (into j u ε) ε (drop-means f a (h .ins-one) d u ε) (drop-means b a (h .ins-two) c u ε)
+  drop-means {j} (mlapp f b) a p (⊸E z s d c) u ε = let h = split-drop p z in app-like f b (put j a f) (put j a b) (into j u ε) ε (drop-means f a (h .ins-one) d u ε) (drop-means b a (h .ins-two) c u ε)
   drop-means {j} (mpair t f b) a p (×I z q s₁ s₂ d c) u ε = let h = split-drop p z in pair-like t f b (put j a f) (put j a b) (into j u ε) ε (drop-means f a (h .ins-one) d u ε) (drop-means b a (h .ins-two) c u ε)
   drop-means {j} (mproj f b) a p (×E z s₁ s₂ d c) u ε =
       let h = split-drop p z in
@@ -184,21 +184,21 @@ module _ (law : Law) (Θ : Table) (n : ℕ) (ρ : Seen) where
     (λ x. (x .2 .0, x .2 .1, p (x .0) (node (x .2 .0) (x .2 .1)) .0 (x .2 .2), body-in₂ j a b (x .2 .1) (x .2 .0) ε (q (x .2 .0) (x .2 .1)) v .1 (x .0, x .1, x .2 .3))),
   )
 
-  pub put-means : {j : ℕ} {κ τ : Ty} {Γ Γ⁺ : Ctx} (e a : Marked) → Ins j (once κ) Γ Γ⁺ → Typed Θ Γ⁺ (plain e) τ → (ε : List Val) (v : Val) → Means law Θ n ρ (put j a e) ε v ↔ Through j a e ε v
+  pub put-means : {j : ℕ} {κ τ : Ty} {Γ Γ⁺ : Ctx} (e a : Marked) → Ins j (once κ) Γ Γ⁺ → Typed first Θ Γ⁺ (plain e) τ → (ε : List Val) (v : Val) → Means law Θ n ρ (put j a e) ε v ↔ Through j a e ε v
   put-means (mvar i) a p (Var x) ε v = absurd (in-once p x)
   put-means {j} (mlvar i) a p (LVar x) ε v =
       let r = itself p x .place in
       rw r ((λ m. (v, m, sym (look-same j i v ε r))), (λ y. subst (λ (q : Val). Means law Θ n ρ a ε q) (sym (y .2 ∙ look-same j i (y .0) ε r)) (y .1)))
   put-means (mfun t e) a p (→I q s d) ε (leaf w) = ((λ x. absurd x), (λ x. absurd (x .2)))
   put-means {j} (mfun t e) a p (→I q s d) ε (node w v) = under j a e w ε (put-means e (raise 0 a) (ins-there p) d (w ∷ ε)) v
-  put-means {j} (mapp f b) a p (→E z d c) ε v =
+  put-means {j} (mapp f b) a p (→E z s d c) ε v =
       elim (split-take p z) [
         | by-first l r y ↦ app-first j a f b ε v (put-means f a l d ε) (λ u. drop-means b a r c u ε)
         | by-second l r y ↦ app-second j a f b ε v (λ u. drop-means f a l d u ε) (put-means b a r c ε)
       ]
   put-means (mlfun t e) a p (⊸I q s d) ε (leaf w) = ((λ x. absurd x), (λ x. absurd (x .2)))
   put-means {j} (mlfun t e) a p (⊸I q s d) ε (node w v) = under j a e w ε (put-means e (raise 0 a) (ins-there p) d (w ∷ ε)) v
-  put-means {j} (mlapp f b) a p (⊸E z d c) ε v =
+  put-means {j} (mlapp f b) a p (⊸E z s d c) ε v =
       elim (split-take p z) [
         | by-first l r y ↦ app-first j a f b ε v (put-means f a l d ε) (λ u. drop-means b a r c u ε)
         | by-second l r y ↦ app-second j a f b ε v (λ u. drop-means f a l d u ε) (put-means b a r c ε)
@@ -245,15 +245,15 @@ module _ (n : ℕ) where
   fit-is (is-away x) (fit-away f) = fit-is x f
 
 module _ (law : Law) (Θ : Table) (n : ℕ) (ρ : Seen) where
-  pub means-shaped : {Γ : Ctx} {τ : Ty} (e : Marked) → Typed Θ Γ (plain e) τ → (ε : List Val) → Fit n Γ ε → (v : Val) → Means law Θ n ρ e ε v → Shaped n τ v
+  pub means-shaped : {Γ : Ctx} {τ : Ty} (e : Marked) → Typed first Θ Γ (plain e) τ → (ε : List Val) → Fit n Γ ε → (v : Val) → Means law Θ n ρ e ε v → Shaped n τ v
   means-shaped {τ = τ} (mvar i) (Var x) ε f v m = subst (λ (w : Val). Shaped n τ w) (sym m) (fit-in n x f)
   means-shaped {τ = τ} (mlvar i) (LVar x) ε f v m = subst (λ (w : Val). Shaped n τ w) (sym m) (fit-is n x f)
   means-shaped (mfun t e) (→I q s d) ε f (leaf w) m = absurd m
   means-shaped (mfun t e) (→I {θ = θ} q s d) ε f (node u v) m = let h : Shaped n θ u = rw q at (m .0) in (h, means-shaped e d (u ∷ ε) (fit-many h f) v (m .1))
-  means-shaped (mapp g a) (→E z d c) ε f v m = means-shaped g d ε (split-fit n z f .0) (node (m .0) v) (m .1) .1
+  means-shaped (mapp g a) (→E z s d c) ε f v m = means-shaped g d ε (split-fit n z f .0) (node (m .0) v) (m .1) .1
   means-shaped (mlfun t e) (⊸I q s d) ε f (leaf w) m = absurd m
   means-shaped (mlfun t e) (⊸I {κ = κ} q s d) ε f (node u v) m = let h : Shaped n κ u = rw q at (m .0) in (h, means-shaped e d (u ∷ ε) (fit-once h f) v (m .1))
-  means-shaped (mlapp g a) (⊸E z d c) ε f v m = means-shaped g d ε (split-fit n z f .0) (node (m .0) v) (m .1) .1
+  means-shaped (mlapp g a) (⊸E z s d c) ε f v m = means-shaped g d ε (split-fit n z f .0) (node (m .0) v) (m .1) .1
   means-shaped (mpair t a b) (×I z q s₁ s₂ d c) ε f (leaf w) m = absurd m
   means-shaped (mpair t a b) (×I z q s₁ s₂ d c) ε f (node u v) m = (means-shaped a d ε (split-fit n z f .0) u (m .0), means-shaped b c ε (split-fit n z f .1) v (m .1))
   means-shaped (mproj a e) (×E z s₁ s₂ d c) ε f v m =
@@ -263,19 +263,19 @@ module _ (law : Law) (Θ : Table) (n : ℕ) (ρ : Seen) where
   means-shaped {τ = τ} (mcon p t k) (Con l q z) ε f v m = subst (λ (w : Val). Shaped n τ w) (sym (m .4)) (build-shaped n τ _ (lines-cut n (m .0) (partSide (partAt p .inputs) (m .1))))
 
   -- a linear function that is applied, written out anywhere in a term, keeps the term's meaning
-  pub put-in-means : {Γ : Ctx} {τ : Ty} {e e′ : Marked} → PutIn e e′ → Typed Θ Γ (plain e) τ → (ε : List Val) → Fit n Γ ε → Like law Θ n ρ e ε e′ ε
-  put-in-means (put-here {t = t} {e = e} {a = a}) (⊸E z (⊸I q s d) c) ε f = λ v. (
+  pub put-in-means : {Γ : Ctx} {τ : Ty} {e e′ : Marked} → PutIn e e′ → Typed first Θ Γ (plain e) τ → (ε : List Val) → Fit n Γ ε → Like law Θ n ρ e ε e′ ε
+  put-in-means (put-here {t = t} {e = e} {a = a}) (⊸E z _ (⊸I q s d) c) ε f = λ v. (
     (λ x. put-means law Θ n ρ e a ins-here d ε v .1 (x .0, x .2, x .1 .1)),
     (λ x.
         let y = put-means law Θ n ρ e a ins-here d ε v .0 x in
         (y .0, ((rw q (means-shaped a c ε (split-fit n z f .1) (y .0) (y .1))), y .2), y .1)),
   )
   put-in-means (in-fun {t = t} {e = e} {e′ = e′} r) (→I q s d) ε f = fun-like law Θ n ρ t e e′ ε ε (λ u h. put-in-means r d (u ∷ ε) (fit-many (rw q at h) f))
-  put-in-means (in-app-left {f = g} {f′ = g′} {a = a} r) (→E z d c) ε f = app-like law Θ n ρ g a g′ a ε ε (put-in-means r d ε (split-fit n z f .0)) (λ v. ((λ x. x), (λ x. x)))
-  put-in-means (in-app-right {f = g} {a = a} {a′ = a′} r) (→E z d c) ε f = app-like law Θ n ρ g a g a′ ε ε (λ v. ((λ x. x), (λ x. x))) (put-in-means r c ε (split-fit n z f .1))
+  put-in-means (in-app-left {f = g} {f′ = g′} {a = a} r) (→E z s d c) ε f = app-like law Θ n ρ g a g′ a ε ε (put-in-means r d ε (split-fit n z f .0)) (λ v. ((λ x. x), (λ x. x)))
+  put-in-means (in-app-right {f = g} {a = a} {a′ = a′} r) (→E z s d c) ε f = app-like law Θ n ρ g a g a′ ε ε (λ v. ((λ x. x), (λ x. x))) (put-in-means r c ε (split-fit n z f .1))
   put-in-means (in-lfun {t = t} {e = e} {e′ = e′} r) (⊸I q s d) ε f = lfun-like law Θ n ρ t e e′ ε ε (λ u h. put-in-means r d (u ∷ ε) (fit-once (rw q at h) f))
-  put-in-means (in-lapp-left {f = g} {f′ = g′} {a = a} r) (⊸E z d c) ε f = app-like law Θ n ρ g a g′ a ε ε (put-in-means r d ε (split-fit n z f .0)) (λ v. ((λ x. x), (λ x. x)))
-  put-in-means (in-lapp-right {f = g} {a = a} {a′ = a′} r) (⊸E z d c) ε f = app-like law Θ n ρ g a g a′ ε ε (λ v. ((λ x. x), (λ x. x))) (put-in-means r c ε (split-fit n z f .1))
+  put-in-means (in-lapp-left {f = g} {f′ = g′} {a = a} r) (⊸E z s d c) ε f = app-like law Θ n ρ g a g′ a ε ε (put-in-means r d ε (split-fit n z f .0)) (λ v. ((λ x. x), (λ x. x)))
+  put-in-means (in-lapp-right {f = g} {a = a} {a′ = a′} r) (⊸E z s d c) ε f = app-like law Θ n ρ g a g a′ ε ε (λ v. ((λ x. x), (λ x. x))) (put-in-means r c ε (split-fit n z f .1))
   put-in-means (in-pair-left {t = t} {a = a} {a′ = a′} {b = b} r) (×I z q s₁ s₂ d c) ε f = pair-like law Θ n ρ t a b a′ b ε ε (put-in-means r d ε (split-fit n z f .0)) (λ v. ((λ x. x), (λ x. x)))
   put-in-means (in-pair-right {t = t} {a = a} {b = b} {b′ = b′} r) (×I z q s₁ s₂ d c) ε f = pair-like law Θ n ρ t a b a b′ ε ε (λ v. ((λ x. x), (λ x. x))) (put-in-means r c ε (split-fit n z f .1))
   put-in-means (in-proj-left {a = a} {a′ = a′} {e = e} r) (×E z s₁ s₂ d c) ε f = proj-like law Θ n ρ a e a′ e ε ε (put-in-means r d ε (split-fit n z f .0)) (λ u w h v. ((λ x. x), (λ x. x)))

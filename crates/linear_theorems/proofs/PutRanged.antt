@@ -2,12 +2,13 @@
 use Prim.Native.Nat.{ℕ, suc}
 use mathlib.Core.Bool.{Bool, true, false, cond}
 use Rattle.calculus.specs.Types.{Table}
+use Rattle.calculus.specs.Terms.{first}
 use Rattle.sheet_theorems.specs.Laid.{Ranged}
 use Rattle.linear_theorems.specs.Marked.{Marked, mvar, mlvar, mfun, mapp, mlfun, mlapp, mpair, mproj, mfix, mcon, plain}
 use Rattle.linear_theorems.specs.PutIn.{without, same, raise, put, PutIn, put-here, in-fun, in-app-left, in-app-right, in-lfun, in-lapp-left, in-lapp-right, in-pair-left, in-pair-right, in-proj-left, in-proj-right, in-fix}
 
 module _ (Θ : Table) where
-  raise-ranged : (c : ℕ) (e : Marked) → Ranged Θ (plain e) → Ranged Θ (plain (raise c e))
+  raise-ranged : (c : ℕ) (e : Marked) → Ranged first Θ (plain e) → Ranged first Θ (plain (raise c e))
   raise-ranged c (mvar i) r = tt
   raise-ranged c (mlvar i) r = tt
   raise-ranged c (mfun t e) r = (r .0, raise-ranged (suc c) e (r .1))
@@ -19,11 +20,11 @@ module _ (Θ : Table) where
   raise-ranged c (mfix t e) r = (r .0, raise-ranged (suc c) e (r .1))
   raise-ranged c (mcon p t k) r = r
 
-  cond-ranged : (b : Bool) (a : Marked) (i : ℕ) → Ranged Θ (plain a) → Ranged Θ (plain (cond b a (mlvar i)))
+  cond-ranged : (b : Bool) (a : Marked) (i : ℕ) → Ranged first Θ (plain a) → Ranged first Θ (plain (cond b a (mlvar i)))
   cond-ranged true a i h = h
   cond-ranged false a i h = tt
 
-  put-ranged : (j : ℕ) (a e : Marked) → Ranged Θ (plain a) → Ranged Θ (plain e) → Ranged Θ (plain (put j a e))
+  put-ranged : (j : ℕ) (a e : Marked) → Ranged first Θ (plain a) → Ranged first Θ (plain e) → Ranged first Θ (plain (put j a e))
   put-ranged j a (mvar i) h r = tt
   put-ranged j a (mlvar i) h r = cond-ranged (same j i) a (without j i) h
   put-ranged j a (mfun t e) h r = (r .0, put-ranged (suc j) (raise 0 a) e (raise-ranged 0 a h) (r .1))
@@ -35,7 +36,7 @@ module _ (Θ : Table) where
   put-ranged j a (mfix t e) h r = (r .0, put-ranged (suc j) (raise 0 a) e (raise-ranged 0 a h) (r .1))
   put-ranged j a (mcon p t k) h r = r
 
-  pub put-in-ranged : {e e′ : Marked} → PutIn e e′ → Ranged Θ (plain e) → Ranged Θ (plain e′)
+  pub put-in-ranged : {e e′ : Marked} → PutIn e e′ → Ranged first Θ (plain e) → Ranged first Θ (plain e′)
   put-in-ranged (put-here {e = e} {a = a}) r = put-ranged 0 a e (r .1) (r .0 .1)
   put-in-ranged (in-fun p) r = (r .0, put-in-ranged p (r .1))
   put-in-ranged (in-app-left p) r = (put-in-ranged p (r .0), r .1)

@@ -4,6 +4,7 @@ use mathlib.Core.Path.{_≡_, refl, ap}
 use mathlib.Core.Bool.{true, false}
 use mathlib.Core.List.{_∷_}
 use Rattle.calculus.specs.Types.{Ty, Table}
+use Rattle.calculus.specs.Terms.{first}
 use Rattle.calculus.specs.Rules.{Entry, many, once, away, Ctx, NoLinear, none-end, none-many, none-away, InΓ, in-here, in-many, in-away, IsΔ, is-here, is-many, is-away, Split, split-end, split-many, split-first, split-second, split-away, Typed, Var, LVar, →I, →E, ⊸I, ⊸E, ×I, ×E, Fix, Con}
 use Rattle.linear_theorems.specs.Marked.{Marked, mvar, mlvar, mfun, mapp, mlfun, mlapp, mpair, mproj, mfix, mcon, plain}
 use Rattle.linear_theorems.specs.PutIn.{above, without, same, raise, put, PutIn, put-here, in-fun, in-app-left, in-app-right, in-lfun, in-lapp-left, in-lapp-right, in-pair-left, in-pair-right, in-proj-left, in-proj-right, in-fix}
@@ -57,13 +58,13 @@ split-raise w (ins-there p) (split-second z) = let h = split-raise w p z in reco
 split-raise w (ins-there p) (split-away z) = let h = split-raise w p z in record { one = _; two = _; ins-one = ins-there (h .ins-one); ins-two = ins-there (h .ins-two); split = split-away (h .split) }
 
 module _ {Θ : Table} where
-  pub raise-typed : {c : ℕ} {x : Entry} {Γ Γ⁺ : Ctx} {τ : Ty} → (e : Marked) → Idle x → Ins c x Γ Γ⁺ → Typed Θ Γ (plain e) τ → Typed Θ Γ⁺ (plain (raise c e)) τ
+  pub raise-typed : {c : ℕ} {x : Entry} {Γ Γ⁺ : Ctx} {τ : Ty} → (e : Marked) → Idle x → Ins c x Γ Γ⁺ → Typed first Θ Γ (plain e) τ → Typed first Θ Γ⁺ (plain (raise c e)) τ
   raise-typed (mvar i) w p (Var v) = Var (in-raise w p v)
   raise-typed (mlvar i) w p (LVar v) = LVar (is-raise w p v)
   raise-typed (mfun t e) w p (→I q s d) = →I q s (raise-typed e w (ins-there p) d)
-  raise-typed (mapp f a) w p (→E z d c) = let h = split-raise w p z in →E (h .split) (raise-typed f w (h .ins-one) d) (raise-typed a w (h .ins-two) c)
+  raise-typed (mapp f a) w p (→E z s d c) = let h = split-raise w p z in →E (h .split) s (raise-typed f w (h .ins-one) d) (raise-typed a w (h .ins-two) c)
   raise-typed (mlfun t e) w p (⊸I q s d) = ⊸I q s (raise-typed e w (ins-there p) d)
-  raise-typed (mlapp f a) w p (⊸E z d c) = let h = split-raise w p z in ⊸E (h .split) (raise-typed f w (h .ins-one) d) (raise-typed a w (h .ins-two) c)
+  raise-typed (mlapp f a) w p (⊸E z s d c) = let h = split-raise w p z in ⊸E (h .split) s (raise-typed f w (h .ins-one) d) (raise-typed a w (h .ins-two) c)
   raise-typed (mpair t a b) w p (×I z q s₁ s₂ d c) = let h = split-raise w p z in ×I (h .split) q s₁ s₂ (raise-typed a w (h .ins-one) d) (raise-typed b w (h .ins-two) c)
   raise-typed (mproj a e) w p (×E z s₁ s₂ d c) = let h = split-raise w p z in ×E (h .split) s₁ s₂ (raise-typed a w (h .ins-one) d) (raise-typed e w (ins-there (ins-there (h .ins-two))) c)
   raise-typed (mfix t e) w p (Fix q s d) = Fix q s (raise-typed e w (ins-there p) d)
@@ -109,13 +110,13 @@ split-drop (ins-there p) (split-second z) = let h = split-drop p z in record { o
 split-drop (ins-there p) (split-away z) = let h = split-drop p z in record { one = _; two = _; ins-one = ins-there (h .ins-one); ins-two = ins-there (h .ins-two); split = split-away (h .split) }
 
 module _ {Θ : Table} where
-  pub drop-typed : {j : ℕ} {Γ Γ⁺ : Ctx} {τ : Ty} → (e a : Marked) → Ins j away Γ Γ⁺ → Typed Θ Γ⁺ (plain e) τ → Typed Θ Γ (plain (put j a e)) τ
+  pub drop-typed : {j : ℕ} {Γ Γ⁺ : Ctx} {τ : Ty} → (e a : Marked) → Ins j away Γ Γ⁺ → Typed first Θ Γ⁺ (plain e) τ → Typed first Θ Γ (plain (put j a e)) τ
   drop-typed (mvar i) a p (Var v) = Var (in-drop p v)
   drop-typed (mlvar i) a p (LVar v) = rw (other p v) (LVar (is-drop p v))
   drop-typed (mfun t e) a p (→I q s d) = →I q s (drop-typed e (raise 0 a) (ins-there p) d)
-  drop-typed (mapp f b) a p (→E z d c) = let h = split-drop p z in →E (h .split) (drop-typed f a (h .ins-one) d) (drop-typed b a (h .ins-two) c)
+  drop-typed (mapp f b) a p (→E z s d c) = let h = split-drop p z in →E (h .split) s (drop-typed f a (h .ins-one) d) (drop-typed b a (h .ins-two) c)
   drop-typed (mlfun t e) a p (⊸I q s d) = ⊸I q s (drop-typed e (raise 0 a) (ins-there p) d)
-  drop-typed (mlapp f b) a p (⊸E z d c) = let h = split-drop p z in ⊸E (h .split) (drop-typed f a (h .ins-one) d) (drop-typed b a (h .ins-two) c)
+  drop-typed (mlapp f b) a p (⊸E z s d c) = let h = split-drop p z in ⊸E (h .split) s (drop-typed f a (h .ins-one) d) (drop-typed b a (h .ins-two) c)
   drop-typed (mpair t b e) a p (×I z q s₁ s₂ d c) = let h = split-drop p z in ×I (h .split) q s₁ s₂ (drop-typed b a (h .ins-one) d) (drop-typed e a (h .ins-two) c)
   drop-typed (mproj b e) a p (×E z s₁ s₂ d c) = let h = split-drop p z in ×E (h .split) s₁ s₂ (drop-typed b a (h .ins-one) d) (drop-typed e (raise 0 (raise 0 a)) (ins-there (ins-there (h .ins-two))) c)
   drop-typed (mfix t e) a p (Fix q s d) = Fix q s (drop-typed e (raise 0 a) (ins-there p) d)
@@ -198,20 +199,20 @@ with-second (split-second y) (split-away z) = let (g, p, q) = with-second y z in
 with-second (split-away y) (split-away z) = let (g, p, q) = with-second y z in (_, split-away p, split-away q)
 
 module _ {Θ : Table} where
-  pub put-typed : {j : ℕ} {κ τ : Ty} {Γ Γ₁ Γ₂ Γ⁺ : Ctx} → (e a : Marked) → Ins j (once κ) Γ₁ Γ⁺ → Split Γ Γ₁ Γ₂ → Typed Θ Γ⁺ (plain e) τ → Typed Θ Γ₂ (plain a) κ → Typed Θ Γ (plain (put j a e)) τ
+  pub put-typed : {j : ℕ} {κ τ : Ty} {Γ Γ₁ Γ₂ Γ⁺ : Ctx} → (e a : Marked) → Ins j (once κ) Γ₁ Γ⁺ → Split Γ Γ₁ Γ₂ → Typed first Θ Γ⁺ (plain e) τ → Typed first Θ Γ₂ (plain a) κ → Typed first Θ Γ (plain (put j a e)) τ
   put-typed (mvar i) a p y (Var v) h = absurd (in-once p v)
   put-typed (mlvar i) a p y (LVar v) h = let r = itself p v in rw (r .place) (rw (split-none y (r .rest), r .type) at h)
   put-typed (mfun t e) a p y (→I q s d) h = →I q s (put-typed e (raise 0 a) (ins-there p) (split-many y) d (raise-typed a idle-many ins-here h))
-  put-typed (mapp f b) a p y (→E z d c) h =
+  put-typed (mapp f b) a p y (→E z s d c) h =
       elim (split-take p z) [
-        | by-first u v w ↦ let (g, m, n) = with-first y w in →E m (put-typed f a u n d h) (drop-typed b a v c)
-        | by-second u v w ↦ let (g, m, n) = with-second y w in →E m (drop-typed f a u d) (put-typed b a v n c h)
+        | by-first u v w ↦ let (g, m, n) = with-first y w in →E m s (put-typed f a u n d h) (drop-typed b a v c)
+        | by-second u v w ↦ let (g, m, n) = with-second y w in →E m s (drop-typed f a u d) (put-typed b a v n c h)
       ]
   put-typed (mlfun t e) a p y (⊸I q s d) h = ⊸I q s (put-typed e (raise 0 a) (ins-there p) (split-first y) d (raise-typed a idle-away ins-here h))
-  put-typed (mlapp f b) a p y (⊸E z d c) h =
+  put-typed (mlapp f b) a p y (⊸E z s d c) h =
       elim (split-take p z) [
-        | by-first u v w ↦ let (g, m, n) = with-first y w in ⊸E m (put-typed f a u n d h) (drop-typed b a v c)
-        | by-second u v w ↦ let (g, m, n) = with-second y w in ⊸E m (drop-typed f a u d) (put-typed b a v n c h)
+        | by-first u v w ↦ let (g, m, n) = with-first y w in ⊸E m s (put-typed f a u n d h) (drop-typed b a v c)
+        | by-second u v w ↦ let (g, m, n) = with-second y w in ⊸E m s (drop-typed f a u d) (put-typed b a v n c h)
       ]
   put-typed (mpair t f b) a p y (×I z q s₁ s₂ d c) h =
       elim (split-take p z) [
@@ -229,14 +230,14 @@ module _ {Θ : Table} where
   put-typed (mcon k t m) a p y (Con l q z) h = absurd (none-once p z)
 
   -- a linear function that is applied, written out anywhere in a term, keeps the term's type
-  pub put-in-typed : {Γ : Ctx} {τ : Ty} {e e′ : Marked} → PutIn e e′ → Typed Θ Γ (plain e) τ → Typed Θ Γ (plain e′) τ
-  put-in-typed (put-here {e = e} {a = a}) (⊸E z (⊸I q s d) c) = put-typed e a ins-here z d c
+  pub put-in-typed : {Γ : Ctx} {τ : Ty} {e e′ : Marked} → PutIn e e′ → Typed first Θ Γ (plain e) τ → Typed first Θ Γ (plain e′) τ
+  put-in-typed (put-here {e = e} {a = a}) (⊸E z _ (⊸I q s d) c) = put-typed e a ins-here z d c
   put-in-typed (in-fun r) (→I q s d) = →I q s (put-in-typed r d)
-  put-in-typed (in-app-left r) (→E z d c) = →E z (put-in-typed r d) c
-  put-in-typed (in-app-right r) (→E z d c) = →E z d (put-in-typed r c)
+  put-in-typed (in-app-left r) (→E z s d c) = →E z s (put-in-typed r d) c
+  put-in-typed (in-app-right r) (→E z s d c) = →E z s d (put-in-typed r c)
   put-in-typed (in-lfun r) (⊸I q s d) = ⊸I q s (put-in-typed r d)
-  put-in-typed (in-lapp-left r) (⊸E z d c) = ⊸E z (put-in-typed r d) c
-  put-in-typed (in-lapp-right r) (⊸E z d c) = ⊸E z d (put-in-typed r c)
+  put-in-typed (in-lapp-left r) (⊸E z s d c) = ⊸E z s (put-in-typed r d) c
+  put-in-typed (in-lapp-right r) (⊸E z s d c) = ⊸E z s d (put-in-typed r c)
   put-in-typed (in-pair-left r) (×I z q s₁ s₂ d c) = ×I z q s₁ s₂ (put-in-typed r d) c
   put-in-typed (in-pair-right r) (×I z q s₁ s₂ d c) = ×I z q s₁ s₂ d (put-in-typed r c)
   put-in-typed (in-proj-left r) (×E z s₁ s₂ d c) = ×E z s₁ s₂ (put-in-typed r d) c

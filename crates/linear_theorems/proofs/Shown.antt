@@ -8,6 +8,7 @@ use mathlib.Core.List.{List, [], _∷_, head-eq-of-cons-eq, tail-eq-of-cons-eq}
 use native.Mathlib.Omega.{arith}
 use lib.ListN.{length}
 use Rattle.calculus.specs.Types.{Ty, size, Table}
+use Rattle.calculus.specs.Terms.{first}
 use Rattle.calculus.specs.Rules.{Typed}
 use Rattle.calculus.specs.Net.{Net, Interface, number, Element, point, part, make, netOf}
 use Rattle.calculus.specs.Lean.{kept, keep, lean}
@@ -72,7 +73,7 @@ shows-itself n β (part p i ∷ es) = ((λ x lo hi t l. refl), shows-itself n β
 
 module _ (law : Law) (Θ : Table) (n : ℕ) (γ : Bits) (ρ : Seen) where
   -- its meaning is what its netlist shows
-  pub shown-means : {τ : Ty} (e : Marked) → Typed Θ [] (plain e) τ → ByMarks law (netOf (make Θ (plain e) [] 0)) (marks e) n γ ρ ↔ Means law Θ n ρ e [] (build τ (pinLines n γ 0 (size τ)))
+  pub shown-means : {τ : Ty} (e : Marked) → Typed first Θ [] (plain e) τ → ByMarks law (netOf (make Θ (plain e) [] 0)) (marks e) n γ ρ ↔ Means law Θ n ρ e [] (build τ (pinLines n γ 0 (size τ)))
   shown-means {τ} e d = (forth, back)
     where
       len : length (make Θ (plain e) [] 0 .side) ≡ size τ
@@ -101,7 +102,7 @@ module _ (law : Law) (Θ : Table) (n : ℕ) (γ : Bits) (ρ : Seen) where
           }
 
   -- with an argument put in, the possible records are the same
-  pub same-shown : {τ : Ty} {e e′ : Marked} → PutIn e e′ → Typed Θ [] (plain e) τ → ByMarks law (netOf (make Θ (plain e) [] 0)) (marks e) n γ ρ ↔ ByMarks law (netOf (make Θ (plain e′) [] 0)) (marks e′) n γ ρ
+  pub same-shown : {τ : Ty} {e e′ : Marked} → PutIn e e′ → Typed first Θ [] (plain e) τ → ByMarks law (netOf (make Θ (plain e) [] 0)) (marks e) n γ ρ ↔ ByMarks law (netOf (make Θ (plain e′) [] 0)) (marks e′) n γ ρ
   same-shown {τ} {e} {e′} r d =
       let a = shown-means e d in
       let b = shown-means e′ (put-in-typed r d) in

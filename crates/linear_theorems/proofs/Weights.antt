@@ -5,7 +5,7 @@ use mathlib.Core.Path.{_≡_, refl}
 use native.Mathlib.Omega.{arith}
 use lib.ListN.{length, length-append}
 use Rattle.calculus.specs.Types.{Ty, size, Table, tree}
-use Rattle.calculus.specs.Terms.{nodes, partAt}
+use Rattle.calculus.specs.Terms.{first, nodes, partAt}
 use Rattle.calculus.specs.Net.{leftOf}
 use Rattle.calculus.specs.Inputs.{tally}
 use Rattle.calculus.specs.Write.{termBytes}
@@ -67,29 +67,29 @@ module _ (w : Weight) where
   raise-weight c (mcon p t k) = refl
 
   module _ {Θ : Table} where
-    drop-weight : {j : ℕ} {Γ Γ⁺ : Ctx} {τ : Ty} (e a : Marked) → Ins j away Γ Γ⁺ → Typed Θ Γ⁺ (plain e) τ → weigh (put j a e) ≡ weigh e
+    drop-weight : {j : ℕ} {Γ Γ⁺ : Ctx} {τ : Ty} (e a : Marked) → Ins j away Γ Γ⁺ → Typed first Θ Γ⁺ (plain e) τ → weigh (put j a e) ≡ weigh e
     drop-weight (mvar i) a p (Var x) = refl
     drop-weight (mlvar i) a p (LVar x) = rw (other p x)
     drop-weight (mfun t e) a p (→I q s d) = omega (arith, drop-weight e (raise 0 a) (ins-there p) d)
-    drop-weight (mapp f b) a p (→E z d c) = let h = split-drop p z in omega (arith, drop-weight f a (h .ins-one) d, drop-weight b a (h .ins-two) c)
+    drop-weight (mapp f b) a p (→E z s d c) = let h = split-drop p z in omega (arith, drop-weight f a (h .ins-one) d, drop-weight b a (h .ins-two) c)
     drop-weight (mlfun t e) a p (⊸I q s d) = omega (arith, drop-weight e (raise 0 a) (ins-there p) d)
-    drop-weight (mlapp f b) a p (⊸E z d c) = let h = split-drop p z in omega (arith, drop-weight f a (h .ins-one) d, drop-weight b a (h .ins-two) c)
+    drop-weight (mlapp f b) a p (⊸E z s d c) = let h = split-drop p z in omega (arith, drop-weight f a (h .ins-one) d, drop-weight b a (h .ins-two) c)
     drop-weight (mpair t f b) a p (×I z q s₁ s₂ d c) = let h = split-drop p z in omega (arith, drop-weight f a (h .ins-one) d, drop-weight b a (h .ins-two) c)
     drop-weight (mproj f b) a p (×E z s₁ s₂ d c) = let h = split-drop p z in omega (arith, drop-weight f a (h .ins-one) d, drop-weight b (raise 0 (raise 0 a)) (ins-there (ins-there (h .ins-two))) c)
     drop-weight (mfix t e) a p (Fix q s d) = omega (arith, drop-weight e (raise 0 a) (ins-there p) d)
     drop-weight (mcon x t k) a p (Con l q z) = refl
 
-    put-weight : {j : ℕ} {κ τ : Ty} {Γ Γ⁺ : Ctx} (e a : Marked) → Ins j (once κ) Γ Γ⁺ → Typed Θ Γ⁺ (plain e) τ → weigh (put j a e) + w .var ≡ weigh e + weigh a
+    put-weight : {j : ℕ} {κ τ : Ty} {Γ Γ⁺ : Ctx} (e a : Marked) → Ins j (once κ) Γ Γ⁺ → Typed first Θ Γ⁺ (plain e) τ → weigh (put j a e) + w .var ≡ weigh e + weigh a
     put-weight (mvar i) a p (Var x) = absurd (in-once p x)
     put-weight (mlvar i) a p (LVar x) = rw (itself p x .place) (omega arith)
     put-weight (mfun t e) a p (→I q s d) = omega (arith, put-weight e (raise 0 a) (ins-there p) d, raise-weight 0 a)
-    put-weight (mapp f b) a p (→E z d c) =
+    put-weight (mapp f b) a p (→E z s d c) =
         elim (split-take p z) [
           | by-first l r y ↦ omega (arith, put-weight f a l d, drop-weight b a r c)
           | by-second l r y ↦ omega (arith, drop-weight f a l d, put-weight b a r c)
         ]
     put-weight (mlfun t e) a p (⊸I q s d) = omega (arith, put-weight e (raise 0 a) (ins-there p) d, raise-weight 0 a)
-    put-weight (mlapp f b) a p (⊸E z d c) =
+    put-weight (mlapp f b) a p (⊸E z s d c) =
         elim (split-take p z) [
           | by-first l r y ↦ omega (arith, put-weight f a l d, drop-weight b a r c)
           | by-second l r y ↦ omega (arith, drop-weight f a l d, put-weight b a r c)
@@ -107,14 +107,14 @@ module _ (w : Weight) where
     put-weight (mfix t e) a p (Fix q s d) = omega (arith, put-weight e (raise 0 a) (ins-there p) d, raise-weight 0 a)
     put-weight (mcon x t k) a p (Con l q z) = absurd (none-once p z)
 
-    put-in-weight : {Γ : Ctx} {τ : Ty} {e e′ : Marked} (r : PutIn e e′) → Typed Θ Γ (plain e) τ → weigh e ≡ weigh e′ + (w .two + w .fun (applied r) + w .var)
-    put-in-weight (put-here {t = t} {e = e} {a = a}) (⊸E z (⊸I q s d) c) = omega (arith, put-weight e a ins-here d)
+    put-in-weight : {Γ : Ctx} {τ : Ty} {e e′ : Marked} (r : PutIn e e′) → Typed first Θ Γ (plain e) τ → weigh e ≡ weigh e′ + (w .two + w .fun (applied r) + w .var)
+    put-in-weight (put-here {t = t} {e = e} {a = a}) (⊸E z _ (⊸I q s d) c) = omega (arith, put-weight e a ins-here d)
     put-in-weight (in-fun r) (→I q s d) = omega (arith, put-in-weight r d)
-    put-in-weight (in-app-left r) (→E z d c) = omega (arith, put-in-weight r d)
-    put-in-weight (in-app-right r) (→E z d c) = omega (arith, put-in-weight r c)
+    put-in-weight (in-app-left r) (→E z s d c) = omega (arith, put-in-weight r d)
+    put-in-weight (in-app-right r) (→E z s d c) = omega (arith, put-in-weight r c)
     put-in-weight (in-lfun r) (⊸I q s d) = omega (arith, put-in-weight r d)
-    put-in-weight (in-lapp-left r) (⊸E z d c) = omega (arith, put-in-weight r d)
-    put-in-weight (in-lapp-right r) (⊸E z d c) = omega (arith, put-in-weight r c)
+    put-in-weight (in-lapp-left r) (⊸E z s d c) = omega (arith, put-in-weight r d)
+    put-in-weight (in-lapp-right r) (⊸E z s d c) = omega (arith, put-in-weight r c)
     put-in-weight (in-pair-left r) (×I z q s₁ s₂ d c) = omega (arith, put-in-weight r d)
     put-in-weight (in-pair-right r) (×I z q s₁ s₂ d c) = omega (arith, put-in-weight r c)
     put-in-weight (in-proj-left r) (×E z s₁ s₂ d c) = omega (arith, put-in-weight r d)
@@ -172,7 +172,7 @@ terminals-weight Θ (mfix t e) = omega (arith, terminals-weight Θ e)
 terminals-weight Θ (mcon p t k) = refl
 
 abbrev byMark : ℕ → Weight
-byMark k = record { var = 0; two = 0; pair = 0; fun = λ t. 0; fix = λ t. 0; con = λ p x. is k x }
+byMark k = record { var = 0; two = 0; pair = 0; fun = λ t. 0; fix = λ t. 0; con = λ p x. tally k x }
 
 marks-weight : (k : ℕ) (e : Marked) → times k (marks e) ≡ weigh (byMark k) e
 marks-weight k (mvar i) = refl
@@ -186,7 +186,7 @@ marks-weight k (mproj a e) = omega (arith, marks-weight k a, marks-weight k e, t
 marks-weight k (mfix t e) = omega (arith, marks-weight k e)
 marks-weight k (mcon p t x) = omega arith
 
-module _ {Θ : Table} {Γ : Ctx} {τ : Ty} {e e′ : Marked} (r : PutIn e e′) (d : Typed Θ Γ (plain e) τ) where
+module _ {Θ : Table} {Γ : Ctx} {τ : Ty} {e e′ : Marked} (r : PutIn e e′) (d : Typed first Θ Γ (plain e) τ) where
   pub fewer-nodes : nodes (plain e) ≡ nodes (plain e′) + 3
   fewer-nodes = omega (arith, put-in-weight byNodes r d, nodes-weight e, nodes-weight e′)
 

@@ -57,7 +57,7 @@ ByNode (mcon p t k) n = k ≡ n
 -- how often k stands in a list
 abbrev pub times : ℕ → List ℕ → ℕ
 times k [] = 0
-times k (x ∷ xs) = is k x + times k xs
+times k (x ∷ xs) = tally k x + times k xs
 
 -- ---- records on marked parts
 
