@@ -1,0 +1,17 @@
+pub mod Meaning
+pub mod Lines
+pub mod PutTyped
+pub mod PutMeans
+pub mod Heard
+pub mod Below
+pub mod Played
+pub mod Shown
+pub mod Marks
+pub mod Weights
+pub mod Depths
+pub mod OneSheet
+pub mod PutRanged
+pub mod Bytes
+pub mod Numbered
+pub mod Main
+pub mod Examples

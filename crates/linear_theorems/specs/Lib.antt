@@ -1,0 +1,3 @@
+pub mod Marked
+pub mod PutIn
+pub mod Harmless
