@@ -1,0 +1,5 @@
+pub mod Standing
+pub mod Sound
+pub mod Complete
+pub mod Exact
+pub mod Own
