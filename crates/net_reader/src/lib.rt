@@ -76,7 +76,7 @@ fn pin_at(s: &[u8], at: usize) -> Record
 }
 
 // The record at an offset.
-pub fn record_at(s: &[u8], at: usize) -> Record
+fn record_at(s: &[u8], at: usize) -> Record
     ensures { λ r. ⌜ saidRecord r ≡ itemAt (now (s .entry)) at ⌝ }
 {
     if s.len() <= at {
@@ -107,7 +107,7 @@ pub fn size_of(r: Record) -> usize
 }
 
 // The offset past the record at an offset; the offset itself where no record stands.
-pub fn past_at(s: &[u8], at: usize) -> usize
+fn past_at(s: &[u8], at: usize) -> usize
     ensures { λ n. ⌜ n ≡ at + frontSize (itemAt (now (s .entry)) at) ⌝ }
 {
     at + size_of(record_at(s, at))
