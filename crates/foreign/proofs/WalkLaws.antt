@@ -133,9 +133,9 @@ module _ (lean : Bool) (s w₀ w : List ℕ) (b : Bytes s) (size : 32768 ≤ len
       (leads (took lean (σ .stage) (σ .next) (itemAt s at) w) (at + frontSize (itemAt s at)) (step (itemAt s at) refl))
 
 -- at the end of the bytes
-pub going-done : (lean : Bool) (s w₀ w : List ℕ) (stage n at : ℕ) (g : Going lean s w₀ w stage n at) → length s ≤ at
+pub going-done : {lean : Bool} {s w₀ w : List ℕ} {stage n at : ℕ} (g : Going lean s w₀ w stage n at) → length s ≤ at
     → (τ : Reading) × (readOn (length s) lean s 0 begin ≡ good τ) × (n ≡ τ .next) × Holds w (τ .net)
-going-done lean s w₀ w stage n at g l = (g .reading, sym (g .rest) ∙ ended-on (g .left), g .next-is, g .holds)
+going-done {lean} {s} {at = at} g l = (g .reading, sym (g .rest) ∙ ended-on (g .left), g .next-is, g .holds)
   where
     ended-on : (k : ℕ) → readOn k lean s at (g .reading) ≡ good (g .reading)
     ended-on zero = refl
@@ -143,10 +143,10 @@ going-done lean s w₀ w stage n at g l = (g .reading, sym (g .rest) ∙ ended-o
 
 -- ---- the code's own step
 
-module _ (lean : Bool) (s w₀ w : List ℕ) (b : Bytes s) (size : 32768 ≤ length w₀) (stage n at : ℕ) (g : Going lean s w₀ w stage n at) (l : at < length s) (r : Went) (v : List ℕ)
+module _ {lean : Bool} {s w₀ w : List ℕ} {stage n at : ℕ} (b : Bytes s) (size : 32768 ≤ length w₀) (g : Going lean s w₀ w stage n at) (l : at < length s) (r : Went) (v : List ℕ)
     (h : saidWent r v ≡ goneTo (took lean stage n (itemAt s at) w) (at + frontSize (itemAt s at))) where
-  pub walk-on : (t : State) (m : ℕ) → r ≡ went.On t m → Going lean s w₀ v (t .stage) (t .next) m × (at < m)
-  walk-on t m e = subst (Leads lean s w₀ w b size stage n at g l) (sym h ∙ ap (λ (y : Went). saidWent y v) e) (gone lean s w₀ w b size stage n at g l)
+  pub walk-on : {t : State} {m : ℕ} → r ≡ went.On t m → Going lean s w₀ v (t .stage) (t .next) m × (at < m)
+  walk-on e = subst (Leads lean s w₀ w b size stage n at g l) (sym h ∙ ap (λ (y : Went). saidWent y v) e) (gone lean s w₀ w b size stage n at g l)
 
-  pub walk-off : (k : ℕ) → r ≡ went.Refused k → (readOn (length s) lean s 0 begin ≡ refuse k at) × Keeps w₀ v
-  walk-off k e = subst (Leads lean s w₀ w b size stage n at g l) (sym h ∙ ap (λ (y : Went). saidWent y v) e) (gone lean s w₀ w b size stage n at g l)
+  pub walk-off : {k : ℕ} → r ≡ went.Refused k → (readOn (length s) lean s 0 begin ≡ refuse k at) × Keeps w₀ v
+  walk-off e = subst (Leads lean s w₀ w b size stage n at g l) (sym h ∙ ap (λ (y : Went). saidWent y v) e) (gone lean s w₀ w b size stage n at g l)

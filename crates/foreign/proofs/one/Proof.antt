@@ -24,9 +24,12 @@ size-of-requires : tie.Need-size-of-requires
 size-of-requires c κs = search needs
 
 add-t14 : tie.Need-add-t14
-add-t14 c = let a = c .before .before .before .before .before .before .before .before .before .before .before .args in
-    let r = front-room (a .net .now) (bytes-of (a .net .now) (λ i. omega (arith, c .before .before .before .before .before .before .before .before .before .before .shared-slice-known .given i))) (a .at) (c .before .before .before .before .before .before .before .before .before .before .before .pre .1) in
-    omega (arith, c .size-of .ensures, ap frontSize (c .before .before .before .before .before .before .before .before .read .ensures))
+add-t14 c =
+    let d = c .before .before .before .before .before .before .before .before in
+    let e = d .before .before in
+    let a = e .before .args in
+    let r = front-room (a .net .now) (bytes-of (a .net .now) (λ i. omega (arith, e .shared-slice-known .given i))) (a .at) (e .before .pre .1) in
+    omega (arith, c .size-of .ensures, ap frontSize (d .read .ensures))
 
 enum-known-n : tie.Need-enum-known-n
 enum-known-n c = search needs
@@ -35,15 +38,22 @@ same-length : tie.Need-same-length
 same-length c = search needs
 
 returns : tie.Need-returns
-returns c = let a = c .before .before .before .before .before .before .before .before .before .before .before .args in
-    one-on (c .before .before .before .before .before .before .before .before .read .result) (itemAt (a .net .now) (a .at)) (a .lean) (a .st .stage) (a .st .next) (a .at) (c .before .before .before .before .before .before .take .result) (a .work .now) _ (c .before .before .before .before .before .before .before .before .read .ensures) (c .before .before .before .before .before .before .take .ensures) _ (c .size-of .result) (c .before .before .t .given .1) (c .size-of .ensures)
+returns c =
+    let d = c .before .before .before .before .before .before in
+    let e = d .before .before in
+    let a = e .before .before .before .args in
+    one-on (e .read .result) (itemAt (a .net .now) (a .at)) (a .lean) (a .st .stage) (a .st .next) (a .at) (d .take .result) (a .work .now) _ (e .read .ensures) (d .take .ensures) _ (c .size-of .result)
+    (c .before .before .t .given .1) (c .size-of .ensures)
 
 same-length-2 : tie.Need-same-length-2
 same-length-2 c = search needs
 
 returns-2 : tie.Need-returns-2
-returns-2 c = let a = c .before .before .before .before .before .before .before .before .before .before .args in
-    one-off (c .before .before .before .before .before .before .before .read .result) (itemAt (a .net .now) (a .at)) (a .lean) (a .st .stage) (a .st .next) (a .at) (c .before .before .before .before .before .take .result) (a .work .now) _ (c .before .before .before .before .before .before .before .read .ensures) (c .before .before .before .before .before .take .ensures) _ (c .before .n .given .1)
+returns-2 c =
+    let d = c .before .before .before .before .before in
+    let e = d .before .before in
+    let a = e .before .before .before .args in
+    one-off (e .read .result) (itemAt (a .net .now) (a .at)) (a .lean) (a .st .stage) (a .st .next) (a .at) (d .take .result) (a .work .now) _ (e .read .ensures) (d .take .ensures) _ (c .before .n .given .1)
 
 pub one-spec : {M : Type 1} → statement M
 one-spec =

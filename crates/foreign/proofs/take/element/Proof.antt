@@ -1,21 +1,18 @@
 -- By the tests on the way. Assumes nothing.
-use native.Mathlib.Omega.{arith}
 use mathlib.Core.Path.{_≡_, sym, ap, _∙_}
 use mathlib.Core.List.{List}
 use mathlib.Core.Bool.{true, false}
 use Prim.Native.Nat.{ℕ, _+_}
 use borrow.Author.Tests.{eq-eqb, ne-eqb, le-leb, lt-leb, not-true, not-false}
 use Rattle.foreign.specs.Take.{next}
-use Rattle.foreign.specs.Table.{cellAt}
-use Rattle.foreign.proofs.TableLaws.{cell-low}
 use Rattle.foreign_theorems.specs.Foreign.{starts}
-use lib.ListN.{length}
 use borrow.Author.Needs.{needs}
 use Rattle.foreign.proofs.take.element.Statement.{statement}
 use Rattle.foreign.proofs.take.element.Tie as tie
 
 returns : tie.Need-returns
-returns c = let a = c .before .before .before .args in
+returns c =
+    let a = c .before .before .before .args in
     rw (ne-eqb (a .st .stage) 0 (c .if1 .taken))
 
 add-past : tie.Need-add-past
@@ -28,12 +25,14 @@ starts-at-requires : tie.Need-starts-at-requires
 starts-at-requires c κs = search needs
 
 returns-2 : tie.Need-returns-2
-returns-2 c = let a = c .before .before .before .before .before .args in
+returns-2 c =
+    let a = c .before .before .before .before .before .args in
     let s : starts (a .lean) (a .first) (a .st .next) ≡ false = sym (c .before .starts-at .ensures) ∙ not-true _ (c .if2 .taken) in
     rw (eq-eqb (a .st .stage) 0 (c .before .before .if1 .left), s)
 
 returns-3 : tie.Need-returns-3
-returns-3 c = let a = c .before .before .before .before .before .before .args in
+returns-3 c =
+    let a = c .before .before .before .before .before .before .args in
     let s : starts (a .lean) (a .first) (a .st .next) ≡ true = sym (c .before .before .starts-at .ensures) ∙ not-false _ (c .before .if2 .left) in
     rw (eq-eqb (a .st .stage) 0 (c .before .before .before .if1 .left), s, lt-leb (a .first + a .inputs + 1) 8192 (c .if3 .taken))
 
@@ -44,7 +43,8 @@ same-length : tie.Need-same-length
 same-length c = search needs
 
 returns-4 : tie.Need-returns-4
-returns-4 c = let a = c .before .before .before .before .before .before .before .before .before .before .args in
+returns-4 c =
+    let a = c .before .before .before .before .before .before .before .before .before .before .args in
     let s : starts (a .lean) (a .first) (a .st .next) ≡ true = sym (c .before .before .before .before .before .before .starts-at .ensures) ∙ not-false _ (c .before .before .before .before .before .if2 .left) in
     rw (eq-eqb (a .st .stage) 0 (c .before .before .before .before .before .before .before .if1 .left), s, le-leb (a .first + a .inputs + 1) 8192 (c .before .before .before .before .if3 .left)) (ap (λ (x : List ℕ). next 0 (a .first + a .inputs + 1) x) (c .before .before .place .ensures))
 

@@ -1,5 +1,5 @@
 -- By the record. Assumes nothing.
-use mathlib.Core.Path.{_≡_, ap, _∙_}
+use mathlib.Core.Path.{ap, _∙_}
 use native.Mathlib.Omega.{arith}
 use Prim.Native.Nat.{ℕ}
 use Rattle.circuit_theorems.proofs.Counts.{part-inputs}
