@@ -23,6 +23,10 @@ use Rattle.foreign_theorems.proofs.Complete.{accepts-check}
 pub check-exact : (lean : Bool) (s : List ℕ) → Bytes s → (check lean s ≡ good tt) ↔ Accepts lean s
 check-exact lean s b = (accepted lean s b, accepts-check lean s)
 
+-- a netlist without gaps is a lean one too
+pub full-is-lean : (s : List ℕ) → Accepts false s → Accepts true s
+full-is-lean s a = record { net = a .net; bytes = a .bytes; known = a .known; formed = a .formed; numbering = a .formed .rising; few = a .few }
+
 -- ---- 21 and 22: the first record in byte order
 
 -- a refusal went through a step

@@ -3,3 +3,4 @@ pub mod Sound
 pub mod Complete
 pub mod Exact
 pub mod Own
+pub mod Worked
