@@ -33,7 +33,7 @@ abbrev pub itemsBytes : List Item → List ℕ
 itemsBytes [] = []
 itemsBytes (r ∷ rs) = itemBytes r ++ itemsBytes rs
 
-items-append : (xs ys : List Item) → itemsBytes (xs ++ ys) ≡ itemsBytes xs ++ itemsBytes ys
+pub items-append : (xs ys : List Item) → itemsBytes (xs ++ ys) ≡ itemsBytes xs ++ itemsBytes ys
 items-append [] ys = refl
 items-append (element (point i) ∷ xs) ys = rw (items-append xs ys)
 items-append (element (part p i) ∷ xs) ys = rw (items-append xs ys)
@@ -178,10 +178,10 @@ out-not-made (part p i ∷ es) n e x a t =
     (λ u. let v = out-low es (i + partAt p .inputs + 1) e x (a .1) u in omega (arith, part-above (partAt p .inputs) i x (omega arith), out-not-made es (i + partAt p .inputs + 1) e x (a .1) u))
 
 -- the elements tell a pin's direction
-abbrev Shows : List Element → Terminal → Type 0
+abbrev pub Shows : List Element → Terminal → Type 0
 Shows es t = Named (λ i. madeAt es i ≡ 1) (λ o. T (isOut es o)) t
 
-terminal-is : (es : List Element) (e : ℕ) (t : Terminal) → Rising es 0 e → Shows es t → terminalOf es (number t) ≡ t
+pub terminal-is : (es : List Element) (e : ℕ) (t : Terminal) → Rising es 0 e → Shows es t → terminalOf es (number t) ≡ t
 terminal-is es e (inp i) up a = rw (is-false (isOut es i) (λ u. omega (arith, out-not-made es 0 e i up u)))
 terminal-is es e (out o) up a = rw (T-is (isOut es o) a)
 

@@ -62,10 +62,10 @@ keep-known m (x ∷ es) a = by (kept m x) (keep-known m es (a .1))
     by false r = r
 
 module _ (s : List ℕ) (m : Net) (ok : full s ≡ good m) where
-  full-known : All Known (m .elements)
+  pub full-known : All Known (m .elements)
   full-known = let a = accepts s m ok in subst (λ (x : Net). All Known (x .elements)) (a .is) (made-known (a .typed) [] 0)
 
-  lean-known : All Known (lean m .elements)
+  pub lean-known : All Known (lean m .elements)
   unfolding lean
   lean-known = keep-known m (m .elements) full-known
 

@@ -1,0 +1,6 @@
+pub mod Standing
+pub mod Sound
+pub mod Complete
+pub mod Exact
+pub mod Own
+pub mod Worked

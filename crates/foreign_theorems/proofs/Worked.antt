@@ -1,0 +1,10 @@
+-- The check, run over the netlists that were worked out by hand. Assumes nothing.
+use mathlib.Core.Path.{_≡_, refl}
+use mathlib.Core.List.{map}
+use Rattle.calculus.specs.NetRead.{itemAt}
+use Rattle.foreign_theorems.specs.Foreign.{check}
+use Rattle.foreign_theorems.specs.Worked.{table, checks}
+
+pub worked-nets : map checks table ≡ table
+unfolding table check itemAt
+worked-nets = refl

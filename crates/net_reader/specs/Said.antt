@@ -1,0 +1,23 @@
+-- The records of the code as those of the definitions (document 02, L8). Assumes nothing.
+use Prim.Native.Nat.{ℕ}
+use Rattle.calculus.specs.Net.{point, part, Wire, element, wire, pin}
+use Rattle.calculus.specs.NetRead.{itemSize, Front, item, ended, broken}
+use Rattle.net_reader.specs.declared.Record.{Record}
+use Rattle.net_reader.specs.declared.Record.the-variants as rec
+
+abbrev pub wireOf : ℕ → ℕ → Wire
+wireOf from to = record { from = from; to = to }
+
+abbrev pub saidRecord : Record → Front
+saidRecord (rec.Point i) = item (element (point i))
+saidRecord (rec.Part p first) = item (element (part p first))
+saidRecord (rec.Wire from to) = item (wire (wireOf from to))
+saidRecord (rec.Pin t) = item (pin t)
+saidRecord rec.End = ended
+saidRecord rec.Broken = broken
+
+-- the bytes of a record; none where there is no record
+abbrev pub frontSize : Front → ℕ
+frontSize (item r) = itemSize r
+frontSize ended = 0
+frontSize broken = 0
