@@ -1,11 +1,12 @@
-//! The independent second program: sheets to netlists, written from document 01 alone.
-//! Each module opens with the section of document 01 that it follows.
+//! The independent second program: sheets to netlists, written from documents 01 and 02 alone.
+//! Each module opens with the section or the request that it follows.
 
 pub mod answers;
 pub mod check;
 pub mod corpus;
 pub mod damage;
 pub mod derive;
+pub mod edges_clash;
 pub mod edges_making;
 pub mod edges_reading;
 pub mod edges_typing;
@@ -31,6 +32,6 @@ pub use lean::lean;
 pub use listing::listing;
 pub use netlist::{bytes, Netlist};
 pub use read::{read, stretch};
-pub use refusal::Refusal;
+pub use refusal::{word, Refusal};
 pub use sheet::Sheet;
 pub use translate::translate;

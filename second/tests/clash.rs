@@ -1,0 +1,94 @@
+//! Document 02, L3: refusal 12 names the two types that clash, no other refusal names any.
+
+use second::corpus::{any, faulty, named, Kind};
+use second::random::Random;
+use second::refusal::FORM;
+use second::sheet::Sheet;
+use second::{check, edges_clash, read, translate, word, Refusal};
+use std::collections::BTreeMap;
+
+#[test]
+fn each_cause_names_its_types() {
+    let mut wrong = Vec::new();
+    for edge in edges_clash::edges() {
+        for lean in [false, true] {
+            let answer = translate(&edge.sheet, lean, 41_344, 32_768);
+            if answer != Err(edge.refused) {
+                wrong.push(format!("{}: {answer:?}, not {:?}", edge.name, edge.refused));
+            }
+        }
+    }
+    assert!(wrong.is_empty(), "{}", wrong.join("\n"));
+}
+
+#[test]
+fn the_word_has_four_fields() {
+    assert_eq!(word(Ok(41_344)), 41_344);
+    assert_eq!(word(Err(Refusal::new(3, 0))), 0x0000_0003_0000_0000);
+    assert_eq!(word(Err(Refusal::new(17, 41_344))), 0x0000_0011_0000_A180);
+    // 12 at node 417, wanted 5, found 3
+    assert_eq!(word(Err(Refusal::clash(417, 5, 3))), 0x0030_050C_0000_01A1);
+    // 12 at node 2,047, wanted 256, found 255
+    assert_eq!(word(Err(Refusal::clash(2_047, 256, 255))), 0x0FF1_000C_0000_07FF);
+}
+
+/// The kind of the node that refuses a sheet, and whether a form was wanted.
+fn cause(bytes: &[u8], sheet: &Sheet, refusal: Refusal) -> (u8, bool) {
+    (bytes[sheet.stretches[refusal.place].0], refusal.wanted == FORM)
+}
+
+fn named_types_are_types(sheet: &Sheet, refusal: Refusal) {
+    if refusal.number != 12 {
+        assert_eq!((refusal.wanted, refusal.found), (0, 0));
+        return;
+    }
+    let count = sheet.types.len();
+    assert!(refusal.wanted != refusal.found && refusal.found < count, "{refusal:?}");
+    assert!(refusal.wanted < count || refusal.wanted == FORM, "{refusal:?}");
+}
+
+#[test]
+fn clashes_name_two_different_types() {
+    let mut sheets: Vec<Vec<u8>> =
+        [Kind::Typing, Kind::Reading].into_iter().flat_map(named).map(|case| case.sheet).collect();
+    let mut random = Random::new(12);
+    sheets.extend((0..4_000).map(|at| any(&mut random, at)));
+    sheets.extend((0..2_000).map(|_| faulty(&mut random, 12)));
+    let mut causes: BTreeMap<(u8, bool), usize> = BTreeMap::new();
+    for bytes in sheets {
+        let sheet = match read(&bytes) {
+            Ok(sheet) => sheet,
+            Err(refusal) => {
+                assert_eq!((refusal.wanted, refusal.found), (0, 0));
+                continue;
+            }
+        };
+        if let Err(refusal) = check(&sheet) {
+            named_types_are_types(&sheet, refusal);
+            if refusal.number == 12 {
+                *causes.entry(cause(&bytes, &sheet, refusal)).or_default() += 1;
+            }
+        }
+    }
+    let wanted = [
+        (0x13, false),
+        (0x13, true),
+        (0x14, false),
+        (0x14, true),
+        (0x15, false),
+        (0x15, true),
+        (0x16, false),
+        (0x16, true),
+        (0x17, false),
+        (0x17, true),
+        (0x18, true),
+        (0x19, false),
+        (0x19, true),
+        (0x1A, false),
+        (0x1A, true),
+    ];
+    let seldom: Vec<_> =
+        wanted.iter().filter(|cause| causes.get(cause).copied().unwrap_or(0) < 10).collect();
+    assert!(seldom.is_empty(), "seldom: {seldom:x?} of {causes:x?}");
+    assert_eq!(causes.len(), wanted.len(), "{causes:x?}");
+}
