@@ -77,14 +77,14 @@ impl Maker<'_> {
     fn term(&mut self, term: &Term) -> Rc<Interface> {
         match &term.form {
             Form::Variable { binder, .. } => self.scope[self.scope.len() - 1 - binder].clone(),
-            Form::Constant { part, .. } => self.part(*part),
+            Form::Constant { part, .. } => self.part(*part, term.node),
             Form::Function { written, body, .. } => {
-                let (input, output) = self.points(left_side(self.sheet, *written));
+                let (input, output) = self.points(left_side(self.sheet, *written), term.node);
                 let result = self.under(&[output], body);
                 Rc::new(Interface::Arrow(input, result))
             }
             Form::FixedPoint { written, body } => {
-                let (input, output) = self.points(*written);
+                let (input, output) = self.points(*written, term.node);
                 let result = self.under(&[output], body);
                 self.connect(&result, &input);
                 result
@@ -123,28 +123,29 @@ impl Maker<'_> {
     }
 
     /// Figure 4: a point for each single bit, shared out to an input and an output interface.
-    fn points(&mut self, bound: TypeNumber) -> (Rc<Interface>, Rc<Interface>) {
+    fn points(&mut self, bound: TypeNumber, node: usize) -> (Rc<Interface>, Rc<Interface>) {
         match self.sheet.types[bound] {
             Type::Bit => {
                 let (input, output) = (Input(self.next), Output(self.next + 1));
                 self.next += 2;
                 self.made.elements.push(Element::Point { input });
+                self.made.makers.push(node);
                 (
                     Rc::new(Interface::Terminal(Terminal::Input(input))),
                     Rc::new(Interface::Terminal(Terminal::Output(output))),
                 )
             }
             Type::Product(left, right) => {
-                let (left_in, left_out) = self.points(left);
-                let (right_in, right_out) = self.points(right);
+                let (left_in, left_out) = self.points(left, node);
+                let (right_in, right_out) = self.points(right, node);
                 (
                     Rc::new(Interface::Product(left_in, right_in)),
                     Rc::new(Interface::Product(left_out, right_out)),
                 )
             }
             Type::Arrow(_, left, right) => {
-                let (left_in, left_out) = self.points(left);
-                let (right_in, right_out) = self.points(right);
+                let (left_in, left_out) = self.points(left, node);
+                let (right_in, right_out) = self.points(right, node);
                 (
                     Rc::new(Interface::Arrow(left_out, right_in)),
                     Rc::new(Interface::Arrow(left_in, right_out)),
@@ -153,10 +154,11 @@ impl Maker<'_> {
         }
     }
 
-    fn part(&mut self, part: u8) -> Rc<Interface> {
+    fn part(&mut self, part: u8, node: usize) -> Rc<Interface> {
         let element = Element::Part { part, first: self.next };
         self.next += element.terminals() as u16;
         self.made.elements.push(element);
+        self.made.makers.push(node);
         let output = Rc::new(Interface::Terminal(Terminal::Output(element.output())));
         let inputs: Vec<Input> = element.inputs().collect();
         inputs.into_iter().rev().fold(output, |rest, input| {

@@ -93,11 +93,12 @@ fn roots_are_naive(whole: &Netlist, thin: &Netlist) {
         return;
     }
     let mut wanted = Netlist::default();
-    for &element in &whole.elements {
+    for (&element, &node) in whole.elements.iter().zip(&whole.makers) {
         let (root, in_ring) = naive_root(whole, element.output());
         let is_point = matches!(element, Element::Point { .. });
         if !is_point || root == element.output() {
             wanted.elements.push(element);
+            wanted.makers.push(node);
         }
         for to in element.inputs() {
             if is_point && in_ring && root == element.output() {

@@ -40,10 +40,11 @@ fn sides(sheet: &Sheet, number: usize) -> (usize, usize) {
 
 impl Lists<'_> {
     /// The input and the output interface of a new variable.
-    fn points(&mut self, bound: usize) -> (Vec<Terminal>, Vec<Terminal>) {
+    fn points(&mut self, bound: usize, node: usize) -> (Vec<Terminal>, Vec<Terminal>) {
         let (mut inputs, mut outputs) = (Vec::new(), Vec::new());
         for odd in turned(self.sheet, bound) {
             self.netlist.elements.push(Element::Point { input: Input(self.next) });
+            self.netlist.makers.push(node);
             let input = Terminal::Input(Input(self.next));
             let output = Terminal::Output(Output(self.next + 1));
             self.next += 2;
@@ -76,6 +77,7 @@ impl Lists<'_> {
                 let inputs = PARTS[usize::from(*part)].inputs as u16;
                 self.next += inputs + 1;
                 self.netlist.elements.push(Element::Part { part: *part, first });
+                self.netlist.makers.push(term.node);
                 let mut interface: Vec<Terminal> =
                     (0..inputs).map(|at| Terminal::Input(Input(first + at))).collect();
                 interface.push(Terminal::Output(Output(first + inputs)));
@@ -83,12 +85,12 @@ impl Lists<'_> {
             }
             Form::Function { written, body, .. } => {
                 let (left, _) = sides(self.sheet, *written);
-                let (inputs, outputs) = self.points(left);
+                let (inputs, outputs) = self.points(left, term.node);
                 let (_, rest) = self.bound(vec![(left, outputs)], body);
                 (*written, [inputs, rest].concat())
             }
             Form::FixedPoint { written, body } => {
-                let (inputs, outputs) = self.points(*written);
+                let (inputs, outputs) = self.points(*written, term.node);
                 let (_, result) = self.bound(vec![(*written, outputs)], body);
                 for (&from, &to) in result.iter().zip(&inputs) {
                     self.wire(from, to);
