@@ -1,13 +1,13 @@
 //! Document 01, "Numbers of the refusals", 10 to 15: the typing walk in prefix order; and document
-//! 02, L3: the two types that clash.
+//! 02, L3: the two types that clash, and L7: the second edition.
 
-use crate::parts::PARTS;
+use crate::parts::{Part, PARTS};
 use crate::refusal::{need, Refusal, FORM};
 use crate::sheet::*;
 
 /// The type number of the root's type, or the first of refusals 10 to 15.
 pub fn check(sheet: &Sheet) -> Result<TypeNumber, Refusal> {
-    Walk { types: &sheet.types, scope: Vec::new() }.term(&sheet.term)
+    Walk { edition: sheet.edition, types: &sheet.types, scope: Vec::new() }.term(&sheet.term)
 }
 
 struct Binder {
@@ -17,6 +17,7 @@ struct Binder {
 }
 
 struct Walk<'a> {
+    edition: Edition,
     types: &'a [Type],
     /// The binders in scope, the nearest last; both sorts share the count.
     scope: Vec<Binder>,
@@ -61,10 +62,16 @@ impl Walk<'_> {
                 self.scope.truncate(self.scope.len() - 2);
                 Ok(result)
             }
+            Form::Naming { named, body } => {
+                let found = self.term(named)?;
+                self.sharable(found, node)?;
+                self.bind(Sort::Sharable, found);
+                let result = self.term(body)?;
+                self.scope.pop();
+                Ok(result)
+            }
             Form::FixedPoint { written, body } => {
-                if !self.types[*written].is_sharable() {
-                    return Err(Refusal::clash(node, FORM, *written));
-                }
+                self.sharable(*written, node)?;
                 self.bind(Sort::Sharable, *written);
                 let found = self.term(body)?;
                 self.scope.pop();
@@ -95,6 +102,14 @@ impl Walk<'_> {
         }
     }
 
+    fn sharable(&self, found: TypeNumber, node: usize) -> Result<(), Refusal> {
+        if self.types[found].is_sharable() {
+            Ok(())
+        } else {
+            Err(Refusal::clash(node, FORM, found))
+        }
+    }
+
     fn bind(&mut self, sort: Sort, bound: TypeNumber) {
         self.scope.push(Binder { sort, bound, used: false });
     }
@@ -115,17 +130,21 @@ impl Walk<'_> {
     /// "15, then 12 for a constant"
     fn constant(&self, part: u8, written: TypeNumber, node: usize) -> Result<TypeNumber, Refusal> {
         let part = PARTS.get(usize::from(part)).ok_or(Refusal::new(15, node))?;
-        let wanted = self.bits_to_bit(part.inputs).unwrap_or(FORM);
+        let wanted = self.part_type(part).unwrap_or(FORM);
         same(wanted, written, node)?;
         Ok(written)
     }
 
-    /// The number of the type of a single bit behind so many sharable arrows from a single bit, if
-    /// it stands in the sheet.
-    fn bits_to_bit(&self, inputs: usize) -> Option<TypeNumber> {
+    /// The number of a part's type, if that stands in the sheet: in the first edition a sharable
+    /// arrow from a single bit for each input; in the second the two-input gates take a pair.
+    fn part_type(&self, part: &Part) -> Option<TypeNumber> {
         let number = |wanted: Type| self.types.iter().position(|&record| record == wanted);
+        let arrow = |left, right| number(Type::Arrow(Sort::Sharable, left, right));
         let bit = number(Type::Bit)?;
-        (0..inputs).try_fold(bit, |rest, _| number(Type::Arrow(Sort::Sharable, bit, rest)))
+        match (self.edition, part.inputs) {
+            (Edition::Second, 2) => arrow(number(Type::Product(bit, bit))?, bit),
+            (_, inputs) => (0..inputs).try_fold(bit, |rest, _| arrow(bit, rest)),
+        }
     }
 }
 

@@ -1,6 +1,7 @@
-//! Document 01, "The full netlist", after Figures 3 to 5 of document 000. Interfaces are the
-//! paper's trees: O ::= o | O x O | I -> O, and I the reverse. A terminal's own sort tells whether
-//! its bit is turned.
+//! Document 01, "The full netlist", after Figures 3 to 5 of document 000, and document 02, L7: a name
+//! makes no points, and gates of the second edition take a pair. Interfaces are the paper's trees:
+//! O ::= o | O x O | I -> O, and I the reverse. A terminal's own sort tells whether its bit is
+//! turned.
 
 use crate::netlist::*;
 use crate::sheet::*;
@@ -23,7 +24,9 @@ fn count(sheet: &Sheet, term: &Term) -> usize {
             count(sheet, function) + count(sheet, argument)
         }
         Form::Pair { left, right, .. } => count(sheet, left) + count(sheet, right),
-        Form::Projection { pair, body } => count(sheet, pair) + count(sheet, body),
+        Form::Projection { pair: first, body } | Form::Naming { named: first, body } => {
+            count(sheet, first) + count(sheet, body)
+        }
     }
 }
 
@@ -110,6 +113,10 @@ impl Maker<'_> {
                 };
                 self.under(&[left.clone(), right.clone()], body)
             }
+            Form::Naming { named, body } => {
+                let named = self.term(named);
+                self.under(&[named], body)
+            }
         }
     }
 
@@ -160,11 +167,20 @@ impl Maker<'_> {
         self.made.elements.push(element);
         self.made.makers.push(node);
         let output = Rc::new(Interface::Terminal(Terminal::Output(element.output())));
-        let inputs: Vec<Input> = element.inputs().collect();
-        inputs.into_iter().rev().fold(output, |rest, input| {
-            let input = Rc::new(Interface::Terminal(Terminal::Input(input)));
-            Rc::new(Interface::Arrow(input, rest))
-        })
+        let inputs: Vec<Rc<Interface>> = element
+            .inputs()
+            .map(|input| Rc::new(Interface::Terminal(Terminal::Input(input))))
+            .collect();
+        match (self.sheet.edition, &inputs[..]) {
+            (Edition::Second, [one, other]) => {
+                let pair = Rc::new(Interface::Product(one.clone(), other.clone()));
+                Rc::new(Interface::Arrow(pair, output))
+            }
+            _ => inputs
+                .into_iter()
+                .rev()
+                .fold(output, |rest, input| Rc::new(Interface::Arrow(input, rest))),
+        }
     }
 
     /// One wire for each single bit, left to right: from the output interface to the input

@@ -76,9 +76,16 @@ impl Types {
         self.arrows(2)
     }
 
-    /// The type of the two-input gates.
+    /// The type of the two-input gates in the first edition.
     pub fn gate(&mut self) -> TypeNumber {
         self.arrows(3)
+    }
+
+    /// The type of the two-input gates in the second edition.
+    pub fn pair_gate(&mut self) -> TypeNumber {
+        let bit = self.bit();
+        let two = self.product(bit, bit);
+        self.to(two, bit)
     }
 
     /// The table's bytes, then the term's.
@@ -90,6 +97,11 @@ impl Types {
         bytes.extend(term);
         bytes
     }
+}
+
+/// The same bytes behind the mark of the second edition.
+pub fn marked(sheet: &[u8]) -> Bytes {
+    node(&[SECOND_EDITION], &[sheet])
 }
 
 fn type_record(record: Type) -> Bytes {
@@ -139,6 +151,11 @@ pub fn pair(written: TypeNumber, left: &[u8], right: &[u8]) -> Bytes {
 
 pub fn project(pair: &[u8], body: &[u8]) -> Bytes {
     node(&[0x18], &[pair, body])
+}
+
+/// Second edition: the body's one variable names the first subterm.
+pub fn name(named: &[u8], body: &[u8]) -> Bytes {
+    node(&[0x1B], &[named, body])
 }
 
 pub fn fix(written: TypeNumber, body: &[u8]) -> Bytes {

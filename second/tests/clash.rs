@@ -1,16 +1,17 @@
 //! Document 02, L3: refusal 12 names the two types that clash, no other refusal names any.
 
 use second::corpus::{any, faulty, named, Kind};
+use second::editions;
 use second::random::Random;
 use second::refusal::FORM;
 use second::sheet::Sheet;
-use second::{check, edges_clash, read, translate, word, Refusal};
+use second::{check, edges_clash, edges_edition, read, translate, word, Refusal};
 use std::collections::BTreeMap;
 
 #[test]
 fn each_cause_names_its_types() {
     let mut wrong = Vec::new();
-    for edge in edges_clash::edges() {
+    for edge in edges_clash::edges().into_iter().chain(edges_edition::clashes()) {
         for lean in [false, true] {
             let answer = translate(&edge.sheet, lean, 41_344, 32_768);
             if answer != Err(edge.refused) {
@@ -54,6 +55,7 @@ fn clashes_name_two_different_types() {
     let mut random = Random::new(12);
     sheets.extend((0..4_000).map(|at| any(&mut random, at)));
     sheets.extend((0..2_000).map(|_| faulty(&mut random, 12)));
+    sheets.extend((0..3_000).map(|at| editions::any(&mut random, at)));
     let mut causes: BTreeMap<(u8, bool), usize> = BTreeMap::new();
     for bytes in sheets {
         let sheet = match read(&bytes) {
@@ -86,6 +88,7 @@ fn clashes_name_two_different_types() {
         (0x19, true),
         (0x1A, false),
         (0x1A, true),
+        (0x1B, true),
     ];
     let seldom: Vec<_> =
         wanted.iter().filter(|cause| causes.get(cause).copied().unwrap_or(0) < 10).collect();

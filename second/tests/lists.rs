@@ -3,6 +3,7 @@
 //! give the same netlists.
 
 use second::corpus::{grown, grown_large, named, Kind};
+use second::editions;
 use second::netlist::*;
 use second::parts::PARTS;
 use second::random::Random;
@@ -114,6 +115,10 @@ impl Lists<'_> {
                 let (_, right) = self.make(right);
                 (*written, [left, right].concat())
             }
+            Form::Naming { named, body } => {
+                let named = self.make(named);
+                self.bound(vec![named], body)
+            }
             Form::Projection { pair, body } => {
                 let (product, both) = self.make(pair);
                 let (left, right) = sides(self.sheet, product);
@@ -146,6 +151,8 @@ fn trees_and_lists_make_the_same_netlists() {
     let named = named(Kind::Making);
     assert!(named.iter().filter(|case| agrees(&case.sheet)).count() > 40);
     let mut random = Random::new(31);
+    let second = (0..4_000).filter(|_| agrees(&editions::grown(&mut random))).count();
+    assert!(second > 3_500, "{second} second-edition sheets were accepted");
     let small = (0..8_000).filter(|_| agrees(&grown(&mut random))).count();
     let large = (0..60).filter(|_| agrees(&grown_large(&mut random))).count();
     assert!(small > 7_000 && large > 15, "{small} small and {large} large sheets were accepted");

@@ -2,6 +2,7 @@
 //! record.
 
 use second::corpus::{any, grown, grown_large, named, Kind};
+use second::editions;
 use second::netlist::{written, written_length, Element, Netlist};
 use second::random::Random;
 use second::sheet::{Form, Sheet, Term, Type};
@@ -111,7 +112,8 @@ fn makers(sheet: &Sheet, term: &Term, made: &mut HashMap<usize, (usize, Option<u
         }
         Form::Application { function: first, argument: second, .. }
         | Form::Pair { left: first, right: second, .. }
-        | Form::Projection { pair: first, body: second } => {
+        | Form::Projection { pair: first, body: second }
+        | Form::Naming { named: first, body: second } => {
             makers(sheet, first, made);
             makers(sheet, second, made);
         }
@@ -162,5 +164,7 @@ fn generated_netlists_name_their_nodes() {
     let small = (0..4_000).filter(|_| every_promise_holds(&grown(&mut random))).count();
     let large = (0..60).filter(|_| every_promise_holds(&grown_large(&mut random))).count();
     let others = (0..2_000).filter(|&at| every_promise_holds(&any(&mut random, at))).count();
+    let second = (0..2_000).filter(|_| every_promise_holds(&editions::grown(&mut random))).count();
+    assert!(second > 1_800, "{second}");
     assert!(small > 3_500 && large > 15 && others > 500, "{small} {large} {others}");
 }
