@@ -22,9 +22,19 @@ pub fn grow(random: &mut Random, wish: Wish) -> Bytes {
 
 /// The same in either edition.
 pub fn grow_edition(random: &mut Random, wish: Wish, edition: Edition) -> Bytes {
+    grow_as(random, wish, edition, false)
+}
+
+/// The same, where each fixed point is over a single bit and goes through a part, so that no ring
+/// is one of points alone.
+pub fn grow_guarded(random: &mut Random, wish: Wish, edition: Edition) -> Bytes {
+    grow_as(random, wish, edition, true)
+}
+
+fn grow_as(random: &mut Random, wish: Wish, edition: Edition, guarded: bool) -> Bytes {
     loop {
         let (types, scope) = (Types::new(), Vec::new());
-        let mut grower = Grower { random, wish, edition, types, scope, nodes: 0 };
+        let mut grower = Grower { random, wish, edition, guarded, types, scope, nodes: 0 };
         if let Some(sheet) = grower.sheet() {
             return match edition {
                 Edition::First => sheet,
@@ -46,6 +56,7 @@ struct Grower<'a> {
     random: &'a mut Random,
     wish: Wish,
     edition: Edition,
+    guarded: bool,
     types: Types,
     scope: Vec<Bound>,
     nodes: usize,
@@ -113,6 +124,8 @@ impl Grower<'_> {
             1 => self.use_linear_function(goal, due, depth),
             2 | 3 => self.use_projection(goal, due, depth),
             4 if !due.is_empty() => self.spend(goal, due, depth),
+            5 | 6 if self.guarded && shape == Type::Bit => self.use_guarded_fix(due, depth),
+            5 | 6 if self.guarded => self.introduce(goal, due, depth),
             5 | 6 if shape.is_sharable() => {
                 let body = self.under(&[(Sort::Sharable, goal)], goal, due, depth)?;
                 Some(fix(goal, &body))
@@ -205,6 +218,15 @@ impl Grower<'_> {
         }
     }
 
+    /// A fixed point through a register, or now and then through an inverter.
+    fn use_guarded_fix(&mut self, due: Due, depth: usize) -> Option<Bytes> {
+        let bit = self.types.bit();
+        let reg = self.types.number(Type::Arrow(Sort::Sharable, bit, bit))?;
+        let body = self.under(&[(Sort::Sharable, bit)], bit, due, depth + 1)?;
+        let part = if self.random.once_in(6) { 5 } else { 1 };
+        Some(fix(bit, &apply(&constant(part, reg), &body)))
+    }
+
     /// A name for a value of a sharable type.
     fn use_name(&mut self, goal: TypeNumber, due: Due, depth: usize) -> Option<Bytes> {
         let bound = self.sharable_type(self.wish.size)?;
@@ -291,7 +313,11 @@ impl Grower<'_> {
             return Some(variable(self.scope.len() - 1 - at));
         }
         match shape {
-            Type::Bit if !self.random.once_in(8) => {
+            Type::Product(left, right) if self.guarded => {
+                let left = self.short_term(left, Due::new(), depth + 1)?;
+                Some(pair(goal, &left, &self.short_term(right, Due::new(), depth + 1)?))
+            }
+            Type::Bit if self.guarded || !self.random.once_in(8) => {
                 Some(constant(*self.random.pick(&[0, 6]), goal))
             }
             _ => Some(fix(goal, &variable(0))),

@@ -63,6 +63,15 @@ pub fn lean(full: &Netlist) -> Netlist {
     made
 }
 
+/// The lowest input of a kept ring point: no pin feeds it.
+pub fn ring_point(lean: &Netlist) -> Option<Input> {
+    let points = lean.elements.iter().filter_map(|element| match *element {
+        Element::Point { input } => Some(input),
+        Element::Part { .. } => None,
+    });
+    points.filter(|&input| !lean.pins.contains(&Terminal::Input(input))).min()
+}
+
 impl Roots {
     fn of(full: &Netlist) -> Roots {
         let terminals = full.elements.iter().map(|element| element.terminals()).sum();

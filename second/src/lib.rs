@@ -2,10 +2,13 @@
 //! Each module opens with the section or the request that it follows.
 
 pub mod answers;
+pub mod card;
 pub mod check;
+pub mod circuits;
 pub mod corpus;
 pub mod damage;
 pub mod derive;
+pub mod edges_card;
 pub mod edges_clash;
 pub mod edges_edition;
 pub mod edges_making;

@@ -1,6 +1,8 @@
 //! Document 01, "Numbers of the refusals": one call, refusals 1 to 17 in their order, and what the
-//! call leaves in the output and in the working memory; and document 02, L6: which kinds it writes.
+//! call leaves in the output and in the working memory; and document 02, L6: which kinds it writes,
+//! and L12: the card's profile.
 
+use crate::card::profile;
 use crate::check::check;
 use crate::full::{full, terminals};
 use crate::lean::lean;
@@ -17,28 +19,49 @@ pub struct Wish {
     pub lean: bool,
     /// The kinds 21 and 22, which name no nodes.
     pub plain: bool,
+    /// The card's profile.
+    pub card: bool,
 }
 
 impl Wish {
     /// What calls could ask for before document 02.
     fn of_document_01(lean: bool) -> Wish {
-        Wish { lean, plain: true }
+        Wish { lean, plain: true, card: false }
     }
+}
+
+/// A sheet that refusals 2 to 16 let pass.
+pub struct Accepted {
+    pub sheet: Sheet,
+    /// The root's type.
+    pub root: TypeNumber,
+    pub full: Netlist,
+}
+
+/// Refusals 2 to 16.
+pub fn accepted(sheet: &[u8]) -> Result<Accepted, Refusal> {
+    let sheet = read(sheet)?;
+    let root = check(&sheet)?;
+    need(terminals(&sheet) <= TERMINALS, 16, 0)?;
+    let full = full(&sheet);
+    Ok(Accepted { sheet, root, full })
 }
 
 /// The netlist asked for: refusals 2 to 16.
 pub fn netlist(sheet: &[u8], lean_wanted: bool) -> Result<Netlist, Refusal> {
-    let sheet = read(sheet)?;
-    check(&sheet)?;
-    need(terminals(&sheet) <= TERMINALS, 16, 0)?;
-    let whole = full(&sheet);
-    Ok(if lean_wanted { lean(&whole) } else { whole })
+    let full = accepted(sheet)?.full;
+    Ok(if lean_wanted { lean(&full) } else { full })
 }
 
 /// The bytes of the netlist asked for, with `room` output bytes and `memory` working numbers lent.
 pub fn wished(sheet: &[u8], wish: Wish, room: usize, memory: usize) -> Result<Vec<u8>, Refusal> {
     need(memory >= MEMORY, 1, 0)?;
-    let netlist = netlist(sheet, wish.lean)?;
+    let accepted = accepted(sheet)?;
+    let lean = lean(&accepted.full);
+    if wish.card {
+        profile(&accepted.sheet, accepted.root, &lean)?;
+    }
+    let netlist = if wish.lean { lean } else { accepted.full };
     let needed = written_length(&netlist, wish.plain);
     need(needed <= room, 17, needed)?;
     Ok(written(&netlist, wish.plain))

@@ -93,7 +93,8 @@ fn netlists_without_gates_are_the_same_in_both_editions() {
     let (mut same, mut other) = (0, 0);
     for _ in 0..4_000 {
         let sheet = grown(&mut random);
-        for wish in [Wish { lean: false, plain: false }, Wish { lean: true, plain: false }] {
+        for lean in [false, true] {
+            let wish = Wish { lean, ..Wish::default() };
             let call = |sheet: &[u8]| wished(sheet, wish, 57_728, 32_768);
             match (call(&sheet), call(&marked(&sheet))) {
                 (Ok(first), Ok(second)) => {

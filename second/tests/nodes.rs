@@ -12,8 +12,8 @@ use second::write::hex;
 use second::{check, full, lean, read, terminals, word, Refusal, Wish};
 use std::collections::HashMap;
 
-const NODES: Wish = Wish { lean: false, plain: false };
-const LEAN_NODES: Wish = Wish { lean: true, plain: false };
+const NODES: Wish = Wish { lean: false, plain: false, card: false };
+const LEAN_NODES: Wish = Wish { lean: true, ..NODES };
 
 #[test]
 fn records_end_with_the_node() {
@@ -61,7 +61,7 @@ fn the_room_is_that_of_the_kinds_asked_for() {
     for (lean, plain, needed) in
         [(false, true, 32), (true, true, 16), (false, false, 40), (true, false, 20)]
     {
-        let wish = Wish { lean, plain };
+        let wish = Wish { lean, plain, card: false };
         assert_eq!(wished(&p3, wish, needed, 32_768).map(|bytes| bytes.len()), Ok(needed));
         let short = wished(&p3, wish, needed - 1, 32_768);
         assert_eq!(short, Err(Refusal::new(17, needed)));
