@@ -2,12 +2,15 @@
 //! Each module opens with the section or the request that it follows.
 
 pub mod answers;
+pub mod batch;
+pub mod batches;
 pub mod card;
 pub mod check;
 pub mod circuits;
 pub mod corpus;
 pub mod damage;
 pub mod derive;
+pub mod edges_batch;
 pub mod edges_card;
 pub mod edges_clash;
 pub mod edges_edition;
