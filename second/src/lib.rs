@@ -18,6 +18,7 @@ pub mod edges_foreign;
 pub mod edges_making;
 pub mod edges_reading;
 pub mod edges_typing;
+pub mod edges_verilog;
 pub mod editions;
 pub mod foreign;
 pub mod full;
@@ -34,6 +35,7 @@ pub mod records;
 pub mod refusal;
 pub mod sheet;
 pub mod translate;
+pub mod verilog;
 pub mod wide;
 pub mod write;
 
