@@ -2,6 +2,7 @@
 //! Each module opens with the section or the request that it follows.
 
 pub mod answers;
+pub mod back;
 pub mod batch;
 pub mod batches;
 pub mod card;
@@ -10,6 +11,7 @@ pub mod circuits;
 pub mod corpus;
 pub mod damage;
 pub mod derive;
+pub mod edges_back;
 pub mod edges_batch;
 pub mod edges_card;
 pub mod edges_clash;

@@ -117,6 +117,20 @@ fn shuffle<T>(random: &mut Random, list: &mut [T]) {
     }
 }
 
+/// A netlist to be turned back into a sheet: most have no points.
+pub fn for_back(random: &mut Random, index: usize) -> Given {
+    let lean = random.once_in(2);
+    match index % 8 {
+        0 => any(random, index / 8),
+        1 => {
+            let net = bytes(&parts_alone(random, lean));
+            Given { net: damage(random, &net), lean }
+        }
+        2 => Given { net: bytes(&formed(random, lean)), lean },
+        _ => Given { net: bytes(&parts_alone(random, lean)), lean },
+    }
+}
+
 /// The records of a netlist in plain kinds.
 fn records(net: &[u8]) -> Vec<Bytes> {
     let mut records = Vec::new();
