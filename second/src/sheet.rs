@@ -73,6 +73,49 @@ pub struct Term {
     pub form: Form,
 }
 
+impl Term {
+    /// The subterms in prefix order.
+    pub fn subterms(&self) -> Vec<&Term> {
+        match &self.form {
+            Form::Variable { .. } | Form::Constant { .. } => vec![],
+            Form::Function { body, .. } | Form::FixedPoint { body, .. } => vec![body],
+            Form::Application { function: first, argument: second, .. }
+            | Form::Pair { left: first, right: second, .. }
+            | Form::Projection { pair: first, body: second }
+            | Form::Naming { named: first, body: second } => vec![first, second],
+        }
+    }
+
+    /// How many variables each of the subterms is bound under.
+    pub fn binds(&self) -> Vec<usize> {
+        match &self.form {
+            Form::Variable { .. } | Form::Constant { .. } => vec![],
+            Form::Function { .. } | Form::FixedPoint { .. } => vec![1],
+            Form::Application { .. } | Form::Pair { .. } => vec![0, 0],
+            Form::Projection { .. } => vec![0, 2],
+            Form::Naming { .. } => vec![0, 1],
+        }
+    }
+
+    /// The same node over other subterms, as many as it has.
+    pub fn over(&self, subterms: Vec<Term>) -> Term {
+        let mut given = subterms.into_iter().map(Box::new);
+        let mut next = || given.next().expect("as many subterms as the node has");
+        let form = match self.form.clone() {
+            form @ (Form::Variable { .. } | Form::Constant { .. }) => form,
+            Form::Function { sort, written, .. } => Form::Function { sort, written, body: next() },
+            Form::FixedPoint { written, .. } => Form::FixedPoint { written, body: next() },
+            Form::Application { sort, .. } => {
+                Form::Application { sort, function: next(), argument: next() }
+            }
+            Form::Pair { written, .. } => Form::Pair { written, left: next(), right: next() },
+            Form::Projection { .. } => Form::Projection { pair: next(), body: next() },
+            Form::Naming { .. } => Form::Naming { named: next(), body: next() },
+        };
+        Term { node: self.node, form }
+    }
+}
+
 #[derive(Clone, Debug, PartialEq, Eq)]
 pub enum Form {
     Variable {
