@@ -1,5 +1,6 @@
 //! Document 02, L10: generated batches, their lengths, rooms and memories near every limit.
 
+use crate::netlist::ENOUGH;
 use crate::random::Random;
 use crate::sheet::MEMORY;
 use crate::translate::{wished, Wish};
@@ -24,7 +25,7 @@ impl Batch {
         Batch {
             sheets: sheets.concat(),
             lengths: sheets.iter().map(|sheet| sheet.len() as u32).collect(),
-            room: 57_728 * sheets.len(),
+            room: ENOUGH * sheets.len(),
             results: sheets.len(),
             memory: MEMORY,
             wish,
@@ -73,7 +74,7 @@ fn sheet(random: &mut Random, index: usize) -> Bytes {
 
 /// Room for all, for just these, for one less, or for a part of them.
 fn some_room(random: &mut Random, sheets: &[Bytes], wish: Wish) -> usize {
-    let written = |sheet: &Bytes| wished(sheet, wish, 57_728, MEMORY).map_or(0, |made| made.len());
+    let written = |sheet: &Bytes| wished(sheet, wish, ENOUGH, MEMORY).map_or(0, |made| made.len());
     let needed: usize = sheets.iter().map(written).sum();
     match random.below(6) {
         0 => needed,

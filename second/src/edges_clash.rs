@@ -2,9 +2,23 @@
 //! wanted and the one found, worked out by hand.
 
 use crate::edges_typing::TABLE;
+use crate::read::stretch;
 use crate::refusal::{Refusal, FORM};
 use crate::sheet::Type;
 use crate::write::*;
+
+/// The causes of 12 by the kind of the node that refuses, and whether a form is wanted of it.
+#[rustfmt::skip]
+pub const KINDS: [(u8, bool); 16] = [
+    (0x13, false), (0x13, true), (0x14, false), (0x14, true), (0x15, false), (0x15, true),
+    (0x16, false), (0x16, true), (0x17, false), (0x17, true), (0x18, true), (0x19, false),
+    (0x19, true), (0x1A, false), (0x1A, true), (0x1B, true),
+];
+
+/// Which of them a sheet's refusal 12 has.
+pub fn cause(sheet: &[u8], node: usize, wanted: usize) -> (u8, bool) {
+    (sheet[stretch(sheet, node).0], wanted == FORM)
+}
 
 /// A named sheet and its refusal.
 pub struct Clash {

@@ -2,6 +2,10 @@
 //! document 02, L6: the node that made an element.
 
 use crate::parts::{Part, PARTS};
+use crate::sheet::TERMINALS;
+
+/// "Seven times the terminals plus 384 bytes": the room that always does, in either kinds.
+pub const ENOUGH: usize = 7 * TERMINALS + 384;
 
 /// Input and output terminals are never taken for each other.
 #[derive(Clone, Copy, Debug, PartialEq, Eq, PartialOrd, Ord, Hash)]

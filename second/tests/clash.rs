@@ -1,6 +1,7 @@
 //! Document 02, L3: refusal 12 names the two types that clash, no other refusal names any.
 
 use second::corpus::{any, faulty, named, Kind};
+use second::edges_clash::{cause, KINDS};
 use second::editions;
 use second::random::Random;
 use second::refusal::FORM;
@@ -33,11 +34,6 @@ fn the_word_has_four_fields() {
     assert_eq!(word(Err(Refusal::clash(2_047, 256, 255))), 0x0FF1_000C_0000_07FF);
 }
 
-/// The kind of the node that refuses a sheet, and whether a form was wanted.
-fn cause(bytes: &[u8], sheet: &Sheet, refusal: Refusal) -> (u8, bool) {
-    (bytes[sheet.stretches[refusal.place].0], refusal.wanted == FORM)
-}
-
 fn named_types_are_types(sheet: &Sheet, refusal: Refusal) {
     if refusal.number != 12 {
         assert_eq!((refusal.wanted, refusal.found), (0, 0));
@@ -68,30 +64,12 @@ fn clashes_name_two_different_types() {
         if let Err(refusal) = check(&sheet) {
             named_types_are_types(&sheet, refusal);
             if refusal.number == 12 {
-                *causes.entry(cause(&bytes, &sheet, refusal)).or_default() += 1;
+                *causes.entry(cause(&bytes, refusal.place, refusal.wanted)).or_default() += 1;
             }
         }
     }
-    let wanted = [
-        (0x13, false),
-        (0x13, true),
-        (0x14, false),
-        (0x14, true),
-        (0x15, false),
-        (0x15, true),
-        (0x16, false),
-        (0x16, true),
-        (0x17, false),
-        (0x17, true),
-        (0x18, true),
-        (0x19, false),
-        (0x19, true),
-        (0x1A, false),
-        (0x1A, true),
-        (0x1B, true),
-    ];
     let seldom: Vec<_> =
-        wanted.iter().filter(|cause| causes.get(cause).copied().unwrap_or(0) < 10).collect();
+        KINDS.iter().filter(|cause| causes.get(cause).copied().unwrap_or(0) < 10).collect();
     assert!(seldom.is_empty(), "seldom: {seldom:x?} of {causes:x?}");
-    assert_eq!(causes.len(), wanted.len(), "{causes:x?}");
+    assert_eq!(causes.len(), KINDS.len(), "{causes:x?}");
 }
