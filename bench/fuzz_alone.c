@@ -10,7 +10,7 @@ enum { SEEN = 1 << 14, MOST = 16400, KEPT = 4096 };
 extern uint8_t seen[SEEN];
 int LLVMFuzzerTestOneInput(const uint8_t *data, size_t size);
 
-static const uint8_t kinds[] = {1, 2, 3, 4, 0x11, 0x12, 0x13, 0x14, 0x15, 0x16, 0x17, 0x18, 0x19, 0x1A};
+static const uint8_t kinds[] = {1, 2, 3, 4, 0x11, 0x12, 0x13, 0x14, 0x15, 0x16, 0x17, 0x18, 0x19, 0x1A, 0x1B, 0x31};
 static struct { uint8_t *data; size_t size; } kept[KEPT];
 static size_t count;
 static uint8_t known[SEEN];

@@ -3,7 +3,7 @@
 
 use std::slice::{from_raw_parts, from_raw_parts_mut};
 
-/// 0 and the number of bytes written, or a refusal's number and its place.
+/// The answer in one word, as `second::word` has it.
 ///
 /// # Safety
 /// The three slices are the caller's, whole and apart.
@@ -16,11 +16,9 @@ pub unsafe extern "C" fn deltawobble_translate(
     work: *mut u16,
     work_len: usize,
     lean: bool,
+    plain: bool,
 ) -> u64 {
     let sheet = from_raw_parts(sheet, sheet_len);
     let (out, work) = (from_raw_parts_mut(out, out_len), from_raw_parts_mut(work, work_len));
-    match second::translate::translate_into(sheet, lean, out, work) {
-        Ok(written) => written as u64,
-        Err(refusal) => (refusal.number as u64) << 32 | refusal.place as u64,
-    }
+    second::translate::call(sheet, out, work, second::Wish { lean, plain, card: false })
 }

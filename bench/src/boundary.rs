@@ -2,11 +2,14 @@
 //! archive was made for another processor.
 
 use crate::fences::{Fences, Place};
+use second::Wish;
 use std::io::{Read, Write};
 use std::process::{Child, ChildStdin, ChildStdout, Command, Stdio};
 
 #[cfg(linked)]
 pub mod linked {
+    use second::Wish;
+
     extern "C" {
         pub fn deltawobble_translate(
             sheet: *const u8,
@@ -16,12 +19,13 @@ pub mod linked {
             work: *mut u16,
             work_len: usize,
             lean: bool,
+            plain: bool,
         ) -> u64;
         pub fn deltawobble_stretch(sheet: *const u8, sheet_len: usize, node: usize) -> u64;
     }
 
     /// One call on slices.
-    pub fn translate(sheet: &[u8], out: &mut [u8], work: &mut [u16], lean: bool) -> u64 {
+    pub fn translate(sheet: &[u8], out: &mut [u8], work: &mut [u16], wish: Wish) -> u64 {
         let (out_at, work_at) = (out.as_mut_ptr(), work.as_mut_ptr());
         unsafe {
             deltawobble_translate(
@@ -31,7 +35,8 @@ pub mod linked {
                 out.len(),
                 work_at,
                 work.len(),
-                lean,
+                wish.lean,
+                wish.plain,
             )
         }
     }
@@ -47,10 +52,11 @@ pub struct Call {
     pub sheet: Place,
     pub output: Place,
     pub memory: Place,
-    pub lean: bool,
+    pub wish: Wish,
 }
 
-/// The host process: eight numbers in (what to do, then its parameters), two numbers out.
+/// The host process: eight numbers in (what to do, then its parameters, the wishes one bit each), two
+/// numbers out.
 pub struct Host {
     child: Child,
     to: ChildStdin,
@@ -100,7 +106,7 @@ impl Host {
     }
 
     fn request(call: Call, what: u64) -> [u64; 8] {
-        let Call { sheet, output, memory, lean } = call;
+        let Call { sheet, output, memory, wish } = call;
         [
             what,
             sheet.offset as u64,
@@ -109,7 +115,7 @@ impl Host {
             output.length as u64,
             memory.offset as u64,
             memory.length as u64 / 2,
-            lean.into(),
+            u64::from(wish.lean) | u64::from(wish.plain) << 1,
         ]
     }
 
@@ -149,7 +155,8 @@ impl Boundary {
                     call.output.length,
                     fences.address(call.memory).cast(),
                     call.memory.length / 2,
-                    call.lean,
+                    call.wish.lean,
+                    call.wish.plain,
                 )
             }),
             #[cfg(not(linked))]

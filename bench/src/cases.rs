@@ -1,37 +1,76 @@
-//! The sheets that are tried and the calls on each: all named edges of the second program's
-//! corpora, then generated and damaged sheets, with rooms and memories near every limit.
+//! The sheets of both editions that are tried and the calls on each: all named edges of the second
+//! program, then generated and damaged sheets, with rooms and memories near every limit.
 
-use second::corpus::{any, named, Case, Kind, ROOM};
+use second::corpus::{any, named, Case, Kind};
 use second::damage::{damage, noise};
-use second::netlist::length;
+use second::edges_clash::Clash;
+use second::edges_reading::Edge;
+use second::netlist::{written_length, ENOUGH};
 use second::random::Random;
 use second::sheet::MEMORY;
 use second::translate::netlist;
 use second::wide::{crowd, deep, flat, terminals_and, tower};
+use second::write::marked;
+use second::{edges_clash, edges_edition, editions, Wish};
 use std::collections::HashSet;
 
-/// One sheet with its calls (room, memory, lean) and the nodes whose stretches are asked for.
+/// One sheet with its calls (room, memory, wish) and the nodes whose stretches are asked for.
 pub struct Try {
     pub sheet: Vec<u8>,
-    pub calls: Vec<(usize, usize, bool)>,
+    pub calls: Vec<(usize, usize, Wish)>,
     pub nodes: Vec<usize>,
 }
 
-/// Each named case as it stands, full and lean; then some calls of our own.
+/// Full or lean, with nodes or in plain kinds.
+pub fn wishes() -> [Wish; 4] {
+    [(false, false), (true, false), (false, true), (true, true)].map(|(lean, plain)| Wish {
+        lean,
+        plain,
+        card: false,
+    })
+}
+
+/// Each named case as it stands, by every wish; a sheet's first case also at its netlists' lengths.
 pub fn named_tries(random: &mut Random) -> Vec<Try> {
-    let mut seen = HashSet::new();
     let kinds = [Kind::Whole, Kind::Reading, Kind::Typing, Kind::Making];
-    let cases: Vec<Case> = kinds.into_iter().flat_map(named).collect();
+    let mut cases: Vec<Case> = kinds.into_iter().flat_map(named).collect();
+    let case = |edge: Edge| Case { room: ENOUGH, memory: MEMORY, sheet: edge.sheet };
+    cases.extend(edges_edition::edges().into_iter().map(case));
+    let (mut seen, mut seen_sheets) = (HashSet::new(), HashSet::new());
     let mut tries = Vec::new();
     for Case { room, memory, sheet } in cases {
         if !seen.insert((room, memory, sheet.clone())) {
             continue;
         }
-        let calls = vec![(room, memory, false), (room, memory, true)];
+        let mut calls = wishes().map(|wish| (room, memory, wish)).to_vec();
+        if seen_sheets.insert(sheet.clone()) {
+            calls.extend(exact_calls(&sheet));
+        }
         let nodes = some_nodes(random, &sheet);
         tries.push(Try { sheet, calls, nodes });
     }
     tries
+}
+
+/// The sheets that are named for what their refusal 12 wants and finds.
+pub fn clash_tries(random: &mut Random) -> Vec<Try> {
+    let clashes = edges_clash::edges().into_iter().chain(edges_edition::clashes());
+    let tries = clashes.map(|Clash { sheet, .. }| Try {
+        calls: wishes().map(|wish| (ENOUGH, MEMORY, wish)).to_vec(),
+        nodes: some_nodes(random, &sheet),
+        sheet,
+    });
+    tries.collect()
+}
+
+/// Each netlist in just its room and in one byte less.
+fn exact_calls(sheet: &[u8]) -> Vec<(usize, usize, Wish)> {
+    let needed = wishes().into_iter().filter_map(|wish| Some((needed(sheet, wish)?, wish)));
+    needed.flat_map(|(room, wish)| [(room, MEMORY, wish), (room - 1, MEMORY, wish)]).collect()
+}
+
+fn needed(sheet: &[u8], wish: Wish) -> Option<usize> {
+    netlist(sheet, wish.lean).ok().map(|made| written_length(&made, wish.plain))
 }
 
 /// A generated sheet, mostly small; now and then one near a limit, or one that is too long.
@@ -46,6 +85,8 @@ pub fn generated_try(random: &mut Random, index: usize) -> Try {
     } else if index % 400 == 253 {
         let sheet_length = random.within(16_300, 16_500);
         noise(random, sheet_length)
+    } else if random.once_in(3) {
+        editions::any(random, index)
     } else {
         any(random, index)
     };
@@ -63,7 +104,7 @@ pub fn small_try(random: &mut Random, index: usize, most: usize) -> Try {
 }
 
 fn near_limit(random: &mut Random) -> Vec<u8> {
-    match random.below(6) {
+    let sheet = match random.below(6) {
         0 => terminals_and(random.below(4)),
         1 | 2 => crowd(random.within(7_941, 8_194)),
         3 => flat(random.within(2_000, 2_049)),
@@ -72,22 +113,27 @@ fn near_limit(random: &mut Random) -> Vec<u8> {
             deep(random.within(1_900, 2_049), depth)
         }
         _ => tower(random.within(60, 66)),
+    };
+    if random.once_in(3) {
+        marked(&sheet)
+    } else {
+        sheet
     }
 }
 
-/// One call for each netlist, and more at the netlist's own length.
-fn some_calls(random: &mut Random, sheet: &[u8]) -> Vec<(usize, usize, bool)> {
+/// One call for each wish, and more at the netlist's own length.
+fn some_calls(random: &mut Random, sheet: &[u8]) -> Vec<(usize, usize, Wish)> {
     let mut calls = Vec::new();
-    for lean in [false, true] {
-        let needed = netlist(sheet, lean).ok().map(|made| length(&made));
+    for wish in wishes() {
+        let needed = needed(sheet, wish);
         let room = some_room(random, needed);
-        calls.push((room, some_memory(random), lean));
+        calls.push((room, some_memory(random), wish));
         if let Some(needed) = needed {
             if random.once_in(3) {
-                calls.push((needed, MEMORY, lean));
+                calls.push((needed, MEMORY, wish));
             }
             if random.once_in(3) {
-                calls.push((needed - 1, MEMORY, lean));
+                calls.push((needed - 1, MEMORY, wish));
             }
         }
     }
@@ -100,11 +146,11 @@ fn some_room(random: &mut Random, needed: Option<usize>) -> usize {
         0 => 0,
         1 => needed + 1,
         2 => random.below(needed + 1),
-        3 => random.below(ROOM + 1),
-        4 => random.within(needed, 2 * needed).min(ROOM),
+        3 => random.below(ENOUGH + 1),
+        4 => random.within(needed, 2 * needed).min(ENOUGH),
         5 | 6 => needed,
-        7 => ROOM + random.below(5_000),
-        _ => ROOM,
+        7 => ENOUGH + random.below(5_000),
+        _ => ENOUGH,
     }
 }
 

@@ -1,8 +1,9 @@
 //! The classes of sheets that are timed.
 
 use crate::worst::{chain_4095, ordinary, ring_4096};
-use second::corpus::{grown_large, ROOM};
+use second::corpus::grown_large;
 use second::edges_making::KNOWN;
+use second::netlist::ENOUGH;
 use second::random::Random;
 use second::wide::{crowd, deep, deep_type, flat, high_order, table, terminals_and};
 use second::write::{constant, hex};
@@ -16,7 +17,7 @@ pub struct Class {
 
 impl Class {
     pub fn new(name: &'static str, sheets: Vec<Vec<u8>>) -> Class {
-        Class { name, sheets, room: ROOM }
+        Class { name, sheets, room: ENOUGH }
     }
 
     pub fn one(name: &'static str, sheet: Vec<u8>) -> Class {

@@ -2,12 +2,12 @@
 //! every number of the memory, the sheet, and all guard bytes around the three.
 
 use crate::boundary::{Boundary, Call};
-use crate::cases::{generated_try, named_tries, Try};
+use crate::cases::{clash_tries, generated_try, named_tries, Try};
 use crate::crash;
 use crate::fences::{Fences, MEMORY, OUTPUT, SHEET};
-use crate::tally::Tally;
+use crate::tally::{Said, Tally};
 use second::random::Random;
-use second::translate::translate_into;
+use second::{translate, Wish};
 
 /// What the three stretches of memory must hold after a call.
 struct Expected {
@@ -39,10 +39,10 @@ impl Differential {
         self.tally.sheets += 1;
         let sheet = &tried.sheet;
         let told = |what: String, call: &str| format!("{what}\n{call}\nsheet {}", hex(sheet));
-        for &(room, memory, lean) in &tried.calls {
-            let words = format!("room {room}, memory {memory}, lean {lean}");
+        for &(room, memory, wish) in &tried.calls {
+            let words = format!("room {room}, memory {memory}, {wish:?}");
             crash::now(words.clone(), sheet);
-            self.call(sheet, room, memory, lean, random).map_err(|what| told(what, &words))?;
+            self.call(sheet, room, memory, wish, random).map_err(|what| told(what, &words))?;
         }
         for &node in &tried.nodes {
             let words = format!("stretch of node {node}");
@@ -57,7 +57,7 @@ impl Differential {
         sheet: &[u8],
         room: usize,
         memory: usize,
-        lean: bool,
+        wish: Wish,
         random: &mut Random,
     ) -> Result<(), String> {
         let salt = random.draw();
@@ -66,7 +66,7 @@ impl Differential {
             sheet: self.fences.place(SHEET, sheet.len(), side(0)),
             output: self.fences.place(OUTPUT, room, side(1)),
             memory: self.fences.place(MEMORY, 2 * memory, side(2)),
-            lean,
+            wish,
         };
         let at = [
             self.fences.within(SHEET, call.sheet),
@@ -87,15 +87,11 @@ impl Differential {
 
         let own_output = &mut all_output[at[1]..at[1] + room];
         let own_memory = &mut all_memory[at[2]..at[2] + memory];
-        let (number, value) = match translate_into(sheet, lean, own_output, own_memory) {
-            Ok(written) => (0, written),
-            Err(refusal) => (refusal.number, refusal.place),
-        };
-        let got = ((answer >> 32) as usize, (answer & 0xFFFF_FFFF) as usize);
-        self.tally.answer(got.0);
-        if got != (number, value) {
-            return Err(format!("answer {} {}, wanted {number} {value}", got.0, got.1));
+        let wanted = translate::call(sheet, own_output, own_memory, wish);
+        if answer != wanted {
+            return Err(format!("answer {}, wanted {}", Said(answer), Said(wanted)));
         }
+        self.tally.answer(sheet, answer);
         same("output", self.fences.whole(OUTPUT), all_output, at[1])?;
         same("memory", self.fences.whole(MEMORY), bytes_of(all_memory), 2 * at[2])?;
         same("sheet", self.fences.whole(SHEET), all_sheet, at[0])
@@ -129,8 +125,8 @@ pub fn differential(count: usize, seed: u64) -> Result<Tally, String> {
     let mut random = Random::new(seed);
     let mut differential = Differential::new();
     crash::watch();
-    for tried in named_tries(&mut random) {
-        differential.run(&tried, &mut random)?;
+    for tried in named_tries(&mut random).iter().chain(&clash_tries(&mut random)) {
+        differential.run(tried, &mut random)?;
     }
     differential.tally.named = differential.tally.sheets;
     while differential.tally.sheets < count {

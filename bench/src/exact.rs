@@ -2,11 +2,11 @@
 //! so that valgrind sees every step over an end.
 
 use crate::boundary::linked;
-use crate::cases::{named_tries, small_try, Try};
+use crate::cases::{clash_tries, named_tries, small_try, Try};
 use crate::differential::hex;
-use crate::tally::Tally;
+use crate::tally::{Said, Tally};
 use second::random::Random;
-use second::translate::translate_into;
+use second::translate;
 
 /// Sheets above this length are slow under valgrind: of the named ones every eighth is taken.
 const LARGE: usize = 600;
@@ -17,7 +17,8 @@ pub fn exact(count: usize, seed: u64) -> Result<Tally, String> {
     let (small, large): (Vec<Try>, Vec<Try>) =
         named_tries(&mut random).into_iter().partition(|tried| tried.sheet.len() <= LARGE);
     let every = (small.len() / count.max(1)).max(1);
-    for tried in small.iter().step_by(every).chain(large.iter().step_by(8)) {
+    let named = small.iter().step_by(every).chain(large.iter().step_by(8));
+    for tried in named.chain(&clash_tries(&mut random)) {
         run(tried, &mut tally)?;
     }
     tally.named = tally.sheets;
@@ -30,26 +31,22 @@ pub fn exact(count: usize, seed: u64) -> Result<Tally, String> {
 fn run(tried: &Try, tally: &mut Tally) -> Result<(), String> {
     tally.sheets += 1;
     let sheet: Box<[u8]> = tried.sheet.clone().into_boxed_slice();
-    for &(room, memory, lean) in &tried.calls {
+    for &(room, memory, wish) in &tried.calls {
         let mut output = vec![0xA5u8; room].into_boxed_slice();
         let mut numbers = vec![0xA5A5u16; memory].into_boxed_slice();
         let (mut own_output, mut own_numbers) = (output.clone(), numbers.clone());
-        let answer = linked::translate(&sheet, &mut output, &mut numbers, lean);
-        let wanted = match translate_into(&sheet, lean, &mut own_output, &mut own_numbers) {
-            Ok(written) => written as u64,
-            Err(refusal) => (refusal.number as u64) << 32 | refusal.place as u64,
-        };
-        tally.answer((answer >> 32) as usize);
+        let answer = linked::translate(&sheet, &mut output, &mut numbers, wish);
+        let wanted = translate::call(&sheet, &mut own_output, &mut own_numbers, wish);
         if answer != wanted
             || output != own_output
             || numbers != own_numbers
             || *sheet != tried.sheet
         {
-            return Err(format!(
-                "room {room}, memory {memory}, lean {lean}\nsheet {}",
-                hex(&sheet)
-            ));
+            let both = format!("answer {}, wanted {}", Said(answer), Said(wanted));
+            let call = format!("room {room}, memory {memory}, {wish:?}");
+            return Err(format!("{both}\n{call}\nsheet {}", hex(&sheet)));
         }
+        tally.answer(&sheet, answer);
     }
     for &node in &tried.nodes {
         tally.stretches += 1;

@@ -28,7 +28,7 @@ pub const OUTPUT: usize = 1;
 pub const MEMORY: usize = 2;
 
 /// How many bytes each stretch has at least.
-const SIZES: [usize; 3] = [20_480, 49_152, 2 * 45_056];
+const SIZES: [usize; 3] = [20_480, 65_536, 2 * 45_056];
 
 pub struct Fences {
     base: *mut u8,

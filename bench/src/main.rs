@@ -48,7 +48,7 @@ fn usage() -> ! {
     exit(2)
 }
 
-/// The summary; status 1 at a difference or where a refusal never occurred.
+/// The summary; status 1 at a difference, or where a refusal or a cause of 12 never occurred.
 fn report(result: Result<tally::Tally, String>) {
     match result {
         Err(difference) => {
@@ -61,7 +61,7 @@ fn report(result: Result<tally::Tally, String>) {
             println!("differences 0");
             let missing = tally.missing();
             if !missing.is_empty() {
-                println!("refusals that never occurred: {missing:?}");
+                println!("never occurred: {}", missing.join(", "));
                 exit(1)
             }
         }

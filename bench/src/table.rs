@@ -6,7 +6,7 @@ use crate::classes::{classes, Class};
 use crate::timing::{medians, ROUNDS};
 use crate::worst::{chain_4095, ordinary, ring_4096};
 use second::sheet::MEMORY;
-use second::translate::translate_into;
+use second::translate::{call, wished, Wish};
 use std::cell::RefCell;
 use std::hint::black_box;
 
@@ -17,9 +17,14 @@ struct Times {
     limit: f64,
 }
 
+/// What a call asks for: netlists with nodes, as they are written where nothing else is said.
+fn wish(lean: bool) -> Wish {
+    Wish { lean, ..Wish::default() }
+}
+
 /// What is written for each sheet of a class; nothing where it is refused.
 fn netlists(class: &Class, lean: bool) -> Vec<Vec<u8>> {
-    let made = |sheet: &Vec<u8>| second::translate(sheet, lean, class.room, MEMORY);
+    let made = |sheet: &Vec<u8>| wished(sheet, wish(lean), class.room, MEMORY);
     class.sheets.iter().map(|sheet| made(sheet).unwrap_or_default()).collect()
 }
 
@@ -32,7 +37,7 @@ fn times(class: &Class) -> [Times; 2] {
         move || {
             let (out, work) = &mut *lent.borrow_mut();
             for sheet in &class.sheets {
-                black_box(linked::translate(black_box(sheet), out, work, lean));
+                black_box(linked::translate(black_box(sheet), out, work, wish(lean)));
             }
         }
     };
@@ -40,7 +45,7 @@ fn times(class: &Class) -> [Times; 2] {
         move || {
             let (out, work) = &mut *lent.borrow_mut();
             for sheet in &class.sheets {
-                let _ = black_box(translate_into(black_box(sheet), lean, out, work));
+                black_box(call(black_box(sheet), out, work, wish(lean)));
             }
         }
     };

@@ -14,7 +14,7 @@ use crate::wide::terminals_and;
 use crate::write::{hex, Bytes};
 use crate::{edges_making, edges_reading, edges_typing};
 
-/// The room that always does.
+/// The room that always does in plain kinds.
 pub const ROOM: usize = 41_344;
 
 const HEADER: usize = 6;

@@ -1,23 +1,34 @@
-//! Document 01, refusals 3 to 15: faults put into good sheets, byte by byte or record by record.
+//! Document 01, refusals 3 to 15, in both editions: faults put into good sheets, byte by byte or
+//! record by record.
 
 use crate::random::Random;
 use crate::read::{node_body, type_body};
-use crate::write::Bytes;
+use crate::sheet::{Edition, SECOND_EDITION};
+use crate::write::{marked, Bytes};
 
-/// Bytes that mean something at the start of a record, and some that never do.
-const KINDS: [u8; 17] = [
+/// Bytes that mean something at the start of a record, and some that never do; then those that
+/// only a second-edition sheet's faults need.
+const KINDS: [u8; 19] = [
     0x01, 0x02, 0x03, 0x04, 0x11, 0x12, 0x13, 0x14, 0x15, 0x16, 0x17, 0x18, 0x19, 0x1A, 0x00, 0x05,
-    0x1B,
+    0x1B, 0x1C, 0x31,
 ];
+
+fn kinds(edition: Edition) -> &'static [u8] {
+    match edition {
+        Edition::First => &KINDS[..17],
+        Edition::Second => &KINDS,
+    }
+}
 
 /// Flip, cut, insert, delete, append or double some bytes.
 pub fn damage(random: &mut Random, sheet: &[u8]) -> Bytes {
+    let kinds = kinds(Edition::of(sheet));
     let mut bytes = sheet.to_vec();
     for _ in 0..random.within(1, 2) {
         let at = random.below(bytes.len() + 1);
         let byte = match random.below(3) {
             0 => random.byte(),
-            1 => *random.pick(&KINDS),
+            1 => *random.pick(kinds),
             _ => random.below(6) as u8,
         };
         match random.below(7) {
@@ -66,7 +77,10 @@ pub fn disorder(random: &mut Random, sheet: &[u8]) -> Bytes {
             bytes.splice(term..term, doubled);
         }
         5 => {
-            let record = *random.pick(&[&[0x19u8, 0x00] as &[u8], &[0x14], &[0x18, 0x11, 0x00]]);
+            let wraps: [&[u8]; 4] =
+                [&[0x19, 0x00], &[0x14], &[0x18, 0x11, 0x00], &[0x1B, 0x11, 0x00]];
+            let known = 3 + Edition::of(sheet).mark();
+            let record = *random.pick(&wraps[..known]);
             let wrapped = record.repeat(random.within(50, 66));
             bytes.splice(term..term, wrapped);
         }
@@ -86,7 +100,7 @@ pub fn noise(random: &mut Random, length: usize) -> Bytes {
         .map(|_| match random.below(3) {
             _ if wild => random.byte(),
             0 => random.below(4) as u8,
-            _ => *random.pick(&KINDS),
+            _ => *random.pick(kinds(Edition::First)),
         })
         .collect()
 }
@@ -94,14 +108,15 @@ pub fn noise(random: &mut Random, length: usize) -> Bytes {
 /// The offsets of a readable sheet's records, types first.
 fn records(sheet: &[u8]) -> (Vec<usize>, Vec<usize>) {
     let (mut types, mut nodes) = (Vec::new(), Vec::new());
-    let mut at = 0;
+    let edition = Edition::of(sheet);
+    let mut at = edition.mark();
     while at < sheet.len() {
         if let (true, Some(body)) = (nodes.is_empty(), type_body(sheet[at])) {
             types.push(at);
             at += 1 + body;
         } else {
             nodes.push(at);
-            at += 1 + node_body(sheet[at]).expect("a readable sheet");
+            at += 1 + node_body(sheet[at], edition).expect("a readable sheet");
         }
     }
     (types, nodes)
@@ -125,7 +140,10 @@ pub fn mistype(random: &mut Random, sheet: &[u8]) -> Bytes {
         (0x13 | 0x15, 1) => bytes[at] ^= 0x06,
         (0x13 | 0x15 | 0x17 | 0x19, _) => bytes[at + 1] = other_type,
         (0x14 | 0x16, 1) => bytes[at] ^= 0x02,
-        (0x14 | 0x16 | 0x18, _) => bytes[at] = *random.pick(&[0x14, 0x16, 0x18]),
+        (0x14 | 0x16 | 0x18 | 0x1B, _) => {
+            let known = 3 + Edition::of(sheet).mark();
+            bytes[at] = *random.pick(&[0x14, 0x16, 0x18, 0x1B][..known]);
+        }
         _ => {}
     }
     bytes
@@ -150,10 +168,36 @@ fn end(sheet: &[u8], at: usize) -> usize {
         due = due - 1
             + match kind {
                 0x13 | 0x15 | 0x19 => 1,
-                0x14 | 0x16 | 0x17 | 0x18 => 2,
+                0x14 | 0x16 | 0x17 | 0x18 | 0x1B => 2,
                 _ => 0,
             };
-        here += 1 + node_body(kind).expect("a readable sheet");
+        here += 1 + node_body(kind, Edition::Second).expect("a readable sheet");
     }
     here
+}
+
+/// Mistake the edition of a readable sheet: the mark put on or taken away, or put elsewhere, or a
+/// record that only the second edition knows.
+pub fn mistake(random: &mut Random, sheet: &[u8]) -> Bytes {
+    let (types, nodes) = records(sheet);
+    let records = [types, nodes.clone()].concat();
+    let mut bytes = sheet.to_vec();
+    match random.below(4) {
+        0 if Edition::of(sheet) == Edition::Second => {
+            bytes.remove(0);
+        }
+        0 => bytes = marked(sheet),
+        1 => {
+            bytes.insert(*random.pick(&records), SECOND_EDITION);
+        }
+        2 => bytes.push(SECOND_EDITION),
+        _ => {
+            let two = |&&at: &&usize| matches!(sheet[at], 0x14 | 0x16 | 0x18 | 0x1B);
+            match nodes.iter().find(two) {
+                Some(&at) => bytes[at] = 0x1B,
+                None => bytes.insert(nodes[0], 0x1B),
+            }
+        }
+    }
+    bytes
 }

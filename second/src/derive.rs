@@ -1,7 +1,7 @@
-//! Document 01, "Typing", after Figure 2 of document 000: the relation with its split of the
-//! linear context, decided without the walk. For each subterm we find its type, as a tree of its
-//! own, and the linear variables that its linear context must hold; a rule with two premises asks
-//! that the two contexts have nothing in common.
+//! Document 01, "Typing", after Figure 2 of document 000, and document 02, L7: the relation with its
+//! split of the linear context, decided without the walk. For each subterm we find its type, as a
+//! tree of its own, and the linear variables that its linear context must hold; a rule with two
+//! premises asks that the two contexts have nothing in common.
 
 use crate::sheet::*;
 use std::collections::BTreeSet;
@@ -19,7 +19,7 @@ pub fn derivable(sheet: &Sheet) -> bool {
         };
         shapes.push(Rc::new(shape));
     }
-    let rules = Rules { shapes };
+    let rules = Rules { edition: sheet.edition, shapes };
     match rules.judge(&sheet.term, &mut Vec::new()) {
         Some((_, linear)) => linear.is_empty(),
         None => false,
@@ -44,6 +44,7 @@ enum Assumed {
 type Linear = BTreeSet<usize>;
 
 struct Rules {
+    edition: Edition,
     shapes: Vec<Rc<Shape>>,
 }
 
@@ -62,7 +63,7 @@ impl Rules {
             }
             Form::Constant { part, written } => {
                 let shape = self.shapes[*written].clone();
-                (*shape == constant(*part)?).then_some((shape, Linear::new()))
+                (*shape == constant(*part, self.edition)?).then_some((shape, Linear::new()))
             }
             Form::Function { sort: Sort::Sharable, written, body } => {
                 let shape = self.shapes[*written].clone();
@@ -105,9 +106,18 @@ impl Rules {
                 let (found, second) = self.under(halves, body, context)?;
                 Some((found, joined(first, second)?))
             }
+            // the rule xE' of document 000, section 5.2
+            Form::Naming { named, body } => {
+                let (theta, first) = self.judge(named, context)?;
+                if !is_sharable(&theta) {
+                    return None;
+                }
+                let (found, second) = self.under(vec![Assumed::Gamma(theta)], body, context)?;
+                Some((found, joined(first, second)?))
+            }
             Form::FixedPoint { written, body } => {
                 let shape = self.shapes[*written].clone();
-                if !matches!(*shape, Shape::One | Shape::Times(..)) {
+                if !is_sharable(&shape) {
                     return None;
                 }
                 let (found, linear) =
@@ -142,13 +152,20 @@ fn joined(mut first: Linear, second: Linear) -> Option<Linear> {
     }
 }
 
-fn constant(part: u8) -> Option<Shape> {
+fn is_sharable(shape: &Shape) -> bool {
+    matches!(shape, Shape::One | Shape::Times(..))
+}
+
+fn constant(part: u8, edition: Edition) -> Option<Shape> {
     let one = || Rc::new(Shape::One);
     let reg = || Shape::To(one(), one());
     match part {
         0 | 6 => Some(Shape::One),
         1 | 5 => Some(reg()),
-        2..=4 => Some(Shape::To(one(), Rc::new(reg()))),
+        2..=4 => Some(match edition {
+            Edition::First => Shape::To(one(), Rc::new(reg())),
+            Edition::Second => Shape::To(Rc::new(Shape::Times(one(), one())), one()),
+        }),
         _ => None,
     }
 }

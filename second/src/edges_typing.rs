@@ -7,7 +7,7 @@ use crate::write::*;
 /// 0: 1; 1: 1 x 1; 2: 1 -> 1; 3: 1 -> (1 -> 1); 4: (1 -> 1) -o 1; 5: (1 -> 1) -o (1 -> 1);
 /// 6: (1 -> 1) -o ((1 -> 1) -o 1); 7: (1 x 1) -> 1; 8: ((1 -> 1) -o 1) -o 1;
 /// 9: (1 -> 1) -o (1 x 1); 10: 1 -> (1 x 1); 11: (1 x 1) -> (1 x 1)
-const TABLE: &str =
+pub const TABLE: &str =
     "01 020000 030000 030002 040200 040202 040204 030100 040400 040201 030001 030101";
 
 /// A term over the table, and its refusal and place; 0 0 where it is accepted.

@@ -1,6 +1,7 @@
-//! Document 01, "The full netlist", after Figures 3 to 5 of document 000. Interfaces are the
-//! paper's trees: O ::= o | O x O | I -> O, and I the reverse. A terminal's own sort tells whether
-//! its bit is turned.
+//! Document 01, "The full netlist", after Figures 3 to 5 of document 000, and document 02, L7: a name
+//! makes no points, and gates of the second edition take a pair. Interfaces are the paper's trees:
+//! O ::= o | O x O | I -> O, and I the reverse. A terminal's own sort tells whether its bit is
+//! turned.
 
 use crate::netlist::*;
 use crate::sheet::*;
@@ -23,7 +24,9 @@ fn count(sheet: &Sheet, term: &Term) -> usize {
             count(sheet, function) + count(sheet, argument)
         }
         Form::Pair { left, right, .. } => count(sheet, left) + count(sheet, right),
-        Form::Projection { pair, body } => count(sheet, pair) + count(sheet, body),
+        Form::Projection { pair: first, body } | Form::Naming { named: first, body } => {
+            count(sheet, first) + count(sheet, body)
+        }
     }
 }
 
@@ -77,14 +80,14 @@ impl Maker<'_> {
     fn term(&mut self, term: &Term) -> Rc<Interface> {
         match &term.form {
             Form::Variable { binder, .. } => self.scope[self.scope.len() - 1 - binder].clone(),
-            Form::Constant { part, .. } => self.part(*part),
+            Form::Constant { part, .. } => self.part(*part, term.node),
             Form::Function { written, body, .. } => {
-                let (input, output) = self.points(left_side(self.sheet, *written));
+                let (input, output) = self.points(left_side(self.sheet, *written), term.node);
                 let result = self.under(&[output], body);
                 Rc::new(Interface::Arrow(input, result))
             }
             Form::FixedPoint { written, body } => {
-                let (input, output) = self.points(*written);
+                let (input, output) = self.points(*written, term.node);
                 let result = self.under(&[output], body);
                 self.connect(&result, &input);
                 result
@@ -110,6 +113,10 @@ impl Maker<'_> {
                 };
                 self.under(&[left.clone(), right.clone()], body)
             }
+            Form::Naming { named, body } => {
+                let named = self.term(named);
+                self.under(&[named], body)
+            }
         }
     }
 
@@ -123,28 +130,29 @@ impl Maker<'_> {
     }
 
     /// Figure 4: a point for each single bit, shared out to an input and an output interface.
-    fn points(&mut self, bound: TypeNumber) -> (Rc<Interface>, Rc<Interface>) {
+    fn points(&mut self, bound: TypeNumber, node: usize) -> (Rc<Interface>, Rc<Interface>) {
         match self.sheet.types[bound] {
             Type::Bit => {
                 let (input, output) = (Input(self.next), Output(self.next + 1));
                 self.next += 2;
                 self.made.elements.push(Element::Point { input });
+                self.made.makers.push(node);
                 (
                     Rc::new(Interface::Terminal(Terminal::Input(input))),
                     Rc::new(Interface::Terminal(Terminal::Output(output))),
                 )
             }
             Type::Product(left, right) => {
-                let (left_in, left_out) = self.points(left);
-                let (right_in, right_out) = self.points(right);
+                let (left_in, left_out) = self.points(left, node);
+                let (right_in, right_out) = self.points(right, node);
                 (
                     Rc::new(Interface::Product(left_in, right_in)),
                     Rc::new(Interface::Product(left_out, right_out)),
                 )
             }
             Type::Arrow(_, left, right) => {
-                let (left_in, left_out) = self.points(left);
-                let (right_in, right_out) = self.points(right);
+                let (left_in, left_out) = self.points(left, node);
+                let (right_in, right_out) = self.points(right, node);
                 (
                     Rc::new(Interface::Arrow(left_out, right_in)),
                     Rc::new(Interface::Arrow(left_in, right_out)),
@@ -153,16 +161,26 @@ impl Maker<'_> {
         }
     }
 
-    fn part(&mut self, part: u8) -> Rc<Interface> {
+    fn part(&mut self, part: u8, node: usize) -> Rc<Interface> {
         let element = Element::Part { part, first: self.next };
         self.next += element.terminals() as u16;
         self.made.elements.push(element);
+        self.made.makers.push(node);
         let output = Rc::new(Interface::Terminal(Terminal::Output(element.output())));
-        let inputs: Vec<Input> = element.inputs().collect();
-        inputs.into_iter().rev().fold(output, |rest, input| {
-            let input = Rc::new(Interface::Terminal(Terminal::Input(input)));
-            Rc::new(Interface::Arrow(input, rest))
-        })
+        let inputs: Vec<Rc<Interface>> = element
+            .inputs()
+            .map(|input| Rc::new(Interface::Terminal(Terminal::Input(input))))
+            .collect();
+        match (self.sheet.edition, &inputs[..]) {
+            (Edition::Second, [one, other]) => {
+                let pair = Rc::new(Interface::Product(one.clone(), other.clone()));
+                Rc::new(Interface::Arrow(pair, output))
+            }
+            _ => inputs
+                .into_iter()
+                .rev()
+                .fold(output, |rest, input| Rc::new(Interface::Arrow(input, rest))),
+        }
     }
 
     /// One wire for each single bit, left to right: from the output interface to the input

@@ -1,5 +1,6 @@
-//! Document 01, "Typing", the other way round: well-typed sheets grown from a wanted type. Each
-//! subterm is given the linear variables it must use, so that every split is made on purpose.
+//! Document 01, "Typing", the other way round: well-typed sheets of both editions, grown from a
+//! wanted type. Each subterm is given the linear variables it must use, so that every split is made
+//! on purpose.
 
 use crate::random::Random;
 use crate::sheet::*;
@@ -16,10 +17,29 @@ pub struct Wish {
 
 /// A well-typed sheet; it may pass a limit of refusals 8 and 16, and no other refusal fits it.
 pub fn grow(random: &mut Random, wish: Wish) -> Bytes {
+    grow_edition(random, wish, Edition::First)
+}
+
+/// The same in either edition.
+pub fn grow_edition(random: &mut Random, wish: Wish, edition: Edition) -> Bytes {
+    grow_as(random, wish, edition, false)
+}
+
+/// The same, where each fixed point is over a single bit and goes through a part, so that no ring
+/// is one of points alone.
+pub fn grow_guarded(random: &mut Random, wish: Wish, edition: Edition) -> Bytes {
+    grow_as(random, wish, edition, true)
+}
+
+fn grow_as(random: &mut Random, wish: Wish, edition: Edition, guarded: bool) -> Bytes {
     loop {
-        let mut grower = Grower { random, wish, types: Types::new(), scope: Vec::new(), nodes: 0 };
+        let (types, scope) = (Types::new(), Vec::new());
+        let mut grower = Grower { random, wish, edition, guarded, types, scope, nodes: 0 };
         if let Some(sheet) = grower.sheet() {
-            return sheet;
+            return match edition {
+                Edition::First => sheet,
+                Edition::Second => marked(&sheet),
+            };
         }
     }
 }
@@ -35,6 +55,8 @@ type Due = Vec<usize>;
 struct Grower<'a> {
     random: &'a mut Random,
     wish: Wish,
+    edition: Edition,
+    guarded: bool,
     types: Types,
     scope: Vec<Bound>,
     nodes: usize,
@@ -94,11 +116,16 @@ impl Grower<'_> {
         if self.nodes >= self.wish.nodes || depth >= self.wish.depth {
             return self.short_term(goal, due, depth);
         }
+        if self.edition == Edition::Second && self.random.once_in(6) {
+            return self.use_name(goal, due, depth);
+        }
         match self.random.below(12) {
             0 => self.use_function(goal, due, depth),
             1 => self.use_linear_function(goal, due, depth),
             2 | 3 => self.use_projection(goal, due, depth),
             4 if !due.is_empty() => self.spend(goal, due, depth),
+            5 | 6 if self.guarded && shape == Type::Bit => self.use_guarded_fix(due, depth),
+            5 | 6 if self.guarded => self.introduce(goal, due, depth),
             5 | 6 if shape.is_sharable() => {
                 let body = self.under(&[(Sort::Sharable, goal)], goal, due, depth)?;
                 Some(fix(goal, &body))
@@ -138,6 +165,9 @@ impl Grower<'_> {
         if self.types.records.len() + 3 > TYPES {
             return None;
         }
+        if self.edition == Edition::Second {
+            return self.use_pair_part(goal, due, depth);
+        }
         let left_over = self.types.sizes[goal] - 1;
         let inputs = if due.is_empty() {
             self.random.within(left_over, 2)
@@ -163,6 +193,47 @@ impl Grower<'_> {
             term = apply(&term, &argument);
         }
         Some(term)
+    }
+
+    /// The same in the second edition, where gates take a pair.
+    fn use_pair_part(&mut self, goal: TypeNumber, due: Due, depth: usize) -> Option<Bytes> {
+        let bit = self.types.bit();
+        let reg = self.types.reg();
+        let gate = self.types.pair_gate();
+        if goal != bit && !due.is_empty() {
+            return self.introduce(goal, due, depth);
+        }
+        let of_one = constant(*self.random.pick(&[1, 5]), reg);
+        let of_two = constant(*self.random.pick(&[2, 3, 4]), gate);
+        if goal != bit {
+            return Some(if goal == reg { of_one } else { of_two });
+        }
+        match self.random.below(6) {
+            0 if due.is_empty() => Some(constant(*self.random.pick(&[0, 6]), bit)),
+            0..=2 => Some(apply(&of_one, &self.term(bit, due, depth + 1)?)),
+            _ => {
+                let two = self.types.product(bit, bit);
+                Some(apply(&of_two, &self.term(two, due, depth + 1)?))
+            }
+        }
+    }
+
+    /// A fixed point through a register, or now and then through an inverter.
+    fn use_guarded_fix(&mut self, due: Due, depth: usize) -> Option<Bytes> {
+        let bit = self.types.bit();
+        let reg = self.types.number(Type::Arrow(Sort::Sharable, bit, bit))?;
+        let body = self.under(&[(Sort::Sharable, bit)], bit, due, depth + 1)?;
+        let part = if self.random.once_in(6) { 5 } else { 1 };
+        Some(fix(bit, &apply(&constant(part, reg), &body)))
+    }
+
+    /// A name for a value of a sharable type.
+    fn use_name(&mut self, goal: TypeNumber, due: Due, depth: usize) -> Option<Bytes> {
+        let bound = self.sharable_type(self.wish.size)?;
+        let (first, second) = self.split(due);
+        let named = self.term(bound, first, depth + 1)?;
+        let body = self.under(&[(Sort::Sharable, bound)], goal, second, depth)?;
+        Some(name(&named, &body))
     }
 
     /// A function applied at once; half of the functions are introduced, the others grown.
@@ -242,7 +313,11 @@ impl Grower<'_> {
             return Some(variable(self.scope.len() - 1 - at));
         }
         match shape {
-            Type::Bit if !self.random.once_in(8) => {
+            Type::Product(left, right) if self.guarded => {
+                let left = self.short_term(left, Due::new(), depth + 1)?;
+                Some(pair(goal, &left, &self.short_term(right, Due::new(), depth + 1)?))
+            }
+            Type::Bit if self.guarded || !self.random.once_in(8) => {
                 Some(constant(*self.random.pick(&[0, 6]), goal))
             }
             _ => Some(fix(goal, &variable(0))),
@@ -311,7 +386,11 @@ impl Grower<'_> {
         due.into_iter().partition(|_| self.random.once_in(2))
     }
 
+    /// Is it the type of a part with inputs?
     fn is_bits_to_bit(&self, goal: TypeNumber) -> bool {
+        if self.edition == Edition::Second {
+            return self.is_pair_part(goal);
+        }
         match self.types.records[goal] {
             Type::Arrow(Sort::Sharable, left, right) => {
                 self.types.records[left] == Type::Bit
@@ -323,6 +402,20 @@ impl Grower<'_> {
                         }
                         _ => false,
                     }
+            }
+            _ => false,
+        }
+    }
+
+    fn is_pair_part(&self, goal: TypeNumber) -> bool {
+        let is_bit = |number: TypeNumber| self.types.records[number] == Type::Bit;
+        match self.types.records[goal] {
+            Type::Arrow(Sort::Sharable, left, right) if is_bit(right) => {
+                match self.types.records[left] {
+                    Type::Bit => true,
+                    Type::Product(one, other) => is_bit(one) && is_bit(other),
+                    Type::Arrow(..) => false,
+                }
             }
             _ => false,
         }

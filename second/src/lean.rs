@@ -29,10 +29,11 @@ struct Roots {
 pub fn lean(full: &Netlist) -> Netlist {
     let mut roots = Roots::of(full);
     let mut made = Netlist::default();
-    for &element in &full.elements {
+    for (&element, &node) in full.elements.iter().zip(&full.makers) {
         match element {
             Element::Part { .. } => {
                 made.elements.push(element);
+                made.makers.push(node);
                 for to in element.inputs() {
                     if let Feed::Driver(driver) = roots.feed(to) {
                         made.wires.push(Wire { from: roots.root(driver), to });
@@ -43,6 +44,7 @@ pub fn lean(full: &Netlist) -> Netlist {
                 let own = element.output();
                 if roots.root(own) == own {
                     made.elements.push(element);
+                    made.makers.push(node);
                     if roots.feed(input) != Feed::Pin {
                         made.wires.push(Wire { from: own, to: input });
                     }
@@ -59,6 +61,15 @@ pub fn lean(full: &Netlist) -> Netlist {
     // Elements come with rising terminals, so the wires already do.
     debug_assert!(made.wires.windows(2).all(|two| two[0].to < two[1].to));
     made
+}
+
+/// The lowest input of a kept ring point: no pin feeds it.
+pub fn ring_point(lean: &Netlist) -> Option<Input> {
+    let points = lean.elements.iter().filter_map(|element| match *element {
+        Element::Point { input } => Some(input),
+        Element::Part { .. } => None,
+    });
+    points.filter(|&input| !lean.pins.contains(&Terminal::Input(input))).min()
 }
 
 impl Roots {

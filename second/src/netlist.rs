@@ -1,6 +1,11 @@
-//! Document 01, "The full netlist", its last paragraph: elements, wires, pins and their bytes.
+//! Document 01, "The full netlist", its last paragraph: elements, wires, pins and their bytes; and
+//! document 02, L6: the node that made an element.
 
 use crate::parts::{Part, PARTS};
+use crate::sheet::TERMINALS;
+
+/// "Seven times the terminals plus 384 bytes": the room that always does, in either kinds.
+pub const ENOUGH: usize = 7 * TERMINALS + 384;
 
 /// Input and output terminals are never taken for each other.
 #[derive(Clone, Copy, Debug, PartialEq, Eq, PartialOrd, Ord, Hash)]
@@ -64,6 +69,8 @@ pub struct Wire {
 #[derive(Clone, Debug, Default, PartialEq, Eq)]
 pub struct Netlist {
     pub elements: Vec<Element>,
+    /// For each element the node that made it.
+    pub makers: Vec<usize>,
     pub wires: Vec<Wire>,
     pub pins: Vec<Terminal>,
 }
@@ -73,8 +80,8 @@ pub fn part_of(number: u8) -> &'static Part {
     &PARTS[usize::from(number)]
 }
 
-/// The length of `bytes` without making them.
-pub fn length(netlist: &Netlist) -> usize {
+/// The length of `written` without making it.
+pub fn written_length(netlist: &Netlist, plain: bool) -> usize {
     let elements: usize = netlist
         .elements
         .iter()
@@ -83,22 +90,27 @@ pub fn length(netlist: &Netlist) -> usize {
             Element::Part { .. } => 4,
         })
         .sum();
-    elements + 5 * netlist.wires.len() + 3 * netlist.pins.len()
+    let nodes = if plain { 0 } else { 2 * netlist.elements.len() };
+    elements + nodes + 5 * netlist.wires.len() + 3 * netlist.pins.len()
 }
 
-/// Elements, then wires, then pins; two-byte numbers low byte first.
-pub fn bytes(netlist: &Netlist) -> Vec<u8> {
-    let mut written = Vec::with_capacity(length(netlist));
-    for element in &netlist.elements {
+/// Elements, then wires, then pins; two-byte numbers low byte first. Points and parts have the
+/// plain kinds 21 and 22, or 25 and 26 and their node last.
+pub fn written(netlist: &Netlist, plain: bool) -> Vec<u8> {
+    let mut written = Vec::with_capacity(written_length(netlist, plain));
+    for (at, element) in netlist.elements.iter().enumerate() {
         match *element {
             Element::Point { input } => {
-                written.push(0x21);
+                written.push(if plain { 0x21 } else { 0x25 });
                 written.extend(input.0.to_le_bytes());
             }
             Element::Part { part, first } => {
-                written.extend([0x22, part]);
+                written.extend([if plain { 0x22 } else { 0x26 }, part]);
                 written.extend(first.to_le_bytes());
             }
+        }
+        if !plain {
+            written.extend((netlist.makers[at] as u16).to_le_bytes());
         }
     }
     for Wire { from, to } in &netlist.wires {
@@ -111,4 +123,13 @@ pub fn bytes(netlist: &Netlist) -> Vec<u8> {
         written.extend(pin.number().to_le_bytes());
     }
     written
+}
+
+/// The bytes in plain kinds, and their length.
+pub fn bytes(netlist: &Netlist) -> Vec<u8> {
+    written(netlist, true)
+}
+
+pub fn length(netlist: &Netlist) -> usize {
+    written_length(netlist, true)
 }

@@ -3,7 +3,8 @@
 #[derive(Debug, PartialEq, Eq)]
 pub struct Part {
     pub name: &'static str,
-    /// Each input is the left side of a sharable arrow from a single bit.
+    /// Each input is the left side of a sharable arrow from a single bit; in the second edition two
+    /// inputs are the left side of one sharable arrow from a pair.
     pub inputs: usize,
 }
 

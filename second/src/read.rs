@@ -1,5 +1,6 @@
 //! Document 01, "The sheet" and refusals 2 to 9: bytes to trees, records in byte order,
-//! "each by kind, body, count (8), depth (8), type numbers (5), form (6), repeat (7), size (8)".
+//! "each by kind, body, count (8), depth (8), type numbers (5), form (6), repeat (7), size (8)";
+//! and document 02, L7: the edition.
 
 use crate::refusal::{need, Refusal};
 use crate::sheet::*;
@@ -12,8 +13,8 @@ pub fn read(bytes: &[u8]) -> Result<Sheet, Refusal> {
     reader.type_records()?;
     let term = reader.term(1)?;
     need(reader.at == bytes.len(), 9, reader.at)?;
-    let Reader { types, sizes, stretches, .. } = reader;
-    Ok(Sheet { types, sizes, term, stretches })
+    let Reader { edition, types, sizes, stretches, .. } = reader;
+    Ok(Sheet { edition, types, sizes, term, stretches })
 }
 
 /// The start and length of a node's bytes; (0, 0) when the sheet or the number is refused.
@@ -24,12 +25,13 @@ pub fn stretch(bytes: &[u8], node: usize) -> (usize, usize) {
     }
 }
 
-/// The body length of a node's record, if the byte is the kind of a node.
-pub fn node_body(kind: u8) -> Option<usize> {
+/// The body length of a node's record, if the byte is the kind of a node in this edition.
+pub fn node_body(kind: u8, edition: Edition) -> Option<usize> {
     match kind {
         0x11 | 0x12 | 0x13 | 0x15 | 0x17 | 0x19 => Some(1),
         0x14 | 0x16 | 0x18 => Some(0),
         0x1A => Some(2),
+        0x1B if edition == Edition::Second => Some(0),
         _ => None,
     }
 }
@@ -45,6 +47,7 @@ pub fn type_body(kind: u8) -> Option<usize> {
 
 struct Reader<'a> {
     bytes: &'a [u8],
+    edition: Edition,
     at: usize,
     types: Vec<Type>,
     sizes: Vec<usize>,
@@ -54,9 +57,11 @@ struct Reader<'a> {
 
 impl<'a> Reader<'a> {
     fn over(bytes: &'a [u8]) -> Reader<'a> {
+        let edition = Edition::of(bytes);
         Reader {
             bytes,
-            at: 0,
+            edition,
+            at: edition.mark(),
             types: Vec::new(),
             sizes: Vec::new(),
             seen: HashSet::new(),
@@ -117,7 +122,7 @@ impl<'a> Reader<'a> {
     fn term(&mut self, depth: usize) -> Result<Term, Refusal> {
         let offset = self.at;
         let kind = *self.bytes.get(offset).ok_or(Refusal::new(3, offset))?;
-        let length = node_body(kind).ok_or(Refusal::new(4, offset))?;
+        let length = node_body(kind, self.edition).ok_or(Refusal::new(4, offset))?;
         let body = self.body(length)?;
         let node = self.stretches.len();
         need(node < NODES, 8, offset)?;
@@ -145,6 +150,10 @@ impl<'a> Reader<'a> {
             0x18 => {
                 let pair = self.subterm(depth)?;
                 Form::Projection { pair, body: self.subterm(depth)? }
+            }
+            0x1B => {
+                let named = self.subterm(depth)?;
+                Form::Naming { named, body: self.subterm(depth)? }
             }
             0x19 => {
                 let written = self.type_number(body[0], offset)?;

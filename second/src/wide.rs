@@ -80,6 +80,16 @@ pub fn tower(depth: usize) -> Bytes {
     types.sheet(&(1..depth).fold(variable(0), |body, _| fix(bit, &body)))
 }
 
+/// A tree of xor gates over 2^level zeros: 4 * 2^level - 3 nodes.
+pub fn gate_tree(level: usize) -> Bytes {
+    let mut types = Types::new();
+    let bit = types.bit();
+    let gate = types.gate();
+    let tree = (0..level)
+        .fold(constant(0, bit), |half, _| apply(&apply(&constant(4, gate), &half), &half));
+    types.sheet(&tree)
+}
+
 /// A function from a type to itself with 2^level - 1 points in a row on each bit.
 fn relay(types: &mut Types, bound: TypeNumber, level: usize) -> Bytes {
     let arrow = types.to(bound, bound);

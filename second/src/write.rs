@@ -76,9 +76,16 @@ impl Types {
         self.arrows(2)
     }
 
-    /// The type of the two-input gates.
+    /// The type of the two-input gates in the first edition.
     pub fn gate(&mut self) -> TypeNumber {
         self.arrows(3)
+    }
+
+    /// The type of the two-input gates in the second edition.
+    pub fn pair_gate(&mut self) -> TypeNumber {
+        let bit = self.bit();
+        let two = self.product(bit, bit);
+        self.to(two, bit)
     }
 
     /// The table's bytes, then the term's.
@@ -90,6 +97,50 @@ impl Types {
         bytes.extend(term);
         bytes
     }
+}
+
+/// The bytes of a sheet's types, then of a term over them.
+pub fn rewritten(sheet: &Sheet, term: &Term) -> Bytes {
+    let mut bytes = vec![SECOND_EDITION; sheet.edition.mark()];
+    for record in &sheet.types {
+        bytes.extend(type_record(*record));
+    }
+    write_term(term, &mut bytes);
+    bytes
+}
+
+/// A node's record, then its subterms' records.
+fn write_term(term: &Term, bytes: &mut Bytes) {
+    match (&term.form, sort_of(&term.form)) {
+        (Form::Variable { binder, .. }, Sort::Sharable) => bytes.extend(variable(*binder)),
+        (Form::Variable { binder, .. }, Sort::Linear) => bytes.extend(linear_variable(*binder)),
+        (Form::Function { written, .. }, Sort::Sharable) => bytes.extend([0x13, *written as u8]),
+        (Form::Function { written, .. }, Sort::Linear) => bytes.extend([0x15, *written as u8]),
+        (Form::Application { .. }, Sort::Sharable) => bytes.push(0x14),
+        (Form::Application { .. }, Sort::Linear) => bytes.push(0x16),
+        (Form::Pair { written, .. }, _) => bytes.extend([0x17, *written as u8]),
+        (Form::Projection { .. }, _) => bytes.push(0x18),
+        (Form::FixedPoint { written, .. }, _) => bytes.extend([0x19, *written as u8]),
+        (Form::Constant { part, written }, _) => bytes.extend(constant(*part, *written)),
+        (Form::Naming { .. }, _) => bytes.push(0x1B),
+    }
+    for subterm in term.subterms() {
+        write_term(subterm, bytes);
+    }
+}
+
+fn sort_of(form: &Form) -> Sort {
+    match form {
+        Form::Variable { sort, .. }
+        | Form::Function { sort, .. }
+        | Form::Application { sort, .. } => *sort,
+        _ => Sort::Sharable,
+    }
+}
+
+/// The same bytes behind the mark of the second edition.
+pub fn marked(sheet: &[u8]) -> Bytes {
+    node(&[SECOND_EDITION], &[sheet])
 }
 
 fn type_record(record: Type) -> Bytes {
@@ -139,6 +190,11 @@ pub fn pair(written: TypeNumber, left: &[u8], right: &[u8]) -> Bytes {
 
 pub fn project(pair: &[u8], body: &[u8]) -> Bytes {
     node(&[0x18], &[pair, body])
+}
+
+/// Second edition: the body's one variable names the first subterm.
+pub fn name(named: &[u8], body: &[u8]) -> Bytes {
+    node(&[0x1B], &[named, body])
 }
 
 pub fn fix(written: TypeNumber, body: &[u8]) -> Bytes {

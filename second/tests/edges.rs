@@ -2,12 +2,15 @@
 
 use second::edges_reading::Edge;
 use second::wide::{crowd, deep, flat, terminals_and};
-use second::{edges_making, edges_reading, edges_typing, read, terminals, translate};
+use second::{
+    edges_edition, edges_making, edges_reading, edges_typing, read, terminals, translate,
+};
 
 fn all() -> Vec<Edge> {
     let mut edges = edges_reading::edges();
     edges.extend(edges_typing::edges());
     edges.extend(edges_making::edges());
+    edges.extend(edges_edition::edges());
     edges
 }
 

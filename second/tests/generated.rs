@@ -1,7 +1,8 @@
-//! 20,000 generated sheets: the two decisions of typing agree, netlists keep their bounds and
+//! 28,000 generated sheets of both editions: the two decisions of typing agree, netlists keep their bounds and
 //! demand 3, roots are those of a naive search, and pins are turned as the root's type says.
 
 use second::corpus::{any, grown, grown_large, named, Kind};
+use second::editions;
 use second::netlist::*;
 use second::random::Random;
 use second::sheet::{Sheet, Type};
@@ -93,11 +94,12 @@ fn roots_are_naive(whole: &Netlist, thin: &Netlist) {
         return;
     }
     let mut wanted = Netlist::default();
-    for &element in &whole.elements {
+    for (&element, &node) in whole.elements.iter().zip(&whole.makers) {
         let (root, in_ring) = naive_root(whole, element.output());
         let is_point = matches!(element, Element::Point { .. });
         if !is_point || root == element.output() {
             wanted.elements.push(element);
+            wanted.makers.push(node);
         }
         for to in element.inputs() {
             if is_point && in_ring && root == element.output() {
@@ -150,6 +152,14 @@ fn generated_sheets_keep_every_promise() {
 }
 
 #[test]
+fn second_edition_sheets_keep_every_promise() {
+    let mut random = Random::new(31);
+    let mut holds = |at| every_promise_holds(&editions::any(&mut random, at));
+    let accepted = (0..8_000).filter(|&at| holds(at)).count();
+    assert!(accepted > 3_000, "only {accepted} were accepted");
+}
+
+#[test]
 fn edges_keep_every_promise() {
     for kind in [Kind::Reading, Kind::Typing, Kind::Making] {
         named(kind).iter().for_each(|case| {
@@ -163,9 +173,20 @@ fn grown_sheets_are_well_typed() {
     let mut random = Random::new(7);
     for at in 0..3_000 {
         let sheet = if at % 30 == 0 { grown_large(&mut random) } else { grown(&mut random) };
-        if let Err(refusal) = translate(&sheet, true, 41_344, 32_768) {
-            assert!([8, 16].contains(&refusal.number), "{refusal:?} {sheet:02x?}");
-        }
+        has_no_fault(&sheet);
+    }
+    for at in 0..2_000 {
+        let large = at % 40 == 0;
+        let grow = if large { editions::grown_large } else { editions::grown };
+        let sheet = grow(&mut random);
+        assert_eq!(sheet[0], 0x31);
+        has_no_fault(&sheet);
+    }
+}
+
+fn has_no_fault(sheet: &[u8]) {
+    if let Err(refusal) = translate(sheet, true, 41_344, 32_768) {
+        assert!([8, 16].contains(&refusal.number), "{refusal:?} {sheet:02x?}");
     }
 }
 
@@ -174,7 +195,7 @@ fn end_of(sheet: &[u8], at: usize) -> usize {
     let (body, subterms) = match sheet[at] {
         0x11 | 0x12 => (1, 0),
         0x13 | 0x15 | 0x19 => (1, 1),
-        0x14 | 0x16 | 0x18 => (0, 2),
+        0x14 | 0x16 | 0x18 | 0x1B => (0, 2),
         0x17 => (1, 2),
         _ => (2, 0),
     };
@@ -185,7 +206,8 @@ fn end_of(sheet: &[u8], at: usize) -> usize {
 fn stretches_hold_a_node_and_its_subterms() {
     let mut random = Random::new(11);
     for at in 0..2_000 {
-        let sheet = any(&mut random, at);
+        let sheet =
+            if at % 2 == 0 { any(&mut random, at) } else { editions::any(&mut random, at / 2) };
         let Ok(found) = read(&sheet) else {
             assert_eq!(second::stretch(&sheet, 0), (0, 0));
             continue;
@@ -199,7 +221,7 @@ fn stretches_hold_a_node_and_its_subterms() {
             let (start, length) = found.stretches[node];
             assert_eq!((start, start + length), (offset, end_of(&sheet, offset)));
             offset += match sheet[offset] {
-                0x14 | 0x16 | 0x18 => 1,
+                0x14 | 0x16 | 0x18 | 0x1B => 1,
                 0x1A => 3,
                 _ => 2,
             };

@@ -54,7 +54,11 @@ fn refused_sheets_give_the_refusals_of_the_table() {
     ] {
         for lean in [false, true] {
             let refused = translate(&hex(sheet), lean, 41_344, 32_768);
-            assert_eq!(refused, Err(Refusal { number, place }), "{name}");
+            assert_eq!(
+                refused.map_err(|why| (why.number, why.place)),
+                Err((number, place)),
+                "{name}"
+            );
         }
         assert_eq!(listing(&hex(sheet)), format!("refused {number} {place}\n"), "{name}");
     }
@@ -89,13 +93,13 @@ fn the_edges_of_room_and_memory() {
     for (lean, needed) in [(false, 32), (true, 16)] {
         assert_eq!(translate(&p3, lean, needed, 32_768).map(|b| b.len()), Ok(needed));
         let short = translate(&p3, lean, needed - 1, 32_768);
-        assert_eq!(short, Err(Refusal { number: 17, place: needed }));
-        assert_eq!(translate(&p3, lean, 0, 32_768), Err(Refusal { number: 17, place: needed }));
-        assert_eq!(translate(&p3, lean, needed, 32_767), Err(Refusal { number: 1, place: 0 }));
+        assert_eq!(short, Err(Refusal::new(17, needed)));
+        assert_eq!(translate(&p3, lean, 0, 32_768), Err(Refusal::new(17, needed)));
+        assert_eq!(translate(&p3, lean, needed, 32_767), Err(Refusal::new(1, 0)));
     }
     let long = vec![0; 16_385];
-    assert_eq!(translate(&long, false, 0, 0), Err(Refusal { number: 1, place: 0 }));
-    assert_eq!(translate(&long, false, 0, 32_768), Err(Refusal { number: 2, place: 0 }));
+    assert_eq!(translate(&long, false, 0, 0), Err(Refusal::new(1, 0)));
+    assert_eq!(translate(&long, false, 0, 32_768), Err(Refusal::new(2, 0)));
     assert_eq!(listing(&long), "refused 2 0\n");
 }
 
@@ -113,11 +117,11 @@ fn lent_storage_is_left_as_the_text_says() {
     assert!(numbers[..32_768].iter().all(|&number| number == 0));
     assert_eq!(numbers[32_768..], [9, 9]);
     let (result, output, numbers) = lent("01 1A 00 00", false, 6, 32_768);
-    assert_eq!(result, Err(Refusal { number: 17, place: 7 }));
+    assert_eq!(result, Err(Refusal::new(17, 7)));
     assert_eq!(output, [7; 6]);
     assert!(numbers.iter().all(|&number| number == 0));
     let (result, output, numbers) = lent("", true, 3, 32_767);
-    assert_eq!(result, Err(Refusal { number: 1, place: 0 }));
+    assert_eq!(result, Err(Refusal::new(1, 0)));
     assert_eq!(output, [7; 3]);
     assert!(numbers.iter().all(|&number| number == 9));
 }

@@ -3,6 +3,7 @@
 //! give the same netlists.
 
 use second::corpus::{grown, grown_large, named, Kind};
+use second::editions;
 use second::netlist::*;
 use second::parts::PARTS;
 use second::random::Random;
@@ -40,10 +41,11 @@ fn sides(sheet: &Sheet, number: usize) -> (usize, usize) {
 
 impl Lists<'_> {
     /// The input and the output interface of a new variable.
-    fn points(&mut self, bound: usize) -> (Vec<Terminal>, Vec<Terminal>) {
+    fn points(&mut self, bound: usize, node: usize) -> (Vec<Terminal>, Vec<Terminal>) {
         let (mut inputs, mut outputs) = (Vec::new(), Vec::new());
         for odd in turned(self.sheet, bound) {
             self.netlist.elements.push(Element::Point { input: Input(self.next) });
+            self.netlist.makers.push(node);
             let input = Terminal::Input(Input(self.next));
             let output = Terminal::Output(Output(self.next + 1));
             self.next += 2;
@@ -76,6 +78,7 @@ impl Lists<'_> {
                 let inputs = PARTS[usize::from(*part)].inputs as u16;
                 self.next += inputs + 1;
                 self.netlist.elements.push(Element::Part { part: *part, first });
+                self.netlist.makers.push(term.node);
                 let mut interface: Vec<Terminal> =
                     (0..inputs).map(|at| Terminal::Input(Input(first + at))).collect();
                 interface.push(Terminal::Output(Output(first + inputs)));
@@ -83,12 +86,12 @@ impl Lists<'_> {
             }
             Form::Function { written, body, .. } => {
                 let (left, _) = sides(self.sheet, *written);
-                let (inputs, outputs) = self.points(left);
+                let (inputs, outputs) = self.points(left, term.node);
                 let (_, rest) = self.bound(vec![(left, outputs)], body);
                 (*written, [inputs, rest].concat())
             }
             Form::FixedPoint { written, body } => {
-                let (inputs, outputs) = self.points(*written);
+                let (inputs, outputs) = self.points(*written, term.node);
                 let (_, result) = self.bound(vec![(*written, outputs)], body);
                 for (&from, &to) in result.iter().zip(&inputs) {
                     self.wire(from, to);
@@ -111,6 +114,10 @@ impl Lists<'_> {
                 let (_, left) = self.make(left);
                 let (_, right) = self.make(right);
                 (*written, [left, right].concat())
+            }
+            Form::Naming { named, body } => {
+                let named = self.make(named);
+                self.bound(vec![named], body)
             }
             Form::Projection { pair, body } => {
                 let (product, both) = self.make(pair);
@@ -144,6 +151,8 @@ fn trees_and_lists_make_the_same_netlists() {
     let named = named(Kind::Making);
     assert!(named.iter().filter(|case| agrees(&case.sheet)).count() > 40);
     let mut random = Random::new(31);
+    let second = (0..4_000).filter(|_| agrees(&editions::grown(&mut random))).count();
+    assert!(second > 3_500, "{second} second-edition sheets were accepted");
     let small = (0..8_000).filter(|_| agrees(&grown(&mut random))).count();
     let large = (0..60).filter(|_| agrees(&grown_large(&mut random))).count();
     assert!(small > 7_000 && large > 15, "{small} small and {large} large sheets were accepted");

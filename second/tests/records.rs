@@ -2,6 +2,7 @@
 //! full and lean allow the same records on pin positions and part terminals, rings included.
 
 use second::corpus::{any, named, Kind};
+use second::editions;
 use second::random::Random;
 use second::records::{possible, Outside};
 use second::write::hex;
@@ -37,7 +38,8 @@ fn full_and_lean_allow_the_same_records() {
     let (mut random, mut budget, mut sheets) = (Random::new(5), 60_000_000u64, 0);
     for at in 0..20_000 {
         let most = if at % 20 == 0 { 10 } else { 7 };
-        if let Some(tried) = same_records(&any(&mut random, at), most) {
+        let sheet = if at % 3 == 0 { editions::grown(&mut random) } else { any(&mut random, at) };
+        if let Some(tried) = same_records(&sheet, most) {
             sheets += 1;
             budget = budget.saturating_sub(tried);
         }
