@@ -13,6 +13,7 @@ pub mod LeanLaws
 pub mod Counts
 pub mod Main
 pub mod Bounds
+pub mod Makers
 pub mod Drive
 pub mod KnownParts
 pub mod NetRead
