@@ -1,6 +1,6 @@
 -- The node that made each element (document 02, L6): the makers in making order, and the bytes of a netlist with them. Assumes nothing.
 use Prim.Native.Nat.{ℕ, zero, suc, _+_}
-use mathlib.Core.Bool.{cond}
+use mathlib.Core.Bool.{Bool, cond}
 use mathlib.Core.List.{List, [], _∷_, _++_}
 use lib.Dec.{eqb}
 use lib.ListN.{getD, drop, replicate}
@@ -8,7 +8,7 @@ use Rattle.calculus.specs.Answer.{Answer, good, refused}
 use Rattle.calculus.specs.Types.{size, Table, tree}
 use Rattle.calculus.specs.Terms.{Term, var, lvar, fun, app, lfun, lapp, pair, proj, fix, con, name, nodes}
 use Rattle.calculus.specs.Read.{Sheet, readSheet}
-use Rattle.calculus.specs.Net.{leftOf, Element, point, part, Net, two, wireBytes, pinBytes}
+use Rattle.calculus.specs.Net.{leftOf, Element, point, part, Net, two, wireBytes, pinBytes, netBytes}
 use Rattle.calculus.specs.Lean.{kept}
 
 -- of a term at node k: a function or fixed point names itself once for each single bit of the bound type, a constant once
@@ -61,6 +61,10 @@ elementNodeBytes (e ∷ es) ks = nodeBytes e (maker ks) ++ elementNodeBytes es (
 -- a netlist's bytes with nodes; without them they are `netBytes`
 unfoldable pub netNodeBytes : Net → List ℕ → List ℕ
 netNodeBytes m ks = elementNodeBytes (m .elements) ks ++ (wireBytes (m .wires) ++ pinBytes (m .pins))
+
+-- the one that is wished
+abbrev pub written : Bool → Net → List ℕ → List ℕ
+written plain m ks = cond plain (netBytes m) (netNodeBytes m ks)
 
 -- ---- dropping the node numbers, byte by byte
 
