@@ -10,7 +10,7 @@ use lib.Dec.{leb, ltb, eqb}
 use lib.ListN.{length, getD, set, drop}
 use lib.Seq.{getD-set-same, getD-set-other}
 use Rattle.laws.proofs.Tests.{on-cond}
-use Rattle.calculus.specs.Answer.{refused}
+use Rattle.calculus.specs.Answer.{refuse}
 use Rattle.calculus.specs.Walk.{Binder, shared, linear, Stack, under, useShared, useLinear}
 use Rattle.binders.specs.declared.Binders.{Binders}
 use Rattle.binders.specs.declared.Use.{Use}
@@ -96,7 +96,7 @@ module _ (ts ss us : List ℕ) where
   -- ---- variables
 
   module _ (place : ℕ) where
-    shared-out : (n i : ℕ) → n ≤ i → refused 10 place ≡ useShared (stackFrom ts ss us n) i place
+    shared-out : (n i : ℕ) → n ≤ i → refuse 10 place ≡ useShared (stackFrom ts ss us n) i place
     unfolding stackFrom
     shared-out zero i h = refl
     shared-out (suc n) zero h = absurd (omega arith)
@@ -116,7 +116,7 @@ module _ (ts ss us : List ℕ) where
         (λ h. shared-out n i h)
         (λ h. shared-in n i (slotOf n i) (slot-in n i h))
 
-    linear-out : (n i : ℕ) → n ≤ i → refused 10 place ≡ useLinear (stackFrom ts ss us n) i place
+    linear-out : (n i : ℕ) → n ≤ i → refuse 10 place ≡ useLinear (stackFrom ts ss us n) i place
     unfolding stackFrom
     linear-out zero i h = refl
     linear-out (suc n) zero h = absurd (omega arith)

@@ -4,7 +4,7 @@ use mathlib.Core.Bool.{Bool, true, false, cond}
 use mathlib.Core.List.{List, [], _∷_}
 use lib.Dec.{leb, ltb}
 use lib.ListN.{getD}
-use Rattle.calculus.specs.Answer.{Answer, refused}
+use Rattle.calculus.specs.Answer.{Answer, refuse}
 use Rattle.calculus.specs.Walk.{Binder, shared, linear, Stack, Found, found}
 use Rattle.binders.specs.declared.Binders.{Binders}
 use Rattle.binders.specs.declared.Use.{Use}
@@ -51,4 +51,4 @@ linearUse count i b = cond (leb count i) (use·.Refused 10) (linearAt b)
 -- a type number with the binders, or a refusal at node n
 abbrev pub saidUse : Use → Stack → ℕ → Answer Found
 saidUse (use·.Type t) st n = found t st
-saidUse (use·.Refused number) st n = refused number n
+saidUse (use·.Refused number) st n = refuse number n

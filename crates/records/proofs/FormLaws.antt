@@ -59,8 +59,8 @@ rest-bit : (k a b : ℕ) → ¬ (k ≡ 2) → ¬ (k ≡ 3) → ¬ (k ≡ 4) → 
 rest-bit k a b x y z =
     elim (decLt k 2) [
       | yes h ↦ run-at (map (ruled a b) shapes) 0 2 rec01 rec01 refl k (omega arith) h
-      | no h ↦ elim (decLt k 27) [
-        | yes l ↦ run-at (map (ruled a b) shapes) 5 22 rec01 rec01 refl k (past (past (past (omega arith) x) y) z) l
+      | no h ↦ elim (decLt k 28) [
+        | yes l ↦ run-at (map (ruled a b) shapes) 5 23 rec01 rec01 refl k (past (past (past (omega arith) x) y) z) l
         | no l ↦ List·getD-eq-default (map (ruled a b) shapes) rec01 {n = k} (omega arith)
       ]
     ]

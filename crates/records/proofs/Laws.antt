@@ -8,7 +8,7 @@ use borrow.Author.Tests.{leb-true, leb-false, lt-leb, le-leb}
 use lib.ListN.{length, getD, take, drop, length-drop}
 use lib.Seq.{getD-drop, drop-drop}
 use lib.Dec.{leb}
-use Rattle.calculus.specs.Terms.{Term, var, lvar, fun, app, lfun, lapp, pair, proj, fix, con}
+use Rattle.calculus.specs.Terms.{Term, var, lvar, fun, app, lfun, lapp, pair, proj, fix, con, name}
 use Rattle.sheet_theorems.specs.Laid.{Stands}
 use Rattle.records.specs.Record.{shapeOf, formOf, recordAt, recordOf, bodyAt, nodeIn, nodeAt}
 use Rattle.records.specs.Heads.{node, nodeOf}
@@ -87,6 +87,7 @@ stands-record term s at (pair t a b) h = record-node s at 0x17 _ (h .here) term 
 stands-record term s at (proj a e) h = record-node s at 0x18 _ (h .here) term 0 2 _ refl (omega arith)
 stands-record term s at (fix t e) h = record-node s at 0x19 _ (h .here) term 1 1 _ refl (omega arith)
 stands-record term s at (con p t) h = record-node s at 0x1A _ (h .here) term 2 0 _ refl (omega arith)
+stands-record term s at (name a e) h = record-node s at 0x1B _ (h .here) term 0 2 _ refl (omega arith)
 
 pub stands-node : (s : List ℕ) (at : ℕ) (e : Term) → Stands s at e → nodeAt s at ≡ nodeOf e at
 unfolding nodeAt

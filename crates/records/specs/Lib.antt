@@ -1,4 +1,5 @@
 pub mod Record
 pub mod Heads
 pub mod Rules
+pub mod Editions
 pub mod Forms

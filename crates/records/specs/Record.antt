@@ -1,4 +1,4 @@
--- What a kind byte fixes, and what stands at an offset of a sheet (document 01, "The sheet"). Assumes nothing.
+-- What a kind byte fixes, and what stands at an offset of a sheet (document 01, "The sheet"; document 02, L7). Assumes nothing.
 use Prim.Native.Nat.{ℕ, _+_, _-_}
 use mathlib.Core.List.{List, [], _∷_, _++_}
 use mathlib.Core.Bool.{Bool, true, cond}
@@ -15,14 +15,14 @@ use Rattle.records.specs.declared.Node.{Node}
 use Rattle.records.specs.declared.Record.{Record}
 use Rattle.records.specs.declared.Record.the-variants as rec
 
--- the table of kinds, from 00 to 1A: body, subterms, rule
+-- the table of kinds, from 00 to 1B: body, subterms, rule
 abbrev pub shapes : List Shape
 shapes =
     shape.Unknown ∷ shape.Type 0 ofType.Bit ∷ shape.Type 2 ofType.Product ∷ shape.Type 2 ofType.Arrow ∷ shape.Type 2 ofType.Linear
     ∷ replicate 12 shape.Unknown
     ++ shape.Node 1 0 rule.Variable ∷ shape.Node 1 0 rule.LinearVariable ∷ shape.Node 1 1 rule.Function ∷ shape.Node 0 2 rule.Application
     ∷ shape.Node 1 1 rule.LinearFunction ∷ shape.Node 0 2 rule.LinearApplication ∷ shape.Node 1 2 rule.Pair ∷ shape.Node 0 2 rule.Projection
-    ∷ shape.Node 1 1 rule.FixedPoint ∷ shape.Node 2 0 rule.Constant ∷ []
+    ∷ shape.Node 1 1 rule.FixedPoint ∷ shape.Node 2 0 rule.Constant ∷ shape.Node 0 2 rule.Naming ∷ []
 
 unfoldable pub shapeOf : ℕ → Shape
 shapeOf k = getD shapes k shape.Unknown

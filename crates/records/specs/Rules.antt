@@ -14,6 +14,7 @@ isLinearFunction rule.Pair = false
 isLinearFunction rule.Projection = false
 isLinearFunction rule.FixedPoint = false
 isLinearFunction rule.Constant = false
+isLinearFunction rule.Naming = false
 
 abbrev pub isPair : Rule → Bool
 isPair rule.Variable = false
@@ -26,6 +27,7 @@ isPair rule.Pair = true
 isPair rule.Projection = false
 isPair rule.FixedPoint = false
 isPair rule.Constant = false
+isPair rule.Naming = false
 
 abbrev pub isProjection : Rule → Bool
 isProjection rule.Variable = false
@@ -38,6 +40,7 @@ isProjection rule.Pair = false
 isProjection rule.Projection = true
 isProjection rule.FixedPoint = false
 isProjection rule.Constant = false
+isProjection rule.Naming = false
 
 abbrev pub isFixedPoint : Rule → Bool
 isFixedPoint rule.Variable = false
@@ -50,6 +53,7 @@ isFixedPoint rule.Pair = false
 isFixedPoint rule.Projection = false
 isFixedPoint rule.FixedPoint = true
 isFixedPoint rule.Constant = false
+isFixedPoint rule.Naming = false
 
 abbrev pub isConstant : Rule → Bool
 isConstant rule.Variable = false
@@ -62,3 +66,17 @@ isConstant rule.Pair = false
 isConstant rule.Projection = false
 isConstant rule.FixedPoint = false
 isConstant rule.Constant = true
+isConstant rule.Naming = false
+
+abbrev pub isNaming : Rule → Bool
+isNaming rule.Variable = false
+isNaming rule.LinearVariable = false
+isNaming rule.Function = false
+isNaming rule.Application = false
+isNaming rule.LinearFunction = false
+isNaming rule.LinearApplication = false
+isNaming rule.Pair = false
+isNaming rule.Projection = false
+isNaming rule.FixedPoint = false
+isNaming rule.Constant = false
+isNaming rule.Naming = true

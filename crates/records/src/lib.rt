@@ -25,6 +25,7 @@ pub enum Rule {
     Projection,
     FixedPoint,
     Constant,
+    Naming,
 }
 
 // What a kind byte fixes: the body's length, of a node the number of subterms, and the rule.
@@ -45,7 +46,7 @@ pub fn shape_of(kind: u8) -> Shape
             0x03 => Shape::Type(2, TypeRule::Arrow),
             _ => Shape::Type(2, TypeRule::Linear),
         },
-        0x11..=0x1A => match kind {
+        0x11..=0x1B => match kind {
             0x11 => Shape::Node(1, 0, Rule::Variable),
             0x12 => Shape::Node(1, 0, Rule::LinearVariable),
             0x13 => Shape::Node(1, 1, Rule::Function),
@@ -55,7 +56,8 @@ pub fn shape_of(kind: u8) -> Shape
             0x17 => Shape::Node(1, 2, Rule::Pair),
             0x18 => Shape::Node(0, 2, Rule::Projection),
             0x19 => Shape::Node(1, 1, Rule::FixedPoint),
-            _ => Shape::Node(2, 0, Rule::Constant),
+            0x1A => Shape::Node(2, 0, Rule::Constant),
+            _ => Shape::Node(0, 2, Rule::Naming),
         },
         _ => Shape::Unknown,
     }

@@ -1,10 +1,12 @@
 -- Two results that the contract of a public function allows are equal. Assumes nothing.
 use Prim.Native.Nat.{ℕ}
 use mathlib.Core.Path.{_≡_, sym, ap, ap₂, _∙_}
+use mathlib.Core.Bool.{Bool}
 use mathlib.Core.List.{List}
-use Rattle.calculus.specs.Answer.{good, refused}
-use Rattle.calculus.proofs.Answers.{refused≢good, good-inj}
-use Rattle.calculus.specs.Read.{readSheet}
+use Rattle.calculus.specs.Answer.{Refusal}
+use Rattle.calculus.proofs.Answers.{refused≢good, good-inj, refused-inj}
+use Rattle.calculus.specs.Terms.{isSecond}
+use Rattle.calculus.specs.Read.{editionOf, recordsOf, readSheet}
 use Rattle.calculus.specs.Stretch.{Stretch, stretchOf, cut}
 use Rattle.sheet.specs.Sheets.{Counts, ReadSaid, saidVerdict, saidReading, readingOf, saidBounds}
 use Rattle.sheet.specs.declared.Verdict.{Verdict}
@@ -23,8 +25,9 @@ same-verdict (verdict.Read a b c) (verdict.Read x y z) e =
 same-verdict (verdict.Read a b c) (verdict.Refused i p) e = absurd (refused≢good (sym e))
 same-verdict (verdict.Refused i p) (verdict.Read x y z) e = absurd (refused≢good e)
 same-verdict (verdict.Refused i p) (verdict.Refused j q) e =
-    let a : i ≡ j = cc in
-    let b : p ≡ q = cc in
+    let f = refused-inj e in
+    let a : i ≡ j = ap (λ (why : Refusal). why .number) f in
+    let b : p ≡ q = ap (λ (why : Refusal). why .place) f in
     rw (a, b)
 
 pub determined-read : (s : List ℕ) (r q : Reading) → saidReading r ≡ readingOf (readSheet s) → saidReading q ≡ readingOf (readSheet s) → r ≡ q
@@ -40,3 +43,10 @@ determined-bounds s node r q e f =
 -- the bytes of the part that is returned
 pub determined-stretch : (s : List ℕ) (node : ℕ) (r q : List ℕ) → r ≡ cut s (stretchOf s node) → q ≡ cut s (stretchOf s node) → r ≡ q
 determined-stretch s node r q e f = e ∙ sym f
+
+-- the edition, and the records behind the opening
+pub determined-second : (s : List ℕ) (r q : Bool) → r ≡ isSecond (editionOf s) → q ≡ isSecond (editionOf s) → r ≡ q
+determined-second s r q e f = e ∙ sym f
+
+pub determined-records : (s r q : List ℕ) → r ≡ recordsOf s → q ≡ recordsOf s → r ≡ q
+determined-records s r q e f = e ∙ sym f

@@ -10,7 +10,7 @@ use types.Run.{OneOf, miss}
 use lib.Dec.{leb}
 use lib.ListN.{length, drop, List·getD-map}
 use lib.Seq.{getD-take, getD-drop}
-use Rattle.calculus.specs.Read.{Kind, unknown, type, node, TypeKind, k01, k02, k03, k04, NodeKind, k11, k12, k13, k14, k15, k16, k17, k18, k19, k1A, kinds, kindOf, byte, typeBody, nodeBody, typeRec}
+use Rattle.calculus.specs.Read.{Kind, unknown, type, node, TypeKind, k01, k02, k03, k04, NodeKind, k11, k12, k13, k14, k15, k16, k17, k18, k19, k1A, k1B, kinds, kindOf, byte, typeBody, nodeBody, typeRec}
 use Rattle.records.specs.Forms.{saidForm}
 use Rattle.records.specs.Record.{shapeOf, formOf, recordOf, recordAt, bodyAt}
 use Rattle.records.proofs.Laws.{type-next}
@@ -46,6 +46,7 @@ nodeRule k17 = rule.Pair
 nodeRule k18 = rule.Projection
 nodeRule k19 = rule.FixedPoint
 nodeRule k1A = rule.Constant
+nodeRule k1B = rule.Naming
 
 abbrev pub kindShape : Kind → Shape
 kindShape unknown = shape.Unknown

@@ -6,10 +6,10 @@ use mathlib.Core.List.{List}
 use native.Mathlib.Omega.{arith}
 use lib.Dec.{ltb, leb, eqb, ltb→lt, leb→le}
 use lib.ListN.{length, replicate, length-replicate}
-use Rattle.calculus.specs.Answer.{Answer, good, refused, _>>=_}
-use Rattle.calculus.proofs.Answers.{refused≢good, good-inj, on-bind, on-need}
-use Rattle.calculus.specs.Terms.{Term, fun, app, lfun, lapp, pair, proj, fix}
-use Rattle.calculus.specs.Read.{kindOf, NodeKind, k11, k12, k13, k14, k15, k16, k17, k18, k19, k1A, nodeBody, nodeTyped, nodeKind, byte, headAt, Got, got, nodeAt, readTerm}
+use Rattle.calculus.specs.Answer.{Answer, good, refused, _>>=_, refuse}
+use Rattle.calculus.proofs.Answers.{refused≢good, good-inj, refused-inj, on-bind, on-need}
+use Rattle.calculus.specs.Terms.{Edition, Term, fun, app, lfun, lapp, pair, proj, fix, name}
+use Rattle.calculus.specs.Read.{kindOf, NodeKind, k11, k12, k13, k14, k15, k16, k17, k18, k19, k1A, k1B, knows, nodeBody, nodeTyped, nodeKind, byte, headAt, Got, got, nodeAt, readTerm}
 use Rattle.calculus.specs.Types.{rec01}
 use Rattle.sheet_theorems.proofs.Standing.{term-nonempty}
 use Rattle.sheet_theorems.proofs.Laying.{termed}
@@ -21,12 +21,12 @@ module _ (x y next n : ℕ) (go : ℕ → ℕ → Answer Got) where
   one : (mk : Term → Term) (m : Answer Got) → spanned (m >>= λ e. got (mk (e .term)) (e .next) (e .count)) ≡ spanned m
   unfolding spanned
   one mk (good g) = refl
-  one mk (refused a p) = refl
+  one mk (refused why) = refl
 
   two : (mk : Term → Term → Term) (m : Answer Got) → spanned (m >>= λ f. go (f .next) (f .count) >>= λ a. got (mk (f .term) (a .term)) (a .next) (a .count)) ≡ (spanned m >>= λ e. spanned (go (e .at) (e .count)))
   unfolding spanned
   two mk (good g) = one (mk (g .term)) (go (g .next) (g .count))
-  two mk (refused a p) = refl
+  two mk (refused why) = refl
 
   no-subterm : (k : NodeKind) → nodeSubs k ≡ 0 → spanned (nodeAt k x y next n go) ≡ end next n
   unfolding spanned
@@ -40,6 +40,7 @@ module _ (x y next n : ℕ) (go : ℕ → ℕ → Answer Got) where
   no-subterm k18 h = absurd (omega arith)
   no-subterm k19 h = absurd (omega arith)
   no-subterm k1A h = refl
+  no-subterm k1B h = absurd (omega arith)
 
   one-subterm : (k : NodeKind) → nodeSubs k ≡ 1 → spanned (nodeAt k x y next n go) ≡ spanned (go next n)
   one-subterm k11 h = absurd (omega arith)
@@ -52,6 +53,7 @@ module _ (x y next n : ℕ) (go : ℕ → ℕ → Answer Got) where
   one-subterm k18 h = absurd (omega arith)
   one-subterm k19 h = one (fix x) (go next n)
   one-subterm k1A h = absurd (omega arith)
+  one-subterm k1B h = absurd (omega arith)
 
   two-subterms : (k : NodeKind) → 2 ≤ nodeSubs k → spanned (nodeAt k x y next n go) ≡ (spanned (go next n) >>= λ e. spanned (go (e .at) (e .count)))
   two-subterms k11 h = absurd (omega arith)
@@ -64,6 +66,7 @@ module _ (x y next n : ℕ) (go : ℕ → ℕ → Answer Got) where
   two-subterms k18 h = two proj (go next n)
   two-subterms k19 h = absurd (omega arith)
   two-subterms k1A h = absurd (omega arith)
+  two-subterms k1B h = two name (go next n)
 
 -- ---- what an opened record tells
 
@@ -71,11 +74,11 @@ headed-good : (at : ℕ) (m : Answer NodeKind) (p q : ℕ) → opening p q ≡ h
 headed-good at (good k) p q e =
     let f = good-inj (sym e) in
     (k, refl, ap (λ (o : Opened). o .next) f, ap (λ (o : Opened). o .subterms) f)
-headed-good at (refused a b) p q e = absurd (refused≢good (sym e))
+headed-good at (refused why) p q e = absurd (refused≢good (sym e))
 
-headed-bad : (at : ℕ) (m : Answer NodeKind) (a b : ℕ) → _≡_ {A = Answer Opened} (refused a b) (headed at m) → m ≡ refused a b
+headed-bad : (at : ℕ) (m : Answer NodeKind) (a b : ℕ) → _≡_ {A = Answer Opened} (refuse a b) (headed at m) → m ≡ refuse a b
 headed-bad at (good k) a b e = absurd (refused≢good e)
-headed-bad at (refused c d) a b e = let p : c ≡ a = cc in let q : d ≡ b = cc in ap₂ {C = Answer NodeKind} refused p q
+headed-bad at (refused why) a b e = ap refused (sym (refused-inj e))
 
 -- the count and the depth are within the limits, and the record within the sheet
 pub record Within (more : ℕ) (s : List ℕ) (at n next : ℕ) : Type 0 where
@@ -84,86 +87,87 @@ pub record Within (more : ℕ) (s : List ℕ) (at n next : ℕ) : Type 0 where
   pub past : at < next
   pub in-sheet : next ≤ length s
 
-head-tells : (more : ℕ) (s : List ℕ) (types at n : ℕ) (k : NodeKind) → headAt more s types at n ≡ good k → Within more s at n (at + 1 + nodeBody k)
+head-tells : (E : Edition) (more : ℕ) (s : List ℕ) (types at n : ℕ) (k : NodeKind) → headAt E more s types at n ≡ good k → Within more s at n (at + 1 + nodeBody k)
 unfolding headAt
-head-tells more s types at n k e =
+head-tells E more s types at n k e =
     on-need (ltb at (length s)) 3 at _ k e λ h₁ e₁.
     on-bind (nodeKind (kindOf (byte s at)) at) _ k e₁ λ q h₂ e₂.
-    on-need (leb (at + 1 + nodeBody q) (length s)) 3 at _ k e₂ λ h₃ e₃.
+    on-need (knows E q) 4 at _ k e₂ λ h₀ e₀.
+    on-need (leb (at + 1 + nodeBody q) (length s)) 3 at _ k e₀ λ h₃ e₃.
     on-need (ltb n 2048) 8 at _ k e₃ λ h₄ e₄.
     on-need (ltb 0 more) 8 at _ k e₄ λ h₅ e₅.
     on-need (eqb (nodeTyped q) 0 || ltb (byte s (at + nodeTyped q)) types) 5 at _ k e₅ λ h₆ e₆.
     subst (λ (k : NodeKind). Within more s at n (at + 1 + nodeBody k)) (good-inj e₆)
     (record { few = ltb→lt n 2048 h₄; deep = ltb→lt 0 more h₅; past = omega arith; in-sheet = leb→le _ _ h₃ })
 
-module _ (s : List ℕ) (types at n : ℕ) where
-  read-step : (k : NodeKind) (m : ℕ) → 0 < m → headAt m s types at n ≡ good k
-      → readTerm m s types at n ≡ nodeAt k (byte s (at + 1)) (byte s (at + 2)) (at + 1 + nodeBody k) (n + 1) (λ a c. readTerm (m - 1) s types a c)
+module _ (E : Edition) (s : List ℕ) (types at n : ℕ) where
+  read-step : (k : NodeKind) (m : ℕ) → 0 < m → headAt E m s types at n ≡ good k
+      → readTerm E m s types at n ≡ nodeAt k (byte s (at + 1)) (byte s (at + 2)) (at + 1 + nodeBody k) (n + 1) (λ a c. readTerm E (m - 1) s types a c)
   unfolding readTerm
   read-step k zero h e = absurd (omega arith)
   read-step k (suc m) h e = let p : suc m - 1 ≡ m = omega arith in simp (e, p)
 
-  read-bad : (a b m : ℕ) → headAt m s types at n ≡ refused a b → _≡_ {A = Answer End} (refused a b) (spanned (readTerm m s types at n))
+  read-bad : (a b m : ℕ) → headAt E m s types at n ≡ refuse a b → _≡_ {A = Answer End} (refuse a b) (spanned (readTerm E m s types at n))
   unfolding readTerm spanned
   read-bad a b zero h = simp h
   read-bad a b (suc m) h = simp h
 
-module _ (more : ℕ) (s : List ℕ) (types at n : ℕ) where
-  pub open-tells : {p q : ℕ} → opening p q ≡ opens more s types at n → Within more s at n p
+module _ (E : Edition) (more : ℕ) (s : List ℕ) (types at n : ℕ) where
+  pub open-tells : {p q : ℕ} → opening p q ≡ opens E more s types at n → Within more s at n p
   unfolding opens
   open-tells {p} {q} e =
-      let (k, h, i, j) = headed-good at (headAt more s types at n) p q e in
-      rw i at (head-tells more s types at n k h)
+      let (k, h, i, j) = headed-good at (headAt E more s types at n) p q e in
+      rw i at (head-tells E more s types at n k h)
 
-  pub span-bad : {a b : ℕ} → _≡_ {A = Answer Opened} (refused a b) (opens more s types at n) → _≡_ {A = Answer End} (refused a b) (spanned (readTerm more s types at n))
+  pub span-bad : {a b : ℕ} → _≡_ {A = Answer Opened} (refuse a b) (opens E more s types at n) → _≡_ {A = Answer End} (refuse a b) (spanned (readTerm E more s types at n))
   unfolding opens
-  span-bad {a} {b} e = read-bad s types at n a b more (headed-bad at (headAt more s types at n) a b e)
+  span-bad {a} {b} e = read-bad E s types at n a b more (headed-bad at (headAt E more s types at n) a b e)
 
   -- the node that a record opens
-  opened-node : {p q : ℕ} → opening p q ≡ opens more s types at n → (k : NodeKind) × (nodeSubs k ≡ q)
-      × (readTerm more s types at n ≡ nodeAt k (byte s (at + 1)) (byte s (at + 2)) p (n + 1) (λ a c. readTerm (more - 1) s types a c))
+  opened-node : {p q : ℕ} → opening p q ≡ opens E more s types at n → (k : NodeKind) × (nodeSubs k ≡ q)
+      × (readTerm E more s types at n ≡ nodeAt k (byte s (at + 1)) (byte s (at + 2)) p (n + 1) (λ a c. readTerm E (more - 1) s types a c))
   unfolding opens
   opened-node {p} {q} e =
-      let (k, h, i, j) = headed-good at (headAt more s types at n) p q e in
-      (k, j, read-step s types at n k more (head-tells more s types at n k h .deep) h ∙ rw i)
+      let (k, h, i, j) = headed-good at (headAt E more s types at n) p q e in
+      (k, j, read-step E s types at n k more (head-tells E more s types at n k h .deep) h ∙ rw i)
 
-  pub span-none : {p q : ℕ} → opening p q ≡ opens more s types at n → q ≡ 0 → end p (n + 1) ≡ spanned (readTerm more s types at n)
+  pub span-none : {p q : ℕ} → opening p q ≡ opens E more s types at n → q ≡ 0 → end p (n + 1) ≡ spanned (readTerm E more s types at n)
   span-none e z =
       let (k, j, r) = opened-node e in
       sym (ap spanned r ∙ no-subterm _ _ _ _ _ k (j ∙ z))
 
-  pub span-one : {p q : ℕ} → opening p q ≡ opens more s types at n → q ≡ 1 → spanned (readTerm (more - 1) s types p (n + 1)) ≡ spanned (readTerm more s types at n)
+  pub span-one : {p q : ℕ} → opening p q ≡ opens E more s types at n → q ≡ 1 → spanned (readTerm E (more - 1) s types p (n + 1)) ≡ spanned (readTerm E more s types at n)
   span-one e z =
       let (k, j, r) = opened-node e in
       sym (ap spanned r ∙ one-subterm _ _ _ _ _ k (j ∙ z))
 
-  pub span-two : {p q : ℕ} → opening p q ≡ opens more s types at n → ¬ (q ≡ 0) → ¬ (q ≡ 1)
-      → (spanned (readTerm (more - 1) s types p (n + 1)) >>= λ e. spanned (readTerm (more - 1) s types (e .at) (e .count))) ≡ spanned (readTerm more s types at n)
+  pub span-two : {p q : ℕ} → opening p q ≡ opens E more s types at n → ¬ (q ≡ 0) → ¬ (q ≡ 1)
+      → (spanned (readTerm E (more - 1) s types p (n + 1)) >>= λ e. spanned (readTerm E (more - 1) s types (e .at) (e .count))) ≡ spanned (readTerm E more s types at n)
   span-two e x y =
       let (k, j, r) = opened-node e in
       sym (ap spanned r ∙ two-subterms _ _ _ _ _ k (omega arith))
 
-  pub span-two-good : {p q b c : ℕ} → opening p q ≡ opens more s types at n → ¬ (q ≡ 0) → ¬ (q ≡ 1)
-      → end b c ≡ spanned (readTerm (more - 1) s types p (n + 1)) → spanned (readTerm (more - 1) s types b c) ≡ spanned (readTerm more s types at n)
-  span-two-good e x y h = ap (λ (m : Answer End). m >>= λ e. spanned (readTerm (more - 1) s types (e .at) (e .count))) h ∙ span-two e x y
+  pub span-two-good : {p q b c : ℕ} → opening p q ≡ opens E more s types at n → ¬ (q ≡ 0) → ¬ (q ≡ 1)
+      → end b c ≡ spanned (readTerm E (more - 1) s types p (n + 1)) → spanned (readTerm E (more - 1) s types b c) ≡ spanned (readTerm E more s types at n)
+  span-two-good e x y h = ap (λ (m : Answer End). m >>= λ e. spanned (readTerm E (more - 1) s types (e .at) (e .count))) h ∙ span-two e x y
 
-  pub span-two-bad : {p q a b : ℕ} → opening p q ≡ opens more s types at n → ¬ (q ≡ 0) → ¬ (q ≡ 1)
-      → _≡_ {A = Answer End} (refused a b) (spanned (readTerm (more - 1) s types p (n + 1))) → _≡_ {A = Answer End} (refused a b) (spanned (readTerm more s types at n))
-  span-two-bad e x y h = ap (λ (m : Answer End). m >>= λ e. spanned (readTerm (more - 1) s types (e .at) (e .count))) h ∙ span-two e x y
+  pub span-two-bad : {p q a b : ℕ} → opening p q ≡ opens E more s types at n → ¬ (q ≡ 0) → ¬ (q ≡ 1)
+      → _≡_ {A = Answer End} (refuse a b) (spanned (readTerm E (more - 1) s types p (n + 1))) → _≡_ {A = Answer End} (refuse a b) (spanned (readTerm E more s types at n))
+  span-two-bad e x y h = ap (λ (m : Answer End). m >>= λ e. spanned (readTerm E (more - 1) s types (e .at) (e .count))) h ∙ span-two e x y
 
 -- a term ends behind its start
-rises : (more : ℕ) (s : List ℕ) (types at n : ℕ) (g : Got) → readTerm more s types at n ≡ good g → at < g .next
-rises more s types at n g e =
-    let t = termed (replicate types rec01) s more at n g (rw (length-replicate types rec01) e) in
+rises : (E : Edition) (more : ℕ) (s : List ℕ) (types at n : ℕ) (g : Got) → readTerm E more s types at n ≡ good g → at < g .next
+rises E more s types at n g e =
+    let t = termed E (replicate types rec01) s more at n g (rw (length-replicate types rec01) e) in
     omega (arith, t .end, term-nonempty (g .term))
 
 span-good : (at b c : ℕ) (g : Got) → at < g .next → end b c ≡ end (g .next) (g .count) → at < b
 span-good at b c g h e = let f : b ≡ g .next = ap (λ (x : End). x .at) (good-inj e) in omega arith
 
-rises-by : (more : ℕ) (s : List ℕ) (types at n b c : ℕ) (m : Answer Got) → readTerm more s types at n ≡ m → end b c ≡ spanned m → at < b
+rises-by : (E : Edition) (more : ℕ) (s : List ℕ) (types at n b c : ℕ) (m : Answer Got) → readTerm E more s types at n ≡ m → end b c ≡ spanned m → at < b
 unfolding spanned
-rises-by more s types at n b c (good g) h e = span-good at b c g (rises more s types at n g h) e
-rises-by more s types at n b c (refused i p) h e = absurd (refused≢good (sym e))
+rises-by E more s types at n b c (good g) h e = span-good at b c g (rises E more s types at n g h) e
+rises-by E more s types at n b c (refused why) h e = absurd (refused≢good (sym e))
 
-pub span-rises : (more : ℕ) (s : List ℕ) (types at n : ℕ) {b c : ℕ} → end b c ≡ spanned (readTerm more s types at n) → at < b
-span-rises more s types at n {b} {c} e = rises-by more s types at n b c (readTerm more s types at n) refl e
+pub span-rises : (E : Edition) (more : ℕ) (s : List ℕ) (types at n : ℕ) {b c : ℕ} → end b c ≡ spanned (readTerm E more s types at n) → at < b
+span-rises E more s types at n {b} {c} e = rises-by E more s types at n b c (readTerm E more s types at n) refl e

@@ -4,11 +4,11 @@ use mathlib.Core.Path.{_≡_, refl, sym, ap, _∙_}
 use mathlib.Core.List.{List}
 use native.Mathlib.Omega.{arith}
 use lib.ListN.{length, getD}
-use Rattle.calculus.specs.Answer.{Answer, good, refused}
-use Rattle.calculus.proofs.Answers.{refused≢good, good-inj}
+use Rattle.calculus.specs.Answer.{Answer, good, refused, refuse}
+use Rattle.calculus.proofs.Answers.{refused≢good, good-inj, refused-inj}
 use Rattle.calculus.specs.Types.{size, tree}
 use Rattle.calculus.specs.Terms.{nodes}
-use Rattle.calculus.specs.Read.{Sheet, readSheet}
+use Rattle.calculus.specs.Read.{Sheet, recordsOf, readSheet}
 use Rattle.calculus.specs.Write.{tableBytes}
 use Rattle.sheet_theorems.specs.Laid.{Laid}
 use Rattle.sheet_theorems.proofs.Laying.{laid}
@@ -27,7 +27,7 @@ pub record Told (s : List ℕ) (sizes : List ℕ) (types n start : ℕ) : Type 0
   pub start-is : start ≡ length (tableBytes (sheet .table))
   pub sizes-are : sizes ≡ sizesOf (sheet .table)
 
-pub told-laid : {s sizes : List ℕ} {types n start : ℕ} (t : Told s sizes types n start) → Laid s (t .sheet)
+pub told-laid : {s sizes : List ℕ} {types n start : ℕ} (t : Told s sizes types n start) → Laid (recordsOf s) (t .sheet)
 told-laid {s} t = laid s (t .sheet) (t .is)
 
 -- entry t of the sizes is the size of type t
@@ -46,19 +46,17 @@ told-by s r types n start (good σ) e h v =
       start-is = ap (λ (c : Counts). c .start) f;
       sizes-are = ap (λ (x : ReadSaid). x .sizes) h;
     }
-told-by s r types n start (refused i p) e h v = absurd (refused≢good (sym (ap saidVerdict (sym v) ∙ ap (λ (x : ReadSaid). x .answer) h)))
+told-by s r types n start (refused why) e h v = absurd (refused≢good (sym (ap saidVerdict (sym v) ∙ ap (λ (x : ReadSaid). x .answer) h)))
 
 pub told : (s : List ℕ) (r : Reading) (types n start : ℕ) → saidReading r ≡ readingOf (readSheet s) → r .verdict ≡ verdict.Read types n start → Told s (r .sizes) types n start
 told s r types n start h v = told-by s r types n start (readSheet s) refl h v
 
-untold-by : (s : List ℕ) (r : Reading) (number place : ℕ) (a : Answer Sheet) → readSheet s ≡ a → saidReading r ≡ readingOf a → r .verdict ≡ verdict.Refused number place → readSheet s ≡ refused number place
+untold-by : (s : List ℕ) (r : Reading) (number place : ℕ) (a : Answer Sheet) → readSheet s ≡ a → saidReading r ≡ readingOf a → r .verdict ≡ verdict.Refused number place → readSheet s ≡ refuse number place
 unfolding readingOf
 untold-by s r number place (good σ) e h v = absurd (refused≢good (ap saidVerdict (sym v) ∙ ap (λ (x : ReadSaid). x .answer) h))
-untold-by s r number place (refused i p) e h v =
-    let f : _≡_ {A = Answer Counts} (refused number place) (refused i p) = ap saidVerdict (sym v) ∙ ap (λ (x : ReadSaid). x .answer) h in
-    let g : _≡_ {A = Answer Sheet} (refused i p) (refused number place) = cc in
-    e ∙ g
+untold-by s r number place (refused why) e h v =
+    e ∙ ap refused (sym (refused-inj (ap saidVerdict (sym v) ∙ ap (λ (x : ReadSaid). x .answer) h)))
 
 -- a refused sheet
-pub untold : (s : List ℕ) (r : Reading) (number place : ℕ) → saidReading r ≡ readingOf (readSheet s) → r .verdict ≡ verdict.Refused number place → readSheet s ≡ refused number place
+pub untold : (s : List ℕ) (r : Reading) (number place : ℕ) → saidReading r ≡ readingOf (readSheet s) → r .verdict ≡ verdict.Refused number place → readSheet s ≡ refuse number place
 untold s r number place h v = untold-by s r number place (readSheet s) refl h v

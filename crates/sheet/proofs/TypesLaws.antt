@@ -11,7 +11,7 @@ use denote.Enum.Declared.{tagOf}
 use types.Run.{OneOf, miss}
 use lib.ListN.{length, set, length-append, List·getD-eq-default}
 use lib.Seq.{getD-at}
-use Rattle.calculus.specs.Answer.{Answer, good, refused, _>>=_}
+use Rattle.calculus.specs.Answer.{Answer, good, refused, _>>=_, numbered, refuse}
 use Rattle.calculus.proofs.Answers.{good-inj, on-bind, on-need}
 use Rattle.calculus.specs.Types.{size, TyRec, rec01, Table, tyOf, tysFrom}
 use Rattle.calculus.specs.Read.{Kind, unknown, type, node, TypeKind, k01, k02, k03, k04, kindOf, byte, typeBody, typeRec, checkType, readTypes}
@@ -46,7 +46,7 @@ module _ (s : List ℕ) (Θ : Table) (at : ℕ) where
   types-node zero e = rw e
   types-node (suc more) e = rw e
 
-  pub types-cut : (more : ℕ) (k : TypeKind) → kindOf (byte s at) ≡ type k → length s < at + 1 + typeBody k → readTypes more s Θ at ≡ refused 3 at
+  pub types-cut : (more : ℕ) (k : TypeKind) → kindOf (byte s at) ≡ type k → length s < at + 1 + typeBody k → readTypes more s Θ at ≡ refuse 3 at
   unfolding readTypes
   types-cut zero k e h = simp (e, lt-leb (at + 1 + typeBody k) (length s) h)
   types-cut (suc more) k e h = simp (e, lt-leb (at + 1 + typeBody k) (length s) h)
@@ -64,7 +64,7 @@ module _ (s : List ℕ) (Θ : Table) (at : ℕ) where
     where
       through : (c : Answer (Unit {0})) (z : ℕ) (r : Answer (Table × ℕ)) → (c >>= λ u. r) ≡ ((c >>= λ u. good z) >>= λ z. r)
       through (good u) z r = refl
-      through (refused n p) z r = refl
+      through (refused why) z r = refl
 
 -- what a size that was given tells
 size-tells : (Θ : Table) (q : TyRec) (at z : ℕ) → sizeOf Θ q at ≡ good z → (length Θ < 256) × (checkType Θ q at ≡ good tt) × (z ≡ size (tyOf (tysFrom [] Θ) q))
@@ -147,13 +147,13 @@ module _ (s : List ℕ) (at : ℕ) {f : Form} {next : ℕ} (t : TypeHere s at f 
           within = rw (t .past) (t .whole);
         }
 
-    pub type-refused : (number place : ℕ) → refused number place ≡ sizeOf Θ q at → noTypes number place ≡ typesOf (typesIn s)
+    pub type-refused : (number place : ℕ) → refuse number place ≡ sizeOf Θ q at → noTypes (numbered number place) ≡ typesOf (typesIn s)
     unfolding typesOf typesIn
     type-refused number place e = rw (went, ← e)
 
 -- ---- the end of the types
 
-types-refused : (s : List ℕ) (at count : ℕ) (sizes : List ℕ) → readTypes 256 s [] 0 ≡ refused 3 at → endOf (rec.Refused 3 at) at count sizes ≡ typesOf (typesIn s)
+types-refused : (s : List ℕ) (at count : ℕ) (sizes : List ℕ) → readTypes 256 s [] 0 ≡ refuse 3 at → endOf (rec.Refused 3 at) at count sizes ≡ typesOf (typesIn s)
 unfolding endOf typesOf typesIn
 types-refused s at count sizes e = rw e
 
@@ -174,7 +174,7 @@ module _ (s : List ℕ) (at count : ℕ) (sizes : List ℕ) (i : SoFar s at coun
   stop (node k) e h g o = all-read (types-node s (tableIn s count) at (256 - count) e) (g ∙ record-kind false s at (node k) h e ∙ sym (record-kind true s at (node k) h e))
   stop (type k) {r} e h g o = let c = type-cut s at k h e g o in rw (c .0) (cut-off (i .left ∙ types-cut s (tableIn s count) at (256 - count) k e (c .1)))
     where
-      cut-off : readTypes 256 s [] 0 ≡ refused 3 at → endOf (rec.Refused 3 at) at count sizes ≡ typesOf (typesIn s)
+      cut-off : readTypes 256 s [] 0 ≡ refuse 3 at → endOf (rec.Refused 3 at) at count sizes ≡ typesOf (typesIn s)
       cut-off e = types-refused s at count sizes e
 
   -- where no type record stands

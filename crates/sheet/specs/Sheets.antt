@@ -2,7 +2,7 @@
 use Prim.Native.Nat.{ℕ}
 use mathlib.Core.List.{List, []}
 use lib.ListN.{length}
-use Rattle.calculus.specs.Answer.{Answer, good, refused}
+use Rattle.calculus.specs.Answer.{Refusal, Answer, good, refused, refuse}
 use Rattle.calculus.specs.Terms.{nodes}
 use Rattle.calculus.specs.Read.{Sheet}
 use Rattle.calculus.specs.Write.{tableBytes}
@@ -15,7 +15,7 @@ use Rattle.sheet.specs.declared.Bounds.{Bounds}
 
 -- ---- a sheet
 
--- its number of types, its number of nodes, and where its term begins
+-- its number of types, its number of nodes, and where its term begins behind the opening
 pub record Counts : Type 0 where
   pub types : ℕ
   pub nodes : ℕ
@@ -28,7 +28,7 @@ pub record ReadSaid : Type 0 where
 
 abbrev pub saidVerdict : Verdict → Answer Counts
 saidVerdict (verdict.Read types n start) = good (record { types = types; nodes = n; start = start })
-saidVerdict (verdict.Refused number place) = refused number place
+saidVerdict (verdict.Refused number place) = refuse number place
 
 abbrev pub saidReading : Reading → ReadSaid
 saidReading r = record { answer = saidVerdict (r .verdict); sizes = r .sizes }
@@ -37,12 +37,12 @@ abbrev pub wholeSheet : ℕ → ℕ → ℕ → List ℕ → ReadSaid
 wholeSheet types n start sizes = record { answer = good (record { types = types; nodes = n; start = start }); sizes = sizes }
 
 -- no sizes where the sheet is refused
-abbrev pub noSheet : ℕ → ℕ → ReadSaid
-noSheet number place = record { answer = refused number place; sizes = sizesOf [] }
+abbrev pub noSheet : Refusal → ReadSaid
+noSheet why = record { answer = refused why; sizes = sizesOf [] }
 
 unfoldable pub readingOf : Answer Sheet → ReadSaid
 readingOf (good σ) = wholeSheet (length (σ .table)) (nodes (σ .term)) (length (tableBytes (σ .table))) (sizesOf (σ .table))
-readingOf (refused number place) = noSheet number place
+readingOf (refused why) = noSheet why
 
 -- ---- a part of the sheet
 

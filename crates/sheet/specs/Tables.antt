@@ -5,7 +5,7 @@ use mathlib.Core.Path.{_≡_}
 use mathlib.Core.List.{List, [], _∷_, _++_, map}
 use lib.Dec.{ltb}
 use lib.ListN.{length, getD, replicate}
-use Rattle.calculus.specs.Answer.{Answer, good, refused, _>>=_, need}
+use Rattle.calculus.specs.Answer.{Answer, good, refuse, _>>=_, need}
 use Rattle.calculus.specs.Types.{size, TyRec, rec01, rec02, rec03, rec04, Table, tyOf, tysFrom}
 use Rattle.calculus.specs.Read.{checkType}
 use Rattle.sheet_theorems.specs.Laid.{TableOk}
@@ -75,4 +75,4 @@ sizeOf Θ q at = do
 
 abbrev pub saidChecked : Checked → Answer ℕ
 saidChecked (checked.Size n) = good n
-saidChecked (checked.Refused number place) = refused number place
+saidChecked (checked.Refused number place) = refuse number place

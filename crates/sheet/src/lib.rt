@@ -3,9 +3,12 @@ use term::Span;
 use types::Listed;
 ghost use mathlib.Core.Path.{_≡_};
 ghost use lib.ListN.{length};
-ghost use Rattle.calculus.specs.Read.{readTerm, readSheet};
+ghost use Rattle.calculus.specs.Answer.{numbered};
+ghost use Rattle.calculus.specs.Terms.{isSecond, opening};
+ghost use Rattle.calculus.specs.Read.{readTerm, readRecords, editionOf, recordsOf, readSheet};
 ghost use Rattle.calculus.specs.Stretch.{nowhere, stretchOf, cut};
 ghost use Rattle.sheet_theorems.specs.Subterms.{skip};
+ghost use Rattle.records.specs.Editions.{editionBy};
 ghost use Rattle.sheet.specs.Nodes.{NodesFrom};
 ghost use Rattle.sheet.specs.Said.{spanned, endedOf};
 ghost use Rattle.sheet.specs.Sheets.{saidReading, noSheet, readingOf, saidBounds};
@@ -17,7 +20,7 @@ const LONGEST_SHEET: usize = 16384;
 
 const MOST_DEPTH: usize = 64;
 
-// How many types and nodes a sheet has, and where its term begins; or a refusal's number and place.
+// How many types and nodes a sheet has, and where its term begins behind the opening; or a refusal's number and place.
 pub enum Verdict {
     Read(usize, usize, usize),
     Refused(u8, usize),
@@ -30,7 +33,7 @@ pub struct Reading {
 }
 
 fn no_sheet(number: u8, place: usize) -> Reading
-    ensures { λ r. ⌜ saidReading r ≡ noSheet number place ⌝ }
+    ensures { λ r. ⌜ saidReading r ≡ noSheet (numbered number place) ⌝ }
 {
     Reading {
         verdict: Verdict::Refused(number, place),
@@ -39,10 +42,10 @@ fn no_sheet(number: u8, place: usize) -> Reading
 }
 
 // The term, then the sheet's end.
-fn read_term(s: &[u8], types: usize, start: usize, sizes: [u8; 256]) -> Reading
-    ensures { λ r. ⌜ saidReading r ≡ endedOf (spanned (readTerm 64 (now (s .entry)) types start 0)) (length (now (s .entry))) types start sizes ⌝ }
+fn read_term(s: &[u8], types: usize, start: usize, sizes: [u8; 256], second: bool) -> Reading
+    ensures { λ r. ⌜ saidReading r ≡ endedOf (spanned (readTerm (editionBy second) 64 (now (s .entry)) types start 0)) (length (now (s .entry))) types start sizes ⌝ }
 {
-    match term::span_at(s, start, 0, MOST_DEPTH, types) {
+    match term::span_at(s, start, 0, MOST_DEPTH, types, second) {
         Span::Refused(number, place) => no_sheet(number, place),
         Span::Next(end, nodes) => {
             if end == s.len() {
@@ -56,19 +59,61 @@ fn read_term(s: &[u8], types: usize, start: usize, sizes: [u8; 256]) -> Reading
     }
 }
 
-// Refusals 2 to 9.
+// The records behind the opening: refusals 3 to 9.
+fn read_records(s: &[u8], second: bool) -> Reading
+    ensures { λ r. ⌜ saidReading r ≡ readingOf (readRecords (editionBy second) (now (s .entry))) ⌝ }
+{
+    let t = types::read_types(s);
+    let listed = t.listed;
+    let sizes = t.sizes;
+    match listed {
+        Listed::Refused(number, place) => no_sheet(number, place),
+        Listed::All(count, end) => read_term(s, count, end, sizes, second),
+    }
+}
+
+// ---- the edition
+
+const OPENING: u8 = 0x31;
+
+// The first byte tells the edition.
+pub fn is_second(s: &[u8]) -> bool
+    ensures { λ r. ⌜ r ≡ isSecond (editionOf (now (s .entry))) ⌝ }
+{
+    if s.len() == 0 {
+        return false;
+    }
+    s[0] == OPENING
+}
+
+// How many bytes stand before the records.
+fn opening(s: &[u8]) -> usize
+    ensures { λ r. ⌜ r ≡ length (opening (editionOf (now (s .entry)))) ⌝ }
+{
+    if is_second(s) { 1 } else { 0 }
+}
+
+// The records, behind the opening.
+pub fn records_of<'a>(s: &'a [u8]) -> &'a [u8]
+    ensures { λ r. ⌜ now r ≡ recordsOf (now (s .entry)) ⌝ }
+{
+    let from = opening(s);
+    let end = s.len();
+    &s[from..end]
+}
+
+// Refusals 2 to 9. Offsets count the opening.
 pub fn read(s: &[u8]) -> Reading
     ensures { λ r. ⌜ saidReading r ≡ readingOf (readSheet (now (s .entry))) ⌝ }
 {
     if LONGEST_SHEET < s.len() {
         return no_sheet(2, 0);
     }
-    let t = types::read_types(s);
-    let listed = t.listed;
-    let sizes = t.sizes;
-    match listed {
-        Listed::Refused(number, place) => no_sheet(number, place),
-        Listed::All(count, end) => read_term(s, count, end, sizes),
+    let r = read_records(records_of(s), is_second(s));
+    let verdict = r.verdict;
+    match verdict {
+        Verdict::Read(_, _, _) => r,
+        Verdict::Refused(number, place) => no_sheet(number, opening(s) + place),
     }
 }
 
@@ -113,8 +158,9 @@ pub fn stretch_bounds(s: &[u8], node: usize) -> Bounds
             if nodes <= node {
                 return nowhere();
             }
-            let at = skip(s, start, node);
-            match term::span_at(s, at, 0, MOST_DEPTH, types) {
+            let second = is_second(s);
+            let at = skip(s, opening(s) + start, node);
+            match term::span_at(s, at, 0, MOST_DEPTH, types, second) {
                 Span::Refused(_, _) => nowhere(),
                 Span::Next(end, _) => {
                     let size = end - at;

@@ -4,6 +4,7 @@ use records::Record;
 use records::Rule;
 ghost use mathlib.Core.Path.{_≡_};
 ghost use Rattle.calculus.specs.Read.{readTerm};
+ghost use Rattle.records.specs.Editions.{editionBy, knownRule};
 ghost use Rattle.sheet.specs.Said.{mistyped, saidHead, limitsOf, opens, saidSpan, spanned};
 
 const MOST_NODES: usize = 2048;
@@ -28,10 +29,25 @@ fn unknown_type(r: Node, types: usize) -> bool
     }
 }
 
-// A whole node's record: count, depth, type number. `more` is how many levels of depth there may still be.
-fn limits(r: Node, at: usize, count: usize, more: usize, types: usize) -> Head
-    ensures { λ h. ⌜ saidHead h ≡ limitsOf r at count more types ⌝ }
+// The edition knows a node's rule: 1B stands in the second alone.
+fn known(rule: Rule, second: bool) -> bool
+    ensures { λ b. ⌜ b ≡ knownRule (editionBy second) rule ⌝ }
 {
+    let Rule::Naming = rule else {
+        return true;
+    };
+    second
+}
+
+// A whole node's record: kind, count, depth, type number. `more` is how many levels of depth there may still be.
+fn limits(r: Node, at: usize, count: usize, more: usize, types: usize, second: bool) -> Head
+    ensures { λ h. ⌜ saidHead h ≡ limitsOf (editionBy second) r at count more types ⌝ }
+{
+    let rule = r.rule;
+    let here = known(rule, second);
+    if !here {
+        return Head::Refused(4, at);
+    }
     if MOST_NODES <= count {
         return Head::Refused(8, at);
     }
@@ -45,11 +61,11 @@ fn limits(r: Node, at: usize, count: usize, more: usize, types: usize) -> Head
 }
 
 // The refusal of a record that cannot be read is passed on.
-fn head_at(s: &[u8], at: usize, count: usize, more: usize, types: usize) -> Head
-    ensures { λ h. ⌜ saidHead h ≡ opens more (now (s .entry)) types at count ⌝ }
+fn head_at(s: &[u8], at: usize, count: usize, more: usize, types: usize, second: bool) -> Head
+    ensures { λ h. ⌜ saidHead h ≡ opens (editionBy second) more (now (s .entry)) types at count ⌝ }
 {
     match records::record_at(s, at, true) {
-        Record::Node(r) => limits(r, at, count, more, types),
+        Record::Node(r) => limits(r, at, count, more, types, second),
         Record::Refused(number, place) => Head::Refused(number, place),
         Record::Type(_, _) => Head::Refused(4, at),
     }
@@ -62,22 +78,22 @@ pub enum Span {
 }
 
 // The term at an offset, with `count` nodes before it.
-pub fn span_at(s: &[u8], at: usize, count: usize, more: usize, types: usize) -> Span
-    ensures { λ r. ⌜ saidSpan r ≡ spanned (readTerm more (now (s .entry)) types at count) ⌝ }
+pub fn span_at(s: &[u8], at: usize, count: usize, more: usize, types: usize, second: bool) -> Span
+    ensures { λ r. ⌜ saidSpan r ≡ spanned (readTerm (editionBy second) more (now (s .entry)) types at count) ⌝ }
 {
-    match head_at(s, at, count, more, types) {
+    match head_at(s, at, count, more, types, second) {
         Head::Refused(number, place) => Span::Refused(number, place),
         Head::Opens(next, subterms) => {
             let nodes = count + 1;
             if subterms == 0 {
                 return Span::Next(next, nodes);
             }
-            let a = span_at(s, next, nodes, more - 1, types);
+            let a = span_at(s, next, nodes, more - 1, types, second);
             if subterms == 1 {
                 return a;
             }
             match a {
-                Span::Next(b, c) => span_at(s, b, c, more - 1, types),
+                Span::Next(b, c) => span_at(s, b, c, more - 1, types, second),
                 Span::Refused(number, place) => Span::Refused(number, place),
             }
         }

@@ -7,6 +7,7 @@ ghost use mathlib.Core.List.{[]};
 ghost use Prim.Native.Nat.{_+_, _≤_, _<_};
 ghost use lib.Dec.{ltb};
 ghost use lib.ListN.{length, getD};
+ghost use Rattle.calculus.specs.Answer.{numbered};
 ghost use Rattle.calculus.specs.Types.{recEq};
 ghost use Rattle.calculus.specs.Read.{repeated};
 ghost use Rattle.records.specs.Forms.{saidForm, recOf, recIn};
@@ -201,7 +202,7 @@ pub fn no_sizes() -> [u8; 256]
 }
 
 fn no_types(number: u8, place: usize) -> Types
-    ensures { λ r. ⌜ saidTypes r ≡ noTypes number place ⌝ }
+    ensures { λ r. ⌜ saidTypes r ≡ noTypes (numbered number place) ⌝ }
 {
     Types {
         listed: Listed::Refused(number, place),

@@ -19,3 +19,4 @@ pub mod TypeForms
 pub mod Editions
 pub mod Judging
 pub mod Clashing
+pub mod Places

@@ -7,24 +7,24 @@ use native.Mathlib.Omega.{arith}
 use native.Mathlib.Nat.{le-max-left, le-max-right}
 use lib.Dec.{eqb, leb}
 use lib.ListN.{length, length-append}
-use Rattle.calculus.specs.Answer.{good, _>>=_, need}
-use Rattle.calculus.proofs.Answers.{refused≢good, good-inj, on-need}
+use Rattle.calculus.specs.Answer.{good, _>>=_, aForm, clash}
+use Rattle.calculus.proofs.Answers.{refused≢good, good-inj, on-require}
 use Rattle.calculus.specs.Types.{TyRec, Table}
-use Rattle.calculus.specs.Terms.{Term, var, lvar, fun, app, lfun, lapp, pair, proj, fix, con, nodes}
+use Rattle.calculus.specs.Terms.{Edition, Term, var, lvar, fun, app, lfun, lapp, pair, proj, fix, con, name, nodes}
 use Rattle.calculus.specs.Write.{termBytes}
 use Rattle.sheet_theorems.specs.Laid.{Ranged, Stands, depth}
 use Rattle.calculus.specs.Walk.{shared, Stack, Found, found, walk}
 use Rattle.laws.proofs.Tests.{on-cond}
 use Rattle.records.specs.Forms.{recIn}
 use Rattle.records.specs.Heads.{nodeOf}
-use Rattle.records.specs.Rules.{isProjection}
+use Rattle.records.specs.Rules.{isProjection, isNaming}
 use Rattle.records.specs.declared.Rule.{Rule}
 use Rattle.records.specs.declared.Rule.the-variants as rule
-use Rattle.sheet_theorems.proofs.Standing.{fun-body, app-function, app-argument, lfun-body, lapp-function, lapp-argument, pair-first, pair-second, proj-pair, proj-body, fix-body}
+use Rattle.sheet_theorems.proofs.Standing.{fun-body, app-function, app-argument, lfun-body, lapp-function, lapp-argument, pair-first, pair-second, proj-pair, proj-body, fix-body, name-first, name-body}
 use Rattle.sheet_theorems.proofs.Complete.{Numbers}
 use Rattle.typing.specs.declared.rules.Opening.{Opening}
 use Rattle.typing.specs.declared.rules.Opening.the-variants as opening
-use Rattle.typing.specs.Steps.{kindNo, leftOf, rightOf, openingOf, opened, enterOf, betweenOf}
+use Rattle.typing.specs.Steps.{kindNo, leftOf, rightOf, openingOf, opened, enterOf, entersOf, halvesOf, betweenOf}
 use Rattle.typing.specs.Fits.{Fits}
 use Rattle.typing.proofs.Ranges.{left-in, right-in, Kept, kept}
 use Rattle.typing.proofs.WalkLaws.{firstOf, secondOf}
@@ -55,6 +55,7 @@ module _ (l : ℕ) where
   opening-in rule.Projection t q h g = tt
   opening-in rule.FixedPoint t q h g = on-cond (OpensIn l) (leb (kindNo q) 2) _ _ (λ _. h) tt
   opening-in rule.Constant t q h g = tt
+  opening-in rule.Naming t q h g = tt
 
   opened-in : (x : Opening) (t n : ℕ) (st : Stack) (o : Found) → OpensIn l x → Numbers st l → opened x t n st ≡ good o → Within l (suc (length st)) (o .stack)
   opened-in opening.Nothing t n st o h k e = subst (λ (o : Found). Within l (suc (length st)) (o .stack)) (good-inj e) (record { numbers = k; few = omega arith })
@@ -86,6 +87,7 @@ module _ (at : ℕ) where
     first-stands (proj a e) d h = moved _ (omega arith) (proj-pair h)
     first-stands (fix t e) d h = moved _ (omega arith) (fix-body h)
     first-stands (con p t) d h = absurd (d refl)
+    first-stands (name a e) d h = moved _ (omega arith) (name-first h)
 
     second-stands : (e : Term) → ¬ (subterms e ≡ 0) → ¬ (subterms e ≡ 1) → Stands s at e → Stands s (next e + length (termBytes (firstOf e))) (secondOf e)
     second-stands (var i) d f h = absurd (d refl)
@@ -98,6 +100,7 @@ module _ (at : ℕ) where
     second-stands (proj a e) d f h = moved _ (omega arith) (proj-body h)
     second-stands (fix t e) d f h = absurd (f refl)
     second-stands (con p t) d f h = absurd (d refl)
+    second-stands (name a e) d f h = moved _ (omega arith) (name-body h)
 
   -- where a term ends
 
@@ -112,6 +115,7 @@ module _ (at : ℕ) where
   end-none (proj a e) z = absurd (omega arith)
   end-none (fix t e) z = absurd (omega arith)
   end-none (con p t) z = (omega arith, refl)
+  end-none (name a e) z = absurd (omega arith)
 
   pub end-one : (e : Term) → subterms e ≡ 1 → (next e + length (termBytes (firstOf e)) ≡ at + length (termBytes e)) × (suc (nodes (firstOf e)) ≡ nodes e)
   end-one (var i) z = absurd (omega arith)
@@ -124,6 +128,7 @@ module _ (at : ℕ) where
   end-one (proj a e) z = absurd (omega arith)
   end-one (fix t e) z = (omega arith, refl)
   end-one (con p t) z = absurd (omega arith)
+  end-one (name a e) z = absurd (omega arith)
 
   both-bytes : (a b : Term) → length (termBytes a ++ termBytes b) ≡ length (termBytes a) + length (termBytes b)
   both-bytes a b = length-append (termBytes a) (termBytes b)
@@ -140,6 +145,7 @@ module _ (at : ℕ) where
   end-two (proj a e) d f = (omega (arith, both-bytes a e), refl)
   end-two (fix t e) d f = absurd (f refl)
   end-two (con p t) d f = absurd (d refl)
+  end-two (name a e) d f = (omega (arith, both-bytes a e), refl)
 
   -- depth and nodes
 
@@ -154,6 +160,7 @@ module _ (at : ℕ) where
   first-depth (proj a e) d = omega (arith, le-max-left (depth a) (depth e))
   first-depth (fix t e) d = omega arith
   first-depth (con p t) d = absurd (d refl)
+  first-depth (name a e) d = omega (arith, le-max-left (depth a) (depth e))
 
   second-depth : (e : Term) → ¬ (subterms e ≡ 0) → suc (depth (secondOf e)) ≤ depth e
   second-depth (var i) d = absurd (d refl)
@@ -166,6 +173,7 @@ module _ (at : ℕ) where
   second-depth (proj a e) d = omega (arith, le-max-right (depth a) (depth e))
   second-depth (fix t e) d = omega arith
   second-depth (con p t) d = absurd (d refl)
+  second-depth (name a e) d = omega (arith, le-max-right (depth a) (depth e))
 
   first-nodes : (e : Term) → ¬ (subterms e ≡ 0) → suc (nodes (firstOf e)) ≤ nodes e
   first-nodes (var i) d = absurd (d refl)
@@ -178,6 +186,7 @@ module _ (at : ℕ) where
   first-nodes (proj a e) d = omega arith
   first-nodes (fix t e) d = omega arith
   first-nodes (con p t) d = absurd (d refl)
+  first-nodes (name a e) d = omega arith
 
 pub depth-some : (e : Term) → 1 ≤ depth e
 depth-some (var i) = omega arith
@@ -190,6 +199,7 @@ depth-some (pair t a b) = omega arith
 depth-some (proj a e) = omega arith
 depth-some (fix t e) = omega arith
 depth-some (con p t) = omega arith
+depth-some (name a e) = omega arith
 
 pub nodes-some : (e : Term) → 1 ≤ nodes e
 nodes-some (var i) = omega arith
@@ -202,9 +212,10 @@ nodes-some (pair t a b) = omega arith
 nodes-some (proj a e) = omega arith
 nodes-some (fix t e) = omega arith
 nodes-some (con p t) = omega arith
+nodes-some (name a e) = omega arith
 
-module _ (Θ : Table) where
-  first-ranged : (e : Term) → Ranged Θ e → Ranged Θ (firstOf e)
+module _ (E : Edition) (Θ : Table) where
+  first-ranged : (e : Term) → Ranged E Θ e → Ranged E Θ (firstOf e)
   first-ranged (var i) r = r
   first-ranged (lvar i) r = r
   first-ranged (fun t e) r = r .1
@@ -215,8 +226,9 @@ module _ (Θ : Table) where
   first-ranged (proj a e) r = r .0
   first-ranged (fix t e) r = r .1
   first-ranged (con p t) r = r
+  first-ranged (name a e) r = r .1
 
-  second-ranged : (e : Term) → Ranged Θ e → Ranged Θ (secondOf e)
+  second-ranged : (e : Term) → Ranged E Θ e → Ranged E Θ (secondOf e)
   second-ranged (var i) r = r
   second-ranged (lvar i) r = r
   second-ranged (fun t e) r = r .1
@@ -227,20 +239,21 @@ module _ (Θ : Table) where
   second-ranged (proj a e) r = r .1
   second-ranged (fix t e) r = r .1
   second-ranged (con p t) r = r
+  second-ranged (name a e) r = r .2
 
 -- ---- what holds at a node holds at its subterms
 
-module _ (s : List ℕ) (at node : ℕ) (Θ : Table) (st : Stack) where
-  left-side : (e : Term) → Fits s at node Θ e st → (t : ℕ) → t < length Θ → leftOf (recIn s t) < length Θ
+module _ (s : List ℕ) (l : ℕ) (E : Edition) (at node : ℕ) (Θ : Table) (st : Stack) where
+  left-side : (e : Term) → Fits s l E at node Θ e st → (t : ℕ) → t < length Θ → leftOf (recIn s t) < length Θ
   left-side e F t h = rw (F .types t h) (left-in Θ (F .table) t h)
 
-  right-side : (e : Term) → Fits s at node Θ e st → (t : ℕ) → t < length Θ → rightOf (recIn s t) < length Θ
+  right-side : (e : Term) → Fits s l E at node Θ e st → (t : ℕ) → t < length Θ → rightOf (recIn s t) < length Θ
   right-side e F t h = rw (F .types t h) (right-in Θ (F .table) t h)
 
-  typed-in : (e : Term) → Fits s at node Θ e st → (u : Rule) (t : ℕ) → t < length Θ → (o : Found) → enterOf (recIn s) u t node st ≡ good o → Within (length Θ) (suc (length st)) (o .stack)
+  typed-in : (e : Term) → Fits s l E at node Θ e st → (u : Rule) (t : ℕ) → t < length Θ → (o : Found) → enterOf (recIn s) u t node st ≡ good o → Within (length Θ) (suc (length st)) (o .stack)
   typed-in e F u t h o g = opened-in (length Θ) (openingOf u t (recIn s t)) t node st o (opening-in (length Θ) u t (recIn s t) h (left-side e F t h)) (F .numbers) g
 
-  enter-in : (e : Term) → Fits s at node Θ e st → ¬ (nodeOf e at .subterms ≡ 0) → (o : Found)
+  enter-in : (e : Term) → Fits s l E at node Θ e st → ¬ (nodeOf e at .subterms ≡ 0) → (o : Found)
       → enterOf (recIn s) (nodeOf e at .rule) (nodeOf e at .first) node st ≡ good o → Within (length Θ) (suc (length st)) (o .stack)
   unfolding openingOf
   enter-in (var i) F d o g = absurd (d refl)
@@ -253,6 +266,7 @@ module _ (s : List ℕ) (at node : ℕ) (Θ : Table) (st : Stack) where
   enter-in (proj a e) F d o g = opened-in (length Θ) opening.Nothing 0 node st o tt (F .numbers) g
   enter-in (fix t e) F d o g = typed-in (fix t e) F rule.FixedPoint t (F .ranged .0) o g
   enter-in (con p t) F d o g = absurd (d refl)
+  enter-in (name a e) F d o g = opened-in (length Θ) opening.Nothing 0 node st o tt (F .numbers) g
 
   -- a node with one subterm binds a variable on entering
   bound-one : (b : Bool) (x : Opening) (t : ℕ) (o : Found) → ((q : Found) → opened x t node st ≡ good q → length (q .stack) ≡ length st + 1)
@@ -279,6 +293,7 @@ module _ (s : List ℕ) (at node : ℕ) (Θ : Table) (st : Stack) where
   enter-one (proj a e) z o g = absurd (omega arith)
   enter-one (fix t e) z o g = bound-one (leb (kindNo (recIn s t)) 2) (opening.Shared t) t o (bound-shared t t) g
   enter-one (con p t) z o g = absurd (omega arith)
+  enter-one (name a e) z o g = absurd (omega arith)
 
   -- a node with two subterms binds nothing on entering
   tested : (b : Bool) (t : ℕ) (o : Found) → opened (cond b opening.Nothing opening.Misfit) t node st ≡ good o → o .stack ≡ st
@@ -298,52 +313,54 @@ module _ (s : List ℕ) (at node : ℕ) (Θ : Table) (st : Stack) where
   enter-two (proj a e) d f o g = ap (λ (x : Found). x .stack) (sym (good-inj g))
   enter-two (fix t e) d f o g = absurd (f refl)
   enter-two (con p t) d f o g = absurd (d refl)
+  enter-two (name a e) d f o g = ap (λ (x : Found). x .stack) (sym (good-inj g))
 
-  module _ (e : Term) (F : Fits s at node Θ e st) (d : ¬ (nodeOf e at .subterms ≡ 0)) (o : Found)
+  module _ (e : Term) (F : Fits s l E at node Θ e st) (d : ¬ (nodeOf e at .subterms ≡ 0)) (o : Found)
       (g : enterOf (recIn s) (nodeOf e at .rule) (nodeOf e at .first) node st ≡ good o) where
-    pub fits-first : Fits s (nodeOf e at .next) (node + 1) Θ (firstOf e) (o .stack)
+    pub fits-first : Fits s l E (nodeOf e at .next) (node + 1) Θ (firstOf e) (o .stack)
     fits-first =
         let w = enter-in e F d o g in
         record {
           table = F .table;
+          count = F .count;
           types = F .types;
           stands = first-stands at s e d (F .stands);
-          ranged = first-ranged Θ e (F .ranged);
+          ranged = first-ranged E Θ e (F .ranged);
           numbers = w .numbers;
           room = omega (arith, w .few, F .room, first-depth at e d);
           few = omega (arith, F .few, first-nodes at e d);
         }
 
-    module _ (d₁ : ¬ (nodeOf e at .subterms ≡ 1)) (x : Found) (h : walk Θ (firstOf e) (node + 1) (o .stack) ≡ good x) where
+    module _ (d₁ : ¬ (nodeOf e at .subterms ≡ 1)) (x : Found) (h : walk E Θ (firstOf e) (node + 1) (o .stack) ≡ good x) where
       pub first-kept : Kept Θ (o .stack) x
-      first-kept = kept Θ (F .table) (firstOf e) (first-ranged Θ e (F .ranged)) (node + 1) (o .stack) (enter-in e F d o g .numbers) x h
+      first-kept = kept E Θ (F .table) (firstOf e) (first-ranged E Θ e (F .ranged)) (node + 1) (o .stack) (enter-in e F d o g .numbers) x h
+
+      -- what is bound between the two
+      halves-in : (u : Rule) → Within (length Θ) (length (o .stack) + 2) (halvesOf (recIn s) u (x .type) (x .stack))
+      halves-in u =
+          on-cond (Within (length Θ) (length (o .stack) + 2)) (isProjection u) (shared (rightOf (recIn s (x .type))) ∷ shared (leftOf (recIn s (x .type))) ∷ x .stack) _
+          (λ _. record { numbers = (right-side e F (x .type) (first-kept .type-in), (left-side e F (x .type) (first-kept .type-in), first-kept .numbers)); few = omega (arith, first-kept .count) })
+          (on-cond (Within (length Θ) (length (o .stack) + 2)) (isNaming u) (shared (x .type) ∷ x .stack) (x .stack)
+          (λ _. record { numbers = (first-kept .type-in, first-kept .numbers); few = omega (arith, first-kept .count) })
+          (record { numbers = first-kept .numbers; few = omega (arith, first-kept .count) }))
 
       between-in : (u : Rule) (m : Found) → betweenOf (recIn s) u node x ≡ good m → Within (length Θ) (length (o .stack) + 2) (m .stack)
       unfolding betweenOf
-      between-in u m = by-rule (isProjection u)
-        where
-          by-rule : (b : Bool)
-              → cond b (need (eqb (kindNo (recIn s (x .type))) 2) 12 node >>= λ _. found (x .type) (shared (rightOf (recIn s (x .type))) ∷ shared (leftOf (recIn s (x .type))) ∷ x .stack)) (good x) ≡ good m
-              → Within (length Θ) (length (o .stack) + 2) (m .stack)
-          by-rule true z =
-              let k : Numbers (shared (rightOf (recIn s (x .type))) ∷ shared (leftOf (recIn s (x .type))) ∷ x .stack) (length Θ) =
-              (right-side e F (x .type) (first-kept .type-in), (left-side e F (x .type) (first-kept .type-in), first-kept .numbers)) in
-              let w : Within (length Θ) (length (o .stack) + 2) (shared (rightOf (recIn s (x .type))) ∷ shared (leftOf (recIn s (x .type))) ∷ x .stack) =
-              record { numbers = k; few = omega (arith, first-kept .count) } in
-              on-need (eqb (kindNo (recIn s (x .type))) 2) 12 node (λ _. found (x .type) (shared (rightOf (recIn s (x .type))) ∷ shared (leftOf (recIn s (x .type))) ∷ x .stack)) m z λ _ y.
-              subst (λ (m : Found). Within (length Θ) (length (o .stack) + 2) (m .stack)) (good-inj y) w
-          by-rule false z = subst (λ (m : Found). Within (length Θ) (length (o .stack) + 2) (m .stack)) (good-inj z) (record { numbers = first-kept .numbers; few = omega (arith, first-kept .count) })
+      between-in u m z =
+          on-require (entersOf u (recIn s (x .type))) (clash node aForm (x .type)) (λ _. found (x .type) (halvesOf (recIn s) u (x .type) (x .stack))) m z λ _ y.
+          subst (λ (m : Found). Within (length Θ) (length (o .stack) + 2) (m .stack)) (good-inj y) (halves-in u)
 
       pub fits-second : (m : Found) → betweenOf (recIn s) (nodeOf e at .rule) node x ≡ good m
-          → Fits s (nodeOf e at .next + length (termBytes (firstOf e))) (node + 1 + nodes (firstOf e)) Θ (secondOf e) (m .stack)
+          → Fits s l E (nodeOf e at .next + length (termBytes (firstOf e))) (node + 1 + nodes (firstOf e)) Θ (secondOf e) (m .stack)
       fits-second m z =
           let w = between-in (nodeOf e at .rule) m z in
           let l : length (o .stack) ≡ length st = ap length (enter-two e d d₁ o g) in
           record {
             table = F .table;
+            count = F .count;
             types = F .types;
             stands = second-stands at s e d d₁ (F .stands);
-            ranged = second-ranged Θ e (F .ranged);
+            ranged = second-ranged E Θ e (F .ranged);
             numbers = w .numbers;
             room = omega (arith, w .few, F .room, second-depth at e d);
             few = omega (arith, F .few, end-two at e d d₁ .1);

@@ -5,24 +5,23 @@ use mathlib.Core.Bool.{Bool}
 use mathlib.Core.List.{List, [], _∷_, _++_}
 use native.Mathlib.Omega.{arith}
 use lib.Dec.{eqb, leb}
-use lib.ListN.{length, drop}
+use lib.ListN.{length, getD, drop}
 use Rattle.calculus.specs.Answer.{good}
-use Rattle.calculus.proofs.Answers.{good-inj}
-use Rattle.calculus.specs.Types.{Ty, bit, prod, arrow, lolli, sharable, tyEq, TyRec, rec01, rec02, rec03, rec04, Table, recAt, tree}
-use Rattle.calculus.specs.Terms.{Term}
+use Rattle.calculus.specs.Types.{Ty, bit, prod, arrow, lolli, sharable, tyEq, TyRec, rec01, rec02, rec03, rec04, Table, recAt, tysFrom, tree}
+use Rattle.calculus.specs.Terms.{Edition, Term}
 use Rattle.calculus.specs.Read.{Sheet}
-use Rattle.calculus.specs.Write.{tableBytes, termBytes, sheetBytes}
+use Rattle.calculus.specs.Write.{tableBytes, termBytes, recordBytes}
 use Rattle.sheet_theorems.specs.Laid.{Agrees, Below, TableOk, Ranged, Laid}
-use Rattle.calculus.specs.Rules.{Ctx}
-use Rattle.calculus.specs.Walk.{Stack, Found, walk}
+use Rattle.calculus.specs.Walk.{Stack, Found, numberFrom, typeNumber, walk}
 use Rattle.laws.proofs.Tests.{T-is}
 use Rattle.records.specs.Forms.{recOf, recFrom, recIn}
 use Rattle.records.proofs.FormLaws.{rec-long}
 use Rattle.sheet_theorems.proofs.Bytes.{first-byte, behind, within}
 use Rattle.sheet_theorems.proofs.TypeOffsets.{StandsRec, record-zero, record-later, type-stands}
-use Rattle.sheet_theorems.proofs.Sound.{Step, step-end, step-shared, step-same, step-took, derived}
-use Rattle.sheet_theorems.proofs.Complete.{Numbers, complete}
-use Rattle.typing.specs.Steps.{Types, kindNo, leftOf, rightOf, bothSides, standsFor}
+use Rattle.sheet_theorems.proofs.Tables.{tys-count}
+use Rattle.sheet_theorems.proofs.Complete.{Numbers}
+use Rattle.sheet_theorems.proofs.WalkKeeps.{kept-length, kept-numbers, walk-keeps, walk-in}
+use Rattle.typing.specs.Steps.{Types, kindNo, leftOf, rightOf, bothSides, standsFor, numberBelow}
 
 -- ---- the sheet is its own table of types
 
@@ -45,7 +44,7 @@ record-in s Θ rest ok e zero h = sym (record-zero Θ ok)
 record-in s Θ rest ok e (suc t) h = record-from s (3 * t + 1) (recAt Θ (suc t)) (record-later Θ ok t h) (type-stands s Θ rest ok e t h)
 
 pub sheet-types : (s : List ℕ) (σ : Sheet) → Laid s σ → (t : ℕ) → t < length (σ .table) → recIn s t ≡ recAt (σ .table) t
-unfolding sheetBytes
+unfolding recordBytes
 sheet-types s σ l t h = record-in s (σ .table) (termBytes (σ .term)) (l .table) (l .bytes) t h
 
 -- ---- the sides of a type in range
@@ -122,28 +121,28 @@ module _ (Θ : Table) (ok : TableOk Θ) where
     stands-for (lolli σ τ) t h =
         rw (same t h) (lolli-rec (standsFor R σ) (standsFor R τ) σ τ (recAt Θ t) (tree Θ t) (ok .agrees t) (stands-for σ _ (left-in t h), stands-for τ _ (right-in t h)))
 
+-- ---- the number of a type that a part has
+
+numbers-same : (f : ℕ → Bool) (τ : Ty) (σs : List Ty) (k : ℕ) → ((i : ℕ) → i < length σs → f (k + i) ≡ tyEq (getD σs i bit) τ) → numberBelow f (length σs) k ≡ numberFrom k σs τ
+numbers-same f τ [] k h = refl
+numbers-same f τ (σ ∷ σs) k h =
+    let z : f k ≡ tyEq σ τ = (let q : k + 0 ≡ k = omega arith in ap f (sym q)) ∙ h 0 (omega arith) in
+    let r : numberBelow f (length σs) (suc k) ≡ numberFrom (suc k) σs τ = numbers-same f τ σs (suc k) (λ i l. (let q : suc k + i ≡ k + suc i = omega arith in ap f q) ∙ h (suc i) (omega arith)) in
+    rw (z, r)
+
+pub number-is : (Θ : Table) → TableOk Θ → (R : Types) → ((t : ℕ) → t < length Θ → R t ≡ recAt Θ t) → (τ : Ty) (l : ℕ) → l ≡ length Θ → numberBelow (standsFor R τ) l 0 ≡ typeNumber Θ τ
+number-is Θ ok R same τ l e =
+    rw (e, ← tys-count Θ)
+    (numbers-same (standsFor R τ) τ (tysFrom [] Θ) 0 (λ i h. let z : 0 + i ≡ i = omega arith in rw z (stands-for Θ ok R same τ i (omega (arith, tys-count Θ)))))
+
 -- ---- the walk keeps to the table and to the binders
-
-step-length : {Θ : Table} {Γ : Ctx} {st out : Stack} → Step Θ st out Γ → length out ≡ length st
-step-length step-end = refl
-step-length (step-shared s) = ap suc (step-length s)
-step-length (step-same s) = ap suc (step-length s)
-step-length (step-took s) = ap suc (step-length s)
-
-step-numbers : {Θ : Table} {Γ : Ctx} {st out : Stack} (l : ℕ) → Step Θ st out Γ → Numbers st l → Numbers out l
-step-numbers l step-end k = k
-step-numbers l (step-shared s) k = (k .0, step-numbers l s (k .1))
-step-numbers l (step-same s) k = (k .0, step-numbers l s (k .1))
-step-numbers l (step-took s) k = (k .0, step-numbers l s (k .1))
 
 pub record Kept (Θ : Table) (st : Stack) (r : Found) : Type 0 where
   pub type-in : r .type < length Θ
   pub numbers : Numbers (r .stack) (length Θ)
   pub count : length (r .stack) ≡ length st
 
-pub kept : (Θ : Table) → TableOk Θ → (e : Term) → Ranged Θ e → (n : ℕ) (st : Stack) → Numbers st (length Θ) → (r : Found) → walk Θ e n st ≡ good r → Kept Θ st r
-kept Θ ok e ranged n st k r h =
-    let d = derived Θ ok e n st r h in
-    let a = complete Θ ok (d .typed) ranged n (d .step) k in
-    let z : a .type ≡ r .type = ap (λ (x : Found). x .type) (good-inj (sym (a .answer) ∙ h)) in
-    record { type-in = rw z at (a .type-in); numbers = step-numbers (length Θ) (d .step) k; count = step-length (d .step) }
+pub kept : (E : Edition) (Θ : Table) → TableOk Θ → (e : Term) → Ranged E Θ e → (n : ℕ) (st : Stack) → Numbers st (length Θ) → (r : Found) → walk E Θ e n st ≡ good r → Kept Θ st r
+kept E Θ ok e ranged n st k r h =
+    let q = walk-keeps E Θ e n st r h in
+    record { type-in = walk-in Θ ok E e n st r ranged k h; numbers = kept-numbers (length Θ) q k; count = kept-length q }

@@ -10,10 +10,11 @@ use native.Mathlib.Nat.{add-zero}
 use borrow.Author.Tests.{eq-eqb, ne-eqb}
 use lib.Dec.{eqb}
 use lib.ListN.{length, getD, set, drop, length-set}
-use Rattle.calculus.specs.Answer.{Answer, refused}
+use Rattle.calculus.specs.Answer.{Answer, refused, refuse, clash, aForm}
+use Rattle.calculus.specs.Terms.{Edition}
 use Rattle.calculus.specs.Walk.{shared, Stack, Found, found}
 use Rattle.laws.proofs.Tests.{on-cond}
-use Rattle.records.specs.Rules.{isProjection}
+use Rattle.records.specs.Rules.{isProjection, isNaming}
 use Rattle.records.specs.declared.Rule.{Rule}
 use Rattle.records.specs.declared.Rule.the-variants as rule
 use Rattle.records.proofs.Rule.{the-type}
@@ -21,49 +22,49 @@ use Rattle.binders.specs.declared.Binders.{Binders}
 use Rattle.binders.specs.declared.Use.{Use}
 use Rattle.binders.specs.Stacks.{binderOf, stackFrom, stackOf, slotOf, sharedUse, linearUse, saidUse}
 use Rattle.binders.proofs.Laws.{past, pushed, shared-said, linear-said}
-use Rattle.typing.specs.declared.rules.Sided.{Sided}
+use Rattle.typing.specs.declared.rules.Halves.{Halves}
 use Rattle.typing.specs.declared.rules.Opening.{Opening}
 use Rattle.typing.specs.declared.rules.Opening.the-variants as opening
 use Rattle.typing.specs.declared.rules.Binding.{Binding}
 use Rattle.typing.specs.declared.rules.Fit.{Fit}
-use Rattle.typing.specs.declared.rules.Fit.the-variants as fit
+use Rattle.typing.specs.declared.rules.Fit.the-variants as how
 use Rattle.typing.specs.declared.Verdict.{Verdict}
 use Rattle.typing.specs.declared.Verdict.the-variants as verdict
 use Rattle.typing.specs.declared.Refusal.{Refusal}
 use Rattle.typing.specs.declared.Checked.{Checked}
-use Rattle.typing.specs.Steps.{Types, sidedOf, constantOf, leafOf, openingOf, bindingOf, opened, enterOf, wantedOf, usedUp, leaveOne, betweenOf, joinedOf, closesOf, leaveTwo}
-use Rattle.typing.specs.Verdicts.{checked, halvesOf, halves, FollowsOn, Follows}
+use Rattle.typing.specs.Steps.{Types, leftOf, rightOf, constantOf, leafOf, openingOf, bindingOf, opened, enterOf, wantedOf, usedUp, leaveOne, entersOf, halvesIn, halvesOf, betweenOf, joinedOf, closesOf, leaveTwo}
+use Rattle.typing.specs.Verdicts.{checked, halves, FollowsOn, Follows}
 use Rattle.typing.specs.Fits.{Counts}
-use Rattle.typing.proofs.StepLaws.{kind-is, left-is, right-is}
 use Rattle.typing.proofs.VerdictLaws.{foundAt, follows-on, follows-at}
 
 -- ---- leaves
 
-module _ (R : Types) (w : Rule) (x y n : ℕ) (b : Binders) {i at : ℕ} (e : i ≡ x) (p : at ≡ slotOf (b .count) i) {u : Use} where
-  pub leaf-shared : w ≡ rule.Variable → u ≡ sharedUse (b .count) i (binderOf (getD (b .types) at 0) (getD (b .sorts) at 0) 0) → saidUse u (stackOf b) n ≡ leafOf R w x y n (stackOf b)
+module _ (R : Types) (l : ℕ) (E : Edition) (w : Rule) (x y n : ℕ) (b : Binders) {i at : ℕ} (e : i ≡ x) (p : at ≡ slotOf (b .count) i) {u : Use} where
+  pub leaf-shared : w ≡ rule.Variable → u ≡ sharedUse (b .count) i (binderOf (getD (b .types) at 0) (getD (b .sorts) at 0) 0) → saidUse u (stackOf b) n ≡ leafOf R l E w x y n (stackOf b)
   unfolding leafOf
   leaf-shared h g = rw (g, p, h, ← e) (shared-said (b .types) (b .sorts) (b .used) n (b .count) i)
 
   pub leaf-linear : w ≡ rule.LinearVariable → b .count ≤ length (b .used) → u ≡ linearUse (b .count) i (binderOf (getD (b .types) at 0) (getD (b .sorts) at 0) (getD (b .used) at 0))
-      → saidUse u (stackFrom (b .types) (b .sorts) (set (b .used) at 1) (b .count)) n ≡ leafOf R w x y n (stackOf b)
+      → saidUse u (stackFrom (b .types) (b .sorts) (set (b .used) at 1) (b .count)) n ≡ leafOf R l E w x y n (stackOf b)
   unfolding leafOf
-  leaf-linear h l g = rw (g, p, h, ← e) (linear-said (b .types) (b .sorts) (b .used) n (b .count) i l)
+  leaf-linear h q g = rw (g, p, h, ← e) (linear-said (b .types) (b .sorts) (b .used) n (b .count) i q)
 
 abbrev others : List ℕ
-others = 2 ∷ 3 ∷ 4 ∷ 5 ∷ 6 ∷ 7 ∷ 8 ∷ 9 ∷ []
+others = 2 ∷ 3 ∷ 4 ∷ 5 ∷ 6 ∷ 7 ∷ 8 ∷ 9 ∷ 10 ∷ []
 
-pub leaf-constant : (R : Types) (w : Rule) (x y n : ℕ) (st : Stack) → OneOf others (tagOf the-type w) → constantOf R x y n st ≡ leafOf R w x y n st
+pub leaf-constant : (R : Types) (l : ℕ) (E : Edition) (w : Rule) (x y n : ℕ) (st : Stack) → OneOf others (tagOf the-type w) → constantOf R l E x y n st ≡ leafOf R l E w x y n st
 unfolding leafOf
-leaf-constant R rule.Variable x y n st o = absurd (miss others 0 tt o)
-leaf-constant R rule.LinearVariable x y n st o = absurd (miss others 1 tt o)
-leaf-constant R rule.Function x y n st o = refl
-leaf-constant R rule.Application x y n st o = refl
-leaf-constant R rule.LinearFunction x y n st o = refl
-leaf-constant R rule.LinearApplication x y n st o = refl
-leaf-constant R rule.Pair x y n st o = refl
-leaf-constant R rule.Projection x y n st o = refl
-leaf-constant R rule.FixedPoint x y n st o = refl
-leaf-constant R rule.Constant x y n st o = refl
+leaf-constant R l E rule.Variable x y n st o = absurd (miss others 0 tt o)
+leaf-constant R l E rule.LinearVariable x y n st o = absurd (miss others 1 tt o)
+leaf-constant R l E rule.Function x y n st o = refl
+leaf-constant R l E rule.Application x y n st o = refl
+leaf-constant R l E rule.LinearFunction x y n st o = refl
+leaf-constant R l E rule.LinearApplication x y n st o = refl
+leaf-constant R l E rule.Pair x y n st o = refl
+leaf-constant R l E rule.Projection x y n st o = refl
+leaf-constant R l E rule.FixedPoint x y n st o = refl
+leaf-constant R l E rule.Constant x y n st o = refl
+leaf-constant R l E rule.Naming x y n st o = refl
 
 -- ---- entering
 
@@ -85,10 +86,10 @@ module _ (b : Binders) (L : Long b) (r : b .count < 128) where
   opens-is opening.Misfit t n h = absurd (let z : _≡_ {A = ℕ} 0 1 = cc in omega arith)
 
 module _ (R : Types) (w : Rule) (t n : ℕ) {o : Opening} {q : Binding} (e : o ≡ openingOf w t (R t)) (g : q ≡ bindingOf o) where
-  pub enter-misfit : (st : Stack) → q .fits ≡ false → refused 12 n ≡ enterOf R w t n st
+  pub enter-misfit : (st : Stack) → q .fits ≡ false → refused (clash n aForm t) ≡ enterOf R w t n st
   enter-misfit st h = by-opening o (sym e) (rw g at h)
     where
-      by-opening : (o : Opening) → openingOf w t (R t) ≡ o → bindingOf o .fits ≡ false → refused 12 n ≡ enterOf R w t n st
+      by-opening : (o : Opening) → openingOf w t (R t) ≡ o → bindingOf o .fits ≡ false → refused (clash n aForm t) ≡ enterOf R w t n st
       by-opening opening.Nothing e h = absurd (let z : _≡_ {A = ℕ} 0 1 = cc in omega arith)
       by-opening (opening.Shared u) e h = absurd (let z : _≡_ {A = ℕ} 0 1 = cc in omega arith)
       by-opening (opening.Linear u) e h = absurd (let z : _≡_ {A = ℕ} 0 1 = cc in omega arith)
@@ -108,14 +109,14 @@ binds-few opening.Misfit g = rw g (omega arith)
 
 module _ (R : Types) (w : Rule) (t n : ℕ) (st : Stack) where
   module _ (u : ℕ) {b : Bool} (e : b ≡ usedUp w st) where
-    pub leave-unused : b ≡ false → refused 14 n ≡ leaveOne R w t n (foundAt u st)
+    pub leave-unused : b ≡ false → refuse 14 n ≡ leaveOne R w t n (foundAt u st)
     unfolding leaveOne
     leave-unused h = rw (← e, h)
 
     module _ (h : b ≡ true) {v : ℕ} (g : v ≡ wantedOf w t (R t)) where
-      pub leave-misfit : ¬ (u ≡ v) → refused 12 n ≡ leaveOne R w t n (foundAt u st)
+      pub leave-misfit : {x : ℕ} → x ≡ v → ¬ (u ≡ v) → refused (clash n x u) ≡ leaveOne R w t n (foundAt u st)
       unfolding leaveOne
-      leave-misfit d = rw (← e, h, ← g, ne-eqb u v d)
+      leave-misfit q d = rw (q, ← e, h, ← g, ne-eqb u v d)
 
       pub leave-fine : u ≡ v → found t (drop 1 st) ≡ leaveOne R w t n (foundAt u st)
       unfolding leaveOne
@@ -123,53 +124,55 @@ module _ (R : Types) (w : Rule) (t n : ℕ) (st : Stack) where
 
 -- ---- between two subterms
 
-module _ (R : Types) (w : Rule) (n u : ℕ) (st : Stack) where
-  pub between-other : isProjection w ≡ false → found u (halvesOf R w u st) ≡ betweenOf R w n (foundAt u st)
+module _ (R : Types) (w : Rule) (n u : ℕ) (st : Stack) {b : Bool} (e : b ≡ entersOf w (R u)) where
+  pub between-misfit : b ≡ false → refused (clash n aForm u) ≡ betweenOf R w n (foundAt u st)
   unfolding betweenOf
-  between-other d = rw d
+  between-misfit d = rw (← e, d)
 
-  module _ (h : w ≡ rule.Projection) {q : Sided} (e : q ≡ sidedOf (R u)) where
-    pub between-misfit : ¬ (q .kind ≡ 2) → refused 12 n ≡ betweenOf R w n (foundAt u st)
-    unfolding betweenOf
-    between-misfit d = rw (h, kind-is (R u) e, ne-eqb (q .kind) 2 d)
-
-    pub between-fine : q .kind ≡ 2 → found u (halvesOf R w u st) ≡ betweenOf R w n (foundAt u st)
-    unfolding betweenOf
-    between-fine d = rw (h, kind-is (R u) e, d)
+  pub between-fine : b ≡ true → found u (halvesOf R w u st) ≡ betweenOf R w n (foundAt u st)
+  unfolding betweenOf
+  between-fine d = rw (← e, d)
 
 -- the binders after the stores of two halves, past those in scope, with m of them in scope
-abbrev pub halvedTo : Binders → ℕ → Sided → ℕ → Binders
+abbrev pub halvedTo : Binders → ℕ → Halves → ℕ → Binders
 halvedTo b c q m =
-    record { types = set (set (b .types) c (q .left)) (c + 1) (q .right); sorts = set (set (b .sorts) c 0) (c + 1) 0; used = set (set (b .used) c 0) (c + 1) 0; count = c + m }
+    record { types = set (set (b .types) c (q .first)) (c + 1) (q .second); sorts = set (set (b .sorts) c 0) (c + 1) 0; used = set (set (b .used) c 0) (c + 1) 0; count = c + m }
 
 -- the first c of the binders
 abbrev pub inScope : Binders → ℕ → Stack
 inScope b c = stackFrom (b .types) (b .sorts) (b .used) c
 
 module _ (b : Binders) (L : Long b) (c : ℕ) (r : c + 1 < 128) where
-  halves-at : (q : Sided) (x : Bool) → stackOf (halvedTo b c q (cond x 2 0)) ≡ cond x (shared (q .right) ∷ shared (q .left) ∷ inScope b c) (inScope b c)
-  halves-at q true =
+  halves-at : (x y : Bool) (t i j : ℕ)
+      → stackOf (halvedTo b c (cond x (record { first = i; second = j }) (record { first = t; second = 0 })) (cond x 2 (cond y 1 0)))
+      ≡ cond x (shared j ∷ shared i ∷ inScope b c) (cond y (shared t ∷ inScope b c) (inScope b c))
+  halves-at true y t i j =
       let z : c + 2 ≡ c + 1 + 1 = omega arith in
       rw (
         z,
-        pushed (set (b .types) c (q .left)) (set (b .sorts) c 0) (set (b .used) c 0) (q .right) 0 0 (c + 1) (rw length-set (omega arith)) (rw length-set (omega arith)) (rw length-set (omega arith)),
-        pushed (b .types) (b .sorts) (b .used) (q .left) 0 0 c (omega arith) (omega arith) (omega arith),
+        pushed (set (b .types) c i) (set (b .sorts) c 0) (set (b .used) c 0) j 0 0 (c + 1) (rw length-set (omega arith)) (rw length-set (omega arith)) (rw length-set (omega arith)),
+        pushed (b .types) (b .sorts) (b .used) i 0 0 c (omega arith) (omega arith) (omega arith),
       )
-  halves-at q false =
+  halves-at false true t i j =
+      rw (
+        past (set (b .types) c t) (set (b .sorts) c 0) (set (b .used) c 0) (c + 1) 0 0 0 (c + 1) (omega arith),
+        pushed (b .types) (b .sorts) (b .used) t 0 0 c (omega arith) (omega arith) (omega arith),
+      )
+  halves-at false false t i j =
       rw (
         add-zero c,
-        past (set (b .types) c (q .left)) (set (b .sorts) c 0) (set (b .used) c 0) (c + 1) (q .right) 0 0 c (omega arith),
-        past (b .types) (b .sorts) (b .used) c (q .left) 0 0 c (omega arith),
+        past (set (b .types) c t) (set (b .sorts) c 0) (set (b .used) c 0) (c + 1) 0 0 0 c (omega arith),
+        past (b .types) (b .sorts) (b .used) c t 0 0 c (omega arith),
       )
 
-  halves-are : (R : Types) (w : Rule) (u : ℕ) {q : Sided} {m : ℕ} → q ≡ sidedOf (R u) → m ≡ closesOf w → stackOf (halvedTo b c q m) ≡ halvesOf R w u (inScope b c)
-  unfolding closesOf
-  halves-are R w u {q} e h = rw (h, left-is (R u) e, right-is (R u) e) (halves-at q (isProjection w))
+  halves-are : (R : Types) (w : Rule) (u : ℕ) {q : Halves} {m : ℕ} → q ≡ halvesIn w u (R u) → m ≡ closesOf w → stackOf (halvedTo b c q m) ≡ halvesOf R w u (inScope b c)
+  unfolding closesOf halvesIn
+  halves-are R w u {q} e h = rw (h, e) (halves-at (isProjection w) (isNaming w) u (leftOf (R u)) (rightOf (R u)))
 
 -- two at most
 pub closes-few : (w : Rule) → closesOf w ≤ 2
 unfolding closesOf
-closes-few w = on-cond (λ (m : ℕ). m ≤ 2) (isProjection w) 2 0 (λ _. omega arith) (omega arith)
+closes-few w = on-cond (λ (m : ℕ). m ≤ 2) (isProjection w) 2 _ (λ _. omega arith) (on-cond (λ (m : ℕ). m ≤ 2) (isNaming w) 1 0 (λ _. omega arith) (omega arith))
 
 -- the second subterm, after a first one that has c binders
 module _ (R : Types) (w : Rule) (x : Checked) {f : Found → Answer Found} {v : Verdict} where
@@ -178,15 +181,15 @@ module _ (R : Types) (w : Rule) (x : Checked) {f : Found → Answer Found} {v : 
 
   pub follows-halves : Long (x .binders) → (c : ℕ) → c + 1 < 128 → Counts c x → {u i j : ℕ} → v ≡ verdict.Fine u i j
       → FollowsOn (x .verdict) (inScope (x .binders) c) v (halves R w v (inScope (x .binders) c)) f
-      → {q : Sided} {m : ℕ} → q ≡ sidedOf (R u) → m ≡ closesOf w → Follows x (checked (verdict.Fine u i j) (halvedTo (x .binders) c q m)) f
+      → {q : Halves} {m : ℕ} → q ≡ halvesIn w u (R u) → m ≡ closesOf w → Follows x (checked (verdict.Fine u i j) (halvedTo (x .binders) c q m)) f
   follows-halves L c r n {u} e F {q} {m} g h =
       follows-at x (halvedTo (x .binders) c q m) c n (rw (halves-are (x .binders) L c r R w u g h) (rw e at F))
 
 -- ---- leaving a node with two subterms
 
 module _ (R : Types) (w : Rule) (t n a u : ℕ) (st : Stack) {f : Fit} (e : f ≡ joinedOf R w t a u) where
-  pub two-misfit : f ≡ fit.Misfit → refused 12 n ≡ leaveTwo R w t n a (foundAt u st)
+  pub two-misfit : {x y : ℕ} → f ≡ how.Misfit x y → refused (clash n x y) ≡ leaveTwo R w t n a (foundAt u st)
   two-misfit h = rw (← e, h)
 
-  pub two-fine : {v : ℕ} → f ≡ fit.Type v → found v (drop (closesOf w) st) ≡ leaveTwo R w t n a (foundAt u st)
+  pub two-fine : {v : ℕ} → f ≡ how.Type v → found v (drop (closesOf w) st) ≡ leaveTwo R w t n a (foundAt u st)
   two-fine h = rw (← e, h)

@@ -8,7 +8,7 @@ use lib.ListN.{length}
 use Rattle.calculus.specs.Answer.{Answer, good, _>>=_}
 use Rattle.calculus.proofs.Answers.{on-bind}
 use Rattle.calculus.specs.Types.{Table}
-use Rattle.calculus.specs.Terms.{Term, nodes}
+use Rattle.calculus.specs.Terms.{Edition, Term, nodes}
 use Rattle.calculus.specs.Write.{termBytes}
 use Rattle.calculus.specs.Walk.{Stack, Found, walk}
 use Rattle.records.specs.Record.{nodeAt}
@@ -35,21 +35,21 @@ use Rattle.typing.proofs.FitLaws.{depth-some, nodes-some, end-none, end
 ends-as : (v : Verdict) {a b x y : ℕ} → a ≡ x → b ≡ y → EndsAt v a b → EndsAt v x y
 ends-as v {a} {b} {x} {y} e f h = subst (λ (z : ℕ). EndsAt v x z) f (subst (λ (z : ℕ). EndsAt v z b) e h)
 
-module _ {s : List ℕ} {at node : ℕ} {Θ : Table} {e : Term} {st : Stack} where
-  pub few-binders : Fits s at node Θ e st → length st ≤ 126
+module _ {s : List ℕ} {l : ℕ} {E : Edition} {at node : ℕ} {Θ : Table} {e : Term} {st : Stack} where
+  pub few-binders : Fits s l E at node Θ e st → length st ≤ 126
   few-binders F = omega (arith, F .room, depth-some e)
 
-  pub few-nodes : Fits s at node Θ e st → node < 2048
+  pub few-nodes : Fits s l E at node Θ e st → node < 2048
   few-nodes F = omega (arith, F .few, nodes-some e)
 
-  pub fits-at : {a n : ℕ} → at ≡ a → node ≡ n → Fits s at node Θ e st → Fits s a n Θ e st
-  fits-at {a} {n} p q F = subst (λ (z : ℕ). Fits s a z Θ e st) q (subst (λ (z : ℕ). Fits s z node Θ e st) p F)
+  pub fits-at : {a n : ℕ} → at ≡ a → node ≡ n → Fits s l E at node Θ e st → Fits s l E a n Θ e st
+  fits-at {a} {n} p q F = subst (λ (z : ℕ). Fits s l E a z Θ e st) q (subst (λ (z : ℕ). Fits s l E z node Θ e st) p F)
 
-  fits-kept : Fits s at node Θ e st → (r : Found) → walk Θ e node st ≡ good r → Kept Θ st r
-  fits-kept F r h = kept Θ (F .table) e (F .ranged) node st (F .numbers) r h
+  fits-kept : Fits s l E at node Θ e st → (r : Found) → walk E Θ e node st ≡ good r → Kept Θ st r
+  fits-kept F r h = kept E Θ (F .table) e (F .ranged) node st (F .numbers) r h
 
   -- after a walk there are as many binders as before
-  pub held : Fits s at node Θ e st → (x : Checked) {i j : ℕ} → Says x (walk Θ e node st) i j → {m : ℕ} → length st ≡ m → Counts m x
+  pub held : Fits s l E at node Θ e st → (x : Checked) {i j : ℕ} → Says x (walk E Θ e node st) i j → {m : ℕ} → length st ≡ m → Counts m x
   held F x X {m} l = by-verdict (x .verdict) refl
     where
       by-verdict : (v : Verdict) → x .verdict ≡ v → CountsIn m v (x .binders .count)
@@ -58,12 +58,12 @@ module _ {s : List ℕ} {at node : ℕ} {Θ : Table} {e : Term} {st : Stack} whe
 
 -- ---- at a node: what is known, place by place of the code
 
-module _ (s : List ℕ) (at node : ℕ) (st : Stack) (Θ : Table) (e : Term) where
+module _ (s : List ℕ) (l : ℕ) (E : Edition) (at node : ℕ) (st : Stack) (Θ : Table) (e : Term) where
   -- the node's record has been read
   pub record Here : Type 0 where
     pub n : Node
     pub here : n ≡ nodeAt s at
-    pub fits : Fits s at node Θ e st
+    pub fits : Fits s l E at node Θ e st
 
   -- a node with subterms has been entered
   pub record Inside : Type 0 where
@@ -85,7 +85,7 @@ module _ (s : List ℕ) (at node : ℕ) (st : Stack) (Θ : Table) (e : Term) whe
     pub opened : Opened
     pub x : Checked
     pub says :
-        Says x (walk Θ (firstOf e) (opened .count) (stackOf (opened .inside .i .binders))) (opened .start + length (termBytes (firstOf e))) (opened .count + nodes (firstOf e))
+        Says x (walk E Θ (firstOf e) (opened .count) (stackOf (opened .inside .i .binders))) (opened .start + length (termBytes (firstOf e))) (opened .count + nodes (firstOf e))
 
   -- there is a second one, and it has been entered
   pub record Middle : Type 0 where
@@ -104,12 +104,12 @@ module _ (s : List ℕ) (at node : ℕ) (st : Stack) (Θ : Table) (e : Term) whe
 
   -- the verdict on the whole term
   abbrev pub Done : Checked → Type 0
-  Done c = Says c (walk Θ e node st) (at + length (termBytes e)) (node + nodes e)
+  Done c = Says c (walk E Θ e node st) (at + length (termBytes e)) (node + nodes e)
 
 -- ---- .. and what follows there
 
-module _ {s : List ℕ} {at node : ℕ} {st : Stack} {Θ : Table} {e : Term} where
-  module _ (h : Here s at node st Θ e) where
+module _ {s : List ℕ} {l : ℕ} {E : Edition} {at node : ℕ} {st : Stack} {Θ : Table} {e : Term} where
+  module _ (h : Here s l E at node st Θ e) where
     node-is : h .n ≡ nodeOf e at
     node-is = h .here ∙ stands-node s at e (h .fits .stands)
 
@@ -120,30 +120,30 @@ module _ {s : List ℕ} {at node : ℕ} {st : Stack} {Θ : Table} {e : Term} whe
     subterms-are : h .n .subterms ≡ nodeOf e at .subterms
     subterms-are = ap (λ (n : Node). n .subterms) node-is
 
-    pub turn-leaf : h .n .subterms ≡ 0 → {c : Checked} → Says c (leafOf (recIn s) (h .n .rule) (h .n .first) (h .n .second) node st) (h .n .next) (node + 1) → Done s at node st Θ e c
+    pub turn-leaf : h .n .subterms ≡ 0 → {c : Checked} → Says c (leafOf (recIn s) l E (h .n .rule) (h .n .first) (h .n .second) node st) (h .n .next) (node + 1) → Done s l E at node st Θ e c
     turn-leaf z {c} w =
         let F = h .fits in
         let z₁ : nodeOf e at .subterms ≡ 0 = sym subterms-are ∙ z in
         record {
-          answer = w .answer ∙ ap (λ (n : Node). leafOf (recIn s) (n .rule) (n .first) (n .second) node st) node-is ∙ walk-leaf (recIn s) Θ (F .table) (F .types) at node st (F .numbers) e (F .ranged) z₁;
+          answer = w .answer ∙ ap (λ (n : Node). leafOf (recIn s) l E (n .rule) (n .first) (n .second) node st) node-is ∙ walk-leaf (recIn s) E Θ (F .table) (F .types) at node st (F .numbers) l (F .count) e (F .ranged) z₁;
           ends = ends-as (c .verdict) (ap (λ (n : Node). n .next) node-is ∙ end-none at e z₁ .0) (omega (arith, end-none at e z₁ .1)) (w .ends);
         }
 
-  module _ (h : Inside s at node st Θ e) where
+  module _ (h : Inside s l E at node st Θ e) where
     some-is : ¬ (nodeOf e at .subterms ≡ 0)
     some-is z = h .some (subterms-are (h .place) ∙ z)
 
     entered : said (h .i) ≡ enterOf (recIn s) (nodeOf e at .rule) (nodeOf e at .first) node st
     entered = h .says .answer ∙ ap (λ (n : Node). enterOf (recIn s) (n .rule) (n .first) node st) (node-is (h .place))
 
-    steps : walk Θ e node st ≡ (said (h .i) >>= λ o. walk Θ (firstOf e) (node + 1) (o .stack) >>= after (recIn s) Θ e node)
-    steps = let F = h .place .fits in walk-steps (recIn s) Θ (F .table) (F .types) at node st (F .numbers) e (F .ranged) some-is ∙ rw entered refl
+    steps : walk E Θ e node st ≡ (said (h .i) >>= λ o. walk E Θ (firstOf e) (node + 1) (o .stack) >>= after (recIn s) E Θ e node)
+    steps = let F = h .place .fits in walk-steps (recIn s) E Θ (F .table) (F .types) at node st (F .numbers) e (F .ranged) some-is ∙ rw entered refl
 
     -- refused on entering
-    pub turn-refused : {r : Refusal} → h .i .verdict ≡ verdict.Refused r → Done s at node st Θ e (h .i)
+    pub turn-refused : {r : Refusal} → h .i .verdict ≡ verdict.Refused r → Done s l E at node st Θ e (h .i)
     turn-refused v = record { answer = stops (h .i) _ v refl ∙ sym steps; ends = refused-ends (h .i) _ _ v }
 
-  module _ (h : Opened s at node st Θ e) where
+  module _ (h : Opened s l E at node st Θ e) where
     start-is : (h .start ≡ h .inside .place .n .next) × (h .count ≡ node + 1)
     start-is = rw (h .fine) at (h .inside .says .ends)
 
@@ -156,59 +156,59 @@ module _ {s : List ℕ} {at node : ℕ} {st : Stack} {Θ : Table} {e : Term} whe
     pub turn-falls : length s - h .start < length s - at
     turn-falls = omega (arith, node-ends (h .inside .place), start-is .0)
 
-    pub turn-first : Fits s (h .start) (h .count) Θ (firstOf e) (stackOf (h .inside .i .binders))
-    turn-first = fits-at (sym next-is) (sym (start-is .1)) (fits-first s at node Θ st e (h .inside .place .fits) (some-is (h .inside)) _ inside-is)
+    pub turn-first : Fits s l E (h .start) (h .count) Θ (firstOf e) (stackOf (h .inside .i .binders))
+    turn-first = fits-at (sym next-is) (sym (start-is .1)) (fits-first s l E at node Θ st e (h .inside .place .fits) (some-is (h .inside)) _ inside-is)
 
-  module _ (h : First s at node st Θ e) where
-    first-said : said (h .x) ≡ walk Θ (firstOf e) (node + 1) (stackOf (h .opened .inside .i .binders))
-    first-said = h .says .answer ∙ ap (λ (z : ℕ). walk Θ (firstOf e) z (stackOf (h .opened .inside .i .binders))) (start-is (h .opened) .1)
+  module _ (h : First s l E at node st Θ e) where
+    first-said : said (h .x) ≡ walk E Θ (firstOf e) (node + 1) (stackOf (h .opened .inside .i .binders))
+    first-said = h .says .answer ∙ ap (λ (z : ℕ). walk E Θ (firstOf e) z (stackOf (h .opened .inside .i .binders))) (start-is (h .opened) .1)
 
     -- the rest of the walk
-    rest : walk Θ e node st ≡ (said (h .x) >>= after (recIn s) Θ e node)
+    rest : walk E Θ e node st ≡ (said (h .x) >>= after (recIn s) E Θ e node)
     rest = steps (h .opened .inside) ∙ rw (said-fine (h .opened .inside .i) (h .opened .fine), first-said) refl
 
     -- a node with one subterm binds a variable, one with two binds none on entering
     pub turn-held-one : h .opened .inside .place .n .subterms ≡ 1 → {m : ℕ} → length st ≡ m → Counts (m + 1) (h .x)
-    turn-held-one z l =
+    turn-held-one z q =
         held (turn-first (h .opened)) (h .x) (h .says)
-        (enter-one s at node Θ st e (sym (subterms-are (h .opened .inside .place)) ∙ z) _ (inside-is (h .opened)) ∙ ap (λ (k : ℕ). k + 1) l)
+        (enter-one s l E at node Θ st e (sym (subterms-are (h .opened .inside .place)) ∙ z) _ (inside-is (h .opened)) ∙ ap (λ (k : ℕ). k + 1) q)
 
     pub turn-held-two : ¬ (h .opened .inside .place .n .subterms ≡ 1) → {m : ℕ} → length st ≡ m → Counts m (h .x)
-    turn-held-two d l =
+    turn-held-two d q =
         held (turn-first (h .opened)) (h .x) (h .says)
-        (ap length (enter-two s at node Θ st e (some-is (h .opened .inside)) (λ z. d (subterms-are (h .opened .inside .place) ∙ z)) _ (inside-is (h .opened))) ∙ l)
+        (ap length (enter-two s l E at node Θ st e (some-is (h .opened .inside)) (λ z. d (subterms-are (h .opened .inside .place) ∙ z)) _ (inside-is (h .opened))) ∙ q)
 
     pub turn-one : h .opened .inside .place .n .subterms ≡ 1 → {c : Checked}
-        → Follows (h .x) c (leaveOne (recIn s) (h .opened .inside .place .n .rule) (h .opened .inside .place .n .first) node) → Done s at node st Θ e c
+        → Follows (h .x) c (leaveOne (recIn s) (h .opened .inside .place .n .rule) (h .opened .inside .place .n .first) node) → Done s l E at node st Θ e c
     turn-one z {c} w =
         let N = node-is (h .opened .inside .place) in
         let z₁ : nodeOf e at .subterms ≡ 1 = sym (subterms-are (h .opened .inside .place)) ∙ z in
         record {
-          answer = w .answer ∙ bind-same (said (h .x)) (λ a _. ap (λ (n : Node). leaveOne (recIn s) (n .rule) (n .first) node a) N ∙ after-one (recIn s) Θ at node a e z₁) ∙ sym rest;
+          answer = w .answer ∙ bind-same (said (h .x)) (λ a _. ap (λ (n : Node). leaveOne (recIn s) (n .rule) (n .first) node a) N ∙ after-one (recIn s) E Θ at node a e z₁) ∙ sym rest;
           ends = ends-as (c .verdict) (ap (λ (k : ℕ). k + length (termBytes (firstOf e))) (next-is (h .opened)) ∙ end-one at e z₁ .0) (omega (arith, start-is (h .opened) .1, end-one at e z₁ .1)) (w .ends _ _ (h .says .ends));
         }
 
-  module _ (h : Middle s at node st Θ e) where
+  module _ (h : Middle s l E at node st Θ e) where
     two-is : ¬ (nodeOf e at .subterms ≡ 1)
     two-is z = h .two (subterms-are (h .first .opened .inside .place) ∙ z)
 
     abbrev second : Found → Answer Found
-    second y = walk Θ (secondOf e) (node + 1 + nodes (firstOf e)) (y .stack) >>= leaveTwo (recIn s) (nodeOf e at .rule) (nodeOf e at .first) node (y .type)
+    second y = walk E Θ (secondOf e) (node + 1 + nodes (firstOf e)) (y .stack) >>= leaveTwo (recIn s) (nodeOf e at .rule) (nodeOf e at .first) node (y .type)
 
     middle-said : said (h .m) ≡ (said (h .first .x) >>= betweenOf (recIn s) (nodeOf e at .rule) node)
     middle-said = h .follows .answer ∙ ap (λ (n : Node). said (h .first .x) >>= betweenOf (recIn s) (n .rule) node) (node-is (h .first .opened .inside .place))
 
-    rest-two : walk Θ e node st ≡ (said (h .m) >>= second)
+    rest-two : walk E Θ e node st ≡ (said (h .m) >>= second)
     rest-two =
-        rest (h .first) ∙ bind-same (said (h .first .x)) (λ a _. sym (after-two (recIn s) Θ at node a e (some-is (h .first .opened .inside)) two-is))
+        rest (h .first) ∙ bind-same (said (h .first .x)) (λ a _. sym (after-two (recIn s) E Θ at node a e (some-is (h .first .opened .inside)) two-is))
         ∙ sym (bind-assoc (said (h .first .x)) (betweenOf (recIn s) (nodeOf e at .rule) node) second) ∙ ap (λ (z : Answer Found). z >>= second) (sym middle-said)
 
     -- refused in the first subterm, or between the two
-    pub turn-halfway : {r : Refusal} → h .m .verdict ≡ verdict.Refused r → Done s at node st Θ e (h .m)
+    pub turn-halfway : {r : Refusal} → h .m .verdict ≡ verdict.Refused r → Done s l E at node st Θ e (h .m)
     turn-halfway v = record { answer = stops (h .m) second v refl ∙ sym rest-two; ends = refused-ends (h .m) _ _ v }
 
-  module _ (h : Second s at node st Θ e) where
-    abbrev o : Opened s at node st Θ e
+  module _ (h : Second s l E at node st Θ e) where
+    abbrev o : Opened s l E at node st Θ e
     o = h .middle .first .opened
 
     mid-is : (h .start ≡ o .start + length (termBytes (firstOf e))) × (h .count ≡ o .count + nodes (firstOf e))
@@ -220,20 +220,20 @@ module _ {s : List ℕ} {at node : ℕ} {st : Stack} {Θ : Table} {e : Term} whe
     pub turn-falls-again : length s - h .start < length s - at
     turn-falls-again = omega (arith, node-ends (o .inside .place), start-is o .0, mid-is .0)
 
-    pub turn-second : Fits s (h .start) (h .count) Θ (secondOf e) (stackOf (h .middle .m .binders))
+    pub turn-second : Fits s l E (h .start) (h .count) Θ (secondOf e) (stackOf (h .middle .m .binders))
     turn-second =
         on-bind (said (h .middle .first .x)) (betweenOf (recIn s) (nodeOf e at .rule) node) (foundAt (h .u) (stackOf (h .middle .m .binders))) (sym (middle-said (h .middle)) ∙ said-fine (h .middle .m) (h .fine)) λ a g k.
         fits-at (ap (λ (z : ℕ). z + length (termBytes (firstOf e))) (sym (next-is o)) ∙ sym (mid-is .0)) (sym count-is)
-        (fits-second s at node Θ st e (o .inside .place .fits) (some-is (o .inside)) _ (inside-is o) (two-is (h .middle)) a (sym (first-said (h .middle .first)) ∙ g) _ k)
+        (fits-second s l E at node Θ st e (o .inside .place .fits) (some-is (o .inside)) _ (inside-is o) (two-is (h .middle)) a (sym (first-said (h .middle .first)) ∙ g) _ k)
 
-    pub turn-two : (y c : Checked) → Says y (walk Θ (secondOf e) (h .count) (stackOf (h .middle .m .binders))) (h .start + length (termBytes (secondOf e))) (h .count + nodes (secondOf e))
-        → Follows y c (leaveTwo (recIn s) (o .inside .place .n .rule) (o .inside .place .n .first) node (h .u)) → Done s at node st Θ e c
+    pub turn-two : (y c : Checked) → Says y (walk E Θ (secondOf e) (h .count) (stackOf (h .middle .m .binders))) (h .start + length (termBytes (secondOf e))) (h .count + nodes (secondOf e))
+        → Follows y c (leaveTwo (recIn s) (o .inside .place .n .rule) (o .inside .place .n .first) node (h .u)) → Done s l E at node st Θ e c
     turn-two y c Y w =
-        let E = end-two at e (some-is (o .inside)) (two-is (h .middle)) in
+        let N = end-two at e (some-is (o .inside)) (two-is (h .middle)) in
         record {
           answer =
               w .answer ∙ ap (λ (n : Node). said y >>= leaveTwo (recIn s) (n .rule) (n .first) node (h .u)) (node-is (o .inside .place))
-              ∙ ap (λ (z : Answer Found). z >>= leaveTwo (recIn s) (nodeOf e at .rule) (nodeOf e at .first) node (h .u)) (Y .answer ∙ ap (λ (z : ℕ). walk Θ (secondOf e) z (stackOf (h .middle .m .binders))) count-is)
+              ∙ ap (λ (z : Answer Found). z >>= leaveTwo (recIn s) (nodeOf e at .rule) (nodeOf e at .first) node (h .u)) (Y .answer ∙ ap (λ (z : ℕ). walk E Θ (secondOf e) z (stackOf (h .middle .m .binders))) count-is)
               ∙ sym (rest-two (h .middle) ∙ rw (said-fine (h .middle .m) (h .fine)) refl);
-          ends = ends-as (c .verdict) (omega (arith, mid-is .0, next-is o, E .0)) (omega (arith, count-is, E .1)) (w .ends _ _ (Y .ends));
+          ends = ends-as (c .verdict) (omega (arith, mid-is .0, next-is o, N .0)) (omega (arith, count-is, N .1)) (w .ends _ _ (Y .ends));
         }

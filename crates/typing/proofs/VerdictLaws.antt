@@ -14,7 +14,7 @@ use Rattle.typing.specs.declared.Verdict.{Verdict}
 use Rattle.typing.specs.declared.Verdict.the-variants as verdict
 use Rattle.typing.specs.declared.Refusal.{Refusal}
 use Rattle.typing.specs.declared.Checked.{Checked}
-use Rattle.typing.specs.Verdicts.{said, refusedOf, settledOf, checked, EndsAt, Says, FollowsOn, Follows}
+use Rattle.typing.specs.Verdicts.{saidWhy, saidVerdict, said, settledOf, checked, EndsAt, Says, FollowsOn, Follows}
 use Rattle.typing.specs.Fits.{Counts, CountsIn}
 
 -- a type and a stack
@@ -28,14 +28,19 @@ module _ (b : Binders) {a : Answer Found} (next count : ℕ) where
   unfolding said
   says-fine t h = record { answer = h; ends = (refl, refl) }
 
-  pub says-refused : {v : Verdict} (number place : ℕ) → v ≡ refusedOf number place → refused number place ≡ a → Says (checked v b) a next count
+  pub says-refused : {v : Verdict} (why : Refusal) → v ≡ verdict.Refused why → refused (saidWhy why) ≡ a → Says (checked v b) a next count
   unfolding said
-  says-refused number place e h = subst⁻¹ (λ (v : Verdict). Says (checked v b) a next count) e (record { answer = h; ends = tt })
+  says-refused why e h = subst⁻¹ (λ (v : Verdict). Says (checked v b) a next count) e (record { answer = h; ends = tt })
 
 -- a leaf, by what its use gives
 pub says-settled : (u : Use) (b : Binders) {a : Answer Found} (next node : ℕ) {v : Verdict} → v ≡ settledOf u next node → saidUse u (stackOf b) node ≡ a → Says (checked v b) a next (node + 1)
 says-settled (use·.Type t) b {a} next node e h = subst⁻¹ (λ (v : Verdict). Says (checked v b) a next (node + 1)) e (says-fine b next (node + 1) t h)
-says-settled (use·.Refused number) b next node e h = says-refused b next (node + 1) number node e h
+says-settled (use·.Refused number) b next node e h = says-refused b next (node + 1) _ e h
+
+-- a verdict on its own, with the binders as they are
+pub says-told : (v : Verdict) (b : Binders) {a : Answer Found} (next count : ℕ) → saidVerdict v (stackOf b) ≡ a → EndsAt v next count → Says (checked v b) a next count
+unfolding said
+says-told v b next count h k = record { answer = h; ends = k }
 
 -- ---- what a verdict says
 
@@ -44,7 +49,7 @@ module _ (c : Checked) where
   unfolding said
   said-fine e = rw e
 
-  pub said-refused : {r : Refusal} → c .verdict ≡ verdict.Refused r → said c ≡ refused (r .number) (r .place)
+  pub said-refused : {r : Refusal} → c .verdict ≡ verdict.Refused r → said c ≡ refused (saidWhy r)
   unfolding said
   said-refused e = rw e
 
@@ -62,8 +67,8 @@ module _ (v : Verdict) (st out : Stack) (f : Found → Answer Found) where
   on-refused e = record { answer = rw e; ends = λ next count h. h }
 
   module _ {t i j : ℕ} (e : v ≡ verdict.Fine t i j) where
-    pub on-stopped : {w : Verdict} (number place : ℕ) → w ≡ refusedOf number place → refused number place ≡ f (foundAt t st) → FollowsOn v st w out f
-    on-stopped number place q h = subst⁻¹ (λ (w : Verdict). FollowsOn v st w out f) q (record { answer = rw e h; ends = λ next count h. tt })
+    pub on-stopped : {w : Verdict} (why : Refusal) → w ≡ verdict.Refused why → refused (saidWhy why) ≡ f (foundAt t st) → FollowsOn v st w out f
+    on-stopped why q h = subst⁻¹ (λ (w : Verdict). FollowsOn v st w out f) q (record { answer = rw e h; ends = λ next count h. tt })
 
     pub on-fine : (s : ℕ) → found s out ≡ f (foundAt t st) → FollowsOn v st (verdict.Fine s i j) out f
     on-fine s h = record { answer = rw e h; ends = λ next count g. rw e at g }

@@ -4,7 +4,7 @@ use mathlib.Core.Path.{_≡_}
 use mathlib.Core.List.{List}
 use lib.ListN.{length}
 use Rattle.calculus.specs.Types.{Table, recAt}
-use Rattle.calculus.specs.Terms.{Term, nodes}
+use Rattle.calculus.specs.Terms.{Edition, Term, nodes}
 use Rattle.calculus.specs.Write.{termBytes}
 use Rattle.sheet_theorems.specs.Laid.{TableOk, Stands, Ranged, depth}
 use Rattle.calculus.specs.Walk.{Stack, walk}
@@ -15,25 +15,26 @@ use Rattle.typing.specs.declared.Verdict.{Verdict}
 use Rattle.typing.specs.declared.Verdict.the-variants as verdict
 use Rattle.typing.specs.Verdicts.{Says}
 
--- a term stands at an offset, of a sheet that is its own table of types; a level of the term binds two variables at most
-pub record Fits (s : List ℕ) (at node : ℕ) (Θ : Table) (e : Term) (st : Stack) : Type 0 where
+-- a term stands at an offset, of a sheet that is its own table of l types; a level of the term binds two variables at most
+pub record Fits (s : List ℕ) (l : ℕ) (E : Edition) (at node : ℕ) (Θ : Table) (e : Term) (st : Stack) : Type 0 where
   pub table : TableOk Θ
+  pub count : l ≡ length Θ
   pub types : (t : ℕ) → t < length Θ → recIn s t ≡ recAt Θ t
   pub stands : Stands s at e
-  pub ranged : Ranged Θ e
+  pub ranged : Ranged E Θ e
   pub numbers : Numbers st (length Θ)
   pub room : length st + 2 * depth e ≤ 128
   pub few : node + nodes e ≤ 2048
 
 -- some term does
-pub record Ready (s : List ℕ) (at node : ℕ) (st : Stack) : Type 0 where
+pub record Ready (s : List ℕ) (l : ℕ) (E : Edition) (at node : ℕ) (st : Stack) : Type 0 where
   pub table : Table
   pub term : Term
-  pub fits : Fits s at node table term st
+  pub fits : Fits s l E at node table term st
 
 -- the walk's verdict on whichever term stands there
-abbrev pub Walked : List ℕ → ℕ → ℕ → Stack → Checked → Type 0
-Walked s at node st c = (Θ : Table) (e : Term) → Fits s at node Θ e st → Says c (walk Θ e node st) (at + length (termBytes e)) (node + nodes e)
+abbrev pub Walked : List ℕ → ℕ → Edition → ℕ → ℕ → Stack → Checked → Type 0
+Walked s l E at node st c = (Θ : Table) (e : Term) → Fits s l E at node Θ e st → Says c (walk E Θ e node st) (at + length (termBytes e)) (node + nodes e)
 
 -- a verdict that is fine has so many binders
 abbrev pub CountsIn : ℕ → Verdict → ℕ → Type 0

@@ -1,23 +1,25 @@
 -- The typing walk in the steps of the code, over the sheet's own type records: leaves, entering, between two subterms, leaving.
 -- Assumes nothing.
-use Prim.Native.Nat.{ℕ}
+use Prim.Native.Nat.{ℕ, zero, suc}
 use mathlib.Core.Bool.{Bool, true, false, _&&_, cond}
 use mathlib.Core.List.{_∷_}
 use lib.Dec.{leb, ltb, eqb}
 use lib.ListN.{length, drop}
-use Rattle.calculus.specs.Answer.{Answer, good, refused, _>>=_, need}
+use Rattle.calculus.specs.Answer.{Answer, refused, _>>=_, clash, aForm, need, fit}
 use Rattle.calculus.specs.Types.{Ty, bit, prod, arrow, lolli, TyRec, rec01, rec02, rec03, rec04}
-use Rattle.calculus.specs.Terms.{parts, partAt}
+use Rattle.calculus.specs.Terms.{Edition, first, second, parts, partAt}
 use Rattle.calculus.specs.Walk.{shared, linear, Stack, Found, found, useShared, useLinear, topUsed}
-use Rattle.records.specs.Rules.{isLinearFunction, isProjection, isFixedPoint}
+use Rattle.records.specs.Rules.{isLinearFunction, isProjection, isFixedPoint, isNaming}
 use Rattle.records.specs.declared.Rule.{Rule}
 use Rattle.records.specs.declared.Rule.the-variants as rule
 use Rattle.typing.specs.declared.rules.Sided.{Sided}
 use Rattle.typing.specs.declared.rules.Opening.{Opening}
 use Rattle.typing.specs.declared.rules.Opening.the-variants as opening
 use Rattle.typing.specs.declared.rules.Binding.{Binding}
+use Rattle.parts.specs.Table.{Entry}
+use Rattle.typing.specs.declared.rules.Halves.{Halves}
 use Rattle.typing.specs.declared.rules.Fit.{Fit}
-use Rattle.typing.specs.declared.rules.Fit.the-variants as fit
+use Rattle.typing.specs.declared.rules.Fit.the-variants as how
 
 -- the records of the types, by number
 abbrev pub Types : Type 0
@@ -59,25 +61,36 @@ standsFor R (prod σ τ) t = bothSides 2 (R t) (standsFor R σ) (standsFor R τ)
 standsFor R (arrow σ τ) t = bothSides 3 (R t) (standsFor R σ) (standsFor R τ)
 standsFor R (lolli σ τ) t = bothSides 4 (R t) (standsFor R σ) (standsFor R τ)
 
--- 15, then 12
-unfoldable pub constantOf : Types → ℕ → ℕ → ℕ → Stack → Answer Found
-constantOf R p t n st = do
+-- the first of m numbers from k on that passes a test, or 256
+abbrev pub numberBelow : (ℕ → Bool) → ℕ → ℕ → ℕ
+numberBelow f zero k = aForm
+numberBelow f (suc m) k = cond (f k) k (numberBelow f m (suc k))
+
+-- the type of a part in an edition
+abbrev pub tyIn : Entry → Edition → Ty
+tyIn x first = x .in-first
+tyIn x second = x .in-second
+
+-- 15, then 12; of l types
+unfoldable pub constantOf : Types → ℕ → Edition → ℕ → ℕ → ℕ → Stack → Answer Found
+constantOf R l E p t n st = do
   _ ← need (ltb p (length parts)) 15 n
-  _ ← need (standsFor R (partAt p .type) t) 12 n
+  _ ← fit (standsFor R (partAt p .type E) t) n (numberBelow (standsFor R (partAt p .type E)) l 0) t
   found t st
 
 -- by rule, with the record's two bytes
-unfoldable pub leafOf : Types → Rule → ℕ → ℕ → ℕ → Stack → Answer Found
-leafOf R rule.Variable x y n st = useShared st x n
-leafOf R rule.LinearVariable x y n st = useLinear st x n
-leafOf R rule.Function x y n st = constantOf R x y n st
-leafOf R rule.Application x y n st = constantOf R x y n st
-leafOf R rule.LinearFunction x y n st = constantOf R x y n st
-leafOf R rule.LinearApplication x y n st = constantOf R x y n st
-leafOf R rule.Pair x y n st = constantOf R x y n st
-leafOf R rule.Projection x y n st = constantOf R x y n st
-leafOf R rule.FixedPoint x y n st = constantOf R x y n st
-leafOf R rule.Constant x y n st = constantOf R x y n st
+unfoldable pub leafOf : Types → ℕ → Edition → Rule → ℕ → ℕ → ℕ → Stack → Answer Found
+leafOf R l E rule.Variable x y n st = useShared st x n
+leafOf R l E rule.LinearVariable x y n st = useLinear st x n
+leafOf R l E rule.Function x y n st = constantOf R l E x y n st
+leafOf R l E rule.Application x y n st = constantOf R l E x y n st
+leafOf R l E rule.LinearFunction x y n st = constantOf R l E x y n st
+leafOf R l E rule.LinearApplication x y n st = constantOf R l E x y n st
+leafOf R l E rule.Pair x y n st = constantOf R l E x y n st
+leafOf R l E rule.Projection x y n st = constantOf R l E x y n st
+leafOf R l E rule.FixedPoint x y n st = constantOf R l E x y n st
+leafOf R l E rule.Constant x y n st = constantOf R l E x y n st
+leafOf R l E rule.Naming x y n st = constantOf R l E x y n st
 
 -- ---- entering
 
@@ -96,6 +109,7 @@ openingOf rule.Pair t q = whereKind 2 q opening.Nothing
 openingOf rule.Projection t q = opening.Nothing
 openingOf rule.FixedPoint t q = cond (leb (kindNo q) 2) (opening.Shared t) opening.Misfit
 openingOf rule.Constant t q = opening.Nothing
+openingOf rule.Naming t q = opening.Nothing
 
 -- an opening as numbers
 abbrev pub bindingOf : Opening → Binding
@@ -108,7 +122,7 @@ abbrev pub opened : Opening → ℕ → ℕ → Stack → Answer Found
 opened opening.Nothing t n st = found t st
 opened (opening.Shared x) t n st = found t (shared x ∷ st)
 opened (opening.Linear x) t n st = found t (linear x false ∷ st)
-opened opening.Misfit t n st = refused 12 n
+opened opening.Misfit t n st = refused (clash n aForm t)
 
 abbrev pub enterOf : Types → Rule → ℕ → ℕ → Stack → Answer Found
 enterOf R u t n st = opened (openingOf u t (R t)) t n st
@@ -125,46 +139,60 @@ usedUp u st = cond (isLinearFunction u) (topUsed st) true
 unfoldable pub leaveOne : Types → Rule → ℕ → ℕ → Found → Answer Found
 leaveOne R u t n x = do
   _ ← need (usedUp u (x .stack)) 14 n
-  _ ← need (eqb (x .type) (wantedOf u t (R t))) 12 n
+  _ ← fit (eqb (x .type) (wantedOf u t (R t))) n (wantedOf u t (R t)) (x .type)
   found t (drop 1 (x .stack))
 
 -- ---- between two subterms
 
--- on entering a projection's body: 12
+-- the form that the rule wants of the first subterm's type: a product at a projection, a sharable type at 1B
+unfoldable pub entersOf : Rule → TyRec → Bool
+entersOf u q = cond (isProjection u) (eqb (kindNo q) 2) (cond (isNaming u) (leb (kindNo q) 2) true)
+
+-- the types that are bound by a first subterm of type t: a projection's two halves, or t itself
+unfoldable pub halvesIn : Rule → ℕ → TyRec → Halves
+halvesIn u t q = cond (isProjection u) (record { first = leftOf q; second = rightOf q }) (record { first = t; second = 0 })
+
+-- the binders on entering a second subterm: of a projection's two variables the second is nearer
+abbrev pub halvesOf : Types → Rule → ℕ → Stack → Stack
+halvesOf R u t st = cond (isProjection u) (shared (rightOf (R t)) ∷ shared (leftOf (R t)) ∷ st) (cond (isNaming u) (shared t ∷ st) st)
+
+-- on entering a second subterm: 12
 unfoldable pub betweenOf : Types → Rule → ℕ → Found → Answer Found
-betweenOf R u n x =
-    cond (isProjection u)
-    (need (eqb (kindNo (R (x .type))) 2) 12 n >>= λ _. found (x .type) (shared (rightOf (R (x .type))) ∷ shared (leftOf (R (x .type))) ∷ x .stack))
-    (good x)
+betweenOf R u n x = do
+  _ ← fit (entersOf u (R (x .type))) n aForm (x .type)
+  found (x .type) (halvesOf R u (x .type) (x .stack))
 
 -- ---- leaving a node with two subterms
 
-unfoldable pub appliedOf : TyRec → ℕ → ℕ → Fit
-appliedOf q k a = cond (eqb (kindNo q) k) (cond (eqb a (leftOf q)) (fit.Type (rightOf q)) fit.Misfit) fit.Misfit
+-- a function of type f, whose record is q, an arrow of kind k, at an argument of type a
+unfoldable pub appliedOf : TyRec → ℕ → ℕ → ℕ → Fit
+appliedOf q k f a = cond (eqb (kindNo q) k) (cond (eqb a (leftOf q)) (how.Type (rightOf q)) (how.Misfit (leftOf q) a)) (how.Misfit aForm f)
 
+-- the first half that differs is named
 unfoldable pub pairedOf : TyRec → ℕ → ℕ → ℕ → Fit
-pairedOf q t a b = cond (eqb a (leftOf q)) (cond (eqb b (rightOf q)) (fit.Type t) fit.Misfit) fit.Misfit
+pairedOf q t a b = cond (eqb a (leftOf q)) (cond (eqb b (rightOf q)) (how.Type t) (how.Misfit (rightOf q) b)) (how.Misfit (leftOf q) a)
 
 -- the types a and b of the subterms to the type of the node
 unfoldable pub joinedOf : Types → Rule → ℕ → ℕ → ℕ → Fit
-joinedOf R rule.Variable t a b = fit.Type b
-joinedOf R rule.LinearVariable t a b = fit.Type b
-joinedOf R rule.Function t a b = fit.Type b
-joinedOf R rule.Application t a b = appliedOf (R a) 3 b
-joinedOf R rule.LinearFunction t a b = fit.Type b
-joinedOf R rule.LinearApplication t a b = appliedOf (R a) 4 b
+joinedOf R rule.Variable t a b = how.Type b
+joinedOf R rule.LinearVariable t a b = how.Type b
+joinedOf R rule.Function t a b = how.Type b
+joinedOf R rule.Application t a b = appliedOf (R a) 3 a b
+joinedOf R rule.LinearFunction t a b = how.Type b
+joinedOf R rule.LinearApplication t a b = appliedOf (R a) 4 a b
 joinedOf R rule.Pair t a b = pairedOf (R t) t a b
-joinedOf R rule.Projection t a b = fit.Type b
-joinedOf R rule.FixedPoint t a b = fit.Type b
-joinedOf R rule.Constant t a b = fit.Type b
+joinedOf R rule.Projection t a b = how.Type b
+joinedOf R rule.FixedPoint t a b = how.Type b
+joinedOf R rule.Constant t a b = how.Type b
+joinedOf R rule.Naming t a b = how.Type b
 
 -- the binders that go out of scope
 unfoldable pub closesOf : Rule → ℕ
-closesOf u = cond (isProjection u) 2 0
+closesOf u = cond (isProjection u) 2 (cond (isNaming u) 1 0)
 
 abbrev pub fitted : Fit → ℕ → ℕ → Stack → Answer Found
-fitted (fit.Type t) closes n st = found t (drop closes st)
-fitted fit.Misfit closes n st = refused 12 n
+fitted (how.Type t) closes n st = found t (drop closes st)
+fitted (how.Misfit wanted found) closes n st = refused (clash n wanted found)
 
 abbrev pub leaveTwo : Types → Rule → ℕ → ℕ → ℕ → Found → Answer Found
 leaveTwo R u t n a y = fitted (joinedOf R u t a (y .type)) (closesOf u) n (y .stack)

@@ -1,44 +1,46 @@
 -- What the walk's verdict says: a type number with the binders, or a refusal; and where a term ends. Assumes nothing.
 use Prim.Native.Nat.{ℕ, _+_}
 use mathlib.Core.Path.{_≡_}
-use mathlib.Core.Bool.{cond}
-use mathlib.Core.List.{_∷_}
-use Rattle.calculus.specs.Answer.{Answer, refused, _>>=_}
-use Rattle.calculus.specs.Walk.{shared, Stack, Found, found}
-use Rattle.records.specs.Rules.{isProjection}
+use Rattle.calculus.specs.Answer.{Refusal, Answer, refused, _>>=_}
+use Rattle.calculus.specs.Walk.{Stack, Found, found}
 use Rattle.records.specs.declared.Rule.{Rule}
 use Rattle.binders.specs.Stacks.{stackOf}
 use Rattle.binders.specs.declared.Binders.{Binders}
 use Rattle.binders.specs.declared.Use.{Use}
 use Rattle.binders.specs.declared.Use.the-variants as use·
+use Rattle.typing.specs.declared.Refusal.{Refusal as Why}
 use Rattle.typing.specs.declared.Verdict.{Verdict}
 use Rattle.typing.specs.declared.Verdict.the-variants as verdict
 use Rattle.typing.specs.declared.Checked.{Checked}
-use Rattle.typing.specs.Steps.{Types, leftOf, rightOf}
+use Rattle.typing.specs.Steps.{Types, halvesOf}
+
+abbrev pub saidWhy : Why → Refusal
+saidWhy r = record { number = r .number; place = r .place; wanted = r .wanted; found = r .found }
 
 abbrev pub saidVerdict : Verdict → Stack → Answer Found
 saidVerdict (verdict.Fine t next count) st = found t st
-saidVerdict (verdict.Refused r) st = refused (r .number) (r .place)
+saidVerdict (verdict.Refused r) st = refused (saidWhy r)
 
 unfoldable pub said : Checked → Answer Found
 said c = saidVerdict (c .verdict) (stackOf (c .binders))
 
 abbrev pub refusedOf : ℕ → ℕ → Verdict
-refusedOf number place = verdict.Refused (record { number = number; place = place })
+refusedOf number place = verdict.Refused (record { number = number; place = place; wanted = 0; found = 0 })
+
+-- 12, with the type number wanted and the one found
+abbrev pub clashOf : ℕ → ℕ → ℕ → Verdict
+clashOf node wanted found = verdict.Refused (record { number = 12; place = node; wanted = wanted; found = found })
 
 -- a verdict with its binders
 abbrev pub checked : Verdict → Binders → Checked
 checked v b = record { verdict = v; binders = b }
 
--- the verdict on a leaf, node n, that ends at `next`
+-- the verdict on a variable, node n, that ends at `next`
 abbrev pub settledOf : Use → ℕ → ℕ → Verdict
 settledOf (use·.Type t) next n = verdict.Fine t next (n + 1)
 settledOf (use·.Refused number) next n = refusedOf number n
 
--- the binders on entering a second subterm: a projection binds the halves of the first one's type t, the second half nearer
-abbrev pub halvesOf : Types → Rule → ℕ → Stack → Stack
-halvesOf R u t st = cond (isProjection u) (shared (rightOf (R t)) ∷ shared (leftOf (R t)) ∷ st) st
-
+-- the binders on entering a second subterm, by the verdict on the first
 abbrev pub halves : Types → Rule → Verdict → Stack → Stack
 halves R u (verdict.Fine t next count) st = halvesOf R u t st
 halves R u (verdict.Refused r) st = st

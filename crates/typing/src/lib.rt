@@ -1,6 +1,7 @@
-// The typing walk (document 01, "Numbers of the refusals": 10 to 15), on type numbers. Places are node numbers.
+// The typing walk (document 01, "Numbers of the refusals": 10 to 15; document 02, L3 and L7), on type numbers. Places are node numbers.
 use binders::Binders;
 use binders::Use;
+use parts::Named;
 use records::Node;
 use records::Rule;
 use rules::Fit;
@@ -10,18 +11,21 @@ ghost use Prim.Native.Nat.{ℕ, _+_, _<_, _≤_};
 ghost use lib.ListN.{drop};
 ghost use Rattle.calculus.specs.Walk.{Stack};
 ghost use Rattle.records.specs.Forms.{recIn};
+ghost use Rattle.records.specs.Editions.{editionBy};
 ghost use Rattle.binders.specs.Stacks.{binderOf, stackOf};
-ghost use Rattle.typing.specs.Steps.{leafOf, usedUp, leaveOne, betweenOf, closesOf, leaveTwo};
-ghost use Rattle.typing.specs.Verdicts.{refusedOf, checked, settledOf, halves, Says, FollowsOn, Follows};
+ghost use Rattle.typing.specs.Steps.{constantOf, leafOf, usedUp, leaveOne, betweenOf, closesOf, leaveTwo};
+ghost use Rattle.typing.specs.Verdicts.{saidVerdict, refusedOf, clashOf, checked, settledOf, halves, EndsAt, Says, FollowsOn, Follows};
 ghost use Rattle.typing.specs.Answers.{saidTyping, checkOf, Read};
 ghost use Rattle.typing.specs.Fits.{Ready, Walked, Counts};
 
 mod rules;
 
-// A refusal: its number and its place. Callers pass it on unread.
+// A refusal: its number and its place, and for 12 the type number wanted and the one found. Callers pass it on unread.
 pub struct Refusal {
     pub number: u8,
     pub place: usize,
+    pub wanted: u16,
+    pub found: u8,
 }
 
 // A term's type number, the offset past it and the nodes up to there; or a refusal.
@@ -40,7 +44,24 @@ pub struct Checked {
 fn refused(number: u8, place: usize) -> Verdict
     ensures { λ r. ⌜ r ≡ refusedOf number place ⌝ }
 {
-    Verdict::Refused(Refusal { number, place })
+    Verdict::Refused(Refusal {
+        number,
+        place,
+        wanted: 0,
+        found: 0,
+    })
+}
+
+// 12 at a node, with the type number wanted and the one found.
+fn clash(node: usize, wanted: u16, found: u8) -> Verdict
+    ensures { λ r. ⌜ r ≡ clashOf node wanted found ⌝ }
+{
+    Verdict::Refused(Refusal {
+        number: 12,
+        place: node,
+        wanted,
+        found,
+    })
 }
 
 // A verdict that ends the walk, with the binders as they are.
@@ -55,7 +76,7 @@ fn stopped(v: Verdict, b: Binders) -> Checked
 
 // ---- leaves
 
-// The verdict on a leaf, node `node`.
+// The verdict on a variable, node `node`.
 fn settled(u: Use, next: usize, node: usize) -> Verdict
     requires { ⌜ node < 2048 ⌝ }
     ensures { λ r. ⌜ r ≡ settledOf u next node ⌝ }
@@ -70,27 +91,52 @@ fn settled(u: Use, next: usize, node: usize) -> Verdict
     }
 }
 
+// A constant: 15, then 12.
+fn constant(s: &[u8], n: Node, node: usize, types: usize, second: bool) -> Verdict
+    requires { ⌜ (node < 2048) × (types ≤ 256) ⌝ }
+    ensures { λ r. ⌜ ((st : Stack) → saidVerdict r st ≡ constantOf (recIn (now (s .entry))) types (editionBy second) (n .first) (n .second) node st) × EndsAt r (n .next) (node + 1) ⌝ }
+{
+    let t = n.second;
+    match parts::part_at(n.first) {
+        Named::Unknown => refused(15, node),
+        Named::Part(part) => {
+            if rules::is_type_of(s, t, part, second) {
+                return Verdict::Fine {
+                    ty: t,
+                    next: n.next,
+                    count: node + 1,
+                };
+            }
+            clash(node, rules::type_number(s, types, part, second), t)
+        }
+    }
+}
+
 // A node without subterms. A linear variable is marked whatever the answer: after a refusal nobody looks at the marks.
-fn leaf(s: &[u8], n: Node, node: usize, b: Binders) -> Checked
-    requires { ⌜ (b .count ≤ 128) × (node < 2048) ⌝ }
-    ensures { λ r. ⌜ Says r (leafOf (recIn (now (s .entry))) (n .rule) (n .first) (n .second) node (stackOf b)) (n .next) (node + 1) ⌝ }
+fn leaf(s: &[u8], n: Node, node: usize, b: Binders, types: usize, second: bool) -> Checked
+    requires { ⌜ (b .count ≤ 128) × (node < 2048) × (types ≤ 256) ⌝ }
+    ensures { λ r. ⌜ Says r (leafOf (recIn (now (s .entry))) types (editionBy second) (n .rule) (n .first) (n .second) node (stackOf b)) (n .next) (node + 1) ⌝ }
 {
     let mut own = b;
     let c = own.count;
     let i = records::wide(n.first);
     let k = binders::slot(c, i);
     let rule = n.rule;
-    let u = match rule {
-        Rule::Variable => binders::use_shared(c, i, own.types[k], own.sorts[k]),
+    let verdict = match rule {
+        Rule::Variable => settled(
+            binders::use_shared(c, i, own.types[k], own.sorts[k]),
+            n.next,
+            node,
+        ),
         Rule::LinearVariable => {
             let taken = binders::use_linear(c, i, own.types[k], own.sorts[k], own.used[k]);
             own.used[k] = 1;
-            taken
+            settled(taken, n.next, node)
         }
-        _ => rules::constant(s, n.first, n.second),
+        _ => constant(s, n, node, types, second),
     };
     Checked {
-        verdict: settled(u, n.next, node),
+        verdict,
         binders: own,
     }
 }
@@ -123,7 +169,7 @@ fn after_one(s: &[u8], n: Node, node: usize, v: Verdict, used: bool) -> Verdict
         return refused(14, node);
     }
     if ty != body {
-        return refused(12, node);
+        return clash(node, rules::number(body), ty);
     }
     Verdict::Fine {
         ty: n.first,
@@ -150,7 +196,7 @@ fn leave_one(s: &[u8], n: Node, node: usize, c: usize, x: Checked) -> Checked
 
 // ---- between two subterms
 
-// On entering a projection's body: 12 if the first subterm is no product.
+// On entering the second subterm: 12 if the first is no product at a projection, or not sharable at 1B.
 fn between(s: &[u8], rule: Rule, node: usize, v: Verdict) -> Verdict
     ensures { λ r. ⌜ ((st : Stack) → FollowsOn v st r (halves (recIn (now (s .entry))) rule r st) (betweenOf (recIn (now (s .entry))) rule node)) ⌝ }
 {
@@ -162,14 +208,10 @@ fn between(s: &[u8], rule: Rule, node: usize, v: Verdict) -> Verdict
     else {
         return v;
     };
-    let Rule::Projection = rule else {
+    if rules::enters(s, rule, ty) {
         return v;
-    };
-    if rules::sides_of(s, ty).kind == 2 {
-        v
-    } else {
-        refused(12, node)
     }
+    clash(node, rules::FORM, ty)
 }
 
 // ---- leaving a node with two subterms
@@ -183,12 +225,12 @@ fn after_two(s: &[u8], n: Node, node: usize, a: u8, v: Verdict) -> Verdict
     };
     let rule = n.rule;
     match rules::joined(s, rule, n.first, a, ty) {
-        Fit::Misfit => refused(12, node),
+        Fit::Misfit(wanted, found) => clash(node, wanted, found),
         Fit::Type(t) => Verdict::Fine { ty: t, next, count },
     }
 }
 
-// A projection's variables, from c, go out of scope.
+// The variables that were bound between the two, from c, go out of scope.
 fn leave_two(s: &[u8], n: Node, node: usize, a: u8, c: usize, y: Checked) -> Checked
     requires { ⌜ Counts (c + closesOf (n .rule)) y ⌝ }
     ensures { λ r. ⌜ Follows y r (leaveTwo (recIn (now (s .entry))) (n .rule) (n .first) node a) ⌝ }
@@ -207,18 +249,18 @@ fn leave_two(s: &[u8], n: Node, node: usize, a: u8, c: usize, y: Checked) -> Che
 // The term at an offset, node `node`, under the binders in scope. Each subterm has fewer bytes left, and there are at most 64 levels.
 // The binders go through the first subterm into the second with their marks. What a node binds is stored here, past the scope where
 // it binds nothing: to pass the binders through a function costs a copy each time.
-fn walk(s: &[u8], at: usize, node: usize, b: Binders) -> Checked
-    requires { ⌜ Ready (now s) at node (stackOf b) ⌝ }
-    ensures { λ r. ⌜ Walked (now (s .entry)) at node (stackOf b) r ⌝ }
+fn walk(s: &[u8], at: usize, node: usize, b: Binders, types: usize, second: bool) -> Checked
+    requires { ⌜ Ready (now s) types (editionBy second) at node (stackOf b) ⌝ }
+    ensures { λ r. ⌜ Walked (now (s .entry)) types (editionBy second) at node (stackOf b) r ⌝ }
 {
     let n = records::node_at(s, at);
     if n.subterms == 0 {
-        return leaf(s, n, node, b);
+        return leaf(s, n, node, b, types, second);
     }
     let rule = n.rule;
     let o = rules::bound(rules::opens(s, rule, n.first));
     if !o.fits {
-        return stopped(refused(12, node), b);
+        return stopped(clash(node, rules::FORM, n.first), b);
     }
     let mut own = b;
     let c = own.count;
@@ -226,7 +268,7 @@ fn walk(s: &[u8], at: usize, node: usize, b: Binders) -> Checked
     own.sorts[c] = o.sort;
     own.used[c] = 0;
     own.count = c + o.count;
-    let x = walk(s, n.next, node + 1, own);
+    let x = walk(s, n.next, node + 1, own, types, second);
     if n.subterms == 1 {
         return leave_one(s, n, node, c, x);
     }
@@ -236,16 +278,16 @@ fn walk(s: &[u8], at: usize, node: usize, b: Binders) -> Checked
     let Verdict::Fine { ty, next, count } = v else {
         return stopped(v, own);
     };
-    let q = rules::sides_of(s, ty);
-    own.types[c] = q.left;
+    let q = rules::halves_of(s, rule, ty);
+    own.types[c] = q.first;
     own.sorts[c] = 0;
     own.used[c] = 0;
     let d = c + 1;
-    own.types[d] = q.right;
+    own.types[d] = q.second;
     own.sorts[d] = 0;
     own.used[d] = 0;
     own.count = c + rules::closes(rule);
-    leave_two(s, n, node, ty, c, walk(s, next, count, own))
+    leave_two(s, n, node, ty, c, walk(s, next, count, own, types, second))
 }
 
 // The type of a sheet's term, by its number, or a refusal.
@@ -254,13 +296,13 @@ pub enum Typing {
     Refused(Refusal),
 }
 
-// The walk over a sheet that has been read, whose term starts at an offset.
-pub fn check(s: &[u8], at: usize) -> Typing
-    requires { ⌜ Read (now s) at ⌝ }
-    ensures { λ r. ⌜ saidTyping r ≡ checkOf (now (s .entry)) ⌝ }
+// The walk over the records of a sheet that has been read, with so many types, whose term starts at an offset.
+pub fn check(s: &[u8], at: usize, types: usize, second: bool) -> Typing
+    requires { ⌜ Read (now s) types (editionBy second) at ⌝ }
+    ensures { λ r. ⌜ saidTyping r ≡ checkOf (editionBy second) (now (s .entry)) ⌝ }
 {
     let b = binders::none();
-    let r = walk(s, at, 0, b);
+    let r = walk(s, at, 0, b, types, second);
     let v = r.verdict;
     match v {
         Verdict::Fine {

@@ -1,16 +1,14 @@
-// What the typing rules say of type numbers: constants, what a node binds, and the type of a node by its subterms'.
-use binders::Use;
-use parts::Named;
+// What the typing rules say of type numbers: the types of parts, what a node binds, and the type of a node by its subterms'.
+use parts::Part;
 use records::Form;
 use records::Rule;
 ghost use mathlib.Core.Path.{_≡_};
-ghost use Prim.Native.Nat.{ℕ, _≤_};
-ghost use Rattle.calculus.specs.Types.{bit};
-ghost use Rattle.calculus.specs.Walk.{Stack};
+ghost use Prim.Native.Nat.{_≤_};
+ghost use Rattle.calculus.specs.Types.{bit, prod, arrow};
 ghost use Rattle.records.specs.Forms.{recIn};
-ghost use Rattle.parts.specs.Table.{shapeTy};
-ghost use Rattle.binders.specs.Stacks.{saidUse};
-ghost use Rattle.typing.specs.Steps.{sidedOf, standsFor, constantOf, openingOf, bindingOf, wantedOf, appliedOf, pairedOf, joinedOf, closesOf};
+ghost use Rattle.records.specs.Editions.{editionBy};
+ghost use Rattle.parts.specs.Table.{shapeTy, saidPart};
+ghost use Rattle.typing.specs.Steps.{sidedOf, standsFor, tyIn, numberBelow, openingOf, bindingOf, wantedOf, entersOf, halvesIn, appliedOf, pairedOf, joinedOf, closesOf};
 
 // A type record as numbers: its kind, 1 to 4, and its two sides, 0 for the single bit.
 pub struct Sided {
@@ -92,20 +90,71 @@ fn has_shape(s: &[u8], t: u8, shape: u8) -> bool
     }
 }
 
-// A constant: 15, then 12.
-pub fn constant(s: &[u8], p: u8, t: u8) -> Use
-    ensures { λ r. ⌜ ((n : ℕ) (st : Stack) → saidUse r st n ≡ constantOf (recIn (now (s .entry))) p t n st) ⌝ }
+// Type t is the product of two bits.
+fn is_pair(s: &[u8], t: u8) -> bool
+    ensures { λ r. ⌜ r ≡ standsFor (recIn (now (s .entry))) (prod bit bit) t ⌝ }
 {
-    match parts::part_at(p) {
-        Named::Unknown => Use::Refused(15),
-        Named::Part(part) => {
-            if has_shape(s, t, part.shape) {
-                Use::Type(t)
-            } else {
-                Use::Refused(12)
-            }
-        }
+    let q = sides_of(s, t);
+    if q.kind != 2 {
+        return false;
     }
+    if !is_bit(s, q.left) {
+        return false;
+    }
+    is_bit(s, q.right)
+}
+
+// Type t is the sharable arrow from such a product to the bit.
+fn is_paired(s: &[u8], t: u8) -> bool
+    ensures { λ r. ⌜ r ≡ standsFor (recIn (now (s .entry))) (arrow (prod bit bit) bit) t ⌝ }
+{
+    let q = sides_of(s, t);
+    if q.kind != 3 {
+        return false;
+    }
+    if !is_pair(s, q.left) {
+        return false;
+    }
+    is_bit(s, q.right)
+}
+
+// Type t is a part's, in this edition.
+pub fn is_type_of(s: &[u8], t: u8, part: Part, second: bool) -> bool
+    requires { ⌜ part .shape ≤ 2 ⌝ }
+    ensures { λ r. ⌜ r ≡ standsFor (recIn (now (s .entry))) (tyIn (saidPart part) (editionBy second)) t ⌝ }
+{
+    if !second {
+        return has_shape(s, t, part.shape);
+    }
+    if part.paired {
+        return is_paired(s, t);
+    }
+    has_shape(s, t, part.shape)
+}
+
+// The number wanted where a rule wants a form and not one type.
+pub const FORM: u16 = 256;
+
+// The number of a part's type among the sheet's first `types`, or 256. Only a refusal asks for it.
+pub fn type_number(s: &[u8], types: usize, part: Part, second: bool) -> u16
+    requires { ⌜ (part .shape ≤ 2) × (types ≤ 256) ⌝ }
+    ensures { λ r. ⌜ r ≡ numberBelow (standsFor (recIn (now (s .entry))) (tyIn (saidPart part) (editionBy second))) types 0 ⌝ }
+{
+    let mut k: usize = 0;
+    while k < types {
+        let t = k as u8;
+        if is_type_of(s, t, part, second) {
+            return number(t);
+        }
+        k = k + 1;
+    }
+    FORM
+}
+
+pub fn number(t: u8) -> u16
+    ensures { λ r. ⌜ r ≡ t ⌝ }
+{
+    t as u16
 }
 
 // What entering a node does: bind nothing, a sharable or a linear variable of a type, or find a written type of the wrong shape.
@@ -202,36 +251,69 @@ pub fn wanted(s: &[u8], rule: Rule, t: u8) -> u8
     }
 }
 
-// The type of a node, or none that the rule gives.
+// Between two subterms: the first one's type t has the form that the rule wants, a product at a projection, a sharable type at 1B.
+pub fn enters(s: &[u8], rule: Rule, t: u8) -> bool
+    ensures { λ r. ⌜ r ≡ entersOf rule (recIn (now (s .entry)) t) ⌝ }
+{
+    match rule {
+        Rule::Projection => sides_of(s, t).kind == 2,
+        Rule::Naming => sides_of(s, t).kind <= 2,
+        _ => true,
+    }
+}
+
+// The types of the variables that are bound between two subterms, the first one's type being t: a projection's two, or the one of 1B.
+pub struct Halves {
+    pub first: u8,
+    pub second: u8,
+}
+
+pub fn halves_of(s: &[u8], rule: Rule, t: u8) -> Halves
+    ensures { λ r. ⌜ r ≡ halvesIn rule t (recIn (now (s .entry)) t) ⌝ }
+{
+    let Rule::Projection = rule else {
+        return Halves {
+            first: t,
+            second: 0,
+        };
+    };
+    let q = sides_of(s, t);
+    Halves {
+        first: q.left,
+        second: q.right,
+    }
+}
+
+// The type of a node, or the type number wanted and the one found.
 pub enum Fit {
     Type(u8),
-    Misfit,
+    Misfit(u16, u8),
 }
 
 // A function of type f, an arrow of kind k, at an argument of type a.
 fn applied(s: &[u8], k: u8, f: u8, a: u8) -> Fit
-    ensures { λ r. ⌜ r ≡ appliedOf (recIn (now (s .entry)) f) k a ⌝ }
+    ensures { λ r. ⌜ r ≡ appliedOf (recIn (now (s .entry)) f) k f a ⌝ }
 {
     let q = sides_of(s, f);
     if q.kind != k {
-        return Fit::Misfit;
+        return Fit::Misfit(FORM, f);
     }
     if a != q.left {
-        return Fit::Misfit;
+        return Fit::Misfit(number(q.left), a);
     }
     Fit::Type(q.right)
 }
 
-// A pair of the written type t, of two terms of types a and b.
+// A pair of the written type t, of two terms of types a and b. The first half that differs is named.
 fn paired(s: &[u8], t: u8, a: u8, b: u8) -> Fit
     ensures { λ r. ⌜ r ≡ pairedOf (recIn (now (s .entry)) t) t a b ⌝ }
 {
     let q = sides_of(s, t);
     if a != q.left {
-        return Fit::Misfit;
+        return Fit::Misfit(number(q.left), a);
     }
     if b != q.right {
-        return Fit::Misfit;
+        return Fit::Misfit(number(q.right), b);
     }
     Fit::Type(t)
 }
@@ -248,12 +330,13 @@ pub fn joined(s: &[u8], rule: Rule, t: u8, a: u8, b: u8) -> Fit
     }
 }
 
-// The binders that go out of scope: a projection's two.
+// The binders that go out of scope: a projection's two, or the one of 1B.
 pub fn closes(rule: Rule) -> usize
     ensures { λ r. ⌜ r ≡ closesOf rule ⌝ }
 {
     match rule {
         Rule::Projection => 2,
+        Rule::Naming => 1,
         _ => 0,
     }
 }

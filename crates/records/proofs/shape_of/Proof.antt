@@ -64,25 +64,29 @@ returns-13 c = rw (c .match2 .keys9)
 
 returns-14 : tie.Need-returns-14
 unfolding shapeOf
-returns-14 c =
-    let r = c .match2 .rest in
-    let h20 = past (past (past (c .before .before .if3 .left) (r .0 .0 .0 .0 .0 .0 .0 .0 .1)) (r .0 .0 .0 .0 .0 .0 .0 .1)) (r .0 .0 .0 .0 .0 .0 .1) in
-    let h23 = past (past (past h20 (r .0 .0 .0 .0 .0 .1)) (r .0 .0 .0 .0 .1)) (r .0 .0 .0 .1) in
-    let h26 = past (past (past h23 (r .0 .0 .1)) (r .0 .1)) (r .1) in
-    let e : c .before .before .before .before .before .args .kind ≡ 26 = omega (arith, c .before .if4 .taken, h26) in
-    rw e
+returns-14 c = rw (c .match2 .keys10)
 
 returns-15 : tie.Need-returns-15
 unfolding shapeOf
-returns-15 c = let e : c .before .args .kind ≡ 0 = omega arith in rw e
+returns-15 c =
+    let r = c .match2 .rest in
+    let h20 = past (past (past (c .before .before .if3 .left) (r .0 .0 .0 .0 .0 .0 .0 .0 .0 .1)) (r .0 .0 .0 .0 .0 .0 .0 .0 .1)) (r .0 .0 .0 .0 .0 .0 .0 .1) in
+    let h23 = past (past (past h20 (r .0 .0 .0 .0 .0 .0 .1)) (r .0 .0 .0 .0 .0 .1)) (r .0 .0 .0 .0 .1) in
+    let h27 = past (past (past (past h23 (r .0 .0 .0 .1)) (r .0 .0 .1)) (r .0 .1)) (r .1) in
+    let e : c .before .before .before .before .before .args .kind ≡ 27 = omega (arith, c .before .if4 .taken, h27) in
+    rw e
 
 returns-16 : tie.Need-returns-16
 unfolding shapeOf
-returns-16 c = sym (run-at shapes 5 12 _ _ refl (c .before .before .before .args .kind) (omega (arith, c .before .if2 .left)) (omega (arith, c .if3 .taken)))
+returns-16 c = let e : c .before .args .kind ≡ 0 = omega arith in rw e
 
 returns-17 : tie.Need-returns-17
 unfolding shapeOf
-returns-17 c = sym (List·getD-eq-default shapes _ {n = c .before .before .before .before .args .kind} (c .if4 .left))
+returns-17 c = sym (run-at shapes 5 12 _ _ refl (c .before .before .before .args .kind) (omega (arith, c .before .if2 .left)) (omega (arith, c .if3 .taken)))
+
+returns-18 : tie.Need-returns-18
+unfolding shapeOf
+returns-18 c = sym (List·getD-eq-default shapes _ {n = c .before .before .before .before .args .kind} (c .if4 .left))
 
 pub shape-of-spec : {M : Type 1} → statement M
 shape-of-spec =
@@ -104,4 +108,5 @@ shape-of-spec =
     returns-14
     returns-15
     returns-16
-    returns-17)
+    returns-17
+    returns-18)

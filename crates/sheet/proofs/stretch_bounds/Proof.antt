@@ -1,10 +1,12 @@
 -- `sheet::stretch_bounds` meets its contract: the node stands as many records on from the term as its number says, and is read by itself. Assumes nothing.
 use mathlib.Core.Path.{sym, ap, _∙_}
-use borrow.Author.Needs.{needs}
+use native.Mathlib.Omega.{arith}
 use Rattle.sheet_theorems.proofs.StretchHolds.{stretch-refused}
 use Rattle.sheet.specs.Said.{saidSpan}
-use Rattle.sheet.proofs.StretchLaws.{told-past, told-nodes, told-stretch, told-read}
+use Rattle.sheet.proofs.StretchLaws.{told-edition, told-starts, told-short, told-past, told-nodes, told-stretch, told-read}
+use Rattle.sheet.proofs.ReadLaws.{opening-small}
 use Rattle.sheet.proofs.Told.{told, untold}
+use borrow.Author.Needs.{needs}
 use Rattle.sheet.proofs.stretch_bounds.Statement.{statement}
 use Rattle.sheet.proofs.stretch_bounds.Tie as tie
 
@@ -30,12 +32,26 @@ returns c =
     let t = told (a .s .now) _ _ _ _ (v .before .before .read .ensures) (v .verdict .given .1) in
     c .nowhere2 .ensures ∙ told-past t (a .node) (c .before .if1 .taken)
 
-skip-requires : tie.Need-skip-requires
-skip-requires c κs =
-    let v = c .before .before in
+is-second-requires : tie.Need-is-second-requires
+is-second-requires c κs = search needs
+
+opening-requires : tie.Need-opening-requires
+opening-requires c κs = search needs
+
+add-skip : tie.Need-add-skip
+add-skip c =
+    let v = c .before .before .before .before in
     let a = v .before .before .before .before .args in
     let t = told (a .s .now) _ _ _ _ (v .before .before .read .ensures) (v .verdict .given .1) in
-    told-nodes t (a .node) (c .if1 .left)
+    let o = opening-small (a .s .now) in
+    record { fits = omega (arith, c .opening .ensures, told-short t) }
+
+skip-requires : tie.Need-skip-requires
+skip-requires c κs =
+    let v = c .before .before .before .before in
+    let a = v .before .before .before .before .args in
+    let t = told (a .s .now) _ _ _ _ (v .before .before .read .ensures) (v .verdict .given .1) in
+    told-nodes t (a .node) (c .before .before .if1 .left) (told-edition t (c .before .is-second .ensures)) (told-starts t (c .opening .ensures))
 
 span-at-requires : tie.Need-span-at-requires
 span-at-requires c κs = search needs
@@ -51,27 +67,33 @@ enum-known-end c = search needs
 
 sub-size : tie.Need-sub-size
 sub-size c =
-    let v = c .before .before .before .before .before .before .before in
+    let k = c .before .before .before .before in
+    let o = k .before in
+    let v = o .before .before .before .before in
     let a = v .before .before .before .before .args in
     let t = told (a .s .now) _ _ _ _ (v .before .before .read .ensures) (v .verdict .given .1) in
-    told-stretch t (a .node) (c .before .before .before .before .before .if1 .left) _ _ _ (c .before .before .before .before .skip .ensures) (ap saidSpan (sym (c .before .end .given .1)) ∙ c .before .before .before .span-at .ensures) .0
+    told-stretch t (a .node) (o .before .before .if1 .left) (told-edition t (o .before .is-second .ensures)) (told-starts t (o .opening .ensures)) _ _ _ (k .skip .ensures) (ap saidSpan (sym (c .before .end .given .1)) ∙ c .before .before .before .span-at .ensures) .0
 
 returns-2 : tie.Need-returns-2
-returns-2 c = c .nowhere .ensures ∙ sym (stretch-refused _ _ _ _ (untold _ _ _ _ (c .before .before .before .read .ensures) (c .before .enum-told .given .1)))
+returns-2 c = c .nowhere .ensures ∙ sym (stretch-refused _ _ _ (untold _ _ _ _ (c .before .before .before .read .ensures) (c .before .enum-told .given .1)))
 
 returns-3 : tie.Need-returns-3
 returns-3 c =
-    let v = c .before .before .before .before .before .before .before in
+    let k = c .before .before .before .before in
+    let o = k .before in
+    let v = o .before .before .before .before in
     let a = v .before .before .before .before .args in
     let t = told (a .s .now) _ _ _ _ (v .before .before .read .ensures) (v .verdict .given .1) in
-    absurd (told-read t (a .node) (c .before .before .before .before .before .if1 .left) _ _ _ (c .before .before .before .before .skip .ensures) (ap saidSpan (sym (c .before .enum-told2 .given .1)) ∙ c .before .before .before .span-at .ensures))
+    absurd (told-read t (a .node) (o .before .before .if1 .left) (told-edition t (o .before .is-second .ensures)) (told-starts t (o .opening .ensures)) _ _ _ (k .skip .ensures) (ap saidSpan (sym (c .before .enum-told2 .given .1)) ∙ c .before .before .before .span-at .ensures))
 
 returns-4 : tie.Need-returns-4
 returns-4 c =
-    let v = c .before .before .before .before .before .before .before in
+    let k = c .before .before .before .before in
+    let o = k .before in
+    let v = o .before .before .before .before in
     let a = v .before .before .before .before .args in
     let t = told (a .s .now) _ _ _ _ (v .before .before .read .ensures) (v .verdict .given .1) in
-    told-stretch t (a .node) (c .before .before .before .before .before .if1 .left) _ _ _ (c .before .before .before .before .skip .ensures) (ap saidSpan (sym (c .before .end .given .1)) ∙ c .before .before .before .span-at .ensures) .1
+    told-stretch t (a .node) (o .before .before .if1 .left) (told-edition t (o .before .is-second .ensures)) (told-starts t (o .opening .ensures)) _ _ _ (k .skip .ensures) (ap saidSpan (sym (c .before .end .given .1)) ∙ c .before .before .before .span-at .ensures) .1
 
 pub stretch-bounds-spec : {M : Type 1} → statement M
 stretch-bounds-spec =
@@ -83,6 +105,9 @@ stretch-bounds-spec =
     enum-known-verdict
     nowhere-requires-2
     returns
+    is-second-requires
+    opening-requires
+    add-skip
     skip-requires
     span-at-requires
     enum-told-2

@@ -6,9 +6,10 @@ use mathlib.Core.Path.{refl, ap, _∙_}
 use mathlib.Core.List.{List}
 use lib.ListN.{length}
 use Rattle.calculus.specs.Types.{Table}
-use Rattle.calculus.specs.Terms.{Term}
+use Rattle.calculus.specs.Terms.{Edition, Term}
 use Rattle.calculus.specs.Walk.{Stack}
 use Rattle.records.specs.Forms.{recIn}
+use Rattle.records.specs.Editions.{editionBy}
 use Rattle.binders.specs.Stacks.{stackOf}
 use Rattle.binders.proofs.Laws.{length-of}
 use Rattle.typing.specs.declared.Verdict.the-variants as verdict
@@ -30,12 +31,12 @@ use Rattle.typing.proofs.between.Reads as between-reads
 use Rattle.typing.proofs.leaf.Reads as leaf-reads
 use Rattle.typing.proofs.leave_one.Reads as leave-one-reads
 use Rattle.typing.proofs.leave_two.Reads as leave-two-reads
-use Rattle.typing.proofs.refused.Reads as refused-reads
+use Rattle.typing.proofs.clash.Reads as clash-reads
 use Rattle.typing.proofs.stopped.Reads as stopped-reads
 use Rattle.typing.proofs.rules.bound.Reads as bound-reads
 use Rattle.typing.proofs.rules.closes.Reads as closes-reads
 use Rattle.typing.proofs.rules.opens.Reads as opens-reads
-use Rattle.typing.proofs.rules.sides_of.Reads as sides-of-reads
+use Rattle.typing.proofs.rules.halves_of.Reads as halves-of-reads
 use Rattle.typing.proofs.+walk.{statement}
 use Rattle.typing.proofs.+walk.Tie.{close}
 
@@ -59,8 +60,8 @@ calls t = (
   opens-reads.Learnt,
   bound-reads.Asked,
   bound-reads.Learnt,
-  refused-reads.Asked,
-  refused-reads.Learnt,
+  clash-reads.Asked,
+  clash-reads.Learnt,
   stopped-reads.Asked,
   stopped-reads.Learnt,
   walk-below t,
@@ -69,8 +70,8 @@ calls t = (
   leave-one-reads.Learnt,
   between-reads.Asked,
   between-reads.Learnt,
-  sides-of-reads.Asked,
-  sides-of-reads.Learnt,
+  halves-of-reads.Asked,
+  halves-of-reads.Learnt,
   closes-reads.Asked,
   closes-reads.Learnt,
   leave-two-reads.Asked,
@@ -90,15 +91,15 @@ module _ (t : ℕ) where
   abbrev from-first : walk-lts.After-walk (calls t) (walk-at t) walk.Post → Start
   from-first c = from-opened (c .before .before)
 
-  abbrev from-second : walk-lts.After-sides-of (calls t) (walk-at t) walk.Post → Start
+  abbrev from-second : walk-lts.After-halves-of (calls t) (walk-at t) walk.Post → Start
   from-second c = from-first (c .before .before .before .before .before .before .before .before)
 
   -- at the arguments of the call
-  abbrev On : (List ℕ → ℕ → ℕ → Stack → Table → Term → Type 0) → Start → Table → Term → Type 0
-  On P c Θ e = P (c .args .s .now) (c .args .at) (c .args .node) (stackOf (c .args .b)) Θ e
+  abbrev On : (List ℕ → ℕ → Edition → ℕ → ℕ → Stack → Table → Term → Type 0) → Start → Table → Term → Type 0
+  On P c Θ e = P (c .args .s .now) (c .args .types) (editionBy (c .args .second)) (c .args .at) (c .args .node) (stackOf (c .args .b)) Θ e
 
   abbrev Fitting : Start → Table → Term → Type 0
-  Fitting c Θ e = Fits (c .args .s .now) (c .args .at) (c .args .node) Θ e (stackOf (c .args .b))
+  Fitting c Θ e = Fits (c .args .s .now) (c .args .types) (editionBy (c .args .second)) (c .args .at) (c .args .node) Θ e (stackOf (c .args .b))
 
   -- room for two binders more
   few : (c : Start) → c .args .b .count ≤ 126
@@ -143,11 +144,11 @@ module _ (t : ℕ) where
         let two = c .before .before .before .before .before .before .before .if3 .left in
         record {
           first = first (c .before .before .before .before .before .before .before .before .before) F;
-          m = checked (verdict.Fine _ _ _) (halvedTo (x .binders) (a .b .count) (c .before .sides-of .result) (c .closes .result));
+          m = checked (verdict.Fine _ _ _) (halvedTo (x .binders) (a .b .count) (c .before .halves-of .result) (c .closes .result));
           two = two;
           follows =
               follows-halves (recIn (a .s .now)) _ x (long-first (c .before .before .before .before .before .before .before .before .before)) _ (omega arith) (turn-held-two (first (c .before .before .before .before .before .before .before .before .before) F) two (length-of (a .b))) (c .before .before .before .v .given .1)
-              (c .before .before .before .before .before .before .between .ensures _) (c .before .sides-of .ensures) (c .closes .ensures);
+              (c .before .before .before .before .before .before .between .ensures _) (c .before .halves-of .ensures) (c .closes .ensures);
         }
 
     abbrev second : (c : walk-lts.After-closes (calls t) (walk-at t) walk.Post) → Fitting (from-second (c .before)) Θ e → On Second (from-second (c .before)) Θ e
@@ -156,7 +157,7 @@ module _ (t : ℕ) where
 pub +walk-spec : {M : Type 1} → statement M
 +walk-spec = close μ-walk λ t. walk-lts.spec (calls t) (walk-at t) walk.Post
     (λ c κs. search needs)
-    (λ c κs. let f = few t (c .before .before .before .before) in (omega arith, few-nodes (c .before .before .before .before .pre .1 .fits)))
+    (λ c κs. let f = few t (c .before .before .before .before) in let F = c .before .before .before .before .pre .1 .fits in (omega arith, few-nodes F, omega (arith, F .count, F .table .few)))
     (λ c Θ e F. turn-leaf (here t (c .before .before .before) F) (c .before .if1 .taken) (c .leaf .ensures))
     (λ c κs. search needs)
     (λ c κs. search needs)
@@ -168,11 +169,11 @@ pub +walk-spec : {M : Type 1} → statement M
     (turn-refused
     (record {
       place = here t (c .before .before .before .before .before .before .before .before) F;
-      i = checked (c .before .refused .result) (a .b);
+      i = checked (c .before .clash .result) (a .b);
       some = c .before .before .before .before .before .before .if1 .left;
-      says = says-refused (a .b) _ _ 12 (a .node) (c .before .refused .ensures) (enter-misfit (recIn (a .s .now)) _ _ _ (c .before .before .before .before .before .opens .ensures) (c .before .before .before .before .bound .ensures) _ (not-so _ (c .before .before .if2 .taken)));
+      says = says-refused (a .b) _ _ _ (c .before .clash .ensures) (enter-misfit (recIn (a .s .now)) _ _ _ (c .before .before .before .before .before .opens .ensures) (c .before .before .before .before .bound .ensures) _ (not-so _ (c .before .before .if2 .taken)));
     })
-    (c .before .refused .ensures)))
+    (c .before .clash .ensures)))
     (λ c. let f = few t (from-opened t c) in omega arith)
     (λ c. let f = few t (from-opened t c) in omega arith)
     (λ c. let f = few t (from-opened t c) in omega arith)

@@ -25,15 +25,18 @@ refused-requires c κs = search needs
 returns-2 : tie.Need-returns-2
 returns-2 c =
     let a = c .before .before .before .before .before .before .before .args in
-    λ st u. on-stopped (a .v) st _ _ (c .before .before .before .before .v .given .1) _ _ (c .refused .ensures) (leave-unused (recIn (a .s .now)) _ _ _ st _ u (not-so (a .used) (c .before .if1 .taken)))
+    λ st u. on-stopped (a .v) st _ _ (c .before .before .before .before .v .given .1) _ (c .refused .ensures) (leave-unused (recIn (a .s .now)) _ _ _ st _ u (not-so (a .used) (c .before .if1 .taken)))
 
-refused-requires-2 : tie.Need-refused-requires-2
-refused-requires-2 c κs = search needs
+number-requires : tie.Need-number-requires
+number-requires c κs = search needs
+
+clash-requires : tie.Need-clash-requires
+clash-requires c κs = search needs
 
 returns-3 : tie.Need-returns-3
 returns-3 c =
-    let a = c .before .before .before .before .before .before .before .before .args in
-    λ st u. on-stopped (a .v) st _ _ (c .before .before .before .before .before .v .given .1) _ _ (c .refused2 .ensures) (leave-misfit (recIn (a .s .now)) _ _ _ st _ u (so (a .used) (c .before .before .if1 .left)) (c .before .before .before .wanted .ensures) (c .before .if2 .taken))
+    let a = c .before .before .before .before .before .before .before .before .before .args in
+    λ st u. on-stopped (a .v) st _ _ (c .before .before .before .before .before .before .v .given .1) _ (c .clash .ensures) (leave-misfit (recIn (a .s .now)) _ _ _ st _ u (so (a .used) (c .before .before .before .if1 .left)) (c .before .before .before .before .wanted .ensures) (c .before .number .ensures) (c .before .before .if2 .taken))
 
 returns-4 : tie.Need-returns-4
 returns-4 c =
@@ -50,6 +53,7 @@ after-one-spec =
     wanted-requires
     refused-requires
     returns-2
-    refused-requires-2
+    number-requires
+    clash-requires
     returns-3
     returns-4)

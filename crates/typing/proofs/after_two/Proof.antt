@@ -18,19 +18,19 @@ returns c = λ st. on-refused _ st _ _ (c .enum-told .given .1)
 joined-requires : tie.Need-joined-requires
 joined-requires c κs = search needs
 
-enum-told-2 : tie.Need-enum-told-2
-enum-told-2 c = search needs
+enum-known-wanted : tie.Need-enum-known-wanted
+enum-known-wanted c = search needs
 
-refused-requires : tie.Need-refused-requires
-refused-requires c κs = search needs
+clash-requires : tie.Need-clash-requires
+clash-requires c κs = search needs
 
 enum-known-t : tie.Need-enum-known-t
 enum-known-t c = search needs
 
 returns-2 : tie.Need-returns-2
 returns-2 c =
-    let a = c .before .before .before .before .before .before .before .before .args in
-    λ st. on-stopped (a .v) st _ _ (c .before .before .before .before .before .v .given .1) _ _ (c .refused .ensures) (two-misfit (recIn (a .s .now)) _ _ _ _ _ st (c .before .before .before .joined .ensures) (c .before .enum-told2 .given .1))
+    let a = c .before .before .before .before .before .before .before .before .before .args in
+    λ st. on-stopped (a .v) st _ _ (c .before .before .before .before .before .before .v .given .1) _ (c .clash .ensures) (two-misfit (recIn (a .s .now)) _ _ _ _ _ st (c .before .before .before .before .joined .ensures) (c .before .before .wanted .given .1))
 
 returns-3 : tie.Need-returns-3
 returns-3 c =
@@ -45,8 +45,8 @@ after-two-spec =
     enum-told
     returns
     joined-requires
-    enum-told-2
-    refused-requires
+    enum-known-wanted
+    clash-requires
     enum-known-t
     returns-2
     returns-3)

@@ -1,12 +1,11 @@
 -- `typing::leaf` meets its contract: by the rule of the node. Assumes nothing.
 use native.Mathlib.Omega.{arith}
 use mathlib.Core.Path.{_≡_, _∙_}
-use mathlib.Core.Logic.{⊎-elim}
 use lib.ListN.{length}
 use Rattle.binders.specs.Stacks.{stackOf}
 use Rattle.binders.proofs.Laws.{slot-low}
 use Rattle.records.specs.Forms.{recIn}
-use Rattle.typing.proofs.VerdictLaws.{says-settled}
+use Rattle.typing.proofs.VerdictLaws.{says-settled, says-told}
 use Rattle.typing.proofs.StateLaws.{leaf-shared, leaf-linear, leaf-constant}
 use borrow.Author.Needs.{needs}
 use Rattle.typing.proofs.leaf.Statement.{statement}
@@ -30,6 +29,9 @@ element-copy-out-use-shared-2 c = slot-low _ _ (c .before .before .before .slot 
 use-shared-requires : tie.Need-use-shared-requires
 use-shared-requires c κs = search needs
 
+settled-requires : tie.Need-settled-requires
+settled-requires c κs = search needs
+
 enum-told-2 : tie.Need-enum-told-2
 enum-told-2 c = search needs
 
@@ -48,26 +50,31 @@ use-linear-requires c κs = search needs
 element-write-own : tie.Need-element-write-own
 element-write-own c = slot-low _ _ (c .before .before .before .before .before .before .slot .ensures) (c .before .before .before .before .before .before .before .before .before .pre .0)
 
+settled-requires-2 : tie.Need-settled-requires-2
+settled-requires-2 c κs = search needs
+
 constant-requires : tie.Need-constant-requires
 constant-requires c κs = search needs
 
-settled-requires : tie.Need-settled-requires
-settled-requires c κs = search needs
-
 returns : tie.Need-returns
 returns c =
-    let a = c .before .before .before .before .before .args in
-    let first = c .before .before .before .wide .ensures in
-    let slot = c .before .before .slot .ensures in
-    let few = c .before .before .before .before .before .pre .0 in
+    let k = c .before .before .before .before .before .before in
+    let a = k .before .before .before .args in
+    says-settled (c .before .use-shared .result) (a .b) _ _ (c .settled .ensures) (leaf-shared (recIn (a .s .now)) _ _ _ _ _ _ (a .b) (k .before .wide .ensures) (k .slot .ensures) (c .before .before .before .before .enum-told .given .1) (c .before .use-shared .ensures))
+
+returns-2 : tie.Need-returns-2
+returns-2 c =
+    let k = c .before .before .before .before .before .before .before in
+    let a = k .before .before .before .args in
+    let g = k .before .before .before .good .1 .1 .1 .0 in
     let l : length (a .b .used) ≡ 128 = search needs in
-    says-settled (c .before .match .u) (c .before .match .own) _ _ (c .settled .ensures)
-    (⊎-elim
-    (λ p. rw (p .6, p .5) (leaf-shared (recIn (a .s .now)) _ _ _ _ (a .b) first slot (p .1 .given .1) (p .4 .ensures)))
-    (⊎-elim
-    (λ p. rw (p .7, p .6) (leaf-linear (recIn (a .s .now)) _ _ _ _ (a .b) first slot (p .1 .given .1) (omega arith) (p .5 .ensures)))
-    (λ p. rw (p .3, p .2) (p .1 .ensures (a .node) (stackOf (a .b)) ∙ leaf-constant (recIn (a .s .now)) (a .n .rule) _ _ _ _ (p .0 .keys3))))
-    (c .before .match .came))
+    let f = k .before .before .before .pre .0 in
+    says-settled (c .before .use-linear .result) _ _ _ (c .settled2 .ensures) (leaf-linear (recIn (a .s .now)) _ _ _ _ _ _ (a .b) (k .before .wide .ensures) (k .slot .ensures) (c .before .before .before .before .before .enum-told2 .given .1) (omega arith) (c .before .use-linear .ensures))
+
+returns-3 : tie.Need-returns-3
+returns-3 c =
+    let a = c .before .before .before .before .before .args in
+    says-told (c .constant .result) (a .b) _ _ (c .constant .ensures .0 (stackOf (a .b)) ∙ leaf-constant (recIn (a .s .now)) _ _ (a .n .rule) _ _ _ _ (c .before .match .keys3)) (c .constant .ensures .1)
 
 pub leaf-spec : {M : Type 1} → statement M
 leaf-spec =
@@ -79,12 +86,15 @@ leaf-spec =
     element-copy-out-use-shared
     element-copy-out-use-shared-2
     use-shared-requires
+    settled-requires
     enum-told-2
     element-copy-out-use-linear
     element-copy-out-use-linear-2
     element-copy-out-use-linear-3
     use-linear-requires
     element-write-own
+    settled-requires-2
     constant-requires
-    settled-requires
-    returns)
+    returns
+    returns-2
+    returns-3)

@@ -57,7 +57,7 @@ span-at-add-nodes : (t : ℕ) → span-at-lts.Need-add-nodes (
 span-at-add-nodes t c =
     let h = c .before in
     let e = ap saidHead (sym (h .next .given .1)) ∙ h .before .before .head-at .ensures in
-    record { fits = omega (arith, open-tells _ _ _ _ _ e) }
+    record { fits = omega (arith, open-tells _ _ _ _ _ _ e) }
 
 span-at-returns : (t : ℕ) → span-at-lts.Need-returns (
   head-at-reads.Asked,
@@ -68,7 +68,7 @@ span-at-returns : (t : ℕ) → span-at-lts.Need-returns (
 span-at-returns t c =
     let h = c .before .before in
     let e = ap saidHead (sym (h .next .given .1)) ∙ h .before .before .head-at .ensures in
-    span-none _ _ _ _ _ e (c .if1 .taken)
+    span-none _ _ _ _ _ _ e (c .if1 .taken)
 
 span-at-sub-span-at : (t : ℕ) → span-at-lts.Need-sub-span-at (
   head-at-reads.Asked,
@@ -79,7 +79,7 @@ span-at-sub-span-at : (t : ℕ) → span-at-lts.Need-sub-span-at (
 span-at-sub-span-at t c =
     let h = c .before .before in
     let e = ap saidHead (sym (h .next .given .1)) ∙ h .before .before .head-at .ensures in
-    open-tells _ _ _ _ _ e .deep
+    open-tells _ _ _ _ _ _ e .deep
 
 span-at-span-at-requires : (t : ℕ) → span-at-lts.Need-span-at-requires (
   head-at-reads.Asked,
@@ -90,7 +90,7 @@ span-at-span-at-requires : (t : ℕ) → span-at-lts.Need-span-at-requires (
 span-at-span-at-requires t c κs =
     let h = c .before .before in
     let e = ap saidHead (sym (h .next .given .1)) ∙ h .before .before .head-at .ensures in
-    let w = open-tells _ _ _ _ _ e in
+    let w = open-tells _ _ _ _ _ _ e in
     (omega (arith, h .before .before .before .before .pre .0), tt)
 
 span-at-returns-2 : (t : ℕ) → span-at-lts.Need-returns-2 (
@@ -102,7 +102,7 @@ span-at-returns-2 : (t : ℕ) → span-at-lts.Need-returns-2 (
 span-at-returns-2 t c =
     let h = c .before .before .before .before in
     let e = ap saidHead (sym (h .next .given .1)) ∙ h .before .before .head-at .ensures in
-    c .before .span-at .ensures ∙ span-one _ _ _ _ _ e (c .if2 .taken)
+    c .before .span-at .ensures ∙ span-one _ _ _ _ _ _ e (c .if2 .taken)
 
 span-at-enum-known-a : (t : ℕ) → span-at-lts.Need-enum-known-a (
   head-at-reads.Asked,
@@ -121,7 +121,7 @@ span-at-sub-span-at-2 : (t : ℕ) → span-at-lts.Need-sub-span-at-2 (
 span-at-sub-span-at-2 t c =
     let h = c .before .before .before .before .before .before .before in
     let e = ap saidHead (sym (h .next .given .1)) ∙ h .before .before .head-at .ensures in
-    open-tells _ _ _ _ _ e .deep
+    open-tells _ _ _ _ _ _ e .deep
 
 span-at-span-at-requires-2 : (t : ℕ) → span-at-lts.Need-span-at-requires-2 (
   head-at-reads.Asked,
@@ -132,8 +132,8 @@ span-at-span-at-requires-2 : (t : ℕ) → span-at-lts.Need-span-at-requires-2 (
 span-at-span-at-requires-2 t c κs =
     let h = c .before .before .before .before .before .before .before in
     let e = ap saidHead (sym (h .next .given .1)) ∙ h .before .before .head-at .ensures in
-    let w = open-tells _ _ _ _ _ e in
-    let r = span-rises _ _ _ _ _ (ap saidSpan (sym (c .before .a .given .1)) ∙ c .before .before .before .before .span-at .ensures) in
+    let w = open-tells _ _ _ _ _ _ e in
+    let r = span-rises _ _ _ _ _ _ (ap saidSpan (sym (c .before .a .given .1)) ∙ c .before .before .before .before .span-at .ensures) in
     (omega (arith, h .before .before .before .before .pre .0), tt)
 
 span-at-enum-known-a-2 : (t : ℕ) → span-at-lts.Need-enum-known-a-2 (
@@ -150,7 +150,7 @@ span-at-returns-3 : (t : ℕ) → span-at-lts.Need-returns-3 (
   span-at-below t,
   span-at.Post,
 ) (span-at-at t) span-at.Post
-span-at-returns-3 t c = span-bad _ _ _ _ _ (ap saidHead (sym (c .before .number .given .1)) ∙ c .before .before .before .head-at .ensures)
+span-at-returns-3 t c = span-bad _ _ _ _ _ _ (ap saidHead (sym (c .before .number .given .1)) ∙ c .before .before .before .head-at .ensures)
 
 span-at-returns-4 : (t : ℕ) → span-at-lts.Need-returns-4 (
   head-at-reads.Asked,
@@ -161,7 +161,7 @@ span-at-returns-4 : (t : ℕ) → span-at-lts.Need-returns-4 (
 span-at-returns-4 t c =
     let h = c .before .before .before .before .before .before .before .before in
     let e = ap saidHead (sym (h .next .given .1)) ∙ h .before .before .head-at .ensures in
-    c .span-at2 .ensures ∙ span-two-good _ _ _ _ _ e (c .before .before .before .before .before .before .if1 .left) (c .before .before .before .before .if2 .left) (ap saidSpan (sym (c .before .before .a .given .1)) ∙ c .before .before .before .before .before .span-at .ensures)
+    c .span-at2 .ensures ∙ span-two-good _ _ _ _ _ _ e (c .before .before .before .before .before .before .if1 .left) (c .before .before .before .before .if2 .left) (ap saidSpan (sym (c .before .before .a .given .1)) ∙ c .before .before .before .before .before .span-at .ensures)
 
 span-at-returns-5 : (t : ℕ) → span-at-lts.Need-returns-5 (
   head-at-reads.Asked,
@@ -172,7 +172,7 @@ span-at-returns-5 : (t : ℕ) → span-at-lts.Need-returns-5 (
 span-at-returns-5 t c =
     let h = c .before .before .before .before .before .before .before in
     let e = ap saidHead (sym (h .next .given .1)) ∙ h .before .before .head-at .ensures in
-    span-two-bad _ _ _ _ _ e (c .before .before .before .before .before .if1 .left) (c .before .before .before .if2 .left) (ap saidSpan (sym (c .before .a2 .given .1)) ∙ c .before .before .before .before .span-at .ensures)
+    span-two-bad _ _ _ _ _ _ e (c .before .before .before .before .before .if1 .left) (c .before .before .before .if2 .left) (ap saidSpan (sym (c .before .a2 .given .1)) ∙ c .before .before .before .before .span-at .ensures)
 
 pub +span-at-spec : {M : Type 1} → statement M
 +span-at-spec = close μ-span-at λ t. span-at-lts.spec (

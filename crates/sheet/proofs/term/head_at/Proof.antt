@@ -21,10 +21,10 @@ enum-told : tie.Need-enum-told
 enum-told c = search needs
 
 returns : tie.Need-returns
-returns c = c .limits .ensures ∙ head-limits _ _ _ _ _ _ (sym (c .before .before .before .before .record-at .ensures) ∙ c .before .before .r .given .1)
+returns c = c .limits .ensures ∙ head-limits _ _ _ _ _ _ _ (sym (c .before .before .before .before .record-at .ensures) ∙ c .before .before .r .given .1)
 
 returns-2 : tie.Need-returns-2
-returns-2 c = opens-refused _ _ _ _ _ (sym (c .before .before .before .record-at .ensures) ∙ c .before .number .given .1)
+returns-2 c = opens-refused _ _ _ _ _ _ (sym (c .before .before .before .record-at .ensures) ∙ c .before .number .given .1)
 
 returns-3 : tie.Need-returns-3
 returns-3 c = absurd (no-type-inside _ _ (sym (c .before .before .record-at .ensures) ∙ c .enum-told .given .1))
