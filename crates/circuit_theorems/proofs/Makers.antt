@@ -1,80 +1,27 @@
--- Each element names the node that made it, and dropping the node numbers gives the plain bytes (document 02, L6). Assumes nothing.
-use Prim.Native.Nat.{ℕ, zero, suc, _+_, _*_, _<_, _≤_}
-use mathlib.Core.Path.{_≡_, refl, sym, ap, ap₂, _∙_, subst}
+-- Each element names the node that made it: a constant, whose part it is, or a function or fixed point, of whose points it is one (document
+-- 02, L6). Assumes nothing.
+use Prim.Native.Nat.{ℕ, zero, suc, _+_, _*_, _<_}
+use mathlib.Core.Path.{_≡_, refl, sym, ap, _∙_, subst}
 use mathlib.Core.Bool.{Bool, true, false, cond}
 use mathlib.Core.List.{List, [], _∷_, _++_, append-assoc}
 use native.Mathlib.Omega.{arith}
-use native.Mathlib.Nat.{le-refl}
-use lib.ListN.{length, getD, replicate, drop, length-append, length-replicate}
-use Rattle.calculus.specs.Answer.{Answer, good}
-use Rattle.calculus.specs.Types.{Ty, size, Table, tree}
+use lib.ListN.{length, getD, replicate, length-append}
+use Rattle.calculus.specs.Answer.{good}
 use Rattle.calculus.proofs.Answers.{good-inj}
-use Rattle.calculus.specs.Terms.{Term, var, lvar, fun, app, lfun, lapp, pair, proj, fix, con, name, nodes, partAt}
+use Rattle.calculus.specs.Types.{Ty, size, Table, tree}
+use Rattle.calculus.specs.Terms.{Term, var, lvar, fun, app, lfun, lapp, pair, proj, fix, con, name, nodes}
 use Rattle.calculus.specs.Read.{Sheet, readSheet}
-use Rattle.calculus.specs.Net.{Interface, Element, point, part, Wire, Net, turns, points, Bound, leftOf, binder, firstHalf, secondHalf, wholeOf, make, netOf, elementBytes, wireBytes, pinBytes, netBytes}
+use Rattle.calculus.specs.Net.{Element, point, part, Net, turns, points, Bound, leftOf, binder, firstHalf, secondHalf, wholeOf, make}
 use Rattle.calculus.specs.Lean.{kept, keep, lean}
-use Rattle.calculus.specs.Makers.{makers, makersIn, makersOf, maker, keepMakers, leanMakers, nodeBytes, elementNodeBytes, netNodeBytes, dropping, dropNodes}
+use Rattle.calculus.specs.Makers.{makers, makersIn, makersOf, keepMakers, leanMakers}
 use Rattle.calculus.specs.Translate.{full}
 use Rattle.sheet_theorems.specs.Subterms.{subterms}
-use Rattle.circuit_theorems.specs.Makers.{boundBits, own, startOf, Makes, MadeAt, Each}
-use Rattle.circuit_theorems.specs.Formed.{Tiled}
+use Rattle.sheet_theorems.proofs.StretchHolds.{count-subterms}
+use Rattle.circuit_theorems.specs.Makers.{own, startOf, Makes, MadeAt, Each}
 use Rattle.circuit_theorems.specs.Terminals.{terminals}
-use Rattle.circuit_theorems.proofs.Terminals.{tiled-rising}
 use Rattle.circuit_theorems.proofs.Drivers.{turns-size}
-use Rattle.circuit_theorems.proofs.Counts.{elements-few}
-use Rattle.circuit_theorems.proofs.LeanLaws.{lean-elements-few}
-use Rattle.circuit_theorems.proofs.Main.{Accepts, accepts, formed}
-use Rattle.circuit_theorems.proofs.Bounds.{next-is, length-bound, lean-shorter, few-elements}
-
--- ---- dropping the node numbers
-
-dropping-elements : (es : List Element) (ks rest : List ℕ) → dropping 0 0 (elementNodeBytes es ks ++ rest) ≡ elementBytes es ++ dropping 0 0 rest
-dropping-elements [] ks rest = refl
-dropping-elements (point i ∷ es) ks rest = rw (dropping-elements es (drop 1 ks) rest)
-dropping-elements (part p i ∷ es) ks rest = rw (dropping-elements es (drop 1 ks) rest)
-
-dropping-wires : (ws : List Wire) (rest : List ℕ) → dropping 0 0 (wireBytes ws ++ rest) ≡ wireBytes ws ++ dropping 0 0 rest
-dropping-wires [] rest = refl
-dropping-wires (w ∷ ws) rest = rw (dropping-wires ws rest)
-
-dropping-pins : (ps : Interface) → dropping 0 0 (pinBytes ps) ≡ pinBytes ps
-dropping-pins [] = refl
-dropping-pins (p ∷ ps) = rw (dropping-pins ps)
-
--- of any netlist, with any nodes
-pub nodes-dropped : (m : Net) (ks : List ℕ) → dropNodes (netNodeBytes m ks) ≡ netBytes m
-unfolding dropNodes netNodeBytes netBytes
-nodes-dropped m ks =
-    dropping-elements (m .elements) ks (wireBytes (m .wires) ++ pinBytes (m .pins))
-    ∙ ap (λ (x : List ℕ). elementBytes (m .elements) ++ x)
-    (dropping-wires (m .wires) (pinBytes (m .pins)) ∙ ap (λ (x : List ℕ). wireBytes (m .wires) ++ x) (dropping-pins (m .pins)))
-
--- ---- lengths
-
-element-node-bytes : (es : List Element) (ks : List ℕ) → length (elementNodeBytes es ks) ≡ length (elementBytes es) + 2 * length es
-element-node-bytes [] ks = refl
-element-node-bytes (point i ∷ es) ks = omega (arith, element-node-bytes es (drop 1 ks))
-element-node-bytes (part p i ∷ es) ks = omega (arith, element-node-bytes es (drop 1 ks))
-
--- two bytes more for each element
-pub node-bytes : (m : Net) (ks : List ℕ) → length (netNodeBytes m ks) ≡ length (netBytes m) + 2 * length (m .elements)
-unfolding netNodeBytes netBytes
-node-bytes m ks =
-    let rest = wireBytes (m .wires) ++ pinBytes (m .pins) in
-    omega (arith, length-append (elementNodeBytes (m .elements) ks) rest, length-append (elementBytes (m .elements)) rest, element-node-bytes (m .elements) ks)
-
-module _ (s : List ℕ) (m : Net) (ok : full s ≡ good m) where
-  -- at most seven bytes for each terminal and 384
-  pub length-bound-nodes : (ks : List ℕ) (terminals : ℕ) → Tiled (m .elements) 0 terminals → length (netNodeBytes m ks) ≤ 7 * terminals + 384
-  length-bound-nodes ks terminals t =
-      omega (arith, node-bytes m ks, length-bound s m ok terminals t, elements-few (m .elements) 0 terminals (tiled-rising (m .elements) 0 terminals t))
-
-  pub length-enough-nodes : (ks : List ℕ) → length (netNodeBytes m ks) ≤ 57728
-  length-enough-nodes ks = let f = formed s m ok in omega (arith, length-bound-nodes ks (f .net .end) (f .tiled), f .few)
-
-  -- the lean netlist is never longer than the full one, with nodes either
-  pub lean-shorter-nodes : (js ks : List ℕ) → length (netNodeBytes (lean m) js) ≤ length (netNodeBytes m ks)
-  lean-shorter-nodes js ks = omega (arith, node-bytes (lean m) js, node-bytes m ks, lean-shorter s m ok, lean-elements-few m)
+use Rattle.circuit_theorems.proofs.Main.{accepts}
+use Rattle.circuit_theorems.proofs.Bounds.{next-is}
 
 -- ---- node by node
 
@@ -111,7 +58,7 @@ abbrev rowElements : Table → List Term → ℕ → List Element
 rowElements Θ [] n = []
 rowElements Θ (x ∷ xs) n = ownElements Θ x n ++ rowElements Θ xs (n + own Θ x)
 
-abbrev rowMakers : Table → List Term → ℕ → List ℕ
+abbrev pub rowMakers : Table → List Term → ℕ → List ℕ
 rowMakers Θ [] k = []
 rowMakers Θ (x ∷ xs) k = replicate (ownCount Θ x) k ++ rowMakers Θ xs (k + 1)
 
@@ -130,7 +77,7 @@ row-elements-append Θ (x ∷ xs) ys n =
     ap (λ (l : List Element). ownElements Θ x n ++ l) (row-elements-append Θ xs ys (n + own Θ x) ∙ ap (λ (j : ℕ). rowElements Θ xs (n + own Θ x) ++ rowElements Θ ys j) e)
     ∙ sym (append-assoc (ownElements Θ x n) (rowElements Θ xs (n + own Θ x)) (rowElements Θ ys (n + (own Θ x + rowOwn Θ xs))))
 
-row-makers-append : (Θ : Table) (xs ys : List Term) (k : ℕ) → rowMakers Θ (xs ++ ys) k ≡ rowMakers Θ xs k ++ rowMakers Θ ys (k + length xs)
+pub row-makers-append : (Θ : Table) (xs ys : List Term) (k : ℕ) → rowMakers Θ (xs ++ ys) k ≡ rowMakers Θ xs k ++ rowMakers Θ ys (k + length xs)
 row-makers-append Θ [] ys k = let e : k + 0 ≡ k = omega arith in rw e
 row-makers-append Θ (x ∷ xs) ys k =
     let e : k + 1 + length xs ≡ k + suc (length xs) = omega arith in
@@ -138,19 +85,6 @@ row-makers-append Θ (x ∷ xs) ys k =
     ∙ sym (append-assoc (replicate (ownCount Θ x) k) (rowMakers Θ xs (k + 1)) (rowMakers Θ ys (k + suc (length xs))))
 
 -- ---- a term's nodes are its subterms in record order
-
-subterms-nodes : (e : Term) → length (subterms e) ≡ nodes e
-subterms-nodes (var i) = refl
-subterms-nodes (lvar i) = refl
-subterms-nodes (fun t e) = ap suc (subterms-nodes e)
-subterms-nodes (app f a) = omega (arith, length-append (subterms f) (subterms a), subterms-nodes f, subterms-nodes a)
-subterms-nodes (lfun t e) = ap suc (subterms-nodes e)
-subterms-nodes (lapp f a) = omega (arith, length-append (subterms f) (subterms a), subterms-nodes f, subterms-nodes a)
-subterms-nodes (pair t a b) = omega (arith, length-append (subterms a) (subterms b), subterms-nodes a, subterms-nodes b)
-subterms-nodes (proj a e) = omega (arith, length-append (subterms a) (subterms e), subterms-nodes a, subterms-nodes e)
-subterms-nodes (fix t e) = ap suc (subterms-nodes e)
-subterms-nodes (con p t) = refl
-subterms-nodes (name a e) = omega (arith, length-append (subterms a) (subterms e), subterms-nodes a, subterms-nodes e)
 
 subterms-own : (Θ : Table) (e : Term) → rowOwn Θ (subterms e) ≡ terminals Θ e
 subterms-own Θ (var i) = refl
@@ -168,9 +102,9 @@ subterms-own Θ (name a e) = omega (arith, row-own-append Θ (subterms a) (subte
 module _ (Θ : Table) where
   two-makers : (f a : Term) (k : ℕ) → makers Θ f (k + 1) ≡ rowMakers Θ (subterms f) (k + 1) → makers Θ a (k + 1 + nodes f) ≡ rowMakers Θ (subterms a) (k + 1 + nodes f)
       → makers Θ f (k + 1) ++ makers Θ a (k + 1 + nodes f) ≡ rowMakers Θ (subterms f ++ subterms a) (k + 1)
-  two-makers f a k p q = rw (p, q, row-makers-append Θ (subterms f) (subterms a) (k + 1), subterms-nodes f)
+  two-makers f a k p q = rw (p, q, row-makers-append Θ (subterms f) (subterms a) (k + 1), count-subterms f)
 
-  row-makers : (e : Term) (k : ℕ) → makers Θ e k ≡ rowMakers Θ (subterms e) k
+  pub row-makers : (e : Term) (k : ℕ) → makers Θ e k ≡ rowMakers Θ (subterms e) k
   row-makers (var i) k = refl
   row-makers (lvar i) k = refl
   row-makers (fun t e) k = rw (row-makers e (k + 1))

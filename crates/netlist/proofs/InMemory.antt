@@ -12,7 +12,7 @@ use Rattle.calculus.specs.Net.{elementBytes, wireBytes, pinBytes, netBytes}
 use Rattle.calculus.specs.Makers.{written}
 use Rattle.calculus.specs.Record.{All}
 use Rattle.calculus.specs.Inputs.{targets}
-use Rattle.circuit_theorems.proofs.Makers.{node-bytes}
+use Rattle.circuit_theorems.proofs.NodeBytes.{node-bytes}
 use Rattle.memory.specs.Map.{targetsAt, elementsAt, stackAt, makersAt, region, elementsFrom, wiresFrom, terminalOf, netIn, Ready}
 use Rattle.calculus.specs.NetRead.{Known}
 use Rattle.netlist.specs.Elements.{after, afterAll, elementSize, nodeSize, recordsOf}
