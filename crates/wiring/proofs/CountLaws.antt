@@ -5,7 +5,7 @@ use mathlib.Core.List.{List, [], _∷_, _++_, append-assoc, append-nil}
 use native.Mathlib.Omega.{arith}
 use lib.ListN.{length, getD, drop}
 use Rattle.calculus.specs.Types.{Ty, size, TyRec, rec01, rec02, rec03, rec04, Table, recAt, tree}
-use Rattle.calculus.specs.Terms.{Term, var, lvar, fun, app, lfun, lapp, pair, proj, fix, con, nodes, partAt}
+use Rattle.calculus.specs.Terms.{Edition, Term, var, lvar, fun, app, lfun, lapp, pair, proj, fix, con, name, nodes, partAt}
 use Rattle.calculus.specs.Write.{termBytes}
 use Rattle.sheet_theorems.specs.Laid.{Agrees, Below, TableOk, Stands, Ranged}
 use Rattle.calculus.specs.Net.{leftOf, make}
@@ -36,6 +36,7 @@ subs (pair t a b) = a ∷ b ∷ []
 subs (proj a e) = a ∷ e ∷ []
 subs (fix t e) = e ∷ []
 subs (con p t) = []
+subs (name a e) = a ∷ e ∷ []
 
 abbrev headBytes : Term → List ℕ
 headBytes (var i) = 0x11 ∷ i ∷ []
@@ -48,6 +49,7 @@ headBytes (pair t a b) = 0x17 ∷ t ∷ []
 headBytes (proj a e) = 0x18 ∷ []
 headBytes (fix t e) = 0x19 ∷ t ∷ []
 headBytes (con p t) = 0x1A ∷ p ∷ t ∷ []
+headBytes (name a e) = 0x1B ∷ []
 
 -- its own terminals
 abbrev pub own : Table → Term → ℕ
@@ -61,6 +63,7 @@ own Θ (pair t a b) = 0
 own Θ (proj a e) = 0
 own Θ (fix t e) = 2 * size (tree Θ t)
 own Θ (con p t) = partAt p .inputs + 1
+own Θ (name a e) = 0
 
 last-one : (p xs : List ℕ) → p ++ xs ≡ p ++ (xs ++ [])
 last-one p xs = ap (λ (l : List ℕ). p ++ l) (sym (append-nil xs))
@@ -79,6 +82,7 @@ term-split (pair t a b) = last-two (0x17 ∷ t ∷ []) (termBytes a) (termBytes 
 term-split (proj a e) = last-two (0x18 ∷ []) (termBytes a) (termBytes e)
 term-split (fix t e) = last-one (0x19 ∷ t ∷ []) (termBytes e)
 term-split (con p t) = refl
+term-split (name a e) = last-two (0x1B ∷ []) (termBytes a) (termBytes e)
 
 head-next : (e : Term) (at : ℕ) → at + length (headBytes e) ≡ nodeOf e at .next
 head-next (var i) at = omega arith
@@ -91,6 +95,7 @@ head-next (pair t a b) at = omega arith
 head-next (proj a e) at = omega arith
 head-next (fix t e) at = omega arith
 head-next (con p t) at = omega arith
+head-next (name a e) at = omega arith
 
 node-count : (e : Term) → nodes e ≡ suc (rowNodes (subs e))
 node-count (var i) = refl
@@ -103,6 +108,7 @@ node-count (pair t a b) = omega arith
 node-count (proj a e) = omega arith
 node-count (fix t e) = omega arith
 node-count (con p t) = refl
+node-count (name a e) = omega arith
 
 own-split : (Θ : Table) (e : Term) → terminals Θ e ≡ own Θ e + rowTerminals Θ (subs e)
 own-split Θ (var i) = refl
@@ -115,18 +121,20 @@ own-split Θ (pair t a b) = omega arith
 own-split Θ (proj a e) = omega arith
 own-split Θ (fix t e) = omega arith
 own-split Θ (con p t) = omega arith
+own-split Θ (name a e) = omega arith
 
-subs-ranged : (Θ : Table) (e : Term) → Ranged Θ e → All (Ranged Θ) (subs e)
-subs-ranged Θ (var i) r = tt
-subs-ranged Θ (lvar i) r = tt
-subs-ranged Θ (fun t e) r = (r .1, tt)
-subs-ranged Θ (app f a) r = (r .0, (r .1, tt))
-subs-ranged Θ (lfun t e) r = (r .1, tt)
-subs-ranged Θ (lapp f a) r = (r .0, (r .1, tt))
-subs-ranged Θ (pair t a b) r = (r .1, (r .2, tt))
-subs-ranged Θ (proj a e) r = (r .0, (r .1, tt))
-subs-ranged Θ (fix t e) r = (r .1, tt)
-subs-ranged Θ (con p t) r = tt
+subs-ranged : (E : Edition) (Θ : Table) (e : Term) → Ranged E Θ e → All (Ranged E Θ) (subs e)
+subs-ranged E Θ (var i) r = tt
+subs-ranged E Θ (lvar i) r = tt
+subs-ranged E Θ (fun t e) r = (r .1, tt)
+subs-ranged E Θ (app f a) r = (r .0, (r .1, tt))
+subs-ranged E Θ (lfun t e) r = (r .1, tt)
+subs-ranged E Θ (lapp f a) r = (r .0, (r .1, tt))
+subs-ranged E Θ (pair t a b) r = (r .1, (r .2, tt))
+subs-ranged E Θ (proj a e) r = (r .0, (r .1, tt))
+subs-ranged E Θ (fix t e) r = (r .1, tt)
+subs-ranged E Θ (con p t) r = tt
+subs-ranged E Θ (name a e) r = (r .1, (r .2, tt))
 
 -- ---- its own terminals, by its record
 
@@ -141,18 +149,19 @@ module _ {s sizes : List ℕ} {Θ : Table} (K : Knows s sizes Θ) where
   left-size : (t : ℕ) → t < length Θ → 2 * getD sizes (sidesOf (recIn s t) .left) 0 ≡ 2 * size (leftOf (tree Θ t))
   left-size t h = ap (λ (k : ℕ). 2 * k) (ap (λ (q : TyRec). getD sizes (sidesOf q .left) 0) (K .records t h) ∙ left-of Θ sizes t (recAt Θ t) (K .sized) (K .ok) h (K .ok .agrees t) (K .ok .earlier t h))
 
-  pub own-is : (e : Term) (at : ℕ) → Ranged Θ e → ownIn s sizes (nodeOf e at) ≡ own Θ e
+  pub own-is : (E : Edition) (e : Term) (at : ℕ) → Ranged E Θ e → ownIn s sizes (nodeOf e at) ≡ own Θ e
   unfolding ownIn
-  own-is (var i) at r = refl
-  own-is (lvar i) at r = refl
-  own-is (fun t e) at r = left-size t (r .0)
-  own-is (app f a) at r = refl
-  own-is (lfun t e) at r = left-size t (r .0)
-  own-is (lapp f a) at r = refl
-  own-is (pair t a b) at r = refl
-  own-is (proj a e) at r = refl
-  own-is (fix t e) at r = ap (λ (k : ℕ). 2 * k) (K .sized t (r .0))
-  own-is (con p t) at r = refl
+  own-is E (var i) at r = refl
+  own-is E (lvar i) at r = refl
+  own-is E (fun t e) at r = left-size t (r .0)
+  own-is E (app f a) at r = refl
+  own-is E (lfun t e) at r = left-size t (r .0)
+  own-is E (lapp f a) at r = refl
+  own-is E (pair t a b) at r = refl
+  own-is E (proj a e) at r = refl
+  own-is E (fix t e) at r = ap (λ (k : ℕ). 2 * k) (K .sized t (r .0))
+  own-is E (con p t) at r = refl
+  own-is E (name a e) at r = refl
 
 -- ---- a row of terms
 
@@ -169,17 +178,17 @@ terminals-append Θ [] ys = omega arith
 terminals-append Θ (e ∷ xs) ys = omega (arith, terminals-append Θ xs ys)
 
 -- the first node of a row, and the row behind it
-pub record Next (Θ : Table) (s : List ℕ) (whole : Term) (at left total : ℕ) : Type 0 where
+pub record Next (E : Edition) (Θ : Table) (s : List ℕ) (whole : Term) (at left total : ℕ) : Type 0 where
   pub term : Term
   pub stands : Stands s at term
-  pub ranged : Ranged Θ term
+  pub ranged : Ranged E Θ term
   pub few : total + own Θ term ≤ terminals Θ whole
-  pub then : Row Θ s whole (nodeOf term at .next) (left - 1) (total + own Θ term)
+  pub then : Row E Θ s whole (nodeOf term at .next) (left - 1) (total + own Θ term)
 
-next-of : (Θ : Table) (s : List ℕ) (whole : Term) (at left total : ℕ) (row : List Term) (rest : List ℕ) → drop at s ≡ rowBytes row ++ rest → All (Ranged Θ) row → left ≡ rowNodes row
-    → total + rowTerminals Θ row ≡ terminals Θ whole → 0 < left → Next Θ s whole at left total
-next-of Θ s whole at left total [] rest h r c u p = absurd (omega arith)
-next-of Θ s whole at left total (e ∷ es) rest h r c u p =
+next-of : (E : Edition) (Θ : Table) (s : List ℕ) (whole : Term) (at left total : ℕ) (row : List Term) (rest : List ℕ) → drop at s ≡ rowBytes row ++ rest → All (Ranged E Θ) row → left ≡ rowNodes row
+    → total + rowTerminals Θ row ≡ terminals Θ whole → 0 < left → Next E Θ s whole at left total
+next-of E Θ s whole at left total [] rest h r c u p = absurd (omega arith)
+next-of E Θ s whole at left total (e ∷ es) rest h r c u p =
     let h₁ : drop at s ≡ termBytes e ++ (rowBytes es ++ rest) = h ∙ append-assoc (termBytes e) (rowBytes es) rest in
     let h₂ : drop at s ≡ headBytes e ++ (rowBytes (subs e ++ es) ++ rest) =
     h₁ ∙ ap (λ (l : List ℕ). l ++ (rowBytes es ++ rest)) (term-split e) ∙ append-assoc (headBytes e) (rowBytes (subs e)) (rowBytes es ++ rest)
@@ -195,7 +204,7 @@ next-of Θ s whole at left total (e ∷ es) rest h r c u p =
         row = subs e ++ es;
         rest = rest;
         here = subst (λ (k : ℕ). drop k s ≡ rowBytes (subs e ++ es) ++ rest) (head-next e at) (behind s (headBytes e) (rowBytes (subs e ++ es) ++ rest) at h₂);
-        ranged = all-append (Ranged Θ) (subs e) es (subs-ranged Θ e (r .0)) (r .1);
+        ranged = all-append (Ranged E Θ) (subs e) es (subs-ranged E Θ e (r .0)) (r .1);
         count = omega (arith, nodes-append (subs e) es);
         sum = omega (arith, terminals-append Θ (subs e) es);
       };
@@ -206,7 +215,7 @@ end-of Θ whole [] total c u = omega arith
 end-of Θ whole (e ∷ es) total c u = absurd (omega (arith, node-count e))
 
 module _ {s sizes : List ℕ} {from count : ℕ} (q : Counting s sizes from count) where
-  pub row-start : Row (q .table) s (q .term) from count 0
+  pub row-start : Row (q .edition) (q .table) s (q .term) from count 0
   row-start = record {
     row = q .term ∷ [];
     rest = q .stands .rest;
@@ -219,9 +228,9 @@ module _ {s sizes : List ℕ} {from count : ℕ} (q : Counting s sizes from coun
   pub row-few : terminals (q .table) (q .term) ≤ 524288
   row-few = omega (arith, terminals-few (q .table) (q .term) (q .knows .ok .small), q .nodes-are, q .few)
 
-  module _ {at left total : ℕ} (R : Row (q .table) s (q .term) at left total) where
-    pub row-next : 0 < left → Next (q .table) s (q .term) at left total
-    row-next h = next-of (q .table) s (q .term) at left total (R .row) (R .rest) (R .here) (R .ranged) (R .count) (R .sum) h
+  module _ {at left total : ℕ} (R : Row (q .edition) (q .table) s (q .term) at left total) where
+    pub row-next : 0 < left → Next (q .edition) (q .table) s (q .term) at left total
+    row-next h = next-of (q .edition) (q .table) s (q .term) at left total (R .row) (R .rest) (R .here) (R .ranged) (R .count) (R .sum) h
 
     pub row-end : left ≡ 0 → total ≡ make (q .table) (q .term) [] 0 .next
     row-end e = end-of (q .table) (q .term) (R .row) total (sym e ∙ R .count) (R .sum) ∙ omega (arith, next-is (q .table) (q .term) [] 0)
@@ -231,10 +240,10 @@ module _ {s sizes : List ℕ} {from count : ℕ} (q : Counting s sizes from coun
       row-is = e ∙ stands-node s at (row-next h .term) (row-next h .stands)
 
       row-own : ownIn s sizes node ≡ own (q .table) (row-next h .term)
-      row-own = ap (ownIn s sizes) row-is ∙ own-is (q .knows) (row-next h .term) at (row-next h .ranged)
+      row-own = ap (ownIn s sizes) row-is ∙ own-is (q .knows) (q .edition) (row-next h .term) at (row-next h .ranged)
 
       pub row-room : total + ownIn s sizes node ≤ 524288
       row-room = omega (arith, row-few, row-next h .few, row-own)
 
-      pub row-then : Row (q .table) s (q .term) (node .next) (left - 1) (total + ownIn s sizes node)
+      pub row-then : Row (q .edition) (q .table) s (q .term) (node .next) (left - 1) (total + ownIn s sizes node)
       row-then = rw (row-own, ap (λ (x : Node). x .next) row-is) (row-next h .then)

@@ -53,8 +53,8 @@ one-netlist {m} {x} {y} {w} {u} {v} a b =
 
 pub count-determined : (κs : Lfts 2) (a : Dens κs count.ps) (x y : resT count.r κs .Denot) (s t : AtExit (endedOf 2 count.ps count.r) κs)
     → count-reads.Pre κs a → count-reads.Post κs a x s → count-reads.Post κs a y t → x ≡ y
-count-determined κs a x y s t p f g = f (p .told .sheet) (p .told .is) ∙ sym (g (p .told .sheet) (p .told .is))
+count-determined κs a x y s t p f g = f p ∙ sym (g p)
 
 pub make-net-determined : (κs : Lfts 3) (a : Dens κs make-net.ps) (x y : resT make-net.r κs .Denot) (s t : AtExit (endedOf 3 make-net.ps make-net.r) κs)
     → make-net-reads.Pre κs a → make-net-reads.Post κs a x s → make-net-reads.Post κs a y t → x ≡ y
-make-net-determined κs a x y s t p f g = one-netlist (f (p .net) (p .is)) (g (p .net) (p .is)) .0
+make-net-determined κs a x y s t p f g = one-netlist (f p) (g p) .0

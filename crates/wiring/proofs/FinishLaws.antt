@@ -12,7 +12,7 @@ use Rattle.calculus.specs.Write.{termBytes}
 use Rattle.calculus.specs.Net.{turns, Interface, Wire, Made, leftOf, rightOf, join}
 use Rattle.records.specs.Heads.{nodeOf}
 use Rattle.records.specs.Forms.{recIn}
-use Rattle.records.specs.Rules.{isPair, isProjection}
+use Rattle.records.specs.Rules.{isPair, isProjection, isNaming}
 use Rattle.records.specs.declared.Rule.{Rule}
 use Rattle.records.specs.declared.Rule.the-variants as rule
 use Rattle.records.proofs.Rule.{the-type}
@@ -29,18 +29,34 @@ use Rattle.wiring.specs.declared.walk.Built.{Built}
 use Rattle.wiring.specs.Sides.{sidesOf}
 use Rattle.wiring.specs.Links.{links, Apart}
 use Rattle.wiring.specs.Store.{Store, Holds, atStack, atBinders, target, moreWires, after}
-use Rattle.wiring.specs.Asks.{Asks, madeOf, Leaves, Here, betweenIn, middle, appliedIn, finishedIn, finished, Finishable}
+use Rattle.wiring.specs.Asks.{Asks, madeOf, Leaves, Here, betweenIn, middle, ofBody, appliedIn, finishedIn, finished, Finishable}
 use Rattle.wiring.specs.Nodes.{Applied, Paired, Projected, Twofold}
 use Rattle.wiring.proofs.StoreLaws.{cut-binders}
 use Rattle.wiring.proofs.NodeLaws.{sided-at}
 use Rattle.wiring.proofs.JoinLaws.{Part, wired-apart, wired-holds, moved-holds}
 use Rattle.wiring.proofs.TwoLaws as two
 
--- the tags that are left where a match names a projection and a pair
+-- the tags that are left where a match names a projection, 1B and a pair, and those of the first two
 abbrev others : List ℕ
 others = 0 ∷ 1 ∷ 2 ∷ 3 ∷ 4 ∷ 5 ∷ 8 ∷ 9 ∷ []
 
-pub application : (u : Rule) → OneOf others (tagOf the-type u) → (isProjection u ≡ false) × (isPair u ≡ false)
+abbrev bodies : List ℕ
+bodies = 7 ∷ 10 ∷ []
+
+pub body-of : (u : Rule) → OneOf bodies (tagOf the-type u) → ofBody u ≡ true
+body-of rule.Variable o = absurd (miss bodies 0 tt o)
+body-of rule.LinearVariable o = absurd (miss bodies 1 tt o)
+body-of rule.Function o = absurd (miss bodies 2 tt o)
+body-of rule.Application o = absurd (miss bodies 3 tt o)
+body-of rule.LinearFunction o = absurd (miss bodies 4 tt o)
+body-of rule.LinearApplication o = absurd (miss bodies 5 tt o)
+body-of rule.Pair o = absurd (miss bodies 6 tt o)
+body-of rule.Projection o = refl
+body-of rule.FixedPoint o = absurd (miss bodies 8 tt o)
+body-of rule.Constant o = absurd (miss bodies 9 tt o)
+body-of rule.Naming o = refl
+
+pub application : (u : Rule) → OneOf others (tagOf the-type u) → (ofBody u ≡ false) × (isPair u ≡ false)
 application rule.Variable o = (refl, refl)
 application rule.LinearVariable o = (refl, refl)
 application rule.Function o = (refl, refl)
@@ -51,6 +67,24 @@ application rule.Pair o = absurd (miss others 6 tt o)
 application rule.Projection o = absurd (miss others 7 tt o)
 application rule.FixedPoint o = (refl, refl)
 application rule.Constant o = (refl, refl)
+application rule.Naming o = absurd (miss others 10 tt o)
+
+-- .. and where a match names a projection and 1B
+abbrev unbound : List ℕ
+unbound = 0 ∷ 1 ∷ 2 ∷ 3 ∷ 4 ∷ 5 ∷ 6 ∷ 8 ∷ 9 ∷ []
+
+pub binds-none : (u : Rule) → OneOf unbound (tagOf the-type u) → (isProjection u ≡ false) × (isNaming u ≡ false)
+binds-none rule.Variable o = (refl, refl)
+binds-none rule.LinearVariable o = (refl, refl)
+binds-none rule.Function o = (refl, refl)
+binds-none rule.Application o = (refl, refl)
+binds-none rule.LinearFunction o = (refl, refl)
+binds-none rule.LinearApplication o = (refl, refl)
+binds-none rule.Pair o = (refl, refl)
+binds-none rule.Projection o = absurd (miss unbound 7 tt o)
+binds-none rule.FixedPoint o = (refl, refl)
+binds-none rule.Constant o = (refl, refl)
+binds-none rule.Naming o = absurd (miss unbound 10 tt o)
 
 -- a list, then another, are one
 more : {A : Type 0} (g : A → ℕ) (l : List ℕ) (a b : List A) → (l ++ map g a) ++ map g b ≡ l ++ map g (a ++ b)
@@ -74,9 +108,10 @@ both-made {w} m x y ws τ side stack next es H =
 no-wires : {w : List ℕ} (m : Store) → Holds w m → Holds w (moreWires m [])
 no-wires {w} m H = subst (λ (l : List ℕ). Holds w (record { drivers = m .drivers; targets = l; kinds = m .kinds; stack = m .stack; binders = m .binders; rest = m .rest })) (sym (append-nil (m .targets))) H
 
-forget-by : (c : Bool) (xs us vs : List ℕ) {v : List ℕ} (k : Store) → k .binders ≡ cond c ((xs ++ us) ++ vs) xs → Holds v k → Holds v (atBinders k xs)
-forget-by true xs us vs k e G = cut-binders G xs (us ++ vs) (e ∙ append-assoc xs us vs)
-forget-by false xs us vs k e G = cut-binders G xs [] (e ∙ sym (append-nil xs))
+forget-by : (c d : Bool) (xs us vs ts : List ℕ) {v : List ℕ} (k : Store) → k .binders ≡ cond c ((xs ++ us) ++ vs) (cond d (xs ++ ts) xs) → Holds v k → Holds v (atBinders k xs)
+forget-by true d xs us vs ts k e G = cut-binders G xs (us ++ vs) (e ∙ append-assoc xs us vs)
+forget-by false true xs us vs ts k e G = cut-binders G xs ts e
+forget-by false false xs us vs ts k e G = cut-binders G xs [] (e ∙ sym (append-nil xs))
 
 module _ {s sizes w : List ℕ} {node : Node} {st : State} (q : Here s sizes w node st) (h2 : node .subterms ≡ 2)
     {f : Built} {w₁ : List ℕ} (L : Leaves (two.first-asks q h2) f w₁) {r : State} {w₂ : List ℕ} (er : r ≡ middle node st f) (ew : w₂ ≡ betweenIn s sizes w₁ node st f)
@@ -97,20 +132,20 @@ module _ {s sizes w : List ℕ} {node : Node} {st : State} (q : Here s sizes w n
     abbrev full : Store
     full = after (two.store₂ q h2 L) y
 
-    abbrev T : Twofold (Q .table) s (q .at) (st .next) (Q .env) (Q .term) (Q .type)
+    abbrev T : Twofold (Q .edition) (Q .table) s (q .at) (st .next) (Q .env) (Q .term) (Q .type)
     T = two.both q h2
 
     H : Holds w₃ full
     H = two.second-holds q h2 L er ew K
 
     abbrev App : Type 0
-    App = Applied (Q .table) s (q .at) (st .next) (Q .env) (Q .term) (Q .type) x y (T .type) (T .env₂) (T .type₂)
+    App = Applied (Q .edition) (Q .table) s (q .at) (st .next) (Q .env) (Q .term) (Q .type) x y (T .type) (T .env₂) (T .type₂)
 
     abbrev Pair : Type 0
-    Pair = Paired (Q .table) s (q .at) (st .next) (Q .env) (Q .term) (Q .type) x y (T .type) (T .env₂) (T .type₂)
+    Pair = Paired (Q .edition) (Q .table) s (q .at) (st .next) (Q .env) (Q .term) (Q .type) x y (T .type) (T .env₂) (T .type₂)
 
     abbrev Proj : Type 0
-    Proj = Projected (Q .table) s (q .at) (st .next) (Q .env) (Q .term) (Q .type) x y (T .type) (T .env₂) (T .type₂)
+    Proj = Projected (Q .edition) (Q .table) s (q .at) (st .next) (Q .env) (Q .term) (Q .type) x y (T .type) (T .env₂) (T .type₂)
 
     len-f : f .len ≡ length (x .side)
     len-f = two.first-left q h2 L .3
@@ -133,7 +168,7 @@ module _ {s sizes w : List ℕ} {node : Node} {st : State} (q : Here s sizes w n
 
     -- binders of the halves are forgotten
     forget : {v : List ℕ} (k : Store) → k .binders ≡ two.binders₂ q h2 L → Holds v k → Holds v (atBinders k (m .binders))
-    forget k e G = forget-by (isProjection (node .rule)) (m .binders) _ _ k e G
+    forget k e G = forget-by (isProjection (node .rule)) (isNaming (node .rule)) (m .binders) _ _ _ k e G
 
     -- ---- a pair
 
@@ -252,7 +287,7 @@ module _ {s sizes w : List ℕ} {node : Node} {st : State} (q : Here s sizes w n
       memory = H .size;
       small = (two.first-small q h2 L, omega (arith, len-b, two.second-length q h2, ap size (two.second-left q h2 L er ew K .2), Q .knows .ok .small (b .ty)), omega (arith, two.second-left q h2 L er ew K .6, two.two-wires q h2, Q .few-wires));
       height = omega (arith, whole-length, H .stack .fits);
-      apart = λ h₁ h₂. ⊎-elim (λ z. (fits z, app-apart z)) (⊎-elim (λ z. absurd (true≢false (sym (rule-is isPair ∙ z .pair) ∙ h₂))) (λ z. absurd (true≢false (sym (rule-is isProjection ∙ z .proj) ∙ h₁)))) (T .sort);
+      apart = λ h₁ h₂. ⊎-elim (λ z. (fits z, app-apart z)) (⊎-elim (λ z. absurd (true≢false (sym (rule-is isPair ∙ z .pair) ∙ h₂))) (λ z. absurd (true≢false (sym (rule-is ofBody ∙ z .body) ∙ h₁)))) (T .sort);
     }
 
     past-is : b .past ≡ q .at + length (termBytes (Q .term))
@@ -270,7 +305,7 @@ module _ {s sizes w : List ℕ} {node : Node} {st : State} (q : Here s sizes w n
       where
         applied : App → Leaves Q (finished s node f b) (finishedIn w₃ node (st .top) f b)
         applied z =
-            let e₁ = rule-is isProjection ∙ z .not-proj in
+            let e₁ = rule-is ofBody ∙ z .not-body in
             let e₂ = rule-is isPair ∙ z .not-pair in
             let S = sided-at (Q .knows) (f .ty) (two.first-left q h2 L .1) (λ k. z .arrow (sym (two.first-left q h2 L .2) ∙ k)) in
             let t = sidesOf (recIn s (f .ty)) .right in
@@ -291,7 +326,7 @@ module _ {s sizes w : List ℕ} {node : Node} {st : State} (q : Here s sizes w n
         paired : Pair → Leaves Q (finished s node f b) (finishedIn w₃ node (st .top) f b)
         paired z =
             let e₂ = rule-is isPair ∙ z .pair in
-            let e₁ = rule-is isProjection ∙ z .not-proj in
+            let e₁ = rule-is ofBody ∙ z .not-body in
             let t = sidesOf (recIn s (f .ty)) .right in
             let en : node .first ≡ nodeOf (Q .term) (q .at) .first = ap (λ (k : Node). k .first) (q .is) in
             let tn : node .first < length (Q .table) = subst (λ (k : ℕ). k < length (Q .table)) (sym en) (z .first) in
@@ -310,7 +345,7 @@ module _ {s sizes w : List ℕ} {node : Node} {st : State} (q : Here s sizes w n
 
         projected : Proj → Leaves Q (finished s node f b) (finishedIn w₃ node (st .top) f b)
         projected z =
-            let e₁ = rule-is isProjection ∙ z .proj in
+            let e₁ = rule-is ofBody ∙ z .body in
             let t = sidesOf (recIn s (f .ty)) .right in
             record {
               holds = subst (λ (c : Bool). Holds (cond c moved (cond (isPair (node .rule)) w₃ (appliedIn w₃ (18944 + st .top) (f .len) (b .len) (b .wires)))) (after m (madeOf Q))) (sym e₁) (proj-holds z);

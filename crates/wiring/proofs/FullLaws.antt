@@ -12,7 +12,7 @@ use Rattle.calculus.specs.Answer.{good}
 use Rattle.calculus.proofs.Answers.{good-inj}
 use Rattle.calculus.specs.Types.{size, tree}
 use Rattle.calculus.specs.Terms.{nodes, partAt}
-use Rattle.calculus.specs.Read.{Sheet, readSheet}
+use Rattle.calculus.specs.Read.{Sheet, recordsOf, readSheet}
 use Rattle.calculus.specs.Write.{tableBytes}
 use Rattle.sheet_theorems.specs.Laid as laid-as
 use Rattle.calculus.specs.Net.{Terminal, Interface, Element, point, part, Wire, Net, Made, make, netOf}
@@ -50,7 +50,10 @@ use Rattle.wiring.proofs.StoreLaws.{sets-at, lies-region}
 
 -- ---- a read sheet
 
-module _ {s sizes : List ℕ} {at n : ℕ} (r : Read s sizes at n) (σ : Sheet) (e : readSheet s ≡ good σ) where
+module _ {s sizes : List ℕ} {at n : ℕ} (r : Read s sizes at n) (σ : Sheet) (e : readSheet (r .whole) ≡ good σ) where
+  pub told-laid : laid-as.Laid s σ
+  told-laid = subst (λ (b : List ℕ). laid-as.Laid b σ) (sym (r .behind)) (laid (r .whole) σ e)
+
   pub told-sheet : r .told .sheet ≡ σ
   told-sheet = good-inj (sym (r .told .is) ∙ e)
 
@@ -59,28 +62,29 @@ module _ {s sizes : List ℕ} {at n : ℕ} (r : Read s sizes at n) (σ : Sheet) 
 
   pub told-knows : Knows s sizes (σ .table)
   told-knows = record {
-    ok = laid s σ e .table;
-    records = sheet-types s σ (laid s σ e);
+    ok = told-laid .table;
+    records = sheet-types s σ told-laid;
     sized = λ t h. ap (λ (l : List ℕ). getD l t 0) told-sizes ∙ size-at (σ .table) t h;
-    all = ap length told-sizes ∙ sizes-length (σ .table) (laid s σ e .table .few);
+    all = ap length told-sizes ∙ sizes-length (σ .table) (told-laid .table .few);
   }
 
   pub told-stands : laid-as.Stands s at (σ .term)
-  told-stands = subst (λ (k : ℕ). laid-as.Stands s k (σ .term)) (sym (r .told .start-is ∙ ap (λ (x : Sheet). length (tableBytes (x .table))) told-sheet)) (sheet-stands (laid s σ e))
+  told-stands = subst (λ (k : ℕ). laid-as.Stands s k (σ .term)) (sym (r .told .start-is ∙ ap (λ (x : Sheet). length (tableBytes (x .table))) told-sheet)) (sheet-stands told-laid)
 
   pub told-nodes : n ≡ nodes (σ .term)
   told-nodes = r .told .nodes-are ∙ ap (λ (x : Sheet). nodes (x .term)) told-sheet
 
   pub told-few : n ≤ 2048
-  told-few = rw told-nodes (laid s σ e .few)
+  told-few = rw told-nodes (told-laid .few)
 
   abbrev pub counting : Counting s sizes at n
   counting = record {
+    edition = σ .edition;
     table = σ .table;
     knows = told-knows;
     term = σ .term;
     stands = told-stands;
-    ranged = laid s σ e .ranged;
+    ranged = told-laid .ranged;
     nodes-are = told-nodes;
     few = told-few;
   }
@@ -120,9 +124,9 @@ empty rest = record { drivers = replicate 8192 65535; targets = []; kinds = []; 
 none-lies : (w : List ℕ) (from room : ℕ) → Lies w from room []
 none-lies w from room = record { fits = omega arith; here = λ j h. absurd (omega arith) }
 
-module _ {s sizes w : List ℕ} {at : ℕ} (q : Accepted s sizes w at) (m : Net) (ok : full s ≡ good m) {w₁ : List ℕ} (ew : w₁ ≡ sets w 0 (replicate 8192 65535)) where
-  abbrev A : Accepts s m
-  A = accepts s m ok
+module _ {s sizes w : List ℕ} {at : ℕ} (q : Accepted s sizes w at) (m : Net) (ok : full (q .read .whole) ≡ good m) {w₁ : List ℕ} (ew : w₁ ≡ sets w 0 (replicate 8192 65535)) where
+  abbrev A : Accepts (q .read .whole) m
+  A = accepts (q .read .whole) m ok
 
   root-holds : Holds w₁ (empty (drop 32768 w))
   root-holds =
@@ -142,8 +146,9 @@ module _ {s sizes w : List ℕ} {at : ℕ} (q : Accepted s sizes w at) (m : Net)
 
   pub root-asks : Asks s sizes w₁ at rootState
   root-asks =
-      let L = laid s (A .sheet) (A .reads) in
+      let L = told-laid (q .read) (A .sheet) (A .reads) in
       record {
+        edition = A .sheet .edition;
         table = A .sheet .table;
         knows = told-knows (q .read) (A .sheet) (A .reads);
         term = A .sheet .term;
@@ -161,8 +166,8 @@ module _ {s sizes w : List ℕ} {at : ℕ} (q : Accepted s sizes w at) (m : Net)
         top = refl;
         binds = record { count = refl; all = refl; each = λ i h. absurd (omega arith) };
         few = A .few;
-        few-elements = omega (arith, few-elements s m ok, ap (λ (x : Net). length (x .elements)) (A .is));
-        few-wires = omega (arith, few-wires s m ok, ap (λ (x : Net). length (x .wires)) (A .is));
+        few-elements = omega (arith, few-elements (q .read .whole) m ok, ap (λ (x : Net). length (x .elements)) (A .is));
+        few-wires = omega (arith, few-wires (q .read .whole) m ok, ap (λ (x : Net). length (x .wires)) (A .is));
         deep = omega (arith, L .deep);
         scoped = omega (arith, L .deep);
       }
@@ -188,7 +193,7 @@ module _ {s sizes w : List ℕ} {at : ℕ} (q : Accepted s sizes w at) (m : Net)
     is-net = A .is
 
     whole : Gapless (netOf mk)
-    whole = subst Gapless (sym is-net) (formed s m ok)
+    whole = subst Gapless (sym is-net) (formed (q .read .whole) m ok)
 
     -- a list of the memory, as a region
     list-region : (from room k : ℕ) (xs : List ℕ) → Lies w′ from room xs → from + room ≤ length w′ → k ≡ length xs → region w′ from k ≡ xs
@@ -201,7 +206,7 @@ module _ {s sizes w : List ℕ} {at : ℕ} (q : Accepted s sizes w at) (m : Net)
         let D = made-holds .drivers in
         let z : 0 + i ≡ i = omega arith in
         let e : getD w′ i 0 ≡ getD (driveAll (mk .wires) (replicate 8192 65535)) i 0 = ap (λ (k : ℕ). getD w′ k 0) (sym z) ∙ D .here i (omega (arith, made-holds .all)) in
-        e ∙ getD-any (driveAll (mk .wires) (replicate 8192 65535)) i 0 65535 (omega (arith, made-holds .all)) ∙ ap (λ (x : Net). getD (driveAll (x .wires) (replicate 8192 65535)) i 65535) is-net ∙ table-list s m ok i h ∙ ap (λ (x : Net). driver (x .wires) i 65535) (sym is-net)
+        e ∙ getD-any (driveAll (mk .wires) (replicate 8192 65535)) i 0 65535 (omega (arith, made-holds .all)) ∙ ap (λ (x : Net). getD (driveAll (x .wires) (replicate 8192 65535)) i 65535) is-net ∙ table-list (q .read .whole) m ok i h ∙ ap (λ (x : Net). driver (x .wires) i 65535) (sym is-net)
 
     elements-here : elementsFrom (region w′ 13824 (r .elements)) 0 ≡ mk .elements
     elements-here =
@@ -214,7 +219,7 @@ module _ {s sizes w : List ℕ} {at : ℕ} (q : Accepted s sizes w at) (m : Net)
         ∙ wires-back w′ (mk .wires) low (λ v x h. driver-at (v .to) h ∙ mem-driver (mk .wires) v 65535 (target-one (netOf mk) (whole .net)) x)
       where
         low : All (λ v. v .to < 8192) (mk .wires)
-        low = all-map _ (λ v. v .to < 8192) (λ v a. a .1) (mk .wires) (subst (λ (x : Net). All (λ v. (v .from < 8192) × (v .to < 8192)) (x .wires)) (sym is-net) (names s m ok .wires))
+        low = all-map _ (λ v. v .to < 8192) (λ v a. a .1) (mk .wires) (subst (λ (x : Net). All (λ v. (v .from < 8192) × (v .to < 8192)) (x .wires)) (sym is-net) (names (q .read .whole) m ok .wires))
 
     pins-here : map terminalOf (region w′ 18944 (r .len)) ≡ mk .side
     pins-here =
@@ -232,9 +237,9 @@ module _ {s sizes w : List ℕ} {at : ℕ} (q : Accepted s sizes w at) (m : Net)
       net = net-here ∙ is-net;
       ready = record {
         size = made-holds .size;
-        few-elements = omega (arith, counts .0, few-elements s m ok, ap (λ (x : Net). length (x .elements)) is-net);
-        few-wires = omega (arith, counts .1, few-wires s m ok, ap (λ (x : Net). length (x .wires)) is-net);
-        few-pins = omega (arith, counts .2, few-pins s m ok, ap (λ (x : Net). length (x .pins)) is-net);
+        few-elements = omega (arith, counts .0, few-elements (q .read .whole) m ok, ap (λ (x : Net). length (x .elements)) is-net);
+        few-wires = omega (arith, counts .1, few-wires (q .read .whole) m ok, ap (λ (x : Net). length (x .wires)) is-net);
+        few-pins = omega (arith, counts .2, few-pins (q .read .whole) m ok, ap (λ (x : Net). length (x .pins)) is-net);
         end = whole .net .end;
         below = whole .few;
         tiled = subst (λ (x : Net). Tiled (x .elements) 0 (whole .net .end)) (sym net-here) (whole .tiled);

@@ -70,7 +70,7 @@ module _ {s sizes w : List ℕ} {node : Node} {st : State} (q : Here s sizes w n
   abbrev i : ℕ
   i = node .first
 
-  var : Variable (Q .table) s (q .at) (st .next) (Q .env) (Q .term) (Q .type)
+  var : Variable (Q .edition) (Q .table) s (q .at) (st .next) (Q .env) (Q .term) (Q .type)
   var = variable s (q .at) (st .next) (Q .env) (Q .typed) (Q .fits) (rw (q .is) at none) (rw (q .is) at f)
 
   pub var-scope : (i < st .scope) × (st .scope ≤ 128)
@@ -190,14 +190,14 @@ module _ {s sizes w : List ℕ} {node : Node} {st : State} (q : Here s sizes w n
   abbrev C : Asks s sizes w (q .at) st
   C = q .asks
 
-  con : Constant (C .table) s (q .at) (st .next) (C .env) (C .term) (C .type)
+  con : Constant (C .edition) (C .table) s (q .at) (st .next) (C .env) (C .term) (C .type)
   con = constant s (q .at) (st .next) (C .env) (C .typed) (C .ranged) (rw (q .is) at f)
 
   abbrev inputs : ℕ
   inputs = partAt (node .first) .inputs
 
-  con-is : madeOf C ≡ madeCon (node .first) (st .next)
-  con-is = con .is ∙ ap (λ (x : Node). madeCon (x .first) (st .next)) (sym (q .is))
+  con-is : madeOf C ≡ madeCon (tree (C .table) (node .second)) (node .first) (st .next)
+  con-is = con .is ∙ ap (λ (x : Node). madeCon (tree (C .table) (x .second)) (x .first) (st .next)) (sym (q .is))
 
   pub con-room : (st .elements + 1 ≤ 5120) × (st .top + inputs < 8448) × (st .next + inputs < 8192) × (inputs ≤ 2)
   con-room = (

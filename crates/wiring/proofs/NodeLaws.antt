@@ -7,15 +7,15 @@ use mathlib.Core.List.{List, _∷_}
 use native.Mathlib.Omega.{arith}
 use lib.ListN.{length, length-append}
 use Rattle.calculus.specs.Types.{Ty, bit, prod, arrow, lolli, size, TyRec, rec01, rec02, rec03, rec04, Table, recAt, tree}
-use Rattle.calculus.specs.Terms.{Term, pair, proj}
+use Rattle.calculus.specs.Terms.{Edition, Term, pair, proj, name}
 use Rattle.calculus.specs.Write.{termBytes}
 use Rattle.sheet_theorems.specs.Laid.{Agrees, Below, Stands, Ranged}
-use Rattle.calculus.specs.Rules.{Ctx, many, once, InΓ, in-here, in-many, in-away, IsΔ, is-here, is-many, is-away, Typed, Var, LVar, →I, →E, ⊸I, ⊸E, ×I, ×E, Fix, Con}
-use Rattle.calculus.specs.Net.{Bound, leftOf, rightOf, binder, madePair, firstHalf, secondHalf, make}
+use Rattle.calculus.specs.Rules.{Ctx, many, once, InΓ, in-here, in-many, in-away, IsΔ, is-here, is-many, is-away, Typed, Var, LVar, →I, →E, ⊸I, ⊸E, ×I, ×E, Fix, Con, ×E′}
+use Rattle.calculus.specs.Net.{Bound, leftOf, rightOf, binder, madePair, firstHalf, secondHalf, wholeOf, make}
 use Rattle.records.specs.Heads.{nodeOf}
 use Rattle.records.specs.Rules.{isConstant}
 use Rattle.records.specs.Forms.{recIn}
-use Rattle.sheet_theorems.proofs.Standing.{fun-body, lfun-body, fix-body, app-function, app-argument, lapp-function, lapp-argument, pair-first, pair-second, proj-pair, proj-body}
+use Rattle.sheet_theorems.proofs.Standing.{fun-body, lfun-body, fix-body, app-function, app-argument, lapp-function, lapp-argument, pair-first, pair-second, proj-pair, proj-body, name-first, name-body}
 use Rattle.circuit_theorems.proofs.Drivers.{Fits, Env, env-many, env-once, env-away, split-env, binder-fits, halves, term-driven}
 use Rattle.wiring.specs.Sides.{sidesOf, Knows}
 use Rattle.wiring.specs.Nodes.{funOf, Binding, Twofold, Variable, Constant}
@@ -59,8 +59,8 @@ past-two at = omega arith
 
 -- ---- one subterm
 
-module _ {s sizes : List ℕ} {Θ : Table} (K : Knows s sizes Θ) (at n : ℕ) (env : List Bound) where
-  pub binding : {Γ : Ctx} {e : Term} {τ : Ty} → Typed Θ Γ e τ → Stands s at e → Ranged Θ e → Env Γ env → nodeOf e at .subterms ≡ 1 → Binding Θ s at n env e τ
+module _ {s sizes : List ℕ} {E : Edition} {Θ : Table} (K : Knows s sizes Θ) (at n : ℕ) (env : List Bound) where
+  pub binding : {Γ : Ctx} {e : Term} {τ : Ty} → Typed E Θ Γ e τ → Stands s at e → Ranged E Θ e → Env Γ env → nodeOf e at .subterms ≡ 1 → Binding E Θ s at n env e τ
   binding (Var x) st rg v h = absurd (omega arith)
   binding (LVar x) st rg v h = absurd (omega arith)
   binding (→I {t = t} {e = e} {θ = θ} {τ = τ} eτ sh d) st rg v h =
@@ -127,10 +127,11 @@ module _ {s sizes : List ℕ} {Θ : Table} (K : Knows s sizes Θ) (at n : ℕ) (
   binding (×I z eτ s₁ s₂ d c) st rg v h = absurd (omega arith)
   binding (×E z s₁ s₂ d c) st rg v h = absurd (omega arith)
   binding (Con p e z) st rg v h = absurd (omega arith)
+  binding (×E′ i z sh d c) st rg v h = absurd (omega arith)
 
   -- ---- two subterms
 
-  pub twofold : {Γ : Ctx} {e : Term} {τ : Ty} → Typed Θ Γ e τ → Stands s at e → Ranged Θ e → Env Γ env → nodeOf e at .subterms ≡ 2 → Twofold Θ s at n env e τ
+  pub twofold : {Γ : Ctx} {e : Term} {τ : Ty} → Typed E Θ Γ e τ → Stands s at e → Ranged E Θ e → Env Γ env → nodeOf e at .subterms ≡ 2 → Twofold E Θ s at n env e τ
   twofold (Var x) st rg v h = absurd (omega arith)
   twofold (LVar x) st rg v h = absurd (omega arith)
   twofold (→I eτ sh d) st rg v h = absurd (omega arith)
@@ -158,7 +159,7 @@ module _ {s sizes : List ℕ} {Θ : Table} (K : Knows s sizes Θ) (at n : ℕ) (
         env₂ = env;
         typed₂ = c;
         fits₂ = q;
-        sort = inl (record { not-pair = refl; not-proj = refl; same = refl; arrow = not-arrow refl; left = refl; right = refl; turned = refl; is = refl });
+        sort = inl (record { not-pair = refl; not-proj = refl; not-naming = refl; not-body = refl; same = refl; arrow = not-arrow refl; left = refl; right = refl; turned = refl; is = refl });
       }
   twofold (⊸E {f = f} {a = a} {κ = κ} {τ = τ} z ar d c) st rg v h =
       let (p, q) = split-env z v in
@@ -181,7 +182,7 @@ module _ {s sizes : List ℕ} {Θ : Table} (K : Knows s sizes Θ) (at n : ℕ) (
         env₂ = env;
         typed₂ = c;
         fits₂ = q;
-        sort = inl (record { not-pair = refl; not-proj = refl; same = refl; arrow = not-lolli refl; left = refl; right = refl; turned = refl; is = refl });
+        sort = inl (record { not-pair = refl; not-proj = refl; not-naming = refl; not-body = refl; same = refl; arrow = not-lolli refl; left = refl; right = refl; turned = refl; is = refl });
       }
   twofold (×I {t = t} {a = a} {b = b} {θ₁ = θ₁} {θ₂ = θ₂} z eτ s₁ s₂ d c) st rg v h =
       let (p, q) = split-env z v in
@@ -204,7 +205,7 @@ module _ {s sizes : List ℕ} {Θ : Table} (K : Knows s sizes Θ) (at n : ℕ) (
         env₂ = env;
         typed₂ = c;
         fits₂ = q;
-        sort = inr (inl (record { pair = refl; not-proj = refl; same = refl; first = rg .0; is-type = eτ; is = ap (λ (ρ : Ty). madePair ρ (make Θ a env n) (make Θ b env (make Θ a env n .next))) eτ }));
+        sort = inr (inl (record { pair = refl; not-proj = refl; not-naming = refl; not-body = refl; same = refl; first = rg .0; is-type = eτ; is = ap (λ (ρ : Ty). madePair ρ (make Θ a env n) (make Θ b env (make Θ a env n .next))) eτ }));
       }
   twofold (×E {a = a} {e = e} {θ₁ = θ₁} {θ₂ = θ₂} {τ = τ} z s₁ s₂ d c) st rg v h =
       let (p, q) = split-env z v in
@@ -230,7 +231,32 @@ module _ {s sizes : List ℕ} {Θ : Table} (K : Knows s sizes Θ) (at n : ℕ) (
         env₂ = secondHalf x ∷ firstHalf x ∷ env;
         typed₂ = c;
         fits₂ = env-many s₂ h₂ (env-many s₁ h₁ q);
-        sort = inr (inr (record { proj = refl; halves = refl; product = not-prod refl; sum = refl; same = refl; is = refl }));
+        sort = inr (inr (record { body = refl; same = refl; is = refl; bound = inl (record { proj = refl; halves = refl; product = not-prod refl; sum = refl }) }));
+      }
+  twofold (×E′ {a = a} {e = e} {θ = θ} {τ = τ} i z sh d c) st rg v h =
+      let (p, q) = split-env z v in
+      let x = make Θ a env n in
+      let D = term-driven d env p n in
+      record {
+        first = a;
+        second = e;
+        stands-first = rw (past-one at) (name-first st);
+        stands-second = rw (past-one at) (name-body st);
+        ranged-first = rg .1;
+        ranged-second = rg .2;
+        deep-first = omega arith;
+        deep-second = omega arith;
+        bytes = omega (arith, length-append (termBytes a) (termBytes e));
+        context = _;
+        type = θ;
+        typed = d;
+        fits = p;
+        context₂ = many θ ∷ _;
+        type₂ = τ;
+        env₂ = wholeOf x ∷ env;
+        typed₂ = c;
+        fits₂ = env-many sh (record { type = D .type; dirs = D .dirs }) q;
+        sort = inr (inr (record { body = refl; same = refl; is = refl; bound = inr (record { not-proj = refl; naming = refl; whole = refl }) }));
       }
 
 -- ---- variables are bound
@@ -247,8 +273,8 @@ linear-bound (is-away x) (env-away v) = omega (arith, linear-bound x v)
 
 -- ---- no subterm
 
-module _ {Θ : Table} (s : List ℕ) (at n : ℕ) (env : List Bound) where
-  pub variable : {Γ : Ctx} {e : Term} {τ : Ty} → Typed Θ Γ e τ → Env Γ env → nodeOf e at .subterms ≡ 0 → (isConstant (nodeOf e at .rule) ≡ false) → Variable Θ s at n env e τ
+module _ {E : Edition} {Θ : Table} (s : List ℕ) (at n : ℕ) (env : List Bound) where
+  pub variable : {Γ : Ctx} {e : Term} {τ : Ty} → Typed E Θ Γ e τ → Env Γ env → nodeOf e at .subterms ≡ 0 → (isConstant (nodeOf e at .rule) ≡ false) → Variable E Θ s at n env e τ
   variable (Var x) v h f = record { bound = shared-bound x v; is = refl; bytes = omega arith; shallow = refl }
   variable (LVar x) v h f = record { bound = linear-bound x v; is = refl; bytes = omega arith; shallow = refl }
   variable (→I eτ sh d) v h f = absurd (omega arith)
@@ -259,8 +285,9 @@ module _ {Θ : Table} (s : List ℕ) (at n : ℕ) (env : List Bound) where
   variable (×I z eτ s₁ s₂ d c) v h f = absurd (omega arith)
   variable (×E z s₁ s₂ d c) v h f = absurd (omega arith)
   variable (Con p e z) v h f = absurd (true≢false f)
+  variable (×E′ i z sh d c) v h f = absurd (omega arith)
 
-  pub constant : {Γ : Ctx} {e : Term} {τ : Ty} → Typed Θ Γ e τ → Ranged Θ e → isConstant (nodeOf e at .rule) ≡ true → Constant Θ s at n env e τ
+  pub constant : {Γ : Ctx} {e : Term} {τ : Ty} → Typed E Θ Γ e τ → Ranged E Θ e → isConstant (nodeOf e at .rule) ≡ true → Constant E Θ s at n env e τ
   constant (Var x) rg f = absurd (true≢false (sym f))
   constant (LVar x) rg f = absurd (true≢false (sym f))
   constant (→I eτ sh d) rg f = absurd (true≢false (sym f))
@@ -270,4 +297,5 @@ module _ {Θ : Table} (s : List ℕ) (at n : ℕ) (env : List Bound) where
   constant (⊸E z ar d c) rg f = absurd (true≢false (sym f))
   constant (×I z eτ s₁ s₂ d c) rg f = absurd (true≢false (sym f))
   constant (×E z s₁ s₂ d c) rg f = absurd (true≢false (sym f))
+  constant (×E′ i z sh d c) rg f = absurd (true≢false (sym f))
   constant (Con p e z) rg f = record { known = p; named = rg; is-type = e; is = refl; bytes = omega arith; shallow = refl }

@@ -82,7 +82,7 @@ module _ {s sizes w : List ℕ} {node : Node} {st : State} (q : Here s sizes w n
   abbrev n : ℕ
   n = st .next
 
-  one-binding : Binding Θ s (q .at) n (Q .env) (Q .term) (Q .type)
+  one-binding : Binding (Q .edition) Θ s (q .at) n (Q .env) (Q .term) (Q .type)
   one-binding = binding (Q .knows) (q .at) n (Q .env) (Q .typed) (Q .stands) (Q .ranged) (Q .fits) (rw (q .is) at one)
 
   abbrev t : ℕ
@@ -190,6 +190,7 @@ module _ {s sizes w : List ℕ} {node : Node} {st : State} (q : Here s sizes w n
 
     pub body-asks : Asks s sizes w₁ (node .next) r
     body-asks = record {
+      edition = Q .edition;
       table = Θ;
       knows = Q .knows;
       term = one-binding .body;

@@ -4,7 +4,7 @@ use mathlib.Core.Bool.{true}
 use mathlib.Core.Path.{_≡_, refl, ap, _∙_}
 use mathlib.Core.List.{List}
 use lib.ListN.{length}
-use Rattle.calculus.specs.Terms.{Term, var, lvar, fun, app, lfun, lapp, pair, proj, fix, con}
+use Rattle.calculus.specs.Terms.{Term, var, lvar, fun, app, lfun, lapp, pair, proj, fix, con, name}
 use Rattle.sheet_theorems.specs.Laid.{Stands}
 use Rattle.records.specs.Record.{nodeAt}
 use Rattle.records.specs.Heads.{nodeOf}
@@ -24,6 +24,7 @@ subterms-of (pair t a b) at f g = refl
 subterms-of (proj a b) at f g = refl
 subterms-of (fix t e) at f g = absurd (g refl)
 subterms-of (con p t) at f g = absurd (f refl)
+subterms-of (name a e) at f g = refl
 
 module _ {s sizes w : List ℕ} {at : ℕ} {st : State} (q : Asks s sizes w at st) {node : Node} (e : node ≡ nodeAt s at) where
   pub node-of : node ≡ nodeOf (q .term) at

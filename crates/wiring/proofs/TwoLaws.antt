@@ -2,20 +2,20 @@
 use Prim.Native.Nat.{ℕ, _+_, _*_, _≤_, _<_}
 use mathlib.Core.Path.{_≡_, refl, sym, ap, ap₂, _∙_, subst}
 use mathlib.Core.Logic.{_⊎_, inr, ⊎-elim}
-use mathlib.Core.Bool.{Bool, true, false, cond}
+use mathlib.Core.Bool.{Bool, true, false, cond, true≢false}
 use mathlib.Core.List.{List, [], _∷_, _++_, map}
 use native.Mathlib.Omega.{arith}
 use lib.ListN.{length, getD, take, drop, length-append, length-map, length-drop}
 use lib.Seq.{take-all, drop-at, drop-drop}
 use Rattle.laws.proofs.Parts.{map-take, map-drop}
 use Rattle.calculus.specs.Types.{Ty, size, Table, tree}
-use Rattle.calculus.specs.Terms.{Term, var, lvar, fun, app, lfun, lapp, pair, proj, fix, con}
+use Rattle.calculus.specs.Terms.{Term, var, lvar, fun, app, lfun, lapp, pair, proj, fix, con, name}
 use Rattle.calculus.specs.Write.{termBytes}
 use Rattle.sheet_theorems.specs.Laid.{Stands, depth}
-use Rattle.calculus.specs.Net.{turns, Interface, Made, make, leftOf, rightOf, join, firstHalf, secondHalf}
+use Rattle.calculus.specs.Net.{turns, Interface, Made, make, leftOf, rightOf, join, firstHalf, secondHalf, wholeOf}
 use Rattle.records.specs.Heads.{nodeOf}
 use Rattle.records.specs.Forms.{recIn}
-use Rattle.records.specs.Rules.{isProjection}
+use Rattle.records.specs.Rules.{isProjection, isNaming}
 use Rattle.records.specs.declared.Rule.{Rule}
 use Rattle.records.specs.declared.Node.{Node}
 use Rattle.memory.specs.Map.{region, code, kindOf}
@@ -26,8 +26,8 @@ use Rattle.wiring.specs.declared.walk.State.{State}
 use Rattle.wiring.specs.declared.walk.Built.{Built}
 use Rattle.wiring.specs.Sides.{sidesOf}
 use Rattle.wiring.specs.Store.{Store, Holds, atBinders, target, after}
-use Rattle.wiring.specs.Asks.{BoundAt, Binds, Asks, madeOf, Leaves, Here, halved, betweenIn, middle, Between}
-use Rattle.wiring.specs.Nodes.{Applied, Paired, Projected, Twofold}
+use Rattle.wiring.specs.Asks.{BoundAt, Binds, Asks, madeOf, Leaves, Here, halved, namedIn, byBinding, betweenIn, middle, Between}
+use Rattle.wiring.specs.Nodes.{Applied, Paired, Halved, Whole, Projected, Twofold}
 use Rattle.wiring.proofs.StoreLaws.{push-binders}
 use Rattle.wiring.proofs.NodeLaws.{Sided, sided-at, twofold}
 use Rattle.wiring.proofs.BindLaws.{binds-grow, binds-push}
@@ -43,6 +43,7 @@ depth-some (pair t a b) = omega arith
 depth-some (proj a e) = omega arith
 depth-some (fix t e) = omega arith
 depth-some (con p t) = omega arith
+depth-some (name a e) = omega arith
 
 -- the two parts of an interface that stands on top of the stack
 front-region : (stack : List ℕ) (side : Interface) (top k : ℕ) → length stack ≡ top → map code (take k side) ≡ region (stack ++ map code side) top k
@@ -64,7 +65,7 @@ module _ {s sizes w : List ℕ} {node : Node} {st : State} (q : Here s sizes w n
   abbrev pub n : ℕ
   n = st .next
 
-  pub both : Twofold Θ s (q .at) n (Q .env) (Q .term) (Q .type)
+  pub both : Twofold (Q .edition) Θ s (q .at) n (Q .env) (Q .term) (Q .type)
   both = twofold (Q .knows) (q .at) n (Q .env) (Q .typed) (Q .stands) (Q .ranged) (Q .fits) (rw (q .is) at two)
 
   abbrev pub x : Made
@@ -74,9 +75,9 @@ module _ {s sizes w : List ℕ} {node : Node} {st : State} (q : Here s sizes w n
   y = make Θ (both .second) (both .env₂) (x .next)
 
   abbrev pub Sort : Type 0
-  Sort = Applied Θ s (q .at) n (Q .env) (Q .term) (Q .type) x y (both .type) (both .env₂) (both .type₂)
-      ⊎ (Paired Θ s (q .at) n (Q .env) (Q .term) (Q .type) x y (both .type) (both .env₂) (both .type₂)
-      ⊎ Projected Θ s (q .at) n (Q .env) (Q .term) (Q .type) x y (both .type) (both .env₂) (both .type₂))
+  Sort = Applied (Q .edition) Θ s (q .at) n (Q .env) (Q .term) (Q .type) x y (both .type) (both .env₂) (both .type₂)
+      ⊎ (Paired (Q .edition) Θ s (q .at) n (Q .env) (Q .term) (Q .type) x y (both .type) (both .env₂) (both .type₂)
+      ⊎ Projected (Q .edition) Θ s (q .at) n (Q .env) (Q .term) (Q .type) x y (both .type) (both .env₂) (both .type₂))
 
   pub rule-is : (f : Rule → Bool) → f (node .rule) ≡ f (nodeOf (Q .term) (q .at) .rule)
   rule-is f = ap (λ (z : Node). f (z .rule)) (q .is)
@@ -107,6 +108,7 @@ module _ {s sizes w : List ℕ} {node : Node} {st : State} (q : Here s sizes w n
 
   pub first-asks : Asks s sizes w (node .next) st
   first-asks = record {
+    edition = Q .edition;
     table = Θ;
     knows = Q .knows;
     term = both .first;
@@ -177,8 +179,11 @@ module _ {s sizes w : List ℕ} {node : Node} {st : State} (q : Here s sizes w n
     abbrev pub both-bound : List ℕ
     both-bound = bound ++ right ∷ (2 * (st .top + getD sizes left 0)) ∷ []
 
+    abbrev pub one-bound : List ℕ
+    one-bound = Q .store .binders ++ f .ty ∷ (2 * st .top) ∷ []
+
     abbrev pub binders₂ : List ℕ
-    binders₂ = cond (isProjection (node .rule)) both-bound (Q .store .binders)
+    binders₂ = byBinding (node .rule) both-bound one-bound (Q .store .binders)
 
     abbrev pub store₂ : Store
     store₂ = atBinders (after (Q .store) x) binders₂
@@ -194,16 +199,25 @@ module _ {s sizes w : List ℕ} {node : Node} {st : State} (q : Here s sizes w n
         push-binders P (right ∷ (2 * (st .top + getD sizes left 0)) ∷ []) (27392 + 2 * (st .scope + 1))
         (omega (arith, length-append (Q .store .binders) (left ∷ (2 * st .top) ∷ []))) (omega (arith, scope-few, length-append (Q .store .binders) (left ∷ (2 * st .top) ∷ [])))
 
+    named-holds : Holds (namedIn w₁ (f .ty) (st .scope) (st .top)) (atBinders (after (Q .store) x) one-bound)
+    named-holds =
+        let c = Q .binds .count in
+        push-binders first-holds (f .ty ∷ (2 * st .top) ∷ []) (27392 + 2 * st .scope) (omega arith) (omega (arith, scope-few))
+
     pub between-holds : (w₂ : List ℕ) → w₂ ≡ betweenIn s sizes w₁ node st f → Holds w₂ store₂
     unfolding betweenIn
-    between-holds w₂ e = rw e (by (isProjection (node .rule)))
+    between-holds w₂ e = rw e (by (isProjection (node .rule)) (isNaming (node .rule)))
       where
-        by : (c : Bool) → Holds (cond c (halved s sizes w₁ (f .ty) (st .scope) (st .top)) w₁) (atBinders (after (Q .store) x) (cond c both-bound (Q .store .binders)))
-        by true = halved-holds
-        by false = first-holds
+        by : (c d : Bool) → Holds (cond c (halved s sizes w₁ (f .ty) (st .scope) (st .top)) (cond d (namedIn w₁ (f .ty) (st .scope) (st .top)) w₁)) (atBinders (after (Q .store) x) (cond c both-bound (cond d one-bound (Q .store .binders))))
+        by true d = halved-holds
+        by false true = named-holds
+        by false false = first-holds
+
+    long : length (Q .store .stack ++ map code (x .side)) ≡ st .top + length (x .side)
+    long = length-append (Q .store .stack) (map code (x .side)) ∙ ap₂ _+_ (Q .top) (length-map (x .side) code)
 
     -- the halves of a projection
-    module _ (z : Projected Θ s (q .at) n (Q .env) (Q .term) (Q .type) x y (both .type) (both .env₂) (both .type₂)) where
+    module _ (z : Halved (Q .edition) Θ s (q .at) n (Q .env) (Q .term) (Q .type) x y (both .type) (both .env₂) (both .type₂)) where
       sided : Sided Θ (f .ty) left right
       sided = sided-at (Q .knows) (f .ty) (first-left .1) (λ e. z .product (sym (first-left .2) ∙ e))
 
@@ -218,9 +232,6 @@ module _ {s sizes w : List ℕ} {node : Node} {st : State} (q : Here s sizes w n
 
       sum : length (x .side) ≡ size (leftOf (x .type)) + size (rightOf (x .type))
       sum = first-length ∙ z .sum ∙ ap₂ _+_ (ap (λ (τ : Ty). size (leftOf τ)) (sym first-type)) (ap (λ (τ : Ty). size (rightOf τ)) (sym first-type))
-
-      long : length (Q .store .stack ++ map code (x .side)) ≡ st .top + length (x .side)
-      long = length-append (Q .store .stack) (map code (x .side)) ∙ ap₂ _+_ (Q .top) (length-map (x .side) code)
 
       first-bound : BoundAt Θ (Q .store .stack ++ map code (x .side)) left (2 * st .top) (firstHalf x)
       first-bound = record {
@@ -253,21 +264,51 @@ module _ {s sizes w : List ℕ} {node : Node} {st : State} (q : Here s sizes w n
           subst (λ (k : ℕ). Binds Θ (Q .store .stack ++ map code (x .side)) both-bound k (secondHalf x ∷ firstHalf x ∷ Q .env)) e
           (binds-push bound (binds-push (Q .store .binders) (binds-grow (map code (x .side)) (Q .binds)) left (2 * st .top) (firstHalf x) first-bound) right (2 * (st .top + getD sizes left 0)) (secondHalf x) second-bound)
 
-    same-binds : (isProjection (node .rule) ≡ false) → both .env₂ ≡ Q .env → Binds Θ (Q .store .stack ++ map code (x .side)) binders₂ (cond (isProjection (node .rule)) (st .scope + 2) (st .scope)) (both .env₂)
-    same-binds h e =
-        subst (λ (c : Bool). Binds Θ (Q .store .stack ++ map code (x .side)) (cond c both-bound (Q .store .binders)) (cond c (st .scope + 2) (st .scope)) (both .env₂)) (sym h)
-        (subst (Binds Θ (Q .store .stack ++ map code (x .side)) (Q .store .binders) (st .scope)) (sym e) (binds-grow (map code (x .side)) (Q .binds)))
+    -- the whole first
+    whole-bound : BoundAt Θ (Q .store .stack ++ map code (x .side)) (f .ty) (2 * st .top) (wholeOf x)
+    whole-bound =
+        let is : x .type ≡ tree Θ (f .ty) = first-type ∙ sym (first-left .2) in
+        let l : length (x .side) ≡ size (tree Θ (f .ty)) = first-length ∙ ap size (sym (first-left .2)) in
+        record {
+          named = first-left .1;
+          type = is;
+          side = inr (record {
+            height = st .top;
+            is = refl;
+            below = omega (arith, long, l);
+            shown = ap (map code) (sym (take-all (size (tree Θ (f .ty))) (x .side) (omega arith))) ∙ front-region (Q .store .stack) (x .side) (st .top) (size (tree Θ (f .ty))) (Q .top);
+          });
+        }
 
-    pub two-binds : Binds Θ (Q .store .stack ++ map code (x .side)) binders₂ (cond (isProjection (node .rule)) (st .scope + 2) (st .scope)) (both .env₂)
-    two-binds = ⊎-elim (λ z. same-binds (rule-is isProjection ∙ z .not-proj) (z .same))
-        (⊎-elim (λ z. same-binds (rule-is isProjection ∙ z .not-proj) (z .same))
-        (λ z. subst (λ (c : Bool). Binds Θ (Q .store .stack ++ map code (x .side)) (cond c both-bound (Q .store .binders)) (cond c (st .scope + 2) (st .scope)) (both .env₂)) (sym (rule-is isProjection ∙ z .proj))
-        (subst (Binds Θ (Q .store .stack ++ map code (x .side)) both-bound (st .scope + 2)) (sym (z .halves)) (halves-bind z)))) (both .sort)
+    whole-binds : Binds Θ (Q .store .stack ++ map code (x .side)) one-bound (st .scope + 1) (wholeOf x ∷ Q .env)
+    whole-binds = binds-push (Q .store .binders) (binds-grow (map code (x .side)) (Q .binds)) (f .ty) (2 * st .top) (wholeOf x) whole-bound
+
+    abbrev pub scope₂ : ℕ
+    scope₂ = byBinding (node .rule) (st .scope + 2) (st .scope + 1) (st .scope)
+
+    -- the binders of a sort
+    abbrev BindsBy : Bool → Bool → Type 0
+    BindsBy c d = Binds Θ (Q .store .stack ++ map code (x .side)) (cond c both-bound (cond d one-bound (Q .store .binders))) (cond c (st .scope + 2) (cond d (st .scope + 1) (st .scope))) (both .env₂)
+
+    by-sort : (c d : Bool) → isProjection (node .rule) ≡ c → (c ≡ false → isNaming (node .rule) ≡ d) → BindsBy c d → Binds Θ (Q .store .stack ++ map code (x .side)) binders₂ scope₂ (both .env₂)
+    by-sort true d e f B = subst (λ (c : Bool). BindsBy c (isNaming (node .rule))) (sym e) B
+    by-sort false d e f B = subst (λ (c : Bool). BindsBy c (isNaming (node .rule))) (sym e) (subst (BindsBy false) (sym (f refl)) B)
+
+    same-binds : both .env₂ ≡ Q .env → BindsBy false false
+    same-binds e = subst (Binds Θ (Q .store .stack ++ map code (x .side)) (Q .store .binders) (st .scope)) (sym e) (binds-grow (map code (x .side)) (Q .binds))
+
+    pub two-binds : Binds Θ (Q .store .stack ++ map code (x .side)) binders₂ scope₂ (both .env₂)
+    two-binds = ⊎-elim (λ z. by-sort false false (rule-is isProjection ∙ z .not-proj) (λ _. rule-is isNaming ∙ z .not-naming) (same-binds (z .same)))
+        (⊎-elim (λ z. by-sort false false (rule-is isProjection ∙ z .not-proj) (λ _. rule-is isNaming ∙ z .not-naming) (same-binds (z .same)))
+        (λ p. ⊎-elim
+        (λ z. by-sort true false (rule-is isProjection ∙ z .proj) (λ e. absurd (true≢false e)) (subst (Binds Θ (Q .store .stack ++ map code (x .side)) both-bound (st .scope + 2)) (sym (z .halves)) (halves-bind z)))
+        (λ z. by-sort false true (rule-is isProjection ∙ z .not-proj) (λ _. rule-is isNaming ∙ z .naming) (subst (Binds Θ (Q .store .stack ++ map code (x .side)) one-bound (st .scope + 1)) (sym (z .whole)) whole-binds))
+        (p .bound))) (both .sort)
 
     -- ---- the second
 
     module _ {r : State} {w₂ : List ℕ} (er : r ≡ middle node st f) (ew : w₂ ≡ betweenIn s sizes w₁ node st f) where
-      middle-is : (r .next ≡ x .next) × (r .elements ≡ st .elements + length (x .elements)) × (r .wires ≡ st .wires + length (x .wires)) × (r .top ≡ st .top + length (x .side)) × (r .scope ≡ cond (isProjection (node .rule)) (st .scope + 2) (st .scope))
+      middle-is : (r .next ≡ x .next) × (r .elements ≡ st .elements + length (x .elements)) × (r .wires ≡ st .wires + length (x .wires)) × (r .top ≡ st .top + length (x .side)) × (r .scope ≡ scope₂)
       unfolding middle
       middle-is =
           let l = first-left in (
@@ -279,17 +320,19 @@ module _ {s sizes w : List ℕ} {node : Node} {st : State} (q : Here s sizes w n
           )
 
       scope-most : r .scope ≤ st .scope + 2
-      scope-most = rw (middle-is .4) (by (isProjection (node .rule)))
+      scope-most = rw (middle-is .4) (by (isProjection (node .rule)) (isNaming (node .rule)))
         where
-          by : (c : Bool) → cond c (st .scope + 2) (st .scope) ≤ st .scope + 2
-          by true = omega arith
-          by false = omega arith
+          by : (c d : Bool) → cond c (st .scope + 2) (cond d (st .scope + 1) (st .scope)) ≤ st .scope + 2
+          by true d = omega arith
+          by false true = omega arith
+          by false false = omega arith
 
       pub second-is : make Θ (both .second) (both .env₂) (r .next) ≡ y
       second-is = ap (make Θ (both .second) (both .env₂)) (middle-is .0)
 
       pub second-asks : Asks s sizes w₂ (f .past) r
       second-asks = record {
+        edition = Q .edition;
         table = Θ;
         knows = Q .knows;
         term = both .second;

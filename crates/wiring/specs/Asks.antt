@@ -2,13 +2,13 @@
 use Prim.Native.Nat.{ℕ, _+_, _*_, _-_, _/_, _%_, _≤_, _<_}
 use mathlib.Core.Path.{_≡_}
 use mathlib.Core.Logic.{_⊎_}
-use mathlib.Core.Bool.{cond, true, false}
+use mathlib.Core.Bool.{Bool, cond, true, false, _||_}
 use mathlib.Core.List.{List, [], _∷_, _++_, map}
 use lib.ListN.{length, getD, replicate}
 use lib.Seq.{sets}
 use lib.Dec.{eqb}
 use Rattle.calculus.specs.Types.{Ty, size, Table, tree}
-use Rattle.calculus.specs.Terms.{Term}
+use Rattle.calculus.specs.Terms.{Edition, Term}
 use Rattle.calculus.specs.Write.{termBytes}
 use Rattle.sheet_theorems.specs.Laid.{Stands, Ranged, depth}
 use Rattle.calculus.specs.Rules.{Ctx, Typed}
@@ -16,7 +16,8 @@ use Rattle.calculus.specs.Net.{turns, Interface, outSide, Bound, unbound, Made,
 use Rattle.records.specs.Heads.{nodeOf}
 use Rattle.records.specs.Forms.{recIn}
 use Rattle.records.specs.declared.Node.{Node}
-use Rattle.records.specs.Rules.{isPair, isProjection, isFixedPoint}
+use Rattle.records.specs.declared.Rule.{Rule}
+use Rattle.records.specs.Rules.{isPair, isProjection, isFixedPoint, isNaming}
 use Rattle.memory.specs.Map.{region, code}
 use Rattle.circuit_theorems.proofs.Drivers.{Env}
 use Rattle.wiring.specs.declared.walk.State.{State}
@@ -68,14 +69,15 @@ pub record Binds (Θ : Table) (stack binders : List ℕ) (scope : ℕ) (env : Li
 -- ---- a term at an offset
 
 pub record Asks (s sizes w : List ℕ) (at : ℕ) (st : State) : Type 0 where
+  pub edition : Edition
   pub table : Table
   pub knows : Knows s sizes table
   pub term : Term
   pub stands : Stands s at term
-  pub ranged : Ranged table term
+  pub ranged : Ranged edition table term
   pub context : Ctx
   pub type : Ty
-  pub typed : Typed table context term type
+  pub typed : Typed edition table context term type
   pub env : List Bound
   pub fits : Env context env
   pub store : Store
@@ -169,9 +171,21 @@ halved s sizes w t scope top =
     let x = sidesOf (recIn s t) in
     sets (sets w (27392 + 2 * scope) (x .left ∷ 2 * top ∷ [])) (27392 + 2 * (scope + 1)) (x .right ∷ 2 * (top + getD sizes (x .left) 0) ∷ [])
 
+-- the whole of a term of type t that stands at height `top`, bound
+abbrev pub namedIn : List ℕ → ℕ → ℕ → ℕ → List ℕ
+namedIn w t scope top = sets w (27392 + 2 * scope) (t ∷ 2 * top ∷ [])
+
+-- the body's interface is the result
+abbrev pub ofBody : Rule → Bool
+ofBody u = isProjection u || isNaming u
+
+-- by the rule: of a projection, of 1B, of any other
+abbrev pub byBinding : {A : Type 0} → Rule → A → A → A → A
+byBinding u a b c = cond (isProjection u) a (cond (isNaming u) b c)
+
 -- between the subterms
 unfoldable pub betweenIn : List ℕ → List ℕ → List ℕ → Node → State → Built → List ℕ
-betweenIn s sizes w node st f = cond (isProjection (node .rule)) (halved s sizes w (f .ty) (st .scope) (st .top)) w
+betweenIn s sizes w node st f = byBinding (node .rule) (halved s sizes w (f .ty) (st .scope) (st .top)) (namedIn w (f .ty) (st .scope) (st .top)) w
 
 unfoldable pub middle : Node → State → Built → State
 middle node st f = record {
@@ -179,7 +193,7 @@ middle node st f = record {
   elements = f .elements;
   wires = f .wires;
   top = st .top + f .len;
-  scope = cond (isProjection (node .rule)) (st .scope + 2) (st .scope);
+  scope = byBinding (node .rule) (st .scope + 2) (st .scope + 1) (st .scope);
 }
 
 pub record Between (sizes w : List ℕ) (st : State) (f : Built) : Type 0 where
@@ -195,21 +209,21 @@ appliedIn w at l m k =
 
 unfoldable pub finishedIn : List ℕ → Node → ℕ → Built → Built → List ℕ
 finishedIn w node top f x =
-    cond (isProjection (node .rule)) (sets w (18944 + top) (region w (18944 + top + f .len) (x .len)))
+    cond (ofBody (node .rule)) (sets w (18944 + top) (region w (18944 + top + f .len) (x .len)))
     (cond (isPair (node .rule)) w (appliedIn w (18944 + top) (f .len) (x .len) (x .wires)))
 
 unfoldable pub finished : List ℕ → Node → Built → Built → Built
 finished s node f x = record {
   past = x .past;
-  ty = cond (isProjection (node .rule)) (x .ty) (cond (isPair (node .rule)) (node .first) (sidesOf (recIn s (f .ty)) .right));
-  len = cond (isProjection (node .rule)) (x .len) (cond (isPair (node .rule)) (f .len + x .len) (f .len - x .len));
+  ty = cond (ofBody (node .rule)) (x .ty) (cond (isPair (node .rule)) (node .first) (sidesOf (recIn s (f .ty)) .right));
+  len = cond (ofBody (node .rule)) (x .len) (cond (isPair (node .rule)) (f .len + x .len) (f .len - x .len));
   next = x .next;
   elements = x .elements;
-  wires = cond (isProjection (node .rule)) (x .wires) (cond (isPair (node .rule)) (x .wires) (x .wires + x .len));
+  wires = cond (ofBody (node .rule)) (x .wires) (cond (isPair (node .rule)) (x .wires) (x .wires + x .len));
 }
 
 pub record Finishable (w : List ℕ) (node : Node) (top : ℕ) (f x : Built) : Type 0 where
   pub memory : 32768 ≤ length w
   pub small : (f .len ≤ 128) × (x .len ≤ 128) × (x .wires ≤ 5632)
   pub height : top + f .len + x .len ≤ 8448
-  pub apart : (isProjection (node .rule) ≡ false) → (isPair (node .rule) ≡ false) → (x .len ≤ f .len) × Apart w (18944 + top + f .len) (18944 + top) (x .len) (x .wires)
+  pub apart : (ofBody (node .rule) ≡ false) → (isPair (node .rule) ≡ false) → (x .len ≤ f .len) × Apart w (18944 + top + f .len) (18944 + top) (x .len) (x .wires)

@@ -6,7 +6,7 @@ use mathlib.Core.List.{List, [], _∷_, _++_}
 use lib.ListN.{getD, drop}
 use lib.Dec.{eqb}
 use Rattle.calculus.specs.Types.{Table}
-use Rattle.calculus.specs.Terms.{Term, nodes, partAt}
+use Rattle.calculus.specs.Terms.{Edition, Term, nodes, partAt}
 use Rattle.calculus.specs.Write.{termBytes}
 use Rattle.sheet_theorems.specs.Laid.{Stands, Ranged}
 use Rattle.calculus.specs.Record.{All}
@@ -23,11 +23,12 @@ ownIn s sizes node =
 
 -- a term that stands in a read sheet, with its number of nodes
 pub record Counting (s sizes : List ℕ) (at count : ℕ) : Type 0 where
+  pub edition : Edition
   pub table : Table
   pub knows : Knows s sizes table
   pub term : Term
   pub stands : Stands s at term
-  pub ranged : Ranged table term
+  pub ranged : Ranged edition table term
   pub nodes-are : count ≡ nodes term
   pub few : count ≤ 2048
 
@@ -46,10 +47,10 @@ rowTerminals Θ [] = 0
 rowTerminals Θ (e ∷ es) = terminals Θ e + rowTerminals Θ es
 
 -- what is left to count: a row of terms stands at the offset
-pub record Row (Θ : Table) (s : List ℕ) (whole : Term) (at left total : ℕ) : Type 0 where
+pub record Row (E : Edition) (Θ : Table) (s : List ℕ) (whole : Term) (at left total : ℕ) : Type 0 where
   pub row : List Term
   pub rest : List ℕ
   pub here : drop at s ≡ rowBytes row ++ rest
-  pub ranged : All (Ranged Θ) row
+  pub ranged : All (Ranged E Θ) row
   pub count : left ≡ rowNodes row
   pub sum : total + rowTerminals Θ row ≡ terminals Θ whole

@@ -1,4 +1,5 @@
-// The full netlist of a sheet in the working memory: its terminals counted, its elements, wires and pins made.
+// The full netlist of a sheet in the working memory: its terminals counted, its elements, wires and pins made. The bytes are those
+// behind the sheet's opening: no edition is seen here.
 use memory::DRIVERS;
 use memory::NONE;
 use memory::TERMINALS;
@@ -8,10 +9,7 @@ use walk::State;
 ghost use mathlib.Core.Path.{_≡_};
 ghost use mathlib.Core.List.{[]};
 ghost use lib.ListN.{length};
-ghost use Rattle.calculus.specs.Answer.{good};
-ghost use Rattle.calculus.specs.Read.{Sheet, readSheet};
-ghost use Rattle.calculus.specs.Translate.{full};
-ghost use Rattle.calculus.specs.Net.{make, Net};
+ghost use Rattle.calculus.specs.Net.{make};
 ghost use Rattle.wiring.specs.Count.{ownIn};
 ghost use Rattle.wiring.specs.Whole.{Read, Accepted, Stands};
 
@@ -39,7 +37,7 @@ fn own_terminals(s: &[u8], sizes: &[u8], node: Node) -> usize
 // The terminals of a read sheet's term, which begins at an offset and has so many nodes. They can be more than 8,192.
 pub fn count(s: &[u8], sizes: &[u8], from: usize, nodes: usize) -> usize
     requires { ⌜ Read (now s) (now sizes) from nodes ⌝ }
-    ensures { λ r. ⌜ ((σ : Sheet) → readSheet (now (s .entry)) ≡ good σ → r ≡ make (σ .table) (σ .term) [] 0 .next) ⌝ }
+    ensures { λ r. ⌜ ((q : Read (now (s .entry)) (now (sizes .entry)) from nodes) → r ≡ make (q .told .sheet .table) (q .told .sheet .term) [] 0 .next) ⌝ }
 {
     let mut at = from;
     let mut left = nodes;
@@ -63,7 +61,7 @@ pub struct Counts {
 // The full netlist of an accepted sheet, whose term begins at an offset, made in the working memory.
 pub fn make_net(s: &[u8], sizes: &[u8], work: &mut [u16], at: usize) -> Counts
     requires { ⌜ Accepted (now s) (now sizes) (now work) at ⌝ }
-    ensures { λ r. ⌜ ((m : Net) → full (now (s .entry)) ≡ good m → Stands m r (now (work .entry)) (now (work .exit))) ⌝ }
+    ensures { λ r. ⌜ ((q : Accepted (now (s .entry)) (now (sizes .entry)) (now (work .entry)) at) → Stands (q .net) r (now (work .entry)) (now (work .exit))) ⌝ }
 {
     wires::fill(work, DRIVERS, TERMINALS, NONE);
     let start = State {

@@ -211,7 +211,7 @@ fn bind_halves(s: &[u8], sizes: &[u8], work: &mut [u16], t: u8, scope: usize, to
     bind(work, scope + 1, right, 2 * (top + l));
 }
 
-// Between two subterms: a projection binds the two halves of the first.
+// Between two subterms: a projection binds the two halves of the first, 1B the whole first.
 fn between(s: &[u8], sizes: &[u8], work: &mut [u16], node: Node, st: State, f: Built) -> State
     requires { ⌜ Between (now sizes) (now work) st f ⌝ }
     ensures { λ r. ⌜ (r ≡ middle node st f) × (now (work .exit) ≡ betweenIn (now (s .entry)) (now (sizes .entry)) (now (work .entry)) node st f) ⌝ }
@@ -233,6 +233,16 @@ fn between(s: &[u8], sizes: &[u8], work: &mut [u16], node: Node, st: State, f: B
                 scope: scope + 2,
             }
         }
+        Rule::Naming => {
+            bind(work, scope, f.ty, 2 * st.top);
+            State {
+                next,
+                elements,
+                wires,
+                top,
+                scope: scope + 1,
+            }
+        }
         _ => State {
             next,
             elements,
@@ -252,7 +262,7 @@ fn apply(work: &mut [u16], at: usize, l: usize, m: usize, wires: usize)
     wires::copy(work, at + m, at, l - m);
 }
 
-// After two subterms, the second's interface above the first's: of a projection the body's is the result, of a pair both, of an
+// After two subterms, the second's interface above the first's: of a projection or 1B the body's is the result, of a pair both, of an
 // application the rest of the function's.
 fn finish(s: &[u8], work: &mut [u16], node: Node, top: usize, f: Built, x: Built) -> Built
     requires { ⌜ Finishable (now work) node top f x ⌝ }
@@ -266,7 +276,7 @@ fn finish(s: &[u8], work: &mut [u16], node: Node, top: usize, f: Built, x: Built
     let wires = x.wires;
     let rule = node.rule;
     match rule {
-        Rule::Projection => {
+        Rule::Projection | Rule::Naming => {
             wires::copy(work, STACK + top + l, STACK + top, len);
             shown_as(x, ty, len, wires)
         }

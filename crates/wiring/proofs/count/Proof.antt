@@ -9,7 +9,7 @@ use Rattle.wiring.proofs.count.Statement.{statement}
 use Rattle.wiring.proofs.count.Tie as tie
 
 abbrev Inv-loop : tie.InvT-loop
-Inv-loop s sizes from nodes at₀ left₀ total₀ at left total = (q : Counting s sizes from nodes) → Row (q .table) s (q .term) at left total
+Inv-loop s sizes from nodes at₀ left₀ total₀ at left total = (q : Counting s sizes from nodes) → Row (q .edition) (q .table) s (q .term) at left total
 
 abbrev μ-loop : tie.MeasureT-loop
 μ-loop s sizes from nodes at₀ left₀ total₀ at left total = left
@@ -48,7 +48,7 @@ loop-again c =
 
 returns : tie.Need-returns Inv-loop μ-loop
 returns c =
-    λ σ h. row-end (counting (c .before .before .before .before .pre) σ h) (c .before .loop .inv (counting (c .before .before .before .before .pre) σ h)) (omega arith)
+    λ p. let q = counting p (p .told .sheet) (p .told .is) in row-end q (c .before .loop .inv q) (omega arith)
 
 pub count-spec : {M : Type 1} → statement M
 count-spec =

@@ -17,9 +17,8 @@ same-length c = search needs
 
 returns : tie.Need-returns
 returns c =
-    λ m ok.
-    let p = c .before .before .before .before .before .before .before .before .before .before .before .pre in
-    root-stands p m ok (c .before .before .before .before .before .before .fill .ensures) (c .before .before .make .ensures (root-asks p m ok (c .before .before .before .before .before .before .fill .ensures)))
+    λ p.
+    root-stands p (p .net) (p .is) (c .before .before .before .before .before .before .fill .ensures) (c .before .before .make .ensures (root-asks p (p .net) (p .is) (c .before .before .before .before .before .before .fill .ensures)))
 
 pub make-net-spec : {M : Type 1} → statement M
 make-net-spec = tie.close (tie.spec fill-requires make-requires same-length returns)

@@ -2,10 +2,10 @@
 use native.Mathlib.Omega.{arith}
 use mathlib.Core.Path.{ap}
 use mathlib.Core.Logic.{inl}
-use Rattle.records.specs.Rules.{isPair, isProjection}
+use Rattle.records.specs.Rules.{isPair}
 use Rattle.wiring.specs.declared.faces.Sides.{Sides}
-use Rattle.wiring.specs.Asks.{finished, finishedIn}
-use Rattle.wiring.proofs.FinishLaws.{application}
+use Rattle.wiring.specs.Asks.{ofBody, finished, finishedIn}
+use Rattle.wiring.proofs.FinishLaws.{body-of, application}
 use borrow.Author.Needs.{needs}
 use Rattle.wiring.proofs.walk.finish.Statement.{statement}
 use Rattle.wiring.proofs.walk.finish.Tie as tie
@@ -23,13 +23,10 @@ add-copy-3 : tie.Need-add-copy-3
 add-copy-3 c = search needs
 
 copy-requires : tie.Need-copy-requires
-copy-requires c κs = (omega (arith, c .before .before .before .before .before .pre .height, c .before .before .before .before .before .pre .memory), omega (arith, c .before .before .before .before .before .pre .height, c .before .before .before .before .before .pre .memory), inl (omega arith))
+copy-requires c κs = (omega (arith, c .before .before .before .before .pre .height, c .before .before .before .before .pre .memory), omega (arith, c .before .before .before .before .pre .height, c .before .before .before .before .pre .memory), inl (omega arith))
 
 shown-as-requires : tie.Need-shown-as-requires
 shown-as-requires c κs = search needs
-
-enum-told-2 : tie.Need-enum-told-2
-enum-told-2 c = search needs
 
 add-shown-as : tie.Need-add-shown-as
 add-shown-as c = search needs
@@ -66,14 +63,14 @@ same-length c = search needs
 returns : tie.Need-returns
 unfolding finished finishedIn
 returns c =
-    let e = ap isProjection (c .before .before .before .before .before .enum-told .given .1) in
+    let e = body-of (c .before .before .before .before .before .before .before .before .args .node .rule) (c .before .before .before .before .before .match .keys1) in
     (rw e (c .shown-as .ensures), rw e (c .before .before .before .copy .ensures))
 
 returns-2 : tie.Need-returns-2
 unfolding finished finishedIn
 returns-2 c =
-    let e = ap isProjection (c .before .enum-told2 .given .1) in
-    let g = ap isPair (c .before .enum-told2 .given .1) in
+    let e = ap ofBody (c .before .enum-told .given .1) in
+    let g = ap isPair (c .before .enum-told .given .1) in
     (rw (e, g) (c .shown-as2 .ensures), rw (e, g))
 
 same-length-2 : tie.Need-same-length-2
@@ -89,13 +86,12 @@ pub finish-spec : {M : Type 1} → statement M
 finish-spec =
     tie.close
     (tie.spec
-    enum-told
     add-copy
     add-copy-2
     add-copy-3
     copy-requires
     shown-as-requires
-    enum-told-2
+    enum-told
     add-shown-as
     shown-as-requires-2
     add-apply
