@@ -94,7 +94,7 @@ module _ (w : List ℕ) (e k p : ℕ) (r : Ready w e k p) where
       let b = pins-first w stackAt p (omega arith) in
       omega arith
 
-  elements-here : length (netIn w e k p .elements) ≡ e
+  pub elements-here : length (netIn w e k p .elements) ≡ e
   unfolding netIn
   elements-here = kinds-length (region w elementsAt e) 0 ∙ region-length w elementsAt e (omega arith)
 
