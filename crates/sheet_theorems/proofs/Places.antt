@@ -20,15 +20,17 @@ pub record Offset (s : List ℕ) (why : Refusal) : Type 0 where
   pub to : why .number ≤ 9
   pub within : why .place ≤ length s
   pub inside : (why .number ≡ 3 → ⊥) → why .place < length s
+  -- it names no types
+  pub plain : (why .wanted ≡ 0) × (why .found ≡ 0)
 
 module _ (s : List ℕ) where
   -- a record that is due or cut short
   cut : (at : ℕ) → at ≤ length s → Offset s (numbered 3 at)
-  cut at i = record { from = omega arith; to = omega arith; within = i; inside = λ e. absurd (e refl) }
+  cut at i = record { from = omega arith; to = omega arith; within = i; inside = λ e. absurd (e refl); plain = (refl, refl) }
 
   -- a record that is there
   there : (number at : ℕ) → 3 ≤ number → number ≤ 9 → at < length s → Offset s (numbered number at)
-  there number at a b i = record { from = a; to = b; within = omega arith; inside = λ _. i }
+  there number at a b i = record { from = a; to = b; within = omega arith; inside = λ _. i; plain = (refl, refl) }
 
   check-places : (Θ : Table) (r : TyRec) (at : ℕ) → at < length s → Judged (Offset s) Any (checkType Θ r at)
   check-places Θ r at i =
@@ -120,7 +122,7 @@ offset-places s r n l (good σ) h = value tt
 offset-places s r n l (refused why) (refusal h) = refusal (moved why h)
   where
     moved : (why : Refusal) → Offset r why → Offset s (record { number = why .number; place = n + why .place; wanted = why .wanted; found = why .found })
-    moved why h = record { from = h .from; to = h .to; within = omega (arith, h .within); inside = λ d. let i = h .inside d in omega arith }
+    moved why h = record { from = h .from; to = h .to; within = omega (arith, h .within); inside = λ d. let i = h .inside d in omega arith; plain = h .plain }
 
 opening-length : (s : List ℕ) → length (opening (editionOf s)) + length (recordsOf s) ≡ length s
 opening-length s = sym (ap length (opens s) ∙ length-append (opening (editionOf s)) (recordsOf s))
@@ -136,12 +138,13 @@ pub record ReadPlace (s : List ℕ) (why : Refusal) : Type 0 where
   pub inside : (why .number ≡ 3 → ⊥) → why .place < length s
   -- a sheet that is too long is refused as a whole
   pub whole : why .number ≡ 2 → why .place ≡ 0
+  pub plain : (why .wanted ≡ 0) × (why .found ≡ 0)
 
 long : (s : List ℕ) → leb (length s) 16384 ≡ false → ReadPlace s (numbered 2 0)
-long s f = let l = leb-false (length s) 16384 f in record { from = omega arith; to = omega arith; within = omega arith; few = omega arith; inside = λ _. omega arith; whole = λ _. refl }
+long s f = let l = leb-false (length s) 16384 f in record { from = omega arith; to = omega arith; within = omega arith; few = omega arith; inside = λ _. omega arith; whole = λ _. refl; plain = (refl, refl) }
 
 short : (s : List ℕ) (why : Refusal) → length s ≤ 16384 → Offset s why → ReadPlace s why
-short s why l o = record { from = omega (arith, o .from); to = o .to; within = o .within; few = omega (arith, o .within); inside = o .inside; whole = λ e. absurd (omega (arith, o .from)) }
+short s why l o = record { from = omega (arith, o .from); to = o .to; within = o .within; few = omega (arith, o .within); inside = o .inside; whole = λ e. absurd (omega (arith, o .from)); plain = o .plain }
 
 pub read-places : (s : List ℕ) → Judged (ReadPlace s) Any (readSheet s)
 unfolding readSheet

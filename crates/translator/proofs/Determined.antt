@@ -7,10 +7,9 @@ use lib.ListN.{length, drop}
 use contract.Lifetimes.{Lfts}
 use denote.Triple.Clauses.{AtExit}
 use borrow.Fn.Kinds.{Dens, resT, endedOf}
-use Rattle.calculus.specs.Answer.{Answer, good, refused}
-use Rattle.calculus.specs.Net.{Net}
+use Rattle.calculus.specs.Answer.{Refusal}
 use Rattle.calculus.specs.Translate.{workOf}
-use Rattle.calculus.proofs.Answers.{refused≢good, good-inj}
+use Rattle.calculus.proofs.Answers.{refused≢good, good-inj, refused-inj}
 use Rattle.memory.specs.Map.{netIn}
 use Rattle.memory.proofs.Zeroed.{zeroed-later}
 use Rattle.wiring.specs.Whole.{Stands}
@@ -33,13 +32,10 @@ one-made s w u v (made.Net c) (made.Net d) f g =
     let b : Stands (netIn u (c .elements) (c .wires) (c .pins)) d u v =
     record { net = n; ready = g .standing .0; known = g .standing .1; later = same-later u v (f .standing .0 .size) (g .standing .0 .size) (f .keeps ∙ sym (g .keeps)) } in
     ap made.Net (one-netlist a b .0)
-one-made s w u v (made.Net c) (made.Refused j q) f g = absurd (refused≢good (g .said ∙ sym (f .said)))
-one-made s w u v (made.Refused i p) (made.Net d) f g = absurd (refused≢good (f .said ∙ sym (g .said)))
-one-made s w u v (made.Refused i p) (made.Refused j q) f g =
-    let e : _≡_ {A = Answer Net} (refused i p) (refused j q) = f .said ∙ sym (g .said) in
-    let a : i ≡ j = cc in
-    let b : p ≡ q = cc in
-    rw (a, b)
+one-made s w u v (made.Net c) (made.Refused q) f g = absurd (refused≢good (g .said ∙ sym (f .said)))
+one-made s w u v (made.Refused p) (made.Net d) f g = absurd (refused≢good (f .said ∙ sym (g .said)))
+one-made s w u v (made.Refused p) (made.Refused q) f g =
+    ap (λ (why : Refusal). made.Refused (record { number = why .number; place = why .place; wanted = why .wanted; found = why .found })) (refused-inj (f .said ∙ sym (g .said)))
 
 pub make-determined : (κs : Lfts 2) (a : Dens κs make.ps) (x y : resT make.r κs .Denot) (s t : AtExit (endedOf 2 make.ps make.r) κs)
     → make-reads.Post κs a x s → make-reads.Post κs a y t → x ≡ y

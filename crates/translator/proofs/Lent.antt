@@ -1,9 +1,11 @@
 -- What a caller of `make` knows: the netlist that stands in the working memory, or the refusal. Assumes nothing.
-use Prim.Native.Nat.{ℕ}
 use mathlib.Core.Path.{_≡_, sym, ap, subst, _∙_}
 use mathlib.Core.List.{List}
 use lib.ListN.{length}
+use Prim.Native.Nat.{ℕ}
 use Rattle.calculus.specs.Answer.{good, refused}
+use Rattle.typing.specs.declared.Refusal.{Refusal}
+use Rattle.typing.specs.Verdicts.{saidWhy}
 use Rattle.memory.specs.Map.{netIn}
 use Rattle.wiring.specs.declared.Counts.{Counts}
 use Rattle.translator.specs.Made.{lent, saidMade, Standing, Makes}
@@ -17,5 +19,5 @@ module _ (r : code.Made) (s work after : List ℕ) (M : Makes r s work after) wh
   pub net-lent : (c : Counts) → r ≡ made.Net c → good (netIn after (c .elements) (c .wires) (c .pins)) ≡ lent (length work) s
   net-lent c e = ap (λ (x : code.Made). saidMade x after) (sym e) ∙ M .said
 
-  pub refusal-lent : (number place : ℕ) → r ≡ made.Refused number place → refused number place ≡ lent (length work) s
-  refusal-lent number place e = ap (λ (x : code.Made). saidMade x after) (sym e) ∙ M .said
+  pub refusal-lent : (why : Refusal) → r ≡ made.Refused why → refused (saidWhy why) ≡ lent (length work) s
+  refusal-lent why e = ap (λ (x : code.Made). saidMade x after) (sym e) ∙ M .said

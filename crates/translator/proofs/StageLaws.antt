@@ -1,26 +1,33 @@
 -- What the full netlist of a sheet is, by what the stages of a call find one after the other. Assumes nothing.
 use Prim.Native.Nat.{ℕ, _≤_, _<_}
-use mathlib.Core.Path.{_≡_, refl, sym, _∙_}
+use mathlib.Core.Path.{_≡_, refl, sym, ap, _∙_}
+use mathlib.Core.Bool.{Bool}
 use mathlib.Core.List.{List, []}
 use lib.ListN.{length}
 use borrow.Author.Tests.{lt-leb, le-leb}
-use Rattle.calculus.specs.Answer.{Answer, good, refused, _>>=_}
-use Rattle.calculus.proofs.Answers.{refused≢good, on-bind}
-use Rattle.calculus.specs.Read.{Sheet, readSheet}
+use Rattle.calculus.specs.Answer.{Refusal, Answer, good, refused, refuse, _>>=_}
+use Rattle.calculus.proofs.Answers.{refused≢good, refused-inj, on-bind}
+use Rattle.calculus.specs.Read.{Sheet, editionOf, recordsOf, readSheet}
+use Rattle.calculus.specs.Terms.{Edition}
 use Rattle.calculus.specs.Walk.{Found, walk}
 use Rattle.calculus.specs.Net.{Net, make, netOf}
 use Rattle.calculus.specs.Translate.{full}
-use Rattle.typing.specs.Answers.{typeOf, checkOf}
+use Rattle.sheet_theorems.proofs.Laying.{opened, laid}
+use Rattle.typing.specs.declared.Refusal.{Refusal as Why}
+use Rattle.typing.specs.Verdicts.{saidWhy}
+use Rattle.records.specs.Editions.{editionBy}
+use Rattle.typing.specs.Answers.{Read, typeOf, checkOf}
 use Rattle.wiring.specs.declared.Counts.{Counts}
 use Rattle.wiring.specs.Whole.{Stands}
-use Rattle.translator.specs.Made.{lent, Makes}
+use Rattle.translator.specs.Stages.{Opened}
+use Rattle.translator.specs.Made.{lent, refusedOf, Makes}
 use Rattle.translator.specs.declared.Made.the-variants as made
 use Rattle.translator.proofs.Keeping.{later-keeps}
 
 -- ---- answers
 
 -- with too little working memory
-lent-small : (memory : ℕ) (s : List ℕ) → memory < 32768 → lent memory s ≡ refused 1 0
+lent-small : (memory : ℕ) (s : List ℕ) → memory < 32768 → lent memory s ≡ refuse 1 0
 unfolding lent
 lent-small memory s h = rw (lt-leb 32768 memory h)
 
@@ -28,12 +35,12 @@ lent-enough : (memory : ℕ) (s : List ℕ) → 32768 ≤ memory → lent memory
 unfolding lent
 lent-enough memory s h = rw (le-leb 32768 memory h)
 
-pub small-makes : (s work : List ℕ) → length work < 32768 → Makes (made.Refused 1 0) s work work
+pub small-makes : (s work : List ℕ) → length work < 32768 → Makes (refusedOf 1 0) s work work
 small-makes s work h = record { said = sym (lent-small (length work) s h); standing = tt; keeps = refl }
 
 -- a refusal leaves the working memory
-refused-makes : (s work : List ℕ) (number place : ℕ) → 32768 ≤ length work → full s ≡ refused number place → Makes (made.Refused number place) s work work
-refused-makes s work number place h e = record { said = sym (lent-enough (length work) s h ∙ e); standing = tt; keeps = refl }
+refused-makes : (s work : List ℕ) (why : Why) → 32768 ≤ length work → full s ≡ refused (saidWhy why) → Makes (made.Refused why) s work work
+refused-makes s work why h e = record { said = sym (lent-enough (length work) s h ∙ e); standing = tt; keeps = refl }
 
 -- a netlist that stands in it
 pub net-makes : (s work after : List ℕ) (c : Counts) (m : Net) → 32768 ≤ length work → full s ≡ good m → Stands m c work after → Makes (made.Net c) s work after
@@ -46,46 +53,56 @@ net-makes s work after c m h e S = record {
 -- ---- stage by stage
 
 module _ (s work : List ℕ) (enough : 32768 ≤ length work) where
-  full-unread : (number place : ℕ) → readSheet s ≡ refused number place → full s ≡ refused number place
+  full-unread : (number place : ℕ) → readSheet s ≡ refuse number place → full s ≡ refuse number place
   unfolding full
   full-unread number place e = rw e
 
-  pub unread-makes : (number place : ℕ) → readSheet s ≡ refused number place → Makes (made.Refused number place) s work work
-  unread-makes number place e = refused-makes s work number place enough (full-unread number place e)
+  pub unread-makes : (number place : ℕ) → readSheet s ≡ refuse number place → Makes (refusedOf number place) s work work
+  unread-makes number place e = refused-makes s work _ enough (full-unread number place e)
 
-  module _ (σ : Sheet) (read : readSheet s ≡ good σ) where
-    check-is : checkOf s ≡ typeOf σ
+  module _ (σ : Sheet) (read : readSheet s ≡ good σ) {E : Edition} {b : List ℕ} (edition : E ≡ editionOf s) (behind : b ≡ recordsOf s) where
+    check-is : checkOf E b ≡ typeOf σ
     unfolding checkOf
-    check-is = rw read
+    check-is = rw (edition, behind, opened s σ read .records)
 
-    untyped : (a : Answer Found) (number place : ℕ) → a ≡ walk (σ .table) (σ .term) 0 [] → (a >>= λ r. good (r .type)) ≡ refused number place
-        → walk (σ .table) (σ .term) 0 [] ≡ refused number place
-    untyped (good r) number place e h = absurd (refused≢good (sym h))
-    untyped (refused k p) number place e h = sym e ∙ same h
-      where
-        same : _≡_ {A = Answer ℕ} (refused k p) (refused number place) → _≡_ {A = Answer Found} (refused k p) (refused number place)
-        same g = let x : k ≡ number = cc in let y : p ≡ place = cc in rw (x, y)
+    untyped : (a : Answer Found) (why : Refusal) → a ≡ walk (σ .edition) (σ .table) (σ .term) 0 [] → (a >>= λ r. good (r .type)) ≡ refused why
+        → walk (σ .edition) (σ .table) (σ .term) 0 [] ≡ refused why
+    untyped (good r) why e h = absurd (refused≢good (sym h))
+    untyped (refused k) why e h = sym e ∙ ap refused (refused-inj h)
 
-    full-untyped : (number place : ℕ) → checkOf s ≡ refused number place → full s ≡ refused number place
+    full-untyped : (why : Refusal) → checkOf E b ≡ refused why → full s ≡ refused why
     unfolding full
-    full-untyped number place e =
-        let w = untyped (walk (σ .table) (σ .term) 0 []) number place refl (sym check-is ∙ e) in
+    full-untyped why e =
+        let w = untyped (walk (σ .edition) (σ .table) (σ .term) 0 []) why refl (sym check-is ∙ e) in
         rw (read, w)
 
-    pub untyped-makes : (number place : ℕ) → checkOf s ≡ refused number place → Makes (made.Refused number place) s work work
-    untyped-makes number place e = refused-makes s work number place enough (full-untyped number place e)
+    pub untyped-makes : (why : Why) → checkOf E b ≡ refused (saidWhy why) → Makes (made.Refused why) s work work
+    untyped-makes why e = refused-makes s work why enough (full-untyped (saidWhy why) e)
 
-    pub typed-found : (t : ℕ) → checkOf s ≡ good t → (r : Found) × (walk (σ .table) (σ .term) 0 [] ≡ good r)
-    typed-found t e = on-bind (walk (σ .table) (σ .term) 0 []) (λ r. good (r .type)) t (sym check-is ∙ e) λ r h k. (r, h)
+    pub typed-found : (t : ℕ) → checkOf E b ≡ good t → (r : Found) × (walk (σ .edition) (σ .table) (σ .term) 0 [] ≡ good r)
+    typed-found t e = on-bind (walk (σ .edition) (σ .table) (σ .term) 0 []) (λ r. good (r .type)) t (sym check-is ∙ e) λ r h k. (r, h)
 
-    module _ (r : Found) (walked : walk (σ .table) (σ .term) 0 [] ≡ good r) where
-      full-many : 8192 < make (σ .table) (σ .term) [] 0 .next → full s ≡ refused 16 0
-      unfolding full
-      full-many h = rw (read, walked, lt-leb (make (σ .table) (σ .term) [] 0 .next) 8192 h)
+  module _ (σ : Sheet) (read : readSheet s ≡ good σ) (r : Found) (walked : walk (σ .edition) (σ .table) (σ .term) 0 [] ≡ good r) where
+    full-many : 8192 < make (σ .table) (σ .term) [] 0 .next → full s ≡ refuse 16 0
+    unfolding full
+    full-many h = rw (read, walked, lt-leb (make (σ .table) (σ .term) [] 0 .next) 8192 h)
 
-      pub many-makes : 8192 < make (σ .table) (σ .term) [] 0 .next → Makes (made.Refused 16 0) s work work
-      many-makes h = refused-makes s work 16 0 enough (full-many h)
+    pub many-makes : 8192 < make (σ .table) (σ .term) [] 0 .next → Makes (refusedOf 16 0) s work work
+    many-makes h = refused-makes s work _ enough (full-many h)
 
-      pub full-few : make (σ .table) (σ .term) [] 0 .next ≤ 8192 → full s ≡ good (netOf (make (σ .table) (σ .term) [] 0))
-      unfolding full
-      full-few h = rw (read, walked, le-leb (make (σ .table) (σ .term) [] 0 .next) 8192 h)
+    pub full-few : make (σ .table) (σ .term) [] 0 .next ≤ 8192 → full s ≡ good (netOf (make (σ .table) (σ .term) [] 0))
+    unfolding full
+    full-few h = rw (read, walked, le-leb (make (σ .table) (σ .term) [] 0 .next) 8192 h)
+
+-- what the walk asks for
+pub check-reads : {b sizes : List ℕ} {types : ℕ} {second : Bool} {start nodes : ℕ} → Opened b sizes types second start nodes → Read b types (editionBy second) start
+check-reads q =
+    let t = q .read .told in
+    let s = q .read .whole in
+    record {
+      sheet = t .sheet;
+      short = rw (q .read .behind) (laid s (t .sheet) (t .is) .short);
+      good = rw (q .edition, q .read .behind) (opened s (t .sheet) (t .is) .records);
+      count = q .count ∙ t .types-are;
+      start = t .start-is;
+    }

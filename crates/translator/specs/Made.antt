@@ -6,6 +6,7 @@ use mathlib.Core.List.{List}
 use lib.Dec.{leb}
 use lib.ListN.{length}
 use Rattle.calculus.specs.Answer.{Answer, good, refused, _>>=_, need}
+use Rattle.typing.specs.Verdicts.{saidWhy}
 use Rattle.calculus.specs.Net.{Net}
 use Rattle.calculus.specs.Record.{All}
 use Rattle.calculus.specs.Translate.{full, workOf}
@@ -20,15 +21,19 @@ lent memory s = do
   _ ← need (leb 32768 memory) 1 0
   full s
 
--- the netlist that stands in the working memory, or number and place
+-- a refusal that names no types
+abbrev pub refusedOf : ℕ → ℕ → code.Made
+refusedOf number place = made.Refused (record { number = number; place = place; wanted = 0; found = 0 })
+
+-- the netlist that stands in the working memory, or the refusal
 abbrev pub saidMade : code.Made → List ℕ → Answer Net
 saidMade (made.Net c) work = good (netIn work (c .elements) (c .wires) (c .pins))
-saidMade (made.Refused number place) work = refused number place
+saidMade (made.Refused why) work = refused (saidWhy why)
 
 -- what those who go on with that netlist ask for
 abbrev pub Standing : code.Made → List ℕ → Type 0
 Standing (made.Net c) work = (Ready work (c .elements) (c .wires) (c .pins)) × (All Known (netIn work (c .elements) (c .wires) (c .pins) .elements))
-Standing (made.Refused number place) work = Unit {0}
+Standing (made.Refused why) work = Unit {0}
 
 -- cleared, the working memory is what it would have been before
 abbrev pub Keeps : List ℕ → List ℕ → Type 0

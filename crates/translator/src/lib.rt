@@ -1,42 +1,62 @@
 // The stages that every call begins with, from a sheet's bytes to its full netlist in the working memory, and the clearing that every
 // call ends with.
 use sheet::Verdict;
+use typing::Refusal;
 use typing::Typing;
 use wiring::Counts;
 ghost use mathlib.Core.Path.{_≡_};
 ghost use Prim.Native.Nat.{_≤_};
 ghost use lib.ListN.{length};
 ghost use Rattle.calculus.specs.Translate.{workOf};
-ghost use Rattle.wiring.specs.Whole.{Read};
-ghost use Rattle.translator.specs.Stages.{Typed};
-ghost use Rattle.translator.specs.Made.{Makes};
+ghost use Rattle.translator.specs.Stages.{Opened, Typed};
+ghost use Rattle.translator.specs.Made.{refusedOf, Makes};
 
-// How many elements, wires and pins of the netlist stand in the working memory, or a refusal's number and place.
+// How many elements, wires and pins of the netlist stand in the working memory, or a refusal.
 pub enum Made {
     Net(Counts),
-    Refused(u8, usize),
+    Refused(Refusal),
+}
+
+// A refusal that names no types.
+fn refused(number: u8, place: usize) -> Made
+    ensures { λ r. ⌜ r ≡ refusedOf number place ⌝ }
+{
+    Made::Refused(Refusal {
+        number,
+        place,
+        wanted: 0,
+        found: 0,
+    })
 }
 
 // The terminals are counted before anything is made: 16.
-fn counted(sheet: &[u8], sizes: &[u8], work: &mut [u16], nodes: usize, start: usize) -> Made
-    requires { ⌜ (32768 ≤ length (now work)) × (Typed (now sheet) (now sizes) start nodes) ⌝ }
-    ensures { λ r. ⌜ Makes r (now (sheet .entry)) (now (work .entry)) (now (work .exit)) ⌝ }
+fn counted(records: &[u8], sizes: &[u8], work: &mut [u16], nodes: usize, start: usize) -> Made
+    requires { ⌜ (32768 ≤ length (now work)) × (Typed (now records) (now sizes) start nodes) ⌝ }
+    ensures { λ r. ⌜ ((q : Typed (now (records .entry)) (now (sizes .entry)) start nodes) → Makes r (q .read .whole) (now (work .entry)) (now (work .exit))) ⌝ }
 {
-    if 8192 < wiring::count(sheet, sizes, start, nodes) {
-        return Made::Refused(16, 0);
+    if 8192 < wiring::count(records, sizes, start, nodes) {
+        return refused(16, 0);
     }
-    let counts = wiring::make_net(sheet, sizes, work, start);
+    let counts = wiring::make_net(records, sizes, work, start);
     Made::Net(counts)
 }
 
 // The typing walk: 10 to 15.
-fn checked(sheet: &[u8], sizes: &[u8], work: &mut [u16], nodes: usize, start: usize) -> Made
-    requires { ⌜ (32768 ≤ length (now work)) × (Read (now sheet) (now sizes) start nodes) ⌝ }
-    ensures { λ r. ⌜ Makes r (now (sheet .entry)) (now (work .entry)) (now (work .exit)) ⌝ }
+fn checked(
+    records: &[u8],
+    sizes: &[u8],
+    work: &mut [u16],
+    types: usize,
+    nodes: usize,
+    start: usize,
+    second: bool,
+) -> Made
+    requires { ⌜ (32768 ≤ length (now work)) × (Opened (now records) (now sizes) types second start nodes) ⌝ }
+    ensures { λ r. ⌜ ((q : Opened (now (records .entry)) (now (sizes .entry)) types second start nodes) → Makes r (q .read .whole) (now (work .entry)) (now (work .exit))) ⌝ }
 {
-    match typing::check(sheet, start) {
-        Typing::Refused(refusal) => Made::Refused(refusal.number, refusal.place),
-        Typing::Type(_) => counted(sheet, sizes, work, nodes, start),
+    match typing::check(records, start, types, second) {
+        Typing::Refused(refusal) => Made::Refused(refusal),
+        Typing::Type(_) => counted(records, sizes, work, nodes, start),
     }
 }
 
@@ -45,15 +65,24 @@ pub fn make(sheet: &[u8], work: &mut [u16]) -> Made
     ensures { λ r. ⌜ Makes r (now (sheet .entry)) (now (work .entry)) (now (work .exit)) ⌝ }
 {
     if work.len() < 32768 {
-        return Made::Refused(1, 0);
+        return refused(1, 0);
     }
     let r = sheet::read(sheet);
     let verdict = r.verdict;
     match verdict {
-        Verdict::Refused(number, place) => Made::Refused(number, place),
-        Verdict::Read(_, nodes, start) => {
+        Verdict::Refused(number, place) => refused(number, place),
+        Verdict::Read(types, nodes, start) => {
             let sizes = r.sizes;
-            checked(sheet, &sizes, work, nodes, start)
+            let second = sheet::is_second(sheet);
+            checked(
+                sheet::records_of(sheet),
+                &sizes,
+                work,
+                types,
+                nodes,
+                start,
+                second,
+            )
         }
     }
 }

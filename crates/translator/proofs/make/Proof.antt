@@ -1,65 +1,85 @@
 -- `translator::make` meets its contract: the reader's verdict is the definition's. Assumes nothing.
+use mathlib.Core.Path.{refl, ap, _∙_}
+use Rattle.calculus.specs.Read.{editionOf}
+use Rattle.records.specs.Editions.{editionBy}
+use Rattle.sheet.proofs.ReadLaws.{edition-by}
 use Rattle.sheet.proofs.Told.{told, untold}
 use Rattle.translator.proofs.StageLaws.{small-makes, unread-makes}
 use borrow.Author.Needs.{needs}
 use Rattle.translator.proofs.make.Statement.{statement}
 use Rattle.translator.proofs.make.Tie as tie
 
--- src/lib.rt:48:9
+refused-requires : tie.Need-refused-requires
+refused-requires c κs = search needs
+
 returns : tie.Need-returns
 returns c =
-    let a = c .before .before .before .args in
-    small-makes (a .sheet .now) (a .work .now) (c .if1 .taken)
+    let a = c .before .before .before .before .args in
+    rw (c .refused .ensures) (small-makes (a .sheet .now) (a .work .now) (c .before .if1 .taken))
 
--- src/lib.rt:50:9
 read-requires : tie.Need-read-requires
 read-requires c κs = search needs
 
--- src/lib.rt:53:26
 enum-known-verdict : tie.Need-enum-known-verdict
 enum-known-verdict c = search needs
 
--- src/lib.rt:54:26
+refused-requires-2 : tie.Need-refused-requires-2
+refused-requires-2 c κs = search needs
+
 enum-known-verdict-2 : tie.Need-enum-known-verdict-2
 enum-known-verdict-2 c = search needs
 
--- src/lib.rt:56:28
+is-second-requires : tie.Need-is-second-requires
+is-second-requires c κs = search needs
+
+records-of-requires : tie.Need-records-of-requires
+records-of-requires c κs = search needs
+
 slice-aggregate-checked : tie.Need-slice-aggregate-checked
 slice-aggregate-checked c = search needs
 
--- src/lib.rt:56:13
 checked-requires : tie.Need-checked-requires
 checked-requires c κs =
-    let v = c .before .before .before .before in
+    let i = c .before .before in
+    let v = i .before .before .before .before in
     let r = v .before .before in
     let x = r .before in
     let a = x .before .before .before .args in
-    (x .if1 .left, record { types = _; told = told (a .sheet .now) (r .read .result) _ _ _ (r .read .ensures) (v .verdict2 .given .1) })
+    (x .if1 .left, record { read = record { whole = a .sheet .now; behind = i .records-of .ensures; types = _; told = told (a .sheet .now) (r .read .result) _ _ _ (r .read .ensures) (v .verdict2 .given .1) }; count = refl; edition = ap editionBy (i .before .is-second .ensures) ∙ edition-by (editionOf (a .sheet .now)) })
 
--- src/lib.rt:44:1
 returns-2 : tie.Need-returns-2
 returns-2 c =
-    let r = c .before .before .before in
+    let k = c .before in
+    let r = k .before .before .before in
     let x = r .before in
     let a = x .before .before .before .args in
-    unread-makes (a .sheet .now) (a .work .now) (x .if1 .left) _ _ (untold (a .sheet .now) (r .read .result) _ _ (r .read .ensures) (c .before .verdict .given .1))
+    rw (c .refused2 .ensures) (unread-makes (a .sheet .now) (a .work .now) (x .if1 .left) _ _ (untold (a .sheet .now) (r .read .result) _ _ (r .read .ensures) (k .before .verdict .given .1)))
 
--- src/lib.rt:44:1
 same-length : tie.Need-same-length
 same-length c = search needs
 
--- src/lib.rt:44:1
 returns-3 : tie.Need-returns-3
-returns-3 c = search needs
+returns-3 c =
+    let d = c .before .before in
+    let i = d .before .before .before in
+    let v = i .before .before .before .before in
+    let r = v .before .before in
+    let x = r .before in
+    let a = x .before .before .before .args in
+    d .checked .ensures (record { read = record { whole = a .sheet .now; behind = i .records-of .ensures; types = _; told = told (a .sheet .now) (r .read .result) _ _ _ (r .read .ensures) (v .verdict2 .given .1) }; count = refl; edition = ap editionBy (i .before .is-second .ensures) ∙ edition-by (editionOf (a .sheet .now)) })
 
 pub make-spec : {M : Type 1} → statement M
 make-spec =
     tie.close
     (tie.spec
+    refused-requires
     returns
     read-requires
     enum-known-verdict
+    refused-requires-2
     enum-known-verdict-2
+    is-second-requires
+    records-of-requires
     slice-aggregate-checked
     checked-requires
     returns-2
