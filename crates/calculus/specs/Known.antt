@@ -7,6 +7,7 @@ use lib.ListN.{length}
 use Rattle.calculus.specs.Answer.{Answer, good, refused, _>>=_, refuse, clash, aForm}
 use Rattle.calculus.specs.Net.{Net, Interface, inp, out, Element, point, part, Wire}
 use Rattle.calculus.specs.Lean.{lean}
+use Rattle.calculus.specs.Makers.{makersOf, leanMakers, netNodeBytes, dropNodes}
 use Rattle.calculus.specs.NetRead.{readNet}
 use Rattle.calculus.specs.Translate.{full, answer}
 use Rattle.calculus.specs.Listing.{Text, listing}
@@ -18,12 +19,14 @@ o ⟶ i = record { from = o; to = i }
 abbrev net : List Element → List Wire → Interface → Net
 net es ws ps = record { elements = es; wires = ws; pins = ps }
 
--- both netlists, and their bytes
+-- both netlists, and their bytes, plain and with nodes (document 02, L6)
 pub record Both : Type 0 where
   pub full : Net
   pub fullBytes : List ℕ
+  pub fullNodes : List ℕ
   pub lean : Net
   pub leanBytes : List ℕ
+  pub leanNodes : List ℕ
 
 -- a sheet, with its two netlists or its refusal, and its listing where document 01 writes it out
 pub record Row : Type 0 where
@@ -31,8 +34,12 @@ pub record Row : Type 0 where
   pub result : Answer Both
   pub texts : List Text
 
-abbrev row : List ℕ → Net → List ℕ → Net → List ℕ → Row
-row s f fb l lb = record { sheet = s; result = good (record { full = f; fullBytes = fb; lean = l; leanBytes = lb }); texts = [] }
+abbrev row : List ℕ → Net → List ℕ → List ℕ → Net → List ℕ → List ℕ → Row
+row s f fb fn l lb ln = record {
+  sheet = s;
+  result = good (record { full = f; fullBytes = fb; fullNodes = fn; lean = l; leanBytes = lb; leanNodes = ln });
+  texts = [];
+}
 
 abbrev refusal : List ℕ → ℕ → ℕ → Row
 refusal s number place = record { sheet = s; result = refuse number place; texts = [] }
@@ -49,8 +56,10 @@ P1 =
     row (0x01 ∷ 0x1A ∷ 0x00 ∷ 0x00 ∷ [])
     (net (part 0 0 ∷ []) [] (out 0 ∷ []))
     (0x22 ∷ 0 ∷ 0 ∷ 0 ∷ 0x24 ∷ 0 ∷ 0 ∷ [])
+    (0x26 ∷ 0 ∷ 0 ∷ 0 ∷ 0 ∷ 0 ∷ 0x24 ∷ 0 ∷ 0 ∷ [])
     (net (part 0 0 ∷ []) [] (out 0 ∷ []))
     (0x22 ∷ 0 ∷ 0 ∷ 0 ∷ 0x24 ∷ 0 ∷ 0 ∷ [])
+    (0x26 ∷ 0 ∷ 0 ∷ 0 ∷ 0 ∷ 0 ∷ 0x24 ∷ 0 ∷ 0 ∷ [])
 
 abbrev pub netP2 : Net
 netP2 = net (point 0 ∷ []) [] (inp 0 ∷ out 1 ∷ [])
@@ -60,8 +69,10 @@ P2 =
     row (0x01 ∷ 0x03 ∷ 0x00 ∷ 0x00 ∷ 0x13 ∷ 0x01 ∷ 0x11 ∷ 0x00 ∷ [])
     netP2
     (0x21 ∷ 0 ∷ 0 ∷ 0x24 ∷ 0 ∷ 0 ∷ 0x24 ∷ 1 ∷ 0 ∷ [])
+    (0x25 ∷ 0 ∷ 0 ∷ 0 ∷ 0 ∷ 0x24 ∷ 0 ∷ 0 ∷ 0x24 ∷ 1 ∷ 0 ∷ [])
     netP2
     (0x21 ∷ 0 ∷ 0 ∷ 0x24 ∷ 0 ∷ 0 ∷ 0x24 ∷ 1 ∷ 0 ∷ [])
+    (0x25 ∷ 0 ∷ 0 ∷ 0 ∷ 0 ∷ 0x24 ∷ 0 ∷ 0 ∷ 0x24 ∷ 1 ∷ 0 ∷ [])
 
 -- P3's listing, whole
 abbrev listingP3 : Text
@@ -88,8 +99,10 @@ P3 =
     withText (row (0x01 ∷ 0x03 ∷ 0x00 ∷ 0x00 ∷ 0x04 ∷ 0x01 ∷ 0x00 ∷ 0x16 ∷ 0x15 ∷ 0x02 ∷ 0x14 ∷ 0x12 ∷ 0x00 ∷ 0x1A ∷ 0x00 ∷ 0x00 ∷ 0x1A ∷ 0x01 ∷ 0x01 ∷ [])
     (net (point 0 ∷ point 2 ∷ part 0 4 ∷ part 1 5 ∷ []) (4 ⟶ 0 ∷ 1 ⟶ 5 ∷ 6 ⟶ 2 ∷ []) (out 3 ∷ []))
     (0x21 ∷ 0 ∷ 0 ∷ 0x21 ∷ 2 ∷ 0 ∷ 0x22 ∷ 0 ∷ 4 ∷ 0 ∷ 0x22 ∷ 1 ∷ 5 ∷ 0 ∷ 0x23 ∷ 4 ∷ 0 ∷ 0 ∷ 0 ∷ 0x23 ∷ 1 ∷ 0 ∷ 5 ∷ 0 ∷ 0x23 ∷ 6 ∷ 0 ∷ 2 ∷ 0 ∷ 0x24 ∷ 3 ∷ 0 ∷ [])
+    (0x25 ∷ 0 ∷ 0 ∷ 1 ∷ 0 ∷ 0x25 ∷ 2 ∷ 0 ∷ 1 ∷ 0 ∷ 0x26 ∷ 0 ∷ 4 ∷ 0 ∷ 4 ∷ 0 ∷ 0x26 ∷ 1 ∷ 5 ∷ 0 ∷ 5 ∷ 0 ∷ 0x23 ∷ 4 ∷ 0 ∷ 0 ∷ 0 ∷ 0x23 ∷ 1 ∷ 0 ∷ 5 ∷ 0 ∷ 0x23 ∷ 6 ∷ 0 ∷ 2 ∷ 0 ∷ 0x24 ∷ 3 ∷ 0 ∷ [])
     (net (part 0 4 ∷ part 1 5 ∷ []) (4 ⟶ 5 ∷ []) (out 6 ∷ []))
-    (0x22 ∷ 0 ∷ 4 ∷ 0 ∷ 0x22 ∷ 1 ∷ 5 ∷ 0 ∷ 0x23 ∷ 4 ∷ 0 ∷ 5 ∷ 0 ∷ 0x24 ∷ 6 ∷ 0 ∷ []))
+    (0x22 ∷ 0 ∷ 4 ∷ 0 ∷ 0x22 ∷ 1 ∷ 5 ∷ 0 ∷ 0x23 ∷ 4 ∷ 0 ∷ 5 ∷ 0 ∷ 0x24 ∷ 6 ∷ 0 ∷ [])
+    (0x26 ∷ 0 ∷ 4 ∷ 0 ∷ 4 ∷ 0 ∷ 0x26 ∷ 1 ∷ 5 ∷ 0 ∷ 5 ∷ 0 ∷ 0x23 ∷ 4 ∷ 0 ∷ 5 ∷ 0 ∷ 0x24 ∷ 6 ∷ 0 ∷ []))
     listingP3
 
 abbrev pub P4 : Row
@@ -97,16 +110,20 @@ P4 =
     row (0x01 ∷ 0x19 ∷ 0x00 ∷ 0x11 ∷ 0x00 ∷ [])
     (net (point 0 ∷ []) (1 ⟶ 0 ∷ []) (out 1 ∷ []))
     (0x21 ∷ 0 ∷ 0 ∷ 0x23 ∷ 1 ∷ 0 ∷ 0 ∷ 0 ∷ 0x24 ∷ 1 ∷ 0 ∷ [])
+    (0x25 ∷ 0 ∷ 0 ∷ 0 ∷ 0 ∷ 0x23 ∷ 1 ∷ 0 ∷ 0 ∷ 0 ∷ 0x24 ∷ 1 ∷ 0 ∷ [])
     (net (point 0 ∷ []) (1 ⟶ 0 ∷ []) (out 1 ∷ []))
     (0x21 ∷ 0 ∷ 0 ∷ 0x23 ∷ 1 ∷ 0 ∷ 0 ∷ 0 ∷ 0x24 ∷ 1 ∷ 0 ∷ [])
+    (0x25 ∷ 0 ∷ 0 ∷ 0 ∷ 0 ∷ 0x23 ∷ 1 ∷ 0 ∷ 0 ∷ 0 ∷ 0x24 ∷ 1 ∷ 0 ∷ [])
 
 abbrev pub P5 : Row
 P5 =
     row (0x01 ∷ 0x03 ∷ 0x00 ∷ 0x00 ∷ 0x03 ∷ 0x00 ∷ 0x01 ∷ 0x13 ∷ 0x01 ∷ 0x14 ∷ 0x14 ∷ 0x1A ∷ 0x02 ∷ 0x02 ∷ 0x11 ∷ 0x00 ∷ 0x11 ∷ 0x00 ∷ [])
     (net (point 0 ∷ part 2 2 ∷ []) (1 ⟶ 2 ∷ 1 ⟶ 3 ∷ []) (inp 0 ∷ out 4 ∷ []))
     (0x21 ∷ 0 ∷ 0 ∷ 0x22 ∷ 2 ∷ 2 ∷ 0 ∷ 0x23 ∷ 1 ∷ 0 ∷ 2 ∷ 0 ∷ 0x23 ∷ 1 ∷ 0 ∷ 3 ∷ 0 ∷ 0x24 ∷ 0 ∷ 0 ∷ 0x24 ∷ 4 ∷ 0 ∷ [])
+    (0x25 ∷ 0 ∷ 0 ∷ 0 ∷ 0 ∷ 0x26 ∷ 2 ∷ 2 ∷ 0 ∷ 3 ∷ 0 ∷ 0x23 ∷ 1 ∷ 0 ∷ 2 ∷ 0 ∷ 0x23 ∷ 1 ∷ 0 ∷ 3 ∷ 0 ∷ 0x24 ∷ 0 ∷ 0 ∷ 0x24 ∷ 4 ∷ 0 ∷ [])
     (net (point 0 ∷ part 2 2 ∷ []) (1 ⟶ 2 ∷ 1 ⟶ 3 ∷ []) (inp 0 ∷ out 4 ∷ []))
     (0x21 ∷ 0 ∷ 0 ∷ 0x22 ∷ 2 ∷ 2 ∷ 0 ∷ 0x23 ∷ 1 ∷ 0 ∷ 2 ∷ 0 ∷ 0x23 ∷ 1 ∷ 0 ∷ 3 ∷ 0 ∷ 0x24 ∷ 0 ∷ 0 ∷ 0x24 ∷ 4 ∷ 0 ∷ [])
+    (0x25 ∷ 0 ∷ 0 ∷ 0 ∷ 0 ∷ 0x26 ∷ 2 ∷ 2 ∷ 0 ∷ 3 ∷ 0 ∷ 0x23 ∷ 1 ∷ 0 ∷ 2 ∷ 0 ∷ 0x23 ∷ 1 ∷ 0 ∷ 3 ∷ 0 ∷ 0x24 ∷ 0 ∷ 0 ∷ 0x24 ∷ 4 ∷ 0 ∷ [])
 
 abbrev pub fullP6 : Net
 fullP6 = net (point 0 ∷ part 2 2 ∷ part 0 5 ∷ part 1 6 ∷ []) (5 ⟶ 2 ∷ 1 ⟶ 6 ∷ 7 ⟶ 3 ∷ 4 ⟶ 0 ∷ []) (out 4 ∷ [])
@@ -116,16 +133,20 @@ P6 =
     row (0x01 ∷ 0x03 ∷ 0x00 ∷ 0x00 ∷ 0x03 ∷ 0x00 ∷ 0x01 ∷ 0x19 ∷ 0x00 ∷ 0x14 ∷ 0x14 ∷ 0x1A ∷ 0x02 ∷ 0x02 ∷ 0x1A ∷ 0x00 ∷ 0x00 ∷ 0x14 ∷ 0x1A ∷ 0x01 ∷ 0x01 ∷ 0x11 ∷ 0x00 ∷ [])
     fullP6
     (0x21 ∷ 0 ∷ 0 ∷ 0x22 ∷ 2 ∷ 2 ∷ 0 ∷ 0x22 ∷ 0 ∷ 5 ∷ 0 ∷ 0x22 ∷ 1 ∷ 6 ∷ 0 ∷ 0x23 ∷ 5 ∷ 0 ∷ 2 ∷ 0 ∷ 0x23 ∷ 1 ∷ 0 ∷ 6 ∷ 0 ∷ 0x23 ∷ 7 ∷ 0 ∷ 3 ∷ 0 ∷ 0x23 ∷ 4 ∷ 0 ∷ 0 ∷ 0 ∷ 0x24 ∷ 4 ∷ 0 ∷ [])
+    (0x25 ∷ 0 ∷ 0 ∷ 0 ∷ 0 ∷ 0x26 ∷ 2 ∷ 2 ∷ 0 ∷ 3 ∷ 0 ∷ 0x26 ∷ 0 ∷ 5 ∷ 0 ∷ 4 ∷ 0 ∷ 0x26 ∷ 1 ∷ 6 ∷ 0 ∷ 6 ∷ 0 ∷ 0x23 ∷ 5 ∷ 0 ∷ 2 ∷ 0 ∷ 0x23 ∷ 1 ∷ 0 ∷ 6 ∷ 0 ∷ 0x23 ∷ 7 ∷ 0 ∷ 3 ∷ 0 ∷ 0x23 ∷ 4 ∷ 0 ∷ 0 ∷ 0 ∷ 0x24 ∷ 4 ∷ 0 ∷ [])
     (net (part 2 2 ∷ part 0 5 ∷ part 1 6 ∷ []) (5 ⟶ 2 ∷ 7 ⟶ 3 ∷ 4 ⟶ 6 ∷ []) (out 4 ∷ []))
     (0x22 ∷ 2 ∷ 2 ∷ 0 ∷ 0x22 ∷ 0 ∷ 5 ∷ 0 ∷ 0x22 ∷ 1 ∷ 6 ∷ 0 ∷ 0x23 ∷ 5 ∷ 0 ∷ 2 ∷ 0 ∷ 0x23 ∷ 7 ∷ 0 ∷ 3 ∷ 0 ∷ 0x23 ∷ 4 ∷ 0 ∷ 6 ∷ 0 ∷ 0x24 ∷ 4 ∷ 0 ∷ [])
+    (0x26 ∷ 2 ∷ 2 ∷ 0 ∷ 3 ∷ 0 ∷ 0x26 ∷ 0 ∷ 5 ∷ 0 ∷ 4 ∷ 0 ∷ 0x26 ∷ 1 ∷ 6 ∷ 0 ∷ 6 ∷ 0 ∷ 0x23 ∷ 5 ∷ 0 ∷ 2 ∷ 0 ∷ 0x23 ∷ 7 ∷ 0 ∷ 3 ∷ 0 ∷ 0x23 ∷ 4 ∷ 0 ∷ 6 ∷ 0 ∷ 0x24 ∷ 4 ∷ 0 ∷ [])
 
 abbrev pub P7 : Row
 P7 =
     row (0x01 ∷ 0x02 ∷ 0x00 ∷ 0x00 ∷ 0x19 ∷ 0x01 ∷ 0x18 ∷ 0x11 ∷ 0x00 ∷ 0x17 ∷ 0x01 ∷ 0x11 ∷ 0x00 ∷ 0x11 ∷ 0x01 ∷ [])
     (net (point 0 ∷ point 2 ∷ []) (3 ⟶ 0 ∷ 1 ⟶ 2 ∷ []) (out 3 ∷ out 1 ∷ []))
     (0x21 ∷ 0 ∷ 0 ∷ 0x21 ∷ 2 ∷ 0 ∷ 0x23 ∷ 3 ∷ 0 ∷ 0 ∷ 0 ∷ 0x23 ∷ 1 ∷ 0 ∷ 2 ∷ 0 ∷ 0x24 ∷ 3 ∷ 0 ∷ 0x24 ∷ 1 ∷ 0 ∷ [])
+    (0x25 ∷ 0 ∷ 0 ∷ 0 ∷ 0 ∷ 0x25 ∷ 2 ∷ 0 ∷ 0 ∷ 0 ∷ 0x23 ∷ 3 ∷ 0 ∷ 0 ∷ 0 ∷ 0x23 ∷ 1 ∷ 0 ∷ 2 ∷ 0 ∷ 0x24 ∷ 3 ∷ 0 ∷ 0x24 ∷ 1 ∷ 0 ∷ [])
     (net (point 0 ∷ []) (1 ⟶ 0 ∷ []) (out 1 ∷ out 1 ∷ []))
     (0x21 ∷ 0 ∷ 0 ∷ 0x23 ∷ 1 ∷ 0 ∷ 0 ∷ 0 ∷ 0x24 ∷ 1 ∷ 0 ∷ 0x24 ∷ 1 ∷ 0 ∷ [])
+    (0x25 ∷ 0 ∷ 0 ∷ 0 ∷ 0 ∷ 0x23 ∷ 1 ∷ 0 ∷ 0 ∷ 0 ∷ 0x24 ∷ 1 ∷ 0 ∷ 0x24 ∷ 1 ∷ 0 ∷ [])
 
 abbrev pub P8 : Row
 P8 =
@@ -154,8 +175,10 @@ S1 =
     row (0x31 ∷ 0x01 ∷ 0x03 ∷ 0x00 ∷ 0x00 ∷ 0x13 ∷ 0x01 ∷ 0x11 ∷ 0x00 ∷ [])
     (net (point 0 ∷ []) [] (inp 0 ∷ out 1 ∷ []))
     (0x21 ∷ 0 ∷ 0 ∷ 0x24 ∷ 0 ∷ 0 ∷ 0x24 ∷ 1 ∷ 0 ∷ [])
+    (0x25 ∷ 0 ∷ 0 ∷ 0 ∷ 0 ∷ 0x24 ∷ 0 ∷ 0 ∷ 0x24 ∷ 1 ∷ 0 ∷ [])
     (net (point 0 ∷ []) [] (inp 0 ∷ out 1 ∷ []))
     (0x21 ∷ 0 ∷ 0 ∷ 0x24 ∷ 0 ∷ 0 ∷ 0x24 ∷ 1 ∷ 0 ∷ [])
+    (0x25 ∷ 0 ∷ 0 ∷ 0 ∷ 0 ∷ 0x24 ∷ 0 ∷ 0 ∷ 0x24 ∷ 1 ∷ 0 ∷ [])
 
 -- a gate that takes a pair: terminals as before
 abbrev pub S2 : Row
@@ -163,8 +186,10 @@ S2 =
     row (0x31 ∷ 0x01 ∷ 0x02 ∷ 0x00 ∷ 0x00 ∷ 0x03 ∷ 0x01 ∷ 0x00 ∷ 0x1A ∷ 0x02 ∷ 0x02 ∷ [])
     (net (part 2 0 ∷ []) [] (inp 0 ∷ inp 1 ∷ out 2 ∷ []))
     (0x22 ∷ 2 ∷ 0 ∷ 0 ∷ 0x24 ∷ 0 ∷ 0 ∷ 0x24 ∷ 1 ∷ 0 ∷ 0x24 ∷ 2 ∷ 0 ∷ [])
+    (0x26 ∷ 2 ∷ 0 ∷ 0 ∷ 0 ∷ 0 ∷ 0x24 ∷ 0 ∷ 0 ∷ 0x24 ∷ 1 ∷ 0 ∷ 0x24 ∷ 2 ∷ 0 ∷ [])
     (net (part 2 0 ∷ []) [] (inp 0 ∷ inp 1 ∷ out 2 ∷ []))
     (0x22 ∷ 2 ∷ 0 ∷ 0 ∷ 0x24 ∷ 0 ∷ 0 ∷ 0x24 ∷ 1 ∷ 0 ∷ 0x24 ∷ 2 ∷ 0 ∷ [])
+    (0x26 ∷ 2 ∷ 0 ∷ 0 ∷ 0 ∷ 0 ∷ 0x24 ∷ 0 ∷ 0 ∷ 0x24 ∷ 1 ∷ 0 ∷ 0x24 ∷ 2 ∷ 0 ∷ [])
 
 -- document 000, section 5.2: proj zero of x in and (x, x), without a point
 abbrev pub S3 : Row
@@ -172,8 +197,10 @@ S3 =
     row (0x31 ∷ 0x01 ∷ 0x02 ∷ 0x00 ∷ 0x00 ∷ 0x03 ∷ 0x01 ∷ 0x00 ∷ 0x1B ∷ 0x1A ∷ 0x00 ∷ 0x00 ∷ 0x14 ∷ 0x1A ∷ 0x02 ∷ 0x02 ∷ 0x17 ∷ 0x01 ∷ 0x11 ∷ 0x00 ∷ 0x11 ∷ 0x00 ∷ [])
     (net (part 0 0 ∷ part 2 1 ∷ []) (0 ⟶ 1 ∷ 0 ⟶ 2 ∷ []) (out 3 ∷ []))
     (0x22 ∷ 0 ∷ 0 ∷ 0 ∷ 0x22 ∷ 2 ∷ 1 ∷ 0 ∷ 0x23 ∷ 0 ∷ 0 ∷ 1 ∷ 0 ∷ 0x23 ∷ 0 ∷ 0 ∷ 2 ∷ 0 ∷ 0x24 ∷ 3 ∷ 0 ∷ [])
+    (0x26 ∷ 0 ∷ 0 ∷ 0 ∷ 1 ∷ 0 ∷ 0x26 ∷ 2 ∷ 1 ∷ 0 ∷ 3 ∷ 0 ∷ 0x23 ∷ 0 ∷ 0 ∷ 1 ∷ 0 ∷ 0x23 ∷ 0 ∷ 0 ∷ 2 ∷ 0 ∷ 0x24 ∷ 3 ∷ 0 ∷ [])
     (net (part 0 0 ∷ part 2 1 ∷ []) (0 ⟶ 1 ∷ 0 ⟶ 2 ∷ []) (out 3 ∷ []))
     (0x22 ∷ 0 ∷ 0 ∷ 0 ∷ 0x22 ∷ 2 ∷ 1 ∷ 0 ∷ 0x23 ∷ 0 ∷ 0 ∷ 1 ∷ 0 ∷ 0x23 ∷ 0 ∷ 0 ∷ 2 ∷ 0 ∷ 0x24 ∷ 3 ∷ 0 ∷ [])
+    (0x26 ∷ 0 ∷ 0 ∷ 0 ∷ 1 ∷ 0 ∷ 0x26 ∷ 2 ∷ 1 ∷ 0 ∷ 3 ∷ 0 ∷ 0x23 ∷ 0 ∷ 0 ∷ 1 ∷ 0 ∷ 0x23 ∷ 0 ∷ 0 ∷ 2 ∷ 0 ∷ 0x24 ∷ 3 ∷ 0 ∷ [])
 
 -- it binds one variable, and the nearest is counted 0
 abbrev pub S4 : Row
@@ -181,8 +208,10 @@ S4 =
     row (0x31 ∷ 0x01 ∷ 0x1B ∷ 0x1A ∷ 0x00 ∷ 0x00 ∷ 0x1B ∷ 0x1A ∷ 0x06 ∷ 0x00 ∷ 0x11 ∷ 0x01 ∷ [])
     (net (part 0 0 ∷ part 6 1 ∷ []) [] (out 0 ∷ []))
     (0x22 ∷ 0 ∷ 0 ∷ 0 ∷ 0x22 ∷ 6 ∷ 1 ∷ 0 ∷ 0x24 ∷ 0 ∷ 0 ∷ [])
+    (0x26 ∷ 0 ∷ 0 ∷ 0 ∷ 1 ∷ 0 ∷ 0x26 ∷ 6 ∷ 1 ∷ 0 ∷ 3 ∷ 0 ∷ 0x24 ∷ 0 ∷ 0 ∷ [])
     (net (part 0 0 ∷ part 6 1 ∷ []) [] (out 0 ∷ []))
     (0x22 ∷ 0 ∷ 0 ∷ 0 ∷ 0x22 ∷ 6 ∷ 1 ∷ 0 ∷ 0x24 ∷ 0 ∷ 0 ∷ [])
+    (0x26 ∷ 0 ∷ 0 ∷ 0 ∷ 1 ∷ 0 ∷ 0x26 ∷ 6 ∷ 1 ∷ 0 ∷ 3 ∷ 0 ∷ 0x24 ∷ 0 ∷ 0 ∷ [])
 
 -- its first subterm is not sharable: 12 at the new node
 abbrev pub S5 : Row
@@ -293,7 +322,14 @@ run s = do
   m ← full s
   f ← bytesOf false s
   l ← bytesOf true s
-  good (record { full = m; fullBytes = f; lean = lean m; leanBytes = l })
+  good (record {
+    full = m;
+    fullBytes = f;
+    fullNodes = netNodeBytes m (makersOf s);
+    lean = lean m;
+    leanBytes = l;
+    leanNodes = netNodeBytes (lean m) (leanMakers m (makersOf s));
+  })
 
 -- the answers of calls that lack something: memory of 32,767 numbers (1), and room one byte short (17), full and lean
 pub record Lacking : Type 0 where
@@ -327,9 +363,18 @@ abbrev pub nets : Answer Both → List (Answer Net)
 nets (good b) = good (b .full) ∷ good (b .lean) ∷ []
 nets (refused why) = []
 
--- a row, as the definitions answer and as document 01 has it
-abbrev pub answers : Row → Answer Both × Lacking × List (Answer Net) × List Text
-answers r = (run (r .sheet), lacking (r .sheet) (r .result), reads (r .result), map (λ _. listing (r .sheet)) (r .texts))
+-- the bytes with nodes, without their nodes: the plain bytes
+abbrev pub dropped : Answer Both → List (List ℕ)
+dropped (good b) = dropNodes (b .fullNodes) ∷ dropNodes (b .leanNodes) ∷ []
+dropped (refused why) = []
 
-abbrev pub expected : Row → Answer Both × Lacking × List (Answer Net) × List Text
-expected r = (r .result, lacks (r .result), nets (r .result), r .texts)
+abbrev pub plains : Answer Both → List (List ℕ)
+plains (good b) = b .fullBytes ∷ b .leanBytes ∷ []
+plains (refused why) = []
+
+-- a row, as the definitions answer and as the documents have it
+abbrev pub answers : Row → Answer Both × Lacking × List (Answer Net) × List (List ℕ) × List Text
+answers r = (run (r .sheet), lacking (r .sheet) (r .result), reads (r .result), dropped (r .result), map (λ _. listing (r .sheet)) (r .texts))
+
+abbrev pub expected : Row → Answer Both × Lacking × List (Answer Net) × List (List ℕ) × List Text
+expected r = (r .result, lacks (r .result), nets (r .result), plains (r .result), r .texts)

@@ -8,6 +8,7 @@ pub mod Rules
 pub mod Net
 pub mod Inputs
 pub mod Lean
+pub mod Makers
 pub mod Record
 pub mod NetRead
 pub mod Translate

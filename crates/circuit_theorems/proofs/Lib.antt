@@ -13,6 +13,8 @@ pub mod LeanLaws
 pub mod Counts
 pub mod Main
 pub mod Bounds
+pub mod Makers
+pub mod NodeBytes
 pub mod Drive
 pub mod KnownParts
 pub mod NetRead

@@ -1,3 +1,4 @@
 pub mod Drive
 pub mod Formed
+pub mod Makers
 pub mod Terminals

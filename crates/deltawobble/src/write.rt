@@ -16,11 +16,11 @@ fn write_full(work: &[u16], out: &mut [u8], elements: usize, wires: usize, pins:
     requires { ⌜ (Ready (now work) elements wires pins) × (All Known (netIn (now work) elements wires pins .elements)) ⌝ }
     ensures { λ r. ⌜ Says r (now (out .entry)) (now (out .exit)) (netAnswer (netIn (now (work .entry)) elements wires pins) (length (now (out .entry)))) ⌝ }
 {
-    let n = netlist::full_length(work, elements, wires, pins);
+    let n = netlist::full_length(work, elements, wires, pins, true);
     if out.len() < n {
         return Answer::Refused(17, n);
     }
-    let length = netlist::write_full(work, out, elements, wires, pins);
+    let length = netlist::write_full(work, out, elements, wires, pins, true);
     Answer::Written(length)
 }
 
@@ -37,11 +37,11 @@ fn write_lean(
         × (Keeps (now (work .entry)) (now (work .exit))) ⌝ }
 {
     lean::roots(work, elements, wires, pins);
-    let n = lean::lean_length(&work[..], elements, wires, pins);
+    let n = lean::lean_length(&work[..], elements, wires, pins, true);
     if out.len() < n {
         return Answer::Refused(17, n);
     }
-    let written = lean::write_lean(&work[..], out, elements, wires, pins);
+    let written = lean::write_lean(&work[..], out, elements, wires, pins, true);
     Answer::Written(written)
 }
 

@@ -5,18 +5,19 @@ use mathlib.Core.List.{List, _++_}
 use native.Mathlib.Omega.{arith}
 use lib.ListN.{length, length-append}
 use lib.Seq.{sets}
-use Rattle.calculus.specs.Net.{netBytes}
+use mathlib.Core.Bool.{Bool}
 use Rattle.calculus.specs.Lean.{lean}
-use Rattle.memory.specs.Map.{elementsAt, stackAt, region, netIn}
+use Rattle.calculus.specs.Makers.{leanMakers, written}
+use Rattle.memory.specs.Map.{elementsAt, stackAt, makersAt, region, netIn}
 use Rattle.netlist.proofs.InMemory.{kind-here}
 use Rattle.lean.specs.InMemory.{keptRow, wireRow, pinRow}
 use Rattle.lean.specs.Fitting.{Fits, RowFits, PinsFit}
 use Rattle.lean.proofs.RowLaws.{writing-start, writing-step}
 use Rattle.lean.proofs.LeanLaws.{lean-bytes, driven, kinds-low, pins-low}
 
-module _ (w : List ℕ) (e k p room : ℕ) (f : Fits w e k p room) where
+module _ (plain : Bool) (w : List ℕ) (e k p room : ℕ) (f : Fits plain w e k p room) where
   abbrev first : List ℕ
-  first = keptRow w (region w elementsAt e) 0
+  first = keptRow plain w (region w elementsAt e) (region w makersAt e) 0
 
   abbrev second : List ℕ
   second = wireRow w (region w elementsAt e) 0
@@ -27,7 +28,7 @@ module _ (w : List ℕ) (e k p room : ℕ) (f : Fits w e k p room) where
   fits : length first + (length second + length third) ≤ room
   fits =
       let t = f .target in
-      omega (arith, ap length (lean-bytes w e k p (f .whole)), length-append first (second ++ third), length-append second third)
+      omega (arith, ap length (lean-bytes w e k p (f .whole) plain), length-append first (second ++ third), length-append second third)
 
   row-fits : (bytes : List ℕ) (from : ℕ) → from + length bytes ≤ room → RowFits w e bytes room from
   row-fits bytes from h = record {
@@ -52,12 +53,12 @@ module _ (w : List ℕ) (e k p room : ℕ) (f : Fits w e k p room) where
     target = omega (arith, fits);
   }
 
-  pub written : (o o₁ o₂ o₃ : List ℕ) (a b c : ℕ) → a ≡ 0 + length first → o₁ ≡ sets o 0 first → b ≡ a + length second → o₂ ≡ sets o₁ a second → c ≡ b + length third
-      → o₃ ≡ sets o₂ b third → (c ≡ length (netBytes (lean (netIn w e k p)))) × (o₃ ≡ sets o 0 (netBytes (lean (netIn w e k p))))
-  written o o₁ o₂ o₃ a b c ha ho hb ho₁ hc ho₂ =
+  pub rows : (o o₁ o₂ o₃ : List ℕ) (a b c : ℕ) → a ≡ 0 + length first → o₁ ≡ sets o 0 first → b ≡ a + length second → o₂ ≡ sets o₁ a second → c ≡ b + length third
+      → o₃ ≡ sets o₂ b third → (c ≡ length (written plain (lean (netIn w e k p)) (leanMakers (netIn w e k p) (region w makersAt e)))) × (o₃ ≡ sets o 0 (written plain (lean (netIn w e k p)) (leanMakers (netIn w e k p) (region w makersAt e))))
+  rows o o₁ o₂ o₃ a b c ha ho hb ho₁ hc ho₂ =
       let all : List ℕ = first ++ (second ++ third) in
       let s₁ = writing-step o 0 all o 0 all first (second ++ third) (writing-start o 0 all) refl o₁ a ha ho in
       let s₂ = writing-step o 0 all o₁ a (second ++ third) second third s₁ refl o₂ b hb ho₁ in
       let z = s₂ .ends in
-      let l = ap length (lean-bytes w e k p (f .whole)) in
-      (omega arith, ho₂ ∙ s₂ .whole ∙ ap (sets o 0) (sym (lean-bytes w e k p (f .whole))))
+      let l = ap length (lean-bytes w e k p (f .whole) plain) in
+      (omega arith, ho₂ ∙ s₂ .whole ∙ ap (sets o 0) (sym (lean-bytes w e k p (f .whole) plain)))

@@ -1,28 +1,32 @@
 -- The tables of drivers and roots in the working memory give the lean netlist of the definition. Assumes nothing.
 use Prim.Native.Nat.{ℕ, zero, suc, _+_, _*_, _≤_, _<_}
-use mathlib.Core.Path.{_≡_, refl, ap, _∙_, subst}
+use mathlib.Core.Path.{_≡_, refl, sym, ap, _∙_, subst}
 use mathlib.Core.Bool.{Bool, true, false, cond}
 use mathlib.Core.List.{List, [], _∷_, _++_, map}
 use native.Mathlib.Omega.{arith}
 use lib.Dec.{T, eqb, eqb-refl}
-use lib.ListN.{length, getD, length-append, length-map}
+use lib.ListN.{length, getD, drop, length-append, length-map}
 use borrow.Author.Tests.{eqb-false}
 use Rattle.laws.proofs.Tests.{or-elim, or-left, or-right, T-is}
 use Rattle.calculus.specs.Terms.{partAt}
-use Rattle.calculus.specs.Net.{Terminal, inp, out, Element, point, part, Net, partSide, netBytes}
+use Rattle.calculus.specs.Net.{Terminal, inp, out, Element, point, part, Net, partSide, wireBytes, pinBytes, netBytes}
+use Rattle.calculus.specs.Makers.{maker, keepMakers, leanMakers, netNodeBytes, written}
 use Rattle.calculus.specs.Lean.{driver, isPin, root, keep, toInputs, toElement, leanWires, leanPin, lean}
 use Rattle.calculus.specs.Record.{All}
 use Rattle.calculus.specs.Inputs.{tally, ins, madeAt, isOut}
 use Rattle.circuit_theorems.specs.Formed.{Shown}
-use Rattle.memory.specs.Map.{elementsAt, stackAt, region, terminalOf, netIn}
+use Rattle.memory.specs.Map.{elementsAt, stackAt, makersAt, region, terminalOf, netIn}
 use Rattle.netlist.specs.Said.{wire}
 use Rattle.netlist.specs.Elements.{afterAll}
 use Rattle.laws.proofs.Regions.{region-length, region-at}
+use Rattle.netlist.specs.Elements.{recordsOf}
+use Rattle.netlist.proofs.Elements.{records-are}
 use Rattle.netlist.proofs.Records as records
 use Rattle.lean.specs.Table.{entry, Whole}
-use Rattle.lean.specs.InMemory.{undriven, keepIn, inputIn, inputsIn, elementIn, wiresIn, pinIn, keptRow, wireRow, pinRow}
+use Rattle.lean.specs.InMemory.{undriven, keepIn, keepMakersIn, inputIn, inputsIn, elementIn, wiresIn, pinIn, keptRow, wireRow, pinRow}
 use Rattle.lean.specs.Fitting.{Driven, LowPin}
 use Rattle.lean.proofs.KindLaws.{tiled-after}
+use Rattle.lean.proofs.RowLaws.{kept-any}
 use Rattle.lean.proofs.SumLaws.{rowsSize}
 use Rattle.lean.proofs.DriverLaws.{output-below, input-below, driver-out, pin-none, driver-in}
 
@@ -45,6 +49,14 @@ module _ (w : List ℕ) (e k p : ℕ) (q : Whole w e k p) where
       let a : entry w (i + 1) ≡ root m (i + 1) = entry-root (i + 1) (f (i + 1) (or-left (eqb (i + 1) (i + 1)) (isOut es (i + 1)) (eqb-refl (i + 1)))) in
       rw (a, keep-in es (λ x t. f x (or-right (eqb (i + 1) x) (isOut es x) t)))
   keep-in (part r i ∷ es) f = ap (λ (xs : List Element). part r i ∷ xs) (keep-in es (λ x t. f x (or-right (eqb (i + partAt r .inputs) x) (isOut es x) t)))
+
+  makers-in : (es : List Element) (js : List ℕ) → ((x : ℕ) → T (isOut es x) → T (isOut (m .elements) x)) → keepMakersIn w es js ≡ keepMakers m es js
+  makers-in [] js f = refl
+  makers-in (point i ∷ es) js f =
+      let a : entry w (i + 1) ≡ root m (i + 1) = entry-root (i + 1) (f (i + 1) (or-left (eqb (i + 1) (i + 1)) (isOut es (i + 1)) (eqb-refl (i + 1)))) in
+      rw (a, makers-in es (drop 1 js) (λ x t. f x (or-right (eqb (i + 1) x) (isOut es x) t)))
+  makers-in (part r i ∷ es) js f =
+      ap (λ (xs : List ℕ). maker js ∷ xs) (makers-in es (drop 1 js) (λ x t. f x (or-right (eqb (i + partAt r .inputs) x) (isOut es x) t)))
 
   -- ---- wires
 
@@ -109,18 +121,28 @@ module _ (w : List ℕ) (e k p : ℕ) (q : Whole w e k p) where
   abbrev ks : List ℕ
   ks = region w elementsAt e
 
-  pub lean-bytes : netBytes (lean m) ≡ keptRow w ks 0 ++ (wireRow w ks 0 ++ pinRow w (region w stackAt p))
-  unfolding netBytes lean keptRow wireRow pinRow netIn
-  lean-bytes =
-      rw (← keep-in (m .elements) (λ x t. t), ← wires-in (m .elements) (λ y h. h) (λ y t. t), ← pins-in (region w stackAt p) (q .ready .formed .shown))
+  abbrev js : List ℕ
+  js = region w makersAt e
+
+  -- the rows, over the definition's elements, wires and pins
+  rows-are : (plain : Bool) → written plain (lean m) (leanMakers m js) ≡ recordsOf plain (lean m .elements) (leanMakers m js) ++ (wireBytes (lean m .wires) ++ pinBytes (lean m .pins))
+  unfolding netBytes netNodeBytes
+  rows-are true = ap (λ (x : List ℕ). x ++ (wireBytes (lean m .wires) ++ pinBytes (lean m .pins))) (sym (records-are true (lean m .elements) (leanMakers m js)))
+  rows-are false = ap (λ (x : List ℕ). x ++ (wireBytes (lean m .wires) ++ pinBytes (lean m .pins))) (sym (records-are false (lean m .elements) (leanMakers m js)))
+
+  pub lean-bytes : (plain : Bool) → written plain (lean m) (leanMakers m js) ≡ keptRow plain w ks js 0 ++ (wireRow w ks 0 ++ pinRow w (region w stackAt p))
+  unfolding lean keptRow wireRow pinRow netIn
+  lean-bytes plain =
+      rows-are plain
+      ∙ rw (← keep-in (m .elements) (λ x t. t), ← makers-in (m .elements) js (λ x t. t), ← wires-in (m .elements) (λ y h. h) (λ y t. t), ← pins-in (region w stackAt p) (q .ready .formed .shown))
 
   pub pins-length : stackAt + p ≤ length w → length (pinRow w (region w stackAt p)) ≡ 3 * p
   unfolding pinRow
   pins-length h = records.pins-length (map (λ c. pinIn w (terminalOf c)) (region w stackAt p)) ∙ ap (λ (x : ℕ). 3 * x) (length-map (region w stackAt p) (λ c. pinIn w (terminalOf c)) ∙ region-length w stackAt p h)
 
-  pub lean-length : stackAt + p ≤ length w → length (netBytes (lean m)) ≡ 3 * p + rowsSize w ks 0
-  lean-length h =
-      omega (arith, ap length lean-bytes, length-append (keptRow w ks 0) (wireRow w ks 0 ++ pinRow w (region w stackAt p)), length-append (wireRow w ks 0) (pinRow w (region w stackAt p)), pins-length h)
+  pub lean-length : (plain : Bool) → stackAt + p ≤ length w → length (written plain (lean m) (leanMakers m js)) ≡ 3 * p + rowsSize plain w ks 0
+  lean-length plain h =
+      omega (arith, ap length (lean-bytes plain), length-append (keptRow plain w ks js 0) (wireRow w ks 0 ++ pinRow w (region w stackAt p)), kept-any plain w ks js [] 0, length-append (wireRow w ks 0) (pinRow w (region w stackAt p)), pins-length h)
 
   -- ---- what the writers ask
 

@@ -1,8 +1,8 @@
 -- Records written one after the other: what is written and what is still to come make the whole. Assumes nothing.
 use Prim.Native.Nat.{ℕ, zero, suc, _+_, _-_, _*_, _≤_, _<_}
-use mathlib.Core.Path.{_≡_, refl, sym, ap, _∙_, subst}
+use mathlib.Core.Path.{_≡_, refl, sym, ap, ap₂, _∙_, subst}
 use mathlib.Core.Bool.{Bool, true, false, cond, _&&_}
-use mathlib.Core.List.{List, [], _∷_, _++_, append-assoc}
+use mathlib.Core.List.{List, [], _∷_, _++_, append-assoc, append-nil}
 use native.Mathlib.Omega.{arith}
 use native.Mathlib.Decide.{ℕ-discrete}
 use lib.Dec.{eqb}
@@ -11,13 +11,14 @@ use lib.Seq.{sets, length-sets}
 use borrow.Author.Tests.{ne-eqb, eq-eqb}
 use Rattle.laws.proofs.Regions.{sets-append}
 use Rattle.calculus.specs.Terms.{partAt}
-use Rattle.calculus.specs.Net.{Element, point, part, Wire, elementBytes, wireBytes, pinBytes}
-use Rattle.memory.specs.Map.{elementsAt, stackAt, region, elementsFrom, terminalOf}
-use Rattle.netlist.specs.Elements.{after, afterAll}
-use Rattle.netlist.proofs.Elements.{kinds-append, after-rises}
-use Rattle.netlist.proofs.Records.{elements-append, wires-append}
+use Rattle.calculus.specs.Net.{Element, point, part, Wire, wireBytes, pinBytes}
+use Rattle.calculus.specs.Makers.{maker}
+use Rattle.memory.specs.Map.{elementsAt, stackAt, makersAt, region, elementsFrom, terminalOf}
+use Rattle.netlist.specs.Elements.{after, afterAll, elementSize, nodeSize, recordOf, recordsOf}
+use Rattle.netlist.proofs.Elements.{kinds-append, kinds-length, kind-size, records-length, after-rises}
+use Rattle.netlist.proofs.Records.{wires-append}
 use Rattle.lean.specs.Table.{entry}
-use Rattle.lean.specs.InMemory.{undriven, keptIn, keepIn, inputIn, inputsIn, elementIn, wiresIn, pinIn, keptRow, wireRow, pinRow}
+use Rattle.lean.specs.InMemory.{undriven, keptIn, keepIn, keepMakersIn, inputIn, inputsIn, elementIn, wiresIn, pinIn, keptRow, wireRow, pinRow}
 use Rattle.lean.specs.Fitting.{ElementFits, RowFits}
 use Rattle.lean.proofs.KindLaws.{region-next, region-end}
 
@@ -55,32 +56,67 @@ sum-step sum all rest one next e h = omega (arith, ap length e ∙ length-append
 
 -- ---- the rows of records
 
-keep-append : (w : List ℕ) (xs ys : List Element) → keepIn w (xs ++ ys) ≡ keepIn w xs ++ keepIn w ys
-keep-append w [] ys = refl
-keep-append w (x ∷ xs) ys = by (keptIn w x) (keep-append w xs ys)
+-- the first element's record, where it is kept, and then those of the others
+kept-one : (plain : Bool) (w : List ℕ) (x : Element) (es : List Element) (js ls : List ℕ) → maker ls ≡ maker js
+    → recordsOf plain (keepIn w (x ∷ es)) (keepMakersIn w (x ∷ es) js)
+    ≡ recordsOf plain (keepIn w (x ∷ [])) (keepMakersIn w (x ∷ []) ls) ++ recordsOf plain (keepIn w es) (keepMakersIn w es (drop 1 js))
+kept-one plain w x es js ls h = by (keptIn w x)
   where
-    by : (b : Bool) → keepIn w (xs ++ ys) ≡ keepIn w xs ++ keepIn w ys
-        → cond b (x ∷ keepIn w (xs ++ ys)) (keepIn w (xs ++ ys)) ≡ cond b (x ∷ keepIn w xs) (keepIn w xs) ++ keepIn w ys
-    by true h = ap (λ (l : List Element). x ∷ l) h
-    by false h = h
+    by : (b : Bool)
+        → recordsOf plain (cond b (x ∷ keepIn w es) (keepIn w es)) (cond b (maker js ∷ keepMakersIn w es (drop 1 js)) (keepMakersIn w es (drop 1 js)))
+        ≡ recordsOf plain (cond b (x ∷ []) []) (cond b (maker ls ∷ []) []) ++ recordsOf plain (keepIn w es) (keepMakersIn w es (drop 1 js))
+    by true = ap (λ (l : List ℕ). l ++ recordsOf plain (keepIn w es) (keepMakersIn w es (drop 1 js))) (ap (recordOf plain x) (sym h) ∙ sym (append-nil (recordOf plain x (maker ls))))
+    by false = refl
 
 wires-in-append : (w : List ℕ) (xs ys : List Element) → wiresIn w (xs ++ ys) ≡ wiresIn w xs ++ wiresIn w ys
 wires-in-append w [] ys = refl
 wires-in-append w (x ∷ xs) ys =
     ap (λ (l : List Wire). elementIn w x ++ l) (wires-in-append w xs ys) ∙ sym (append-assoc (elementIn w x) (wiresIn w xs) (wiresIn w ys))
 
+-- the record of one element
+pub record-size : (plain : Bool) (k n : ℕ) (js : List ℕ) → length (recordsOf plain (elementsFrom (k ∷ []) n) js) ≡ elementSize k + nodeSize plain 1
+record-size plain k n js =
+    records-length plain (elementsFrom (k ∷ []) n) js ∙ ap₂ _+_ (kind-size k n) (ap (nodeSize plain) (kinds-length (k ∷ []) n))
+
+module _ (plain : Bool) (w : List ℕ) where
+  pub kept-none : (js : List ℕ) (n : ℕ) → keptRow plain w [] js n ≡ []
+  unfolding keptRow
+  kept-none js n = refl
+
+  pub kept-first : (k : ℕ) (ks js ls : List ℕ) (n : ℕ) → maker ls ≡ maker js
+      → keptRow plain w (k ∷ ks) js n ≡ keptRow plain w (k ∷ []) ls n ++ keptRow plain w ks (drop 1 js) (after k n)
+  unfolding keptRow
+  kept-first k ks js ls n h = by (eqb k 7)
+    where
+      by : (b : Bool)
+          → recordsOf plain (keepIn w (cond b (point n ∷ elementsFrom ks (n + 2)) (part k n ∷ elementsFrom ks (n + partAt k .inputs + 1)))) (keepMakersIn w (cond b (point n ∷ elementsFrom ks (n + 2)) (part k n ∷ elementsFrom ks (n + partAt k .inputs + 1))) js)
+          ≡ recordsOf plain (keepIn w (cond b (point n ∷ []) (part k n ∷ []))) (keepMakersIn w (cond b (point n ∷ []) (part k n ∷ [])) ls)
+          ++ recordsOf plain (keepIn w (elementsFrom ks (cond b (n + 2) (n + partAt k .inputs + 1)))) (keepMakersIn w (elementsFrom ks (cond b (n + 2) (n + partAt k .inputs + 1))) (drop 1 js))
+      by true = kept-one plain w (point n) (elementsFrom ks (n + 2)) js ls h
+      by false = kept-one plain w (part k n) (elementsFrom ks (n + partAt k .inputs + 1)) js ls h
+
+  -- which nodes they name doesn't tell on the length
+  pub kept-any : (ks js ls : List ℕ) (n : ℕ) → length (keptRow plain w ks js n) ≡ length (keptRow plain w ks ls n)
+  unfolding keptRow
+  kept-any ks js ls n =
+      records-length plain (keepIn w (elementsFrom ks n)) (keepMakersIn w (elementsFrom ks n) js)
+      ∙ sym (records-length plain (keepIn w (elementsFrom ks n)) (keepMakersIn w (elementsFrom ks n) ls))
+
+  -- ---- one element's record
+
+  pub kept-part : (k n : ℕ) (js : List ℕ) → (k ≡ 7 → ⊥) → keptRow plain w (k ∷ []) js n ≡ recordsOf plain (elementsFrom (k ∷ []) n) (maker js ∷ [])
+  unfolding keptRow
+  kept-part k n js d = rw (ne-eqb k 7 d)
+
+  pub kept-point : (k n : ℕ) (js : List ℕ) → k ≡ 7 → keptIn w (point n) ≡ true → keptRow plain w (k ∷ []) js n ≡ recordsOf plain (elementsFrom (k ∷ []) n) (maker js ∷ [])
+  unfolding keptRow
+  kept-point k n js e f = rw (eq-eqb k 7 e, f)
+
+  pub kept-gone : (k n : ℕ) (js : List ℕ) → k ≡ 7 → keptIn w (point n) ≡ false → keptRow plain w (k ∷ []) js n ≡ []
+  unfolding keptRow
+  kept-gone k n js e f = rw (eq-eqb k 7 e, f)
+
 module _ (w : List ℕ) where
-  pub kept-none : (n : ℕ) → keptRow w [] n ≡ []
-  unfolding keptRow
-  kept-none n = refl
-
-  pub kept-first : (k : ℕ) (ks : List ℕ) (n : ℕ) → keptRow w (k ∷ ks) n ≡ keptRow w (k ∷ []) n ++ keptRow w ks (after k n)
-  unfolding keptRow
-  kept-first k ks n =
-      ap (λ (es : List Element). elementBytes (keepIn w es)) (kinds-append (k ∷ []) ks n)
-      ∙ ap elementBytes (keep-append w (elementsFrom (k ∷ []) n) (elementsFrom ks (after k n)))
-      ∙ elements-append (keepIn w (elementsFrom (k ∷ []) n)) (keepIn w (elementsFrom ks (after k n)))
-
   pub wire-none : (n : ℕ) → wireRow w [] n ≡ []
   unfolding wireRow
   wire-none n = refl
@@ -140,19 +176,7 @@ module _ (w : List ℕ) where
   pub inputs-end : (count first i : ℕ) → count ≤ i → wireBytes (inputsIn w (count - i) (first + i)) ≡ []
   inputs-end count first i h = let a : count - i ≡ 0 = omega arith in ap (λ (c : ℕ). wireBytes (inputsIn w c (first + i))) a
 
-  -- ---- one element's records
-
-  pub kept-part : (k n : ℕ) → (k ≡ 7 → ⊥) → keptRow w (k ∷ []) n ≡ elementBytes (part k n ∷ [])
-  unfolding keptRow
-  kept-part k n d = rw (ne-eqb k 7 d)
-
-  pub kept-point : (k n : ℕ) → k ≡ 7 → keptIn w (point n) ≡ true → keptRow w (k ∷ []) n ≡ elementBytes (point n ∷ [])
-  unfolding keptRow
-  kept-point k n e f = rw (eq-eqb k 7 e, f)
-
-  pub kept-gone : (k n : ℕ) → k ≡ 7 → keptIn w (point n) ≡ false → keptRow w (k ∷ []) n ≡ []
-  unfolding keptRow
-  kept-gone k n e f = rw (eq-eqb k 7 e, f)
+  -- ---- the wires to one element
 
   wire-alone : (ws : List Wire) → ws ++ [] ≡ ws
   wire-alone [] = refl
@@ -186,81 +210,104 @@ module _ (w : List ℕ) where
 
   -- ---- their length
 
-  pub size-part : (k n : ℕ) → (k ≡ 7 → ⊥) → length (keptRow w (k ∷ []) n) + length (wireRow w (k ∷ []) n) ≡ 4 + length (wireBytes (inputsIn w (partAt k .inputs) n))
-  size-part k n d = rw (kept-part k n d, wire-part k n d)
+  pub size-part : (plain : Bool) (k n : ℕ) → (k ≡ 7 → ⊥)
+      → length (keptRow plain w (k ∷ []) [] n) + length (wireRow w (k ∷ []) n) ≡ 4 + nodeSize plain 1 + length (wireBytes (inputsIn w (partAt k .inputs) n))
+  size-part plain k n d =
+      let s : elementSize k ≡ 4 = rw (ne-eqb k 7 d) in
+      omega (arith, ap length (kept-part plain w k n [] d) ∙ record-size plain k n (0 ∷ []), ap length (wire-part k n d))
 
-  pub size-gone : (k n : ℕ) → k ≡ 7 → keptIn w (point n) ≡ false → length (keptRow w (k ∷ []) n) + length (wireRow w (k ∷ []) n) ≡ 0
-  size-gone k n e f = rw (kept-gone k n e f, wire-gone k n e f)
+  pub size-gone : (plain : Bool) (k n : ℕ) → k ≡ 7 → keptIn w (point n) ≡ false → length (keptRow plain w (k ∷ []) [] n) + length (wireRow w (k ∷ []) n) ≡ 0
+  size-gone plain k n e f = rw (kept-gone plain w k n [] e f, wire-gone k n e f)
 
-  pub size-point : (k n : ℕ) → k ≡ 7 → keptIn w (point n) ≡ true → length (keptRow w (k ∷ []) n) + length (wireRow w (k ∷ []) n) ≡ 3 + length (wireBytes (inputIn w n))
-  size-point k n e f =
+  -- a kept point's wire is the one to its input
+  point-wire : (k n : ℕ) → k ≡ 7 → keptIn w (point n) ≡ true → length (wireRow w (k ∷ []) n) ≡ length (wireBytes (inputIn w n))
+  point-wire k n e f =
       elim (ℕ-discrete (getD w n 0) 65535) [
-        | yes z ↦ rw (kept-point k n e f, wire-pin k n e z, input-none n z)
-        | no d ↦ rw (kept-point k n e f, wire-point k n e f d, input-driven n d)
+        | yes z ↦ rw (wire-pin k n e z, input-none n z)
+        | no d ↦ rw (wire-point k n e f d, input-driven n d)
       ]
+
+  pub size-point : (plain : Bool) (k n : ℕ) → k ≡ 7 → keptIn w (point n) ≡ true
+      → length (keptRow plain w (k ∷ []) [] n) + length (wireRow w (k ∷ []) n) ≡ 3 + nodeSize plain 1 + length (wireBytes (inputIn w n))
+  size-point plain k n e f =
+      let s : elementSize k ≡ 3 = rw (eq-eqb k 7 e) in
+      omega (arith, ap length (kept-point plain w k n [] e f) ∙ record-size plain k n (0 ∷ []), point-wire k n e f)
 
 -- ---- the rows of all elements
 
--- F makes a row element by element
-pub record Rows (F : List ℕ → ℕ → List ℕ) : Type 0 where
-  pub none : (n : ℕ) → F [] n ≡ []
-  pub first : (k : ℕ) (ks : List ℕ) (n : ℕ) → F (k ∷ ks) n ≡ F (k ∷ []) n ++ F ks (after k n)
+-- F makes a row element by element, by their kinds and their makers
+pub record Rows (F : List ℕ → List ℕ → ℕ → List ℕ) : Type 0 where
+  pub none : (n : ℕ) → F [] [] n ≡ []
+  pub first : (k : ℕ) (ks : List ℕ) (j : ℕ) (js : List ℕ) (n : ℕ) → F (k ∷ ks) (j ∷ js) n ≡ F (k ∷ []) (j ∷ []) n ++ F ks js (after k n)
 
-pub kept-rows : (w : List ℕ) → Rows (keptRow w)
-kept-rows w = record { none = kept-none w; first = kept-first w }
+pub kept-rows : (plain : Bool) (w : List ℕ) → Rows (keptRow plain w)
+kept-rows plain w = record { none = kept-none plain w []; first = λ k ks j js n. kept-first plain w k ks (j ∷ js) (j ∷ []) n refl }
 
-pub wire-rows : (w : List ℕ) → Rows (wireRow w)
-wire-rows w = record { none = wire-none w; first = wire-first w }
+-- wires name no nodes
+abbrev pub wireRows : List ℕ → List ℕ → List ℕ → ℕ → List ℕ
+wireRows w ks js n = wireRow w ks n
+
+pub wire-rows : (w : List ℕ) → Rows (wireRows w)
+wire-rows w = record { none = wire-none w; first = λ k ks j js n. wire-first w k ks n }
 
 -- i elements are done, n is the next free terminal
-pub record Row (F : List ℕ → ℕ → List ℕ) (w : List ℕ) (elements : ℕ) (out₀ : List ℕ) (from : ℕ) (o : List ℕ) (at n i : ℕ) : Type 0 where
+pub record Row (F : List ℕ → List ℕ → ℕ → List ℕ) (w : List ℕ) (elements : ℕ) (out₀ : List ℕ) (from : ℕ) (o : List ℕ) (at n i : ℕ) : Type 0 where
   pub low : afterAll (drop i (region w elementsAt elements)) n ≤ 8192
-  pub writing : Writing out₀ from (F (region w elementsAt elements) 0) o at (F (drop i (region w elementsAt elements)) n)
+  pub writing : Writing out₀ from (F (region w elementsAt elements) (region w makersAt elements) 0) o at (F (drop i (region w elementsAt elements)) (drop i (region w makersAt elements)) n)
 
-module _ {F : List ℕ → ℕ → List ℕ} (rows : Rows F) (out₀ : List ℕ) {w : List ℕ} {elements from : ℕ}
-    (f : RowFits w elements (F (region w elementsAt elements) 0) (length out₀) from) where
+module _ {F : List ℕ → List ℕ → ℕ → List ℕ} (rows : Rows F) (out₀ : List ℕ) {w : List ℕ} {elements from : ℕ}
+    (f : RowFits w elements (F (region w elementsAt elements) (region w makersAt elements) 0) (length out₀) from) where
   abbrev ks : List ℕ
   ks = region w elementsAt elements
 
-  pub row-size : elementsAt + elements ≤ length w
+  abbrev js : List ℕ
+  js = region w makersAt elements
+
+  pub row-size : makersAt + elements ≤ length w
   row-size = let a = f .driven .size in let b = f .few in omega arith
 
   pub row-start : Row F w elements out₀ from out₀ from 0 0
-  row-start = record { low = f .low; writing = writing-start out₀ from (F ks 0) }
+  row-start = record { low = f .low; writing = writing-start out₀ from (F ks js 0) }
 
   module _ {o : List ℕ} {at n i : ℕ} (r : Row F w elements out₀ from o at n i) where
-    pub row-end : elements ≤ i → (at ≡ from + length (F ks 0)) × (o ≡ sets out₀ from (F ks 0))
+    pub row-end : elements ≤ i → (at ≡ from + length (F ks js 0)) × (o ≡ sets out₀ from (F ks js 0))
     row-end h =
-        writing-end out₀ from (F ks 0) o at (F (drop i ks) n) (r .writing) (ap (λ (x : List ℕ). F x n) (region-end w elementsAt elements i row-size h) ∙ rows .none n)
+        writing-end out₀ from (F ks js 0) o at (F (drop i ks) (drop i js) n) (r .writing) (ap₂ (λ (x y : List ℕ). F x y n) (region-end w elementsAt elements i (omega (arith, row-size)) h) (region-end w makersAt elements i row-size h) ∙ rows .none n)
 
     module _ (lt : i < elements) where
       abbrev k : ℕ
       k = getD w (elementsAt + i) 0
 
+      abbrev j : ℕ
+      j = getD w (makersAt + i) 0
+
       next : drop i ks ≡ k ∷ drop (i + 1) ks
-      next = region-next w elementsAt elements i row-size lt
+      next = region-next w elementsAt elements i (omega (arith, row-size)) lt
+
+      next-maker : drop i js ≡ j ∷ drop (i + 1) js
+      next-maker = region-next w makersAt elements i row-size lt
 
       low-next : afterAll (drop (i + 1) ks) (after k n) ≤ 8192
       low-next = subst (λ (xs : List ℕ). afterAll xs n ≤ 8192) next (r .low)
 
-      parts : F (drop i ks) n ≡ F (k ∷ []) n ++ F (drop (i + 1) ks) (after k n)
-      parts = ap (λ (xs : List ℕ). F xs n) next ∙ rows .first k (drop (i + 1) ks) n
+      parts : F (drop i ks) (drop i js) n ≡ F (k ∷ []) (j ∷ []) n ++ F (drop (i + 1) ks) (drop (i + 1) js) (after k n)
+      parts = ap₂ (λ (x y : List ℕ). F x y n) next next-maker ∙ rows .first k (drop (i + 1) ks) j (drop (i + 1) js) n
 
-      pub row-one : ElementFits w k n (F (k ∷ []) n) (length o) at
+      pub row-one : ElementFits w k n (F (k ∷ []) (j ∷ []) n) (length o) at
       row-one = record {
         driven = f .driven;
         known = f .known i lt;
         low = omega (arith, after-rises (drop (i + 1) ks) (after k n), low-next);
         target = rw (r .writing .size)
-            (writing-fits out₀ from (F ks 0) o at (F (drop i ks) n) (F (k ∷ []) n) (F (drop (i + 1) ks) (after k n)) (r .writing) parts (length out₀) (f .target));
+            (writing-fits out₀ from (F ks js 0) o at (F (drop i ks) (drop i js) n) (F (k ∷ []) (j ∷ []) n) (F (drop (i + 1) ks) (drop (i + 1) js) (after k n)) (r .writing) parts (length out₀) (f .target));
       }
 
-      pub row-step : {o₁ : List ℕ} {at₁ n₁ : ℕ} → (at₁ ≡ at + length (F (k ∷ []) n)) × (o₁ ≡ sets o at (F (k ∷ []) n)) → n₁ ≡ after k n
+      pub row-step : {o₁ : List ℕ} {at₁ n₁ : ℕ} → (at₁ ≡ at + length (F (k ∷ []) (j ∷ []) n)) × (o₁ ≡ sets o at (F (k ∷ []) (j ∷ []) n)) → n₁ ≡ after k n
           → Row F w elements out₀ from o₁ at₁ n₁ (i + 1)
       row-step {o₁} {at₁} {n₁} g h = record {
         low = rw h low-next;
         writing = rw h
-            (writing-step out₀ from (F ks 0) o at (F (drop i ks) n) (F (k ∷ []) n) (F (drop (i + 1) ks) (after k n)) (r .writing) parts o₁ at₁ (g .0) (g .1));
+            (writing-step out₀ from (F ks js 0) o at (F (drop i ks) (drop i js) n) (F (k ∷ []) (j ∷ []) n) (F (drop (i + 1) ks) (drop (i + 1) js) (after k n)) (r .writing) parts o₁ at₁ (g .0) (g .1));
       }
 
 -- ---- the row of pins

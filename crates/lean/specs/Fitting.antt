@@ -1,21 +1,23 @@
 -- What a writer of records asks of the working memory and of the room in the output. Assumes nothing.
 use Prim.Native.Nat.{ℕ, _+_, _≤_, _<_}
 use mathlib.Core.Path.{_≡_}
+use mathlib.Core.Bool.{Bool}
 use mathlib.Core.List.{List}
 use lib.ListN.{length, getD}
-use Rattle.calculus.specs.Net.{Terminal, inp, out, netBytes}
+use Rattle.calculus.specs.Net.{Terminal, inp, out}
 use Rattle.calculus.specs.Lean.{lean}
+use Rattle.calculus.specs.Makers.{leanMakers, written}
 use Rattle.calculus.specs.Record.{All}
-use Rattle.memory.specs.Map.{elementsAt, stackAt, memorySize, region, netIn, terminalOf}
+use Rattle.memory.specs.Map.{elementsAt, stackAt, makersAt, memorySize, region, netIn, terminalOf}
 use Rattle.calculus.specs.NetRead.{Known}
 use Rattle.netlist.specs.Elements.{after, afterAll}
 use Rattle.lean.specs.Table.{Whole}
 
--- a whole lean netlist
-pub record Fits (w : List ℕ) (elements wires pins room : ℕ) : Type 0 where
+-- a whole lean netlist, the full one's makers beside it
+pub record Fits (plain : Bool) (w : List ℕ) (elements wires pins room : ℕ) : Type 0 where
   pub whole : Whole w elements wires pins
   pub known : All Known (netIn w elements wires pins .elements)
-  pub target : length (netBytes (lean (netIn w elements wires pins))) ≤ room
+  pub target : length (written plain (lean (netIn w elements wires pins)) (leanMakers (netIn w elements wires pins) (region w makersAt elements))) ≤ room
 
 -- a driver is below 8,192
 pub record Driven (w : List ℕ) : Type 0 where

@@ -2,11 +2,13 @@
 use Prim.Native.Nat.{ℕ, zero, suc, _+_}
 use mathlib.Core.Bool.{Bool, true, not, _&&_, cond}
 use mathlib.Core.List.{List, [], _∷_, _++_, map}
-use lib.ListN.{getD}
+use lib.ListN.{getD, drop}
 use lib.Dec.{eqb}
 use Rattle.calculus.specs.Terms.{partAt}
-use Rattle.calculus.specs.Net.{Terminal, inp, out, Element, point, part, Wire, elementBytes, wireBytes, pinBytes}
+use Rattle.calculus.specs.Net.{Terminal, inp, out, Element, point, part, Wire, wireBytes, pinBytes}
+use Rattle.calculus.specs.Makers.{maker}
 use Rattle.memory.specs.Map.{elementsFrom, terminalOf}
+use Rattle.netlist.specs.Elements.{recordsOf}
 use Rattle.lean.specs.Table.{entry}
 
 -- input i has no driver
@@ -20,6 +22,11 @@ keptIn w (point i) = eqb (entry w (i + 1)) (i + 1)
 abbrev pub keepIn : List ℕ → List Element → List Element
 keepIn w [] = []
 keepIn w (x ∷ es) = let rest = keepIn w es in cond (keptIn w x) (x ∷ rest) rest
+
+-- the makers of what is kept
+abbrev pub keepMakersIn : List ℕ → List Element → List ℕ → List ℕ
+keepMakersIn w [] js = []
+keepMakersIn w (x ∷ es) js = let rest = keepMakersIn w es (drop 1 js) in cond (keptIn w x) (maker js ∷ rest) rest
 
 -- to input i
 abbrev pub inputIn : List ℕ → ℕ → List Wire
@@ -44,8 +51,9 @@ pinIn w (out o) = out (entry w o)
 
 -- ---- the records, of elements whose kinds stand one after the other, the first at terminal n
 
-unfoldable pub keptRow : List ℕ → List ℕ → ℕ → List ℕ
-keptRow w ks n = elementBytes (keepIn w (elementsFrom ks n))
+-- plain, or with their makers
+unfoldable pub keptRow : Bool → List ℕ → List ℕ → List ℕ → ℕ → List ℕ
+keptRow plain w ks js n = recordsOf plain (keepIn w (elementsFrom ks n)) (keepMakersIn w (elementsFrom ks n) js)
 
 unfoldable pub wireRow : List ℕ → List ℕ → ℕ → List ℕ
 wireRow w ks n = wireBytes (wiresIn w (elementsFrom ks n))

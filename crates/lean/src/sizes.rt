@@ -34,17 +34,17 @@ fn inputs_size(work: &[u16], count: u16, first: u16) -> usize
     sum
 }
 
-// The bytes of the records of an element and of the wires to it.
-pub fn element_size(work: &[u16], kind: u16, n: u16) -> usize
+// The bytes of the records of an element and of the wires to it, the element's plain or with a node.
+pub fn element_size(work: &[u16], kind: u16, n: u16, plain: bool) -> usize
     requires { ⌜ (memorySize ≤ length (now work)) × (after kind n ≤ 8192) ⌝ }
-    ensures { λ r. ⌜ r ≡ length (keptRow (now (work .entry)) (kind ∷ []) n) + length (wireRow (now (work .entry)) (kind ∷ []) n) ⌝ }
+    ensures { λ r. ⌜ r ≡ length (keptRow plain (now (work .entry)) (kind ∷ []) [] n) + length (wireRow (now (work .entry)) (kind ∷ []) n) ⌝ }
 {
     if kind != POINT {
         let part = parts::part_of(kind);
-        return 4 + inputs_size(work, part.inputs as u16, n);
+        return 4 + netlist::node_size(1, plain) + inputs_size(work, part.inputs as u16, n);
     }
     if table::is_kept(work, In(n)) {
-        return 3 + input_size(work, In(n));
+        return 3 + netlist::node_size(1, plain) + input_size(work, In(n));
     }
     0
 }

@@ -1,6 +1,7 @@
 // The records of the lean netlist, one group after the other.
 use crate::table;
 use memory::ELEMENTS;
+use memory::MAKERS;
 use memory::NONE;
 use memory::POINT;
 use memory::ROOTS;
@@ -14,23 +15,31 @@ ghost use mathlib.Core.List.{_∷_, []};
 ghost use lib.Seq.{sets};
 ghost use lib.ListN.{length};
 ghost use Rattle.calculus.specs.Net.{wireBytes};
-ghost use Rattle.memory.specs.Map.{elementsAt, stackAt, memorySize, region, terminalOf};
+ghost use Rattle.memory.specs.Map.{elementsAt, stackAt, makersAt, memorySize, region, terminalOf};
 ghost use Rattle.lean.specs.InMemory.{inputIn, inputsIn, pinIn, keptRow, wireRow, pinRow};
 ghost use Rattle.lean.specs.Fitting.{ElementFits, InputFits, InputsFit, RowFits, LowPin, PinsFit};
 ghost use Rattle.netlist.specs.Said.{saidTerminal};
 
-// The record of the element of this kind that starts at terminal n, where it is kept. As each function that follows, it answers the
-// offset past what it wrote.
-fn put_kept(work: &[u16], kind: u16, n: u16, out: &mut [u8], at: usize) -> usize
-    requires { ⌜ ElementFits (now work) kind n (keptRow (now work) (kind ∷ []) n) (length (now out)) at ⌝ }
-    ensures { λ r. ⌜ (r ≡ at + length (keptRow (now (work .entry)) (kind ∷ []) n))
-        × (now (out .exit) ≡ sets (now (out .entry)) at (keptRow (now (work .entry)) (kind ∷ []) n)) ⌝ }
+// The record of the element of this kind that starts at terminal n, where it is kept; plain, or with the node that made it. As each
+// function that follows, it answers the offset past what it wrote.
+fn put_kept(
+    work: &[u16],
+    kind: u16,
+    n: u16,
+    node: u16,
+    out: &mut [u8],
+    at: usize,
+    plain: bool,
+) -> usize
+    requires { ⌜ ElementFits (now work) kind n (keptRow plain (now work) (kind ∷ []) (node ∷ []) n) (length (now out)) at ⌝ }
+    ensures { λ r. ⌜ (r ≡ at + length (keptRow plain (now (work .entry)) (kind ∷ []) (node ∷ []) n))
+        × (now (out .exit) ≡ sets (now (out .entry)) at (keptRow plain (now (work .entry)) (kind ∷ []) (node ∷ []) n)) ⌝ }
 {
     if kind != POINT {
-        return netlist::put_part(out, at, kind as u8, n);
+        return netlist::put_element(out, at, kind, n, node, plain);
     }
     if table::is_kept(work, In(n)) {
-        return netlist::put_point(out, at, In(n));
+        return netlist::put_element(out, at, kind, n, node, plain);
     }
     at
 }
@@ -84,17 +93,24 @@ fn put_to(work: &[u16], kind: u16, n: u16, out: &mut [u8], at: usize) -> usize
 }
 
 // The records of the elements that are kept, from an offset on.
-pub fn put_elements(work: &[u16], elements: usize, out: &mut [u8], from: usize) -> usize
-    requires { ⌜ RowFits (now work) elements (keptRow (now work) (region (now work) elementsAt elements) 0) (length (now out)) from ⌝ }
-    ensures { λ r. ⌜ (r ≡ from + length (keptRow (now (work .entry)) (region (now (work .entry)) elementsAt elements) 0))
-        × (now (out .exit) ≡ sets (now (out .entry)) from (keptRow (now (work .entry)) (region (now (work .entry)) elementsAt elements) 0)) ⌝ }
+pub fn put_elements(
+    work: &[u16],
+    elements: usize,
+    out: &mut [u8],
+    from: usize,
+    plain: bool,
+) -> usize
+    requires { ⌜ RowFits (now work) elements (keptRow plain (now work) (region (now work) elementsAt elements) (region (now work) makersAt elements) 0) (length (now out)) from ⌝ }
+    ensures { λ r. ⌜ (r ≡ from + length (keptRow plain (now (work .entry)) (region (now (work .entry)) elementsAt elements) (region (now (work .entry)) makersAt elements) 0))
+        × (now (out .exit) ≡ sets (now (out .entry)) from (keptRow plain (now (work .entry)) (region (now (work .entry)) elementsAt elements) (region (now (work .entry)) makersAt elements) 0)) ⌝ }
 {
     let mut at = from;
     let mut n: u16 = 0;
     let mut i: usize = 0;
     while i < elements {
         let kind = work[ELEMENTS + i];
-        at = put_kept(work, kind, n, out, at);
+        let node = work[MAKERS + i];
+        at = put_kept(work, kind, n, node, out, at, plain);
         n = netlist::next_after(kind, n);
         i = i + 1;
     }

@@ -34,6 +34,10 @@ rootsEnd = 27264
 abbrev pub bindersAt : ℕ
 bindersAt = 27392
 
+-- the nodes that made the elements, in making order
+abbrev pub makersAt : ℕ
+makersAt = 27648
+
 abbrev pub memorySize : ℕ
 memorySize = 32768
 

@@ -23,6 +23,9 @@ pub const ROOTS: usize = 19072;
 // For each binder in scope, the outermost first, two numbers: see the making walk. 256 numbers.
 pub const BINDERS: usize = 27392;
 
+// The nodes that made the elements, in making order, where they are wished. At most 5,120 numbers.
+pub const MAKERS: usize = 27648;
+
 pub const SIZE: usize = 32768;
 
 pub const TERMINALS: usize = 8192;

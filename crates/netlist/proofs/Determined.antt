@@ -19,6 +19,12 @@ use Rattle.netlist.proofs.put_point.Kinds as put-point
 use Rattle.netlist.proofs.put_point.Reads as put-point-reads
 use Rattle.netlist.proofs.put_part.Kinds as put-part
 use Rattle.netlist.proofs.put_part.Reads as put-part-reads
+use Rattle.netlist.proofs.put_node_point.Kinds as put-node-point
+use Rattle.netlist.proofs.put_node_point.Reads as put-node-point-reads
+use Rattle.netlist.proofs.put_node_part.Kinds as put-node-part
+use Rattle.netlist.proofs.put_node_part.Reads as put-node-part-reads
+use Rattle.netlist.proofs.put_element.Kinds as put-element
+use Rattle.netlist.proofs.put_element.Reads as put-element-reads
 use Rattle.netlist.proofs.put_wire.Kinds as put-wire
 use Rattle.netlist.proofs.put_wire.Reads as put-wire-reads
 use Rattle.netlist.proofs.put_pin.Kinds as put-pin
@@ -29,6 +35,8 @@ use Rattle.netlist.proofs.output_of.Kinds as output-of
 use Rattle.netlist.proofs.output_of.Reads as output-of-reads
 use Rattle.netlist.proofs.next_after.Kinds as next-after
 use Rattle.netlist.proofs.next_after.Reads as next-after-reads
+use Rattle.netlist.proofs.node_size.Kinds as node-size
+use Rattle.netlist.proofs.node_size.Reads as node-size-reads
 use Rattle.netlist.proofs.full_length.Kinds as full-length
 use Rattle.netlist.proofs.full_length.Reads as full-length-reads
 use Rattle.netlist.proofs.write_full.Kinds as write-full
@@ -61,6 +69,15 @@ put-point-determined κs a x y s t f g = (f .0 ∙ sym (g .0), f .1 ∙ sym (g .
 pub put-part-determined : Results put-part.ps put-part.r put-part-reads.Post (λ κs s. s .0 .now)
 put-part-determined κs a x y s t f g = (f .0 ∙ sym (g .0), f .1 ∙ sym (g .1))
 
+pub put-node-point-determined : Results put-node-point.ps put-node-point.r put-node-point-reads.Post (λ κs s. s .0 .now)
+put-node-point-determined κs a x y s t f g = (f .0 ∙ sym (g .0), f .1 ∙ sym (g .1))
+
+pub put-node-part-determined : Results put-node-part.ps put-node-part.r put-node-part-reads.Post (λ κs s. s .0 .now)
+put-node-part-determined κs a x y s t f g = (f .0 ∙ sym (g .0), f .1 ∙ sym (g .1))
+
+pub put-element-determined : Results put-element.ps put-element.r put-element-reads.Post (λ κs s. s .0 .now)
+put-element-determined κs a x y s t f g = (f .0 ∙ sym (g .0), f .1 ∙ sym (g .1))
+
 pub put-wire-determined : Results put-wire.ps put-wire.r put-wire-reads.Post (λ κs s. s .0 .now)
 put-wire-determined κs a x y s t f g = (f .0 ∙ sym (g .0), f .1 ∙ sym (g .1))
 
@@ -75,6 +92,9 @@ output-of-determined κs a x y s t f g = one-out x y (f ∙ sym g)
 
 pub next-after-determined : Result next-after.ps next-after.r next-after-reads.Post
 next-after-determined κs a x y s t f g = f ∙ sym g
+
+pub node-size-determined : Result node-size.ps node-size.r node-size-reads.Post
+node-size-determined κs a x y s t f g = f ∙ sym g
 
 pub full-length-determined : Result full-length.ps full-length.r full-length-reads.Post
 full-length-determined κs a x y s t f g = f ∙ sym g

@@ -2,20 +2,21 @@
 use mathlib.Core.Path.{_≡_, refl, ap, sym, _∙_}
 use mathlib.Core.Bool.{Bool, true, false, cond}
 use mathlib.Core.List.{List, [], _∷_, _++_, append-assoc}
-use Prim.Native.Nat.{ℕ, zero, suc, _+_, _≤_, _<_}
+use Prim.Native.Nat.{ℕ, zero, suc, _+_, _*_, _≤_, _<_}
 use native.Mathlib.Omega.{arith}
 use native.Mathlib.Numerals.{add-one}
 use lib.Dec.{eqb}
 use lib.ListN.{length, getD, take, drop, length-append}
-use lib.Seq.{take-suc, take-add}
+use lib.Seq.{take-suc, take-add, length-take-le}
 use Rattle.calculus.specs.Terms.{partAt}
-use Rattle.calculus.specs.Net.{Element, point, part, elementBytes}
+use Rattle.calculus.specs.Net.{Element, point, part, element, itemBytes, elementBytes}
+use Rattle.calculus.specs.Makers.{nodeBytes, elementNodeBytes}
 use Rattle.circuit_theorems.specs.Formed.{Tiled}
 use Rattle.calculus.specs.Record.{All}
 use Rattle.laws.proofs.Tests.{by-eqb}
 use Rattle.memory.specs.Map.{elementsFrom}
 use Rattle.calculus.specs.NetRead.{Known}
-use Rattle.netlist.specs.Elements.{after, afterAll, elementSize}
+use Rattle.netlist.specs.Elements.{after, afterAll, elementSize, nodeSize, recordOf, recordsOf}
 use Rattle.netlist.proofs.Records.{elements-append}
 
 -- the element of kind k at n, and what comes behind it
@@ -124,3 +125,69 @@ module _ (ks : List ℕ) (i : ℕ) where
 
   pub after-within : (d : ℕ) → firstAfter ks i ≤ firstAfter ks (i + d)
   after-within d = rw (take-add i d ks, after-append (take i ks) (take d (drop i ks)) 0) (after-rises (take d (drop i ks)) (firstAfter ks i))
+
+-- ---- their records, plain or with nodes
+
+-- all of them
+pub records-are : (plain : Bool) (xs : List Element) (ks : List ℕ) → recordsOf plain xs ks ≡ cond plain (elementBytes xs) (elementNodeBytes xs ks)
+records-are true [] ks = refl
+records-are true (x ∷ xs) ks = ap (λ (l : List ℕ). itemBytes (element x) ++ l) (records-are true xs (drop 1 ks))
+records-are false [] ks = refl
+records-are false (x ∷ xs) ks = ap (λ (l : List ℕ). nodeBytes x (getD ks 0 0) ++ l) (records-are false xs (drop 1 ks))
+
+pub records-length : (plain : Bool) (xs : List Element) (ks : List ℕ) → length (recordsOf plain xs ks) ≡ length (elementBytes xs) + nodeSize plain (length xs)
+records-length true [] ks = refl
+records-length true (point i ∷ xs) ks = omega (arith, records-length true xs (drop 1 ks))
+records-length true (part p i ∷ xs) ks = omega (arith, records-length true xs (drop 1 ks))
+records-length false [] ks = refl
+records-length false (point i ∷ xs) ks = omega (arith, records-length false xs (drop 1 ks))
+records-length false (part p i ∷ xs) ks = omega (arith, records-length false xs (drop 1 ks))
+
+pub records-append : (plain : Bool) (xs ys : List Element) (js ks : List ℕ) → length js ≡ length xs → recordsOf plain (xs ++ ys) (js ++ ks) ≡ recordsOf plain xs js ++ recordsOf plain ys ks
+records-append plain [] ys [] ks h = refl
+records-append plain [] ys (j ∷ js) ks h = absurd (omega arith)
+records-append plain (x ∷ xs) ys [] ks h = absurd (omega arith)
+records-append plain (x ∷ xs) ys (j ∷ js) ks h =
+    ap (λ (l : List ℕ). recordOf plain x j ++ l) (records-append plain xs ys js ks (omega arith))
+    ∙ sym (append-assoc (recordOf plain x j) (recordsOf plain xs js) (recordsOf plain ys ks))
+
+pub kinds-length : (ks : List ℕ) (n : ℕ) → length (elementsFrom ks n) ≡ length ks
+kinds-length [] n = refl
+kinds-length (k ∷ ks) n = by (eqb k 7) (kinds-length ks)
+  where
+    by : (b : Bool) → ((m : ℕ) → length (elementsFrom ks m) ≡ length ks)
+        → length (cond b (point n ∷ elementsFrom ks (n + 2)) (part k n ∷ elementsFrom ks (n + partAt k .inputs + 1))) ≡ suc (length ks)
+    by true next = ap suc (next (n + 2))
+    by false next = ap suc (next (n + partAt k .inputs + 1))
+
+-- the bytes of node numbers
+pub node-more : (plain : Bool) (i : ℕ) → nodeSize plain (i + 1) ≡ nodeSize plain i + nodeSize plain 1
+node-more true i = refl
+node-more false i = omega arith
+
+pub node-within : (plain : Bool) (i n : ℕ) → i ≤ n → nodeSize plain i ≤ nodeSize plain n
+node-within true i n h = omega arith
+node-within false i n h = omega arith
+
+pub node-small : (plain : Bool) (n : ℕ) → nodeSize plain n ≤ 2 * n
+node-small true n = omega arith
+node-small false n = omega arith
+
+-- the records of the first i
+abbrev pub firstRecords : Bool → List ℕ → List ℕ → ℕ → List ℕ
+firstRecords plain ks js i = recordsOf plain (elementsFrom (take i ks) 0) (take i js)
+
+module _ (plain : Bool) (ks js : List ℕ) (i : ℕ) where
+  pub records-first : i ≤ length ks → length (firstRecords plain ks js i) ≡ length (firstBytes ks i) + nodeSize plain i
+  records-first h =
+      records-length plain (elementsFrom (take i ks) 0) (take i js)
+      ∙ ap (λ (x : ℕ). length (firstBytes ks i) + nodeSize plain x) (kinds-length (take i ks) 0 ∙ length-take-le i ks h)
+
+  -- one more
+  pub records-more : i < length ks → i < length js
+      → firstRecords plain ks js (i + 1) ≡ firstRecords plain ks js i ++ recordsOf plain (elementsFrom (getD ks i 0 ∷ []) (firstAfter ks i)) (getD js i 0 ∷ [])
+  records-more h g =
+      let l : length (take i js) ≡ length (elementsFrom (take i ks) 0) =
+      length-take-le i js (omega arith) ∙ sym (kinds-length (take i ks) 0 ∙ length-take-le i ks (omega arith)) in
+      rw (add-one i, take-suc ks i 0 h, take-suc js i 0 g, kinds-append (take i ks) (getD ks i 0 ∷ []) 0)
+      (records-append plain (elementsFrom (take i ks) 0) (elementsFrom (getD ks i 0 ∷ []) (firstAfter ks i)) (take i js) (getD js i 0 ∷ []) l)

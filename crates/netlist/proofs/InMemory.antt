@@ -1,5 +1,6 @@
 -- What holds of a netlist that stands in the working memory. Assumes nothing.
-use mathlib.Core.Path.{_≡_, refl}
+use mathlib.Core.Path.{_≡_, refl, _∙_}
+use mathlib.Core.Bool.{Bool, true, false}
 use mathlib.Core.List.{List, [], _∷_, _++_, map, map-append}
 use Prim.Native.Nat.{ℕ, _+_, _-_, _*_, _≤_, _<_}
 use native.Mathlib.Omega.{arith}
@@ -8,13 +9,15 @@ use lib.ListN.{length, getD, drop, length-drop, length-map}
 use lib.Seq.{take-suc, getD-drop}
 use Rattle.laws.proofs.Regions.{region-length, region-at}
 use Rattle.calculus.specs.Net.{elementBytes, wireBytes, pinBytes, netBytes}
+use Rattle.calculus.specs.Makers.{written}
 use Rattle.calculus.specs.Record.{All}
 use Rattle.calculus.specs.Inputs.{targets}
-use Rattle.memory.specs.Map.{targetsAt, elementsAt, stackAt, region, elementsFrom, wiresFrom, terminalOf, netIn, Ready}
+use Rattle.circuit_theorems.proofs.NodeBytes.{node-bytes}
+use Rattle.memory.specs.Map.{targetsAt, elementsAt, stackAt, makersAt, region, elementsFrom, wiresFrom, terminalOf, netIn, Ready}
 use Rattle.calculus.specs.NetRead.{Known}
-use Rattle.netlist.specs.Elements.{after, afterAll, elementSize}
+use Rattle.netlist.specs.Elements.{after, afterAll, elementSize, nodeSize, recordsOf}
 use Rattle.netlist.proofs.Records.{wires-append, pins-append, wires-length, pins-length, net-length}
-use Rattle.netlist.proofs.Elements.{firstBytes, firstAfter, bytes-more, length-more, after-one, bytes-within, after-within, kinds-tiled, tiled-end, kinds-known}
+use Rattle.netlist.proofs.Elements.{firstBytes, firstAfter, bytes-more, length-more, after-one, bytes-within, after-within, kinds-tiled, tiled-end, kinds-known, kinds-length, records-are, records-length, firstRecords, records-first, records-more}
 use Rattle.netlist.proofs.Targets.{made-past, target-counted}
 
 pub wires-count : (w is : List ℕ) → length (wiresFrom w is) ≡ length is
@@ -45,6 +48,17 @@ module _ (w : List ℕ) (a i : ℕ) (h : a + i < length w) where
       let e : i + 1 + (n - (i + 1)) ≡ n = omega arith in
       let within = rw e at (bytes-within (drop a w) (i + 1) (n - (i + 1))) in
       omega (arith, element-length)
+
+-- the record of one more, from the kinds at a and the makers at b
+pub record-next : (plain : Bool) (w : List ℕ) (a b i : ℕ) → a + i < length w → b + i < length w
+    → firstRecords plain (drop a w) (drop b w) (i + 1)
+    ≡ firstRecords plain (drop a w) (drop b w) i ++ recordsOf plain (elementsFrom (getD w (a + i) 0 ∷ []) (firstAfter (drop a w) i)) (getD w (b + i) 0 ∷ [])
+record-next plain w a b i h g =
+    rw (← getD-drop a w i 0, ← getD-drop b w i 0) (records-more plain (drop a w) (drop b w) i (here w a i h) (here w b i g))
+
+pub records-before : (plain : Bool) (w : List ℕ) (a b i : ℕ) → a + i ≤ length w
+    → length (firstRecords plain (drop a w) (drop b w) i) ≡ length (firstBytes (drop a w) i) + nodeSize plain i
+records-before plain w a b i h = records-first plain (drop a w) (drop b w) i (rw length-drop (omega arith))
 
 pub after-fits : (ks : List ℕ) (i n : ℕ) → i ≤ n → firstAfter ks i ≤ firstAfter ks n
 after-fits ks i n h = let e : i + (n - i) ≡ n = omega arith in rw e at (after-within ks i (n - i))
@@ -79,6 +93,15 @@ module _ (w : List ℕ) (e k p : ℕ) (r : Ready w e k p) where
       let a = wires-first w targetsAt k (omega arith) in
       let b = pins-first w stackAt p (omega arith) in
       omega arith
+
+  pub elements-here : length (netIn w e k p .elements) ≡ e
+  unfolding netIn
+  elements-here = kinds-length (region w elementsAt e) 0 ∙ region-length w elementsAt e (omega arith)
+
+  -- .. and with its makers, where they are wished
+  pub written-here : (plain : Bool) → length (written plain (netIn w e k p) (region w makersAt e)) ≡ 5 * k + 3 * p + length (firstBytes (drop elementsAt w) e) + nodeSize plain e
+  written-here true = omega (arith, length-here)
+  written-here false = omega (arith, node-bytes (netIn w e k p) (region w makersAt e), length-here, elements-here)
 
   -- the elements' terminals end by 8,192
   pub after-here : firstAfter (drop elementsAt w) e ≤ 8192

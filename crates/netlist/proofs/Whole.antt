@@ -1,19 +1,23 @@
 -- A netlist of the working memory, written in three rows: elements, wires, pins. Assumes nothing.
-use mathlib.Core.Path.{_≡_, refl, sym, _∙_}
+use mathlib.Core.Path.{_≡_, refl, sym, ap, _∙_}
+use mathlib.Core.Bool.{Bool, true, false}
 use mathlib.Core.List.{List, _++_, map, append-assoc}
 use Prim.Native.Nat.{ℕ, _+_, _*_}
 use native.Mathlib.Omega.{arith}
 use lib.ListN.{length, length-append}
 use lib.Seq.{sets}
-use Rattle.calculus.specs.Net.{elementBytes, wireBytes, pinBytes, netBytes}
-use Rattle.memory.specs.Map.{targetsAt, elementsAt, stackAt, region, elementsFrom, wiresFrom, terminalOf, netIn}
+use Rattle.calculus.specs.Net.{wireBytes, pinBytes, netBytes}
+use Rattle.calculus.specs.Makers.{netNodeBytes, written}
+use Rattle.memory.specs.Map.{targetsAt, elementsAt, stackAt, makersAt, region, elementsFrom, wiresFrom, terminalOf, netIn}
+use Rattle.netlist.specs.Elements.{recordsOf}
 use Rattle.netlist.specs.Fitting.{ElementsFit, WiresFit, PinsFit, Writable}
 use Rattle.netlist.proofs.Records.{record-more}
-use Rattle.netlist.proofs.InMemory.{wires-first, length-here, after-here, target-here, kind-here}
+use Rattle.netlist.proofs.Elements.{records-are}
+use Rattle.netlist.proofs.InMemory.{wires-first, records-before, written-here, after-here, target-here, kind-here}
 
 -- the three rows
-abbrev pub elementRow : List ℕ → ℕ → List ℕ
-elementRow w e = elementBytes (elementsFrom (region w elementsAt e) 0)
+abbrev pub elementRow : Bool → List ℕ → ℕ → List ℕ
+elementRow plain w e = recordsOf plain (elementsFrom (region w elementsAt e) 0) (region w makersAt e)
 
 abbrev pub wireRow : List ℕ → ℕ → List ℕ
 wireRow w k = wireBytes (wiresFrom w (region w targetsAt k))
@@ -21,39 +25,51 @@ wireRow w k = wireBytes (wiresFrom w (region w targetsAt k))
 abbrev pub pinRow : List ℕ → ℕ → List ℕ
 pinRow w p = pinBytes (map terminalOf (region w stackAt p))
 
-module _ (w : List ℕ) (e k p room : ℕ) (ok : Writable w e k p room) where
-  pub elements-fit : ElementsFit w e room 0
+-- the three rows are the netlist's bytes
+written-is : (plain : Bool) (w : List ℕ) (e k p : ℕ) → written plain (netIn w e k p) (region w makersAt e) ≡ elementRow plain w e ++ (wireRow w k ++ pinRow w p)
+unfolding netBytes netNodeBytes netIn
+written-is true w e k p = ap (λ (x : List ℕ). x ++ (wireRow w k ++ pinRow w p)) (sym (records-are true (elementsFrom (region w elementsAt e) 0) (region w makersAt e)))
+written-is false w e k p = ap (λ (x : List ℕ). x ++ (wireRow w k ++ pinRow w p)) (sym (records-are false (elementsFrom (region w elementsAt e) 0) (region w makersAt e)))
+
+module _ (plain : Bool) (w : List ℕ) (e k p room : ℕ) (ok : Writable plain w e k p room) where
+  -- the length of all three
+  whole-here : length (written plain (netIn w e k p) (region w makersAt e)) ≡ 5 * k + 3 * p + length (elementRow plain w e)
+  whole-here =
+      let r = ok .ready in
+      omega (arith, written-here w e k p r plain, records-before plain w elementsAt makersAt e (omega arith))
+
+  pub elements-fit : ElementsFit plain w e room 0
   elements-fit =
       let r = ok .ready in
       record {
         source = omega arith;
-        target = omega (arith, length-here w e k p r);
+        target = omega (arith, whole-here);
         known = kind-here w e k p r (ok .known);
         low = after-here w e k p r;
       }
 
-  pub wires-fit : (from : ℕ) → from ≡ 0 + length (elementRow w e) → WiresFit w k room from
+  pub wires-fit : (from : ℕ) → from ≡ 0 + length (elementRow plain w e) → WiresFit w k room from
   wires-fit from f =
       let r = ok .ready in
-      record { source = omega arith; target = omega (arith, length-here w e k p r); low = target-here w e k p r }
+      record { source = omega arith; target = omega (arith, whole-here); low = target-here w e k p r }
 
-  pub pins-fit : (from : ℕ) → from ≡ 0 + length (elementRow w e) + 5 * k → PinsFit w p room from
+  pub pins-fit : (from : ℕ) → from ≡ 0 + length (elementRow plain w e) + 5 * k → PinsFit w p room from
   pins-fit from f =
       let r = ok .ready in
-      record { source = omega arith; target = omega (arith, length-here w e k p r) }
+      record { source = omega arith; target = omega (arith, whole-here) }
 
-  pub written : (out o₁ o₂ o₃ : List ℕ) (f s t : ℕ)
-      → f ≡ 0 + length (elementRow w e) → o₁ ≡ sets out 0 (elementRow w e)
+  pub rows : (out o₁ o₂ o₃ : List ℕ) (f s t : ℕ)
+      → f ≡ 0 + length (elementRow plain w e) → o₁ ≡ sets out 0 (elementRow plain w e)
       → s ≡ f + 5 * k → o₂ ≡ sets o₁ f (wireRow w k)
       → t ≡ s + 3 * p → o₃ ≡ sets o₂ s (pinRow w p)
-      → (t ≡ length (netBytes (netIn w e k p))) × (o₃ ≡ sets out 0 (netBytes (netIn w e k p)))
-  unfolding netBytes netIn
-  written out o₁ o₂ o₃ f s t hf h₁ hs h₂ ht h₃ =
+      → (t ≡ length (written plain (netIn w e k p) (region w makersAt e))) × (o₃ ≡ sets out 0 (written plain (netIn w e k p) (region w makersAt e)))
+  unfolding netIn
+  rows out o₁ o₂ o₃ f s t hf h₁ hs h₂ ht h₃ =
       let r = ok .ready in
       let l = wires-first w targetsAt k (omega arith) in
-      let n = length-append (elementRow w e) (wireRow w k) in
-      let b : s ≡ 0 + length (elementRow w e ++ wireRow w k) = omega arith in
-      let two = record-more out (elementRow w e) (wireRow w k) _ 0 f hf refl in (
-        omega (arith, length-here w e k p r),
-        h₃ ∙ rw (h₂, h₁, two) (record-more out (elementRow w e ++ wireRow w k) (pinRow w p) _ 0 s b (sym (append-assoc (elementRow w e) (wireRow w k) (pinRow w p)))),
+      let n = length-append (elementRow plain w e) (wireRow w k) in
+      let b : s ≡ 0 + length (elementRow plain w e ++ wireRow w k) = omega arith in
+      let two = record-more out (elementRow plain w e) (wireRow w k) _ 0 f hf refl in (
+        omega (arith, whole-here),
+        h₃ ∙ rw (h₂, h₁, two) (record-more out (elementRow plain w e ++ wireRow w k) (pinRow w p) _ 0 s b (written-is plain w e k p ∙ sym (append-assoc (elementRow plain w e) (wireRow w k) (pinRow w p)))),
       )

@@ -1,9 +1,12 @@
--- How kinds that stand one after the other share out the terminals. Assumes nothing.
-use Prim.Native.Nat.{ℕ, _+_}
-use mathlib.Core.Bool.{cond}
-use mathlib.Core.List.{List, [], _∷_}
+-- How kinds that stand one after the other share out the terminals, and their records, plain or with nodes. Assumes nothing.
+use Prim.Native.Nat.{ℕ, _+_, _*_}
+use mathlib.Core.Bool.{Bool, cond}
+use mathlib.Core.List.{List, [], _∷_, _++_}
 use lib.Dec.{eqb}
+use lib.ListN.{drop}
 use Rattle.calculus.specs.Terms.{partAt}
+use Rattle.calculus.specs.Net.{Element, element, itemBytes}
+use Rattle.calculus.specs.Makers.{maker, nodeBytes}
 
 -- the output of an element of kind k that starts at n
 abbrev pub outputOf : ℕ → ℕ → ℕ
@@ -20,3 +23,15 @@ afterAll (k ∷ ks) n = afterAll ks (after k n)
 -- the bytes of such an element's record
 abbrev pub elementSize : ℕ → ℕ
 elementSize k = cond (eqb k 7) 3 4
+
+-- the bytes of n node numbers, where they are wished
+abbrev pub nodeSize : Bool → ℕ → ℕ
+nodeSize plain n = cond plain 0 (2 * n)
+
+-- an element's record, plain or with the node that made it
+abbrev pub recordOf : Bool → Element → ℕ → List ℕ
+recordOf plain x k = cond plain (itemBytes (element x)) (nodeBytes x k)
+
+abbrev pub recordsOf : Bool → List Element → List ℕ → List ℕ
+recordsOf plain [] ks = []
+recordsOf plain (x ∷ xs) ks = recordOf plain x (maker ks) ++ recordsOf plain xs (drop 1 ks)

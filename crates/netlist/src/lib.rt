@@ -4,11 +4,13 @@ ghost use mathlib.Core.List.{_∷_, [], map};
 ghost use Prim.Native.Nat.{_+_, _*_, _≤_, _<_};
 ghost use lib.ListN.{length};
 ghost use lib.Seq.{sets};
-ghost use Rattle.calculus.specs.Net.{two, number, point, part, elementBytes, wireBytes, pinBytes, netBytes};
+ghost use mathlib.Core.Bool.{false};
+ghost use Rattle.calculus.specs.Net.{two, number, point, part, elementBytes, wireBytes, pinBytes};
+ghost use Rattle.calculus.specs.Makers.{nodeBytes, written};
 ghost use Rattle.calculus.specs.Terms.{partAt};
-ghost use Rattle.memory.specs.Map.{targetsAt, elementsAt, stackAt, code, terminalOf, region, elementsFrom, wiresFrom, netIn, Ready};
+ghost use Rattle.memory.specs.Map.{targetsAt, elementsAt, stackAt, makersAt, code, terminalOf, region, elementsFrom, wiresFrom, netIn, Ready};
 ghost use Rattle.netlist.specs.Said.{saidTerminal, wire};
-ghost use Rattle.netlist.specs.Elements.{outputOf, after, elementSize};
+ghost use Rattle.netlist.specs.Elements.{outputOf, after, elementSize, nodeSize, recordsOf};
 ghost use Rattle.netlist.specs.Fitting.{ElementsFit, WiresFit, PinsFit, Writable};
 
 // An input terminal, and an output terminal, by its number.
@@ -82,6 +84,27 @@ pub fn put_part(out: &mut [u8], at: usize, kind: u8, first: u16) -> usize
     put_two(out, at + 2, first)
 }
 
+// A point with the node that made it: 25, its input, the node.
+pub fn put_node_point(out: &mut [u8], at: usize, input: In, node: u16) -> usize
+    requires { ⌜ at + 5 ≤ length (now out) ⌝ }
+    ensures { λ r. ⌜ (r ≡ at + 5) × (now (out .exit) ≡ sets (now (out .entry)) at (nodeBytes (point (input .0)) node)) ⌝ }
+{
+    out[at] = 0x25;
+    let mid = put_two(out, at + 1, input.0);
+    put_two(out, mid, node)
+}
+
+// A part with the node that made it: 26, its number, its first terminal, the node.
+pub fn put_node_part(out: &mut [u8], at: usize, kind: u8, first: u16, node: u16) -> usize
+    requires { ⌜ at + 6 ≤ length (now out) ⌝ }
+    ensures { λ r. ⌜ (r ≡ at + 6) × (now (out .exit) ≡ sets (now (out .entry)) at (nodeBytes (part kind first) node)) ⌝ }
+{
+    out[at] = 0x26;
+    out[at + 1] = kind;
+    let mid = put_two(out, at + 2, first);
+    put_two(out, mid, node)
+}
+
 // A wire: 23, the output that it runs from, the input that it runs to.
 pub fn put_wire(out: &mut [u8], at: usize, from: Out, to: In) -> usize
     requires { ⌜ at + 5 ≤ length (now out) ⌝ }
@@ -141,10 +164,18 @@ fn size_of(kind: u16) -> usize
     if kind == memory::POINT { 3 } else { 4 }
 }
 
-// The length of the full netlist that stands in the working memory.
-pub fn full_length(work: &[u16], elements: usize, wires: usize, pins: usize) -> usize
+// The bytes of so many node numbers, where they are wished.
+pub fn node_size(elements: usize, plain: bool) -> usize
+    requires { ⌜ elements ≤ 5120 ⌝ }
+    ensures { λ r. ⌜ r ≡ nodeSize plain elements ⌝ }
+{
+    if plain { 0 } else { 2 * elements }
+}
+
+// The length of the full netlist that stands in the working memory, with the makers of its elements where they are wished.
+pub fn full_length(work: &[u16], elements: usize, wires: usize, pins: usize, plain: bool) -> usize
     requires { ⌜ Ready (now work) elements wires pins ⌝ }
-    ensures { λ r. ⌜ r ≡ length (netBytes (netIn (now (work .entry)) elements wires pins)) ⌝ }
+    ensures { λ r. ⌜ r ≡ length (written plain (netIn (now (work .entry)) elements wires pins) (region (now (work .entry)) makersAt elements)) ⌝ }
 {
     let mut sum = 5 * wires + 3 * pins;
     let mut i: usize = 0;
@@ -152,11 +183,11 @@ pub fn full_length(work: &[u16], elements: usize, wires: usize, pins: usize) -> 
         sum = sum + size_of(work[memory::ELEMENTS + i]);
         i = i + 1;
     }
-    sum
+    sum + node_size(elements, plain)
 }
 
-// The record of an element of a kind that starts at terminal n.
-fn put_element(out: &mut [u8], at: usize, kind: u16, n: u16) -> usize
+// The plain record of an element of a kind that starts at terminal n.
+fn put_plain(out: &mut [u8], at: usize, kind: u16, n: u16) -> usize
     requires { ⌜ (kind < 8) × (at + elementSize kind ≤ length (now out)) ⌝ }
     ensures { λ r. ⌜ (r ≡ at + elementSize kind)
         × (now (out .exit) ≡ sets (now (out .entry)) at (elementBytes (elementsFrom (kind ∷ []) n))) ⌝ }
@@ -168,18 +199,45 @@ fn put_element(out: &mut [u8], at: usize, kind: u16, n: u16) -> usize
     }
 }
 
+// Its record with the node that made it.
+fn put_node(out: &mut [u8], at: usize, kind: u16, n: u16, node: u16) -> usize
+    requires { ⌜ (kind < 8) × (at + elementSize kind + 2 ≤ length (now out)) ⌝ }
+    ensures { λ r. ⌜ (r ≡ at + elementSize kind + 2)
+        × (now (out .exit) ≡ sets (now (out .entry)) at (recordsOf false (elementsFrom (kind ∷ []) n) (node ∷ []))) ⌝ }
+{
+    if kind == memory::POINT {
+        put_node_point(out, at, In(n), node)
+    } else {
+        put_node_part(out, at, kind as u8, n, node)
+    }
+}
+
+// The one that is wished.
+pub fn put_element(out: &mut [u8], at: usize, kind: u16, n: u16, node: u16, plain: bool) -> usize
+    requires { ⌜ (kind < 8) × (at + elementSize kind + nodeSize plain 1 ≤ length (now out)) ⌝ }
+    ensures { λ r. ⌜ (r ≡ at + elementSize kind + nodeSize plain 1)
+        × (now (out .exit) ≡ sets (now (out .entry)) at (recordsOf plain (elementsFrom (kind ∷ []) n) (node ∷ []))) ⌝ }
+{
+    if plain {
+        put_plain(out, at, kind, n)
+    } else {
+        put_node(out, at, kind, n, node)
+    }
+}
+
 // The records of all elements, from an offset on.
-fn put_elements(work: &[u16], elements: usize, out: &mut [u8], from: usize) -> usize
-    requires { ⌜ ElementsFit (now work) elements (length (now out)) from ⌝ }
-    ensures { λ r. ⌜ (r ≡ from + length (elementBytes (elementsFrom (region (now (work .entry)) elementsAt elements) 0)))
-        × (now (out .exit) ≡ sets (now (out .entry)) from (elementBytes (elementsFrom (region (now (work .entry)) elementsAt elements) 0))) ⌝ }
+fn put_elements(work: &[u16], elements: usize, out: &mut [u8], from: usize, plain: bool) -> usize
+    requires { ⌜ ElementsFit plain (now work) elements (length (now out)) from ⌝ }
+    ensures { λ r. ⌜ (r ≡ from + length (recordsOf plain (elementsFrom (region (now (work .entry)) elementsAt elements) 0) (region (now (work .entry)) makersAt elements)))
+        × (now (out .exit) ≡ sets (now (out .entry)) from (recordsOf plain (elementsFrom (region (now (work .entry)) elementsAt elements) 0) (region (now (work .entry)) makersAt elements))) ⌝ }
 {
     let mut at = from;
     let mut n: u16 = 0;
     let mut i: usize = 0;
     while i < elements {
         let kind = work[memory::ELEMENTS + i];
-        at = put_element(out, at, kind, n);
+        let node = work[memory::MAKERS + i];
+        at = put_element(out, at, kind, n, node, plain);
         n = next_after(kind, n);
         i = i + 1;
     }
@@ -219,12 +277,19 @@ fn put_pins(work: &[u16], pins: usize, out: &mut [u8], from: usize) -> usize
 }
 
 // The full netlist that stands in the working memory, written from the start of the output; its length.
-pub fn write_full(work: &[u16], out: &mut [u8], elements: usize, wires: usize, pins: usize) -> usize
-    requires { ⌜ Writable (now work) elements wires pins (length (now out)) ⌝ }
-    ensures { λ r. ⌜ (r ≡ length (netBytes (netIn (now (work .entry)) elements wires pins)))
-        × (now (out .exit) ≡ sets (now (out .entry)) 0 (netBytes (netIn (now (work .entry)) elements wires pins))) ⌝ }
+pub fn write_full(
+    work: &[u16],
+    out: &mut [u8],
+    elements: usize,
+    wires: usize,
+    pins: usize,
+    plain: bool,
+) -> usize
+    requires { ⌜ Writable plain (now work) elements wires pins (length (now out)) ⌝ }
+    ensures { λ r. ⌜ (r ≡ length (written plain (netIn (now (work .entry)) elements wires pins) (region (now (work .entry)) makersAt elements)))
+        × (now (out .exit) ≡ sets (now (out .entry)) 0 (written plain (netIn (now (work .entry)) elements wires pins) (region (now (work .entry)) makersAt elements))) ⌝ }
 {
-    let first = put_elements(work, elements, out, 0);
+    let first = put_elements(work, elements, out, 0, plain);
     let second = put_wires(work, wires, out, first);
     put_pins(work, pins, out, second)
 }

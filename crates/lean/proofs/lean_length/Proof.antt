@@ -15,11 +15,11 @@ use Rattle.lean.proofs.lean_length.Statement.{statement}
 use Rattle.lean.proofs.lean_length.Tie as tie
 
 abbrev Inv-loop : tie.InvT-loop
-Inv-loop work elements wires pins sum₀ n₀ i₀ sum n i =
-    (i ≤ elements) × Summing work elements (3 * pins + rowsSize work (region work elementsAt elements) 0) sum n i
+Inv-loop work elements wires pins plain sum₀ n₀ i₀ sum n i =
+    (i ≤ elements) × Summing plain work elements (3 * pins + rowsSize plain work (region work elementsAt elements) 0) sum n i
 
 abbrev μ-loop : tie.MeasureT-loop
-μ-loop work elements wires pins sum₀ n₀ i₀ sum n i = elements - i
+μ-loop work elements wires pins plain sum₀ n₀ i₀ sum n i = elements - i
 
 fits : {w : List ℕ} {e k p : ℕ} → Whole w e k p → elementsAt + e ≤ length w
 fits q = let a = q .ready .size in let b = q .ready .few-elements in omega arith
@@ -51,7 +51,7 @@ add-sum c =
     let f = s .pre .ready .few-pins in
     let g = s .pre .ready .few-elements in
     let h = summing-most (fits (s .pre)) (b .before .loop .inv .1) (b .loop-test .taken) in
-    omega (arith, h, c .element-size .ensures, rows-most w (region w elementsAt e) 0, region-length w elementsAt e (fits (s .pre)))
+    omega (arith, h, c .element-size .ensures, rows-most (s .args .plain) w (region w elementsAt e) 0, region-length w elementsAt e (fits (s .pre)))
 
 next-after-requires : tie.Need-next-after-requires Inv-loop μ-loop
 next-after-requires c κs =
@@ -75,7 +75,7 @@ returns c =
     let a = s .args in
     let f = s .pre .ready .few-pins in
     let g = s .pre .ready .size in
-    summing-end (fits (s .pre)) (c .before .loop .inv .1) (c .loop-test .left) ∙ sym (lean-length (a .work .now) (a .elements) (a .wires) (a .pins) (s .pre) (omega arith))
+    summing-end (fits (s .pre)) (c .before .loop .inv .1) (c .loop-test .left) ∙ sym (lean-length (a .work .now) (a .elements) (a .wires) (a .pins) (s .pre) (a .plain) (omega arith))
 
 pub lean-length-spec : {M : Type 1} → statement M
 lean-length-spec =

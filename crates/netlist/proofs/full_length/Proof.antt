@@ -5,17 +5,17 @@ use mathlib.Core.Path.{_≡_, sym, _∙_}
 use Prim.Native.Nat.{_≤_, _-_, _+_, _*_}
 use lib.ListN.{length, drop, getD}
 use Rattle.memory.specs.Map.{elementsAt}
-use Rattle.netlist.proofs.Elements.{firstBytes, size-small}
-use Rattle.netlist.proofs.InMemory.{element-length, length-here}
+use Rattle.netlist.proofs.Elements.{firstBytes, size-small, node-small}
+use Rattle.netlist.proofs.InMemory.{element-length, written-here}
 use Rattle.netlist.proofs.full_length.Statement.{statement}
 use Rattle.netlist.proofs.full_length.Tie as tie
 
 abbrev Inv-loop : tie.InvT-loop
-Inv-loop work elements wires pins sum₀ i₀ sum i =
+Inv-loop work elements wires pins plain sum₀ i₀ sum i =
     (i ≤ elements) × ((sum ≡ 5 * wires + 3 * pins + length (firstBytes (drop elementsAt work) i)) × (sum ≤ 5 * wires + 3 * pins + 4 * i))
 
 abbrev μ-loop : tie.MeasureT-loop
-μ-loop work elements wires pins sum₀ i₀ sum i = elements - i
+μ-loop work elements wires pins plain sum₀ i₀ sum i = elements - i
 
 loop-holds : tie.Need-loop-holds Inv-loop μ-loop
 loop-holds c = (omega arith, (omega arith, omega arith))
@@ -32,16 +32,25 @@ loop-again c =
     let s = size-small kind in
     (omega arith, (omega arith, omega arith))
 
+node-size-requires : tie.Need-node-size-requires Inv-loop μ-loop
+node-size-requires c κs = omega arith
+
+add-result : tie.Need-add-result Inv-loop μ-loop
+add-result c =
+    let a = c .before .before .before .before .args in
+    omega (arith, node-small (a .plain) (a .elements), c .node-size .ensures)
+
 returns : tie.Need-returns Inv-loop μ-loop
 returns c =
-    let a = c .before .before .before .args in
-    let l = c .before .loop in
+    let a = c .before .before .before .before .args in
+    let l = c .before .before .loop in
     let n : l .i ≡ a .elements = omega arith in
-    l .inv .1 .0 ∙ rw n (sym (length-here (a .work .now) (a .elements) (a .wires) (a .pins) (c .before .before .before .pre)))
+    let sum = rw n at (l .inv .1 .0) in
+    omega (arith, c .node-size .ensures, written-here (a .work .now) (a .elements) (a .wires) (a .pins) (c .before .before .before .before .pre) (a .plain))
 
 pub full-length-spec : {M : Type 1} → statement M
 full-length-spec =
     tie.close
     (tie.spec Inv-loop μ-loop (λ c. omega arith) (λ c. omega arith) (λ c. omega arith) loop-holds (λ c. omega arith)
     (λ c. omega arith) (λ c. omega arith) (λ c κs. search needs) add-sum-2 (λ c. omega arith) (λ c. omega arith) loop-again
-    returns)
+    node-size-requires add-result returns)

@@ -1,35 +1,42 @@
--- The kind decides. Assumes nothing.
+-- The wish decides. Assumes nothing.
 use native.Mathlib.Omega.{arith}
-use borrow.Author.Tests.{ne-eqb}
-use mathlib.Core.Path.{_≡_, _∙_}
-use Rattle.netlist.specs.Elements.{elementSize}
+use mathlib.Core.Path.{_≡_, _∙_, sym, ap}
+use mathlib.Core.Bool.{Bool, true, false}
+use mathlib.Core.List.{List, [], _∷_}
+use Prim.Native.Nat.{ℕ}
+use lib.Seq.{sets}
+use Rattle.memory.specs.Map.{elementsFrom}
+use Rattle.netlist.specs.Elements.{nodeSize}
+use Rattle.netlist.proofs.Elements.{records-are}
 use borrow.Author.Needs.{needs}
 use Rattle.netlist.proofs.put_element.Statement.{statement}
 use Rattle.netlist.proofs.put_element.Tie as tie
 
-put-point-requires : tie.Need-put-point-requires
-put-point-requires c κs =
-    let s : elementSize (c .before .before .before .args .kind) ≡ 3 = rw (c .before .if1 .taken) in
-    omega arith
+put-plain-requires : tie.Need-put-plain-requires
+put-plain-requires c κs = search needs
 
-put-part-requires : tie.Need-put-part-requires
-put-part-requires c κs =
-    let s : elementSize (c .before .before .before .args .kind) ≡ 4 = rw (ne-eqb _ _ (c .before .if1 .left)) in
-    omega arith
+put-node-requires : tie.Need-put-node-requires
+put-node-requires c κs =
+    let s : nodeSize (c .before .before .before .args .plain) 1 ≡ 2 = rw (c .before .if1 .left) in
+    (c .before .before .before .pre .0, omega arith)
 
 returns : tie.Need-returns
 returns c =
-    let e = c .before .before .put-point .ensures in
-    let k = c .before .before .before .before .if1 .taken in
-    (e .0 ∙ rw k, e .1 ∙ rw k)
+    let a = c .before .before .before .before .before .before .args in
+    let e = c .before .before .put-plain .ensures in
+    let t = c .before .before .before .before .if1 .taken in
+    let s : nodeSize (a .plain) 1 ≡ 0 = rw t in
+    (omega (arith, e .0), e .1 ∙ rw t (ap (sets (a .out .now) (a .at)) (sym (records-are true (elementsFrom (a .kind ∷ []) (a .n)) (a .node ∷ [])))))
 
 returns-2 : tie.Need-returns-2
 returns-2 c =
-    let e = c .before .before .put-part .ensures in
-    let k = ne-eqb _ 7 (c .before .before .before .before .if1 .left) in
-    (e .0 ∙ rw k, e .1 ∙ rw k)
+    let a = c .before .before .before .before .before .before .args in
+    let e = c .before .before .put-node .ensures in
+    let t = c .before .before .before .before .if1 .left in
+    let s : nodeSize (a .plain) 1 ≡ 2 = rw t in
+    (omega (arith, e .0), e .1 ∙ rw t)
 
 pub put-element-spec : {M : Type 1} → statement M
 put-element-spec =
     tie.close
-    (tie.spec put-point-requires (λ c. search needs) put-part-requires (λ c. search needs) returns (λ c. search needs) returns-2)
+    (tie.spec put-plain-requires put-node-requires (λ c. search needs) returns (λ c. search needs) returns-2)

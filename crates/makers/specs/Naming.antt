@@ -1,0 +1,47 @@
+-- What a term's records say of the elements that its nodes make, and what naming them asks for. Assumes nothing.
+use Prim.Native.Nat.{ℕ, _≤_, _<_}
+use mathlib.Core.Path.{_≡_}
+use mathlib.Core.Bool.{cond}
+use mathlib.Core.List.{List}
+use lib.ListN.{length, getD}
+use lib.Dec.{eqb}
+use Rattle.calculus.specs.Types.{size, TyRec, rec01, rec02, rec03, rec04, Table, recAt, tree}
+use Rattle.calculus.specs.Terms.{Edition, Term, nodes}
+use Rattle.calculus.specs.Makers.{makers}
+use Rattle.sheet_theorems.specs.Laid.{TableOk, Stands, Ranged}
+use Rattle.records.specs.Forms.{recIn}
+use Rattle.records.specs.Rules.{isFixedPoint, isConstant}
+use Rattle.records.specs.declared.Node.{Node}
+use Rattle.memory.specs.Map.{memorySize}
+
+-- the left of a type record's two numbers; 0 where it has none
+abbrev pub leftIn : TyRec → ℕ
+leftIn rec01 = 0
+leftIn (rec02 a b) = a
+leftIn (rec03 a b) = a
+leftIn (rec04 a b) = a
+
+-- the type that a function or a fixed point binds
+abbrev pub boundIn : List ℕ → Node → ℕ
+boundIn s node = cond (isFixedPoint (node .rule)) (node .first) (leftIn (recIn s (node .first)))
+
+-- how many elements one record makes: a constant its part, a function or a fixed point a point for each single bit of the bound type
+unfoldable pub elementsIn : List ℕ → List ℕ → Node → ℕ
+elementsIn s sizes node = cond (isConstant (node .rule)) 1 (cond (eqb (node .subterms) 1) (getD sizes (boundIn s node) 0) 0)
+
+-- a term of so many nodes stands in the records of a sheet, whose table of types and their sizes are at hand; it makes at most 5,120
+-- elements, and there is room for their makers
+pub record Nameable (s sizes w : List ℕ) (from count : ℕ) : Type 0 where
+  pub edition : Edition
+  pub table : Table
+  pub ok : TableOk table
+  pub records : (t : ℕ) → t < length table → recIn s t ≡ recAt table t
+  pub sized : (t : ℕ) → t < length table → getD sizes t 0 ≡ size (tree table t)
+  pub all : length sizes ≡ 256
+  pub term : Term
+  pub stands : Stands s from term
+  pub ranged : Ranged edition table term
+  pub nodes-are : count ≡ nodes term
+  pub few : count ≤ 2048
+  pub elements : length (makers table term 0) ≤ 5120
+  pub memory : memorySize ≤ length w
