@@ -3,15 +3,15 @@
 
 use second::corpus::{any, named, Case, Kind};
 use second::damage::{damage, noise};
-use second::edges_clash::Clash;
-use second::edges_reading::Edge;
 use second::netlist::{written_length, ENOUGH};
 use second::random::Random;
 use second::sheet::MEMORY;
 use second::translate::netlist;
 use second::wide::{crowd, deep, flat, terminals_and, tower};
 use second::write::marked;
-use second::{edges_clash, edges_edition, editions, Wish};
+#[cfg(linked)]
+use second::{edges_clash, edges_edition};
+use second::{editions, Wish};
 use std::collections::HashSet;
 
 /// One sheet with its calls (room, memory, wish) and the nodes whose stretches are asked for.
@@ -33,9 +33,7 @@ pub fn wishes() -> [Wish; 4] {
 /// Each named case as it stands, by every wish; a sheet's first case also at its netlists' lengths.
 pub fn named_tries(random: &mut Random) -> Vec<Try> {
     let kinds = [Kind::Whole, Kind::Reading, Kind::Typing, Kind::Making];
-    let mut cases: Vec<Case> = kinds.into_iter().flat_map(named).collect();
-    let case = |edge: Edge| Case { room: ENOUGH, memory: MEMORY, sheet: edge.sheet };
-    cases.extend(edges_edition::edges().into_iter().map(case));
+    let cases: Vec<Case> = kinds.into_iter().flat_map(named).collect();
     let (mut seen, mut seen_sheets) = (HashSet::new(), HashSet::new());
     let mut tries = Vec::new();
     for Case { room, memory, sheet } in cases {
@@ -52,15 +50,13 @@ pub fn named_tries(random: &mut Random) -> Vec<Try> {
     tries
 }
 
-/// The sheets that are named for what their refusal 12 wants and finds.
-pub fn clash_tries(random: &mut Random) -> Vec<Try> {
+/// The sheets that are named for what their refusal 12 wants and finds: small, and few a cause.
+#[cfg(linked)]
+pub fn clash_tries() -> Vec<Try> {
     let clashes = edges_clash::edges().into_iter().chain(edges_edition::clashes());
-    let tries = clashes.map(|Clash { sheet, .. }| Try {
-        calls: wishes().map(|wish| (ENOUGH, MEMORY, wish)).to_vec(),
-        nodes: some_nodes(random, &sheet),
-        sheet,
-    });
-    tries.collect()
+    let calls = wishes().map(|wish| (ENOUGH, MEMORY, wish)).to_vec();
+    let tried = |sheet| Try { sheet, calls: calls.clone(), nodes: vec![0] };
+    clashes.map(|clash| tried(clash.sheet)).collect()
 }
 
 /// Each netlist in just its room and in one byte less.

@@ -2,7 +2,7 @@
 //! every number of the memory, the sheet, and all guard bytes around the three.
 
 use crate::boundary::{Boundary, Call};
-use crate::cases::{clash_tries, generated_try, named_tries, Try};
+use crate::cases::{generated_try, named_tries, Try};
 use crate::crash;
 use crate::fences::{Fences, MEMORY, OUTPUT, SHEET};
 use crate::tally::{Said, Tally};
@@ -125,8 +125,8 @@ pub fn differential(count: usize, seed: u64) -> Result<Tally, String> {
     let mut random = Random::new(seed);
     let mut differential = Differential::new();
     crash::watch();
-    for tried in named_tries(&mut random).iter().chain(&clash_tries(&mut random)) {
-        differential.run(tried, &mut random)?;
+    for tried in named_tries(&mut random) {
+        differential.run(&tried, &mut random)?;
     }
     differential.tally.named = differential.tally.sheets;
     while differential.tally.sheets < count {

@@ -18,7 +18,7 @@ pub fn exact(count: usize, seed: u64) -> Result<Tally, String> {
         named_tries(&mut random).into_iter().partition(|tried| tried.sheet.len() <= LARGE);
     let every = (small.len() / count.max(1)).max(1);
     let named = small.iter().step_by(every).chain(large.iter().step_by(8));
-    for tried in named.chain(&clash_tries(&mut random)) {
+    for tried in named.chain(&clash_tries()) {
         run(tried, &mut tally)?;
     }
     tally.named = tally.sheets;

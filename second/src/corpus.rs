@@ -1,4 +1,5 @@
-//! Document 01, all refusals: packed corpora of cases, the named edges first, then generated ones.
+//! Document 01, all refusals: packed corpora of cases, the named edges first, then generated ones;
+//! those of whole calls have the second edition (document 02, L7) and the clashes (L3) too.
 //! A case is room, memory, sheet length (two bytes each, low byte first) and the sheet.
 
 use crate::check::check;
@@ -12,7 +13,7 @@ use crate::sheet::MEMORY;
 use crate::translate::netlist;
 use crate::wide::terminals_and;
 use crate::write::{hex, Bytes};
-use crate::{edges_making, edges_reading, edges_typing};
+use crate::{edges_clash, edges_edition, edges_making, edges_reading, edges_typing, editions};
 
 /// The room that always does in plain kinds.
 pub const ROOM: usize = 41_344;
@@ -106,6 +107,9 @@ pub fn named(kind: Kind) -> Vec<Case> {
             cases.extend(first_things_first());
             cases.extend(sheets(edges_typing::edges()));
             cases.extend(sheets(edges_reading::edges()));
+            cases.extend(sheets(edges_edition::edges()));
+            let clashes = edges_clash::edges().into_iter().chain(edges_edition::clashes());
+            cases.extend(clashes.map(|clash| Case::plain(clash.sheet)));
             cases
         }
     }
@@ -213,6 +217,7 @@ fn generated(kind: Kind, random: &mut Random, index: usize, most: usize) -> Opti
             Kind::Whole => match index % 8 {
                 0 => damaged(random),
                 1 => faulty(random, 10 + index / 8 % 6),
+                2..=4 => editions::any(random, index / 8 * 3 + index % 8 - 2),
                 _ => good(random),
             },
         };

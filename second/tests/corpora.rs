@@ -21,11 +21,11 @@ fn numbers(kind: Kind, lines: &[String]) -> BTreeSet<usize> {
 #[test]
 fn every_refusal_occurs_where_it_belongs() {
     for kind in KINDS {
-        let (cases, left_out) = pack(kind, 1, 1_500, 400_000);
-        assert_eq!(cases.len(), 1_500);
+        let (cases, left_out) = pack(kind, 1, 1_800, 700_000);
+        assert_eq!(cases.len(), 1_800);
         assert_eq!(left_out, 0, "{kind:?}");
         let packed = pack_cases(&cases);
-        assert!(packed.len() <= 400_000, "{kind:?}: {}", packed.len());
+        assert!(packed.len() <= 700_000, "{kind:?}: {}", packed.len());
         assert!(unpack(&packed).as_ref() == Ok(&cases), "{kind:?}");
         let lines: Vec<String> = cases.iter().map(|case| answer(kind, case)).collect();
         let wanted: Vec<usize> = match kind {
@@ -42,11 +42,11 @@ fn every_refusal_occurs_where_it_belongs() {
 #[test]
 fn a_seed_gives_one_corpus_and_small_limits_are_kept() {
     for kind in KINDS {
-        let twice = [pack(kind, 9, 1_200, 90_000).0, pack(kind, 9, 1_200, 90_000).0];
+        let twice = [pack(kind, 9, 1_700, 110_000).0, pack(kind, 9, 1_700, 110_000).0];
         assert!(twice[0] == twice[1], "{kind:?}");
-        assert_eq!(twice[0].len(), 1_200);
-        assert!(pack_cases(&twice[0]).len() <= 90_000);
-        assert!(twice[0] != pack(kind, 10, 1_200, 90_000).0, "{kind:?}");
+        assert_eq!(twice[0].len(), 1_700);
+        assert!(pack_cases(&twice[0]).len() <= 110_000);
+        assert!(twice[0] != pack(kind, 10, 1_700, 110_000).0, "{kind:?}");
         assert!(pack_cases(&pack(kind, 3, 50, 2_100).0).len() <= 2_100);
     }
 }

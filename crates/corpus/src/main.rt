@@ -1,6 +1,6 @@
 // Reads packed calls from standard input, and prints a line for each: for the full, then the lean netlist, the answer and the checksums of
 // output and memory after the call; then where some nodes' stretches begin, and their lengths. Its input was made by
-// 'second pack whole 12 1600 420000', and what it must print by 'second answers whole'.
+// 'second pack whole 12 1800 640000', and what it must print by 'second answers whole'.
 use deltawobble::Answer;
 use deltawobble::Wish;
 ghost use Prim.Native.Nat.{_<_};
@@ -144,7 +144,7 @@ fn cases(sheet: &mut [u8], out: &mut [u8], work: &mut [u16]) {
 }
 
 fn main() {
-    let mut sheet = [0u8; 16386];
+    let mut sheet = [0u8; 16387];
     let mut out = [0u8; 41344];
     let mut work = [0u16; 32770];
     fill_out(&mut out);
