@@ -5,7 +5,6 @@ use mathlib.Core.Bool.{Bool, true, false}
 use mathlib.Core.List.{List}
 use native.Mathlib.Omega.{arith}
 use native.Mathlib.Decide.{decLe, ℕ-discrete}
-use lib.Dec.{T, eqb}
 use lib.ListN.{length, getD, drop}
 use lib.Seq.{drop-drop}
 use borrow.Author.Tests.{eq-eqb, ne-eqb, le-leb, lt-leb}
@@ -20,7 +19,7 @@ use Rattle.circuit_theorems.proofs.Terminals.{made-one}
 use Rattle.foreign_theorems.specs.Foreign.{Bytes}
 use Rattle.foreign_theorems.proofs.Sound.{Read, read-none, read-all, numbered-rising, no-targets, no-inputs}
 use Rattle.circuit_theorems.proofs.NetRead.{out-not-made}
-use Rattle.foreign.specs.Table.{cellOf, Holds, Keeps, Clear}
+use Rattle.foreign.specs.Table.{Holds, Keeps, Clear}
 use Rattle.foreign.specs.Walk.{Agrees}
 use Rattle.foreign.specs.declared.Walked.{Walked}
 use Rattle.foreign.specs.declared.Walked.the-variants as walked

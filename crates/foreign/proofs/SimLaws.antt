@@ -5,11 +5,11 @@ use mathlib.Core.Bool.{Bool, true, false, not, cond, _&&_, _||_}
 use mathlib.Core.List.{List, [], _∷_, _++_}
 use native.Mathlib.Omega.{arith}
 use native.Mathlib.Decide.{decLe, decLt, ℕ-discrete}
-use lib.Dec.{T, eqb, leb, ltb, eqb→eq, leb→le, le→leb}
-use lib.ListN.{length, getD, set, drop, replicate, length-set, length-append, length-replicate, getD-replicate, List·getD-append}
+use lib.Dec.{T, eqb, leb, ltb, eqb→eq, leb→le}
+use lib.ListN.{length, getD, set, replicate, length-set, length-append, length-replicate, getD-replicate, List·getD-append}
 use lib.Seq.{sets, length-sets, getD-set-same, getD-set-other, getD-at, drop-set-lt}
 use borrow.Author.Tests.{eq-eqb, ne-eqb, lt-ltb, le-ltb, le-leb, lt-leb}
-use Rattle.laws.proofs.Tests.{by-eqb, T-is, is-false, and-both}
+use Rattle.laws.proofs.Tests.{by-eqb, is-false}
 use Rattle.laws.proofs.Regions.{sets-outside, sets-before, sets-read, sets-drop, region-at}
 use Rattle.calculus.specs.Answer.{Answer, good, refused, _>>=_, numbered, need}
 use Rattle.calculus.specs.Terms.{partAt}
@@ -17,9 +17,9 @@ use Rattle.calculus.specs.Net.{Terminal, inp, out, Interface, Element, point, p
 use Rattle.calculus.specs.Inputs.{tally, ins, madeAt, targets, isOut}
 use Rattle.circuit_theorems.specs.Formed.{Rising}
 use Rattle.circuit_theorems.proofs.Terminals.{out-high, made-high}
-use Rattle.circuit_theorems.proofs.Counts.{part-inputs}
+use Rattle.circuit_theorems.proofs.Drivers.{made-append, targets-append}
 use Rattle.calculus.specs.Net.{Item, element, wire, pin}
-use Rattle.calculus.specs.NetRead.{item, terminalOf}
+use Rattle.calculus.specs.NetRead.{item}
 use Rattle.foreign_theorems.specs.Foreign.{Reading, firstOf, pastOf, starts, isIn, moreElement, moreWire, morePin, judge}
 use Rattle.foreign_theorems.proofs.Sound.{Read, numbered-rising}
 use Rattle.circuit_theorems.proofs.NetRead.{out-not-made}
@@ -36,15 +36,6 @@ out-more : (es : List Element) (e : Element) (x : ℕ) → isOut (es ++ (e ∷ [
 out-more [] e x = refl
 out-more (point i ∷ es) e x = ap (λ (b : Bool). eqb (i + 1) x || b) (out-more es e x) ∙ or-assoc (eqb (i + 1) x) (isOut es x) (isOut (e ∷ []) x)
 out-more (part p i ∷ es) e x = ap (λ (b : Bool). eqb (i + partAt p .inputs) x || b) (out-more es e x) ∙ or-assoc (eqb (i + partAt p .inputs) x) (isOut es x) (isOut (e ∷ []) x)
-
-made-more : (es : List Element) (e : Element) (x : ℕ) → madeAt (es ++ (e ∷ [])) x ≡ madeAt es x + madeAt (e ∷ []) x
-made-more [] e x = omega arith
-made-more (point i ∷ es) e x = omega (arith, made-more es e x)
-made-more (part p i ∷ es) e x = omega (arith, made-more es e x)
-
-targets-more : (ws : List Wire) (w : Wire) (x : ℕ) → targets (ws ++ (w ∷ [])) x ≡ targets ws x + tally x (w .to)
-targets-more [] w x = omega arith
-targets-more (v ∷ ws) w x = omega (arith, targets-more ws w x)
 
 ins-more : (ps : Interface) (t : Terminal) (x : ℕ) → ins (ps ++ (t ∷ [])) x ≡ ins ps x + ins (t ∷ []) x
 ins-more [] t x = omega arith
@@ -73,17 +64,14 @@ or-false : (b : Bool) → b || false ≡ b
 or-false true = refl
 or-false false = refl
 
-part-in : (k i x : ℕ) → i ≤ x → x < i + k → ins (partSide k i) x ≡ 1
-part-in zero i x l h = absurd (omega arith)
-part-in (suc k) i x l h = by-eqb (λ b. cond b 1 0 + ins (partSide k (i + 1)) x ≡ 1) i x (λ q. omega (arith, part-out k (i + 1) x (omega arith))) (λ q. omega (arith, part-in k (i + 1) x (omega arith) (omega arith)))
-  where
-    part-out : (k i x : ℕ) → x < i → ins (partSide k i) x ≡ 0
-    part-out zero i x h = refl
-    part-out (suc k) i x h = by-eqb (λ b. cond b 1 0 + ins (partSide k (i + 1)) x ≡ 0) i x (λ q. absurd (omega arith)) (λ q. omega (arith, part-out k (i + 1) x (omega arith)))
-
 part-not : (k i x : ℕ) → (i ≤ x → x < i + k → ⊥) → ins (partSide k i) x ≡ 0
 part-not zero i x f = refl
 part-not (suc k) i x f = by-eqb (λ b. cond b 1 0 + ins (partSide k (i + 1)) x ≡ 0) i x (λ q. absurd (f (omega arith) (omega arith))) (λ q. omega (arith, part-not k (i + 1) x (λ a b. f (omega arith) (omega arith))))
+
+part-in : (k i x : ℕ) → i ≤ x → x < i + k → ins (partSide k i) x ≡ 1
+part-in zero i x l h = absurd (omega arith)
+part-in (suc k) i x l h =
+    by-eqb (λ b. cond b 1 0 + ins (partSide k (i + 1)) x ≡ 1) i x (λ q. omega (arith, part-not k (i + 1) x (λ a b. omega arith))) (λ q. omega (arith, part-in k (i + 1) x (omega arith) (omega arith)))
 
 cells-length : (k : ℕ) → length (cellsOf k) ≡ k + 1
 cells-length k = length-append (replicate k 1) (4 ∷ []) ∙ ap (λ (x : ℕ). x + 1) (length-replicate k 1)
@@ -168,7 +156,7 @@ module _ (lean : Bool) (at : ℕ) (p : List ℕ) (σ : Reading) (w : List ℕ) (
     inside d l =
         let o : isOut (σ .net .elements ++ (e ∷ [])) (i + d) ≡ false =
         out-more (σ .net .elements) e (i + d) ∙ ap₂ (λ (a b : Bool). a || b) (no-out (i + d) (omega arith)) (out-alone e (i + d) ∙ or-false _ ∙ ne-eqb (i + k) (i + d) (λ q. omega arith)) in
-        let c : 1 ≤ madeAt (σ .net .elements ++ (e ∷ [])) (i + d) = omega (arith, made-more (σ .net .elements) e (i + d), made-alone e (i + d), part-in k i (i + d) (omega arith) (omega arith)) in
+        let c : 1 ≤ madeAt (σ .net .elements ++ (e ∷ [])) (i + d) = omega (arith, made-append (σ .net .elements) (e ∷ []) (i + d), made-alone e (i + d), part-in k i (i + d) (omega arith) (omega arith)) in
         sets-inside (cellsOf k) w i d fits (omega (arith, cells-length k)) ∙ cells-in k d l
         ∙ sym (cell-in m′ (i + d) o c ∙ ap (λ (x : ℕ). 1 + min 2 x) (none-here (i + d)))
 
@@ -183,7 +171,7 @@ module _ (lean : Bool) (at : ℕ) (p : List ℕ) (σ : Reading) (w : List ℕ) (
         let o : isOut (σ .net .elements ++ (e ∷ [])) x ≡ isOut (σ .net .elements) x =
         out-more (σ .net .elements) e x ∙ ap (λ (b : Bool). isOut (σ .net .elements) x || b) (out-alone e x ∙ or-false _ ∙ ne-eqb (i + k) x (λ q. f (omega arith) (omega arith))) ∙ or-false _ in
         let c : madeAt (σ .net .elements ++ (e ∷ [])) x ≡ madeAt (σ .net .elements) x =
-        omega (arith, made-more (σ .net .elements) e x, made-alone e x, part-not k i x (λ a b. f a (omega arith))) in
+        omega (arith, made-append (σ .net .elements) (e ∷ []) x, made-alone e x, part-not k i x (λ a b. f a (omega arith))) in
         let g : getD (sets w i (cellsOf k)) x 0 ≡ getD w x 0 =
         elim (decLt x i) [
           | yes q ↦ sets-before (cellsOf k) w i x 0 q
@@ -320,7 +308,7 @@ module _ (lean : Bool) (at : ℕ) (p : List ℕ) (σ : Reading) (w : List ℕ) (
       (λ t u. omega (arith, out-not-made es 0 (σ .next) (x .to) up t, leb→le 1 (madeAt es (x .to)) u))
       (λ u.
       let l = leb→le 1 (madeAt es (x .to)) u in
-      (refl, refl, holds-driven (x .to) (moreWire x σ .net) refl (λ y. omega (arith, targets-more (σ .net .wires) x y)) l (made-not-out (x .to) l) (below (x .to) l), keeps-driven (x .to) (below (x .to) l))))
+      (refl, refl, holds-driven (x .to) (moreWire x σ .net) refl (λ y. omega (arith, targets-append (σ .net .wires) (x ∷ []) y)) l (made-not-out (x .to) l) (below (x .to) l), keeps-driven (x .to) (below (x .to) l))))
 
   -- ---- a pin
 

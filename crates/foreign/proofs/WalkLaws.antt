@@ -2,12 +2,10 @@
 use Prim.Native.Nat.{ℕ, zero, suc, _+_, _≤_, _<_}
 use mathlib.Core.Path.{_≡_, refl, sym, ap, ap₂, _∙_, subst}
 use mathlib.Core.Bool.{Bool}
-use mathlib.Core.List.{List, [], _∷_}
+use mathlib.Core.List.{List}
 use native.Mathlib.Omega.{arith}
-use lib.ListN.{length, getD, take, drop}
-use lib.Seq.{take-all}
+use lib.ListN.{length, take}
 use Rattle.calculus.specs.Answer.{Answer, good, refused, refuse, _>>=_}
-use Rattle.calculus.specs.Net.{Net}
 use Rattle.calculus.specs.Net.{Item}
 use Rattle.calculus.specs.NetRead.{Front, item, ended, broken, itemAt, itemSize}
 use Rattle.foreign_theorems.specs.Foreign.{Reading, begin, judge, onFront, readOn}

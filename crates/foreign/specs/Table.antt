@@ -1,13 +1,13 @@
 -- The table by terminal, in the working memory from 0 on: 0 no terminal, 1 an input without a driver, 2 with one, 3 with more, 4 an output.
 -- Assumes nothing.
-use Prim.Native.Nat.{ℕ, _+_, _%_, _≤_, _<_, min}
+use Prim.Native.Nat.{ℕ, _+_, _≤_, _<_, min}
 use mathlib.Core.Path.{_≡_}
-use mathlib.Core.Bool.{Bool, cond}
+use mathlib.Core.Bool.{cond}
 use mathlib.Core.List.{List, [], _∷_, _++_}
-use lib.Dec.{ltb, eqb}
+use lib.Dec.{ltb}
 use lib.ListN.{length, getD, set, drop, replicate}
 use Rattle.calculus.specs.Net.{Net}
-use Rattle.calculus.specs.Inputs.{ins, madeAt, targets, isOut}
+use Rattle.calculus.specs.Inputs.{ins, targets, isOut}
 use Rattle.foreign_theorems.specs.Foreign.{isIn}
 
 -- an element of k inputs: they, then its output

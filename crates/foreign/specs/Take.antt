@@ -1,13 +1,12 @@
 -- One record behind those that were read, by the table. Assumes nothing.
-use Prim.Native.Nat.{ℕ, _+_, _<_}
-use mathlib.Core.Path.{_≡_}
+use Prim.Native.Nat.{ℕ, _+_}
 use mathlib.Core.Bool.{Bool, cond}
 use mathlib.Core.List.{List}
-use lib.Dec.{leb, ltb, eqb}
+use lib.Dec.{leb, eqb}
 use lib.Seq.{sets}
 use Rattle.calculus.specs.Terms.{partAt}
-use Rattle.calculus.specs.Net.{Element, point, part, Wire}
-use Rattle.calculus.specs.Net.{Item, element, wire, pin}
+use Rattle.calculus.specs.Net.{point, part}
+use Rattle.calculus.specs.Net.{element, wire, pin}
 use Rattle.calculus.specs.NetRead.{Front, item, ended, broken}
 use Rattle.foreign_theorems.specs.Foreign.{starts}
 use Rattle.foreign.specs.Table.{cellsOf, cellAt, driven}

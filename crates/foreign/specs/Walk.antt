@@ -1,5 +1,5 @@
 -- The records one after the other, by the table. Assumes nothing.
-use Prim.Native.Nat.{ℕ, _+_, _≤_}
+use Prim.Native.Nat.{ℕ}
 use mathlib.Core.Path.{_≡_}
 use mathlib.Core.List.{List}
 use Rattle.calculus.specs.Answer.{Answer, good, refuse}
