@@ -116,8 +116,9 @@ static uint64_t call(const uint8_t *sheet, size_t length, size_t room, size_t nu
     uint16_t *work = (uint16_t *)slice(2, 2 * numbers, end[2]);
     memcpy(lent, sheet, length);
     uint64_t answer = deltawobble_translate(lent, length, out, room, work, numbers, lean);
-    uint32_t number = answer >> 32, value = (uint32_t)answer;
+    uint32_t number = answer >> 32 & 255, value = (uint32_t)answer, wanted = answer >> 40 & 4095, found = answer >> 52;
     DEMAND(number <= 17);
+    DEMAND(number == 12 ? wanted != found && wanted <= 256 && found < 256 : wanted == 0 && found == 0);
     DEMAND((number == 1) == (numbers < CLEARED));
     size_t cleared = number == 1 ? 0 : CLEARED;
     DEMAND(all(work, 0, 2 * cleared) && all(work + cleared, 0xA5, 2 * (numbers - cleared)));
@@ -152,7 +153,7 @@ int LLVMFuzzerTestOneInput(const uint8_t *data, size_t size) {
     uint64_t full = call(sheet, length, ALWAYS_ENOUGH, CLEARED, false);
     uint64_t less = call(sheet, length, ALWAYS_ENOUGH, CLEARED, true);
     if (full >> 32) {
-        DEMAND(full == less && full >> 32 != 17);
+        DEMAND(full == less && (full >> 32 & 255) != 17);
     } else {
         /* both netlists, each in just its room and in one byte less */
         DEMAND(less >> 32 == 0 && less <= full);

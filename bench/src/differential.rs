@@ -91,7 +91,7 @@ impl Differential {
             Ok(written) => (0, written),
             Err(refusal) => (refusal.number, refusal.place),
         };
-        let got = ((answer >> 32) as usize, (answer & 0xFFFF_FFFF) as usize);
+        let got = ((answer >> 32 & 0xFF) as usize, (answer & 0xFFFF_FFFF) as usize);
         self.tally.answer(got.0);
         if got != (number, value) {
             return Err(format!("answer {} {}, wanted {number} {value}", got.0, got.1));

@@ -39,7 +39,7 @@ fn run(tried: &Try, tally: &mut Tally) -> Result<(), String> {
             Ok(written) => written as u64,
             Err(refusal) => (refusal.number as u64) << 32 | refusal.place as u64,
         };
-        tally.answer((answer >> 32) as usize);
+        tally.answer((answer >> 32 & 0xFF) as usize);
         if answer != wanted
             || output != own_output
             || numbers != own_numbers

@@ -9,7 +9,7 @@ static uint16_t work[DELTAWOBBLE_MEMORY];
 
 static void show(const char *name, bool lean) {
     uint64_t answer = deltawobble_translate(sheet, sizeof sheet, out, sizeof out, work, DELTAWOBBLE_MEMORY, lean);
-    uint32_t number = answer >> 32, value = (uint32_t)answer;
+    uint32_t number = answer >> 32 & 255, value = (uint32_t)answer;
     if (number) {
         printf("%s refused %u %u\n", name, number, value);
         return;

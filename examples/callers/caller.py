@@ -24,7 +24,7 @@ def translate(sheet, lean):
     out = (ctypes.c_uint8 * ROOM)()
     work = (ctypes.c_uint16 * MEMORY)()
     answer = library.deltawobble_translate(sheet, len(sheet), out, ROOM, work, MEMORY, lean)
-    number, value = answer >> 32, answer & 0xFFFFFFFF
+    number, value = answer >> 32 & 255, answer & 0xFFFFFFFF
     return (number, value) if number else (0, bytes(out[:value]))
 
 

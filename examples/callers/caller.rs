@@ -32,7 +32,7 @@ fn translate(sheet: &[u8], lean: bool) -> Result<Vec<u8>, Refusal> {
             lean,
         )
     };
-    match ((answer >> 32) as u32, answer as u32) {
+    match ((answer >> 32 & 255) as u32, answer as u32) {
         (0, length) => {
             out.truncate(length as usize);
             Ok(out)

@@ -10,8 +10,10 @@ enum {
     DELTAWOBBLE_MEMORY = 32768  /* numbers of working memory that are needed */
 };
 
-/* Translates a sheet to its full or lean netlist. The upper half of the result is 0, and the lower
-   the length written; or the upper half is the refusal's number, and the lower its place. */
+/* Translates a sheet to its full or lean netlist. Bits 32 to 39 of the result are 0, and bits 0 to 31
+   the length written; or bits 32 to 39 are the refusal's number, and bits 0 to 31 its place. Of refusal
+   12, bits 40 to 51 are the type number wanted, 256 where a form is wanted and not one type, and bits 52
+   to 63 the one found; of every other answer they are 0. */
 uint64_t deltawobble_translate(const uint8_t *sheet, size_t sheet_len, uint8_t *out, size_t out_len,
                                uint16_t *work, size_t work_len, bool lean);
 
