@@ -1,5 +1,5 @@
-/* The fuzz target on the C boundary: bytes choose netlist, kinds, room and memory, the rest is the sheet.
-   What documents 01 and 02 say of any call is checked. The archive has no instrumentation: so each slice
+/* The fuzz target on the C boundary: bytes choose netlist, room and memory, the rest is the sheet.
+   What document 01 says of any call is checked. The archive has no instrumentation: so each slice
    lies against a page that nobody may touch, with guard bytes at its other end (a sanitizer would
    see nothing), and the answers themselves are the feedback (`seen`). */
 #include <stdbool.h>
@@ -12,16 +12,13 @@
 #include <unistd.h>
 
 uint64_t deltawobble_translate(const uint8_t *sheet, size_t sheet_len, uint8_t *out, size_t out_len,
-                               uint16_t *work, size_t work_len, bool lean, bool plain);
+                               uint16_t *work, size_t work_len, bool lean);
 uint64_t deltawobble_stretch(const uint8_t *sheet, size_t sheet_len, size_t node);
 
-enum { CLEARED = 32768, ALWAYS_ENOUGH = 57728, SEEN = 1 << 14, STRETCH = 1 << 17, GUARD = 64 };
+enum { CLEARED = 32768, ALWAYS_ENOUGH = 41344, SEEN = 1 << 14, STRETCH = 1 << 17, GUARD = 64 };
 
 /* libFuzzer reads this section as counters; fuzz_alone.c reads it by name */
 __attribute__((section("__libfuzzer_extra_counters"))) uint8_t seen[SEEN];
-
-/* the netlist that the last call wrote */
-static uint8_t written[ALWAYS_ENOUGH];
 
 static const size_t memories[] = {32768, 32768, 32768, 32769, 32767, 0, 40000, 33000};
 
@@ -60,14 +57,6 @@ static bool guarded(const void *from, size_t size, bool at_end) {
     return all((const uint8_t *)from + (at_end ? -(ptrdiff_t)GUARD : (ptrdiff_t)size), 0xA5, GUARD);
 }
 
-/* How many bytes a netlist's record has, 0 where the kind is unknown. */
-static int record(int kind) {
-    static const int sizes[] = {3, 4, 5, 3, 5, 6};
-    return kind < 0x21 || kind > 0x26 ? 0 : sizes[kind - 0x21];
-}
-
-static int number_at(const uint8_t *bytes) { return bytes[0] | bytes[1] << 8; }
-
 static void mark(uint32_t hash) { seen[hash * 2654435761u >> 18] = 1; }
 
 static void mark_answer(uint32_t number, uint32_t value, bool lean, const uint8_t *out) {
@@ -78,39 +67,25 @@ static void mark_answer(uint32_t number, uint32_t value, bool lean, const uint8_
     /* the parts and record kinds that follow each other in the netlist */
     uint32_t before = 0;
     for (uint32_t at = 0; at < value;) {
-        uint32_t kind = out[at], this = kind == 0x22 || kind == 0x26 ? 0x30u + out[at + 1] : kind;
+        uint32_t kind = out[at], this = kind == 0x22 ? 0x30u + out[at + 1] : kind;
         mark(1u << 20 | before << 10 | this << 1 | lean);
         before = this;
-        at += record(kind);
+        at += kind == 0x21 || kind == 0x24 ? 3 : kind == 0x22 ? 4 : 5;
     }
 }
 
-/* Elements of the kinds asked for, wires and pins in this order, whole records, nothing else. */
-static bool is_netlist(const uint8_t *out, size_t length, bool plain) {
+/* Elements, wires and pins in this order, whole records, nothing else. */
+static bool is_netlist(const uint8_t *out, size_t length) {
     size_t at = 0;
-    int order = 0, point = plain ? 0x21 : 0x25, part = point + 1;
+    int order = 0;
     while (at < length) {
-        int kind = out[at], rank = kind == 0x23 ? 2 : kind == 0x24 ? 3 : 1;
-        if (rank < order || (rank == 1 && kind != point && kind != part)) return false;
+        int kind = out[at], rank = kind <= 0x22 ? 1 : kind == 0x23 ? 2 : 3;
+        if (kind < 0x21 || kind > 0x24 || rank < order) return false;
         order = rank;
-        if (at + record(kind) > length || (kind == part && out[at + 1] > 6)) return false;
-        at += record(kind);
+        if (kind == 0x22 && (at + 1 >= length || out[at + 1] > 6)) return false;
+        at += kind == 0x21 || kind == 0x24 ? 3 : kind == 0x22 ? 4 : 5;
     }
     return at == length;
-}
-
-/* Whether the one netlist is the other with nodes below 2,048 added (L6): 25 for 21, 26 for 22. */
-static bool adds_nodes(const uint8_t *out, size_t length, const uint8_t *plain, size_t plain_length) {
-    size_t at = 0, other = 0;
-    while (at < length) {
-        int kind = out[at], size = record(kind), nodes = kind >= 0x25 ? 2 : 0;
-        if (other + size - nodes > plain_length || plain[other] != kind - 2 * nodes) return false;
-        if (memcmp(out + at + 1, plain + other + 1, size - nodes - 1)) return false;
-        if (nodes && number_at(out + at + size - 2) >= 2048) return false;
-        at += size;
-        other += size - nodes;
-    }
-    return other == plain_length;
 }
 
 /* Wires by rising target, and none into a point but from its own output. */
@@ -120,39 +95,37 @@ static bool is_lean(const uint8_t *out, size_t length) {
     bool good = true;
     for (int pass = 0; pass < 2; pass++)
         for (size_t at = 0; at < length;) {
-            int kind = out[at], number = number_at(out + at + 1);
-            if (kind == 0x21 || kind == 0x25) point_at[number] = pass == 0;
+            int kind = out[at], number = out[at + 1] | out[at + 2] << 8;
+            if (kind == 0x21) point_at[number] = pass == 0;
             if (kind == 0x23 && pass == 0) {
-                int to = number_at(out + at + 3);
+                int to = out[at + 3] | out[at + 4] << 8;
                 if (to <= last || (point_at[to] && number != to + 1)) good = false;
                 last = to;
             }
-            at += record(kind);
+            at += kind == 0x21 || kind == 0x24 ? 3 : kind == 0x22 ? 4 : 5;
         }
     return good;
 }
 
-/* One call with everything that holds of any call; its answer. */
-static uint64_t call(const uint8_t *sheet, size_t length, size_t room, size_t numbers, bool lean, bool plain) {
+/* One call with everything that holds of any call; a netlist's length, or 0. */
+static uint64_t call(const uint8_t *sheet, size_t length, size_t room, size_t numbers, bool lean) {
     static unsigned calls;
     bool end[3] = {calls & 1, calls >> 1 & 1, calls >> 2 & 1};
     calls++;
     uint8_t *lent = slice(0, length, end[0]), *out = slice(1, room, end[1]);
     uint16_t *work = (uint16_t *)slice(2, 2 * numbers, end[2]);
     memcpy(lent, sheet, length);
-    uint64_t answer = deltawobble_translate(lent, length, out, room, work, numbers, lean, plain);
-    uint32_t number = answer >> 32 & 0xFF, value = (uint32_t)answer;
-    uint32_t wanted = answer >> 40 & 0xFFF, found = answer >> 52;
+    uint64_t answer = deltawobble_translate(lent, length, out, room, work, numbers, lean);
+    uint32_t number = answer >> 32 & 255, value = (uint32_t)answer, wanted = answer >> 40 & 4095, found = answer >> 52;
     DEMAND(number <= 17);
     DEMAND(number == 12 ? wanted != found && wanted <= 256 && found < 256 : wanted == 0 && found == 0);
     DEMAND((number == 1) == (numbers < CLEARED));
     size_t cleared = number == 1 ? 0 : CLEARED;
     DEMAND(all(work, 0, 2 * cleared) && all(work + cleared, 0xA5, 2 * (numbers - cleared)));
     DEMAND(number || value <= room);
-    size_t used = number ? 0 : value;
-    DEMAND(all(out + used, 0xA5, room - used));
-    DEMAND(used <= ALWAYS_ENOUGH);
-    DEMAND(number || (value > 0 && is_netlist(out, value, plain)));
+    size_t written = number ? 0 : value;
+    DEMAND(all(out + written, 0xA5, room - written));
+    DEMAND(number || (value > 0 && is_netlist(out, value)));
     DEMAND(number || !lean || is_lean(out, value));
     DEMAND(memcmp(lent, sheet, length) == 0);
     DEMAND(guarded(lent, length, end[0]) && guarded(out, room, end[1]) && guarded(work, 2 * numbers, end[2]));
@@ -167,40 +140,27 @@ static uint64_t call(const uint8_t *sheet, size_t length, size_t room, size_t nu
         DEMAND(deltawobble_stretch(lent, length, 65536) == 0 && deltawobble_stretch(lent, length, SIZE_MAX) == 0);
     }
     mark_answer(number, value, lean, out);
-    memcpy(written, out, used);
     return answer;
-}
-
-/* An accepted sheet's netlist: with nodes and plain, each in just its room and in one byte less. */
-static void in_both_kinds(const uint8_t *sheet, size_t length, bool lean) {
-    static uint8_t with_nodes[ALWAYS_ENOUGH];
-    uint64_t sizes[2];
-    for (int plain = 0; plain < 2; plain++) {
-        uint64_t size = sizes[plain] = call(sheet, length, ALWAYS_ENOUGH, CLEARED, lean, plain);
-        DEMAND(size >> 32 == 0);
-        DEMAND(call(sheet, length, size - 1, CLEARED, lean, plain) == (17ull << 32 | size));
-        DEMAND(call(sheet, length, size, CLEARED, lean, plain) == size);
-        if (!plain) memcpy(with_nodes, written, size);
-    }
-    DEMAND(adds_nodes(with_nodes, sizes[0], written, sizes[1]));
 }
 
 int LLVMFuzzerTestOneInput(const uint8_t *data, size_t size) {
     if (size < 3) return 0;
-    bool lean = data[0] & 1, plain = data[0] >> 4 & 1;
+    bool lean = data[0] & 1;
     size_t numbers = memories[data[0] >> 1 & 7], room = data[1] | (size_t)data[2] << 8;
     const uint8_t *sheet = data + 3;
     size_t length = size - 3;
-    call(sheet, length, room % (ALWAYS_ENOUGH + 1), numbers, lean, plain);
-    uint64_t full = call(sheet, length, ALWAYS_ENOUGH, CLEARED, false, false);
-    uint64_t less = call(sheet, length, ALWAYS_ENOUGH, CLEARED, true, false);
+    call(sheet, length, room % (ALWAYS_ENOUGH + 1), numbers, lean);
+    uint64_t full = call(sheet, length, ALWAYS_ENOUGH, CLEARED, false);
+    uint64_t less = call(sheet, length, ALWAYS_ENOUGH, CLEARED, true);
     if (full >> 32) {
-        DEMAND(full == less && (full >> 32 & 0xFF) != 17);
-        DEMAND(full == call(sheet, length, ALWAYS_ENOUGH, CLEARED, lean, true));
+        DEMAND(full == less && (full >> 32 & 255) != 17);
     } else {
+        /* both netlists, each in just its room and in one byte less */
         DEMAND(less >> 32 == 0 && less <= full);
-        in_both_kinds(sheet, length, false);
-        in_both_kinds(sheet, length, true);
+        DEMAND(call(sheet, length, full, CLEARED, false) == full);
+        DEMAND(call(sheet, length, full - 1, CLEARED, false) == (17ull << 32 | full));
+        DEMAND(call(sheet, length, less, CLEARED, true) == less);
+        DEMAND(call(sheet, length, less - 1, CLEARED, true) == (17ull << 32 | less));
     }
     return 0;
 }

@@ -19,7 +19,6 @@ pub mod linked {
             work: *mut u16,
             work_len: usize,
             lean: bool,
-            plain: bool,
         ) -> u64;
         pub fn deltawobble_stretch(sheet: *const u8, sheet_len: usize, node: usize) -> u64;
     }
@@ -36,7 +35,6 @@ pub mod linked {
                 work_at,
                 work.len(),
                 wish.lean,
-                wish.plain,
             )
         }
     }
@@ -115,7 +113,7 @@ impl Host {
             output.length as u64,
             memory.offset as u64,
             memory.length as u64 / 2,
-            u64::from(wish.lean) | u64::from(wish.plain) << 1,
+            u64::from(wish.lean),
         ]
     }
 
@@ -156,7 +154,6 @@ impl Boundary {
                     fences.address(call.memory).cast(),
                     call.memory.length / 2,
                     call.wish.lean,
-                    call.wish.plain,
                 )
             }),
             #[cfg(not(linked))]

@@ -21,13 +21,9 @@ pub struct Try {
     pub nodes: Vec<usize>,
 }
 
-/// Full or lean, with nodes or in plain kinds.
-pub fn wishes() -> [Wish; 4] {
-    [(false, false), (true, false), (false, true), (true, true)].map(|(lean, plain)| Wish {
-        lean,
-        plain,
-        card: false,
-    })
+/// Full or lean. The boundary writes plain kinds.
+pub fn wishes() -> [Wish; 2] {
+    [false, true].map(|lean| Wish { lean, plain: true, card: false })
 }
 
 /// Each named case as it stands, by every wish; a sheet's first case also at its netlists' lengths.

@@ -76,8 +76,9 @@ fn call(sheet: &[u8], out: &mut [u8], work: &mut [u16], lean: bool) -> usize {
             fill_out(&mut out[..n]);
             n
         }
-        Answer::Refused(number, place) => {
-            fields(number, place, out, work);
+        Answer::Refused(r) => {
+            let place = r.place;
+            fields(r.number, place, out, work);
             place
         }
     }

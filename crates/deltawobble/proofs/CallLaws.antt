@@ -6,6 +6,8 @@ use mathlib.Core.List.{List}
 use lib.Dec.{leb}
 use lib.ListN.{length}
 use Rattle.calculus.specs.Answer.{Answer, good, refused, _>>=_, need}
+use Rattle.typing.specs.declared.Refusal.{Refusal}
+use Rattle.typing.specs.Verdicts.{saidWhy}
 use Rattle.calculus.specs.Net.{Net}
 use Rattle.calculus.specs.Translate.{full, answer, asked, workOf, call}
 use Rattle.translator.specs.Made.{lent, Keeps}
@@ -24,8 +26,8 @@ answer-lent memory b s room = need-first (leb 32768 memory) (full s) (λ m. netA
 
 module _ (b : Bool) (s out : List ℕ) (memory : ℕ) where
   -- a refusal passes through
-  pub refused-says : (number place : ℕ) → refused number place ≡ lent memory s → Says (answer.Refused number place) out out (answer memory b s (length out))
-  refused-says number place e = rw (answer-lent memory b s (length out), ← e) (record { said = refl; wrote = refl })
+  pub refused-says : (why : Refusal) → refused (saidWhy why) ≡ lent memory s → Says (answer.Refused why) out out (answer memory b s (length out))
+  refused-says why e = rw (answer-lent memory b s (length out), ← e) (record { said = refl; wrote = refl })
 
   -- a netlist that was written is the one asked for
   pub net-says : (r : code.Answer) (after : List ℕ) (m : Net) → good m ≡ lent memory s → Says r out after (netAnswer (asked b m) (length out))

@@ -8,7 +8,7 @@ use lib.Dec.{leb, leb→le}
 use lib.ListN.{length, drop}
 use lib.Seq.{take-at}
 use borrow.Author.Tests.{lt-leb, le-leb}
-use Rattle.calculus.specs.Answer.{Answer, good, refused, _>>=_}
+use Rattle.calculus.specs.Answer.{Answer, good, refused, _>>=_, refuse}
 use Rattle.calculus.proofs.Answers.{refused≢good, good-inj, on-bind, on-need}
 use Rattle.calculus.specs.Types.{Ty}
 use Rattle.calculus.specs.Read.{Sheet, readSheet}
@@ -21,7 +21,8 @@ use Rattle.circuit_theorems.proofs.Main.{accepts, driven, undriven, made-once, 
 use Rattle.circuit_theorems.proofs.Told.{bytes-tell}
 use Rattle.memory.proofs.Zeroed.{zeroed-length, zeroed-zeros, zeroed-later}
 use Rattle.deltawobble.specs.Demands.{Wrote, Cleared, Demand1, Derivable, Demand2, OneDriver, Circuit, Demand3}
-use Rattle.deltawobble.proofs.Places.{Judged, value, refusal, CallPlace, answer-places}
+use Rattle.sheet_theorems.proofs.Judging.{Judged, value, refusal}
+use Rattle.deltawobble.proofs.Places.{CallPlace, CallBytes, answer-places}
 
 -- ---- demand 1
 
@@ -47,11 +48,11 @@ went b s memory room bytes e =
       fits = subst (λ (x : List ℕ). length x ≤ room) (good-inj e₃) (leb→le (length (netBytes (asked b m))) room h₃);
     }
 
-wrote : (out : List ℕ) {a : Answer (List ℕ)} → Judged (CallPlace (length out)) (λ bytes. (length bytes ≤ 41344) × (length bytes ≤ length out)) a → Wrote (saidOf a) out (outOf a out)
-wrote out (value {a} h) = (a, refl, h .1, refl)
-wrote out (refusal h) = (h .from, h .to, h .few, h .more, refl)
+wrote : (s out : List ℕ) {a : Answer (List ℕ)} → Judged (CallPlace s (length out)) (CallBytes (length out)) a → Wrote (saidOf a) out (outOf a out)
+wrote s out (value {a} h) = (a, refl, h .1, refl)
+wrote s out (refusal h) = (h .from, h .to, h .few, h .more, refl)
 
-pub too-small : (b : Bool) (s : List ℕ) (memory room : ℕ) → memory < 32768 → answer memory b s room ≡ refused 1 0
+pub too-small : (b : Bool) (s : List ℕ) (memory room : ℕ) → memory < 32768 → answer memory b s room ≡ refuse 1 0
 unfolding answer
 too-small b s memory room h = rw (lt-leb 32768 memory h)
 
@@ -69,7 +70,7 @@ work-stays work h = rw (lt-leb 32768 (length work) h)
 pub demand-1 : (b : Bool) (s out work : List ℕ) → Demand1 b s out work (call b s out work)
 unfolding call
 demand-1 b s out work = record {
-  wrote = wrote out (answer-places (length work) b s (length out));
+  wrote = wrote s out (answer-places (length work) b s (length out));
   small = λ h. let e = too-small b s (length work) (length out) h in (ap saidOf e, ap (λ (a : Answer (List ℕ)). outOf a out) e, work-stays work h);
   cleared = λ h. work-clears work h;
 }
@@ -77,7 +78,7 @@ demand-1 b s out work = record {
 -- ---- demand 2
 
 -- the netlist of a sheet with a derivation, within the limits
-full-of : (s : List ℕ) (σ : Sheet) (τ : Ty) → readSheet s ≡ good σ → Typed (σ .table) [] (σ .term) τ → make (σ .table) (σ .term) [] 0 .next ≤ 8192
+full-of : (s : List ℕ) (σ : Sheet) (τ : Ty) → readSheet s ≡ good σ → Typed (σ .edition) (σ .table) [] (σ .term) τ → make (σ .table) (σ .term) [] 0 .next ≤ 8192
     → full s ≡ good (netOf (make (σ .table) (σ .term) [] 0))
 unfolding full
 full-of s σ τ e d h =
@@ -94,7 +95,7 @@ module _ (b : Bool) (s out work : List ℕ) where
   answered = answer (length work) b s (length out)
 
   forth : (n : ℕ) (a : Answer (List ℕ)) → answered ≡ a → saidOf a ≡ good n → Derivable b s out work n
-  forth n (refused number place) e h = absurd (refused≢good h)
+  forth n (refused why) e h = absurd (refused≢good h)
   forth n (good bytes) e h =
       let w = went b s (length work) (length out) bytes e in
       let a = accepts s (w .net) (w .made) in
@@ -123,7 +124,7 @@ module _ (b : Bool) (s out work : List ℕ) where
 
   bytes-are : (n : ℕ) (a : Answer (List ℕ)) → answered ≡ a → saidOf a ≡ good n → (σ : Sheet) → readSheet s ≡ good σ
       → outOf a out ≡ netBytes (asked b (netOf (make (σ .table) (σ .term) [] 0))) ++ drop n out
-  bytes-are n (refused number place) e h σ r = absurd (refused≢good h)
+  bytes-are n (refused why) e h σ r = absurd (refused≢good h)
   bytes-are n (good bytes) e h σ r =
       let w = went b s (length work) (length out) bytes e in
       let a = accepts s (w .net) (w .made) in
@@ -151,7 +152,7 @@ one-driver s m e = record {
 
 module _ (b : Bool) (s out work : List ℕ) where
   circuit-of : (n : ℕ) (a : Answer (List ℕ)) → answer (length work) b s (length out) ≡ a → saidOf a ≡ good n → Circuit b s out n (outOf a out)
-  circuit-of n (refused number place) e h = absurd (refused≢good h)
+  circuit-of n (refused why) e h = absurd (refused≢good h)
   circuit-of n (good bytes) e h =
       let w = went b s (length work) (length out) bytes e in
       let k : length bytes ≡ n = good-inj h in

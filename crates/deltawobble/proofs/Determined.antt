@@ -6,7 +6,8 @@ use mathlib.Core.List.{List}
 use contract.Lifetimes.{Lfts}
 use denote.Triple.Clauses.{AtExit}
 use borrow.Fn.Kinds.{Dens, resT, endedOf}
-use Rattle.calculus.proofs.Answers.{refused≢good, good-inj}
+use Rattle.calculus.proofs.Answers.{refused≢good, good-inj, refused-inj}
+use Rattle.calculus.specs.Answer.{Refusal}
 use Rattle.calculus.specs.Translate.{Call}
 use Rattle.deltawobble.specs.Said.{saidAnswer, called}
 use Rattle.deltawobble.specs.declared.Answer as code
@@ -27,12 +28,10 @@ pub record Same {A : Type 0} (r q : A) (o o′ w w′ : List ℕ) : Type 0 where
 -- an answer says what it is
 same-answer : (r q : code.Answer) → saidAnswer r ≡ saidAnswer q → r ≡ q
 same-answer (answer.Written m) (answer.Written n) e = ap answer.Written (good-inj e)
-same-answer (answer.Written m) (answer.Refused j p) e = absurd (refused≢good (sym e))
-same-answer (answer.Refused i p) (answer.Written n) e = absurd (refused≢good e)
-same-answer (answer.Refused i p) (answer.Refused j q) e =
-    let a : i ≡ j = cc in
-    let b : p ≡ q = cc in
-    rw (a, b)
+same-answer (answer.Written m) (answer.Refused p) e = absurd (refused≢good (sym e))
+same-answer (answer.Refused p) (answer.Written n) e = absurd (refused≢good e)
+same-answer (answer.Refused p) (answer.Refused q) e =
+    ap (λ (why : Refusal). answer.Refused (record { number = why .number; place = why .place; wanted = why .wanted; found = why .found })) (refused-inj e)
 
 same-call : (r q : code.Answer) (o o′ w w′ : List ℕ) → called r o w ≡ called q o′ w′ → Same r q o o′ w w′
 same-call r q o o′ w w′ e = record {

@@ -7,19 +7,19 @@ use native.Mathlib.Omega.{arith}
 use lib.ListN.{length, drop, length-drop}
 use lib.Seq.{sets, ext-getD, getD-drop}
 use borrow.Author.Tests.{lt-leb, le-leb}
-use Rattle.calculus.specs.Answer.{Answer, good, refused}
+use Rattle.calculus.specs.Answer.{Answer, good, refuse}
 use Rattle.calculus.specs.Net.{Net, netBytes}
 use Rattle.calculus.specs.Translate.{saidOf, outOf, asked}
 use Rattle.laws.proofs.Regions.{sets-front}
 use Rattle.lean.specs.Table.{Within}
 use Rattle.translator.specs.Made.{Keeps}
 use Rattle.translator.proofs.Keeping.{later-keeps}
-use Rattle.deltawobble.specs.Said.{netAnswer, Says}
+use Rattle.deltawobble.specs.Said.{tooShort, netAnswer, Says}
 use Rattle.deltawobble.specs.declared.Answer as code
 use Rattle.deltawobble.specs.declared.Answer.the-variants as answer
 
 module _ (m : Net) (out : List ℕ) where
-  net-short : length out < length (netBytes m) → netAnswer m (length out) ≡ refused 17 (length (netBytes m))
+  net-short : length out < length (netBytes m) → netAnswer m (length out) ≡ refuse 17 (length (netBytes m))
   unfolding netAnswer
   net-short h = rw (lt-leb (length (netBytes m)) (length out) h)
 
@@ -27,10 +27,10 @@ module _ (m : Net) (out : List ℕ) where
   unfolding netAnswer
   net-fits h = rw (le-leb (length (netBytes m)) (length out) h)
 
-  pub says-short : (n : ℕ) → n ≡ length (netBytes m) → length out < n → Says (answer.Refused 17 n) out out (netAnswer m (length out))
+  pub says-short : (n : ℕ) → n ≡ length (netBytes m) → length out < n → Says (tooShort n) out out (netAnswer m (length out))
   says-short n e h =
       let f = net-short (subst (λ (x : ℕ). length out < x) e h) in
-      record { said = ap (λ (x : ℕ). refused 17 x) e ∙ sym (ap saidOf f); wrote = sym (ap (λ (a : Answer (List ℕ)). outOf a out) f) }
+      record { said = ap (λ (x : ℕ). refuse 17 x) e ∙ sym (ap saidOf f); wrote = sym (ap (λ (a : Answer (List ℕ)). outOf a out) f) }
 
   pub says-fits : (n : ℕ) (after : List ℕ) → length (netBytes m) ≤ length out → n ≡ length (netBytes m) → after ≡ sets out 0 (netBytes m)
       → Says (answer.Written n) out after (netAnswer m (length out))

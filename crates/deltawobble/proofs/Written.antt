@@ -13,7 +13,7 @@ use Rattle.deltawobble.specs.declared.Answer.the-variants as variant
 
 by-answer : (a : Answer (List ℕ)) (n : ℕ) (before after : List ℕ) → good n ≡ saidOf a → after ≡ outOf a before → n ≤ length after
 by-answer (good bytes) n before after e f = let l : n ≡ length bytes = cc in rw (f, length-append) (omega arith)
-by-answer (refused number place) n before after e f = let z : _≡_ {A = ℕ} 0 1 = cc in omega arith
+by-answer (refused why) n before after e f = let z : _≡_ {A = ℕ} 0 1 = cc in omega arith
 
 pub written-within : (r : code.Answer) (n : ℕ) (lean : Bool) (s before after work work′ : List ℕ)
     → called r after work′ ≡ call lean s before work → r ≡ variant.Written n → n ≤ length after

@@ -1,4 +1,4 @@
--- What the functions for C answer: one number that holds two. Assumes nothing.
+-- What the functions for C answer: one number that holds two or four. Assumes nothing.
 use Prim.Native.Nat.{ℕ, _+_, _*_}
 use mathlib.Core.Path.{_≡_}
 use mathlib.Core.List.{List}
@@ -10,10 +10,11 @@ use Rattle.calculus.specs.Translate.{Call}
 abbrev pub halves : ℕ → ℕ → ℕ
 halves a b = a * 4294967296 + b
 
--- 0 and the number of bytes written, or a refusal's number and its place
+-- the number of bytes written; or a refusal: bits 0 to 31 its place, 32 to 39 its number, 40 to 51 the type number wanted, 52 to 63 the
+-- one found
 abbrev pub packed : Answer ℕ → ℕ
 packed (good n) = n
-packed (refused number place) = halves number place
+packed (refused why) = halves (why .number) (why .place) + (why .wanted * 1099511627776 + why .found * 4503599627370496)
 
 -- where a stretch begins, and its length
 abbrev pub packedStretch : Stretch → ℕ

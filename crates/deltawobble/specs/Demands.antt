@@ -5,7 +5,7 @@ use mathlib.Core.Bool.{Bool}
 use mathlib.Core.Logic.{_↔_}
 use mathlib.Core.List.{List, [], _++_}
 use lib.ListN.{length, getD, take, drop}
-use Rattle.calculus.specs.Answer.{Answer, good, refused}
+use Rattle.calculus.specs.Answer.{Answer, good, refused, refuse}
 use Rattle.calculus.specs.Types.{Ty}
 use Rattle.calculus.specs.Read.{Sheet, readSheet}
 use Rattle.calculus.specs.Rules.{Typed}
@@ -22,7 +22,7 @@ use Rattle.calculus.specs.Translate.{full, asked, Call}
 -- 17's place is the length needed, so more than the output has
 abbrev pub Wrote : Answer ℕ → List ℕ → List ℕ → Type 0
 Wrote (good n) out after = (bytes : List ℕ) × (length bytes ≡ n) × (n ≤ length out) × (after ≡ bytes ++ drop n out)
-Wrote (refused number place) out after = (1 ≤ number) × (number ≤ 17) × (place ≤ 41344) × (number ≡ 17 → length out < place) × (after ≡ out)
+Wrote (refused why) out after = (1 ≤ why .number) × (why .number ≤ 17) × (why .place ≤ 41344) × (why .number ≡ 17 → length out < why .place) × (after ≡ out)
 
 -- the first n numbers are 0, the later ones as they were
 pub record Cleared (n : ℕ) (work after : List ℕ) : Type 0 where
@@ -33,7 +33,7 @@ pub record Cleared (n : ℕ) (work after : List ℕ) : Type 0 where
 pub record Demand1 (wantLean : Bool) (s out work : List ℕ) (c : Call) : Type 0 where
   pub wrote : Wrote (c .said) out (c .out)
   -- too little working memory: refusal 1, and nothing is touched
-  pub small : length work < 32768 → (c .said ≡ refused 1 0) × (c .out ≡ out) × (c .work ≡ work)
+  pub small : length work < 32768 → (c .said ≡ refuse 1 0) × (c .out ≡ out) × (c .work ≡ work)
   pub cleared : 32768 ≤ length work → Cleared 32768 work (c .work)
 
 -- ---- demand 2
@@ -51,7 +51,7 @@ pub record Derivable (wantLean : Bool) (s out work : List ℕ) (n : ℕ) : Type 
   pub sheet : Sheet
   pub conditions : Conditions wantLean s out work sheet n
   pub type : Ty
-  pub typed : Typed (sheet .table) [] (sheet .term) type
+  pub typed : Typed (sheet .edition) (sheet .table) [] (sheet .term) type
 
 pub record Demand2 (wantLean : Bool) (s out work : List ℕ) (c : Call) : Type 0 where
   -- accepted, with n bytes written, exactly when within form, limits and room there is a derivation

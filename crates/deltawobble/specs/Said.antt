@@ -5,15 +5,20 @@ use mathlib.Core.List.{List}
 use lib.Dec.{leb}
 use lib.ListN.{length}
 use Rattle.calculus.specs.Answer.{Answer, good, refused, _>>=_, need}
+use Rattle.typing.specs.Verdicts.{saidWhy}
 use Rattle.calculus.specs.Net.{Net, netBytes}
 use Rattle.calculus.specs.Translate.{saidOf, outOf, Call}
 use Rattle.deltawobble.specs.declared.Answer as code
 use Rattle.deltawobble.specs.declared.Answer.the-variants as answer
 
--- number and place, or the number of bytes written
+-- a refusal, or the number of bytes written
 abbrev pub saidAnswer : code.Answer → Answer ℕ
 saidAnswer (answer.Written n) = good n
-saidAnswer (answer.Refused number place) = refused number place
+saidAnswer (answer.Refused why) = refused (saidWhy why)
+
+-- 17, with the length needed
+abbrev pub tooShort : ℕ → code.Answer
+tooShort n = answer.Refused (record { number = 17; place = n; wanted = 0; found = 0 })
 
 -- a netlist's bytes, or 17
 unfoldable pub netAnswer : Net → ℕ → Answer (List ℕ)

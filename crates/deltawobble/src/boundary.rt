@@ -1,4 +1,4 @@
-// The call and the stretch of a node for C: one number holds the answer, its upper half the first part and its lower half the second.
+// The call and the stretch of a node for C: one number holds the answer.
 use crate::Answer;
 use crate::Wish;
 ghost use mathlib.Core.Path.{_≡_};
@@ -6,7 +6,8 @@ ghost use Rattle.calculus.specs.Stretch.{stretchOf};
 ghost use Rattle.calculus.specs.Translate.{call};
 ghost use Rattle.deltawobble.specs.Boundary.{Packs, packedStretch};
 
-// 0 and the number of bytes written, or a refusal's number and its place.
+// Bits 0 to 31 the number of bytes written or the place, 32 to 39 the refusal's number, 0 for none, 40 to 51 the type number wanted and
+// 52 to 63 the one found.
 #[no_mangle]
 pub extern "C" fn deltawobble_translate(
     sheet: &[u8],
@@ -18,7 +19,10 @@ pub extern "C" fn deltawobble_translate(
 {
     match crate::translate(sheet, out, work, Wish { lean: lean }) {
         Answer::Written(n) => n as u64,
-        Answer::Refused(number, place) => number as u64 * 4294967296 + place as u64,
+        Answer::Refused(r) => {
+            let first = r.number as u64 * 4294967296 + r.place as u64;
+            first + (r.wanted as u64 * 1099511627776 + r.found as u64 * 4503599627370496)
+        }
     }
 }
 

@@ -3,6 +3,7 @@ mod boundary;
 mod write;
 
 use translator::Made;
+use typing::Refusal;
 ghost use mathlib.Core.Path.{_≡_};
 ghost use lib.ListN.{length};
 ghost use Rattle.calculus.specs.Translate.{answer, call};
@@ -14,10 +15,10 @@ pub struct Wish {
     pub lean: bool,
 }
 
-// The number of bytes written, or a refusal's number and place.
+// The number of bytes written, or a refusal: its number and place, and for 12 the type number wanted and the one found.
 pub enum Answer {
     Written(usize),
-    Refused(u8, usize),
+    Refused(Refusal),
 }
 
 // The netlist is made and written. The working memory is not yet cleared.
@@ -26,7 +27,7 @@ fn run(sheet: &[u8], out: &mut [u8], work: &mut [u16], wish: Wish) -> Answer
         × (Keeps (now (work .entry)) (now (work .exit))) ⌝ }
 {
     match translator::make(sheet, work) {
-        Made::Refused(number, place) => Answer::Refused(number, place),
+        Made::Refused(refusal) => Answer::Refused(refusal),
         Made::Net(counts) => write::write(work, out, counts, wish),
     }
 }

@@ -1,7 +1,9 @@
 // The netlist that stands in the working memory is written, where it fits.
 use crate::Answer;
 use crate::Wish;
+use typing::Refusal;
 use wiring::Counts;
+ghost use mathlib.Core.Path.{_≡_};
 ghost use lib.ListN.{length};
 ghost use Rattle.calculus.specs.Lean.{lean};
 ghost use Rattle.calculus.specs.Record.{All};
@@ -9,7 +11,19 @@ ghost use Rattle.calculus.specs.Translate.{asked};
 ghost use Rattle.memory.specs.Map.{netIn, Ready};
 ghost use Rattle.calculus.specs.NetRead.{Known};
 ghost use Rattle.translator.specs.Made.{Keeps};
-ghost use Rattle.deltawobble.specs.Said.{Says, netAnswer};
+ghost use Rattle.deltawobble.specs.Said.{tooShort, Says, netAnswer};
+
+// 17, with the length needed.
+fn too_short(n: usize) -> Answer
+    ensures { λ r. ⌜ r ≡ tooShort n ⌝ }
+{
+    Answer::Refused(Refusal {
+        number: 17,
+        place: n,
+        wanted: 0,
+        found: 0,
+    })
+}
 
 // The full netlist; 17 with the length needed where the output is shorter.
 fn write_full(work: &[u16], out: &mut [u8], elements: usize, wires: usize, pins: usize) -> Answer
@@ -18,7 +32,7 @@ fn write_full(work: &[u16], out: &mut [u8], elements: usize, wires: usize, pins:
 {
     let n = netlist::full_length(work, elements, wires, pins, true);
     if out.len() < n {
-        return Answer::Refused(17, n);
+        return too_short(n);
     }
     let length = netlist::write_full(work, out, elements, wires, pins, true);
     Answer::Written(length)
@@ -39,7 +53,7 @@ fn write_lean(
     lean::roots(work, elements, wires, pins);
     let n = lean::lean_length(&work[..], elements, wires, pins, true);
     if out.len() < n {
-        return Answer::Refused(17, n);
+        return too_short(n);
     }
     let written = lean::write_lean(&work[..], out, elements, wires, pins, true);
     Answer::Written(written)

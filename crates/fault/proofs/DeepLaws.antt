@@ -6,10 +6,10 @@ use mathlib.Core.List.{List, [], _∷_, _++_}
 use mathlib.Core.Logic.{⊎-elim}
 use native.Mathlib.Omega.{arith}
 use lib.ListN.{length, length-append}
-use Rattle.calculus.specs.Terms.{Term, var, lvar, fun, app, lfun, lapp, pair, proj, fix, con}
-use Rattle.calculus.specs.Answer.{good, refused}
+use Rattle.calculus.specs.Terms.{Term, var, lvar, fun, app, lfun, lapp, pair, proj, fix, con, name}
+use Rattle.calculus.specs.Answer.{good, refuse}
 use Rattle.calculus.proofs.Answers.{refused≢good, good-inj}
-use Rattle.calculus.specs.Read.{Sheet, readSheet}
+use Rattle.calculus.specs.Read.{Sheet, recordsOf, readSheet}
 use Rattle.calculus.specs.Write.{termBytes, tableBytes}
 use Rattle.sheet_theorems.specs.Laid.{Stands, depth}
 use types.Run.{OneOf}
@@ -21,7 +21,7 @@ use Rattle.records.proofs.Laws.{stands-record}
 use Rattle.records.specs.declared.Node.{Node}
 use Rattle.records.specs.declared.Record.{Record}
 use Rattle.records.specs.declared.Record.the-variants as rec
-use Rattle.sheet_theorems.proofs.Standing.{fun-body, app-function, app-argument, lfun-body, lapp-function, lapp-argument, pair-first, pair-second, proj-pair, proj-body, fix-body}
+use Rattle.sheet_theorems.proofs.Standing.{fun-body, app-function, app-argument, lfun-body, lapp-function, lapp-argument, pair-first, pair-second, proj-pair, proj-body, fix-body, name-first, name-body}
 use Rattle.sheet_theorems.proofs.Standing.{sheet-stands}
 use Rattle.sheet_theorems.proofs.Laying.{laid}
 use Rattle.records.specs.Told.{Told}
@@ -38,6 +38,7 @@ deep-some (pair t a b) = omega arith
 deep-some (proj a e) = omega arith
 deep-some (fix t e) = omega arith
 deep-some (con p t) = omega arith
+deep-some (name a e) = omega arith
 
 -- a term with one subterm, and one with two, whose first subterm stands at an offset
 pub record Single (s : List ℕ) (at next : ℕ) (e : Term) : Type 0 where
@@ -72,6 +73,7 @@ module _ (s : List ℕ) (at : ℕ) where
   leaf (proj a e) z = absurd (omega arith)
   leaf (fix t e) z = absurd (omega arith)
   leaf (con p t) z = (omega arith, refl)
+  leaf (name a e) z = absurd (omega arith)
 
   single : (e : Term) → nodeOf e at .subterms ≡ 1 → Stands s at e → Single s at (nodeOf e at .next) e
   single (var i) z h = absurd (omega arith)
@@ -84,6 +86,7 @@ module _ (s : List ℕ) (at : ℕ) where
   single (proj a e) z h = absurd (omega arith)
   single (fix t e) z h = record { body = e; stands = moved _ (omega arith) (fix-body h); end = omega arith; deep = refl }
   single (con p t) z h = absurd (omega arith)
+  single (name a e) z h = absurd (omega arith)
 
   double : (e : Term) → (nodeOf e at .subterms ≡ 0 → ⊥) → (nodeOf e at .subterms ≡ 1 → ⊥) → Stands s at e → Double s at (nodeOf e at .next) e
   double (var i) y z h = absurd (y refl)
@@ -124,6 +127,14 @@ module _ (s : List ℕ) (at : ℕ) where
   }
   double (fix t e) y z h = absurd (z refl)
   double (con p t) y z h = absurd (y refl)
+  double (name a e) y z h = record {
+    first = a;
+    second = e;
+    stands-first = moved _ (omega arith) (name-first h);
+    stands-second = moved _ (omega arith) (name-body h);
+    end = omega (arith, both-bytes a e);
+    deep = refl;
+  }
 
   -- the record that stands there is the first one's
   first-record : {r : Node} (e : Term) → recordAt true s at ≡ rec.Node r → Stands s at e → r ≡ nodeOf e at
@@ -187,12 +198,12 @@ module _ (s : List ℕ) (at : ℕ) where
 
 -- ---- the term of a sheet
 
-pub sheet-deep : (s : List ℕ) {sizes : List ℕ} {types n start next deep : ℕ} → Told s sizes types n start → Measured s start 64 next deep → DepthOf s deep
-sheet-deep s {sizes} {types} {n} {start} t m σ e =
+pub sheet-deep : (s : List ℕ) {sizes : List ℕ} {types n start next deep : ℕ} → Told s sizes types n start → {b : List ℕ} → b ≡ recordsOf s → Measured b start 64 next deep → DepthOf s deep
+sheet-deep s {sizes} {types} {n} {start} t {b} q m σ e =
     let l = laid s σ e in
-    let q : t .sheet ≡ σ = good-inj (sym (t .is) ∙ e) in
-    let p : length (tableBytes (σ .table)) ≡ start = sym (t .start-is ∙ ap (λ (σ : Sheet). length (tableBytes (σ .table))) q) in
-    m .right (σ .term) (subst (λ (x : ℕ). Stands s x (σ .term)) p (sheet-stands l)) (l .deep) .1
+    let i : t .sheet ≡ σ = good-inj (sym (t .is) ∙ e) in
+    let p : length (tableBytes (σ .table)) ≡ start = sym (t .start-is ∙ ap (λ (σ : Sheet). length (tableBytes (σ .table))) i) in
+    m .right (σ .term) (subst (λ (x : ℕ). Stands b x (σ .term)) p (subst (λ (b : List ℕ). Stands b (length (tableBytes (σ .table))) (σ .term)) (sym q) (sheet-stands l))) (l .deep) .1
 
-pub no-sheet-deep : (s : List ℕ) (number place : ℕ) → readSheet s ≡ refused number place → DepthOf s 0
+pub no-sheet-deep : (s : List ℕ) (number place : ℕ) → readSheet s ≡ refuse number place → DepthOf s 0
 no-sheet-deep s number place h σ e = absurd (refused≢good (sym h ∙ e))

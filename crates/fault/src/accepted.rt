@@ -64,7 +64,7 @@ fn depth(s: &[u8]) -> usize
     let verdict = r.verdict;
     match verdict {
         Verdict::Read(_, _, start) => {
-            let deep = depth_at(s, start, MOST_DEPTH);
+            let deep = depth_at(sheet::records_of(s), start, MOST_DEPTH);
             deep.depth
         }
         Verdict::Refused(_, _) => 0,
@@ -146,7 +146,7 @@ fn tally(net: &[u8]) -> Counts
 fn lean(s: &[u8], out: &mut [u8], work: &mut [u16]) -> usize {
     match deltawobble::translate(s, out, work, Wish { lean: true }) {
         Answer::Written(n) => n,
-        Answer::Refused(_, _) => 0,
+        Answer::Refused(_) => 0,
     }
 }
 

@@ -26,8 +26,8 @@ fn answer(s: &[u8], out: &mut [u8], work: &mut [u16]) {
         Answer::Written(length) => {
             accepted::show(s, out, work, length);
         }
-        Answer::Refused(number, place) => {
-            refused::show(s, number, place);
+        Answer::Refused(r) => {
+            refused::show(s, r.number, r.place);
         }
     }
 }

@@ -48,7 +48,7 @@ fn put_reading_rule(text: &mut [u8], at: usize, number: u8) -> usize
         4 => put(
             text,
             at,
-            b"No node has this kind: a record of the term begins with 11 to 1A.",
+            b"No node has this kind: a record of the term begins with 11 to 1A, in the second edition to 1B.",
         ),
         9 => put(
             text,
@@ -116,6 +116,7 @@ pub fn put_kind(text: &mut [u8], at: usize, kind: u8) -> usize
         0x18 => put(text, at, b"projection"),
         0x19 => put(text, at, b"fixed point"),
         0x1A => put(text, at, b"constant"),
+        0x1B => put(text, at, b"projection with one variable"),
         _ => put(text, at, b"no node"),
     }
 }

@@ -1,7 +1,7 @@
 -- The line of one element, wire, pin or refusal, by its numbers; names that stay shut. Assumes nothing.
 use Prim.Native.Nat.{ℕ}
 use mathlib.Core.List.{[], _∷_}
-use Rattle.calculus.specs.Answer.{refused}
+use Rattle.calculus.specs.Answer.{refuse}
 use Rattle.calculus.specs.Net.{point, part, out}
 use Rattle.calculus.specs.Listing.{Text, elementLine, wireLine, pinLines, listingOf}
 use Rattle.netlist.specs.Said.{wire}
@@ -20,4 +20,4 @@ unfoldable pub pinLine : ℕ → Text
 pinLine n = pinLines (out n ∷ [])
 
 unfoldable pub refusedLine : ℕ → ℕ → Text
-refusedLine number place = listingOf (refused number place)
+refusedLine number place = listingOf (refuse number place)

@@ -54,8 +54,8 @@ fn translated(sheet: &[u8], out: &mut [u8], work: &mut [u16], lean: bool, headin
             netlist(heading, &out[..n]);
             true
         }
-        Answer::Refused(number, place) => {
-            refused(number, place);
+        Answer::Refused(r) => {
+            refused(r.number, r.place);
             false
         }
     }

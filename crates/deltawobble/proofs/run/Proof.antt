@@ -11,8 +11,8 @@ make-requires : tie.Need-make-requires
 make-requires c κs = search needs
 
 -- src/lib.rt:29:23
-enum-known-number : tie.Need-enum-known-number
-enum-known-number c = search needs
+enum-known-refusal : tie.Need-enum-known-refusal
+enum-known-refusal c = search needs
 
 -- src/lib.rt:30:19
 enum-known-counts : tie.Need-enum-known-counts
@@ -35,7 +35,7 @@ returns : tie.Need-returns
 returns c =
     let m = c .before .before .before .before .before in
     let a = m .before .before .before .before .before .args in (
-      refused-says (a .wish .lean) (a .sheet .now) (a .out .now) _ _ _ (refusal-lent (m .make .result) (a .sheet .now) (a .work .now) _ (m .make .ensures) _ _ (c .before .number .given .1)),
+      refused-says (a .wish .lean) (a .sheet .now) (a .out .now) _ _ (refusal-lent (m .make .result) (a .sheet .now) (a .work .now) _ (m .make .ensures) _ (c .before .refusal .given .1)),
       m .make .ensures .keeps,
     )
 
@@ -63,7 +63,7 @@ run-spec =
     tie.close
     (tie.spec
     make-requires
-    enum-known-number
+    enum-known-refusal
     enum-known-counts
     write-requires
     same-length

@@ -12,11 +12,14 @@ use Rattle.deltawobble.proofs.write.write_full.Tie as tie
 full-length-requires : tie.Need-full-length-requires
 full-length-requires c κs = search needs
 
--- src/write.rt:18:9
+too-short-requires : tie.Need-too-short-requires
+too-short-requires c κs = search needs
+
 returns : tie.Need-returns
 returns c =
-    let a = c .before .before .before .before .args in
-    says-short (netIn (a .work .now) (a .elements) (a .wires) (a .pins)) (a .out .now) (c .before .full-length .result) (c .before .full-length .ensures) (c .if1 .taken)
+    let x = c .before in
+    let a = x .before .before .before .before .args in
+    rw (c .too-short .ensures) (says-short (netIn (a .work .now) (a .elements) (a .wires) (a .pins)) (a .out .now) (x .before .full-length .result) (x .before .full-length .ensures) (x .if1 .taken))
 
 -- src/write.rt:20:21
 write-full-requires : tie.Need-write-full-requires
@@ -37,4 +40,4 @@ returns-2 c =
 
 pub write-full-spec : {M : Type 1} → statement M
 write-full-spec =
-    tie.close (tie.spec full-length-requires returns write-full-requires same-length returns-2)
+    tie.close (tie.spec full-length-requires too-short-requires returns write-full-requires same-length returns-2)

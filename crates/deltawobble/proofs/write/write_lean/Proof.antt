@@ -23,6 +23,9 @@ roots-requires c κs = search needs
 lean-length-requires : tie.Need-lean-length-requires
 lean-length-requires c κs = search needs
 
+too-short-requires : tie.Need-too-short-requires
+too-short-requires c κs = search needs
+
 -- src/write.rt:32:9
 same-length : tie.Need-same-length
 same-length c = search needs
@@ -30,13 +33,14 @@ same-length c = search needs
 -- src/write.rt:32:9
 returns : tie.Need-returns
 returns c =
-    let l = c .before in
+    let x = c .before in
+    let l = x .before in
     let r = l .before .before .before .before in
-    let q = c .before .before .before .before .before .before .before .before .before in
+    let q = x .before .before .before .before .before .before .before .before .before in
     let a = q .args in
     let w = r .roots .ensures in (
-      says-short (lean (netIn (a .work .now) (a .elements) (a .wires) (a .pins))) (a .out .now) (l .lean-length .result)
-          (l .lean-length .ensures ∙ ap (λ (m : Net). length (netBytes (lean m))) (w .net)) (c .if1 .taken),
+      rw (c .too-short .ensures) (says-short (lean (netIn (a .work .now) (a .elements) (a .wires) (a .pins))) (a .out .now) (l .lean-length .result)
+          (l .lean-length .ensures ∙ ap (λ (m : Net). length (netBytes (lean m))) (w .net)) (x .if1 .taken)),
       within-keeps _ _ (q .pre .0 .size) (w .within),
     )
 
@@ -88,6 +92,7 @@ write-lean-spec =
     (tie.spec
     roots-requires
     lean-length-requires
+    too-short-requires
     same-length
     returns
     write-lean-requires

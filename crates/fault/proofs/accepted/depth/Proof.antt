@@ -7,9 +7,9 @@ use Rattle.fault.proofs.accepted.depth.Tie as tie
 
 returns : tie.Need-returns
 returns c =
-    let x = c .before in
+    let x = c .before .before in
     let r = x .before .before .before .read in
-    sheet-deep _ (told _ (r .result) _ _ _ (r .ensures) (x .before .verdict .given .1)) (c .depth-at .ensures)
+    sheet-deep _ (told _ (r .result) _ _ _ (r .ensures) (x .before .verdict .given .1)) (c .before .records-of .ensures) (c .depth-at .ensures)
 
 returns-2 : tie.Need-returns-2
 returns-2 c = no-sheet-deep _ _ _ (untold _ _ _ _ (c .before .before .read .ensures) (c .enum-told .given .1))
@@ -17,4 +17,4 @@ returns-2 c = no-sheet-deep _ _ _ (untold _ _ _ _ (c .before .before .read .ensu
 pub depth-spec : {M : Type 1} → statement M
 depth-spec =
     tie.close
-    (tie.spec (λ c κs. search needs) (λ c. search needs) (λ c κs. search needs) (λ c. search needs) returns returns-2)
+    (tie.spec (λ c κs. search needs) (λ c. search needs) (λ c κs. search needs) (λ c κs. search needs) (λ c. search needs) returns returns-2)
