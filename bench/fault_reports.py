@@ -9,10 +9,11 @@ import re
 import subprocess
 import sys
 
-SUBTERMS = {0x11: 0, 0x12: 0, 0x13: 1, 0x14: 2, 0x15: 1, 0x16: 2, 0x17: 2, 0x18: 2, 0x19: 1, 0x1A: 0}
-BODY = {0x11: 1, 0x12: 1, 0x13: 1, 0x14: 0, 0x15: 1, 0x16: 0, 0x17: 1, 0x18: 0, 0x19: 1, 0x1A: 2}
+SUBTERMS = {0x11: 0, 0x12: 0, 0x13: 1, 0x14: 2, 0x15: 1, 0x16: 2, 0x17: 2, 0x18: 2, 0x19: 1, 0x1A: 0, 0x1B: 2}
+BODY = {0x11: 1, 0x12: 1, 0x13: 1, 0x14: 0, 0x15: 1, 0x16: 0, 0x17: 1, 0x18: 0, 0x19: 1, 0x1A: 2, 0x1B: 0}
 WORDS = {0x11: "sharable variable", 0x12: "linear variable", 0x13: "sharable function", 0x14: "sharable application", 0x15: "linear function",
-         0x16: "linear application", 0x17: "pair", 0x18: "projection", 0x19: "fixed point", 0x1A: "constant"}
+         0x16: "linear application", 0x17: "pair", 0x18: "projection", 0x19: "fixed point", 0x1A: "constant",
+         0x1B: "projection with one variable"}
 HERE = os.path.dirname(os.path.abspath(__file__))
 
 
@@ -27,7 +28,7 @@ RULES = rules()
 
 def nodes(s):
     """(offset, end, parent) of each node of a sheet that can be read, by a stack of open nodes; and the number of types"""
-    at = types = 0
+    at, types = int(s[0] == 0x31), 0
     while s[at] <= 4:
         at += 1 if s[at] == 1 else 3
         types += 1
@@ -108,6 +109,8 @@ def edges(folder):
         "depth-64": types + inverter * 63 + zero, "depth-65": types + inverter * 64 + zero, "deep-part": types + inverter * 63 + [0x1A, 9, 0],
         "last-part": types + tree(9, [0x1A, 7, 0]), "last-binder": types + tree(9, [0x11, 0]),
         "nodes-2048": types + [0x13, 1] + inverter + tree(9, zero), "nodes-2049": types + inverter * 2 + tree(9, zero),
+        "names-63": [0x31, 1] + ([0x1B] + zero) * 63 + [0x11, 62], "names-deep": [0x31, 1] + ([0x1B] + zero) * 64 + [0x11, 0],
+        "name-of-arrow": [0x31] + types + [0x1B, 0x1A, 5, 1, 0x11, 0], "name-in-first": [1, 0x1B] + zero + [0x11, 0], "opened-twice": [0x31, 0x31, 1],
         "terminals-8192": wide + [0x19, 7] * 32 + [0x11, 0], "terminals-8448": wide + [0x19, 7] * 33 + [0x11, 0],
     }
     for name, s in sheets.items():

@@ -2,16 +2,17 @@
 
 use second::answers::{answer, cover};
 use second::corpus::{self, Kind};
+use second::editions;
 use second::random::Random;
 use std::io::{self, Read, Write};
 use std::process::ExitCode;
 
-const USAGE: &str = "second: sheets to netlists, written from document 01 alone
+const USAGE: &str = "second: sheets to netlists, written from documents 01 and 02 alone
 
 usage:
   second listing < sheet            both netlists in words, or the refusal
   second hex < text                 hex bytes to raw bytes; # starts a comment
-  second corpus SEED COUNT DIR      write generated sheets DIR/00000.sheet ..
+  second corpus SEED COUNT DIR      write generated sheets of both editions DIR/00000.sheet ..
   second pack KIND SEED COUNT LIMIT write a packed corpus in at most LIMIT bytes
   second answers KIND < packed      one line of numbers for each case
   second cover KIND < packed        what becomes of the cases
@@ -91,7 +92,10 @@ fn corpus(seed: &str, count: &str, folder: &str) -> Result<(), String> {
     let count: usize = number(count)?;
     std::fs::create_dir_all(folder).map_err(said)?;
     for index in 0..count {
-        let sheet = corpus::any(&mut random, index);
+        let sheet = match index % 3 {
+            2 => editions::any(&mut random, index / 3),
+            _ => corpus::any(&mut random, index),
+        };
         let path = std::path::Path::new(folder).join(format!("{index:05}.sheet"));
         std::fs::write(path, sheet).map_err(said)?;
     }

@@ -56,12 +56,11 @@ pub fn netlist(sheet: &[u8], lean_wanted: bool) -> Result<Netlist, Refusal> {
 /// The bytes of the netlist asked for, with `room` output bytes and `memory` working numbers lent.
 pub fn wished(sheet: &[u8], wish: Wish, room: usize, memory: usize) -> Result<Vec<u8>, Refusal> {
     need(memory >= MEMORY, 1, 0)?;
-    let accepted = accepted(sheet)?;
-    let lean = lean(&accepted.full);
+    let Accepted { sheet, root, full } = accepted(sheet)?;
     if wish.card {
-        profile(&accepted.sheet, accepted.root, &lean)?;
+        profile(&sheet, root, &lean(&full))?;
     }
-    let netlist = if wish.lean { lean } else { accepted.full };
+    let netlist = if wish.lean { lean(&full) } else { full };
     let needed = written_length(&netlist, wish.plain);
     need(needed <= room, 17, needed)?;
     Ok(written(&netlist, wish.plain))
