@@ -13,12 +13,11 @@ use Rattle.laws.proofs.Tests.{by-eqb, is-false}
 use Rattle.laws.proofs.Regions.{sets-outside, sets-before, sets-read, sets-drop, region-at}
 use Rattle.calculus.specs.Answer.{Answer, good, refused, _>>=_, numbered, need}
 use Rattle.calculus.specs.Terms.{partAt}
-use Rattle.calculus.specs.Net.{Terminal, inp, out, Interface, Element, point, part, Wire, Net, partSide}
+use Rattle.calculus.specs.Net.{Terminal, inp, out, Interface, Element, point, part, Wire, Net, partSide, Item, element, wire, pin}
 use Rattle.calculus.specs.Inputs.{tally, ins, madeAt, targets, isOut}
 use Rattle.circuit_theorems.specs.Formed.{Rising}
 use Rattle.circuit_theorems.proofs.Terminals.{out-high, made-high}
 use Rattle.circuit_theorems.proofs.Drivers.{made-append, targets-append}
-use Rattle.calculus.specs.Net.{Item, element, wire, pin}
 use Rattle.calculus.specs.NetRead.{item}
 use Rattle.foreign_theorems.specs.Foreign.{Reading, firstOf, pastOf, starts, isIn, moreElement, moreWire, morePin, judge}
 use Rattle.foreign_theorems.proofs.Sound.{Read, numbered-rising}

@@ -8,8 +8,7 @@ use lib.ListN.{length, take}
 use Rattle.calculus.specs.Answer.{Answer, good, refused, refuse, _>>=_}
 use Rattle.calculus.specs.Net.{Item}
 use Rattle.calculus.specs.NetRead.{Front, item, ended, broken, itemAt, itemSize}
-use Rattle.foreign_theorems.specs.Foreign.{Reading, begin, judge, onFront, readOn}
-use Rattle.foreign_theorems.specs.Foreign.{Bytes}
+use Rattle.foreign_theorems.specs.Foreign.{Reading, begin, judge, onFront, readOn, Bytes}
 use Rattle.foreign_theorems.proofs.Standing.{Stood, item-stood, ended-stood}
 use Rattle.circuit_theorems.proofs.NetRead.{item-some, ends-here}
 use Rattle.foreign_theorems.proofs.Sound.{Read, read-more, read-none, more-taken}

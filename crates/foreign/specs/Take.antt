@@ -5,8 +5,7 @@ use mathlib.Core.List.{List}
 use lib.Dec.{leb, eqb}
 use lib.Seq.{sets}
 use Rattle.calculus.specs.Terms.{partAt}
-use Rattle.calculus.specs.Net.{point, part}
-use Rattle.calculus.specs.Net.{element, wire, pin}
+use Rattle.calculus.specs.Net.{point, part, element, wire, pin}
 use Rattle.calculus.specs.NetRead.{Front, item, ended, broken}
 use Rattle.foreign_theorems.specs.Foreign.{starts}
 use Rattle.foreign.specs.Table.{cellsOf, cellAt, driven}

@@ -2,10 +2,9 @@
 use native.Mathlib.Omega.{arith}
 use Rattle.net_reader.proofs.Room.{bytes-of, front-room}
 use Prim.Native.Nat.{_+_}
-use mathlib.Core.Path.{_≡_}
+use mathlib.Core.Path.{_≡_, ap, _∙_}
 use Rattle.calculus.specs.NetRead.{itemAt}
 use Rattle.foreign.proofs.WalkLaws.{one-on, one-off}
-use mathlib.Core.Path.{ap, _∙_}
 use Rattle.net_reader.specs.Said.{saidRecord, frontSize}
 use borrow.Author.Needs.{needs}
 use Rattle.foreign.proofs.one.Statement.{statement}
