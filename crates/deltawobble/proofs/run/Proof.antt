@@ -6,19 +6,15 @@ use borrow.Author.Needs.{needs}
 use Rattle.deltawobble.proofs.run.Statement.{statement}
 use Rattle.deltawobble.proofs.run.Tie as tie
 
--- src/lib.rt:28:11
 make-requires : tie.Need-make-requires
 make-requires c κs = search needs
 
--- src/lib.rt:29:23
 enum-known-refusal : tie.Need-enum-known-refusal
 enum-known-refusal c = search needs
 
--- src/lib.rt:30:19
 enum-known-counts : tie.Need-enum-known-counts
 enum-known-counts c = search needs
 
--- src/lib.rt:30:30
 write-requires : tie.Need-write-requires
 write-requires c κs =
     let v = c .before .before .before in
@@ -26,11 +22,9 @@ write-requires c κs =
     let a = m .before .before .before .before .before .args in
     net-stands (m .make .result) (a .sheet .now) (a .work .now) _ (m .make .ensures) _ (v .counts .given .1)
 
--- src/lib.rt:24:1
 same-length : tie.Need-same-length
 same-length c = search needs
 
--- src/lib.rt:24:1
 returns : tie.Need-returns
 returns c =
     let m = c .before .before .before .before .before in
@@ -39,15 +33,12 @@ returns c =
       m .make .ensures .keeps,
     )
 
--- src/lib.rt:24:1
 same-length-2 : tie.Need-same-length-2
 same-length-2 c = search needs
 
--- src/lib.rt:24:1
 same-length-3 : tie.Need-same-length-3
 same-length-3 c = search needs
 
--- src/lib.rt:24:1
 returns-2 : tie.Need-returns-2
 returns-2 c =
     let w = c .before .before .before .before in

@@ -6,23 +6,18 @@ use borrow.Author.Needs.{needs}
 use Rattle.deltawobble.proofs.translate.Statement.{statement}
 use Rattle.deltawobble.proofs.translate.Tie as tie
 
--- src/lib.rt:39:9
 run-requires : tie.Need-run-requires
 run-requires c κs = search needs
 
--- src/lib.rt:40:5
 clear-requires : tie.Need-clear-requires
 clear-requires c κs = search needs
 
--- src/lib.rt:36:1
 same-length : tie.Need-same-length
 same-length c = search needs
 
--- src/lib.rt:36:1
 same-length-2 : tie.Need-same-length-2
 same-length-2 c = search needs
 
--- src/lib.rt:36:1
 returns : tie.Need-returns
 returns c =
     let k = c .before .before in

@@ -10,26 +10,21 @@ use borrow.Author.Needs.{needs}
 use Rattle.lines.proofs.refused_line.Statement.{statement}
 use Rattle.lines.proofs.refused_line.Tie as tie
 
--- src/lib.rt:133:36
 slice-aggregate-put-word : tie.Need-slice-aggregate-put-word
 slice-aggregate-put-word c = search needs
 
--- src/lib.rt:133:9
 put-word-requires : tie.Need-put-word-requires
 put-word-requires c κs = search needs
 
--- src/lib.rt:134:9
 put-field-requires : tie.Need-put-field-requires
 put-field-requires c κs = search needs
 
--- src/lib.rt:135:9
 put-field-requires-2 : tie.Need-put-field-requires-2
 put-field-requires-2 c κs =
     let word = c .before .before .before .before .before .before .before .put-word in
     let number = c .before .before .before .put-field in
     omega (arith, word .kept .0, number .kept .0, word .ensures .offset, number .ensures .offset, figure-few (c .before .before .before .before .before .before .before .before .before .before .before .args .number))
 
--- src/lib.rt:136:5
 slice-write-text : tie.Need-slice-write-text
 slice-write-text c =
     let a = c .before .before .before .before .before .before .before .before .before .before .before .before .before .before .args in
@@ -38,7 +33,6 @@ slice-write-text c =
     let place = c .before .before .put-field2 in
     omega (arith, word .kept .0, number .kept .0, place .kept .0, word .ensures .offset, number .ensures .offset, place .ensures .offset, figure-few (a .number), figure-few (a .place))
 
--- src/lib.rt:137:5
 add-result : tie.Need-add-result
 add-result c =
     let a = c .before .before .before .before .before .before .before .before .before .before .before .before .before .before .args in
@@ -47,13 +41,11 @@ add-result c =
     let place = c .before .before .put-field2 in
     record { fits = omega (arith, word .ensures .offset, number .ensures .offset, place .ensures .offset, figure-few (a .number), figure-few (a .place)) }
 
--- src/lib.rt:129:1
 same-length : tie.Need-same-length
 same-length c =
     let place = c .before .before .put-field2 in
     omega (arith, length-set (place .last .0) (place .result) 10, place .kept .0, c .before .before .before .before .before .before .put-field .kept .0, c .before .before .before .before .before .before .before .before .before .before .put-word .kept .0)
 
--- src/lib.rt:129:1
 returns : tie.Need-returns
 returns c =
     let a = c .before .before .before .before .before .before .before .before .before .before .before .before .before .before .args in

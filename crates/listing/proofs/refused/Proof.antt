@@ -7,37 +7,30 @@ use borrow.Author.Needs.{needs}
 use Rattle.listing.proofs.refused.Statement.{statement}
 use Rattle.listing.proofs.refused.Tie as tie
 
--- src/main.rt:44:20
 buffer-requires : tie.Need-buffer-requires
 buffer-requires c κs = search needs
 
--- src/main.rt:45:33
 slice-aggregate-refused-line : tie.Need-slice-aggregate-refused-line
 slice-aggregate-refused-line c = search needs
 
--- src/main.rt:45:9
 refused-line-requires : tie.Need-refused-line-requires
 refused-line-requires c κs = search needs
 
--- src/main.rt:46:22
 array-share-prefix-text : tie.Need-array-share-prefix-text
 array-share-prefix-text c =
     let line = c .before .refused-line in
     let text = c .before .before .before in
     omega (arith, line .ensures .offset, line .kept .0, text .buffer .ensures, refused-short (text .before .args .number) (text .before .args .place))
 
--- src/main.rt:46:22
 slice-aggregate-write-all : tie.Need-slice-aggregate-write-all
 slice-aggregate-write-all c =
     let line = c .before .before .refused-line in
     let text = c .before .before .before .before in
     sym (length-take-le _ _ (omega (arith, line .ensures .offset, line .kept .0, text .buffer .ensures, refused-short (text .before .args .number) (text .before .args .place))))
 
--- src/main.rt:46:5
 write-all-requires : tie.Need-write-all-requires
 write-all-requires c κs = search needs
 
--- src/main.rt:43:1
 returns : tie.Need-returns
 returns c = search needs
 

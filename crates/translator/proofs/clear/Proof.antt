@@ -5,22 +5,18 @@ use borrow.Author.Needs.{needs}
 use Rattle.translator.proofs.clear.Statement.{statement}
 use Rattle.translator.proofs.clear.Tie as tie
 
--- src/lib.rt:66:9
 clear-requires : tie.Need-clear-requires
 clear-requires c κs = search needs
 
--- src/lib.rt:62:1
 same-length : tie.Need-same-length
 same-length c = search needs
 
--- src/lib.rt:62:1
 returns : tie.Need-returns
 returns c =
     let k = c .before .before in
     let x = k .before .before in
     k .clear .ensures ∙ sym (work-large (x .before .before .args .work .now) (x .if1 .taken))
 
--- src/lib.rt:62:1
 returns-2 : tie.Need-returns-2
 returns-2 c = sym (work-small (c .before .before .args .work .now) (c .if1 .left))
 

@@ -9,23 +9,19 @@ use borrow.Author.Needs.{needs}
 use Rattle.deltawobble.proofs.boundary.deltawobble_stretch.Statement.{statement}
 use Rattle.deltawobble.proofs.boundary.deltawobble_stretch.Tie as tie
 
--- src/boundary.rt:29:9
 stretch-bounds-requires : tie.Need-stretch-bounds-requires
 stretch-bounds-requires c κs = search needs
 
--- src/boundary.rt:30:5
 mul-result : tie.Need-mul-result
 mul-result c =
     let a = c .before .before .args in
     omega (arith, subst (λ (p : Stretch). p .start + p .size ≤ 16384) (sym (c .stretch-bounds .ensures)) (stretch-fits (a .sheet .now) (a .node)))
 
--- src/boundary.rt:30:5
 add-result : tie.Need-add-result
 add-result c =
     let a = c .before .before .args in
     omega (arith, subst (λ (p : Stretch). p .start + p .size ≤ 16384) (sym (c .stretch-bounds .ensures)) (stretch-fits (a .sheet .now) (a .node)))
 
--- src/boundary.rt:25:1
 returns : tie.Need-returns
 returns c = ap packedStretch (c .stretch-bounds .ensures)
 

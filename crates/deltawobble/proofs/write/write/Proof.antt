@@ -6,19 +6,15 @@ use borrow.Author.Needs.{needs}
 use Rattle.deltawobble.proofs.write.write.Statement.{statement}
 use Rattle.deltawobble.proofs.write.write.Tie as tie
 
--- src/write.rt:59:9
 write-lean-requires : tie.Need-write-lean-requires
 write-lean-requires c κs = search needs
 
--- src/write.rt:59:9
 same-length : tie.Need-same-length
 same-length c = search needs
 
--- src/write.rt:59:9
 same-length-2 : tie.Need-same-length-2
 same-length-2 c = search needs
 
--- src/write.rt:59:9
 returns : tie.Need-returns
 returns c =
     let w = c .before .before .before .before in
@@ -26,19 +22,15 @@ returns c =
     let a = x .before .before .before .args in
     (wished-says (a .wish .lean) true (a .out .now) _ (w .write-lean .result) _ (x .if1 .taken) (w .write-lean .ensures .0), w .write-lean .ensures .1)
 
--- src/write.rt:61:5
 write-full-requires : tie.Need-write-full-requires
 write-full-requires c κs = search needs
 
--- src/write.rt:50:1
 same-length-3 : tie.Need-same-length-3
 same-length-3 c = search needs
 
--- src/write.rt:50:1
 same-length-4 : tie.Need-same-length-4
 same-length-4 c = search needs
 
--- src/write.rt:50:1
 returns-2 : tie.Need-returns-2
 returns-2 c =
     let w = c .before .before in

@@ -8,7 +8,6 @@ use borrow.Author.Needs.{needs}
 use Rattle.deltawobble.proofs.write.write_full.Statement.{statement}
 use Rattle.deltawobble.proofs.write.write_full.Tie as tie
 
--- src/write.rt:16:9
 full-length-requires : tie.Need-full-length-requires
 full-length-requires c κs = search needs
 
@@ -21,15 +20,12 @@ returns c =
     let a = x .before .before .before .before .args in
     rw (c .too-short .ensures) (says-short (netIn (a .work .now) (a .elements) (a .wires) (a .pins)) (a .out .now) (x .before .full-length .result) (x .before .full-length .ensures) (x .if1 .taken))
 
--- src/write.rt:20:21
 write-full-requires : tie.Need-write-full-requires
 write-full-requires c κs = search needs
 
--- src/write.rt:12:1
 same-length : tie.Need-same-length
 same-length c = search needs
 
--- src/write.rt:12:1
 returns-2 : tie.Need-returns-2
 returns-2 c =
     let w = c .before .before in

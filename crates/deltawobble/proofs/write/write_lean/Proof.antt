@@ -15,22 +15,18 @@ use borrow.Author.Needs.{needs}
 use Rattle.deltawobble.proofs.write.write_lean.Statement.{statement}
 use Rattle.deltawobble.proofs.write.write_lean.Tie as tie
 
--- src/write.rt:29:5
 roots-requires : tie.Need-roots-requires
 roots-requires c κs = search needs
 
--- src/write.rt:30:9
 lean-length-requires : tie.Need-lean-length-requires
 lean-length-requires c κs = search needs
 
 too-short-requires : tie.Need-too-short-requires
 too-short-requires c κs = search needs
 
--- src/write.rt:32:9
 same-length : tie.Need-same-length
 same-length c = search needs
 
--- src/write.rt:32:9
 returns : tie.Need-returns
 returns c =
     let x = c .before in
@@ -44,7 +40,6 @@ returns c =
       within-keeps _ _ (q .pre .0 .size) (w .within),
     )
 
--- src/write.rt:34:21
 write-lean-requires : tie.Need-write-lean-requires
 write-lean-requires c κs =
     let x = c .before .before in
@@ -59,15 +54,12 @@ write-lean-requires c κs =
       target = subst (λ (n : ℕ). n ≤ length (a .out .now)) (l .lean-length .ensures) (x .if1 .left);
     }
 
--- src/write.rt:24:1
 same-length-2 : tie.Need-same-length-2
 same-length-2 c = search needs
 
--- src/write.rt:24:1
 same-length-3 : tie.Need-same-length-3
 same-length-3 c = search needs
 
--- src/write.rt:24:1
 returns-2 : tie.Need-returns-2
 returns-2 c =
     let k = c .before .before in

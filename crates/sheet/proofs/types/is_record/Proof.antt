@@ -5,48 +5,38 @@ use Rattle.sheet.proofs.RepeatLaws.{record-short, record-whole}
 use Rattle.sheet.proofs.types.is_record.Statement.{statement}
 use Rattle.sheet.proofs.types.is_record.Tie as tie
 
--- src/types.rt:106:14
 mul-at : tie.Need-mul-at
 mul-at c = search needs
 
--- src/types.rt:106:14
 sub-at : tie.Need-sub-at
 sub-at c = search needs
 
--- src/types.rt:107:18
 add-if1 : tie.Need-add-if1
 add-if1 c = search needs
 
--- src/types.rt:108:9
 returns : tie.Need-returns
 returns c =
     let b = c .before in
     record-short (b .args .s .now) (b .args .t) (b .pre .0) (b .args .kind) (b .args .left) (b .args .right) (b .pre .2) (b .pre .3) (c .if1 .taken)
 
--- src/types.rt:110:10
 add-if2 : tie.Need-add-if2
 add-if2 c = search needs
 
--- src/types.rt:110:8
 shared-slice-read-if2 : tie.Need-shared-slice-read-if2
 shared-slice-read-if2 c = search needs
 
--- src/types.rt:111:9
 returns-2 : tie.Need-returns-2
 returns-2 c =
     let e = c .before .before in
     let b = e .before in
     rw (record-whole (b .args .s .now) (b .args .t) (b .pre .0) (b .args .kind) (b .args .left) (b .args .right) (b .pre .2) (b .pre .3) (e .if1 .left), ne-eqb _ _ (c .if2 .taken))
 
--- src/types.rt:113:10
 add-if3 : tie.Need-add-if3
 add-if3 c = search needs
 
--- src/types.rt:113:8
 shared-slice-read-if3 : tie.Need-shared-slice-read-if3
 shared-slice-read-if3 c = search needs
 
--- src/types.rt:114:9
 returns-3 : tie.Need-returns-3
 returns-3 c =
     let d = c .before .before in
@@ -54,11 +44,9 @@ returns-3 c =
     let b = e .before in
     rw (record-whole (b .args .s .now) (b .args .t) (b .pre .0) (b .args .kind) (b .args .left) (b .args .right) (b .pre .2) (b .pre .3) (e .if1 .left), eq-eqb _ _ (d .if2 .left), ne-eqb _ _ (c .if3 .taken))
 
--- src/types.rt:116:5
 shared-slice-read-result : tie.Need-shared-slice-read-result
 shared-slice-read-result c = search needs
 
--- src/types.rt:102:1
 returns-4 : tie.Need-returns-4
 returns-4 c =
     let f = c .before in

@@ -4,49 +4,38 @@ use Rattle.sheet.proofs.RepeatLaws.{bit-repeats}
 use Rattle.sheet.proofs.types.repeats.Statement.{statement}
 use Rattle.sheet.proofs.types.repeats.Tie as tie
 
--- src/types.rt:141:22
 enum-told : tie.Need-enum-told
 enum-told c = search needs
 
--- src/types.rt:142:23
 enum-known-f : tie.Need-enum-known-f
 enum-known-f c = search needs
 
--- src/types.rt:142:32
 stands-requires : tie.Need-stands-requires
 stands-requires c κs = search needs
 
--- src/types.rt:143:21
 enum-known-f-2 : tie.Need-enum-known-f-2
 enum-known-f-2 c = search needs
 
--- src/types.rt:143:30
 stands-requires-2 : tie.Need-stands-requires-2
 stands-requires-2 c κs = search needs
 
--- src/types.rt:144:22
 enum-known-f-3 : tie.Need-enum-known-f-3
 enum-known-f-3 c = search needs
 
--- src/types.rt:144:31
 stands-requires-3 : tie.Need-stands-requires-3
 stands-requires-3 c κs = search needs
 
--- src/types.rt:136:1
 returns : tie.Need-returns
 returns c =
     let a = c .before .before .before .args in
     rw (c .enum-told .given .1) (bit-repeats (a .s .now) (a .count))
 
--- src/types.rt:136:1
 returns-2 : tie.Need-returns-2
 returns-2 c = rw (c .before .before .f .given .1) (c .stands .ensures)
 
--- src/types.rt:136:1
 returns-3 : tie.Need-returns-3
 returns-3 c = rw (c .before .before .f2 .given .1) (c .stands2 .ensures)
 
--- src/types.rt:136:1
 returns-4 : tie.Need-returns-4
 returns-4 c = rw (c .before .before .f3 .given .1) (c .stands3 .ensures)
 

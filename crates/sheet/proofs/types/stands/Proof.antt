@@ -17,36 +17,30 @@ Inv-loop s count kind left right t₀ t = (0 < t) × (repeated (tableIn s t) (re
 abbrev μ-loop : tie.MeasureT-loop
 μ-loop s count kind left right t₀ t = count - t
 
--- src/types.rt:126:5
 loop-holds : tie.Need-loop-holds Inv-loop μ-loop
 loop-holds c =
     let b = c .before in
     (omega arith, first-apart (b .args .s .now) (b .args .left) (b .args .right) (b .args .kind) (b .pre .1) (b .pre .2))
 
--- src/types.rt:127:12
 is-record-requires : tie.Need-is-record-requires Inv-loop μ-loop
 is-record-requires c κs =
     let b = c .before .before .before in
     (c .before .loop .inv .0, omega (arith, c .loop-test .taken, b .pre .0), b .pre .1, b .pre .2)
 
--- src/types.rt:128:13
 returns : tie.Need-returns Inv-loop μ-loop
 returns c =
     let i = c .before .before in
     let a = i .before .before .before .args in
     sym (repeated-found (a .s .now) (a .count) (i .before .loop .t) (recIn (a .s .now) (i .before .loop .t)) (recOf (a .kind) (a .left) (a .right)) (i .loop-test .taken) refl (sym (c .before .is-record .ensures) ∙ c .if1 .taken))
 
--- src/types.rt:130:13
 add-t : tie.Need-add-t Inv-loop μ-loop
 add-t c =
     let i = c .before .before in
     record { fits = omega (arith, i .loop-test .taken, i .before .before .before .pre .0) }
 
--- src/types.rt:126:5
 loop-less : tie.Need-loop-less Inv-loop μ-loop
 loop-less c = omega arith
 
--- src/types.rt:126:5
 loop-again : tie.Need-loop-again Inv-loop μ-loop
 loop-again c =
     let i = c .before .before in
@@ -54,7 +48,6 @@ loop-again c =
     let a = i .before .before .before .args in
     (omega arith, repeated-more (a .s .now) (l .t) (recIn (a .s .now) (l .t)) (recOf (a .kind) (a .left) (a .right)) (l .inv .1) refl (sym (c .before .is-record .ensures) ∙ c .if1 .left))
 
--- src/types.rt:121:1
 returns-2 : tie.Need-returns-2 Inv-loop μ-loop
 returns-2 c =
     let l = c .before .loop in
