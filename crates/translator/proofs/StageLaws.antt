@@ -16,7 +16,7 @@ use Rattle.sheet_theorems.proofs.Laying.{opened, laid}
 use Rattle.typing.specs.declared.Refusal.{Refusal as Why}
 use Rattle.typing.specs.Verdicts.{saidWhy}
 use Rattle.records.specs.Editions.{editionBy}
-use Rattle.typing.specs.Answers.{Read, typeOf, checkOf}
+use Rattle.typing.specs.Answers.{TermAt, typeOf, checkOf}
 use Rattle.wiring.specs.declared.Counts.{Counts}
 use Rattle.wiring.specs.Whole.{Stands}
 use Rattle.translator.specs.Stages.{Opened}
@@ -95,14 +95,14 @@ module _ (s work : List ℕ) (enough : 32768 ≤ length work) where
     full-few h = rw (read, walked, le-leb (make (σ .table) (σ .term) [] 0 .next) 8192 h)
 
 -- what the walk asks for
-pub check-reads : {b sizes : List ℕ} {types : ℕ} {second : Bool} {start nodes : ℕ} → Opened b sizes types second start nodes → Read b types (editionBy second) start
+pub check-reads : {b sizes : List ℕ} {types : ℕ} {second : Bool} {start nodes : ℕ} → Opened b sizes types second start nodes → TermAt b types (editionBy second) start
 check-reads q =
     let t = q .read .told in
     let s = q .read .whole in
     record {
       sheet = t .sheet;
       short = rw (q .read .behind) (laid s (t .sheet) (t .is) .short);
-      good = rw (q .edition, q .read .behind) (opened s (t .sheet) (t .is) .records);
+      read = rw (q .edition, q .read .behind) (opened s (t .sheet) (t .is) .records);
       count = q .count ∙ t .types-are;
       start = t .start-is;
     }
