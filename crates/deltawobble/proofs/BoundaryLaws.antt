@@ -1,7 +1,6 @@
 -- What a call says, and a node's stretch, fit the parts of one number. Assumes nothing.
 use Prim.Native.Nat.{ℕ, _+_, _≤_}
 use mathlib.Core.Path.{_≡_, refl, sym, ap, ap₂, _∙_}
-use mathlib.Core.Bool.{Bool}
 use mathlib.Core.List.{List}
 use native.Mathlib.Omega.{arith}
 use native.Mathlib.Decide.{decLt}
@@ -10,7 +9,7 @@ use Rattle.calculus.specs.Answer.{Refusal, Answer, good, refused}
 use Rattle.calculus.specs.Terms.{nodes}
 use Rattle.calculus.specs.Read.{Sheet, readSheet}
 use Rattle.calculus.specs.Stretch.{stretchOf}
-use Rattle.calculus.specs.Translate.{Call, call}
+use Rattle.calculus.specs.Translate.{Wish, Call, call}
 use Rattle.sheet_theorems.proofs.Laying.{opened}
 use Rattle.sheet_theorems.proofs.StretchHolds.{stretch-holds, stretch-past, stretch-refused}
 use Rattle.deltawobble.specs.Said.{saidAnswer, called}
@@ -24,12 +23,12 @@ use Rattle.deltawobble.proofs.Places.{CallPlace, CallCount, call-places
 
 -- ---- a call
 
-module _ (b : Bool) (s out work : List ℕ) (r : code.Answer) (o w : List ℕ) (e : called r o w ≡ call b s out work) where
+module _ (b : Wish) (s out work : List ℕ) (r : code.Answer) (o w : List ℕ) (e : called r o w ≡ call b s out work) where
   says : saidAnswer r ≡ call b s out work .said
   says = ap (λ (c : Call). c .said) e
 
   -- each part of a refusal fits its bits
-  pub refusal-fits : (why : Why) → r ≡ answer.Refused why → (why .number ≤ 17) × (why .place ≤ 41344) × (why .wanted ≤ 256) × (why .found ≤ 256)
+  pub refusal-fits : (why : Why) → r ≡ answer.Refused why → (why .number ≤ 17) × (why .place ≤ 57728) × (why .wanted ≤ 256) × (why .found ≤ 256)
   refusal-fits why h =
       let e : call b s out work .said ≡ refused (saidWhy why) = sym says ∙ ap saidAnswer h in
       let p = of-refused _ (saidWhy why) (call-places b s out work) e in
@@ -63,7 +62,7 @@ same-packed {s} {s′} (refusal {why = i} h) (refusal {why = j} k) e =
     let p : i .place ≡ j .place = omega (arith, h .to, h .few, k .to, k .few) in
     ap refused (same-refusal i j n p w f)
 
-pub packed-tells : (b b′ : Bool) (s s′ out out′ work work′ : List ℕ) → packed (call b s out work .said) ≡ packed (call b′ s′ out′ work′ .said) → call b s out work .said ≡ call b′ s′ out′ work′ .said
+pub packed-tells : (b b′ : Wish) (s s′ out out′ work work′ : List ℕ) → packed (call b s out work .said) ≡ packed (call b′ s′ out′ work′ .said) → call b s out work .said ≡ call b′ s′ out′ work′ .said
 packed-tells b b′ s s′ out out′ work work′ e = same-packed (call-places b s out work) (call-places b′ s′ out′ work′) e
 
 -- ---- a stretch

@@ -17,7 +17,9 @@ use Rattle.calculus.specs.Terms.{Edition, Term, var, lvar, fun, app, lfun, lapp
 use Rattle.calculus.specs.Read.{Sheet, readSheet}
 use Rattle.calculus.specs.Walk.{Binder, shared, linear, Stack, product, sharableArrow, linearArrow, Found, under, useShared, useLinear, topUsed, walk}
 use Rattle.calculus.specs.Net.{Net, make, netBytes}
-use Rattle.calculus.specs.Translate.{full, asked, answer, saidOf, call}
+use Rattle.calculus.specs.Translate.{full, Wish, askedBytes, answer, saidOf, call}
+use Rattle.calculus.specs.Makers.{makersOf, leanMakers}
+use Rattle.circuit_theorems.proofs.NodeBytes.{length-enough-nodes, lean-shorter-nodes}
 use Rattle.sheet_theorems.specs.Clash.{Clash}
 use Rattle.sheet_theorems.proofs.Laying.{laid}
 use Rattle.sheet_theorems.proofs.Judging.{Judged, value, refusal, Any, of-bind, of-require, weaker, of-refused}
@@ -176,29 +178,31 @@ full-places s =
 pub record CallPlace (s : List ℕ) (room : ℕ) (why : Refusal) : Type 0 where
   pub from : 1 ≤ why .number
   pub to : why .number ≤ 17
-  pub few : why .place ≤ 41344
+  pub few : why .place ≤ 57728
   -- the length needed
   pub more : why .number ≡ 17 → room < why .place
   pub names : Names s why
 
 -- what is written
 abbrev pub CallBytes : ℕ → List ℕ → Type 0
-CallBytes room bytes = (length bytes ≤ 41344) × (length bytes ≤ room)
+CallBytes room bytes = (length bytes ≤ 57728) × (length bytes ≤ room)
 
 abbrev pub CallCount : ℕ → ℕ → Type 0
-CallCount room n = (n ≤ 41344) × (n ≤ room)
+CallCount room n = (n ≤ 57728) × (n ≤ room)
 
-asked-enough : (b : Bool) (s : List ℕ) (m : Net) → full s ≡ good m → length (netBytes (asked b m)) ≤ 41344
-asked-enough false s m e = length-enough s m e
-asked-enough true s m e = omega (arith, length-enough s m e, lean-shorter s m e)
+asked-enough : (lean plain : Bool) (s : List ℕ) (m : Net) (ks : List ℕ) → full s ≡ good m → length (askedBytes (record { lean = lean; plain = plain }) m ks) ≤ 57728
+asked-enough false true s m ks e = omega (arith, length-enough s m e)
+asked-enough true true s m ks e = omega (arith, length-enough s m e, lean-shorter s m e)
+asked-enough false false s m ks e = length-enough-nodes s m e ks
+asked-enough true false s m ks e = omega (arith, length-enough-nodes s m e ks, lean-shorter-nodes s m e (leanMakers m ks) ks)
 
-pub answer-places : (memory : ℕ) (b : Bool) (s : List ℕ) (room : ℕ) → Judged (CallPlace s room) (CallBytes room) (answer memory b s room)
+pub answer-places : (memory : ℕ) (b : Wish) (s : List ℕ) (room : ℕ) → Judged (CallPlace s room) (CallBytes room) (answer memory b s room)
 unfolding answer
 answer-places memory b s room =
     of-require (leb 32768 memory) (numbered 1 0) _ (λ _. record { from = omega arith; to = omega arith; few = omega arith; more = λ e. absurd (omega arith); names = no-names s (numbered 1 0) (λ e. absurd (omega arith)) (refl, refl) }) λ _.
     of-bind (full s) _ (weaker (λ why o. record { from = omega (arith, o .from); to = omega (arith, o .to); few = omega (arith, o .few); more = λ e. absurd (omega (arith, o .to)); names = o .names }) (full-places s)) λ m e _.
-    let n = length (netBytes (asked b m)) in
-    let enough : n ≤ 41344 = asked-enough b s m e in
+    let n = length (askedBytes b m (makersOf s)) in
+    let enough : n ≤ 57728 = asked-enough (b .lean) (b .plain) s m (makersOf s) e in
     of-require (leb n room) (numbered 17 n) _ (λ f. record { from = omega arith; to = omega arith; few = enough; more = λ _. leb-false n room f; names = no-names s (numbered 17 n) (λ e. absurd (omega arith)) (refl, refl) }) λ w.
     value (enough, leb→le n room w)
 
@@ -207,7 +211,7 @@ said-places s room (value h) = value h
 said-places s room (refusal h) = refusal h
 
 -- what a call says: the number of bytes written, within the output, or a refusal from 1 to 17 with its place
-pub call-places : (b : Bool) (s out work : List ℕ) → Judged (CallPlace s (length out)) (CallCount (length out)) (call b s out work .said)
+pub call-places : (b : Wish) (s out work : List ℕ) → Judged (CallPlace s (length out)) (CallCount (length out)) (call b s out work .said)
 unfolding call
 call-places b s out work = said-places s (length out) (answer-places (length work) b s (length out))
 

@@ -8,9 +8,11 @@ use lib.ListN.{length, drop, length-drop}
 use lib.Seq.{sets, ext-getD, getD-drop}
 use borrow.Author.Tests.{lt-leb, le-leb}
 use Rattle.calculus.specs.Answer.{Answer, good, refuse}
-use Rattle.calculus.specs.Net.{Net, netBytes}
-use Rattle.calculus.specs.Translate.{saidOf, outOf, asked}
-use Rattle.laws.proofs.Regions.{sets-front}
+use Rattle.calculus.specs.Net.{Net}
+use Rattle.calculus.specs.Makers.{written}
+use Rattle.calculus.specs.Translate.{Wish, saidOf, outOf, asked, askedMakers, askedBytes}
+use Rattle.laws.proofs.Regions.{sets-front, region-ext}
+use Rattle.memory.specs.Map.{makersAt, region}
 use Rattle.lean.specs.Table.{Within}
 use Rattle.translator.specs.Made.{Keeps}
 use Rattle.translator.proofs.Keeping.{later-keeps}
@@ -18,29 +20,34 @@ use Rattle.deltawobble.specs.Said.{tooShort, netAnswer, Says}
 use Rattle.deltawobble.specs.declared.Answer as code
 use Rattle.deltawobble.specs.declared.Answer.the-variants as answer
 
-module _ (m : Net) (out : List ℕ) where
-  net-short : length out < length (netBytes m) → netAnswer m (length out) ≡ refuse 17 (length (netBytes m))
+module _ (bytes out : List ℕ) where
+  net-short : length out < length bytes → netAnswer bytes (length out) ≡ refuse 17 (length bytes)
   unfolding netAnswer
-  net-short h = rw (lt-leb (length (netBytes m)) (length out) h)
+  net-short h = rw (lt-leb (length bytes) (length out) h)
 
-  net-fits : length (netBytes m) ≤ length out → netAnswer m (length out) ≡ good (netBytes m)
+  net-fits : length bytes ≤ length out → netAnswer bytes (length out) ≡ good bytes
   unfolding netAnswer
-  net-fits h = rw (le-leb (length (netBytes m)) (length out) h)
+  net-fits h = rw (le-leb (length bytes) (length out) h)
 
-  pub says-short : (n : ℕ) → n ≡ length (netBytes m) → length out < n → Says (tooShort n) out out (netAnswer m (length out))
+  pub says-short : (n : ℕ) → n ≡ length bytes → length out < n → Says (tooShort n) out out (netAnswer bytes (length out))
   says-short n e h =
       let f = net-short (subst (λ (x : ℕ). length out < x) e h) in
       record { said = ap (λ (x : ℕ). refuse 17 x) e ∙ sym (ap saidOf f); wrote = sym (ap (λ (a : Answer (List ℕ)). outOf a out) f) }
 
-  pub says-fits : (n : ℕ) (after : List ℕ) → length (netBytes m) ≤ length out → n ≡ length (netBytes m) → after ≡ sets out 0 (netBytes m)
-      → Says (answer.Written n) out after (netAnswer m (length out))
+  pub says-fits : (n : ℕ) (after : List ℕ) → length bytes ≤ length out → n ≡ length bytes → after ≡ sets out 0 bytes
+      → Says (answer.Written n) out after (netAnswer bytes (length out))
   says-fits n after h e w =
       let f = net-fits h in
-      record { said = ap (λ (x : ℕ). good x) e ∙ sym (ap saidOf f); wrote = w ∙ sets-front (netBytes m) out h ∙ sym (ap (λ (a : Answer (List ℕ)). outOf a out) f) }
+      record { said = ap (λ (x : ℕ). good x) e ∙ sym (ap saidOf f); wrote = w ∙ sets-front bytes out h ∙ sym (ap (λ (a : Answer (List ℕ)). outOf a out) f) }
 
 -- the netlist that is wished
-pub wished-says : (b b′ : Bool) (out after : List ℕ) (r : code.Answer) (m : Net) → b ≡ b′ → Says r out after (netAnswer (asked b′ m) (length out)) → Says r out after (netAnswer (asked b m) (length out))
-wished-says b b′ out after r m e h = rw e h
+pub wished-says : (w : Wish) (lean : Bool) (out after : List ℕ) (r : code.Answer) (m : Net) (ks : List ℕ) → w .lean ≡ lean → Says r out after (netAnswer (written (w .plain) (asked lean m) (askedMakers lean m ks)) (length out))
+    → Says r out after (netAnswer (askedBytes w m ks) (length out))
+wished-says w lean out after r m ks e h = rw e h
+
+-- the makers stand above the table of roots
+pub within-makers : (w w′ : List ℕ) (n : ℕ) → n ≤ 5120 → 32768 ≤ length w → Within w w′ → region w′ makersAt n ≡ region w makersAt n
+within-makers w w′ n l z h = region-ext makersAt n w w′ (omega arith) (omega (arith, h .size)) (λ j a b. h .above j (omega arith))
 
 -- a change within the table of roots keeps what lies behind it
 within-later : (w w′ : List ℕ) → Within w w′ → drop 32768 w′ ≡ drop 32768 w

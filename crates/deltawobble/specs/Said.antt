@@ -6,8 +6,8 @@ use lib.Dec.{leb}
 use lib.ListN.{length}
 use Rattle.calculus.specs.Answer.{Answer, good, refused, _>>=_, need}
 use Rattle.typing.specs.Verdicts.{saidWhy}
-use Rattle.calculus.specs.Net.{Net, netBytes}
-use Rattle.calculus.specs.Translate.{saidOf, outOf, Call}
+use Rattle.calculus.specs.Translate.{Wish, saidOf, outOf, Call}
+use Rattle.deltawobble.specs.declared.Wish as wishes
 use Rattle.deltawobble.specs.declared.Answer as code
 use Rattle.deltawobble.specs.declared.Answer.the-variants as answer
 
@@ -20,11 +20,15 @@ saidAnswer (answer.Refused why) = refused (saidWhy why)
 abbrev pub tooShort : ℕ → code.Answer
 tooShort n = answer.Refused (record { number = 17; place = n; wanted = 0; found = 0 })
 
+-- a caller's wish
+abbrev pub saidWish : wishes.Wish → Wish
+saidWish w = record { lean = w .lean; plain = w .plain }
+
 -- a netlist's bytes, or 17
-unfoldable pub netAnswer : Net → ℕ → Answer (List ℕ)
-netAnswer m room = do
-  _ ← need (leb (length (netBytes m)) room) 17 (length (netBytes m))
-  good (netBytes m)
+unfoldable pub netAnswer : List ℕ → ℕ → Answer (List ℕ)
+netAnswer bytes room = do
+  _ ← need (leb (length bytes) room) 17 (length bytes)
+  good bytes
 
 -- an answer and what it leaves of the output are those of `a`
 pub record Says (r : code.Answer) (before after : List ℕ) (a : Answer (List ℕ)) : Type 0 where

@@ -14,10 +14,11 @@ pub extern "C" fn deltawobble_translate(
     out: &mut [u8],
     work: &mut [u16],
     lean: bool,
+    plain: bool,
 ) -> u64
-    ensures { λ r. ⌜ Packs r (now (out .exit)) (now (work .exit)) (call lean (now (sheet .entry)) (now (out .entry)) (now (work .entry))) ⌝ }
+    ensures { λ r. ⌜ Packs r (now (out .exit)) (now (work .exit)) (call (record { lean = lean; plain = plain }) (now (sheet .entry)) (now (out .entry)) (now (work .entry))) ⌝ }
 {
-    match crate::translate(sheet, out, work, Wish { lean: lean }) {
+    match crate::translate(sheet, out, work, Wish { lean, plain }) {
         Answer::Written(n) => n as u64,
         Answer::Refused(r) => {
             let first = r.number as u64 * 4294967296 + r.place as u64;

@@ -144,7 +144,7 @@ fn tally(net: &[u8]) -> Counts
 
 // The length of the lean netlist, which is then in the output.
 fn lean(s: &[u8], out: &mut [u8], work: &mut [u16]) -> usize {
-    match deltawobble::translate(s, out, work, Wish { lean: true }) {
+    match deltawobble::translate(s, out, work, Wish { lean: true, plain: true }) {
         Answer::Written(n) => n,
         Answer::Refused(_) => 0,
     }

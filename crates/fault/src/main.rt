@@ -22,7 +22,7 @@ use deltawobble::Answer;
 use deltawobble::Wish;
 
 fn answer(s: &[u8], out: &mut [u8], work: &mut [u16]) {
-    match deltawobble::translate(s, out, work, Wish { lean: false }) {
+    match deltawobble::translate(s, out, work, Wish { lean: false, plain: true }) {
         Answer::Written(length) => {
             accepted::show(s, out, work, length);
         }

@@ -30,14 +30,25 @@ fn refused(number: u8, place: usize) -> Made
 }
 
 // The terminals are counted before anything is made: 16.
-fn counted(records: &[u8], sizes: &[u8], work: &mut [u16], nodes: usize, start: usize) -> Made
+fn counted(
+    records: &[u8],
+    sizes: &[u8],
+    work: &mut [u16],
+    nodes: usize,
+    start: usize,
+    plain: bool,
+) -> Made
     requires { ⌜ (32768 ≤ length (now work)) × (Typed (now records) (now sizes) start nodes) ⌝ }
-    ensures { λ r. ⌜ ((q : Typed (now (records .entry)) (now (sizes .entry)) start nodes) → Makes r (q .read .whole) (now (work .entry)) (now (work .exit))) ⌝ }
+    ensures { λ r. ⌜ ((q : Typed (now (records .entry)) (now (sizes .entry)) start nodes) → Makes plain r (q .read .whole) (now (work .entry)) (now (work .exit))) ⌝ }
 {
     if 8192 < wiring::count(records, sizes, start, nodes) {
         return refused(16, 0);
     }
     let counts = wiring::make_net(records, sizes, work, start);
+    if plain {
+        return Made::Net(counts);
+    }
+    makers::name(records, sizes, work, start, nodes);
     Made::Net(counts)
 }
 
@@ -50,19 +61,21 @@ fn checked(
     nodes: usize,
     start: usize,
     second: bool,
+    plain: bool,
 ) -> Made
     requires { ⌜ (32768 ≤ length (now work)) × (Opened (now records) (now sizes) types second start nodes) ⌝ }
-    ensures { λ r. ⌜ ((q : Opened (now (records .entry)) (now (sizes .entry)) types second start nodes) → Makes r (q .read .whole) (now (work .entry)) (now (work .exit))) ⌝ }
+    ensures { λ r. ⌜ ((q : Opened (now (records .entry)) (now (sizes .entry)) types second start nodes) → Makes plain r (q .read .whole) (now (work .entry)) (now (work .exit))) ⌝ }
 {
     match typing::check(records, start, types, second) {
         Typing::Refused(refusal) => Made::Refused(refusal),
-        Typing::Type(_) => counted(records, sizes, work, nodes, start),
+        Typing::Type(_) => counted(records, sizes, work, nodes, start, plain),
     }
 }
 
-// The full netlist of a sheet in the working memory, or refusal 1 to 16: here the memory, 1, and the reader, 2 to 9.
-pub fn make(sheet: &[u8], work: &mut [u16]) -> Made
-    ensures { λ r. ⌜ Makes r (now (sheet .entry)) (now (work .entry)) (now (work .exit)) ⌝ }
+// The full netlist of a sheet in the working memory, with the nodes that made its elements where plain kinds are not wished, or refusal
+// 1 to 16: here the memory, 1, and the reader, 2 to 9.
+pub fn make(sheet: &[u8], work: &mut [u16], plain: bool) -> Made
+    ensures { λ r. ⌜ Makes plain r (now (sheet .entry)) (now (work .entry)) (now (work .exit)) ⌝ }
 {
     if work.len() < 32768 {
         return refused(1, 0);
@@ -82,6 +95,7 @@ pub fn make(sheet: &[u8], work: &mut [u16]) -> Made
                 nodes,
                 start,
                 second,
+                plain,
             )
         }
     }

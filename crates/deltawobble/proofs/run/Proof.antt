@@ -1,6 +1,7 @@
 -- `deltawobble::run` meets its contract: what was made is written, and a refusal passes through. Assumes nothing.
 use mathlib.Core.Path.{_∙_}
-use Rattle.translator.proofs.Lent.{net-stands, net-lent, refusal-lent}
+use Rattle.translator.proofs.Lent.{net-stands, net-named, net-lent, refusal-lent}
+use Rattle.deltawobble.specs.Said.{saidWish}
 use Rattle.deltawobble.proofs.CallLaws.{refused-says, net-says}
 use borrow.Author.Needs.{needs}
 use Rattle.deltawobble.proofs.run.Statement.{statement}
@@ -20,7 +21,7 @@ write-requires c κs =
     let v = c .before .before .before in
     let m = v .before .before .before .before in
     let a = m .before .before .before .before .before .args in
-    net-stands (m .make .result) (a .sheet .now) (a .work .now) _ (m .make .ensures) _ (v .counts .given .1)
+    net-stands (a .wish .plain) (m .make .result) (a .sheet .now) (a .work .now) _ (m .make .ensures) _ (v .counts .given .1)
 
 same-length : tie.Need-same-length
 same-length c = search needs
@@ -29,7 +30,7 @@ returns : tie.Need-returns
 returns c =
     let m = c .before .before .before .before .before in
     let a = m .before .before .before .before .before .args in (
-      refused-says (a .wish .lean) (a .sheet .now) (a .out .now) _ _ (refusal-lent (m .make .result) (a .sheet .now) (a .work .now) _ (m .make .ensures) _ (c .before .refusal .given .1)),
+      refused-says (saidWish (a .wish)) (a .sheet .now) (a .out .now) _ _ (refusal-lent (a .wish .plain) (m .make .result) (a .sheet .now) (a .work .now) _ (m .make .ensures) _ (c .before .refusal .given .1)),
       m .make .ensures .keeps,
     )
 
@@ -45,7 +46,7 @@ returns-2 c =
     let v = w .before .before .before .before in
     let m = v .before .before .before .before in
     let a = m .before .before .before .before .before .args in (
-      net-says (a .wish .lean) (a .sheet .now) (a .out .now) _ (w .write .result) _ _ (net-lent (m .make .result) (a .sheet .now) (a .work .now) _ (m .make .ensures) _ (v .counts .given .1)) (w .write .ensures .0),
+      net-says (saidWish (a .wish)) (a .sheet .now) (a .out .now) _ (w .write .result) _ _ _ (net-lent (a .wish .plain) (m .make .result) (a .sheet .now) (a .work .now) _ (m .make .ensures) _ (v .counts .given .1)) (net-named (a .wish .plain) (m .make .result) (a .sheet .now) (a .work .now) _ (m .make .ensures) _ (v .counts .given .1)) (w .write .ensures .0),
       w .write .ensures .1 ∙ m .make .ensures .keeps,
     )
 

@@ -17,7 +17,7 @@ returns c =
     let q = n .before .before .before .before in
     λ t.
     rw (c .refused .ensures)
-    (many-makes (t .read .whole) (q .args .work .now) (q .pre .0) (t .read .told .sheet) (t .read .told .is) (t .found) (t .walked) (rw (n .count .ensures (t .read)) at (c .before .if1 .taken)))
+    (many-makes (t .read .whole) (q .args .work .now) (q .pre .0) (t .read .told .sheet) (t .read .told .is) (t .found) (t .walked) (q .args .plain) (rw (n .count .ensures (t .read)) at (c .before .if1 .taken)))
 
 make-net-requires : tie.Need-make-net-requires
 make-net-requires c κs =
@@ -44,9 +44,19 @@ returns-2 c =
     let q = n .before .before .before .before in
     λ t.
     let e = full-few (t .read .whole) (q .args .work .now) (q .pre .0) (t .read .told .sheet) (t .read .told .is) (t .found) (t .walked) (rw (n .count .ensures (t .read)) at (x .if1 .left)) in
-    net-makes (t .read .whole) (q .args .work .now) _ (k .make-net .result) _ (q .pre .0) e (k .make-net .ensures (record { nodes = _; read = t .read; net = _; is = e; memory = q .pre .0 }))
+    net-makes (q .args .plain) (t .read .whole) (q .args .work .now) _ (k .make-net .result) _ (q .pre .0) e (k .make-net .ensures (record { nodes = _; read = t .read; net = _; is = e; memory = q .pre .0 }))
+    (λ f. absurd (true≢false (sym (c .if2 .taken) ∙ f)))
+
+name-requires : tie.Need-name-requires
+name-requires c κs = ?
+
+same-length-2 : tie.Need-same-length-2
+same-length-2 c = search needs
+
+returns-3 : tie.Need-returns-3
+returns-3 c = ?
 
 pub counted-spec : {M : Type 1} → statement M
 counted-spec =
     tie.close
-    (tie.spec count-requires refused-requires returns make-net-requires same-length returns-2)
+    (tie.spec count-requires refused-requires returns make-net-requires same-length returns-2 name-requires same-length-2 returns-3)

@@ -1,6 +1,7 @@
 -- `deltawobble::write::write` meets its contract: the netlist that is wished is written. Assumes nothing.
 use mathlib.Core.Path.{refl}
 use mathlib.Core.Bool.{true, false}
+use Rattle.deltawobble.specs.Said.{saidWish}
 use Rattle.deltawobble.proofs.WriteLaws.{wished-says}
 use borrow.Author.Needs.{needs}
 use Rattle.deltawobble.proofs.write.write.Statement.{statement}
@@ -20,7 +21,7 @@ returns c =
     let w = c .before .before .before .before in
     let x = w .before .before .before in
     let a = x .before .before .before .args in
-    (wished-says (a .wish .lean) true (a .out .now) _ (w .write-lean .result) _ (x .if1 .taken) (w .write-lean .ensures .0), w .write-lean .ensures .1)
+    (wished-says (saidWish (a .wish)) true (a .out .now) _ (w .write-lean .result) _ _ (x .if1 .taken) (w .write-lean .ensures .0), w .write-lean .ensures .1)
 
 write-full-requires : tie.Need-write-full-requires
 write-full-requires c κs = search needs
@@ -36,7 +37,7 @@ returns-2 c =
     let w = c .before .before in
     let x = w .before .before .before in
     let a = x .before .before .before .args in
-    (wished-says (a .wish .lean) false (a .out .now) _ (w .write-full .result) _ (x .if1 .left) (w .write-full .ensures), refl)
+    (wished-says (saidWish (a .wish)) false (a .out .now) _ (w .write-full .result) _ _ (x .if1 .left) (w .write-full .ensures), refl)
 
 pub write-spec : {M : Type 1} → statement M
 write-spec =

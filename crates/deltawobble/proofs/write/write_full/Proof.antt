@@ -2,7 +2,8 @@
 use mathlib.Core.Path.{subst}
 use Prim.Native.Nat.{ℕ, _≤_}
 use lib.ListN.{length}
-use Rattle.memory.specs.Map.{netIn}
+use Rattle.calculus.specs.Makers.{written}
+use Rattle.memory.specs.Map.{makersAt, region, netIn}
 use Rattle.deltawobble.proofs.WriteLaws.{says-short, says-fits}
 use borrow.Author.Needs.{needs}
 use Rattle.deltawobble.proofs.write.write_full.Statement.{statement}
@@ -18,7 +19,7 @@ returns : tie.Need-returns
 returns c =
     let x = c .before in
     let a = x .before .before .before .before .args in
-    rw (c .too-short .ensures) (says-short (netIn (a .work .now) (a .elements) (a .wires) (a .pins)) (a .out .now) (x .before .full-length .result) (x .before .full-length .ensures) (x .if1 .taken))
+    rw (c .too-short .ensures) (says-short (written (a .plain) (netIn (a .work .now) (a .elements) (a .wires) (a .pins)) (region (a .work .now) makersAt (a .elements))) (a .out .now) (x .before .full-length .result) (x .before .full-length .ensures) (x .if1 .taken))
 
 write-full-requires : tie.Need-write-full-requires
 write-full-requires c κs = search needs
@@ -31,7 +32,7 @@ returns-2 c =
     let w = c .before .before in
     let x = w .before .before in
     let a = x .before .before .before .before .args in
-    says-fits (netIn (a .work .now) (a .elements) (a .wires) (a .pins)) (a .out .now) (w .write-full .result) (w .write-full .last .1 .0)
+    says-fits (written (a .plain) (netIn (a .work .now) (a .elements) (a .wires) (a .pins)) (region (a .work .now) makersAt (a .elements))) (a .out .now) (w .write-full .result) (w .write-full .last .1 .0)
     (subst (λ (n : ℕ). n ≤ length (a .out .now)) (x .before .full-length .ensures) (x .if1 .left)) (w .write-full .ensures .0) (w .write-full .ensures .1)
 
 pub write-full-spec : {M : Type 1} → statement M

@@ -1,16 +1,17 @@
 -- `deltawobble::write::write_lean` meets its contract: the roots are found, which changes nothing else, and then the length needed is known
 -- before the first byte is written. Assumes nothing.
-use mathlib.Core.Path.{_≡_, sym, ap, subst, _∙_}
+use mathlib.Core.Path.{_≡_, sym, ap, ap₂, subst, _∙_}
 use Prim.Native.Nat.{ℕ, _≤_}
 use lib.ListN.{length}
 use lib.Seq.{sets}
 use mathlib.Core.List.{List}
-use Rattle.calculus.specs.Net.{Net, netBytes}
+use Rattle.calculus.specs.Net.{Net}
+use Rattle.calculus.specs.Makers.{leanMakers, written}
 use Rattle.calculus.specs.Lean.{lean}
 use Rattle.calculus.specs.Record.{All}
-use Rattle.memory.specs.Map.{netIn}
+use Rattle.memory.specs.Map.{makersAt, region, netIn}
 use Rattle.calculus.specs.NetRead.{Known}
-use Rattle.deltawobble.proofs.WriteLaws.{says-short, says-fits, within-keeps}
+use Rattle.deltawobble.proofs.WriteLaws.{says-short, says-fits, within-keeps, within-makers}
 use borrow.Author.Needs.{needs}
 use Rattle.deltawobble.proofs.write.write_lean.Statement.{statement}
 use Rattle.deltawobble.proofs.write.write_lean.Tie as tie
@@ -35,8 +36,8 @@ returns c =
     let q = x .before .before .before .before .before .before .before .before .before in
     let a = q .args in
     let w = r .roots .ensures in (
-      rw (c .too-short .ensures) (says-short (lean (netIn (a .work .now) (a .elements) (a .wires) (a .pins))) (a .out .now) (l .lean-length .result)
-          (l .lean-length .ensures ∙ ap (λ (m : Net). length (netBytes (lean m))) (w .net)) (x .if1 .taken)),
+      rw (c .too-short .ensures) (says-short (written (a .plain) (lean (netIn (a .work .now) (a .elements) (a .wires) (a .pins))) (leanMakers (netIn (a .work .now) (a .elements) (a .wires) (a .pins)) (region (a .work .now) makersAt (a .elements)))) (a .out .now) (l .lean-length .result)
+          (l .lean-length .ensures ∙ ap₂ (λ (m : Net) (ks : List ℕ). length (written (a .plain) (lean m) (leanMakers m ks))) (w .net) (within-makers (a .work .now) _ (a .elements) (q .pre .0 .few-elements) (q .pre .0 .size) (w .within))) (x .if1 .taken)),
       within-keeps _ _ (q .pre .0 .size) (w .within),
     )
 
@@ -70,8 +71,8 @@ returns-2 c =
     let a = q .args in
     let w = r .roots .ensures in
     let n : netIn (r .roots .last .0) (a .elements) (a .wires) (a .pins) ≡ netIn (a .work .now) (a .elements) (a .wires) (a .pins) = w .net in
-    let e = ap (λ (m : Net). netBytes (lean m)) n in (
-      says-fits (lean (netIn (a .work .now) (a .elements) (a .wires) (a .pins))) (a .out .now) (k .write-lean .result) (k .write-lean .last .1 .0)
+    let e = ap₂ (λ (m : Net) (ks : List ℕ). written (a .plain) (lean m) (leanMakers m ks)) n (within-makers (a .work .now) _ (a .elements) (q .pre .0 .few-elements) (q .pre .0 .size) (w .within)) in (
+      says-fits (written (a .plain) (lean (netIn (a .work .now) (a .elements) (a .wires) (a .pins))) (leanMakers (netIn (a .work .now) (a .elements) (a .wires) (a .pins)) (region (a .work .now) makersAt (a .elements)))) (a .out .now) (k .write-lean .result) (k .write-lean .last .1 .0)
           (subst (λ (n : ℕ). n ≤ length (a .out .now)) (l .lean-length .ensures ∙ ap length e) (x .if1 .left))
           (k .write-lean .ensures .0 ∙ ap length e)
           (k .write-lean .ensures .1 ∙ ap (λ (b : List ℕ). sets (a .out .now) 0 b) e),
