@@ -2,4 +2,6 @@ pub mod Keeping
 pub mod StageLaws
 pub mod NameLaws
 pub mod Lent
+pub mod SaidLaws
+pub mod Places
 pub mod Determined

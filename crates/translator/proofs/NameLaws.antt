@@ -34,11 +34,11 @@ module _ (s : List ℕ) (m : Net) (ok : full s ≡ good m) (σ : Sheet) (read : 
   makers-count : length ks ≡ length (m .elements)
   makers-count = ap length (sym makers-are) ∙ as-many s m ok σ read
 
-  makers-few : length ks ≤ 5120
+  pub makers-few : length ks ≤ 5120
   makers-few = omega (arith, makers-count, few-elements s m ok)
 
   -- what naming asks for
-  pub nameable : {b sizes w : List ℕ} {at n : ℕ} (r : Read b sizes at n) → readSheet (r .whole) ≡ good σ → 32768 ≤ length w → Nameable b sizes w at n
+  abbrev pub nameable : {b sizes w : List ℕ} {at n : ℕ} (r : Read b sizes at n) → readSheet (r .whole) ≡ good σ → 32768 ≤ length w → Nameable b sizes w at n
   nameable r e h =
       let q = counting r σ e in
       record {

@@ -1,4 +1,4 @@
--- `deltawobble::write::write_lean` meets its contract: the roots are found, which changes nothing else, and then the length needed is known
+-- `translation::write::write_lean` meets its contract: the roots are found, which changes nothing else, and then the length needed is known
 -- before the first byte is written. Assumes nothing.
 use mathlib.Core.Path.{_≡_, sym, ap, ap₂, subst, _∙_}
 use Prim.Native.Nat.{ℕ, _≤_}
@@ -11,10 +11,10 @@ use Rattle.calculus.specs.Lean.{lean}
 use Rattle.calculus.specs.Record.{All}
 use Rattle.memory.specs.Map.{makersAt, region, netIn}
 use Rattle.calculus.specs.NetRead.{Known}
-use Rattle.deltawobble.proofs.WriteLaws.{says-short, says-fits, within-keeps, within-makers}
+use Rattle.translation.proofs.WriteLaws.{says-short, says-fits, within-keeps, within-makers}
 use borrow.Author.Needs.{needs}
-use Rattle.deltawobble.proofs.write.write_lean.Statement.{statement}
-use Rattle.deltawobble.proofs.write.write_lean.Tie as tie
+use Rattle.translation.proofs.write.write_lean.Statement.{statement}
+use Rattle.translation.proofs.write.write_lean.Tie as tie
 
 roots-requires : tie.Need-roots-requires
 roots-requires c κs = search needs

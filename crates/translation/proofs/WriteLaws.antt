@@ -16,33 +16,13 @@ use Rattle.memory.specs.Map.{makersAt, region}
 use Rattle.lean.specs.Table.{Within}
 use Rattle.translator.specs.Made.{Keeps}
 use Rattle.translator.proofs.Keeping.{later-keeps}
-use Rattle.deltawobble.specs.Said.{tooShort, netAnswer, Says}
-use Rattle.deltawobble.specs.declared.Answer as code
-use Rattle.deltawobble.specs.declared.Answer.the-variants as answer
-
-module _ (bytes out : List ℕ) where
-  net-short : length out < length bytes → netAnswer bytes (length out) ≡ refuse 17 (length bytes)
-  unfolding netAnswer
-  net-short h = rw (lt-leb (length bytes) (length out) h)
-
-  net-fits : length bytes ≤ length out → netAnswer bytes (length out) ≡ good bytes
-  unfolding netAnswer
-  net-fits h = rw (le-leb (length bytes) (length out) h)
-
-  pub says-short : (n : ℕ) → n ≡ length bytes → length out < n → Says (tooShort n) out out (netAnswer bytes (length out))
-  says-short n e h =
-      let f = net-short (subst (λ (x : ℕ). length out < x) e h) in
-      record { said = ap (λ (x : ℕ). refuse 17 x) e ∙ sym (ap saidOf f); wrote = sym (ap (λ (a : Answer (List ℕ)). outOf a out) f) }
-
-  pub says-fits : (n : ℕ) (after : List ℕ) → length bytes ≤ length out → n ≡ length bytes → after ≡ sets out 0 bytes
-      → Says (answer.Written n) out after (netAnswer bytes (length out))
-  says-fits n after h e w =
-      let f = net-fits h in
-      record { said = ap (λ (x : ℕ). good x) e ∙ sym (ap saidOf f); wrote = w ∙ sets-front bytes out h ∙ sym (ap (λ (a : Answer (List ℕ)). outOf a out) f) }
+use Rattle.translator.specs.Said.{tooShort, inRoom, Says}
+use Rattle.translator.specs.declared.Answer as code
+use Rattle.translator.specs.declared.Answer.the-variants as answer
 
 -- the netlist that is wished
-pub wished-says : (w : Wish) (lean : Bool) (out after : List ℕ) (r : code.Answer) (m : Net) (ks : List ℕ) → w .lean ≡ lean → Says r out after (netAnswer (written (w .plain) (asked lean m) (askedMakers lean m ks)) (length out))
-    → Says r out after (netAnswer (askedBytes w m ks) (length out))
+pub wished-says : (w : Wish) (lean : Bool) (out after : List ℕ) (r : code.Answer) (m : Net) (ks : List ℕ) → w .lean ≡ lean → Says r out after (inRoom (written (w .plain) (asked lean m) (askedMakers lean m ks)) (length out))
+    → Says r out after (inRoom (askedBytes w m ks) (length out))
 wished-says w lean out after r m ks e h = rw e h
 
 -- the makers stand above the table of roots

@@ -1,11 +1,11 @@
--- `deltawobble::write::write` meets its contract: the netlist that is wished is written. Assumes nothing.
+-- `translation::write::write` meets its contract: the netlist that is wished is written. Assumes nothing.
 use mathlib.Core.Path.{refl}
 use mathlib.Core.Bool.{true, false}
-use Rattle.deltawobble.specs.Said.{saidWish}
-use Rattle.deltawobble.proofs.WriteLaws.{wished-says}
+use Rattle.translation.specs.Wished.{saidWish}
+use Rattle.translation.proofs.WriteLaws.{wished-says}
 use borrow.Author.Needs.{needs}
-use Rattle.deltawobble.proofs.write.write.Statement.{statement}
-use Rattle.deltawobble.proofs.write.write.Tie as tie
+use Rattle.translation.proofs.write.write.Statement.{statement}
+use Rattle.translation.proofs.write.write.Tie as tie
 
 write-lean-requires : tie.Need-write-lean-requires
 write-lean-requires c κs = search needs

@@ -1,7 +1,6 @@
 // The netlist that stands in the working memory is written, where it fits.
-use crate::Answer;
 use crate::Wish;
-use typing::Refusal;
+use translator::Answer;
 use wiring::Counts;
 ghost use mathlib.Core.Path.{_≡_};
 ghost use lib.ListN.{length};
@@ -12,19 +11,8 @@ ghost use Rattle.calculus.specs.Translate.{askedBytes};
 ghost use Rattle.memory.specs.Map.{makersAt, region, netIn, Ready};
 ghost use Rattle.calculus.specs.NetRead.{Known};
 ghost use Rattle.translator.specs.Made.{Keeps};
-ghost use Rattle.deltawobble.specs.Said.{tooShort, Says, saidWish, netAnswer};
-
-// 17, with the length needed.
-fn too_short(n: usize) -> Answer
-    ensures { λ r. ⌜ r ≡ tooShort n ⌝ }
-{
-    Answer::Refused(Refusal {
-        number: 17,
-        place: n,
-        wanted: 0,
-        found: 0,
-    })
-}
+ghost use Rattle.translator.specs.Said.{Says, inRoom};
+ghost use Rattle.translation.specs.Wished.{saidWish};
 
 // The full netlist; 17 with the length needed where the output is shorter.
 fn write_full(
@@ -36,11 +24,11 @@ fn write_full(
     plain: bool,
 ) -> Answer
     requires { ⌜ (Ready (now work) elements wires pins) × (All Known (netIn (now work) elements wires pins .elements)) ⌝ }
-    ensures { λ r. ⌜ Says r (now (out .entry)) (now (out .exit)) (netAnswer (written plain (netIn (now (work .entry)) elements wires pins) (region (now (work .entry)) makersAt elements)) (length (now (out .entry)))) ⌝ }
+    ensures { λ r. ⌜ Says r (now (out .entry)) (now (out .exit)) (inRoom (written plain (netIn (now (work .entry)) elements wires pins) (region (now (work .entry)) makersAt elements)) (length (now (out .entry)))) ⌝ }
 {
     let n = netlist::full_length(work, elements, wires, pins, plain);
     if out.len() < n {
-        return too_short(n);
+        return translator::too_short(n);
     }
     let length = netlist::write_full(work, out, elements, wires, pins, plain);
     Answer::Written(length)
@@ -56,13 +44,13 @@ fn write_lean(
     plain: bool,
 ) -> Answer
     requires { ⌜ (Ready (now work) elements wires pins) × (All Known (netIn (now work) elements wires pins .elements)) ⌝ }
-    ensures { λ r. ⌜ (Says r (now (out .entry)) (now (out .exit)) (netAnswer (written plain (lean (netIn (now (work .entry)) elements wires pins)) (leanMakers (netIn (now (work .entry)) elements wires pins) (region (now (work .entry)) makersAt elements))) (length (now (out .entry)))))
+    ensures { λ r. ⌜ (Says r (now (out .entry)) (now (out .exit)) (inRoom (written plain (lean (netIn (now (work .entry)) elements wires pins)) (leanMakers (netIn (now (work .entry)) elements wires pins) (region (now (work .entry)) makersAt elements))) (length (now (out .entry)))))
         × (Keeps (now (work .entry)) (now (work .exit))) ⌝ }
 {
     lean::roots(work, elements, wires, pins);
     let n = lean::lean_length(&work[..], elements, wires, pins, plain);
     if out.len() < n {
-        return too_short(n);
+        return translator::too_short(n);
     }
     let written = lean::write_lean(&work[..], out, elements, wires, pins, plain);
     Answer::Written(written)
@@ -71,7 +59,7 @@ fn write_lean(
 // The one that is wished.
 pub fn write(work: &mut [u16], out: &mut [u8], counts: Counts, wish: Wish) -> Answer
     requires { ⌜ (Ready (now work) (counts .elements) (counts .wires) (counts .pins)) × (All Known (netIn (now work) (counts .elements) (counts .wires) (counts .pins) .elements)) ⌝ }
-    ensures { λ r. ⌜ (Says r (now (out .entry)) (now (out .exit)) (netAnswer (askedBytes (saidWish wish) (netIn (now (work .entry)) (counts .elements) (counts .wires) (counts .pins)) (region (now (work .entry)) makersAt (counts .elements))) (length (now (out .entry)))))
+    ensures { λ r. ⌜ (Says r (now (out .entry)) (now (out .exit)) (inRoom (askedBytes (saidWish wish) (netIn (now (work .entry)) (counts .elements) (counts .wires) (counts .pins)) (region (now (work .entry)) makersAt (counts .elements))) (length (now (out .entry)))))
         × (Keeps (now (work .entry)) (now (work .exit))) ⌝ }
 {
     let elements = counts.elements;

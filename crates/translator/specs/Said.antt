@@ -6,10 +6,9 @@ use lib.Dec.{leb}
 use lib.ListN.{length}
 use Rattle.calculus.specs.Answer.{Answer, good, refused, _>>=_, need}
 use Rattle.typing.specs.Verdicts.{saidWhy}
-use Rattle.calculus.specs.Translate.{Wish, saidOf, outOf, Call}
-use Rattle.deltawobble.specs.declared.Wish as wishes
-use Rattle.deltawobble.specs.declared.Answer as code
-use Rattle.deltawobble.specs.declared.Answer.the-variants as answer
+use Rattle.calculus.specs.Translate.{saidOf, outOf, Call}
+use Rattle.translator.specs.declared.Answer as code
+use Rattle.translator.specs.declared.Answer.the-variants as answer
 
 -- a refusal, or the number of bytes written
 abbrev pub saidAnswer : code.Answer → Answer ℕ
@@ -20,13 +19,9 @@ saidAnswer (answer.Refused why) = refused (saidWhy why)
 abbrev pub tooShort : ℕ → code.Answer
 tooShort n = answer.Refused (record { number = 17; place = n; wanted = 0; found = 0 })
 
--- a caller's wish
-abbrev pub saidWish : wishes.Wish → Wish
-saidWish w = record { lean = w .lean; plain = w .plain }
-
--- a netlist's bytes, or 17
-unfoldable pub netAnswer : List ℕ → ℕ → Answer (List ℕ)
-netAnswer bytes room = do
+-- bytes for an output of so many, or 17
+unfoldable pub inRoom : List ℕ → ℕ → Answer (List ℕ)
+inRoom bytes room = do
   _ ← need (leb (length bytes) room) 17 (length bytes)
   good bytes
 

@@ -1,13 +1,13 @@
--- `deltawobble::write::write_full` meets its contract: the length needed is known before the first byte is written. Assumes nothing.
+-- `translation::write::write_full` meets its contract: the length needed is known before the first byte is written. Assumes nothing.
 use mathlib.Core.Path.{subst}
 use Prim.Native.Nat.{ℕ, _≤_}
 use lib.ListN.{length}
 use Rattle.calculus.specs.Makers.{written}
 use Rattle.memory.specs.Map.{makersAt, region, netIn}
-use Rattle.deltawobble.proofs.WriteLaws.{says-short, says-fits}
+use Rattle.translation.proofs.WriteLaws.{says-short, says-fits}
 use borrow.Author.Needs.{needs}
-use Rattle.deltawobble.proofs.write.write_full.Statement.{statement}
-use Rattle.deltawobble.proofs.write.write_full.Tie as tie
+use Rattle.translation.proofs.write.write_full.Statement.{statement}
+use Rattle.translation.proofs.write.write_full.Tie as tie
 
 full-length-requires : tie.Need-full-length-requires
 full-length-requires c κs = search needs

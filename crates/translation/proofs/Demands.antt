@@ -21,9 +21,9 @@ use Rattle.sheet_theorems.proofs.Exact.{exact}
 use Rattle.circuit_theorems.proofs.Main.{accepts, driven, undriven, made-once, same-circuit, same-circuit-parts}
 use Rattle.circuit_theorems.proofs.Told.{bytes-tell}
 use Rattle.memory.proofs.Zeroed.{zeroed-length, zeroed-zeros, zeroed-later}
-use Rattle.deltawobble.specs.Demands.{Wrote, Cleared, Demand1, Derivable, Demand2, OneDriver, Circuit, Demand3}
+use Rattle.translation.specs.Demands.{Wrote, Cleared, Demand1, Derivable, Demand2, OneDriver, Circuit, Demand3}
 use Rattle.sheet_theorems.proofs.Judging.{Judged, value, refusal}
-use Rattle.deltawobble.proofs.Places.{CallPlace, CallBytes, answer-places}
+use Rattle.translation.proofs.Places.{CallPlace, CallBytes, answer-places}
 
 -- ---- demand 1
 

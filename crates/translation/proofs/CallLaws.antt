@@ -12,18 +12,18 @@ use Rattle.calculus.specs.Net.{Net}
 use Rattle.calculus.specs.Makers.{makersOf, written}
 use Rattle.calculus.specs.Translate.{full, Wish, answer, asked, askedMakers, askedBytes, workOf, call}
 use Rattle.translator.specs.Made.{lent, Keeps}
-use Rattle.deltawobble.specs.Said.{netAnswer, Says, called}
-use Rattle.deltawobble.specs.declared.Answer as code
-use Rattle.deltawobble.specs.declared.Answer.the-variants as answer
+use Rattle.translator.specs.Said.{inRoom, Says, called}
+use Rattle.translator.specs.declared.Answer as code
+use Rattle.translator.specs.declared.Answer.the-variants as answer
 
 -- a call's answer is that of the netlist, once there is a full one
 need-first : (t : Bool) (a : Answer Net) (f : Net → Answer (List ℕ)) → (need t 1 0 >>= λ _. a >>= f) ≡ ((need t 1 0 >>= λ _. a) >>= f)
 need-first true a f = refl
 need-first false a f = refl
 
-answer-lent : (memory : ℕ) (b : Wish) (s : List ℕ) (room : ℕ) → answer memory b s room ≡ (lent memory s >>= λ m. netAnswer (askedBytes b m (makersOf s)) room)
-unfolding answer lent netAnswer
-answer-lent memory b s room = need-first (leb 32768 memory) (full s) (λ m. netAnswer (askedBytes b m (makersOf s)) room)
+answer-lent : (memory : ℕ) (b : Wish) (s : List ℕ) (room : ℕ) → answer memory b s room ≡ (lent memory s >>= λ m. inRoom (askedBytes b m (makersOf s)) room)
+unfolding answer lent inRoom
+answer-lent memory b s room = need-first (leb 32768 memory) (full s) (λ m. inRoom (askedBytes b m (makersOf s)) room)
 
 -- plain bytes name no nodes
 named-bytes : (w : Wish) (m : Net) (ks js : List ℕ) → (w .plain ≡ false → ks ≡ js) → askedBytes w m ks ≡ askedBytes w m js
@@ -39,7 +39,7 @@ module _ (b : Wish) (s out : List ℕ) (memory : ℕ) where
   refused-says why e = rw (answer-lent memory b s (length out), ← e) (record { said = refl; wrote = refl })
 
   -- a netlist that was written is the one asked for
-  pub net-says : (r : code.Answer) (after : List ℕ) (m : Net) (ks : List ℕ) → good m ≡ lent memory s → (b .plain ≡ false → ks ≡ makersOf s) → Says r out after (netAnswer (askedBytes b m ks) (length out))
+  pub net-says : (r : code.Answer) (after : List ℕ) (m : Net) (ks : List ℕ) → good m ≡ lent memory s → (b .plain ≡ false → ks ≡ makersOf s) → Says r out after (inRoom (askedBytes b m ks) (length out))
       → Says r out after (answer memory b s (length out))
   net-says r after m ks e n h = rw (answer-lent memory b s (length out), ← e, ← named-bytes b m ks (makersOf s) n) h
 

@@ -1,10 +1,10 @@
--- `deltawobble::translate` meets its contract: after the stages the working memory is cleared. Assumes nothing.
+-- `translation::translate` meets its contract: after the stages the working memory is cleared. Assumes nothing.
 use mathlib.Core.Path.{_∙_, ap}
-use Rattle.deltawobble.specs.Said.{called}
-use Rattle.deltawobble.proofs.CallLaws.{call-run}
+use Rattle.translator.specs.Said.{called}
+use Rattle.translation.proofs.CallLaws.{call-run}
 use borrow.Author.Needs.{needs}
-use Rattle.deltawobble.proofs.translate.Statement.{statement}
-use Rattle.deltawobble.proofs.translate.Tie as tie
+use Rattle.translation.proofs.translate.Statement.{statement}
+use Rattle.translation.proofs.translate.Tie as tie
 
 run-requires : tie.Need-run-requires
 run-requires c κs = search needs

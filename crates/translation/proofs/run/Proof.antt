@@ -1,11 +1,11 @@
--- `deltawobble::run` meets its contract: what was made is written, and a refusal passes through. Assumes nothing.
+-- `translation::run` meets its contract: what was made is written, and a refusal passes through. Assumes nothing.
 use mathlib.Core.Path.{_∙_}
 use Rattle.translator.proofs.Lent.{net-stands, net-named, net-lent, refusal-lent}
-use Rattle.deltawobble.specs.Said.{saidWish}
-use Rattle.deltawobble.proofs.CallLaws.{refused-says, net-says}
+use Rattle.translation.specs.Wished.{saidWish}
+use Rattle.translation.proofs.CallLaws.{refused-says, net-says}
 use borrow.Author.Needs.{needs}
-use Rattle.deltawobble.proofs.run.Statement.{statement}
-use Rattle.deltawobble.proofs.run.Tie as tie
+use Rattle.translation.proofs.run.Statement.{statement}
+use Rattle.translation.proofs.run.Tie as tie
 
 make-requires : tie.Need-make-requires
 make-requires c κs = search needs

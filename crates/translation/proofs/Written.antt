@@ -6,13 +6,9 @@ use native.Mathlib.Omega.{arith}
 use lib.ListN.{length, length-append}
 use Rattle.calculus.specs.Answer.{Answer, good, refused}
 use Rattle.calculus.specs.Translate.{Wish, Call, call, answer, saidOf, outOf}
-use Rattle.deltawobble.specs.Said.{called}
-use Rattle.deltawobble.specs.declared.Answer as code
-use Rattle.deltawobble.specs.declared.Answer.the-variants as variant
-
-by-answer : (a : Answer (List ℕ)) (n : ℕ) (before after : List ℕ) → good n ≡ saidOf a → after ≡ outOf a before → n ≤ length after
-by-answer (good bytes) n before after e f = let l : n ≡ length bytes = cc in rw (f, length-append) (omega arith)
-by-answer (refused why) n before after e f = let z : _≡_ {A = ℕ} 0 1 = cc in omega arith
+use Rattle.translator.specs.Said.{called}
+use Rattle.translator.specs.declared.Answer as code
+use Rattle.translator.specs.declared.Answer.the-variants as variant
 
 pub written-within : (r : code.Answer) (n : ℕ) (w : Wish) (s before after work work′ : List ℕ)
     → called r after work′ ≡ call w s before work → r ≡ variant.Written n → n ≤ length after

@@ -1,3 +1,0 @@
-pub mod Boundary
-pub mod Demands
-pub mod Said
