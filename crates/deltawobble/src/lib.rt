@@ -1,13 +1,12 @@
-// The call and the stretch of a node for C: one number holds the answer.
-use crate::Answer;
-use crate::Wish;
+// The public calls for C: the answer of each is one number.
+use translation::Wish;
 ghost use mathlib.Core.Path.{_≡_};
 ghost use Rattle.calculus.specs.Stretch.{stretchOf};
 ghost use Rattle.calculus.specs.Translate.{call};
 ghost use Rattle.deltawobble.specs.Boundary.{Packs, packedStretch};
 
-// Bits 0 to 31 the number of bytes written or the place, 32 to 39 the refusal's number, 0 for none, 40 to 51 the type number wanted and
-// 52 to 63 the one found.
+// The netlist of a sheet. Bits 0 to 31 of the answer are the number of bytes written or the place, 32 to 39 the refusal's number, 0 for none,
+// 40 to 51 the type number wanted and 52 to 63 the one found.
 #[no_mangle]
 pub extern "C" fn deltawobble_translate(
     sheet: &[u8],
@@ -18,13 +17,8 @@ pub extern "C" fn deltawobble_translate(
 ) -> u64
     ensures { λ r. ⌜ Packs r (now (out .exit)) (now (work .exit)) (call (record { lean = lean; plain = plain }) (now (sheet .entry)) (now (out .entry)) (now (work .entry))) ⌝ }
 {
-    match crate::translate(sheet, out, work, Wish { lean, plain }) {
-        Answer::Written(n) => n as u64,
-        Answer::Refused(r) => {
-            let first = r.number as u64 * 4294967296 + r.place as u64;
-            first + (r.wanted as u64 * 1099511627776 + r.found as u64 * 4503599627370496)
-        }
-    }
+    let answer = translation::translate(sheet, out, work, Wish { lean, plain });
+    translator::word(answer)
 }
 
 // Where the stretch of a node begins, and its length; 0 where the sheet is refused or the number is too large.

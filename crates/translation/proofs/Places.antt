@@ -1,30 +1,22 @@
 -- The numbers of the refusals that a call answers, and where each stands; which two types clash. Assumes nothing.
-use Prim.Native.Nat.{ℕ, zero, suc, _+_, _≤_, _<_}
+use Prim.Native.Nat.{ℕ, _≤_, _<_}
 use mathlib.Core.Path.{_≡_, refl}
-use mathlib.Core.Logic.{_⊎_, ⊎-elim}
+use mathlib.Core.Logic.{_⊎_}
 use mathlib.Core.Bool.{Bool, true, false}
-use mathlib.Core.List.{List, [], _∷_}
+use mathlib.Core.List.{List}
 use native.Mathlib.Omega.{arith}
-use native.Mathlib.Decide.{ℕ-discrete}
-use native.Mathlib.Nat.{le-refl}
-use lib.Dec.{leb, ltb, eqb, leb→le}
+use lib.Dec.{leb, leb→le}
 use lib.ListN.{length}
 use borrow.Author.Tests.{leb-false}
-use Rattle.calculus.specs.Answer.{Refusal, Answer, good, refused, _>>=_, numbered}
-use Rattle.calculus.specs.Types.{sharable, tyEq, TyRec, rec01, rec02, rec03, rec04, Table, recAt, tree}
-use Rattle.calculus.specs.Terms.{Edition, Term, var, lvar, fun, app, lfun, lapp, pair, proj, fix, con, name, nodes, parts, partAt}
+use Rattle.calculus.specs.Answer.{Refusal, Answer, good, refused, numbered}
 use Rattle.calculus.specs.Read.{Sheet, readSheet}
-use Rattle.calculus.specs.Walk.{Binder, shared, linear, Stack, product, sharableArrow, linearArrow, Found, under, useShared, useLinear, topUsed, walk}
-use Rattle.calculus.specs.Net.{Net, make, netBytes}
+use Rattle.calculus.specs.Net.{Net}
 use Rattle.calculus.specs.Translate.{full, Wish, askedBytes, answer, saidOf, call}
 use Rattle.calculus.specs.Makers.{makersOf, leanMakers}
-use Rattle.circuit_theorems.proofs.NodeBytes.{length-enough-nodes, lean-shorter-nodes}
-use Rattle.sheet_theorems.specs.Clash.{Clash}
-use Rattle.sheet_theorems.proofs.Laying.{laid}
-use Rattle.sheet_theorems.proofs.Judging.{Judged, value, refusal, Any, of-bind, of-require, weaker, of-refused}
-use Rattle.sheet_theorems.proofs.Places.{read-places}
-use Rattle.sheet_theorems.proofs.Clashing.{walk-tells}
 use Rattle.circuit_theorems.proofs.Bounds.{length-enough, lean-shorter}
+use Rattle.circuit_theorems.proofs.NodeBytes.{length-enough-nodes, lean-shorter-nodes}
+use Rattle.sheet_theorems.proofs.Judging.{Judged, value, refusal, of-bind, of-require, weaker, of-refused}
+use Rattle.translator.proofs.Places.{Names, no-names, names-small, full-places}
 
 -- a refusal of a call with an output of so many bytes
 pub record CallPlace (s : List ℕ) (room : ℕ) (why : Refusal) : Type 0 where
@@ -69,7 +61,7 @@ call-places b s out work = said-places s (length out) (answer-places (length wor
 
 -- ---- which two types clash
 
-module _ (b : Bool) (s out work : List ℕ) (why : Refusal) (said : call b s out work .said ≡ refused why) where
+module _ (b : Wish) (s out work : List ℕ) (why : Refusal) (said : call b s out work .said ≡ refused why) where
   call-names : Names s why
   call-names = of-refused _ why (call-places b s out work) said .names
 

@@ -1,24 +1,21 @@
--- What is answered where a netlist fits the output, and where it does not. Assumes nothing.
-use Prim.Native.Nat.{ℕ, _+_, _-_, _≤_, _<_}
+-- What is answered for the netlist that is wished, and what its roots leave of the working memory. Assumes nothing.
+use Prim.Native.Nat.{ℕ, _+_, _-_, _≤_}
 use mathlib.Core.Path.{_≡_, sym, ap, subst, _∙_}
 use mathlib.Core.Bool.{Bool}
 use mathlib.Core.List.{List}
 use native.Mathlib.Omega.{arith}
 use lib.ListN.{length, drop, length-drop}
-use lib.Seq.{sets, ext-getD, getD-drop}
-use borrow.Author.Tests.{lt-leb, le-leb}
-use Rattle.calculus.specs.Answer.{Answer, good, refuse}
+use lib.Seq.{ext-getD, getD-drop}
 use Rattle.calculus.specs.Net.{Net}
 use Rattle.calculus.specs.Makers.{written}
-use Rattle.calculus.specs.Translate.{Wish, saidOf, outOf, asked, askedMakers, askedBytes}
-use Rattle.laws.proofs.Regions.{sets-front, region-ext}
+use Rattle.calculus.specs.Translate.{Wish, asked, askedMakers, askedBytes}
+use Rattle.laws.proofs.Regions.{region-ext}
 use Rattle.memory.specs.Map.{makersAt, region}
 use Rattle.lean.specs.Table.{Within}
 use Rattle.translator.specs.Made.{Keeps}
 use Rattle.translator.proofs.Keeping.{later-keeps}
-use Rattle.translator.specs.Said.{tooShort, inRoom, Says}
+use Rattle.translator.specs.Said.{inRoom, Says}
 use Rattle.translator.specs.declared.Answer as code
-use Rattle.translator.specs.declared.Answer.the-variants as answer
 
 -- the netlist that is wished
 pub wished-says : (w : Wish) (lean : Bool) (out after : List ℕ) (r : code.Answer) (m : Net) (ks : List ℕ) → w .lean ≡ lean → Says r out after (inRoom (written (w .plain) (asked lean m) (askedMakers lean m ks)) (length out))

@@ -3,5 +3,6 @@ pub mod StageLaws
 pub mod NameLaws
 pub mod Lent
 pub mod SaidLaws
+pub mod WordLaws
 pub mod Places
 pub mod Determined

@@ -8,24 +8,20 @@ use mathlib.Core.List.{List, [], _∷_}
 use native.Mathlib.Omega.{arith}
 use native.Mathlib.Decide.{ℕ-discrete}
 use native.Mathlib.Nat.{le-refl}
-use lib.Dec.{leb, ltb, eqb, leb→le}
+use lib.Dec.{leb, ltb, eqb}
 use lib.ListN.{length}
-use borrow.Author.Tests.{leb-false}
 use Rattle.calculus.specs.Answer.{Refusal, Answer, good, refused, _>>=_, numbered}
 use Rattle.calculus.specs.Types.{sharable, tyEq, TyRec, rec01, rec02, rec03, rec04, Table, recAt, tree}
 use Rattle.calculus.specs.Terms.{Edition, Term, var, lvar, fun, app, lfun, lapp, pair, proj, fix, con, name, nodes, parts, partAt}
 use Rattle.calculus.specs.Read.{Sheet, readSheet}
 use Rattle.calculus.specs.Walk.{Binder, shared, linear, Stack, product, sharableArrow, linearArrow, Found, under, useShared, useLinear, topUsed, walk}
-use Rattle.calculus.specs.Net.{Net, make, netBytes}
-use Rattle.calculus.specs.Translate.{full, Wish, askedBytes, answer, saidOf, call}
-use Rattle.calculus.specs.Makers.{makersOf, leanMakers}
-use Rattle.circuit_theorems.proofs.NodeBytes.{length-enough-nodes, lean-shorter-nodes}
+use Rattle.calculus.specs.Net.{make}
+use Rattle.calculus.specs.Translate.{full}
 use Rattle.sheet_theorems.specs.Clash.{Clash}
 use Rattle.sheet_theorems.proofs.Laying.{laid}
-use Rattle.sheet_theorems.proofs.Judging.{Judged, value, refusal, Any, of-bind, of-require, weaker, of-refused}
+use Rattle.sheet_theorems.proofs.Judging.{Judged, value, refusal, Any, of-bind, of-require, weaker}
 use Rattle.sheet_theorems.proofs.Places.{read-places}
 use Rattle.sheet_theorems.proofs.Clashing.{walk-tells}
-use Rattle.circuit_theorems.proofs.Bounds.{length-enough, lean-shorter}
 
 -- ---- the walk
 
@@ -138,7 +134,7 @@ pub record Names (s : List ℕ) (why : Refusal) : Type 0 where
   pub clash : why .number ≡ 12 → (σ : Sheet) × (readSheet s ≡ good σ) × Clash (σ .table) why
   pub other : ¬ (why .number ≡ 12) → (why .wanted ≡ 0) × (why .found ≡ 0)
 
-no-names : (s : List ℕ) (why : Refusal) → ¬ (why .number ≡ 12) → (why .wanted ≡ 0) × (why .found ≡ 0) → Names s why
+pub no-names : (s : List ℕ) (why : Refusal) → ¬ (why .number ≡ 12) → (why .wanted ≡ 0) × (why .found ≡ 0) → Names s why
 no-names s why d h = record { clash = λ e. absurd (d e); other = λ _. h }
 
 -- both fit twelve bits
@@ -164,7 +160,7 @@ both : {P P′ : Refusal → Type 0} {A : Type 0} {Q R : A → Type 0} {a : Answ
 both (value h) (value k) = value h
 both (refusal {why} h) (refusal k) = refusal {why = why} (h, k)
 
-full-places : (s : List ℕ) → Judged (EarlyPlace s) Any (full s)
+pub full-places : (s : List ℕ) → Judged (EarlyPlace s) Any (full s)
 unfolding full
 full-places s =
     of-bind (readSheet s) _ (weaker (λ why o. record { from = o .from; to = omega (arith, o .to); few = o .few; names = no-names s why (λ e. absurd (omega (arith, o .to))) (o .plain) }) (read-places s)) λ σ e _.

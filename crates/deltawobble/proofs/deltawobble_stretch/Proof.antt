@@ -1,4 +1,4 @@
--- `deltawobble::boundary::deltawobble_stretch` meets its contract: a stretch lies within 16,384 bytes. Assumes nothing.
+-- `deltawobble::deltawobble_stretch` meets its contract: a stretch lies within 16,384 bytes. Assumes nothing.
 use Prim.Native.Nat.{_+_, _≤_}
 use mathlib.Core.Path.{sym, ap, subst}
 use native.Mathlib.Omega.{arith}
@@ -6,8 +6,8 @@ use Rattle.calculus.specs.Stretch.{Stretch}
 use Rattle.deltawobble.specs.Boundary.{packedStretch}
 use Rattle.deltawobble.proofs.BoundaryLaws.{stretch-fits}
 use borrow.Author.Needs.{needs}
-use Rattle.deltawobble.proofs.boundary.deltawobble_stretch.Statement.{statement}
-use Rattle.deltawobble.proofs.boundary.deltawobble_stretch.Tie as tie
+use Rattle.deltawobble.proofs.deltawobble_stretch.Statement.{statement}
+use Rattle.deltawobble.proofs.deltawobble_stretch.Tie as tie
 
 stretch-bounds-requires : tie.Need-stretch-bounds-requires
 stretch-bounds-requires c κs = search needs

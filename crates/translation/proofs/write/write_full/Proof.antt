@@ -4,7 +4,7 @@ use Prim.Native.Nat.{ℕ, _≤_}
 use lib.ListN.{length}
 use Rattle.calculus.specs.Makers.{written}
 use Rattle.memory.specs.Map.{makersAt, region, netIn}
-use Rattle.translation.proofs.WriteLaws.{says-short, says-fits}
+use Rattle.translator.proofs.SaidLaws.{says-short, says-fits}
 use borrow.Author.Needs.{needs}
 use Rattle.translation.proofs.write.write_full.Statement.{statement}
 use Rattle.translation.proofs.write.write_full.Tie as tie

@@ -11,7 +11,8 @@ use Rattle.calculus.specs.Lean.{lean}
 use Rattle.calculus.specs.Record.{All}
 use Rattle.memory.specs.Map.{makersAt, region, netIn}
 use Rattle.calculus.specs.NetRead.{Known}
-use Rattle.translation.proofs.WriteLaws.{says-short, says-fits, within-keeps, within-makers}
+use Rattle.translator.proofs.SaidLaws.{says-short, says-fits}
+use Rattle.translation.proofs.WriteLaws.{within-keeps, within-makers}
 use borrow.Author.Needs.{needs}
 use Rattle.translation.proofs.write.write_lean.Statement.{statement}
 use Rattle.translation.proofs.write.write_lean.Tie as tie

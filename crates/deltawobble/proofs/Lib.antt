@@ -1,0 +1,2 @@
+pub mod BoundaryLaws
+pub mod Determined
