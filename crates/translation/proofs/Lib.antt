@@ -4,3 +4,4 @@ pub mod Determined
 pub mod WriteLaws
 pub mod CallLaws
 pub mod Written
+pub mod Nodes
