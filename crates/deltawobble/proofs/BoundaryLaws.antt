@@ -19,7 +19,9 @@ use Rattle.translator.specs.declared.Answer as code
 use Rattle.translator.proofs.Places.{names-small}
 use Rattle.translator.proofs.WordLaws.{word-tells}
 use Rattle.translation.proofs.Places.{CallPlace, CallCount, call-places}
-use Rattle.deltawobble.specs.Boundary.{Packs}
+use Rattle.batch.specs.Batch.{Batch}
+use Rattle.batch.specs.Left.{left}
+use Rattle.deltawobble.specs.Boundary.{Packs, PacksBatch}
 
 -- ---- a call
 
@@ -29,6 +31,14 @@ answer-packs r o w c e = record {
   said = ap (λ (x : Call). packed (x .said)) e;
   wrote = ap (λ (x : Call). x .out) e;
   kept = ap (λ (x : Call). x .work) e;
+}
+
+pub batch-packs : (r : code.Answer) (o p w : List ℕ) (b : Batch) → left r o p w ≡ b → PacksBatch (packed (saidAnswer r)) o p w b
+batch-packs r o p w b e = record {
+  said = ap (λ (x : Batch). packed (x .said)) e;
+  wrote = ap (λ (x : Batch). x .out) e;
+  stored = ap (λ (x : Batch). x .results) e;
+  kept = ap (λ (x : Batch). x .work) e;
 }
 
 fits : (s : List ℕ) (room : ℕ) {a : Answer ℕ} → Judged (CallPlace s room) (CallCount room) a → Fits a

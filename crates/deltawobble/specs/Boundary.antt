@@ -5,6 +5,7 @@ use mathlib.Core.List.{List}
 use Rattle.calculus.specs.Stretch.{Stretch}
 use Rattle.calculus.specs.Translate.{Call}
 use Rattle.translator.specs.Word.{halves, packed}
+use Rattle.batch.specs.Batch.{Batch}
 
 -- where a stretch begins, and its length
 abbrev pub packedStretch : Stretch → ℕ
@@ -15,3 +16,10 @@ pub record Packs (r : ℕ) (out work : List ℕ) (c : Call) : Type 0 where
   pub said : r ≡ packed (c .said)
   pub wrote : out ≡ c .out
   pub kept : work ≡ c .work
+
+-- .. and the results, those of a call over sheets laid end to end
+pub record PacksBatch (r : ℕ) (out results work : List ℕ) (b : Batch) : Type 0 where
+  pub said : r ≡ packed (b .said)
+  pub wrote : out ≡ b .out
+  pub stored : results ≡ b .results
+  pub kept : work ≡ b .work

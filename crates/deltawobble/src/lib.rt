@@ -3,7 +3,8 @@ use translation::Wish;
 ghost use mathlib.Core.Path.{_≡_};
 ghost use Rattle.calculus.specs.Stretch.{stretchOf};
 ghost use Rattle.calculus.specs.Translate.{call};
-ghost use Rattle.deltawobble.specs.Boundary.{Packs, packedStretch};
+ghost use Rattle.batch.specs.Batch.{batchCall};
+ghost use Rattle.deltawobble.specs.Boundary.{Packs, PacksBatch, packedStretch};
 
 // The netlist of a sheet. Bits 0 to 31 of the answer are the number of bytes written or the place, 32 to 39 the refusal's number, 0 for none,
 // 40 to 51 the type number wanted and 52 to 63 the one found.
@@ -18,6 +19,24 @@ pub extern "C" fn deltawobble_translate(
     ensures { λ r. ⌜ Packs r (now (out .exit)) (now (work .exit)) (call (record { lean = lean; plain = plain }) (now (sheet .entry)) (now (out .entry)) (now (work .entry))) ⌝ }
 {
     let answer = translation::translate(sheet, out, work, Wish { lean, plain });
+    translator::word(answer)
+}
+
+// Sheets laid end to end, with their lengths: the netlists one behind the other, and a result for each sheet, such a word as the answer of
+// the call before. The answer's value is the number of bytes of the output that were used.
+#[no_mangle]
+pub extern "C" fn deltawobble_batch(
+    sheets: &[u8],
+    lengths: &[u32],
+    out: &mut [u8],
+    results: &mut [u64],
+    work: &mut [u16],
+    lean: bool,
+    plain: bool,
+) -> u64
+    ensures { λ r. ⌜ PacksBatch r (now (out .exit)) (now (results .exit)) (now (work .exit)) (batchCall (record { lean = lean; plain = plain }) (now (sheets .entry)) (now (lengths .entry)) (now (out .entry)) (now (results .entry)) (now (work .entry))) ⌝ }
+{
+    let answer = batch::batch(sheets, lengths, out, results, work, Wish { lean, plain });
     translator::word(answer)
 }
 

@@ -1,0 +1,5 @@
+pub mod SumLaws
+pub mod RowLaws
+pub mod BatchLaws
+pub mod Calls
+pub mod Determined

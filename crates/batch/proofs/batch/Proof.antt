@@ -1,0 +1,72 @@
+-- `batch::batch` meets its contract: by its two tests; the row of calls is `each`'s. Assumes nothing.
+use mathlib.Core.Path.{sym, _∙_}
+use lib.ListN.{length}
+use borrow.Author.Tests.{eqb-true}
+use Rattle.translation.specs.Wished.{saidWish}
+use Rattle.batch.specs.Batch.{sum}
+use Rattle.batch.proofs.BatchLaws.{no-room, no-sum, fitting}
+use borrow.Author.Needs.{needs}
+use Rattle.batch.proofs.batch.Statement.{statement}
+use Rattle.batch.proofs.batch.Tie as tie
+
+misfits-requires : tie.Need-misfits-requires
+misfits-requires c κs = search needs
+
+returns : tie.Need-returns
+returns c =
+    let a = c .before .before .before .before .before .before .before .args in
+    rw (c .misfits .ensures) (sym (no-room (saidWish (a .wish)) (a .sheets .now) (a .lengths .now) (a .out .now) (a .results .now) (a .work .now) (c .before .if1 .taken)))
+
+adds-up-requires : tie.Need-adds-up-requires
+adds-up-requires c κs = search needs
+
+each-requires : tie.Need-each-requires
+each-requires c κs =
+    let t = c .before .before .before in
+    let u = t .before in
+    let a = u .before .before .before .before .before .before .before .args in
+    (eqb-true (sum (a .lengths .now)) (length (a .sheets .now)) (sym (u .adds-up .ensures) ∙ t .if2 .taken), u .before .if1 .left)
+
+same-length : tie.Need-same-length
+same-length c = search needs
+
+same-length-2 : tie.Need-same-length-2
+same-length-2 c = search needs
+
+same-length-3 : tie.Need-same-length-3
+same-length-3 c = search needs
+
+returns-2 : tie.Need-returns-2
+returns-2 c =
+    let e = c .before .before .before .before .before .before in
+    let t = e .before .before .before .before in
+    let u = t .before in
+    let a = u .before .before .before .before .before .before .before .args in
+    e .each .ensures
+    ∙ sym (fitting (saidWish (a .wish)) (a .sheets .now) (a .lengths .now) (a .out .now) (a .results .now) (a .work .now) (u .before .if1 .left) (sym (u .adds-up .ensures) ∙ t .if2 .taken))
+
+misfits-requires-2 : tie.Need-misfits-requires-2
+misfits-requires-2 c κs = search needs
+
+returns-3 : tie.Need-returns-3
+returns-3 c =
+    let t = c .before in
+    let u = t .before in
+    let a = u .before .before .before .before .before .before .before .args in
+    rw (c .misfits2 .ensures)
+    (sym (no-sum (saidWish (a .wish)) (a .sheets .now) (a .lengths .now) (a .out .now) (a .results .now) (a .work .now) (u .before .if1 .left) (sym (u .adds-up .ensures) ∙ t .if2 .left)))
+
+pub batch-spec : {M : Type 1} → statement M
+batch-spec =
+    tie.close
+    (tie.spec
+    misfits-requires
+    returns
+    adds-up-requires
+    each-requires
+    same-length
+    same-length-2
+    same-length-3
+    returns-2
+    misfits-requires-2
+    returns-3)

@@ -1,0 +1,3 @@
+pub mod Batch
+pub mod Left
+pub mod Promise
