@@ -18,6 +18,19 @@ enum {
 uint64_t deltawobble_translate(const uint8_t *sheet, size_t sheet_len, uint8_t *out, size_t out_len,
                                uint16_t *work, size_t work_len, bool lean, bool plain);
 
+/* Sheets laid end to end, each of its length: the netlists stand one behind the other, and each sheet has its
+   result, such a word as above. A refused sheet uses nothing of the output and stops nothing. The value is the
+   number of bytes of the output that were used. Refusal 24, place 0: the lengths do not add up to the bytes
+   lent, or there are fewer places for results than lengths; then nothing is touched. */
+uint64_t deltawobble_batch(const uint8_t *sheets, size_t sheets_len, const uint32_t *lengths, size_t lengths_len,
+                           uint8_t *out, size_t out_len, uint64_t *results, size_t results_len,
+                           uint16_t *work, size_t work_len, bool lean, bool plain);
+
+/* Checks a netlist from outside, in kinds 21 to 24, a full or a lean one. 0 where it is accepted; else bits 32
+   to 39 are the refusal's number (1, 21, 22, 23), and bits 0 to 31 its place. A netlist may be longer than
+   4,294,967,295 bytes: an offset from there on shows as that number. */
+uint64_t deltawobble_check(const uint8_t *net, size_t net_len, uint16_t *work, size_t work_len, bool lean);
+
 /* The stretch of the sheet that holds a node: start in the upper half, length in the lower. */
 uint64_t deltawobble_stretch(const uint8_t *sheet, size_t sheet_len, size_t node);
 #endif

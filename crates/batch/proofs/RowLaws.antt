@@ -68,12 +68,12 @@ module _ (used k : ℕ) (out results o : List ℕ) (a : Answer ℕ) (j : ℕ) (r
   pub row-more : ofRest used k out results (record { said = a ∷ r .said; used = j + r .used; out = take j o ++ r .out; work = r .work })
       ≡ ofRest (used + j) (k + 1) (take used out ++ o) (set results k (packed a)) r
   row-more =
-    let e : used + (j + r .used) ≡ used + j + r .used = omega arith in
-    same-batch
-    (ap good e)
-    (sym (append-assoc (take used out) (take j o) (r .out)) ∙ ap (λ (x : List ℕ). x ++ r .out) (sym more-out))
-    (more-results (map packed (r .said)) (length (r .said)))
-    refl
+      let e : used + (j + r .used) ≡ used + j + r .used = omega arith in
+      same-batch
+      (ap good e)
+      (sym (append-assoc (take used out) (take j o) (r .out)) ∙ ap (λ (x : List ℕ). x ++ r .out) (sym more-out))
+      (more-results (map packed (r .said)) (length (r .said)))
+      refl
 
 -- the first k sheets are done: they began at `at` together, used so much of the output, and what is left makes the whole
 pub record Going (w : Wish) (s lengths out₀ results₀ work₀ out results work : List ℕ) (at used k : ℕ) : Type 0 where
@@ -112,7 +112,7 @@ module _ {w : Wish} {s lengths out₀ results₀ work₀ out results work : List
   rest-next : oneByOne w (drop size (drop at s)) (drop (k + 1) lengths) (drop j (c .out)) (c .work)
       ≡ oneByOne w (drop (at + size) s) (drop (k + 1) lengths) (drop (used + j) (take used out ++ c .out)) (c .work)
   rest-next = ap₂ (λ (x y : List ℕ). oneByOne w x (drop (k + 1) lengths) y (c .work)) (drop-drop size at s)
-    (sym (ap (λ (n : ℕ). drop (n + j) (take used out ++ c .out)) (sym (length-take-le used out (g .room))) ∙ drop-append-add (take used out) (c .out) j))
+      (sym (ap (λ (n : ℕ). drop (n + j) (take used out ++ c .out)) (sym (length-take-le used out (g .room))) ∙ drop-append-add (take used out) (c .out) j))
 
   pub going-more : Going w s lengths out₀ results₀ work₀ (take used out ++ c .out) (set results k (packed (c .said))) (c .work) (at + size) (used + j) (k + 1)
   going-more = record {
@@ -121,8 +121,8 @@ module _ {w : Wish} {s lengths out₀ results₀ work₀ out results work : List
     room = omega (arith, out-length, used-within w (take size (drop at s)) (drop used out) work);
     places = omega (arith, length-set results k (packed (c .said)), g .places);
     whole = ap (ofRest (used + j) (k + 1) (take used out ++ c .out) (set results k (packed (c .said)))) (sym rest-next)
-      ∙ sym (row-more used k out results (c .out) (c .said) j (g .room) (omega (arith, g .places)) (oneByOne w (drop size (drop at s)) (drop (k + 1) lengths) (drop j (c .out)) (c .work)))
-      ∙ ap (ofRest used k out results) (sym rest-here) ∙ g .whole;
+        ∙ sym (row-more used k out results (c .out) (c .said) j (g .room) (omega (arith, g .places)) (oneByOne w (drop size (drop at s)) (drop (k + 1) lengths) (drop j (c .out)) (c .work)))
+        ∙ ap (ofRest used k out results) (sym rest-here) ∙ g .whole;
   }
 
   -- as the code has it: a sheet from offset to offset, and the rest of the output, put back

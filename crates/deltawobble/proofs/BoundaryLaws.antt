@@ -1,6 +1,6 @@
 -- The number that a call answers tells what it said; a node's stretch fits its half of one. Assumes nothing.
 use Prim.Native.Nat.{ℕ, _+_, _≤_}
-use mathlib.Core.Path.{_≡_, refl, ap}
+use mathlib.Core.Path.{_≡_, refl, sym, ap, _∙_}
 use mathlib.Core.List.{List}
 use native.Mathlib.Omega.{arith}
 use native.Mathlib.Decide.{decLt}
@@ -21,7 +21,12 @@ use Rattle.translator.proofs.WordLaws.{word-tells}
 use Rattle.translation.proofs.Places.{CallPlace, CallCount, call-places}
 use Rattle.batch.specs.Batch.{Batch}
 use Rattle.batch.specs.Left.{left}
-use Rattle.deltawobble.specs.Boundary.{Packs, PacksBatch}
+use Rattle.translator.specs.declared.Answer.the-variants as answer
+use Rattle.foreign_theorems.specs.Foreign.{Checked}
+use Rattle.foreign.specs.Walk.{saidVerdict, called as checked}
+use Rattle.foreign.specs.declared.Verdict.{Verdict}
+use Rattle.foreign.specs.declared.Verdict.the-variants as verdict
+use Rattle.deltawobble.specs.Boundary.{Packs, PacksBatch, checkedValue, PacksCheck}
 
 -- ---- a call
 
@@ -39,6 +44,21 @@ batch-packs r o p w b e = record {
   wrote = ap (λ (x : Batch). x .out) e;
   stored = ap (λ (x : Batch). x .results) e;
   kept = ap (λ (x : Batch). x .work) e;
+}
+
+-- a verdict, as an answer that every call can give
+abbrev pub answerOf : Verdict → code.Answer
+answerOf verdict.Accepted = answer.Written 0
+answerOf (verdict.Refused number place) = answer.Refused (record { number = number; place = place; wanted = 0; found = 0 })
+
+same-value : (v : Verdict) → saidAnswer (answerOf v) ≡ checkedValue (saidVerdict v)
+same-value verdict.Accepted = refl
+same-value (verdict.Refused number place) = refl
+
+pub check-packs : (v : Verdict) (w : List ℕ) (c : Checked) (a : code.Answer) → checked v w ≡ c → answerOf v ≡ a → PacksCheck (packed (saidAnswer a)) w c
+check-packs v w c a e f = record {
+  said = ap (λ (x : code.Answer). packed (saidAnswer x)) (sym f) ∙ ap packed (same-value v) ∙ ap (λ (x : Checked). packed (checkedValue (x .said))) e;
+  kept = ap (λ (x : Checked). x .work) e;
 }
 
 fits : (s : List ℕ) (room : ℕ) {a : Answer ℕ} → Judged (CallPlace s room) (CallCount room) a → Fits a

@@ -4,11 +4,14 @@ use mathlib.Core.Path.{_≡_, sym, _∙_}
 use contract.Lifetimes.{Lfts}
 use denote.Triple.Clauses.{AtExit}
 use borrow.Fn.Kinds.{Dens, resT, endedOf}
+use Rattle.laws.proofs.OneResult.{Results}
 use Rattle.translator.proofs.SaidLaws.{Same}
 use Rattle.deltawobble.proofs.deltawobble_translate.Kinds as c-translate
 use Rattle.deltawobble.proofs.deltawobble_translate.Reads as c-translate-reads
 use Rattle.deltawobble.proofs.deltawobble_batch.Kinds as c-batch
 use Rattle.deltawobble.proofs.deltawobble_batch.Reads as c-batch-reads
+use Rattle.deltawobble.proofs.deltawobble_check.Kinds as c-check
+use Rattle.deltawobble.proofs.deltawobble_check.Reads as c-check-reads
 use Rattle.deltawobble.proofs.deltawobble_stretch.Kinds as c-stretch
 use Rattle.deltawobble.proofs.deltawobble_stretch.Reads as c-stretch-reads
 
@@ -21,6 +24,9 @@ pub determined-deltawobble-batch : (κs : Lfts 5) (a : Dens κs c-batch.ps) (x y
     → Same x y (s .1 .1 .0 .now) (t .1 .1 .0 .now) (s .1 .1 .1 .1 .0 .now) (t .1 .1 .1 .1 .0 .now) × (s .1 .1 .1 .0 .now ≡ t .1 .1 .1 .0 .now)
 determined-deltawobble-batch κs a x y s t f g =
     (record { answer = f .said ∙ sym (g .said); out = f .wrote ∙ sym (g .wrote); work = f .kept ∙ sym (g .kept) }, f .stored ∙ sym (g .stored))
+
+pub determined-deltawobble-check : Results c-check.ps c-check.r c-check-reads.Post (λ κs s. s .1 .0 .now)
+determined-deltawobble-check κs a x y s t f g = (f .said ∙ sym (g .said), f .kept ∙ sym (g .kept))
 
 pub determined-deltawobble-stretch : (κs : Lfts 1) (a : Dens κs c-stretch.ps) (x y : resT c-stretch.r κs .Denot) (s t : AtExit (endedOf 1 c-stretch.ps c-stretch.r) κs)
     → c-stretch-reads.Post κs a x s → c-stretch-reads.Post κs a y t → x ≡ y

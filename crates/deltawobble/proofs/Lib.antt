@@ -1,2 +1,3 @@
 pub mod BoundaryLaws
+pub mod OwnBytes
 pub mod Determined

@@ -2,10 +2,12 @@
 use Prim.Native.Nat.{ℕ}
 use mathlib.Core.Path.{_≡_}
 use mathlib.Core.List.{List}
+use Rattle.calculus.specs.Answer.{Answer, good, refused}
 use Rattle.calculus.specs.Stretch.{Stretch}
 use Rattle.calculus.specs.Translate.{Call}
 use Rattle.translator.specs.Word.{halves, packed}
 use Rattle.batch.specs.Batch.{Batch}
+use Rattle.foreign_theorems.specs.Foreign.{Checked}
 
 -- where a stretch begins, and its length
 abbrev pub packedStretch : Stretch → ℕ
@@ -23,3 +25,13 @@ pub record PacksBatch (r : ℕ) (out results work : List ℕ) (b : Batch) : Type
   pub wrote : out ≡ b .out
   pub stored : results ≡ b .results
   pub kept : work ≡ b .work
+
+-- accepted is the value 0
+abbrev pub checkedValue : Answer (Unit {0}) → Answer ℕ
+checkedValue (good u) = good 0
+checkedValue (refused why) = refused why
+
+-- a number, and what is left of the working memory, are those of a check
+pub record PacksCheck (r : ℕ) (work : List ℕ) (c : Checked) : Type 0 where
+  pub said : r ≡ packed (checkedValue (c .said))
+  pub kept : work ≡ c .work

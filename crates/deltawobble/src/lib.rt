@@ -1,10 +1,14 @@
 // The public calls for C: the answer of each is one number.
+use foreign::Verdict;
 use translation::Wish;
+use translator::Answer;
+use typing::Refusal;
 ghost use mathlib.Core.Path.{_≡_};
 ghost use Rattle.calculus.specs.Stretch.{stretchOf};
 ghost use Rattle.calculus.specs.Translate.{call};
 ghost use Rattle.batch.specs.Batch.{batchCall};
-ghost use Rattle.deltawobble.specs.Boundary.{Packs, PacksBatch, packedStretch};
+ghost use Rattle.foreign_theorems.specs.Foreign.{checkCall};
+ghost use Rattle.deltawobble.specs.Boundary.{Packs, PacksBatch, PacksCheck, packedStretch};
 
 // The netlist of a sheet. Bits 0 to 31 of the answer are the number of bytes written or the place, 32 to 39 the refusal's number, 0 for none,
 // 40 to 51 the type number wanted and 52 to 63 the one found.
@@ -38,6 +42,23 @@ pub extern "C" fn deltawobble_batch(
 {
     let answer = batch::batch(sheets, lengths, out, results, work, Wish { lean, plain });
     translator::word(answer)
+}
+
+// A netlist from outside, in kinds 21 to 24, the full one or a lean one. The answer is 0 where it is accepted, else the refusal's number and
+// place as in the calls before; a place from 4,294,967,295 on shows as that number.
+#[no_mangle]
+pub extern "C" fn deltawobble_check(net: &[u8], work: &mut [u16], lean: bool) -> u64
+    ensures { λ r. ⌜ PacksCheck r (now (work .exit)) (checkCall lean (now (net .entry)) (now (work .entry))) ⌝ }
+{
+    match foreign::check(net, work, lean) {
+        Verdict::Accepted => translator::word(Answer::Written(0)),
+        Verdict::Refused(number, place) => translator::word(Answer::Refused(Refusal {
+            number,
+            place,
+            wanted: 0,
+            found: 0,
+        })),
+    }
 }
 
 // Where the stretch of a node begins, and its length; 0 where the sheet is refused or the number is too large.

@@ -100,8 +100,7 @@ loop-again c =
     let o = c .before .before .before .before .before .before in
     let v = o .before .before .before .before .before in
     let i = v .before .before in
-    let l = i .before .loop in
-    (
+    let l = i .before .loop in (
       going-part (l .inv .0) (i .loop-test .taken) (v .wide .result) (o .one .result) (o .one .last .1 .0) _ _ (v .wide .ensures) (o .one .ensures),
       same-len-mid (l .used) (length (l .out) - l .used) (l .out) (o .one .last .1 .0) (o .one .kept .1 .0) ∙ l .inv .1,
       o .one .kept .1 .1 .0 ∙ l .inv .2,
