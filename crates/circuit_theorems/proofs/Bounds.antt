@@ -19,7 +19,8 @@ use Rattle.calculus.specs.Translate.{full}
 use Rattle.circuit_theorems.specs.Terminals.{terminals}
 use Rattle.circuit_theorems.proofs.Lists.{all-map}
 use Rattle.circuit_theorems.proofs.Terminals.{tiled-rising, rising-end}
-use Rattle.circuit_theorems.proofs.Drivers.{dirs, turns-size, Env, env-end, Driven, term-driven, opposite, dirs-left, dirs-in}
+use Rattle.circuit_theorems.proofs.Drivers.{turns-size, Driven, term-driven, opposite, dirs-left, dirs-in}
+use Rattle.circuit_theorems.specs.Scope.{dirs, Env, env-end}
 use Rattle.circuit_theorems.proofs.Outputs.{tiled, Named, names-below}
 use Rattle.circuit_theorems.proofs.Counts.{part-inputs, elements-few, wires-few, bytes-few, lean-bytes}
 use Rattle.sheet_theorems.proofs.Laying.{laid}

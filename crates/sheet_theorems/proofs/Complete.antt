@@ -13,14 +13,10 @@ use Rattle.calculus.specs.Terms.{Edition, Term, fun, app, lfun, lapp, pair, pro
 use Rattle.calculus.specs.Walk.{shared, linear, Stack, Found, found, useShared, useLinear, walk}
 use Rattle.calculus.specs.Rules.{Ctx, NoLinear, none-end, none-many, none-away, InΓ, in-here, in-many, in-away, IsΔ, is-here, is-many, is-away, Split, split-end, split-many, split-first, split-second, split-away, Typed, Var, LVar, →I, →E, ⊸I, ⊸E, ×I, ×E, Fix, Con, ×E′}
 use Rattle.sheet_theorems.specs.Laid.{Agrees, Below, TableOk, Ranged}
+use Rattle.sheet_theorems.specs.Numbers.{Numbers}
 use Rattle.laws.proofs.Tests.{and-of, T-is}
 use Rattle.sheet_theorems.proofs.Tables.{wider}
 use Rattle.sheet_theorems.proofs.Sound.{Step, step-end, step-shared, step-same, step-took}
-
-abbrev pub Numbers : Stack → ℕ → Type 0
-Numbers [] l = Unit {0}
-Numbers (shared t ∷ st) l = (t < l) × Numbers st l
-Numbers (linear t u ∷ st) l = (t < l) × Numbers st l
 
 -- ---- the two numbers of a record whose type has a form
 

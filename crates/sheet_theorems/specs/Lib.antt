@@ -1,3 +1,4 @@
 pub mod Laid
 pub mod Subterms
 pub mod Clash
+pub mod Numbers

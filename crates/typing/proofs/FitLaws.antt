@@ -21,7 +21,7 @@ use Rattle.records.specs.Rules.{isProjection, isNaming}
 use Rattle.records.specs.declared.Rule.{Rule}
 use Rattle.records.specs.declared.Rule.the-variants as rule
 use Rattle.sheet_theorems.proofs.Standing.{fun-body, app-function, app-argument, lfun-body, lapp-function, lapp-argument, pair-first, pair-second, proj-pair, proj-body, fix-body, name-first, name-body}
-use Rattle.sheet_theorems.proofs.Complete.{Numbers}
+use Rattle.sheet_theorems.specs.Numbers.{Numbers}
 use Rattle.typing.specs.declared.rules.Opening.{Opening}
 use Rattle.typing.specs.declared.rules.Opening.the-variants as opening
 use Rattle.typing.specs.Steps.{kindNo, leftOf, rightOf, openingOf, opened, enterOf, entersOf, halvesOf, betweenOf}

@@ -13,7 +13,7 @@ use Rattle.sheet_theorems.specs.Laid.{Agrees, Below, TableOk, Ranged}
 use Rattle.calculus.specs.Walk.{Stack, Found, numberFrom, typeNumber, walk}
 use Rattle.laws.proofs.Tests.{T-is}
 use Rattle.sheet_theorems.proofs.Tables.{tys-count}
-use Rattle.sheet_theorems.proofs.Complete.{Numbers}
+use Rattle.sheet_theorems.specs.Numbers.{Numbers}
 use Rattle.sheet_theorems.proofs.WalkKeeps.{kept-length, kept-numbers, walk-keeps, walk-in}
 use Rattle.typing.specs.Steps.{Types, kindNo, leftOf, rightOf, bothSides, standsFor, numberBelow}
 

@@ -23,7 +23,8 @@ use Rattle.memory.specs.Map.{region, code, kindOf}
 use Rattle.circuit_theorems.specs.Drive.{driveAll}
 use Rattle.circuit_theorems.proofs.Bounds.{join-length}
 use Rattle.circuit_theorems.proofs.Drive.{drive-append}
-use Rattle.circuit_theorems.proofs.Drivers.{dir, dirs, dirs-left, opposite, turns-size}
+use Rattle.circuit_theorems.proofs.Drivers.{dirs-left, opposite, turns-size}
+use Rattle.circuit_theorems.specs.Scope.{dir, dirs}
 use Rattle.wiring.specs.declared.walk.State.{State}
 use Rattle.wiring.specs.declared.walk.Built.{Built}
 use Rattle.wiring.specs.Sides.{sidesOf}

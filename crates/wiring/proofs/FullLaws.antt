@@ -29,7 +29,7 @@ use Rattle.sheet_theorems.proofs.Standing.{sheet-stands}
 use Rattle.records.specs.Told.{sizesOf}
 use Rattle.records.proofs.ToldLaws.{sheet-types, size-at, sizes-length}
 use Rattle.circuit_theorems.specs.Drive.{driveAll}
-use Rattle.circuit_theorems.proofs.Drivers.{env-end}
+use Rattle.circuit_theorems.specs.Scope.{env-end}
 use Rattle.circuit_theorems.proofs.Lists.{all-map}
 use Rattle.circuit_theorems.proofs.Wiring.{target-one}
 use Rattle.circuit_theorems.proofs.Forming.{Gapless}

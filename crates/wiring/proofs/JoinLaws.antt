@@ -9,7 +9,7 @@ use lib.Seq.{sets}
 use Rattle.calculus.specs.Net.{Interface, join}
 use Rattle.calculus.specs.Record.{All}
 use Rattle.memory.specs.Map.{region, code}
-use Rattle.circuit_theorems.proofs.Drivers.{dirs}
+use Rattle.circuit_theorems.specs.Scope.{dirs}
 use Rattle.circuit_theorems.proofs.Lists.{all-left, all-right}
 use Rattle.wiring.specs.Links.{links, Apart}
 use Rattle.wiring.specs.Store.{Store, Lies, Low, Holds, atStack, moreWires}

@@ -16,7 +16,8 @@ use Rattle.records.specs.Heads.{nodeOf}
 use Rattle.records.specs.Rules.{isConstant}
 use Rattle.records.specs.Forms.{recIn}
 use Rattle.sheet_theorems.proofs.Standing.{fun-body, lfun-body, fix-body, app-function, app-argument, lapp-function, lapp-argument, pair-first, pair-second, proj-pair, proj-body, name-first, name-body}
-use Rattle.circuit_theorems.proofs.Drivers.{Fits, Env, env-many, env-once, env-away, split-env, binder-fits, halves, term-driven}
+use Rattle.circuit_theorems.proofs.Drivers.{split-env, binder-fits, halves, term-driven}
+use Rattle.circuit_theorems.specs.Scope.{Suits, Env, env-many, env-once, env-away}
 use Rattle.wiring.specs.Sides.{sidesOf, Knows}
 use Rattle.wiring.specs.Nodes.{funOf, Binding, Twofold, Variable, Constant}
 
@@ -39,7 +40,7 @@ sided-at {Θ = Θ} K t h f = rw (K .records t h) (sided-of Θ t (recAt Θ t) (K 
 
 -- ---- binders' interfaces and contexts
 
-bound-fits : (τ α : Ty) (n : ℕ) → α ≡ τ → Fits τ (binder α n)
+bound-fits : (τ α : Ty) (n : ℕ) → α ≡ τ → Suits τ (binder α n)
 bound-fits τ α n e = rw e (binder-fits τ n)
 
 not-arrow : {τ θ ρ : Ty} → τ ≡ arrow θ ρ → τ ≡ bit → ⊥

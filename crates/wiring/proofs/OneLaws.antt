@@ -18,7 +18,8 @@ use Rattle.memory.specs.Map.{code, kindOf}
 use Rattle.circuit_theorems.specs.Drive.{driveAll}
 use Rattle.circuit_theorems.proofs.Bounds.{next-is, made-side, made-type, join-length}
 use Rattle.circuit_theorems.proofs.Drive.{drive-append}
-use Rattle.circuit_theorems.proofs.Drivers.{turns-size, dirs, dirs-in, term-driven, Env}
+use Rattle.circuit_theorems.proofs.Drivers.{turns-size, dirs-in, term-driven}
+use Rattle.circuit_theorems.specs.Scope.{dirs, Env}
 use Rattle.wiring.specs.declared.walk.State.{State}
 use Rattle.wiring.specs.declared.walk.Built.{Built}
 use Rattle.wiring.specs.Sides.{Named, face}

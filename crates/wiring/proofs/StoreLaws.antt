@@ -14,7 +14,7 @@ use Rattle.calculus.specs.Record.{All}
 use Rattle.memory.specs.Map.{region, code}
 use Rattle.circuit_theorems.specs.Drive.{driveAll}
 use Rattle.circuit_theorems.proofs.Lists.{all-append, all-left}
-use Rattle.circuit_theorems.proofs.Drivers.{dirs}
+use Rattle.circuit_theorems.specs.Scope.{dirs}
 use Rattle.wiring.specs.Links.{wired, linked, links}
 use Rattle.wiring.specs.Store.{Store, Lies, Low, Holds, moreKinds, atStack, atBinders, target, moreWires}
 use Rattle.wiring.proofs.LinkLaws.{linked-codes}

@@ -21,7 +21,8 @@ use Rattle.records.specs.declared.Node.{Node}
 use Rattle.memory.specs.Map.{region, code, kindOf}
 use Rattle.sheet_theorems.proofs.Standing.{stands-in}
 use Rattle.circuit_theorems.proofs.Bounds.{next-is, made-side, made-type}
-use Rattle.circuit_theorems.proofs.Drivers.{dirs, term-driven}
+use Rattle.circuit_theorems.proofs.Drivers.{term-driven}
+use Rattle.circuit_theorems.specs.Scope.{dirs}
 use Rattle.wiring.specs.declared.walk.State.{State}
 use Rattle.wiring.specs.declared.walk.Built.{Built}
 use Rattle.wiring.specs.Sides.{sidesOf}

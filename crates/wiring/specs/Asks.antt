@@ -19,7 +19,7 @@ use Rattle.records.specs.declared.Node.{Node}
 use Rattle.records.specs.declared.Rule.{Rule}
 use Rattle.records.specs.Rules.{isPair, isProjection, isFixedPoint, isNaming}
 use Rattle.memory.specs.Map.{region, code}
-use Rattle.circuit_theorems.proofs.Drivers.{Env}
+use Rattle.circuit_theorems.specs.Scope.{Env}
 use Rattle.wiring.specs.declared.walk.State.{State}
 use Rattle.wiring.specs.declared.walk.Built.{Built}
 use Rattle.wiring.specs.Sides.{sidesOf, Knows, Named, face}
