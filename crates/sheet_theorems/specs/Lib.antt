@@ -2,3 +2,4 @@ pub mod Laid
 pub mod Subterms
 pub mod Clash
 pub mod Numbers
+pub mod Records
