@@ -1,5 +1,5 @@
 -- Node by node: the makers of the first k nodes' elements, and what node k's record says of its own. Assumes nothing.
-use Prim.Native.Nat.{ℕ, suc, _+_, _≤_, _<_}
+use Prim.Native.Nat.{ℕ, _+_, _≤_, _<_}
 use mathlib.Core.Path.{_≡_, refl, sym, ap, _∙_, subst}
 use mathlib.Core.List.{List, [], _∷_, _++_, append-nil}
 use native.Mathlib.Omega.{arith}
@@ -7,15 +7,14 @@ use native.Mathlib.Numerals.{add-one}
 use lib.ListN.{length, getD, take, drop, replicate, length-append, length-replicate, take-append-drop, replicate-append-replicate}
 use lib.Seq.{sets, take-suc, take-length, length-take-le}
 use Rattle.laws.proofs.Regions.{sets-append}
-use Rattle.calculus.specs.Types.{Ty, size, TyRec, rec01, rec02, rec03, rec04, Table, recAt, tree}
+use Rattle.calculus.specs.Types.{size, TyRec, Table, recAt, tree}
 use Rattle.calculus.specs.Terms.{Term, var, lvar, fun, app, lfun, lapp, pair, proj, fix, con, name, nodes}
 use Rattle.calculus.specs.Net.{leftOf}
 use Rattle.calculus.specs.Makers.{makers}
-use Rattle.sheet_theorems.specs.Laid.{Agrees, Below, TableOk, Stands, Ranged, depth}
+use Rattle.sheet_theorems.specs.Laid.{Stands, Ranged, depth}
 use Rattle.sheet_theorems.specs.Subterms.{subterms, skip}
-use Rattle.sheet_theorems.proofs.TypeOffsets.{tree-zero}
 use Rattle.sheet_theorems.proofs.StretchHolds.{count-subterms, node-stretch}
-use Rattle.sheet_theorems.proofs.SubtermRead.{Limits, subterm-limits}
+use Rattle.sheet_theorems.proofs.SubtermRead.{subterm-limits}
 use Rattle.circuit_theorems.proofs.Makers.{ownCount, rowMakers, row-makers-append, row-makers}
 use Rattle.records.specs.Record.{nodeAt}
 use Rattle.records.specs.Heads.{nodeOf}
@@ -25,7 +24,9 @@ use Rattle.records.proofs.Laws.{stands-node}
 use Rattle.sheet.specs.Nodes.{NodesFrom}
 use Rattle.sheet.proofs.StretchLaws.{skip-more}
 use Rattle.memory.specs.Map.{makersAt}
-use Rattle.makers.specs.Naming.{leftIn, elementsIn, Nameable}
+use Rattle.records.specs.TypeNumbers.{leftNo}
+use Rattle.records.proofs.SideLaws.{left-of}
+use Rattle.makers.specs.Naming.{elementsIn, Nameable}
 
 -- ---- a run of one number
 
@@ -36,20 +37,13 @@ run-more w to i x =
 
 -- ---- one record's elements
 
-left-of : (Θ : Table) (sizes : List ℕ) (t : ℕ) (q : TyRec) → ((u : ℕ) → u < length Θ → getD sizes u 0 ≡ size (tree Θ u)) → TableOk Θ → t < length Θ
-    → Agrees Θ q (tree Θ t) → Below t q → getD sizes (leftIn q) 0 ≡ size (leftOf (tree Θ t))
-left-of Θ sizes t rec01 f ok h a b = f 0 (omega arith) ∙ ap size (tree-zero Θ ok) ∙ sym (ap (λ (τ : Ty). size (leftOf τ)) a)
-left-of Θ sizes t (rec02 l r) f ok h a b = f l (omega (arith, b .0)) ∙ sym (ap (λ (τ : Ty). size (leftOf τ)) (a .0))
-left-of Θ sizes t (rec03 l r) f ok h a b = f l (omega (arith, b .0)) ∙ sym (ap (λ (τ : Ty). size (leftOf τ)) (a .0))
-left-of Θ sizes t (rec04 l r) f ok h a b = f l (omega (arith, b .0)) ∙ sym (ap (λ (τ : Ty). size (leftOf τ)) (a .0))
-
 module _ {s sizes w : List ℕ} {from count : ℕ} (q : Nameable s sizes w from count) where
   abbrev Θ : Table
   Θ = q .table
 
-  left-size : (t : ℕ) → t < length Θ → getD sizes (leftIn (recIn s t)) 0 ≡ size (leftOf (tree Θ t))
+  left-size : (t : ℕ) → t < length Θ → getD sizes (leftNo (recIn s t)) 0 ≡ size (leftOf (tree Θ t))
   left-size t h =
-      ap (λ (x : TyRec). getD sizes (leftIn x) 0) (q .records t h) ∙ left-of Θ sizes t (recAt Θ t) (q .sized) (q .ok) h (q .ok .agrees t) (q .ok .earlier t h)
+      ap (λ (x : TyRec). getD sizes (leftNo x) 0) (q .records t h) ∙ left-of Θ sizes t (recAt Θ t) (q .sized) (q .ok) h (q .ok .agrees t) (q .ok .earlier t h)
 
   own-is : (e : Term) (at : ℕ) → Ranged (q .edition) Θ e → elementsIn s sizes (nodeOf e at) ≡ ownCount Θ e
   unfolding elementsIn

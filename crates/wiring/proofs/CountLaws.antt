@@ -4,10 +4,10 @@ use mathlib.Core.Path.{_≡_, refl, sym, ap, _∙_, subst}
 use mathlib.Core.List.{List, [], _∷_, _++_, append-assoc, append-nil}
 use native.Mathlib.Omega.{arith}
 use lib.ListN.{length, getD, drop}
-use Rattle.calculus.specs.Types.{Ty, size, TyRec, rec01, rec02, rec03, rec04, Table, recAt, tree}
+use Rattle.calculus.specs.Types.{size, TyRec, Table, recAt, tree}
 use Rattle.calculus.specs.Terms.{Edition, Term, var, lvar, fun, app, lfun, lapp, pair, proj, fix, con, name, nodes, partAt}
 use Rattle.calculus.specs.Write.{termBytes}
-use Rattle.sheet_theorems.specs.Laid.{Agrees, Below, TableOk, Stands, Ranged}
+use Rattle.sheet_theorems.specs.Laid.{Stands, Ranged}
 use Rattle.calculus.specs.Net.{leftOf, make}
 use Rattle.calculus.specs.Record.{All}
 use Rattle.records.specs.Record.{nodeAt}
@@ -15,11 +15,12 @@ use Rattle.records.specs.Heads.{nodeOf}
 use Rattle.records.specs.Forms.{recIn}
 use Rattle.records.specs.declared.Node.{Node}
 use Rattle.sheet_theorems.proofs.Bytes.{behind}
-use Rattle.sheet_theorems.proofs.TypeOffsets.{tree-zero}
 use Rattle.circuit_theorems.specs.Terminals.{terminals}
 use Rattle.circuit_theorems.proofs.Bounds.{next-is, terminals-few}
 use Rattle.circuit_theorems.proofs.Lists.{all-append}
-use Rattle.wiring.specs.Sides.{sidesOf, Knows}
+use Rattle.records.specs.TypeNumbers.{leftNo}
+use Rattle.records.proofs.SideLaws.{left-of}
+use Rattle.wiring.specs.Sides.{Knows}
 use Rattle.records.proofs.Laws.{stands-node}
 use Rattle.wiring.specs.Count.{ownIn, Counting, rowBytes, rowNodes, rowTerminals, Row}
 
@@ -138,16 +139,9 @@ subs-ranged E Θ (name a e) r = (r .1, (r .2, tt))
 
 -- ---- its own terminals, by its record
 
-left-of : (Θ : Table) (sizes : List ℕ) (t : ℕ) (q : TyRec) → ((u : ℕ) → u < length Θ → getD sizes u 0 ≡ size (tree Θ u)) → TableOk Θ → t < length Θ
-    → Agrees Θ q (tree Θ t) → Below t q → getD sizes (sidesOf q .left) 0 ≡ size (leftOf (tree Θ t))
-left-of Θ sizes t rec01 f ok h a b = f 0 (omega arith) ∙ ap size (tree-zero Θ ok) ∙ sym (ap (λ (τ : Ty). size (leftOf τ)) a)
-left-of Θ sizes t (rec02 l r) f ok h a b = f l (omega (arith, b .0)) ∙ sym (ap (λ (τ : Ty). size (leftOf τ)) (a .0))
-left-of Θ sizes t (rec03 l r) f ok h a b = f l (omega (arith, b .0)) ∙ sym (ap (λ (τ : Ty). size (leftOf τ)) (a .0))
-left-of Θ sizes t (rec04 l r) f ok h a b = f l (omega (arith, b .0)) ∙ sym (ap (λ (τ : Ty). size (leftOf τ)) (a .0))
-
 module _ {s sizes : List ℕ} {Θ : Table} (K : Knows s sizes Θ) where
-  left-size : (t : ℕ) → t < length Θ → 2 * getD sizes (sidesOf (recIn s t) .left) 0 ≡ 2 * size (leftOf (tree Θ t))
-  left-size t h = ap (λ (k : ℕ). 2 * k) (ap (λ (q : TyRec). getD sizes (sidesOf q .left) 0) (K .records t h) ∙ left-of Θ sizes t (recAt Θ t) (K .sized) (K .ok) h (K .ok .agrees t) (K .ok .earlier t h))
+  left-size : (t : ℕ) → t < length Θ → 2 * getD sizes (leftNo (recIn s t)) 0 ≡ 2 * size (leftOf (tree Θ t))
+  left-size t h = ap (λ (k : ℕ). 2 * k) (ap (λ (q : TyRec). getD sizes (leftNo q) 0) (K .records t h) ∙ left-of Θ sizes t (recAt Θ t) (K .sized) (K .ok) h (K .ok .agrees t) (K .ok .earlier t h))
 
   pub own-is : (E : Edition) (e : Term) (at : ℕ) → Ranged E Θ e → ownIn s sizes (nodeOf e at) ≡ own Θ e
   unfolding ownIn

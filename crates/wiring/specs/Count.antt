@@ -13,8 +13,8 @@ use Rattle.calculus.specs.Record.{All}
 use Rattle.circuit_theorems.specs.Terminals.{terminals}
 use Rattle.records.specs.declared.Node.{Node}
 use Rattle.records.specs.Rules.{isConstant}
+use Rattle.records.specs.TypeNumbers.{boundIn}
 use Rattle.wiring.specs.Sides.{Knows}
-use Rattle.wiring.specs.Asks.{boundIn}
 
 -- the terminals that one record makes
 unfoldable pub ownIn : List ℕ → List ℕ → Node → ℕ

@@ -14,7 +14,8 @@ use Rattle.calculus.specs.Net.{turns, points, inSide, Bound, Made, leftOf, righ
 use Rattle.records.specs.Heads.{nodeOf}
 use Rattle.records.specs.Rules.{isPair, isProjection, isFixedPoint, isNaming}
 use Rattle.circuit_theorems.specs.Scope.{Env}
-use Rattle.wiring.specs.Asks.{boundIn, ofBody}
+use Rattle.records.specs.TypeNumbers.{boundIn}
+use Rattle.wiring.specs.Asks.{ofBody}
 
 -- a function of type τ that binds α, around its body
 abbrev pub funOf : Ty → Ty → ℕ → Made → Made

@@ -24,10 +24,10 @@ fn own_terminals(s: &[u8], sizes: &[u8], node: Node) -> usize
 {
     let rule = node.rule;
     match rule {
-        Rule::Constant => faces::inputs_of(node.first) + 1,
+        Rule::Constant => faces::terminals_of(node.first),
         _ => {
             if node.subterms == 1 {
-                return 2 * faces::size_of(sizes, walk::bound(s, node));
+                return 2 * faces::size_of(sizes, records::bound_by(s, node));
             }
             0
         }
