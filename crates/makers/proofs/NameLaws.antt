@@ -23,7 +23,7 @@ use Rattle.records.specs.declared.Node.{Node}
 use Rattle.records.proofs.Laws.{stands-node}
 use Rattle.sheet.specs.Nodes.{NodesFrom}
 use Rattle.sheet.proofs.StretchLaws.{skip-more}
-use Rattle.memory.specs.Map.{makersAt}
+use Rattle.memory.specs.Map.{makersAt, memorySize}
 use Rattle.records.specs.TypeNumbers.{leftNo}
 use Rattle.records.proofs.SideLaws.{left-of}
 use Rattle.makers.specs.Naming.{elementsIn, Nameable}
@@ -128,7 +128,7 @@ module _ {s sizes w₀ w : List ℕ} {from count at to k : ℕ} (q : Nameable s 
       ap length (done-more q k h) ∙ length-append (done q k) _
       ∙ ap (λ (x : ℕ). length (done q k) + x) (length-replicate (ownCount (q .table) (getD (subterms (q .term)) k (q .term))) k ∙ sym own-count)
 
-  pub named-room : to + elementsIn s sizes r ≤ 32768
+  pub named-room : to + elementsIn s sizes r ≤ memorySize
   named-room = omega (arith, n .next, length-more, done-few q (k + 1))
 
   pub named-step : {w₁ : List ℕ} → w₁ ≡ sets w to (replicate (elementsIn s sizes r) k)
