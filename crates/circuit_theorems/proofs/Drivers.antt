@@ -147,17 +147,17 @@ none-linears [] i (none-away z) = refl
 none-linears (b ∷ env) i (none-away z) = none-linears env i z
 
 -- a variable's interface
-pub record Shown (Γ : Ctx) (env : List Bound) (τ : Ty) (b : Bound) : Type 0 where
+pub record VariableShown (Γ : Ctx) (env : List Bound) (τ : Ty) (b : Bound) : Type 0 where
   pub fits : Suits τ b
   pub count : (i : ℕ) → linears Γ env i ≡ ins (b .side) i
 
-shown-shared : {Γ : Ctx} {env : List Bound} {k : ℕ} {θ : Ty} → InΓ Γ k θ → Env Γ env → Shown Γ env θ (getD env k unbound)
+shown-shared : {Γ : Ctx} {env : List Bound} {k : ℕ} {θ : Ty} → InΓ Γ k θ → Env Γ env → VariableShown Γ env θ (getD env k unbound)
 shown-shared (in-here {θ = θ} z) (env-many {b = b} {env = env} h f v) =
     record { fits = f; count = λ i. none-linears env i z ∙ sym (outputs-only θ (b .side) i h (f .dirs)) }
 shown-shared (in-many x) (env-many h f v) = let r = shown-shared x v in record { fits = r .fits; count = r .count }
 shown-shared (in-away x) (env-away v) = let r = shown-shared x v in record { fits = r .fits; count = r .count }
 
-shown-linear : {Γ : Ctx} {env : List Bound} {k : ℕ} {κ : Ty} → IsΔ Γ k κ → Env Γ env → Shown Γ env κ (getD env k unbound)
+shown-linear : {Γ : Ctx} {env : List Bound} {k : ℕ} {κ : Ty} → IsΔ Γ k κ → Env Γ env → VariableShown Γ env κ (getD env k unbound)
 shown-linear (is-here z) (env-once {env = env} f v) =
     record { fits = f; count = λ i. omega (arith, none-linears env i z) }
 shown-linear (is-many x) (env-many h f v) = let r = shown-linear x v in record { fits = r .fits; count = r .count }
@@ -173,7 +173,7 @@ pub record Driven (Γ : Ctx) (env : List Bound) (τ : Ty) (m : Made) : Type 0 wh
 pub binder-fits : (τ : Ty) (n : ℕ) → Suits τ (binder τ n)
 binder-fits τ n = record { type = refl; dirs = dirs-out (turns false τ) n }
 
-var-driven : {Γ : Ctx} {env : List Bound} {τ : Ty} {b : Bound} (n : ℕ) → Shown Γ env τ b → Driven Γ env τ (madeVar b n)
+var-driven : {Γ : Ctx} {env : List Bound} {τ : Ty} {b : Bound} (n : ℕ) → VariableShown Γ env τ b → Driven Γ env τ (madeVar b n)
 var-driven n s = record { type = s .fits .type; dirs = s .fits .dirs; count = λ i. omega (arith, s .count i) }
 
 in-dirs : (α τ : Ty) (n : ℕ) (s : Interface) → dirs s ≡ turns false τ → dirs (inSide (turns false α) n ++ s) ≡ turns true α ++ turns false τ

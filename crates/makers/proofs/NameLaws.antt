@@ -110,16 +110,16 @@ module _ {s sizes w : List ℕ} {from count : ℕ} (q : Nameable s sizes w from 
       omega (arith, a, length-append (done k) (rowMakers Θ (drop k us) (0 + length (take k us))), q .elements)
 
 -- the first k nodes' elements are named; `to` is the next maker's place, and `at` where node k's record stands
-pub record Named (s sizes w₀ : List ℕ) (from count : ℕ) (q : Nameable s sizes w₀ from count) (w : List ℕ) (at to k : ℕ) : Type 0 where
+pub record NamedSoFar (s sizes w₀ : List ℕ) (from count : ℕ) (q : Nameable s sizes w₀ from count) (w : List ℕ) (at to k : ℕ) : Type 0 where
   pub here : at ≡ skip s k from
   pub next : to ≡ makersAt + length (done q k)
   pub stored : w ≡ sets w₀ makersAt (done q k)
 
-pub named-start : {s sizes w : List ℕ} {from count : ℕ} (q : Nameable s sizes w from count) → Named s sizes w from count q w from makersAt 0
+pub named-start : {s sizes w : List ℕ} {from count : ℕ} (q : Nameable s sizes w from count) → NamedSoFar s sizes w from count q w from makersAt 0
 unfolding skip
 named-start q = record { here = refl; next = omega arith; stored = refl }
 
-module _ {s sizes w₀ w : List ℕ} {from count at to k : ℕ} (q : Nameable s sizes w₀ from count) (n : Named s sizes w₀ from count q w at to k) (h : k < count) {r : Node} (e : r ≡ nodeAt s at) where
+module _ {s sizes w₀ w : List ℕ} {from count at to k : ℕ} (q : Nameable s sizes w₀ from count) (n : NamedSoFar s sizes w₀ from count q w at to k) (h : k < count) {r : Node} (e : r ≡ nodeAt s at) where
   own-count : elementsIn s sizes r ≡ ownCount (q .table) (getD (subterms (q .term)) k (q .term))
   own-count = own-here q k at r h (n .here) e
 
@@ -132,13 +132,13 @@ module _ {s sizes w₀ w : List ℕ} {from count at to k : ℕ} (q : Nameable s 
   named-room = omega (arith, n .next, length-more, done-few q (k + 1))
 
   pub named-step : {w₁ : List ℕ} → w₁ ≡ sets w to (replicate (elementsIn s sizes r) k)
-      → Named s sizes w₀ from count q w₁ (r .next) (to + elementsIn s sizes r) (k + 1)
+      → NamedSoFar s sizes w₀ from count q w₁ (r .next) (to + elementsIn s sizes r) (k + 1)
   named-step {w₁} f = record {
     here = skip-more s from count k at (nodes-from q) h (n .here) e;
     next = omega (arith, n .next, length-more);
     stored = f ∙ rw (n .stored, n .next, own-count) (sets-append (done q k) (replicate (ownCount (q .table) (getD (subterms (q .term)) k (q .term))) k) w₀ makersAt ∙ ap (sets w₀ makersAt) (sym (done-more q k h)));
   }
 
-pub named-end : {s sizes w₀ w : List ℕ} {from count at to k : ℕ} (q : Nameable s sizes w₀ from count) → Named s sizes w₀ from count q w at to k → k ≡ count
+pub named-end : {s sizes w₀ w : List ℕ} {from count at to k : ℕ} (q : Nameable s sizes w₀ from count) → NamedSoFar s sizes w₀ from count q w at to k → k ≡ count
     → w ≡ sets w₀ makersAt (makers (q .table) (q .term) 0)
 named-end {w₀ = w₀} q n e = n .stored ∙ ap (sets w₀ makersAt) (ap (done q) e ∙ done-all q)

@@ -18,7 +18,7 @@ use Rattle.typing.specs.Verdicts.{saidWhy}
 use Rattle.records.specs.Editions.{editionBy}
 use Rattle.typing.specs.Answers.{TermAt, typeOf, checkOf}
 use Rattle.wiring.specs.declared.Counts.{Counts}
-use Rattle.wiring.specs.Whole.{Stands}
+use Rattle.wiring.specs.Whole.{NetStands}
 use Rattle.translator.specs.Stages.{Opened}
 use Rattle.translator.specs.Made.{lent, refusedOf, Makes}
 use Rattle.translator.specs.declared.Made.the-variants as made
@@ -43,7 +43,7 @@ refused-makes : (s work : List ℕ) (why : Why) → 32768 ≤ length work → fu
 refused-makes s work why h e = record { said = sym (lent-enough (length work) s h ∙ e); standing = tt; keeps = refl }
 
 -- a netlist that stands in it
-pub net-makes : (s work after : List ℕ) (c : Counts) (m : Net) → 32768 ≤ length work → full s ≡ good m → Stands m c work after → Makes (made.Net c) s work after
+pub net-makes : (s work after : List ℕ) (c : Counts) (m : Net) → 32768 ≤ length work → full s ≡ good m → NetStands m c work after → Makes (made.Net c) s work after
 net-makes s work after c m h e S = record {
   said = rw (S .net) (sym (lent-enough (length work) s h ∙ e));
   standing = (S .ready, S .known);

@@ -22,7 +22,7 @@ use Rattle.records.specs.TypeNumbers.{leftNo}
 use Rattle.records.proofs.SideLaws.{left-of}
 use Rattle.wiring.specs.Sides.{Knows}
 use Rattle.records.proofs.Laws.{stands-node}
-use Rattle.wiring.specs.Count.{ownIn, Counting, rowBytes, rowNodes, rowTerminals, Row}
+use Rattle.wiring.specs.Count.{ownIn, Counting, rowBytes, rowNodes, rowTerminals, RowLeft}
 
 -- ---- one node
 
@@ -177,7 +177,7 @@ pub record Next (E : Edition) (Θ : Table) (s : List ℕ) (whole : Term) (at lef
   pub stands : Stands s at term
   pub ranged : Ranged E Θ term
   pub few : total + own Θ term ≤ terminals Θ whole
-  pub then : Row E Θ s whole (nodeOf term at .next) (left - 1) (total + own Θ term)
+  pub then : RowLeft E Θ s whole (nodeOf term at .next) (left - 1) (total + own Θ term)
 
 next-of : (E : Edition) (Θ : Table) (s : List ℕ) (whole : Term) (at left total : ℕ) (row : List Term) (rest : List ℕ) → drop at s ≡ rowBytes row ++ rest → All (Ranged E Θ) row → left ≡ rowNodes row
     → total + rowTerminals Θ row ≡ terminals Θ whole → 0 < left → Next E Θ s whole at left total
@@ -209,7 +209,7 @@ end-of Θ whole [] total c u = omega arith
 end-of Θ whole (e ∷ es) total c u = absurd (omega (arith, node-count e))
 
 module _ {s sizes : List ℕ} {from count : ℕ} (q : Counting s sizes from count) where
-  pub row-start : Row (q .edition) (q .table) s (q .term) from count 0
+  pub row-start : RowLeft (q .edition) (q .table) s (q .term) from count 0
   row-start = record {
     row = q .term ∷ [];
     rest = q .stands .rest;
@@ -222,7 +222,7 @@ module _ {s sizes : List ℕ} {from count : ℕ} (q : Counting s sizes from coun
   pub row-few : terminals (q .table) (q .term) ≤ 524288
   row-few = omega (arith, terminals-few (q .table) (q .term) (q .knows .ok .small), q .nodes-are, q .few)
 
-  module _ {at left total : ℕ} (R : Row (q .edition) (q .table) s (q .term) at left total) where
+  module _ {at left total : ℕ} (R : RowLeft (q .edition) (q .table) s (q .term) at left total) where
     pub row-next : 0 < left → Next (q .edition) (q .table) s (q .term) at left total
     row-next h = next-of (q .edition) (q .table) s (q .term) at left total (R .row) (R .rest) (R .here) (R .ranged) (R .count) (R .sum) h
 
@@ -239,5 +239,5 @@ module _ {s sizes : List ℕ} {from count : ℕ} (q : Counting s sizes from coun
       pub row-room : total + ownIn s sizes node ≤ 524288
       row-room = omega (arith, row-few, row-next h .few, row-own)
 
-      pub row-then : Row (q .edition) (q .table) s (q .term) (node .next) (left - 1) (total + ownIn s sizes node)
+      pub row-then : RowLeft (q .edition) (q .table) s (q .term) (node .next) (left - 1) (total + ownIn s sizes node)
       row-then = rw (row-own, ap (λ (x : Node). x .next) row-is) (row-next h .then)

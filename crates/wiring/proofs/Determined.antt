@@ -14,7 +14,7 @@ use Rattle.memory.specs.Map.{targetsAt, elementsAt, stackAt, memorySize, region
 use Rattle.netlist.proofs.InMemory.{wires-count}
 use Rattle.netlist.proofs.Elements.{kinds-length}
 use Rattle.wiring.specs.declared.Counts.{Counts}
-use Rattle.wiring.specs.Whole.{Stands}
+use Rattle.wiring.specs.Whole.{NetStands}
 use Rattle.laws.proofs.Regions.{region-length}
 use Rattle.wiring.proofs.count.Kinds as count
 use Rattle.wiring.proofs.count.Reads as count-reads
@@ -22,7 +22,7 @@ use Rattle.wiring.proofs.make_net.Kinds as make-net
 use Rattle.wiring.proofs.make_net.Reads as make-net-reads
 
 -- the numbers are those of the netlist
-module _ {m : Net} {r : Counts} {w w′ : List ℕ} (S : Stands m r w w′) where
+module _ {m : Net} {r : Counts} {w w′ : List ℕ} (S : NetStands m r w w′) where
   numbers-are : (r .elements ≡ length (m .elements)) × (r .wires ≡ length (m .wires)) × (r .pins ≡ length (m .pins))
   unfolding netIn
   numbers-are =
@@ -32,7 +32,7 @@ module _ {m : Net} {r : Counts} {w w′ : List ℕ} (S : Stands m r w w′) wher
         sym (ap (λ (x : Net). length (x .pins)) (sym (S .net)) ∙ length-map (region w′ stackAt (r .pins)) terminalOf ∙ region-length w′ stackAt (r .pins) (omega (arith, R .size, R .few-pins))),
       )
 
-pub one-netlist : {m : Net} {x y : Counts} {w u v : List ℕ} → Stands m x w u → Stands m y w v
+pub one-netlist : {m : Net} {x y : Counts} {w u v : List ℕ} → NetStands m x w u → NetStands m y w v
     → (x ≡ y) × (netIn u (x .elements) (x .wires) (x .pins) ≡ netIn v (y .elements) (y .wires) (y .pins)) × (drop memorySize u ≡ drop memorySize v)
 one-netlist {m} {x} {y} {w} {u} {v} a b =
     let (e₁, k₁, p₁) = numbers-are a in

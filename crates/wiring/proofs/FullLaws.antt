@@ -43,7 +43,7 @@ use Rattle.wiring.specs.Sides.{Knows}
 use Rattle.wiring.specs.Store.{Store, Lies, Holds, target, after}
 use Rattle.wiring.specs.Asks.{Asks, Leaves}
 use Rattle.wiring.specs.Count.{Counting}
-use Rattle.wiring.specs.Whole.{Read, Accepted, Stands}
+use Rattle.wiring.specs.Whole.{Read, Accepted, NetStands}
 use Rattle.wiring.proofs.LinkLaws.{terminal-back}
 use Rattle.wiring.proofs.StoreLaws.{sets-at, lies-region}
 
@@ -231,7 +231,7 @@ module _ {s sizes w : List ℕ} {at : ℕ} (q : Accepted s sizes w at) (m : Net)
         ap₂ (λ (es : List Element) (ws : List Wire). record { elements = es; wires = ws; pins = map terminalOf (region w′ stackAt (r .len)) }) elements-here wires-here
         ∙ ap (λ (p : Interface). record { elements = mk .elements; wires = mk .wires; pins = p }) pins-here
 
-    pub root-stands : Stands m numbers w w′
+    pub root-stands : NetStands m numbers w w′
     root-stands = record {
       net = net-here ∙ is-net;
       ready = record {

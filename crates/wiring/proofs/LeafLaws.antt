@@ -20,7 +20,7 @@ use Rattle.circuit_theorems.proofs.Bounds.{made-type, made-side}
 use Rattle.circuit_theorems.proofs.Counts.{part-inputs}
 use Rattle.circuit_theorems.proofs.Drivers.{turns-size}
 use Rattle.wiring.specs.declared.walk.State.{State}
-use Rattle.wiring.specs.Sides.{Named, face}
+use Rattle.wiring.specs.Sides.{KnownType, face}
 use Rattle.wiring.specs.Store.{Low}
 use Rattle.wiring.specs.Asks.{OfPoints, OfStack, BoundAt, shown, Showable, slot, Asks, madeOf, Leaves, Here}
 use Rattle.wiring.specs.Nodes.{Variable, Constant}
@@ -100,7 +100,7 @@ module _ {s sizes w : List ℕ} {node : Node} {st : State} (q : Here s sizes w n
         let e₃ : k + 1 ≡ bindersAt + (slot (st .scope) i + 1) = omega arith in
         rw (e₃, e₂, ek, e₁) (Q .binds .each i h₁)
 
-    abbrev pub var-named : Named s sizes t
+    abbrev pub var-named : KnownType s sizes t
     var-named = record { table = Q .table; knows = Q .knows; named = var-at .named }
 
     pub var-type : tree (Q .table) t ≡ Q .type

@@ -23,7 +23,7 @@ use Rattle.circuit_theorems.specs.Scope.{dirs, Env}
 use Rattle.records.specs.TypeNumbers.{boundIn}
 use Rattle.wiring.specs.declared.walk.State.{State}
 use Rattle.wiring.specs.declared.walk.Built.{Built}
-use Rattle.wiring.specs.Sides.{Named, face}
+use Rattle.wiring.specs.Sides.{KnownType, face}
 use Rattle.wiring.specs.Store.{Store, Holds, atStack, target, moreWires, after}
 use Rattle.wiring.specs.Asks.{BoundAt, Binds, Asks, madeOf, Leaves, Here, opened, inner, Opened, looped, closedIn, closed, Closable}
 use Rattle.wiring.specs.Nodes.{funOf, Binding}
@@ -113,7 +113,7 @@ module _ {s sizes w : List ℕ} {node : Node} {st : State} (q : Here s sizes w n
   pub one-named : t < length Θ
   one-named = rw bound-is (one-binding .named)
 
-  pub one-known : Named s sizes t
+  pub one-known : KnownType s sizes t
   one-known = record { table = Θ; knows = Q .knows; named = one-named }
 
   pub one-size : getD sizes t 0 ≡ size α
@@ -151,7 +151,7 @@ module _ {s sizes w : List ℕ} {node : Node} {st : State} (q : Here s sizes w n
 
   -- by the number and the size that were read
   module _ (u l : ℕ) (eu : u ≡ t) (el : l ≡ getD sizes u 0) where
-    abbrev pub known-at : Named s sizes u
+    abbrev pub known-at : KnownType s sizes u
     known-at = record { table = Θ; knows = Q .knows; named = subst (λ (x : ℕ). x < length Θ) (sym eu) one-named }
 
     length-at : l ≡ size α

@@ -16,7 +16,7 @@ use Rattle.records.specs.Forms.{recIn}
 use Rattle.circuit_theorems.proofs.Drivers.{turns-not, turns-size}
 use Rattle.records.specs.TypeNumbers.{kindNo, leftNo, rightNo, sidedOf}
 use Rattle.records.specs.declared.Sided.{Sided}
-use Rattle.wiring.specs.Sides.{Knows, Named, Arrow, face}
+use Rattle.wiring.specs.Sides.{Knows, KnownType, Arrow, face}
 use Rattle.wiring.proofs.RunLaws.{face-length, face-append, face-turned}
 
 -- ---- type records
@@ -63,7 +63,7 @@ module _ {s sizes : List ℕ} {Θ : Table} (K : Knows s sizes Θ) {t : ℕ} (h :
 
 -- ---- the interface of an arrow
 
-abbrev pub an-arrow : {s sizes : List ℕ} {x : Sided} {room to n t : ℕ} → Named s sizes t → x ≡ sidedOf (recIn s t) → 2 < x .kind → to + getD sizes t 0 ≤ room → n + 2 * getD sizes t 0 ≤ 8192
+abbrev pub an-arrow : {s sizes : List ℕ} {x : Sided} {room to n t : ℕ} → KnownType s sizes t → x ≡ sidedOf (recIn s t) → 2 < x .kind → to + getD sizes t 0 ≤ room → n + 2 * getD sizes t 0 ≤ 8192
     → Arrow s sizes x room to n
 an-arrow {t = t} k e a r f = record { type = t; known = k; is = e; arrow = a; room = r; few = f }
 
@@ -77,10 +77,10 @@ module _ {s sizes : List ℕ} {x : Sided} {room to n : ℕ} (q : Arrow s sizes x
   pub right-named : x .right < length (q .known .table)
   right-named = omega (arith, sides .right, q .known .named)
 
-  abbrev pub left-known : Named s sizes (x .left)
+  abbrev pub left-known : KnownType s sizes (x .left)
   left-known = record { table = q .known .table; knows = q .known .knows; named = left-named }
 
-  abbrev pub right-known : Named s sizes (x .right)
+  abbrev pub right-known : KnownType s sizes (x .right)
   right-known = record { table = q .known .table; knows = q .known .knows; named = right-named }
 
   -- the room of an arrow is that of its two sides

@@ -23,7 +23,7 @@ use Rattle.memory.specs.Map.{stackAt, bindersAt, memorySize, region, code}
 use Rattle.circuit_theorems.specs.Scope.{Env}
 use Rattle.wiring.specs.declared.walk.State.{State}
 use Rattle.wiring.specs.declared.walk.Built.{Built}
-use Rattle.wiring.specs.Sides.{Knows, Named, face}
+use Rattle.wiring.specs.Sides.{Knows, KnownType, face}
 use Rattle.wiring.specs.Links.{links, Apart}
 use Rattle.wiring.specs.Store.{Store, Holds, after}
 
@@ -53,7 +53,7 @@ unfoldable pub shown : Table → ℕ → List ℕ → ℕ → ℕ → List ℕ
 shown Θ n w t place = cond (eqb (place % 2) 1) (face true (turns false (tree Θ t)) (place / 2)) (region w (stackAt + place / 2) n)
 
 pub record Showable (s sizes : List ℕ) (size to t place : ℕ) : Type 0 where
-  pub known : Named s sizes t
+  pub known : KnownType s sizes t
   pub room : to + getD sizes t 0 ≤ size
   pub points : place % 2 ≡ 1 → place / 2 + 2 * getD sizes t 0 ≤ 8192
   pub stack : (place % 2 ≡ 1 → ⊥) → stackAt + place / 2 + getD sizes t 0 ≤ to

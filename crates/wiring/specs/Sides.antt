@@ -18,7 +18,7 @@ pub record Knows (s sizes : List ℕ) (Θ : Table) : Type 0 where
   pub all : length sizes ≡ 256
 
 -- .. and t names one of its types
-pub record Named (s sizes : List ℕ) (t : ℕ) : Type 0 where
+pub record KnownType (s sizes : List ℕ) (t : ℕ) : Type 0 where
   pub table : Table
   pub knows : Knows s sizes table
   pub named : t < length table
@@ -27,7 +27,7 @@ pub record Named (s sizes : List ℕ) (t : ℕ) : Type 0 where
 -- terminal n on
 pub record Arrow (s sizes : List ℕ) (x : Sided) (size to n : ℕ) : Type 0 where
   pub type : ℕ
-  pub known : Named s sizes type
+  pub known : KnownType s sizes type
   pub is : x ≡ sidedOf (recIn s type)
   pub arrow : 2 < x .kind
   pub room : to + getD sizes type 0 ≤ size

@@ -29,7 +29,7 @@ pub record Accepted (s sizes w : List ℕ) (at : ℕ) : Type 0 where
   pub memory : memorySize ≤ length w
 
 -- the netlist m stands in the memory, and from 32,768 on nothing is changed
-pub record Stands (m : Net) (r : Counts) (w w′ : List ℕ) : Type 0 where
+pub record NetStands (m : Net) (r : Counts) (w w′ : List ℕ) : Type 0 where
   pub net : netIn w′ (r .elements) (r .wires) (r .pins) ≡ m
   pub ready : Ready w′ (r .elements) (r .wires) (r .pins)
   pub known : All Known (netIn w′ (r .elements) (r .wires) (r .pins) .elements)

@@ -13,7 +13,7 @@ ghost use Rattle.calculus.specs.Types.{tree};
 ghost use Rattle.calculus.specs.Terms.{partAt};
 ghost use Rattle.calculus.specs.Net.{turns, partSide};
 ghost use Rattle.memory.specs.Map.{code};
-ghost use Rattle.wiring.specs.Sides.{Named, Arrow, endOf, face};
+ghost use Rattle.wiring.specs.Sides.{KnownType, Arrow, endOf, face};
 
 pub fn size_of(sizes: &[u8], t: u8) -> usize
     requires { ⌜ length (now sizes) ≡ 256 ⌝ }
@@ -54,8 +54,8 @@ fn unturned(work: &mut [u16], to: usize, l: usize, n: usize, output: bool)
 // An interface of a binder of type t, whose points start at terminal n: the variable's output interface, or its input interface. The
 // falling number is the type's.
 pub fn interface(s: &[u8], sizes: &[u8], work: &mut [u16], to: usize, t: u8, n: usize, output: bool)
-    requires { ⌜ (Named (now s) (now sizes) t) × (to + getD (now sizes) t 0 ≤ length (now work)) × (n + 2 * getD (now sizes) t 0 ≤ 8192) ⌝ }
-    ensures { λ _. ⌜ ((q : Named (now (s .entry)) (now (sizes .entry)) t)
+    requires { ⌜ (KnownType (now s) (now sizes) t) × (to + getD (now sizes) t 0 ≤ length (now work)) × (n + 2 * getD (now sizes) t 0 ≤ 8192) ⌝ }
+    ensures { λ _. ⌜ ((q : KnownType (now (s .entry)) (now (sizes .entry)) t)
         → now (work .exit) ≡ sets (now (work .entry)) to (face output (turns false (tree (q .table) t)) n)) ⌝ }
 {
     let x = records::sides_of(s, t);

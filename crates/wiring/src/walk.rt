@@ -16,7 +16,7 @@ ghost use lib.Seq.{sets};
 ghost use Rattle.records.specs.Rules.{isConstant};
 ghost use Rattle.memory.specs.Map.{bindersAt, memorySize};
 ghost use Rattle.wiring.specs.Links.{Apart};
-ghost use Rattle.wiring.specs.Sides.{Named};
+ghost use Rattle.wiring.specs.Sides.{KnownType};
 ghost use Rattle.wiring.specs.Asks.{Asks, Here, Leaves, Showable, shown, Opened, looped, shownAs, closed, closedIn, Closable, halved, Between, middle, betweenIn, appliedIn, Finishable, finished, finishedIn};
 
 // The next free terminal, the numbers of elements and wires made, the height of the stack and the number of binders in scope.
@@ -50,7 +50,7 @@ fn bind(work: &mut [u16], k: usize, t: u8, place: usize)
 // The output interface of a binder of type t: that of points, or numbers further down on the stack.
 fn show(s: &[u8], sizes: &[u8], work: &mut [u16], to: usize, t: u8, place: usize)
     requires { ⌜ Showable (now s) (now sizes) (length (now work)) to t place ⌝ }
-    ensures { λ _. ⌜ ((q : Named (now (s .entry)) (now (sizes .entry)) t)
+    ensures { λ _. ⌜ ((q : KnownType (now (s .entry)) (now (sizes .entry)) t)
         → now (work .exit) ≡ sets (now (work .entry)) to (shown (q .table) (getD (now (sizes .entry)) t 0) (now (work .entry)) t place)) ⌝ }
 {
     let n = place / 2;
