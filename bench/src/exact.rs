@@ -27,7 +27,7 @@ fn sample(mode: &Mode, count: usize, seed: u64) -> bool {
     let named: Vec<&Box<dyn Case>> = small.chain(large).collect();
     let generated = (0..).flat_map(|index| (mode.generated)(&mut random, index));
     let generated: Cases = generated.filter(|case| case.size() <= LARGE).take(count).collect();
-    let mut tally = Tally { named: named.len(), generated: generated.len(), ..Tally::default() };
+    let mut tally = Tally::of(named.len(), generated.len());
     for case in named.into_iter().chain(&generated) {
         let request = case.request(&mut random);
         tally.calls += 1;

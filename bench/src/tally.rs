@@ -32,6 +32,11 @@ pub struct Tally {
 }
 
 impl Tally {
+    #[cfg(linked)]
+    pub fn of(named: usize, generated: usize) -> Tally {
+        Tally { named, generated, ..Tally::default() }
+    }
+
     pub fn count(&mut self, keys: &[Key]) {
         for key in keys {
             *self.counts.entry(key.clone()).or_default() += 1;
