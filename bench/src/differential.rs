@@ -5,25 +5,26 @@ use crate::boundary::{Boundary, Call};
 use crate::crash;
 use crate::fences::{Fences, Place};
 use crate::modes::{Mode, MODES};
+use crate::put_in;
 use crate::request::{paint, told, Case, Request};
 use crate::tally::{Said, Tally};
 use second::random::Random;
 
 /// Lends slices within fences.
-struct Lender {
+pub struct Lender {
     fences: Fences,
     boundary: Boundary,
 }
 
 impl Lender {
-    fn new() -> Lender {
+    pub fn new() -> Lender {
         let fences = Fences::new();
         let boundary = Boundary::new(&fences);
         Lender { fences, boundary }
     }
 
     /// The answer and all that the call was lent, or what differs.
-    fn tried(&mut self, request: &Request, salt: u64) -> Result<(), String> {
+    pub fn tried(&mut self, request: &Request, salt: u64) -> Result<(), String> {
         let places = self.lay(request, salt);
         let (fences, boundary) = (&self.fences, &mut self.boundary);
         let ask = || boundary.call(fences, request.call, &places, request.last);
@@ -125,6 +126,9 @@ pub fn differential(count: usize, seed: u64, only: &[String]) -> bool {
                 (there, declared) => absent(call, there, declared),
             };
         }
+    }
+    if only.is_empty() || only.iter().any(|name| name == "put-in") {
+        well &= put_in::run(count / 10, seed);
     }
     well
 }

@@ -1,7 +1,9 @@
 //! The bench program. The scripts beside it build it and call it from the repository's root:
-//! `differential COUNT SEED CALL..`, `exact COUNT SEED` (for memcheck), `table`, `stack`, `sheets FOLDER`.
+//! `differential COUNT SEED CALL..`, `put-in COUNT SEED`, `exact COUNT SEED` (for memcheck), `table`, `stack`,
+//! `sheets FOLDER`.
 
 mod boundary;
+mod circuit;
 mod classes;
 mod crash;
 mod differential;
@@ -9,6 +11,7 @@ mod differential;
 mod exact;
 mod fences;
 mod modes;
+mod put_in;
 mod request;
 mod stack;
 #[cfg(linked)]
@@ -37,6 +40,7 @@ fn main() {
             let only = words.get(3..).unwrap_or_default();
             differential::differential(number(1, 20_000) as usize, number(2, 1), only)
         }
+        Some("put-in") => put_in::run(number(1, 20_000) as usize, number(2, 1)),
         #[cfg(linked)]
         Some("exact") => exact::exact(number(1, 200) as usize, number(2, 1)),
         #[cfg(linked)]
@@ -55,7 +59,8 @@ fn main() {
 }
 
 fn usage() -> ! {
-    eprintln!("usage: bench differential [COUNT] [SEED] [CALL..] | stack | sheets FOLDER");
+    eprintln!("usage: bench differential [COUNT] [SEED] [CALL..] | put-in [COUNT] [SEED]");
+    eprintln!("       bench stack | sheets FOLDER");
     eprintln!("and where the archive is linked in: bench exact [COUNT] [SEED] | table");
     exit(2)
 }

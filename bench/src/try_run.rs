@@ -10,7 +10,7 @@ use second::runs::{any, fitting, Run};
 use second::sheet::MEMORY;
 use second::{circuits, edges_run};
 
-struct Tried(Run);
+pub struct Tried(pub Run);
 
 impl Case for Tried {
     fn size(&self) -> usize {

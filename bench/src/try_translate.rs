@@ -18,11 +18,11 @@ use second::{circuits, edges_card, edges_clash, edges_edition, editions, Wish};
 use std::collections::HashSet;
 use std::rc::Rc;
 
-struct Translation {
-    sheet: Rc<Vec<u8>>,
-    room: usize,
-    memory: usize,
-    wish: Wish,
+pub struct Translation {
+    pub sheet: Rc<Vec<u8>>,
+    pub room: usize,
+    pub memory: usize,
+    pub wish: Wish,
 }
 
 impl Case for Translation {
@@ -85,7 +85,7 @@ pub fn due() -> Vec<Key> {
 }
 
 /// Sheets above this length are tried by some of the wishes only.
-const LARGE: usize = 200;
+const LARGE: usize = 40;
 
 /// Each named case as it stands; a sheet's first case also at its netlists' lengths.
 pub fn named(random: &mut Random) -> Cases {
