@@ -1,6 +1,6 @@
 //! The bench program. The scripts beside it build it and call it from the repository's root:
 //! `differential COUNT SEED CALL..`, `put-in COUNT SEED`, `exact COUNT SEED` (for memcheck), `table`, `stack`,
-//! `sheets FOLDER`.
+//! `sheets FOLDER`, `nets FOLDER`.
 
 mod boundary;
 mod circuit;
@@ -27,6 +27,8 @@ mod try_translate;
 mod try_verilog;
 mod worst;
 
+use second::random::Random;
+use second::{edges_foreign, nets};
 use std::process::exit;
 
 fn main() {
@@ -53,6 +55,10 @@ fn main() {
             sheets(&words[1]);
             true
         }
+        Some("nets") if words.len() == 2 => {
+            nets(&words[1]);
+            true
+        }
         _ => usage(),
     };
     exit(if well { 0 } else { 1 })
@@ -60,7 +66,7 @@ fn main() {
 
 fn usage() -> ! {
     eprintln!("usage: bench differential [COUNT] [SEED] [CALL..] | put-in [COUNT] [SEED]");
-    eprintln!("       bench stack | sheets FOLDER");
+    eprintln!("       bench stack | sheets FOLDER | nets FOLDER");
     eprintln!("and where the archive is linked in: bench exact [COUNT] [SEED] | table");
     exit(2)
 }
@@ -73,5 +79,16 @@ fn sheets(folder: &str) {
             let path = format!("{folder}/{index}-{at}");
             std::fs::write(&path, sheet).unwrap_or_else(|why| panic!("{path}: {why}"));
         }
+    }
+}
+
+/// Netlists as files, named and generated: seeds for the fuzzer of L8's check.
+fn nets(folder: &str) {
+    let mut random = Random::new(8);
+    let named = edges_foreign::edges().into_iter().map(|edge| edge.net);
+    let generated = (0..300).map(|index| nets::any(&mut random, index).net);
+    for (at, net) in named.chain(generated).filter(|net| net.len() < 16_000).enumerate() {
+        let path = format!("{folder}/{at}");
+        std::fs::write(&path, net).unwrap_or_else(|why| panic!("{path}: {why}"));
     }
 }
