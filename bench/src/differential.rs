@@ -25,7 +25,7 @@ impl Lender {
 
     /// The answer and all that the call was lent, or what differs.
     pub fn tried(&mut self, request: &Request, salt: u64) -> Result<(), String> {
-        let places = self.lay(request, salt);
+        let places = lay(&mut self.fences, request, salt);
         let (fences, boundary) = (&self.fences, &mut self.boundary);
         let ask = || boundary.call(fences, request.call, &places, request.last);
         let answer = crash::during(request, ask)?;
@@ -36,22 +36,6 @@ impl Lender {
             self.same(slice.name, place, slice.after(), salt)?;
         }
         Ok(())
-    }
-
-    /// The slices and their guard bytes, each against a fence by lot.
-    fn lay(&mut self, request: &Request, salt: u64) -> Vec<Place> {
-        let mut places = Vec::new();
-        for (which, slice) in request.slices.iter().enumerate() {
-            let at_end = salt >> (32 + which) & 1 == 1;
-            let place = self.fences.place(which, slice.count(), slice.size, at_end);
-            let (offset, length, before) = place.guarded();
-            let lent = self.fences.bytes_mut(offset, length);
-            let (guard, held) = ends(lent, before, slice.before.len());
-            paint_mut(guard, salt);
-            held.copy_from_slice(&slice.before);
-            places.push(place);
-        }
-        places
     }
 
     /// The first byte that differs, counted from the slice's start (guard bytes before it are negative).
@@ -69,6 +53,22 @@ impl Lender {
         let from_start = at as isize - before as isize;
         Err(format!("{what} byte {from_start}: {:02x}, wanted {:02x}", got[at], all[at]))
     }
+}
+
+/// The slices and their guard bytes, each against a fence by lot.
+pub fn lay(fences: &mut Fences, request: &Request, salt: u64) -> Vec<Place> {
+    let mut places = Vec::new();
+    for (which, slice) in request.slices.iter().enumerate() {
+        let at_end = salt >> (32 + which) & 1 == 1;
+        let place = fences.place(which, slice.count(), slice.size, at_end);
+        let (offset, length, before) = place.guarded();
+        let lent = fences.bytes_mut(offset, length);
+        let (guard, held) = ends(lent, before, slice.before.len());
+        paint_mut(guard, salt);
+        held.copy_from_slice(&slice.before);
+        places.push(place);
+    }
+    places
 }
 
 /// The guard bytes, which lie before the slice or behind it, and the slice.
@@ -92,7 +92,7 @@ fn run(mode: &Mode, count: usize, seed: u64) -> Result<Tally, String> {
     let mut tally = Tally::default();
     let mut attempt = |case: &dyn Case, random: &mut Random, tally: &mut Tally| {
         let request = case.request(random);
-        if request.slices.iter().any(|slice| !Fences::fits(slice.before.len())) {
+        if !request.fits() {
             return Ok(());
         }
         let tried = lender.tried(&request, random.draw());

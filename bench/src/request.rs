@@ -2,6 +2,7 @@
 //! and the answer that it must give, all by the second program.
 
 use crate::boundary::Call;
+use crate::fences::Fences;
 use crate::tally::Key;
 use second::random::Random;
 
@@ -23,6 +24,13 @@ pub struct Request {
     pub wanted: u64,
     /// What is counted once both programs agree.
     pub keys: Vec<Key>,
+}
+
+impl Request {
+    /// Whether each slice has room within fences.
+    pub fn fits(&self) -> bool {
+        self.slices.iter().all(|slice| Fences::fits(slice.before.len()))
+    }
 }
 
 pub struct Slice {
