@@ -19,8 +19,9 @@ from .calls import back, batch, check, run, stretch, translate, verilog
 from .engine import NoCall, NoLibrary
 from .explain import explain
 from .netlist import Element, Netlist
+from .notation import NotationError, make, show
 from .sheet import Node, Sheet
 from .types import Type
 
-__all__ = ["translate", "stretch", "batch", "verilog", "run", "check", "back", "explain",
-           "Sheet", "Node", "Type", "Netlist", "Element", "Refused", "NoLibrary", "NoCall"]
+__all__ = ["translate", "stretch", "batch", "verilog", "run", "check", "back", "explain", "make", "show",
+           "Sheet", "Node", "Type", "Netlist", "Element", "Refused", "NotationError", "NoLibrary", "NoCall"]

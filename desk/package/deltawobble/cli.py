@@ -15,7 +15,7 @@ from .engine import NoLibrary
 from .files import WrongUse
 from .terminal import paint
 
-COMMANDS = ("explain",)
+COMMANDS = ("listing", "translate", "explain", "where", "show", "make")
 
 
 def parser() -> argparse.ArgumentParser:

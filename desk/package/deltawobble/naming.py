@@ -9,7 +9,7 @@ from .typed import Typed
 from .types import Type
 
 #: first letters: single bits, products, arrows
-LETTERS = {1: "xyzuvw", 2: "pqrst", 3: "fghk", 4: "fghk"}
+LETTERS = {1: "xyzuvw", 2: "pqrs", 3: "fghk", 4: "fghk"}
 
 
 @dataclass

@@ -24,6 +24,13 @@ class Type:
         """The number of single bits, counted with repetition."""
         return 1 if self.kind == 1 else self.left.size + self.right.size
 
+    @cached_property
+    def _hash(self) -> int:
+        return hash((self.kind, self.left, self.right))
+
+    def __hash__(self) -> int:
+        return self._hash
+
     def __str__(self) -> str:
         return written(self)
 
