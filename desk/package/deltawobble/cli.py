@@ -15,7 +15,7 @@ from .engine import NoLibrary
 from .files import WrongUse
 from .terminal import paint
 
-COMMANDS = ("listing", "translate", "explain", "where", "show", "make")
+COMMANDS = ("listing", "translate", "explain", "where", "batch", "verilog", "run", "check", "back", "inline", "draw", "show", "make")
 
 
 def parser() -> argparse.ArgumentParser:

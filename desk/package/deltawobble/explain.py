@@ -5,7 +5,7 @@ from typing import Callable, Optional
 
 from . import calls
 from .answer import Refused
-from .netlist import Netlist
+from .netlist import Element, Netlist
 from .sheet import BODY, SECOND, SUBTERMS, Node, Sheet, part_name, read_types
 from .tree import tree_lines
 from .typed import Typed
@@ -291,6 +291,8 @@ def at_terminal(data: bytes, refused: Refused) -> list[str]:
     if element is None:
         return []
     lines = ["terminal %d: %s" % (refused.place, element_words(element))]
+    if refused.number != 29:
+        lines += _look([ring_words(lean, element)])
     if element.node is None:
         return lines
     sheet = Sheet.parse(data)
@@ -298,7 +300,29 @@ def at_terminal(data: bytes, refused: Refused) -> list[str]:
     return lines + ["made by " + node_line(node), "the term, with the node marked:"] + tree_lines(sheet, node)
 
 
-def element_words(element) -> str:
+def ring_words(net: Netlist, start: Element) -> str:
+    """A shortest ring through an element that passes no register: from element to element along the wires."""
+    owner = {i: e for e in net.elements for i in e.inputs}
+    next_ = {}
+    for source, target in net.wires:
+        next_.setdefault(source, []).append(owner[target])
+    came: dict[int, Element] = {}
+    waiting = [start]
+    while waiting:
+        element = waiting.pop(0)
+        for e in next_.get(element.output, []):
+            if e.first == start.first:
+                chain = [element]
+                while chain[0].first != start.first:
+                    chain.insert(0, came[chain[0].first])
+                return "the ring %s" % " -> ".join("%s %d" % (x.name, x.first) for x in chain + [start])
+            if e.first not in came and e.name != "reg":
+                came[e.first] = element
+                waiting.append(e)
+    return ""
+
+
+def element_words(element: Element) -> str:
     """An element and its terminals."""
     inputs = " and ".join(str(i) for i in element.inputs)
     what = "a point" if element.part is None else "the part %s" % element.name

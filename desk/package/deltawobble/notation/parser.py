@@ -210,6 +210,8 @@ class Parser:
         while self.begins_atom():
             argument = self.atom()
             function = Apply(function.span.to(argument.span), function, argument)
+        if self.word.kind in ("fun", "fix", "let"):
+            raise self.fault("%s as an argument stands in parentheses" % self.word.kind)
         return function
 
     def begins_atom(self) -> bool:
@@ -224,8 +226,6 @@ class Parser:
             return Name(word.span, word.text)
         if word.kind == "(":
             return self.deeper(lambda: self.inside(word))
-        if word.kind in ("fun", "fix", "let"):
-            raise self.fault("%s as an argument stands in parentheses" % word.kind, word.span)
         raise self.fault("a term is due, and here is %s" % said(word), word.span)
 
     def inside(self, first: Token) -> Term:
