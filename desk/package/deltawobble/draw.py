@@ -5,7 +5,6 @@ import re
 import shutil
 import subprocess
 import tempfile
-from html import escape
 from pathlib import Path
 from typing import Optional
 
@@ -28,7 +27,7 @@ def q(text: str) -> str:
 
 def netlist_dot(net: Netlist, names: list[str], title: str, images: bool = False) -> str:
     """The netlist in DOT: parts with their shapes, points, pins at the sides. `images` names a picture for each part."""
-    lines = ["digraph circuit {", "  rankdir=LR; ranksep=0.45; nodesep=0.25; fontname=Helvetica; fontsize=12; labelloc=t; label=%s;" % q(title),
+    lines = ["digraph circuit {", "  rankdir=LR; ranksep=0.35; nodesep=0.2; fontname=Helvetica; fontsize=12; labelloc=t; label=%s;" % q(title),
              "  node [fontname=Helvetica fontsize=9 shape=none margin=0]; edge [arrowsize=0.45 penwidth=0.9 fontname=Helvetica fontsize=7];"]
     lines += [element_dot(e, images) for e in net.elements]
     inputs = set(net.input_pins)
@@ -69,8 +68,8 @@ def element_dot(e: Element, images: bool) -> str:
             cells[-1] += '<TD ROWSPAN="%d" BORDER="%d" FIXEDSIZE="TRUE" WIDTH="%d" HEIGHT="40">%s</TD>' % (inputs, border, 64 if images else 36, sign)
             cells[-1] += '<TD PORT="o" ROWSPAN="%d" FIXEDSIZE="TRUE" WIDTH="1" HEIGHT="40"></TD>' % inputs
         cells[-1] += "</TR>"
-    words = "%s %d%s" % (e.name, e.first, ", " + node if node else "")
-    cells.append('<TR><TD COLSPAN="3"><FONT POINT-SIZE="8" COLOR="gray30">%s</FONT></TD></TR>' % escape(words))
+    words = "%s %d%s" % (e.name, e.first, "<BR/>" + node if node else "")
+    cells.append('<TR><TD COLSPAN="3"><FONT POINT-SIZE="8" COLOR="gray30">%s</FONT></TD></TR>' % words)
     return '  e%d [label=<<TABLE BORDER="0" CELLBORDER="0" CELLSPACING="0" CELLPADDING="0">%s</TABLE>>];' % (e.first, "".join(cells))
 
 

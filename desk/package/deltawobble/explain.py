@@ -16,17 +16,21 @@ from .words import FORM, KINDS, PARTS
 MOST_BYTES, MOST_BEFORE = 32, 16
 
 
+#: names for the variables that nodes bind, by the node's number
+Named = Optional[dict[int, list[str]]]
+
+
 def explain(sheet: bytes, *, card: bool = False) -> str:
     """A report on a sheet, its first line `accepted` or `refused NUMBER PLACE`; `card` asks for the card's profile too."""
     return "\n".join(report(sheet, card=card)[1]) + "\n"
 
 
-def report(sheet: bytes, *, card: bool = False) -> tuple[Optional[Refused], list[str]]:
-    """The refusal, if there is one, and the report's lines."""
+def report(sheet: bytes, *, card: bool = False, names: Named = None) -> tuple[Optional[Refused], list[str]]:
+    """The refusal, if there is one, and the report's lines. `names` are a notation's own."""
     try:
         full = calls.translate(sheet, plain=True, card=card)
     except Refused as refused:
-        return refused, refused_lines(sheet, refused)
+        return refused, refused_lines(sheet, refused, names)
     return None, accepted_lines(sheet, full)
 
 
@@ -55,13 +59,13 @@ def accepted_lines(data: bytes, plain_full: bytes) -> list[str]:
 
 # ---- refused
 
-def refused_lines(data: bytes, refused: Refused) -> list[str]:
+def refused_lines(data: bytes, refused: Refused, names: Named = None) -> list[str]:
     """The report of a refusal of this sheet, by any call on sheets."""
     lines = ["refused %d %d" % (refused.number, refused.place), refused.sentence]
     if 2 <= refused.number <= 9:
         return lines + _around(data, refused.place) + _look(at_offset(data, refused))
     if 10 <= refused.number <= 15:
-        return lines + at_node(data, refused)
+        return lines + at_node(Sheet.parse(data, names), refused)
     if refused.number == 16:
         return lines + _look(terminals(Sheet.parse(data)))
     if refused.number == 27:
@@ -69,7 +73,7 @@ def refused_lines(data: bytes, refused: Refused) -> list[str]:
         root = Typed(sheet).of(sheet.term)
         return lines + ["root type %d: %s" % (sheet.types.index(root), root)] + _look([root_fault(root)])
     if refused.number in (18, 19, 28, 29):
-        return lines + at_terminal(data, refused)
+        return lines + at_terminal(Sheet.parse(data, names), refused)
     if refused.number == 17:
         return lines + ["%d bytes are needed" % refused.place]
     return lines
@@ -174,13 +178,12 @@ def node_line(node: Node) -> str:
     return "node %d: %s (%02X)" % (node.number, KINDS[node.kind], node.kind)
 
 
-def at_node(data: bytes, refused: Refused) -> list[str]:
+def at_node(sheet: Sheet, refused: Refused) -> list[str]:
     """The node, where it stands, what is above it, the term with the node marked, and what to look at."""
-    sheet = Sheet.parse(data)
     node = sheet.nodes[refused.place]
-    start, size = calls.stretch(data, node.number)
+    start, size = calls.stretch(sheet.bytes, node.number)
     lines = [clash(sheet, node, refused)] if refused.number == 12 else []
-    lines += [node_line(node), "offset %d:%s" % (start, hexes(data[start:start + size]))]
+    lines += [node_line(node), "offset %d:%s" % (start, hexes(sheet.bytes[start:start + size]))]
     above = node.above()
     lines.append("above it, from the root down:" if above else "above it: nothing, it is the root")
     lines += [node_line(n) for n in above]
@@ -284,9 +287,9 @@ def root_fault(root: Type) -> str:
     return "%s is a linear arrow: a circuit would have to be plugged in from outside" % root if root.kind == 4 else ""
 
 
-def at_terminal(data: bytes, refused: Refused) -> list[str]:
+def at_terminal(sheet: Sheet, refused: Refused) -> list[str]:
     """The element that has a terminal of the lean netlist, and the node that made it."""
-    lean = Netlist.parse(calls.translate(data, lean=True))
+    lean = Netlist.parse(calls.translate(sheet.bytes, lean=True))
     element = lean.element_of(refused.place)
     if element is None:
         return []
@@ -295,7 +298,6 @@ def at_terminal(data: bytes, refused: Refused) -> list[str]:
         lines += _look([ring_words(lean, element)])
     if element.node is None:
         return lines
-    sheet = Sheet.parse(data)
     node = sheet.nodes[element.node]
     return lines + ["made by " + node_line(node), "the term, with the node marked:"] + tree_lines(sheet, node)
 

@@ -4,7 +4,10 @@ from __future__ import annotations
 import sys
 from dataclasses import dataclass
 from pathlib import Path
-from typing import Optional
+from typing import TYPE_CHECKING, Optional
+
+if TYPE_CHECKING:
+    from .notation import Made
 
 #: more is read of no file: the proved call tells that a sheet is too long
 MOST = 1 << 22
@@ -20,7 +23,12 @@ class Source:
 
     name: str
     bytes: bytes
-    made: Optional["object"] = None
+    made: Optional["Made"] = None
+
+    @property
+    def names(self) -> dict[int, list[str]]:
+        """The notation's names for variables, by the node that binds them."""
+        return self.made.names() if self.made else {}
 
     @property
     def stem(self) -> str:

@@ -11,9 +11,9 @@ def hex_of(part: bytes) -> str:
     return " ".join("%02X" % b for b in part)
 
 
-def sheet_hex(data: bytes) -> str:
-    """A sheet that can be read: each type, and each node in the words of the notation."""
-    sheet = Sheet.parse(data)
+def sheet_hex(data: bytes, own: dict[int, list[str]] | None = None) -> str:
+    """A sheet that can be read: each type, and each node in the words of the notation, with its own names where there are some."""
+    sheet = Sheet.parse(data, own)
     names, rows = names_of(sheet), [(bytes([SECOND]), "second edition")] if sheet.edition == 2 else []
     for number, (offset, t) in enumerate(read_types(data, sheet.edition - 1)[0]):
         rows.append((data[offset:offset + (1 if t.kind == 1 else 3)], "type %d: %s" % (number, t)))

@@ -50,7 +50,7 @@ def fresh(t: Optional[Type], taken: Iterable[str]) -> str:
 
 
 def names_of(sheet: Sheet) -> Names:
-    """Names for all binders of a sheet that can be read."""
+    """Names for all binders of a sheet that can be read: its own, or fresh ones."""
     names, typed = Names(), Typed(sheet)
 
     def go(node: Node, scope: list[Binder]) -> None:
@@ -59,8 +59,10 @@ def names_of(sheet: Sheet) -> Names:
             names.scope[node.number] = scope
         inner = scope
         if node.kind in BINDS:
-            for t in typed.bound(node):
-                inner = [Binder(fresh(t, [b.name for b in inner]), node, t, node.kind == 0x15)] + inner
+            own = sheet.names.get(node.number, [])
+            for i, t in enumerate(typed.bound(node)):
+                name = own[i] if i < len(own) else fresh(t, [b.name for b in inner])
+                inner = [Binder(name, node, t, node.kind == 0x15)] + inner
             names.bound[node.number] = inner[:BINDS[node.kind]][::-1]
         for i, subterm in enumerate(node.subterms):
             go(subterm, inner if i == len(node.subterms) - 1 else scope)

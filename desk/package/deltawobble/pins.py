@@ -1,26 +1,23 @@
 """Names for the pins of a sheet: those of the variables that its outermost functions take, then `out`."""
 from __future__ import annotations
 
-from typing import Optional
-
 from .naming import names_of
 from .sheet import Sheet
 from .typed import Typed
 from .types import Type
 
 
-def pin_names(sheet: Sheet, own: Optional[list[str]] = None) -> list[str]:
-    """A name for each pin position. `own` are names for the outermost functions' variables, from a notation.
+def pin_names(sheet: Sheet) -> list[str]:
+    """A name for each pin position.
 
     A variable of several bits is numbered, x.0, x.1 and so on; so is the result.
     """
     node, names = sheet.term, names_of(sheet)
     found: list[str] = []
-    taken = list(own or [])
     t = Typed(sheet).of(node)
     while t.kind > 2:
         if node is not None and node.kind in (0x13, 0x15):
-            name = taken.pop(0) if taken else names.bound[node.number][0].name
+            name = names.bound[node.number][0].name
             node = node.subterms[0]
         else:
             name, node = "in%d" % (len(found) + 1), None
@@ -31,14 +28,3 @@ def pin_names(sheet: Sheet, own: Optional[list[str]] = None) -> list[str]:
 
 def bits(name: str, t: Type) -> list[str]:
     return [name] if t.size == 1 else ["%s.%d" % (name, i) for i in range(t.size)]
-
-
-def source_names(source) -> list[str]:
-    """The names of a source's pins: a notation's own, where it was made from one."""
-    own: list[str] = []
-    if source.made:
-        record = source.made.nodes[0]
-        while record.kind in (0x13, 0x15):
-            own.append(record.binds[0].name)
-            record = record.subterms[0]
-    return pin_names(Sheet.parse(source.bytes), own)

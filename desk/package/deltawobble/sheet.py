@@ -46,12 +46,16 @@ class Node:
 
 @dataclass
 class Sheet:
-    """A sheet: its edition, its types in record order, and the nodes of its term in record order."""
+    """A sheet: its edition, its types in record order, and the nodes of its term in record order.
+
+    `names` are names for the variables that a node binds, by its number: from the notation that a sheet was made from.
+    """
 
     bytes: bytes
     edition: int
     types: list[Type]
     nodes: list[Node]
+    names: dict[int, list[str]] = field(default_factory=dict, repr=False)
 
     @property
     def term(self) -> Node:
@@ -62,11 +66,11 @@ class Sheet:
         return max(node.depth for node in self.nodes)
 
     @staticmethod
-    def parse(data: bytes) -> "Sheet":
+    def parse(data: bytes, names: Optional[dict[int, list[str]]] = None) -> "Sheet":
         """The sheet in these bytes. ValueError, with the offset, where they are none (refusals 3, 4, 5 and 9)."""
         edition = 2 if data[:1] == bytes([SECOND]) else 1
         records, at = read_types(data, edition - 1)
-        return Sheet(data, edition, [t for _, t in records], list(_nodes(data, at, edition)))
+        return Sheet(data, edition, [t for _, t in records], list(_nodes(data, at, edition)), names or {})
 
 
 def read_types(data: bytes, at: int) -> tuple[list[tuple[int, Type]], int]:

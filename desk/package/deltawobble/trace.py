@@ -3,6 +3,7 @@ from __future__ import annotations
 
 import sys
 from dataclasses import dataclass
+from itertools import groupby
 
 from .files import WrongUse
 
@@ -60,14 +61,15 @@ class Run:
         return given + [(name, bytes(row[1][i] for row in self.rows)) for i, name in enumerate(self.outputs)]
 
     def table(self) -> list[str]:
-        """A header and a line for each tick: inputs, a bar, outputs."""
-        names = self.inputs + ["|"] + self.outputs
-        wide = [max(len(name), 1) for name in names]
+        """A header and a line for each tick: inputs, a bar, outputs; the bits of a vector stand together, bit 0 first."""
+        given, shown = columns(self.inputs), columns(self.outputs)
+        names = [name for name, _ in given] + ["|"] + [name for name, _ in shown]
+        wide = [max(len(name), size) for name, size in given + [("|", 1)] + shown]
         last = max(len(str(len(self.rows) - 1)), 4)
-        lines = ["%*s  %s" % (last, "tick", " ".join(name.rjust(w) for name, w in zip(names, wide)))]
-        for tick, (given, shown) in enumerate(self.rows):
-            words = [str(b) for b in given] + ["|"] + [str(b) for b in shown]
-            lines.append("%*d  %s" % (last, tick, " ".join(word.rjust(w) for word, w in zip(words, wide))))
+        lines = [("%*s  %s" % (last, "tick", " ".join(name.rjust(w) for name, w in zip(names, wide)))).rstrip()]
+        for tick, row in enumerate(self.rows):
+            words = cut(row[0], given) + ["|"] + cut(row[1], shown)
+            lines.append(("%*d  %s" % (last, tick, " ".join(word.rjust(w) for word, w in zip(words, wide)))).rstrip())
         return lines
 
     def waves(self, wide: int = 100) -> list[str]:
@@ -95,6 +97,24 @@ class Run:
         if different == len(shown):
             return "no two of the %d ticks show the same outputs" % len(shown)
         return "%d different outputs in %d ticks, and no period from tick 0 on" % (different, len(shown))
+
+
+def columns(names: list[str]) -> list[tuple[str, int]]:
+    """Names and widths of a table's columns: x.0, x.1 and so on are one, if they are four or more."""
+    found: list[tuple[str, int]] = []
+    for base, group in groupby(names, key=lambda name: name.split(".")[0] if "." in name else name):
+        size = len(list(group))
+        found += [(base, size)] if size >= 4 else [(name, 1) for name in names if name.split(".")[0] == base]
+    return found
+
+
+def cut(bits: bytes, parts: list[tuple[str, int]]) -> list[str]:
+    """A row's bits, column by column."""
+    text, at, words = "".join(map(str, bits)), 0, []
+    for _, size in parts:
+        words.append(text[at:at + size])
+        at += size
+    return words
 
 
 def ruler(first: int, count: int) -> str:

@@ -12,7 +12,7 @@ from ..draw import netlist_dot, rendered, tree_dot
 from ..files import Source, WrongUse, read
 from ..netlist import Netlist
 from ..output import write
-from ..pins import source_names
+from ..pins import pin_names
 from ..refusing import say
 from ..sheet import Sheet
 
@@ -48,13 +48,14 @@ def drawing(source: Source, given: argparse.Namespace):
     which = "lean netlist" if given.lean else "full netlist"
     try:
         net = Netlist.parse(calls.translate(source.bytes, lean=given.lean))
-        return 0, lambda images: netlist_dot(net, source_names(source), "%s, %s" % (source.stem, which), images)
+        names = pin_names(Sheet.parse(source.bytes, source.names))
+        return 0, lambda images: netlist_dot(net, names, "%s, %s" % (source.stem, which), images)
     except Refused as refused:
         if refused.number < 10 and not given.json:
             raise SystemExit(say(source, refused)) from None
         if not given.json:
             say(source, refused)
-        sheet = Sheet.parse(source.bytes)
+        sheet = Sheet.parse(source.bytes, source.names)
         mark = sheet.nodes[refused.place] if refused.number < 16 else None
         title = "%s, %s" % (source.stem, str(refused).split(":")[0])
         return 1, lambda images: tree_dot(sheet, mark, title)

@@ -21,7 +21,7 @@ def add(parser: argparse.ArgumentParser) -> None:
 
 def run(given: argparse.Namespace) -> int:
     source = read(given.sheet)
-    refused, lines = report(source.bytes, card=given.card)
+    refused, lines = report(source.bytes, card=given.card, names=source.names)
     if refused and source.made:
         lines += source.made.place_lines(source.bytes, refused)
     if given.json:

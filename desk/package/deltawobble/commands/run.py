@@ -11,8 +11,10 @@ from ..answer import Refused
 from ..files import Source, WrongUse, raw, read, text_of
 from ..netlist import Netlist
 from ..output import write
-from ..pins import source_names
+from ..period import period
+from ..pins import pin_names
 from ..refusing import say
+from ..sheet import Sheet
 from ..trace import MOST_TICKS, Row, Run, inputs_of, read_rows
 from ..vcd import vcd
 
@@ -26,7 +28,7 @@ def add(parser: argparse.ArgumentParser) -> None:
     parser.add_argument("--ticks", type=int, metavar="N", help="so many ticks: of a circuit without input pins, or with all inputs 0")
     parser.add_argument("--starts", metavar="BITS", help="what each register shows at tick 0, by rising terminal (0 where not said)")
     parser.add_argument("--waves", action="store_true", help="draw the pins as waves")
-    parser.add_argument("--period", action="store_true", help="say only when the outputs come again")
+    parser.add_argument("--period", action="store_true", help="say when the registers show their starts again, all inputs 0; or with a trace, when the outputs come again")
     parser.add_argument("--vcd", metavar="FILE", help="write a value change dump too, for GTKWave")
 
 
@@ -38,9 +40,13 @@ def run(given: argparse.Namespace) -> int:
         lean = Netlist.parse(calls.translate(source.bytes, lean=True))
     except Refused as refused:
         return say(source, refused, given.json)
-    rows = rows_of(given, len(lean.input_pins))
     starts = starts_of(given.starts, len(lean.registers))
+    rows = []
     try:
+        if given.period and given.trace is None and given.ticks is None:
+            print(period(source.bytes, lean, starts))
+            return 0
+        rows = rows_of(given, len(lean.input_pins))
         shown = calls.run(source.bytes, inputs_of(given.trace or "the trace", rows, len(lean.input_pins)), starts, len(rows))
     except Refused as refused:
         return refuse(source, refused, rows, given)
@@ -94,7 +100,7 @@ def refuse(source: Source, refused: Refused, rows: list[Row], given: argparse.Na
 
 def joined(source: Source, lean: Netlist, rows: list[Row], shown: bytes) -> Run:
     """Names and bits of the pins together."""
-    names, inputs = source_names(source), set(lean.input_pins)
+    names, inputs = pin_names(Sheet.parse(source.bytes, source.names)), set(lean.input_pins)
     width = len(lean.output_pins)
     return Run([n for n, pin in zip(names, lean.pins) if pin in inputs], [n for n, pin in zip(names, lean.pins) if pin not in inputs],
                [(row.bits, shown[t * width:(t + 1) * width]) for t, row in enumerate(rows)])

@@ -28,6 +28,10 @@ class Made:
         self.file = file
         self.sheet, self.origins, self.nodes = encode(file, root)
 
+    def names(self) -> dict[int, list[str]]:
+        """The names of the variables that each node binds; those that the text does not name are called rest."""
+        return {number: [b.name if b.name != "." else "rest" for b in record.binds] for number, record in enumerate(self.nodes) if record.binds}
+
     def record_of(self, refused: Refused) -> Optional[Record | Span]:
         """What in the text a refusal of the sheet is about."""
         word = place_word(refused.number)
