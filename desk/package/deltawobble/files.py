@@ -71,7 +71,7 @@ def hex_bytes(name: str, text: str) -> bytes:
             try:
                 found += bytes.fromhex(word)
             except ValueError:
-                raise WrongUse("%s:%d:%d: '%s' is no hex byte (and a notation has 'main = ..', a raw sheet begins with the byte 01 or 31)"
+                raise WrongUse("%s:%d:%d: '%s' is no hex byte (a notation has 'main = ..', a raw sheet has the byte 01)"
                                % (name, number, column, word[:20])) from None
             column += len(word) - 1
     return bytes(found)
@@ -84,8 +84,17 @@ def is_notation(name: str, text: str) -> bool:
     return any("=" in line.split("#")[0].split("--")[0] for line in text.splitlines())
 
 
+def read_net(name: str) -> Source:
+    """A netlist: commented hex where its text is that, else raw bytes. The kinds 21 to 24 are signs of a text too."""
+    data = raw(name)
+    text = text_of(data)
+    if text is None or (text[:1] in ("!", '"') and not name.endswith(".hex")):
+        return Source(name, data)
+    return Source(name, hex_bytes(name, text))
+
+
 def read(name: str) -> Source:
-    """A sheet or a netlist: raw bytes, commented hex, or notation, told apart by what is in it."""
+    """A sheet: raw bytes, commented hex, or notation, told apart by what is in it."""
     data = raw(name)
     text = text_of(data)
     if text is None:

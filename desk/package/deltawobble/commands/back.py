@@ -7,7 +7,7 @@ import sys
 
 from .. import calls
 from ..answer import Refused
-from ..files import read
+from ..files import read_net
 from ..hexes import sheet_hex
 from ..nets import say_net
 from ..notation import show
@@ -25,7 +25,7 @@ def add(parser: argparse.ArgumentParser) -> None:
 
 
 def run(given: argparse.Namespace) -> int:
-    source = read(given.netlist)
+    source = read_net(given.netlist)
     try:
         sheet = calls.back(source.bytes, lean=given.lean)
     except Refused as refused:

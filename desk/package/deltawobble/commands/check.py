@@ -6,7 +6,7 @@ import json
 
 from .. import calls
 from ..answer import Refused
-from ..files import read
+from ..files import read_net
 from ..netlist import Netlist
 from ..nets import say_net
 from ..terminal import paint
@@ -21,7 +21,7 @@ def add(parser: argparse.ArgumentParser) -> None:
 
 
 def run(given: argparse.Namespace) -> int:
-    source = read(given.netlist)
+    source = read_net(given.netlist)
     try:
         calls.check(source.bytes, lean=given.lean)
     except Refused as refused:
