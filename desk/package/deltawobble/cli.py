@@ -13,6 +13,7 @@ from typing import Optional, Sequence
 from .answer import Refused
 from .engine import NoLibrary
 from .files import WrongUse
+from .notation import NotationError
 from .terminal import paint
 
 COMMANDS = ("listing", "translate", "explain", "where", "batch", "verilog", "run", "check", "back", "inline", "draw", "show", "make")
@@ -44,6 +45,9 @@ def main(words: Optional[Sequence[str]] = None) -> int:
     except Refused as refused:
         print(paint(str(refused), "red", sys.stderr), file=sys.stderr)
         return 1
+    except NotationError as error:
+        print(error, file=sys.stderr)
+        return 2
     except (WrongUse, NoLibrary) as error:
         print("deltawobble: %s" % error, file=sys.stderr)
         return 2
