@@ -18,6 +18,9 @@ from .tree import label, shown
 #: what stands in a box where no shape can be drawn: the rectangular signs of IEC 60617
 SIGNS = {"and": "&amp;", "or": "≥1", "xor": "=1", "inv": "1 o", "reg": "D", "zero": "0", "one": "1"}
 
+#: a table that shows nothing of itself
+BARE = 'BORDER="0" CELLBORDER="0" CELLSPACING="0" CELLPADDING="0"'
+
 
 def q(text: str) -> str:
     return '"%s"' % text.replace("\\", "\\\\").replace('"', '\\"')
@@ -49,7 +52,7 @@ def netlist_dot(net: Netlist, names: list[str], title: str, images: bool = False
 def terminal_ports(e: Element) -> list[tuple[int, str]]:
     """Where a wire begins or ends at a terminal."""
     if e.part is None:
-        return [(e.first, "e%d" % e.first), (e.output, "e%d" % e.first)]
+        return [(e.first, "e%d:p:w" % e.first), (e.output, "e%d:p:e" % e.first)]
     return [(i, "e%d:i%d:w" % (e.first, k)) for k, i in enumerate(e.inputs)] + [(e.output, "e%d:o:e" % e.first)]
 
 
@@ -57,7 +60,9 @@ def element_dot(e: Element, images: bool) -> str:
     """A point is a dot; a part is a table with its inputs left, its shape, its output right, and its numbers below."""
     node = "" if e.node is None else "node %d" % e.node
     if e.part is None:
-        return "  e%d [shape=circle width=0.11 fixedsize=true style=filled fillcolor=black label=\"\" xlabel=%s];" % (e.first, q(node or str(e.first)))
+        dot = '<TABLE BORDER="0" STYLE="ROUNDED" BGCOLOR="black" FIXEDSIZE="TRUE" WIDTH="9" HEIGHT="9"><TR><TD></TD></TR></TABLE>'
+        rows = '<TR><TD PORT="p" FIXEDSIZE="TRUE" WIDTH="9" HEIGHT="9">%s</TD></TR><TR><TD>%s</TD></TR>' % (dot, small("point %d" % e.first, node))
+        return "  e%d [label=<<TABLE %s>%s</TABLE>>];" % (e.first, BARE, rows)
     inputs = len(e.inputs) or 1
     sign = '<IMG SRC="%s.png"/>' % e.name if images else SIGNS[e.name]
     border = 0 if images else 1
@@ -68,9 +73,13 @@ def element_dot(e: Element, images: bool) -> str:
             cells[-1] += '<TD ROWSPAN="%d" BORDER="%d" FIXEDSIZE="TRUE" WIDTH="%d" HEIGHT="40">%s</TD>' % (inputs, border, 64 if images else 36, sign)
             cells[-1] += '<TD PORT="o" ROWSPAN="%d" FIXEDSIZE="TRUE" WIDTH="1" HEIGHT="40"></TD>' % inputs
         cells[-1] += "</TR>"
-    words = "%s %d%s" % (e.name, e.first, "<BR/>" + node if node else "")
-    cells.append('<TR><TD COLSPAN="3"><FONT POINT-SIZE="8" COLOR="gray30">%s</FONT></TD></TR>' % words)
-    return '  e%d [label=<<TABLE BORDER="0" CELLBORDER="0" CELLSPACING="0" CELLPADDING="0">%s</TABLE>>];' % (e.first, "".join(cells))
+    cells.append('<TR><TD COLSPAN="3">%s</TD></TR>' % small("%s %d" % (e.name, e.first), node))
+    return "  e%d [label=<<TABLE %s>%s</TABLE>>];" % (e.first, BARE, "".join(cells))
+
+
+def small(first: str, second: str) -> str:
+    """One or two lines below an element."""
+    return '<FONT POINT-SIZE="8" COLOR="gray30">%s%s</FONT>' % (first, "<BR/>" + second if second else "")
 
 
 # ---- terms
