@@ -1,5 +1,5 @@
 -- An accepted run has written the bits of the only possible record with these inputs and starts; 19 is given exactly when a ring passes through
--- no register, at the lowest input on any. Two results that `run_lean` may give are equal. Assumes nothing.
+-- no register, at the lowest input on any. Assumes nothing.
 use Prim.Native.Nat.{ℕ, zero, suc, _+_, _*_, _≤_, _<_}
 use mathlib.Core.Path.{_≡_, refl, sym, ap, _∙_, subst}
 use mathlib.Core.Logic.{_⊎_, inl, inr, ⊎-elim, _↔_}
@@ -9,8 +9,8 @@ use native.Mathlib.Omega.{arith}
 use lib.Dec.{T, eqb, leb, eqb→eq, eqb-refl}
 use lib.ListN.{length}
 use Rattle.laws.proofs.Tests.{or-left, or-right, or-elim}
-use Rattle.calculus.specs.Answer.{Answer, good, refused, _>>=_, need}
-use Rattle.calculus.proofs.Answers.{refused≢good, good-inj}
+use Rattle.calculus.specs.Answer.{Refusal, Answer, good, refused, _>>=_, numbered, refuse, need}
+use Rattle.calculus.proofs.Answers.{refused≢good, good-inj, refused-inj}
 use Rattle.calculus.specs.Net.{Interface, inp, out, Element, Net}
 use Rattle.calculus.specs.Lean.{lean}
 use Rattle.calculus.specs.Record.{Bits, All, Possible, partLaw}
@@ -23,9 +23,6 @@ use Rattle.trace_calculus.specs.Trace.{Has, OnRing, noRing, inputs, terminals, 
 use Rattle.trace_theorems.proofs.Sources.{out-terminal}
 use Rattle.trace_theorems.proofs.TraceRings.{Lowest, ring-place}
 use Rattle.trace_theorems.proofs.TraceMain.{Ran, trace-right, trace-refused}
-use Rattle.trace.specs.Said.{saidRan, Says}
-use Rattle.trace.specs.declared.Ran as code
-use Rattle.trace.specs.declared.Ran.the-variants as answer
 
 -- ---- bits that agree at the output pins
 
@@ -52,9 +49,9 @@ after a b l r = do
   _ ← need b 17 l
   good r
 
-not-19 : (a b : Bool) (l : ℕ) (r : List ℕ) (x : ℕ) → after a b l r ≡ refused 19 x → ⊥
-not-19 false b l r x h = let z : _≡_ {A = ℕ} 20 19 = cc in omega arith
-not-19 true false l r x h = let z : _≡_ {A = ℕ} 17 19 = cc in omega arith
+not-19 : (a b : Bool) (l : ℕ) (r : List ℕ) (x : ℕ) → after a b l r ≡ refuse 19 x → ⊥
+not-19 false b l r x h = let z : _≡_ {A = ℕ} 20 19 = ap (λ (why : Refusal). why .number) (refused-inj h) in omega arith
+not-19 true false l r x h = let z : _≡_ {A = ℕ} 17 19 = ap (λ (why : Refusal). why .number) (refused-inj h) in omega arith
 not-19 true true l r x h = refused≢good (sym h)
 
 -- what comes when there is no ring
@@ -63,24 +60,21 @@ afterRing m n bits starts room =
     after (eqb (length bits) (n * length (inPins (m .pins))) && eqb (length starts) (length (registers (m .elements))) && (allBits bits && allBits starts)) (leb (n * length (outPins (m .pins))) room)
     (n * length (outPins (m .pins))) (rows (run m (givenBits (m .pins) bits) (startBits (m .elements) starts)) (outPins (m .pins)) 0 n)
 
-ring-first : (m : Net) (n : ℕ) (bits starts : List ℕ) (room x : ℕ) → ran m n bits starts room ≡ refused 19 x → noRing m (inputs (m .elements)) ≡ refused 19 x
+ring-first : (m : Net) (n : ℕ) (bits starts : List ℕ) (room x : ℕ) → ran m n bits starts room ≡ refuse 19 x → noRing m (inputs (m .elements)) ≡ refuse 19 x
 unfolding ran
 ring-first m n bits starts room x h = go (noRing m (inputs (m .elements))) refl h
   where
-    go : (a : Answer (Unit {0})) → noRing m (inputs (m .elements)) ≡ a → (a >>= λ _. afterRing m n bits starts room) ≡ refused 19 x → noRing m (inputs (m .elements)) ≡ refused 19 x
+    go : (a : Answer (Unit {0})) → noRing m (inputs (m .elements)) ≡ a → (a >>= λ _. afterRing m n bits starts room) ≡ refuse 19 x → noRing m (inputs (m .elements)) ≡ refuse 19 x
     go (good u) q h =
         absurd (not-19 (eqb (length bits) (n * length (inPins (m .pins))) && eqb (length starts) (length (registers (m .elements))) && (allBits bits && allBits starts)) (leb (n * length (outPins (m .pins))) room)
         (n * length (outPins (m .pins))) (rows (run m (givenBits (m .pins) bits) (startBits (m .elements) starts)) (outPins (m .pins)) 0 n) x h)
-    go (refused i j) q h = q ∙ ring-same h
-      where
-        ring-same : {i j : ℕ} → _≡_ {A = Answer (List ℕ)} (refused i j) (refused 19 x) → _≡_ {A = Answer (Unit {0})} (refused i j) (refused 19 x)
-        ring-same {i} {j} h = let a : i ≡ 19 = cc in let b : j ≡ x = cc in rw (a, b)
+    go (refused why) q h = q ∙ ap (λ (r : Refusal). refused r) (refused-inj h)
 
-ring-gives : (m : Net) (n : ℕ) (bits starts : List ℕ) (room x : ℕ) → noRing m (inputs (m .elements)) ≡ refused 19 x → ran m n bits starts room ≡ refused 19 x
+ring-gives : (m : Net) (n : ℕ) (bits starts : List ℕ) (room x : ℕ) → noRing m (inputs (m .elements)) ≡ refuse 19 x → ran m n bits starts room ≡ refuse 19 x
 unfolding ran
 ring-gives m n bits starts room x h = stop (noRing m (inputs (m .elements))) _ h
   where
-    stop : (a : Answer (Unit {0})) (k : Unit {0} → Answer (List ℕ)) → a ≡ refused 19 x → (a >>= k) ≡ refused 19 x
+    stop : (a : Answer (Unit {0})) (k : Unit {0} → Answer (List ℕ)) → a ≡ refuse 19 x → (a >>= k) ≡ refuse 19 x
     stop a k e = ap (λ (z : Answer (Unit {0})). z >>= k) e
 
 -- ---- for every accepted sheet
@@ -105,26 +99,12 @@ module _ (s : List ℕ) (m : Net) (e : full s ≡ good m) (n : ℕ) (bits starts
       r .shows ∙ rows-same (r .record-of) β (outPins (L .pins)) 0 n (λ k l o t. sym (r .only β p q k (omega arith) o (out-terminal (L .elements) o (out-shown (L .elements) (L .pins) (ok .shown) o t))))
 
   -- 19 exactly when some terminal is on a ring of wires, points and gates
-  pub ring-exact : ((x : ℕ) × (ran L n bits starts room ≡ refused 19 x)) ↔ ((x : ℕ) × OnRing L x)
+  pub ring-exact : ((x : ℕ) × (ran L n bits starts room ≡ refuse 19 x)) ↔ ((x : ℕ) × OnRing L x)
   ring-exact = (
     (λ r. trace-refused s m e .0 (r .0, ring-first L n bits starts room (r .0) (r .1))),
     (λ r. let b = trace-refused s m e .1 r in (b .0, ring-gives L n bits starts room (b .0) (b .1))),
   )
 
   -- its place is an input on a ring, and no lower input is on any
-  pub ring-lowest : (x : ℕ) → ran L n bits starts room ≡ refused 19 x → Lowest L ok (inputs (L .elements)) 19 x
-  ring-lowest x h = ring-place L ok 19 x (ring-first L n bits starts room x h)
-
--- ---- two results are equal
-
-same-answer : (r q : code.Ran) → saidRan r ≡ saidRan q → r ≡ q
-same-answer (answer.Written a) (answer.Written b) e = ap answer.Written (good-inj e)
-same-answer (answer.Written a) (answer.Refused i p) e = absurd (refused≢good (sym e))
-same-answer (answer.Refused i p) (answer.Written b) e = absurd (refused≢good e)
-same-answer (answer.Refused i p) (answer.Refused j q) e =
-    let a : i ≡ j = cc in
-    let b : p ≡ q = cc in
-    rw (a, b)
-
-pub run-lean-determined : (a : Answer (List ℕ)) (before : List ℕ) (r q : code.Ran) (after after′ : List ℕ) → Says r before after a → Says q before after′ a → (r ≡ q) × (after ≡ after′)
-run-lean-determined a before r q after after′ x y = (same-answer r q (x .said ∙ sym (y .said)), x .wrote ∙ sym (y .wrote))
+  pub ring-lowest : (x : ℕ) → ran L n bits starts room ≡ refuse 19 x → Lowest L ok (inputs (L .elements)) (numbered 19 x)
+  ring-lowest x h = ring-place L ok (numbered 19 x) (ring-first L n bits starts room x h)

@@ -13,7 +13,7 @@ use lib.Dec.{T, eqb, ltb, leb, eqb→eq}
 use borrow.Author.Tests.{eq-eqb, ne-eqb, le-leb, lt-leb}
 use Rattle.laws.proofs.Tests.{and-both, T-is}
 use Rattle.laws.proofs.Regions.{sets-append, sets-front}
-use Rattle.calculus.specs.Answer.{Answer, good, refused, _>>=_, need}
+use Rattle.calculus.specs.Answer.{Answer, good, refuse, _>>=_, need}
 use Rattle.calculus.specs.Net.{Interface, Element, part, Net}
 use Rattle.calculus.specs.Record.{Bits}
 use Rattle.calculus.specs.Translate.{saidOf, outOf}
@@ -33,9 +33,10 @@ use Rattle.trace_steps.proofs.SweepLaws.{looks-table}
 use Rattle.trace_steps.proofs.TickLaws.{ordered-within, registers-within, pins-within, ins-within, outs-within}
 use Rattle.trace_rings.specs.Rings.{met}
 use Rattle.trace.specs.Tables.{Tabled, Looking}
-use Rattle.trace.specs.Said.{saidRan, Says, Above, lentIn, freed, Safe, Runnable, Freed}
-use Rattle.trace.specs.declared.Ran as code
-use Rattle.trace.specs.declared.Ran.the-variants as answer
+use Rattle.trace.specs.Answers.{saidAnswer, Says}
+use Rattle.trace.specs.Said.{refusedAs, Above, lentIn, freed, Safe, Runnable, Freed}
+use Rattle.trace.specs.declared.Answer as code
+use Rattle.trace.specs.declared.Answer.the-variants as answer
 use Rattle.trace.proofs.Turning.{turns-keep}
 use Rattle.trace.proofs.ElementLaws.{in-out}
 use Rattle.trace.proofs.PinLists.{upTo, upto-is, ins-length, outs-length, ins-outs}
@@ -165,18 +166,18 @@ module _ (m : Net) (n : ℕ) (bits starts out : List ℕ) where
   unfolding freed
   freed-is a c e f = ap (λ (x : Bool). answers x (leb needed (length out)) needed bytes) e ∙ ap (λ (x : Bool). answers a x needed bytes) f
 
-  says-of : (r : code.Ran) (after : List ℕ) (a : Answer (List ℕ)) → freed m n bits starts (length out) ≡ a → saidRan r ≡ saidOf a → after ≡ outOf a out → Says r out after (freed m n bits starts (length out))
+  says-of : (r : code.Answer) (after : List ℕ) (a : Answer (List ℕ)) → freed m n bits starts (length out) ≡ a → saidAnswer r ≡ saidOf a → after ≡ outOf a out → Says r out after (freed m n bits starts (length out))
   says-of r after a e f g = record { said = f ∙ sym (ap saidOf e); wrote = g ∙ sym (ap (λ (x : Answer (List ℕ)). outOf x out) e) }
 
   module _ (reads writes regs : ℕ) (er : reads ≡ n * length (inPins (m .pins))) (ew : writes ≡ n * length (outPins (m .pins))) (eg : regs ≡ length (registers (m .elements))) where
     lent-is : (x : Bool) → lentIn bits starts reads regs ≡ x → lentIn bits starts (n * length (inPins (m .pins))) (length (registers (m .elements))) ≡ x
     lent-is x e = ap (λ (k : ℕ). lentIn bits starts k (length (registers (m .elements)))) (sym er) ∙ ap (lentIn bits starts reads) (sym eg) ∙ e
 
-    pub says-20 : lentIn bits starts reads regs ≡ false → Says (answer.Refused 20 0) out out (freed m n bits starts (length out))
-    says-20 e = says-of (answer.Refused 20 0) out (refuse 20 0) (freed-is false (leb needed (length out)) (lent-is false e) refl) refl refl
+    pub says-20 : lentIn bits starts reads regs ≡ false → Says (refusedAs 20 0) out out (freed m n bits starts (length out))
+    says-20 e = says-of (refusedAs 20 0) out (refuse 20 0) (freed-is false (leb needed (length out)) (lent-is false e) refl) refl refl
 
-    pub says-17 : lentIn bits starts reads regs ≡ true → length out < writes → Says (answer.Refused 17 writes) out out (freed m n bits starts (length out))
-    says-17 e l = says-of (answer.Refused 17 writes) out (refuse 17 needed) (freed-is true false (lent-is true e) (lt-leb needed (length out) (subst (λ (k : ℕ). length out < k) ew l))) (ap (λ (k : ℕ). refuse 17 k) ew) refl
+    pub says-17 : lentIn bits starts reads regs ≡ true → length out < writes → Says (refusedAs 17 writes) out out (freed m n bits starts (length out))
+    says-17 e l = says-of (refusedAs 17 writes) out (refuse 17 needed) (freed-is true false (lent-is true e) (lt-leb needed (length out) (subst (λ (k : ℕ). length out < k) ew l))) (ap (λ (k : ℕ). refuse 17 k) ew) refl
 
     pub says-written : lentIn bits starts reads regs ≡ true → writes ≤ length out → (after : List ℕ) → after ≡ sets out 0 bytes → Says (answer.Written writes) out after (freed m n bits starts (length out))
     says-written e l after q =
@@ -356,7 +357,7 @@ module _ (u : List ℕ) (end settled pins n : ℕ) (bits starts out : List ℕ) 
   pub ins-few₁ : i ≤ pins
   ins-few₁ = omega (arith, ins-outs w₁ pins)
 
-  pub freed-20 : lentIn bits starts (n * i) regs ≡ false → Freed u end settled pins n bits starts out w₁ out (answer.Refused 20 0)
+  pub freed-20 : lentIn bits starts (n * i) regs ≡ false → Freed u end settled pins n bits starts out w₁ out (refusedAs 20 0)
   freed-20 e = record {
     kept = listed-above u end w₁ regs ls;
     says = λ m rn. says-20 m n bits starts out (n * i) (n * (pins - i)) regs (reads-are m rn) (writes-are m rn) (regs-are u m end settled pins rn w₁ regs ls) e;
@@ -368,7 +369,7 @@ module _ (u : List ℕ) (end settled pins n : ℕ) (bits starts out : List ℕ) 
       writes-are : (m : Net) → Runnable u m end settled pins → n * (pins - i) ≡ n * length (outPins (m .pins))
       writes-are m rn = ap (λ (k : ℕ). n * k) (ap (λ (k : ℕ). pins - k) ei ∙ outs-are u m end settled pins rn w₁ regs ls)
 
-  pub freed-17 : lentIn bits starts (n * i) regs ≡ true → length out < n * (pins - i) → Freed u end settled pins n bits starts out w₁ out (answer.Refused 17 (n * (pins - i)))
+  pub freed-17 : lentIn bits starts (n * i) regs ≡ true → length out < n * (pins - i) → Freed u end settled pins n bits starts out w₁ out (refusedAs 17 (n * (pins - i)))
   freed-17 e l = record {
     kept = listed-above u end w₁ regs ls;
     says = λ m rn. says-17 m n bits starts out (n * i) (n * (pins - i)) regs (ap (λ (k : ℕ). n * k) (ei ∙ ins-are u m end settled pins rn w₁ regs ls)) (ap (λ (k : ℕ). n * k) (ap (λ (k : ℕ). pins - k) ei ∙ outs-are u m end settled pins rn w₁ regs ls)) (regs-are u m end settled pins rn w₁ regs ls) e l;

@@ -10,4 +10,5 @@ pub mod RegisterLists
 pub mod RunLaws
 pub mod StageLaws
 pub mod FreeLaws
+pub mod CallLaws
 pub mod Exact

@@ -11,7 +11,7 @@ use lib.ListN.{length, getD}
 use lib.Dec.{T, eqb, ltb, eqb→eq, eqb-refl}
 use borrow.Author.Tests.{eq-eqb, ne-eqb, eqb-false}
 use Rattle.laws.proofs.Tests.{or-elim, or-left, or-right, T-is, and-of, and-both}
-use Rattle.calculus.specs.Answer.{Answer, good, refused}
+use Rattle.calculus.specs.Answer.{Answer, good, refused, refuse}
 use Rattle.calculus.specs.Net.{Element, point, part, Net}
 use Rattle.calculus.specs.Terms.{partAt}
 use Rattle.calculus.specs.Inputs.{madeAt, targets, isOut}
@@ -415,10 +415,10 @@ module _ (u : List ℕ) (m : Net) (end pins total : ℕ) (g : Ground u m end pin
       where
         go : (a : Answer (Unit {0})) → noRing m (inputs es) ≡ a → noRing m (inputs es) ≡ refuse 19 0
         go (good tt) q = absurd (never-settled (rounds m) 0 l (all-settled (before m) (terminals es) (closed m ok) (λ y b. accepted m ok q y (back-ring m ok y b)) (rest w 0)))
-        go (refused a b) q =
-            let r = ring-place m ok a b q in
-            let i = input-ring b (r .listed) (r .ring) in
-            absurd (f (i .0) (i .1) b (i .2 .0) (i .2 .1))
+        go (refused why) q =
+            let r = ring-place m ok why q in
+            let i = input-ring (why .place) (r .listed) (r .ring) in
+            absurd (f (i .0) (i .1) (why .place) (i .2 .0) (i .2 .1))
     place-is x l (here j y lj i b clear below) = owners.ring-is m ok x is-input (on-ring-of x j lj i b) least
       where
         is-input : T (has (inputs es) x)

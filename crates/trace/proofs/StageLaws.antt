@@ -10,7 +10,7 @@ use lib.ListN.{length, getD, set, drop, length-drop}
 use lib.Seq.{ext-getD, getD-drop}
 use lib.Dec.{T, eqb, ltb}
 use Rattle.laws.proofs.Regions.{region-ext}
-use Rattle.calculus.specs.Answer.{Answer, good, refused, _>>=_}
+use Rattle.calculus.specs.Answer.{Answer, good, refuse, _>>=_}
 use Rattle.calculus.specs.Net.{Interface, Element, Net}
 use Rattle.calculus.specs.Lean.{lean}
 use Rattle.calculus.specs.Translate.{saidOf, outOf}
@@ -42,9 +42,11 @@ use Rattle.trace_steps.proofs.SweepLaws.{looks-table}
 use Rattle.trace_rings.specs.Lists.{looksIn, Choosable, Chosen}
 use Rattle.trace_rings.specs.Rings.{mark, rest, met, InputOf, Rest, Fresh, Found}
 use Rattle.trace.specs.Tables.{Entry, Tabled, KeptRoots, Looking}
-use Rattle.trace.specs.Said.{Says, Keeps, Leaned, Above, Made, freed, Runnable, Safe, Freed}
-use Rattle.trace.specs.declared.Ran as code
-use Rattle.trace.specs.declared.Ran.the-variants as answer
+use Rattle.translator.specs.Made.{Keeps}
+use Rattle.translator.proofs.Keeping.{later-keeps}
+use Rattle.trace.specs.Answers.{Says}
+use Rattle.trace.specs.Said.{refusedAs, Leaned, Above, Made, freed, Runnable, Safe, Freed}
+use Rattle.trace.specs.declared.Answer as code
 use Rattle.trace.proofs.Turning.{turns-keep}
 use Rattle.trace.proofs.GateLaws.{gate-at, gate-looks, looks-looking, looking-looks, input-low}
 use Rattle.trace.proofs.OrderLaws.{Stage, End, settled-end}
@@ -65,10 +67,13 @@ above-then a b = record { size = b .size ∙ a .size; above = λ j l. b .above j
 pub above-within : {u w : List ℕ} → Within u w → Above u w
 above-within i = record { size = i .size; above = i .above }
 
-pub above-keeps : (u w : List ℕ) → Above u w → Keeps u w
-above-keeps u w h =
+above-later : (u w : List ℕ) → Above u w → drop 32768 w ≡ drop 32768 u
+above-later u w h =
     ext-getD 0 (drop 32768 w) (drop 32768 u) (length-drop 32768 w ∙ ap (λ (n : ℕ). n - 32768) (h .size) ∙ sym (length-drop 32768 u))
     (λ i l. getD-drop 32768 w i 0 ∙ h .above (32768 + i) (omega arith) ∙ sym (getD-drop 32768 u i 0))
+
+pub above-keeps : (u w : List ℕ) → 32768 ≤ length u → Above u w → Keeps u w
+above-keeps u w l h = later-keeps u w l (subst (λ (n : ℕ). 32768 ≤ n) (sym (h .size)) l) (above-later u w h)
 
 -- the table and the pins stay
 pub tabled-same : (u w : List ℕ) (m : Net) (end pins : ℕ) → length w ≡ length u → ((x : ℕ) → x < 8192 → getD w x 0 ≡ getD u x 0) → ((x : ℕ) → 18944 ≤ x → x < 19072 → getD w x 0 ≡ getD u x 0)
@@ -318,7 +323,7 @@ stop a k n x e = ap (λ (z : Answer (Unit {0})). z >>= k) e
 go-on : {A : Type 0} (a : Answer (Unit {0})) (k : Unit {0} → Answer A) → a ≡ good tt → (a >>= k) ≡ k tt
 go-on a k e = ap (λ (z : Answer (Unit {0})). z >>= k) e
 
-pub ring-says : (m : Net) (n : ℕ) (bits starts out : List ℕ) (x : ℕ) → noRing m (inputs (m .elements)) ≡ refuse 19 x → Says (answer.Refused 19 x) out out (ran m n bits starts (length out))
+pub ring-says : (m : Net) (n : ℕ) (bits starts out : List ℕ) (x : ℕ) → noRing m (inputs (m .elements)) ≡ refuse 19 x → Says (refusedAs 19 x) out out (ran m n bits starts (length out))
 unfolding ran
 ring-says m n bits starts out x e =
     let f = stop (noRing m (inputs (m .elements))) _ 19 x e in
@@ -343,6 +348,9 @@ module _ (u : List ℕ) (e k p : ℕ) (w₃ : List ℕ) (end : ℕ) (md : Made u
   pub settle-ready : Sweepable w₅ total total
   settle-ready = sweepable w₃ L end p (md .tabled) (md .roots) w₄ total ch w₅ mk
 
+  large : 32768 ≤ length u
+  large = let a = md .tabled .size in let b = md .kept .size in omega arith
+
   module _ (w₆ : List ℕ) (left : ℕ) (st : Settled w₅ total w₆ left) where
     kept₆ : Above u w₆
     kept₆ = above-then (md .kept) (above-then (above-u w₃ L end p (md .tabled) (md .roots) w₄ total ch w₅ mk) (above-w w₅ L end p total grounded w₆ left st))
@@ -350,17 +358,17 @@ module _ (u : List ℕ) (e k p : ℕ) (w₃ : List ℕ) (end : ℕ) (md : Made u
     pub lowest-ready : 1 ≤ left → Rest w₆ left × Fresh w₆ 2
     lowest-ready l = rest-ready w₅ L end p total grounded w₆ left st l
 
-    pub ring-ran : 1 ≤ left → (w₇ : List ℕ) (x : ℕ) → Found w₆ left w₇ x → (n : ℕ) (bits starts out : List ℕ) → Says (answer.Refused 19 x) out out (ran L n bits starts (length out)) × Keeps u w₇
+    pub ring-ran : 1 ≤ left → (w₇ : List ℕ) (x : ℕ) → Found w₆ left w₇ x → (n : ℕ) (bits starts out : List ℕ) → Says (refusedAs 19 x) out out (ran L n bits starts (length out)) × Keeps u w₇
     ring-ran l w₇ x f n bits starts out = (
       ring-says L n bits starts out x (ring-found w₅ L end p total grounded w₆ left st l w₇ x f),
-      above-keeps u w₇ (above-then kept₆ (record { size = f .kept .size; above = f .kept .above })),
+      above-keeps u w₇ large (above-then kept₆ (record { size = f .kept .size; above = f .kept .above })),
     )
 
     pub free-ready : left ≡ 0 → (n : ℕ) → n ≤ 65535 → Safe w₆ end total p n
     free-ready z n h = safe w₅ L end p total grounded w₆ left st z n h
 
-    pub free-ran : left ≡ 0 → (n : ℕ) (bits starts out₀ w₇ out : List ℕ) (r : code.Ran) → Freed w₆ end total p n bits starts out₀ w₇ out r → Says r out₀ out (ran L n bits starts (length out₀)) × Keeps u w₇
+    pub free-ran : left ≡ 0 → (n : ℕ) (bits starts out₀ w₇ out : List ℕ) (r : code.Answer) → Freed w₆ end total p n bits starts out₀ w₇ out r → Says r out₀ out (ran L n bits starts (length out₀)) × Keeps u w₇
     free-ran z n bits starts out₀ w₇ out r f = (
       subst (Says r out₀ out) (sym (ran-freed L n bits starts (length out₀) (no-ring w₅ L end p total grounded w₆ left st z))) (f .says L (runnable w₅ L end p total grounded w₆ left st z)),
-      above-keeps u w₇ (above-then kept₆ (f .kept)),
+      above-keeps u w₇ large (above-then kept₆ (f .kept)),
     )

@@ -4,12 +4,11 @@ use mathlib.Core.Path.{_≡_}
 use mathlib.Core.Bool.{Bool, _&&_}
 use mathlib.Core.List.{List}
 use lib.Dec.{T, eqb, leb}
-use lib.ListN.{length, getD, drop}
-use Rattle.calculus.specs.Answer.{Answer, good, refused, _>>=_, need}
+use lib.ListN.{length, getD}
+use Rattle.calculus.specs.Answer.{Answer, good, _>>=_, need}
 use Rattle.calculus.specs.Net.{Net}
 use Rattle.calculus.specs.Lean.{lean}
 use Rattle.calculus.specs.Record.{All}
-use Rattle.calculus.specs.Translate.{saidOf, outOf}
 use Rattle.circuit_theorems.proofs.Rings.{has}
 use Rattle.memory.specs.Map.{netIn}
 use Rattle.calculus.specs.NetRead.{Known}
@@ -19,23 +18,14 @@ use Rattle.trace_steps.specs.Steps.{Ordered}
 use Rattle.trace_steps.specs.Pins.{Pins, Listable}
 use Rattle.trace_steps.specs.Ticks.{InOrder}
 use Rattle.trace_rings.specs.Rings.{met}
+use Rattle.trace.specs.Answers.{Says}
 use Rattle.trace.specs.Tables.{Tabled, KeptRoots, Looking}
-use Rattle.trace.specs.declared.Ran as code
-use Rattle.trace.specs.declared.Ran.the-variants as answer
+use Rattle.trace.specs.declared.Answer as code
+use Rattle.trace.specs.declared.Answer.the-variants as answer
 
--- number and place, or the number of bytes written
-abbrev pub saidRan : code.Ran → Answer ℕ
-saidRan (answer.Written n) = good n
-saidRan (answer.Refused number place) = refused number place
-
--- an answer and what it leaves of the output are those of `a`
-pub record Says (r : code.Ran) (before after : List ℕ) (a : Answer (List ℕ)) : Type 0 where
-  pub said : saidRan r ≡ saidOf a
-  pub wrote : after ≡ outOf a before
-
--- the working memory from number 32,768 on is as it was
-abbrev pub Keeps : List ℕ → List ℕ → Type 0
-Keeps work after = drop 32768 after ≡ drop 32768 work
+-- a refusal that names no types
+abbrev pub refusedAs : ℕ → ℕ → code.Answer
+refusedAs number place = answer.Refused (record { number = number; place = place; wanted = 0; found = 0 })
 
 -- ---- the stages
 
@@ -84,6 +74,6 @@ pub record Runnable (w : List ℕ) (m : Net) (end settled pins : ℕ) : Type 0 w
   pub free : (x : ℕ) → OnRing m x → ⊥
 
 -- it is run, whatever netlist it is
-pub record Freed (u : List ℕ) (end settled pins ticks : ℕ) (bits starts out₀ w out : List ℕ) (r : code.Ran) : Type 0 where
+pub record Freed (u : List ℕ) (end settled pins ticks : ℕ) (bits starts out₀ w out : List ℕ) (r : code.Answer) : Type 0 where
   pub kept : Above u w
   pub says : (m : Net) → Runnable u m end settled pins → Says r out₀ out (freed m ticks bits starts (length out₀))

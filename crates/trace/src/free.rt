@@ -1,5 +1,5 @@
 // A netlist without rings is run, where the bits lent and the room are right.
-use crate::Ran;
+use crate::Answer;
 use trace_steps::pins;
 use trace_steps::ticks;
 ghost use mathlib.Core.Path.{_≡_};
@@ -31,7 +31,7 @@ pub fn run(
     settled: usize,
     pins: usize,
     ticks: usize,
-) -> Ran
+) -> Answer
     requires { ⌜ Safe (now work) end settled pins ticks ⌝ }
     ensures { λ r. ⌜ Freed (now (work .entry)) end settled pins ticks (now (inputs .entry)) (now (starts .entry)) (now (out .entry)) (now (work .exit)) (now (out .exit)) r ⌝ }
 {
@@ -41,13 +41,13 @@ pub fn run(
     let reads = ticks * ins;
     let writes = ticks * outs;
     if !lent(inputs, starts, reads, regs) {
-        return Ran::Refused(20, 0);
+        return crate::refused(20, 0);
     }
     if out.len() < writes {
-        return Ran::Refused(17, writes);
+        return crate::refused(17, writes);
     }
     ticks::begin(work, end);
     ticks::wake(work, starts, regs);
     ticks::run(work, inputs, out, settled, regs, pins, ins, outs, ticks);
-    Ran::Written(writes)
+    Answer::Written(writes)
 }

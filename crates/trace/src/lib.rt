@@ -1,51 +1,68 @@
-// A recorded trace run through the lean netlist that stands in the working memory with its roots. What stands where during a run:
-//   0       8,192  by input terminal, the terminal whose bit it has (itself for a pin); by output terminal, 65,520 and its element's kind
-//   8,192   5,120  the outputs that are not settled yet; afterwards the registers' outputs by rising number
-//   13,824  5,120  the order: the outputs that are settled, each behind those that it looks at; in the search, those that are met
-//   18,944    128  the pins, each output pin's root in its place
-//   19,072  8,192  the roots; then by terminal a mark; then by terminal its bit
+// The call that runs a recorded trace through the lean netlist of a sheet.
 mod free;
+mod net;
 mod tables;
 
-use trace_rings::list;
-use trace_rings::ring;
-use trace_steps::order;
+use translator::Made;
+use typing::Refusal;
 ghost use mathlib.Core.Path.{_≡_};
-ghost use Prim.Native.Nat.{_≤_};
 ghost use lib.ListN.{length};
-ghost use Rattle.calculus.specs.Lean.{lean};
-ghost use Rattle.memory.specs.Map.{netIn};
-ghost use Rattle.trace_calculus.specs.Trace.{ran};
-ghost use Rattle.trace.specs.Said.{Leaned, Says, Keeps};
+ghost use Rattle.translator.specs.Made.{Keeps};
+ghost use Rattle.trace_calculus.specs.Trace.{trace, runCall};
+ghost use Rattle.trace.specs.Answers.{Says, called};
+ghost use Rattle.trace.specs.Said.{refusedAs};
 
-// The number of bytes written, or a refusal's number and place.
-pub enum Ran {
+// What a call that writes answers: the number of bytes written, or a refusal, its number and place, and for 12 the type number wanted and
+// the one found.
+pub enum Answer {
     Written(usize),
-    Refused(u8, usize),
+    Refused(Refusal),
 }
 
-// The lean netlist is run for so many ticks: 19, 20, 17.
-pub fn run_lean(
-    work: &mut [u16],
+// A refusal that names no types.
+fn refused(number: u8, place: usize) -> Answer
+    ensures { λ r. ⌜ r ≡ refusedAs number place ⌝ }
+{
+    Answer::Refused(Refusal {
+        number,
+        place,
+        wanted: 0,
+        found: 0,
+    })
+}
+
+// The netlist is made and run. The working memory is not yet cleared.
+fn run_sheet(
+    sheet: &[u8],
     inputs: &[u8],
     starts: &[u8],
     out: &mut [u8],
-    elements: usize,
-    wires: usize,
-    pins: usize,
-    ticks: usize,
-) -> Ran
-    requires { ⌜ (Leaned (now work) elements wires pins) × (ticks ≤ 65535) ⌝ }
-    ensures { λ r. ⌜ (Says r (now (out .entry)) (now (out .exit)) (ran (lean (netIn (now (work .entry)) elements wires pins)) ticks (now (inputs .entry)) (now (starts .entry)) (length (now (out .entry)))))
+    work: &mut [u16],
+    ticks: u16,
+) -> Answer
+    ensures { λ r. ⌜ (Says r (now (out .entry)) (now (out .exit)) (trace (length (now (work .entry))) (now (sheet .entry)) ticks (now (inputs .entry)) (now (starts .entry)) (length (now (out .entry)))))
         × (Keeps (now (work .entry)) (now (work .exit))) ⌝ }
 {
-    let end = tables::make(work, elements, wires, pins);
-    let total = list::list(work, end);
-    order::mark_free(work, end);
-    let left = order::settle(work, total);
-    if left > 0 {
-        let place = ring::lowest(work, left);
-        return Ran::Refused(19, place);
+    match translator::make(sheet, work) {
+        Made::Refused(refusal) => Answer::Refused(refusal),
+        Made::Net(counts) => net::run_net(work, inputs, starts, out, counts, ticks as usize),
     }
-    free::run(work, inputs, starts, out, end, total, pins, ticks)
+}
+
+// The lean netlist of a sheet is run for so many ticks. Lent are the bits of its input pins, in pin order, tick after tick, and one start
+// bit for each register by rising terminal; written are the bits of its output pins, one byte a bit. Or the run is refused, and the output
+// stays. The working memory is left as by every call.
+pub fn run(
+    sheet: &[u8],
+    inputs: &[u8],
+    starts: &[u8],
+    out: &mut [u8],
+    work: &mut [u16],
+    ticks: u16,
+) -> Answer
+    ensures { λ r. ⌜ called r (now (out .exit)) (now (work .exit)) ≡ runCall (now (sheet .entry)) (now (inputs .entry)) (now (starts .entry)) ticks (now (out .entry)) (now (work .entry)) ⌝ }
+{
+    let r = run_sheet(sheet, inputs, starts, out, work, ticks);
+    translator::clear(work);
+    r
 }

@@ -205,7 +205,7 @@ trace memory s n bits starts room = do
   ran (lean m) n bits starts room
 
 -- what the call leaves
-unfoldable pub traceCall : List ℕ → List ℕ → List ℕ → ℕ → List ℕ → List ℕ → Call
-traceCall s bits starts n room work =
-    let a = trace (length work) s n bits starts (length room) in
-    record { said = saidOf a; out = outOf a room; work = workOf work }
+unfoldable pub runCall : List ℕ → List ℕ → List ℕ → ℕ → List ℕ → List ℕ → Call
+runCall s bits starts n output work =
+    let a = trace (length work) s n bits starts (length output) in
+    record { said = saidOf a; out = outOf a output; work = workOf work }

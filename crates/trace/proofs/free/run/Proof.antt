@@ -45,22 +45,24 @@ mul-writes c =
 
 returns : tie.Need-returns
 returns c =
-    let s = c .before .before .before .before .before .before .before .before .before .before .before .before in
+    let x = c .before in
+    let s = x .before .before .before .before .before .before .before .before .before .before .before .before in
     let a = s .args in
-    let g = c .before .before .before .before .before .before .registers in
-    let i = c .before .before .input-pins in
-    let t = c .before .lent in
-    freed-20 (a .work .now) (a .end) (a .settled) (a .pins) (a .ticks) (a .inputs .now) (a .starts .now) (a .out .now) (s .pre) (g .last .0) (g .result) (g .ensures) (i .result) (i .ensures) (said-no (t .result) (t .ensures) (c .if1 .taken))
+    let g = x .before .before .before .before .before .before .registers in
+    let i = x .before .before .input-pins in
+    let t = x .before .lent in
+    rw (c .refused .ensures) (freed-20 (a .work .now) (a .end) (a .settled) (a .pins) (a .ticks) (a .inputs .now) (a .starts .now) (a .out .now) (s .pre) (g .last .0) (g .result) (g .ensures) (i .result) (i .ensures) (said-no (t .result) (t .ensures) (x .if1 .taken)))
 
 returns-2 : tie.Need-returns-2
 returns-2 c =
-    let s = c .before .before .before .before .before .before .before .before .before .before .before .before .before in
+    let x = c .before in
+    let s = x .before .before .before .before .before .before .before .before .before .before .before .before .before in
     let a = s .args in
-    let g = c .before .before .before .before .before .before .before .registers in
-    let i = c .before .before .before .input-pins in
-    let t = c .before .before .lent in
-    let e = said-yes (t .result) (t .ensures) (c .before .if1 .left) in
-    freed-17 (a .work .now) (a .end) (a .settled) (a .pins) (a .ticks) (a .inputs .now) (a .starts .now) (a .out .now) (s .pre) (g .last .0) (g .result) (g .ensures) (i .result) (i .ensures) e (c .if2 .taken)
+    let g = x .before .before .before .before .before .before .before .registers in
+    let i = x .before .before .before .input-pins in
+    let t = x .before .before .lent in
+    let e = said-yes (t .result) (t .ensures) (x .before .if1 .left) in
+    rw (c .refused2 .ensures) (freed-17 (a .work .now) (a .end) (a .settled) (a .pins) (a .ticks) (a .inputs .now) (a .starts .now) (a .out .now) (s .pre) (g .last .0) (g .result) (g .ensures) (i .result) (i .ensures) e (x .if2 .taken))
 
 wake-requires : tie.Need-wake-requires
 wake-requires c κs =
@@ -108,8 +110,10 @@ run-spec =
     mul-reads
     mul-writes
     (λ c κs. search needs)
+    (λ c κs. search needs)
     (λ c. search needs)
     returns
+    (λ c κs. search needs)
     (λ c. search needs)
     returns-2
     (λ c κs. search needs)

@@ -1,12 +1,12 @@
--- One stage after the other. Assumes nothing.
+-- `trace::net::run_lean` meets its contract: one stage after the other. Assumes nothing.
 use native.Mathlib.Omega.{arith}
 use mathlib.Core.Path.{_≡_}
 use borrow.Author.Needs.{needs}
 use Rattle.calculus.specs.Lean.{lean}
 use Rattle.memory.specs.Map.{netIn}
 use Rattle.trace.proofs.StageLaws.{choosable, settle-ready, lowest-ready, ring-ran, free-ready, free-ran}
-use Rattle.trace.proofs.run_lean.Statement.{statement}
-use Rattle.trace.proofs.run_lean.Tie as tie
+use Rattle.trace.proofs.net.run_lean.Statement.{statement}
+use Rattle.trace.proofs.net.run_lean.Tie as tie
 
 list-requires : tie.Need-list-requires
 list-requires c κs =
@@ -36,14 +36,15 @@ lowest-requires c κs =
 
 returns : tie.Need-returns
 returns c =
-    let s = c .before .before .before .before .before .before .before .before .before .before .before .before .before .before .before .before .before .before .before .before .before .before .before .before .before in
+    let q = c .before in
+    let s = q .before .before .before .before .before .before .before .before .before .before .before .before .before .before .before .before .before .before .before .before .before .before .before .before .before in
     let a = s .args in
-    let m = c .before .before .before .before .before .before .before .before .before .before .before .before .before .before .before .before .before .before .before .make in
-    let l = c .before .before .before .before .before .before .before .before .before .before .before .before .before .before .before .list in
-    let f = c .before .before .before .before .before .before .before .before .before .before .before .mark-free in
-    let t = c .before .before .before .before .before .before .before .settle in
-    let r = c .before .before .lowest in
-    ring-ran (a .work .now) (a .elements) (a .wires) (a .pins) (m .last .0) (m .result) (m .ensures) (l .last .0) (l .result) (l .ensures) (f .last .0) (f .ensures) (t .last .0) (t .result) (t .ensures) (c .before .before .before .before .if1 .taken) (r .last .0) (r .result) (r .ensures) (a .ticks) (a .inputs .now) (a .starts .now) (a .out .now)
+    let m = q .before .before .before .before .before .before .before .before .before .before .before .before .before .before .before .before .before .before .before .make in
+    let l = q .before .before .before .before .before .before .before .before .before .before .before .before .before .before .before .list in
+    let f = q .before .before .before .before .before .before .before .before .before .before .before .mark-free in
+    let t = q .before .before .before .before .before .before .before .settle in
+    let r = q .before .before .lowest in
+    rw (c .refused .ensures) (ring-ran (a .work .now) (a .elements) (a .wires) (a .pins) (m .last .0) (m .result) (m .ensures) (l .last .0) (l .result) (l .ensures) (f .last .0) (f .ensures) (t .last .0) (t .result) (t .ensures) (q .before .before .before .before .if1 .taken) (r .last .0) (r .result) (r .ensures) (a .ticks) (a .inputs .now) (a .starts .now) (a .out .now))
 
 run-requires : tie.Need-run-requires
 run-requires c κs =
@@ -77,6 +78,7 @@ run-lean-spec =
     (λ c κs. search needs)
     settle-requires
     lowest-requires
+    (λ c κs. search needs)
     (λ c. search needs)
     returns
     run-requires

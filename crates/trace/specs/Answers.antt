@@ -1,0 +1,23 @@
+-- What a call answers and leaves, in the terms of the definitions. Assumes nothing.
+use Prim.Native.Nat.{ℕ}
+use mathlib.Core.Path.{_≡_}
+use mathlib.Core.List.{List}
+use Rattle.calculus.specs.Answer.{Answer, good, refused}
+use Rattle.typing.specs.Verdicts.{saidWhy}
+use Rattle.calculus.specs.Translate.{saidOf, outOf, Call}
+use Rattle.trace.specs.declared.Answer as code
+use Rattle.trace.specs.declared.Answer.the-variants as answer
+
+-- a refusal, or the number of bytes written
+abbrev pub saidAnswer : code.Answer → Answer ℕ
+saidAnswer (answer.Written n) = good n
+saidAnswer (answer.Refused why) = refused (saidWhy why)
+
+-- an answer and what it leaves of the output are those of `a`
+pub record Says (r : code.Answer) (before after : List ℕ) (a : Answer (List ℕ)) : Type 0 where
+  pub said : saidAnswer r ≡ saidOf a
+  pub wrote : after ≡ outOf a before
+
+-- what a call leaves
+abbrev pub called : code.Answer → List ℕ → List ℕ → Call
+called r out work = record { said = saidAnswer r; out = out; work = work }
