@@ -22,6 +22,7 @@ use Rattle.lean.specs.Table.{Within, entry}
 use Rattle.lean.proofs.TableLaws.{within-none, within-then, within-set, entry-same, entry-other}
 use Rattle.trace_calculus.specs.Trace.{In, terminals, OnRing, run, inPins, outPins, registers, place, givenBits, startBits, byte, row, rows, allBits}
 use Rattle.trace_theorems.proofs.TraceRun.{held}
+use Rattle.trace_theorems.proofs.Lending.{row-length, rows-length}
 use Rattle.trace_theorems.proofs.Sources.{out-terminal}
 use Rattle.trace_theorems.proofs.Owners.{last}
 use Rattle.trace_steps.specs.Turns.{turns, Looped}
@@ -104,14 +105,6 @@ rows-snoc β os t zero = append-nil-both (row β t os) ∙ ap (λ (k : ℕ). row
 rows-snoc β os t (suc n) =
     let e : t + 1 + n ≡ t + suc n = omega arith in
     ap (λ (l : List ℕ). row β t os ++ l) (rows-snoc β os (t + 1) n ∙ ap (λ (k : ℕ). rows β os (t + 1) n ++ row β k os) e) ∙ sym (append-assoc (row β t os) (rows β os (t + 1) n) (row β (t + suc n) os))
-
-row-length : (β : Bits) (t : ℕ) (os : List ℕ) → length (row β t os) ≡ length os
-row-length β t [] = refl
-row-length β t (x ∷ os) = ap suc (row-length β t os)
-
-pub rows-length : (β : Bits) (os : List ℕ) (t n : ℕ) → length (rows β os t n) ≡ n * length os
-rows-length β os t zero = let z : 0 ≡ 0 * length os = omega arith in z
-rows-length β os t (suc n) = length-append (row β t os) (rows β os (t + 1) n) ∙ (let a = row-length β t os in let b = rows-length β os (t + 1) n in let c = suc-mul n (length os) in omega arith)
 
 -- ---- all ticks
 

@@ -20,7 +20,8 @@ use Rattle.circuit_theorems.specs.Formed.{Shown, Formed}
 use Rattle.circuit_theorems.proofs.Wiring.{input-once}
 use Rattle.memory.specs.Map.{region, terminalOf}
 use Rattle.trace_calculus.specs.Trace.{inPins, outPins, place, byte, row}
-use Rattle.trace_theorems.proofs.TraceMain.{Once, place-at, pins-once}
+use Rattle.trace_theorems.proofs.Lists.{Once, place-at}
+use Rattle.trace_theorems.proofs.Lending.{pins-once}
 use Rattle.trace_steps.specs.Pins.{isIn, ins, outs}
 use Rattle.trace_steps.proofs.PinLaws.{ins-up}
 
@@ -164,10 +165,6 @@ module _ (w : List ℕ) (n : ℕ) (m : Net) (ok : Formed m) (shown : upTo w n �
 pub row-snoc : (β : Bits) (t : ℕ) (os : List ℕ) (o : ℕ) → row β t (os ++ o ∷ []) ≡ row β t os ++ byte (β o t) ∷ []
 row-snoc β t [] o = refl
 row-snoc β t (x ∷ os) o = ap (λ (l : List ℕ). byte (β x t) ∷ l) (row-snoc β t os o)
-
-pub row-length : (β : Bits) (t : ℕ) (os : List ℕ) → length (row β t os) ≡ length os
-row-length β t [] = refl
-row-length β t (x ∷ os) = ap suc (row-length β t os)
 
 pub out-last : (w : List ℕ) (n : ℕ) → isIn w n ≡ false → outPins (upTo w (suc n)) ≡ outPins (upTo w n) ++ pinAt w n ∷ []
 out-last w n e = out-append (upTo w n) (terminalOf (getD w (18944 + n) 0) ∷ []) ∙ ap (λ (b : Bool). outPins (upTo w n) ++ outPins (cond b (inp (pinAt w n)) (out (pinAt w n)) ∷ [])) e

@@ -19,7 +19,8 @@ use Rattle.circuit_theorems.proofs.Rings.{has}
 use Rattle.trace_calculus.specs.Trace.{In, here, there, terminals, registers, place}
 use Rattle.trace_theorems.proofs.Sources.{has-append, has-left, has-right, out-terminal}
 use Rattle.memory.specs.Map.{kindOf}
-use Rattle.trace_theorems.proofs.TraceMain.{Once, place-at, has-at}
+use Rattle.trace_theorems.proofs.Lists.{has-at, place-at, at-place, Up, up-low, up-weaken, up-once}
+use Rattle.trace_theorems.proofs.Lending.{registers-in, in-registers, registers-up}
 use Rattle.trace_theorems.proofs.Owners.{start, last, same-owner}
 use Rattle.trace_steps.specs.Turns.{turns}
 use Rattle.trace_steps.specs.Pins.{Counted, counted, registerOne}
@@ -29,26 +30,9 @@ use Rattle.trace.proofs.ElementLaws.{in-out}
 
 -- ---- rising lists
 
--- each at n or above, and above the one before
-abbrev pub Up : List ℕ → ℕ → Type 0
-Up [] n = Unit {0}
-Up (i ∷ is) n = (n ≤ i) × Up is (i + 1)
-
-up-low : (is : List ℕ) (n i : ℕ) → Up is n → T (has is i) → n ≤ i
-up-low [] n i u t = absurd t
-up-low (j ∷ is) n i u t = or-elim (eqb j i) (has is i) t (λ v. let e = eqb→eq j i v in omega (arith, u .0)) (λ v. let l = up-low is (j + 1) i (u .1) v in omega (arith, u .0))
-
-up-weaken : (is : List ℕ) (a n : ℕ) → n ≤ a → Up is a → Up is n
-up-weaken [] a n l u = tt
-up-weaken (x ∷ is) a n l u = (omega (arith, u .0), u .1)
-
 up-snoc : (is : List ℕ) (n x : ℕ) → n ≤ x → Up is n → ((i : ℕ) → T (has is i) → i < x) → Up (is ++ x ∷ []) n
 up-snoc [] n x l u f = (l, tt)
 up-snoc (i ∷ is) n x l u f = (u .0, up-snoc is (i + 1) x (let k = f i (or-left (eqb i i) (has is i) (eqb-refl i)) in omega arith) (u .1) (λ j t. f j (or-right (eqb i j) (has is j) t)))
-
-up-once : (is : List ℕ) (n : ℕ) → Up is n → Once is
-up-once [] n u = tt
-up-once (i ∷ is) n u = ((λ t. let l = up-low is (i + 1) i (u .1) t in omega arith), up-once is (i + 1) (u .1))
 
 -- two rising lists with the same members are one
 rising-same : (xs ys : List ℕ) (n : ℕ) → Up xs n → Up ys n → ((x : ℕ) → T (has xs x) → T (has ys x)) → ((x : ℕ) → T (has ys x) → T (has xs x)) → xs ≡ ys
@@ -65,33 +49,6 @@ rising-same (x ∷ xs) (y ∷ ys) n u v f g =
     (λ z t. or-elim (eqb x z) (has xs z) (g z (or-right (eqb y z) (has ys z) t)) (λ a. absurd (let b = eqb→eq x z a in let l = up-low ys (y + 1) z (v .1) t in omega arith)) (λ a. a)))
 
 -- ---- the definition's list
-
-registers-in : (es : List Element) (i : ℕ) → T (has (registers es) i) → In (part 1 i) es
-registers-in [] i t = absurd t
-registers-in (point j ∷ es) i t = there (registers-in es i t)
-registers-in (part p j ∷ es) i t = by (eqb p 1) refl t (registers-in es i)
-  where
-    by : (b : Bool) → eqb p 1 ≡ b → T (has (cond b (j ∷ registers es) (registers es)) i) → (T (has (registers es) i) → In (part 1 i) es) → In (part 1 i) (part p j ∷ es)
-    by true q t f = or-elim (eqb j i) (has (registers es) i) t (λ v. subst (λ (a : ℕ). In (part 1 i) (part a j ∷ es)) (sym (eqb→eq p 1 (subst T (sym q) tt))) (subst (λ (a : ℕ). In (part 1 i) (part 1 a ∷ es)) (sym (eqb→eq j i v)) here)) (λ v. there (f v))
-    by false q t f = there (f t)
-
-in-registers : {es : List Element} (i : ℕ) → In (part 1 i) es → T (has (registers es) i)
-in-registers i (here {xs = es}) = or-left (eqb i i) (has (registers es) i) (eqb-refl i)
-in-registers i (there {y = point j} h) = in-registers i h
-in-registers i (there {y = part p j} {xs = es} h) = by (eqb p 1) (in-registers i h)
-  where
-    by : (b : Bool) → T (has (registers es) i) → T (has (cond b (j ∷ registers es) (registers es)) i)
-    by true t = or-right (eqb j i) (has (registers es) i) t
-    by false t = t
-
-registers-up : (es : List Element) (n e : ℕ) → Rising es n e → Up (registers es) n
-registers-up [] n e r = tt
-registers-up (point j ∷ es) n e r = up-weaken (registers es) (j + 2) n (let l = r .0 in omega arith) (registers-up es (j + 2) e (r .1))
-registers-up (part p j ∷ es) n e r = by (eqb p 1) (registers-up es (j + partAt p .inputs + 1) e (r .1))
-  where
-    by : (b : Bool) → Up (registers es) (j + partAt p .inputs + 1) → Up (cond b (j ∷ registers es) (registers es)) n
-    by true u = (r .0, up-weaken (registers es) (j + partAt p .inputs + 1) (j + 1) (omega arith) u)
-    by false u = up-weaken (registers es) (j + partAt p .inputs + 1) n (let l = r .0 in omega arith) u
 
 abbrev next : ℕ → ℕ
 next i = i + 1
@@ -256,15 +213,7 @@ module _ (u : List ℕ) (m : Net) (end pins : ℕ) (t : Tabled u m end pins) whe
 
     -- and each register is there
     pub register-number : (i : ℕ) → In (part 1 i) (m .elements) → (place rs i < c .count) × (getD rs (place rs i) 0 ≡ i)
-    register-number i h = let n = registers-length in let r = find rs (in-registers i h) in (omega (arith, r .0), r .1)
-      where
-        find : (xs : List ℕ) → T (has xs i) → (place xs i < length xs) × (getD xs (place xs i) 0 ≡ i)
-        find [] t = absurd t
-        find (x ∷ xs) t = by (eqb x i) refl t (find xs)
-          where
-            by : (b : Bool) → eqb x i ≡ b → T (b || has xs i) → (T (has xs i) → (place xs i < length xs) × (getD xs (place xs i) 0 ≡ i)) → (cond b 0 (suc (place xs i)) < suc (length xs)) × (getD (x ∷ xs) (cond b 0 (suc (place xs i))) 0 ≡ i)
-            by true e t f = (omega arith, eqb→eq x i (subst T (sym e) tt))
-            by false e t f = let r = f t in (omega (arith, r .0), r .1)
+    register-number i h = let n = registers-length in let r = at-place rs i (in-registers i h) in (omega (arith, r .0), r .1)
 
     -- no two are one
     pub registers-apart : (i j : ℕ) → i < c .count → j < c .count → getD rs i 0 ≡ getD rs j 0 → i ≡ j

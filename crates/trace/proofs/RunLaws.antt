@@ -40,7 +40,8 @@ use Rattle.trace.specs.Tables.{Entry, of-pin, of-wire, of-point, of-part
 use Rattle.trace.proofs.Turning.{turns-keep}
 use Rattle.trace.proofs.ElementLaws.{in-out, within-made, in-terminal, made-within, input-not-out}
 use Rattle.trace.proofs.GateLaws.{Input, at-a-pin, at-a-wire, input, input-low}
-use Rattle.trace.proofs.PinLists.{pinAt, upTo, upto-is, ins-length, outs-length, in-place, pin-number, number-pin, place-is, pins-apart, row-snoc, row-length, out-last, out-same, out-shown}
+use Rattle.trace_theorems.proofs.Lending.{row-length}
+use Rattle.trace.proofs.PinLists.{pinAt, upTo, upto-is, ins-length, outs-length, in-place, pin-number, number-pin, place-is, pins-apart, row-snoc, out-last, out-same, out-shown}
 use Rattle.trace.proofs.RegisterLists.{element-entry}
 
 -- what stands below 19,072 during a run

@@ -13,7 +13,7 @@ use borrow.Author.Tests.{eq-eqb, ne-eqb, eqb-false}
 use Rattle.laws.proofs.Regions.{region-length, region-at}
 use Rattle.memory.specs.Map.{region}
 use Rattle.circuit_theorems.proofs.Rings.{has, pigeon}
-use Rattle.trace_theorems.proofs.TraceMain.{has-at}
+use Rattle.trace_theorems.proofs.Lists.{has-at}
 use Rattle.trace_steps.specs.Steps.{firstIn, Looks}
 use Rattle.trace_steps.specs.Pins.{Counted, counted}
 use Rattle.trace_steps.proofs.Laws.{first-low}

@@ -21,6 +21,7 @@ use Rattle.circuit_theorems.specs.Formed.{Rising, Formed}
 use Rattle.laws.proofs.Tests.{by-eqb, or-left, or-right, or-elim}
 use Rattle.circuit_theorems.proofs.Rings.{has}
 use Rattle.circuit_theorems.proofs.Terminals.{each-target}
+use Rattle.trace_theorems.proofs.Lists.{Up, up-low, up-weaken}
 use Rattle.trace_theorems.proofs.Graph.{Back, last, step, longer, reach-back, back-reach}
 use Rattle.trace_theorems.proofs.Sources.{in-all, at-point, at-part, at-wire, Decided, is-pin, is-wire, is-point, is-part, decided, closed, looks-at, at-looks, ins-range, has-left, has-right, has-append, up-has, has-up, terminal-is, out-terminal, part-terminal, point-terminal}
 
@@ -138,15 +139,6 @@ module _ (m : Net) (ok : Formed m) where
     pub ring : OnRing m (why .place)
     pub lowest : (i : ℕ) → T (has is i) → OnRing m i → why .place ≤ i
 
-  -- by rising number, from n on
-  abbrev pub Up : List ℕ → ℕ → Type 0
-  Up [] n = Unit {0}
-  Up (i ∷ is) n = (n ≤ i) × Up is (i + 1)
-
-  up-low : (is : List ℕ) (n i : ℕ) → Up is n → T (has is i) → n ≤ i
-  up-low [] n i u t = absurd t
-  up-low (j ∷ is) n i u t = or-elim (eqb j i) (has is i) t (λ v. let e = eqb→eq j i v in omega (arith, u .0)) (λ v. let l = up-low is (j + 1) i (u .1) v in omega (arith, u .0))
-
   refused-lowest : (is : List ℕ) (n : ℕ) → Up is n → (why : Refusal) → noRing m is ≡ refused why → Lowest is why
   refused-lowest [] n u why e = absurd (refused≢good (sym e))
   refused-lowest (j ∷ is) n u why e = go (onRing m j) refl e (λ q. refused-lowest is (j + 1) (u .1) why q)
@@ -167,10 +159,6 @@ module _ (m : Net) (ok : Formed m) where
             ring = r .ring;
             lowest = λ i t s. or-elim (eqb j i) (has is i) t (λ v. absurd (subst (λ (c : Bool). T c) q (on-ring j .1 (subst (λ (z : ℕ). OnRing m z) (sym (eqb→eq j i v)) s)))) (λ v. r .lowest i v s);
           }
-
-  up-weaken : (is : List ℕ) (a n : ℕ) → n ≤ a → Up is a → Up is n
-  up-weaken [] a n l u = tt
-  up-weaken (x ∷ is) a n l u = (omega (arith, u .0), u .1)
 
   up-append : (k i n : ℕ) (is : List ℕ) → n ≤ i → Up is (i + k) → Up (upFrom k i ++ is) n
   up-append zero i n is l u = up-weaken is (i + 0) n (omega arith) u
