@@ -1,8 +1,8 @@
 // What an accepted sheet's report counts.
 use crate::text::put;
 use crate::text::put_count;
-use deltawobble::Answer;
-use deltawobble::Wish;
+use translator::Answer;
+use translation::Wish;
 use records::Record;
 use sheet::Verdict;
 ghost use mathlib.Core.Path.{_≡_};
@@ -144,7 +144,7 @@ fn tally(net: &[u8]) -> Counts
 
 // The length of the lean netlist, which is then in the output.
 fn lean(s: &[u8], out: &mut [u8], work: &mut [u16]) -> usize {
-    match deltawobble::translate(s, out, work, Wish { lean: true }) {
+    match translation::translate(s, out, work, Wish { lean: true, plain: true }) {
         Answer::Written(n) => n,
         Answer::Refused(_) => 0,
     }
