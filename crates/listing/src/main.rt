@@ -1,6 +1,6 @@
 // Reads one sheet from standard input, and prints its full and its lean netlist, or its refusal.
-use translator::Answer;
 use translation::Wish;
+use translator::Answer;
 ghost use Prim.Native.Nat.{_+_, _≤_};
 ghost use lib.ListN.{length};
 

@@ -15,9 +15,9 @@ use Rattle.typing.specs.Verdicts.{saidWhy}
 use Rattle.lean.specs.Table.{Rooted}
 use Rattle.translator.specs.Made.{lent, Keeps}
 use Rattle.trace_calculus.specs.Trace.{ran, trace, runCall}
-use Rattle.trace.specs.Answers.{Says, called}
-use Rattle.trace.specs.declared.Answer as code
-use Rattle.trace.specs.declared.Answer.the-variants as answer
+use Rattle.translator.specs.Said.{Says, called}
+use Rattle.translator.specs.declared.Answer as code
+use Rattle.translator.specs.declared.Answer.the-variants as answer
 use Rattle.trace.proofs.StageLaws.{above-within, above-keeps}
 
 -- the roots change nothing of the netlist

@@ -108,7 +108,7 @@ module _ (s bits starts : List ℕ) (n room : ℕ) (work : List ℕ) where
 
   ringed : (x : ℕ) {a : Answer (List ℕ)} → Ends a → OfSheet s work (λ m. LowestOnRing m x) → saidOf a ≡ refuse 19 x
   ringed x (early q l) o = absurd (not-early q o)
-  ringed x (of-net m l q (by-ring {y} h)) o =
+  ringed x (of-net m l q (by-ring {x = y} h)) o =
       let p = same-net m q o in
       let z : y ≡ x = (let a = h .lowest x (p .input) (p .ring) in let b = p .lowest y (h .input) (h .ring) in omega arith) in
       ap (refuse 19) z

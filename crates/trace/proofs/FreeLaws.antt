@@ -34,10 +34,10 @@ use Rattle.trace_steps.proofs.SweepLaws.{looks-table}
 use Rattle.trace_steps.proofs.TickLaws.{ordered-within, registers-within, pins-within, ins-within, outs-within}
 use Rattle.trace_rings.specs.Rings.{met}
 use Rattle.trace.specs.Tables.{Tabled, Looking}
-use Rattle.trace.specs.Answers.{saidAnswer, Says}
+use Rattle.translator.specs.Said.{saidAnswer, Says}
 use Rattle.trace.specs.Said.{refusedAs, Above, lentIn, freed, Safe, Runnable, Freed}
-use Rattle.trace.specs.declared.Answer as code
-use Rattle.trace.specs.declared.Answer.the-variants as answer
+use Rattle.translator.specs.declared.Answer as code
+use Rattle.translator.specs.declared.Answer.the-variants as answer
 use Rattle.trace.proofs.Turning.{turns-keep}
 use Rattle.trace.proofs.ElementLaws.{in-out}
 use Rattle.trace.proofs.PinLists.{upTo, upto-is, ins-length, outs-length, ins-outs}

@@ -12,3 +12,4 @@ pub mod StageLaws
 pub mod FreeLaws
 pub mod CallLaws
 pub mod Exact
+pub mod Determined

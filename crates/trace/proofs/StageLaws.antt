@@ -44,9 +44,9 @@ use Rattle.trace_rings.specs.Rings.{mark, rest, met, InputOf, Rest, Fresh, Foun
 use Rattle.trace.specs.Tables.{Entry, Tabled, KeptRoots, Looking}
 use Rattle.translator.specs.Made.{Keeps}
 use Rattle.translator.proofs.Keeping.{later-keeps}
-use Rattle.trace.specs.Answers.{Says}
+use Rattle.translator.specs.Said.{Says}
 use Rattle.trace.specs.Said.{refusedAs, Leaned, Above, Made, freed, Runnable, Safe, Freed}
-use Rattle.trace.specs.declared.Answer as code
+use Rattle.translator.specs.declared.Answer as code
 use Rattle.trace.proofs.Turning.{turns-keep}
 use Rattle.trace.proofs.GateLaws.{gate-at, gate-looks, looks-looking, looking-looks, input-low}
 use Rattle.trace.proofs.OrderLaws.{Stage, End, settled-end}

@@ -18,10 +18,10 @@ use Rattle.trace_steps.specs.Steps.{Ordered}
 use Rattle.trace_steps.specs.Pins.{Pins, Listable}
 use Rattle.trace_steps.specs.Ticks.{InOrder}
 use Rattle.trace_rings.specs.Rings.{met}
-use Rattle.trace.specs.Answers.{Says}
+use Rattle.translator.specs.Said.{Says}
 use Rattle.trace.specs.Tables.{Tabled, KeptRoots, Looking}
-use Rattle.trace.specs.declared.Answer as code
-use Rattle.trace.specs.declared.Answer.the-variants as answer
+use Rattle.translator.specs.declared.Answer as code
+use Rattle.translator.specs.declared.Answer.the-variants as answer
 
 -- a refusal that names no types
 abbrev pub refusedAs : ℕ → ℕ → code.Answer

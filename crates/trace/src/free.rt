@@ -1,7 +1,7 @@
 // A netlist without rings is run, where the bits lent and the room are right.
-use crate::Answer;
 use trace_steps::pins;
 use trace_steps::ticks;
+use translator::Answer;
 ghost use mathlib.Core.Path.{_≡_};
 ghost use Rattle.trace.specs.Said.{lentIn, Safe, Freed};
 

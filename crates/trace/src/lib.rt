@@ -3,21 +3,15 @@ mod free;
 mod net;
 mod tables;
 
+use translator::Answer;
 use translator::Made;
 use typing::Refusal;
 ghost use mathlib.Core.Path.{_≡_};
 ghost use lib.ListN.{length};
 ghost use Rattle.translator.specs.Made.{Keeps};
+ghost use Rattle.translator.specs.Said.{Says, called};
 ghost use Rattle.trace_calculus.specs.Trace.{trace, runCall};
-ghost use Rattle.trace.specs.Answers.{Says, called};
 ghost use Rattle.trace.specs.Said.{refusedAs};
-
-// What a call that writes answers: the number of bytes written, or a refusal, its number and place, and for 12 the type number wanted and
-// the one found.
-pub enum Answer {
-    Written(usize),
-    Refused(Refusal),
-}
 
 // A refusal that names no types.
 fn refused(number: u8, place: usize) -> Answer
@@ -43,7 +37,7 @@ fn run_sheet(
     ensures { λ r. ⌜ (Says r (now (out .entry)) (now (out .exit)) (trace (length (now (work .entry))) (now (sheet .entry)) ticks (now (inputs .entry)) (now (starts .entry)) (length (now (out .entry)))))
         × (Keeps (now (work .entry)) (now (work .exit))) ⌝ }
 {
-    match translator::make(sheet, work) {
+    match translator::make(sheet, work, true) {
         Made::Refused(refusal) => Answer::Refused(refusal),
         Made::Net(counts) => net::run_net(work, inputs, starts, out, counts, ticks as usize),
     }

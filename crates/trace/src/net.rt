@@ -4,12 +4,12 @@
 //   13,824  5,120  the order: the outputs that are settled, each behind those that it looks at; in the search, those that are met
 //   18,944    128  the pins, each output pin's root in its place
 //   19,072  8,192  the roots; then by terminal a mark; then by terminal its bit
-use crate::Answer;
 use crate::free;
 use crate::tables;
 use trace_rings::list;
 use trace_rings::ring;
 use trace_steps::order;
+use translator::Answer;
 use wiring::Counts;
 ghost use mathlib.Core.Path.{_≡_};
 ghost use Prim.Native.Nat.{_≤_};
@@ -20,7 +20,7 @@ ghost use Rattle.calculus.specs.Record.{All};
 ghost use Rattle.memory.specs.Map.{netIn, Ready};
 ghost use Rattle.translator.specs.Made.{Keeps};
 ghost use Rattle.trace_calculus.specs.Trace.{ran};
-ghost use Rattle.trace.specs.Answers.{Says};
+ghost use Rattle.translator.specs.Said.{Says};
 ghost use Rattle.trace.specs.Said.{Leaned};
 
 // With its roots, the lean netlist is run for so many ticks: 19, 20, 17.

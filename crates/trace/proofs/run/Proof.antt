@@ -1,6 +1,6 @@
 -- `trace::run` meets its contract: after the stages the working memory is cleared. Assumes nothing.
 use mathlib.Core.Path.{_∙_, ap}
-use Rattle.trace.specs.Answers.{called}
+use Rattle.translator.specs.Said.{called}
 use Rattle.trace.proofs.CallLaws.{call-run}
 use borrow.Author.Needs.{needs}
 use Rattle.trace.proofs.run.Statement.{statement}

@@ -1,5 +1,6 @@
 -- `trace::run_sheet` meets its contract: what was made is run, and a refusal passes through. Assumes nothing.
 use mathlib.Core.Path.{_∙_}
+use mathlib.Core.Bool.{true}
 use native.Mathlib.Omega.{arith}
 use Rattle.translator.proofs.Lent.{net-stands, net-lent, refusal-lent}
 use Rattle.trace.proofs.CallLaws.{refused-says, net-says}
@@ -13,7 +14,7 @@ run-net-requires c κs =
     let m = v .before .before .before .before in
     let s = m .before .before .before .before .before .before .before in
     let a = s .args in
-    let h = net-stands (m .make .result) (a .sheet .now) (a .work .now) _ (m .make .ensures) _ (v .counts .given .1) in
+    let h = net-stands true (m .make .result) (a .sheet .now) (a .work .now) _ (m .make .ensures) _ (v .counts .given .1) in
     let f = s .fits .ticks in
     (h .0, h .1, omega arith)
 
@@ -21,7 +22,7 @@ returns : tie.Need-returns
 returns c =
     let m = c .before .before .before .before .before in
     let a = m .before .before .before .before .before .before .before .args in (
-      refused-says (a .sheet .now) (a .inputs .now) (a .starts .now) (a .out .now) (a .ticks) _ _ (refusal-lent (m .make .result) (a .sheet .now) (a .work .now) _ (m .make .ensures) _ (c .before .refusal .given .1)),
+      refused-says (a .sheet .now) (a .inputs .now) (a .starts .now) (a .out .now) (a .ticks) _ _ (refusal-lent true (m .make .result) (a .sheet .now) (a .work .now) _ (m .make .ensures) _ (c .before .refusal .given .1)),
       m .make .ensures .keeps,
     )
 
@@ -31,7 +32,7 @@ returns-2 c =
     let v = w .before .before .before .before in
     let m = v .before .before .before .before in
     let a = m .before .before .before .before .before .before .before .args in (
-      net-says (a .sheet .now) (a .inputs .now) (a .starts .now) (a .out .now) (a .ticks) _ (w .run-net .result) _ _ (net-lent (m .make .result) (a .sheet .now) (a .work .now) _ (m .make .ensures) _ (v .counts .given .1)) (w .run-net .ensures .0),
+      net-says (a .sheet .now) (a .inputs .now) (a .starts .now) (a .out .now) (a .ticks) _ (w .run-net .result) _ _ (net-lent true (m .make .result) (a .sheet .now) (a .work .now) _ (m .make .ensures) _ (v .counts .given .1)) (w .run-net .ensures .0),
       w .run-net .ensures .1 ∙ m .make .ensures .keeps,
     )
 
