@@ -1,2 +1,3 @@
 pub mod ListLaws
 pub mod SearchLaws
+pub mod Determined

@@ -32,7 +32,7 @@ pub fn mark_free(work: &mut [u16], end: usize)
 }
 
 // All that output o looks at is settled.
-pub fn ready(work: &[u16], o: usize) -> bool
+fn ready(work: &[u16], o: usize) -> bool
     requires { ⌜ Looks (now work) o ⌝ }
     ensures { λ r. ⌜ r ≡ readyIn (now (work .entry)) o ⌝ }
 {
@@ -60,7 +60,7 @@ fn keep_one(work: &mut [u16], o: usize, kept: usize)
 }
 
 // One sweep over those left: what is ready goes to the order, the others stay; how many stay.
-pub fn sweep(work: &mut [u16], total: usize, left: usize) -> usize
+fn sweep(work: &mut [u16], total: usize, left: usize) -> usize
     requires { ⌜ Sweepable (now work) total left ⌝ }
     ensures { λ r. ⌜ Swept (now (work .entry)) total left (now (work .exit)) r ⌝ }
 {

@@ -69,7 +69,7 @@ fn step(work: &mut [u16], o: usize)
     work[ROOTS + o] = table::byte(value(kind, a, b));
 }
 
-pub fn pass(work: &mut [u16], settled: usize)
+fn pass(work: &mut [u16], settled: usize)
     requires { ⌜ Ordered (now work) settled ⌝ }
     ensures { λ _. ⌜ Looped passOne settled (now (work .entry)) (now (work .exit)) ⌝ }
 {
@@ -99,7 +99,7 @@ fn turn_one(work: &mut [u16], o: usize)
 }
 
 // Each register's input terminal gets its bit ..
-pub fn hold(work: &mut [u16], regs: usize)
+fn hold(work: &mut [u16], regs: usize)
     requires { ⌜ Registers (now work) regs ⌝ }
     ensures { λ _. ⌜ Looped holdOne regs (now (work .entry)) (now (work .exit)) ⌝ }
 {
@@ -112,7 +112,7 @@ pub fn hold(work: &mut [u16], regs: usize)
 }
 
 // .. and then its output that of its input.
-pub fn turn(work: &mut [u16], regs: usize)
+fn turn(work: &mut [u16], regs: usize)
     requires { ⌜ Registers (now work) regs ⌝ }
     ensures { λ _. ⌜ Looped turnOne regs (now (work .entry)) (now (work .exit)) ⌝ }
 {

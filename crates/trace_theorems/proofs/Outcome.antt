@@ -1,19 +1,18 @@
 -- How a run of a formed netlist ends: 19 at the lowest input on a ring that passes through no register, 20, 17, or with the bits of the only
 -- possible record that has those lent. Assumes nothing.
-use Prim.Native.Nat.{ℕ, zero, suc, _+_, _*_, _≤_, _<_}
+use Prim.Native.Nat.{ℕ, _*_, _≤_, _<_}
 use mathlib.Core.Path.{_≡_, refl, sym, ap, _∙_, subst}
 use mathlib.Core.Bool.{Bool, true, false, _&&_}
 use mathlib.Core.List.{List, [], _∷_, _++_}
-use native.Mathlib.Omega.{arith}
 use lib.Dec.{T, eqb, leb, eqb→eq, leb→le}
 use lib.ListN.{length, drop}
 use borrow.Author.Tests.{eq-eqb, le-leb, leb-false}
 use Rattle.laws.proofs.Tests.{and-both, and-of}
 use Rattle.calculus.specs.Answer.{Refusal, Answer, good, refused, _>>=_, numbered, refuse, need}
-use Rattle.calculus.specs.Net.{Net, point, part, Wire, inp, out}
+use Rattle.calculus.specs.Net.{Net}
 use Rattle.calculus.specs.Record.{Bits, All}
 use Rattle.circuit_theorems.specs.Formed.{Formed}
-use Rattle.trace_calculus.specs.Trace.{source, onRing, noRing, inputs, run, inPins, outPins, registers, givenBits, startBits, rows, allBits, ran}
+use Rattle.trace_calculus.specs.Trace.{noRing, inputs, run, inPins, outPins, registers, givenBits, startBits, rows, allBits, ran}
 use Rattle.trace_calculus.specs.Promise.{Recorded, Traced, Ringless, LowestOnRing, ExactBits, Needs}
 use Rattle.trace_theorems.proofs.Lists.{has-in, in-has}
 use Rattle.trace_theorems.proofs.Lending.{rows-length, recorded-has, has-recorded}
@@ -108,18 +107,3 @@ module _ (m : Net) (n : ℕ) (bits starts : List ℕ) where
           go (refused why) q =
               let l = ring-place m ok why q in
               came-as (ran-is (refused why) test (leb needed room) q refl refl ∙ ap (λ (r : Refusal). refused r) (l .nineteen)) (by-ring (lowest-ring why l))
-
--- ---- examples
-
-abbrev wire : ℕ → ℕ → Wire
-wire o i = record { from = o; to = i }
-
--- fix x. inv x, lean: 19 at 2
-inverter : ran (record { elements = part 5 2 ∷ []; wires = wire 3 2 ∷ []; pins = out 3 ∷ [] }) 0 [] [] 0 ≡ refuse 19 2
-unfolding ran onRing source
-inverter = refl
-
--- fix x. inv (reg x), lean, three ticks from start bit 0: 1 0 1
-toggle : ran (record { elements = part 5 2 ∷ part 1 4 ∷ []; wires = wire 5 2 ∷ wire 3 4 ∷ []; pins = out 3 ∷ [] }) 3 [] (0 ∷ []) 3 ≡ good (1 ∷ 0 ∷ 1 ∷ [])
-unfolding ran onRing source run
-toggle = refl
