@@ -1,8 +1,8 @@
--- `typing::rules::sides_of` meets its contract: by the form of the record. Assumes nothing.
-use Rattle.typing.specs.Steps.{sidedOf}
+-- `records::sides_of` meets its contract: by the form of the record. Assumes nothing.
+use Rattle.records.specs.TypeNumbers.{sidedOf}
 use borrow.Author.Needs.{needs}
-use Rattle.typing.proofs.rules.sides_of.Statement.{statement}
-use Rattle.typing.proofs.rules.sides_of.Tie as tie
+use Rattle.records.proofs.sides_of.Statement.{statement}
+use Rattle.records.proofs.sides_of.Tie as tie
 
 type-at-requires : tie.Need-type-at-requires
 type-at-requires c κs = search needs
