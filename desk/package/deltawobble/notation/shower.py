@@ -4,7 +4,7 @@ from __future__ import annotations
 from dataclasses import dataclass, field
 from typing import Optional
 
-from ..naming import Names, names_of
+from ..naming import names_of
 from ..sheet import Node, Sheet, part_name
 from ..types import BIT, Type, written
 
