@@ -21,9 +21,9 @@ def node_line(node: Node) -> str:
 def at_node(sheet: Sheet, refused: Refused) -> tuple[list[str], list[str]]:
     """The node, where it stands, what is above it, the term with the node marked; and what to look at."""
     node = sheet.nodes[refused.place]
-    start, size = calls.stretch(sheet.bytes, node.number)
+    start, size = calls.stretch(sheet.data, node.number)
     lines = [clash(sheet, node, refused)] if refused.number == 12 else []
-    lines += [node_line(node), "offset %d:%s" % (start, shortened(sheet.bytes[start:start + size]))]
+    lines += [node_line(node), "offset %d:%s" % (start, shortened(sheet.data[start:start + size]))]
     above = node.above()
     lines.append("above it, from the root down:" if above else "above it: nothing, it is the root")
     lines += [node_line(n) for n in above]
@@ -83,14 +83,14 @@ def _scope(sheet: Sheet, node: Node, refused: Refused) -> list[str]:
 
 
 def _sort(sheet: Sheet, node: Node, refused: Refused) -> list[str]:
-    binder = names_of(sheet).meant[node.number]
+    binder = names_of(sheet).scope[node.number][node.binder]
     return ["binder %d is %s of node %d, a %s: %s %02X goes with it" % (node.binder, binder.name, binder.node.number, KINDS[binder.node.kind],
                                                                       "12" if binder.linear else "11", node.binder)]
 
 
 def _used(sheet: Sheet, node: Node, refused: Refused) -> list[str]:
     names = names_of(sheet)
-    binder = names.meant[node.number]
+    binder = names.scope[node.number][node.binder]
     first = [n for n, b in names.meant.items() if b is binder and n < node.number]
     return ["%s of node %d is used at node %s, and again here" % (binder.name, binder.node.number, first[0])] if first else []
 

@@ -33,7 +33,7 @@ def root_fault(root: Type) -> str:
 
 def at_terminal(sheet: Sheet, refused: Refused) -> list[str]:
     """The element that has a terminal of the lean netlist, and the node that made it."""
-    lean = Netlist.parse(calls.translate(sheet.bytes, lean=True))
+    lean = Netlist.parse(calls.translate(sheet.data, lean=True))
     element = lean.element_of(refused.place)
     if element is None:
         return []
@@ -49,7 +49,7 @@ def at_terminal(sheet: Sheet, refused: Refused) -> list[str]:
 def ring_words(net: Netlist, start: Element) -> str:
     """A shortest ring through an element that passes no register: from element to element along the wires."""
     owner = {i: e for e in net.elements for i in e.inputs}
-    next_ = {}
+    next_: dict[int, list[Element]] = {}
     for source, target in net.wires:
         next_.setdefault(source, []).append(owner[target])
     came: dict[int, Element] = {}

@@ -39,7 +39,7 @@ def accepted_lines(data: bytes, plain_full: bytes) -> list[str]:
     sheet, full = Sheet.parse(data), Netlist.parse(plain_full)
     plain_lean = calls.translate(data, lean=True, plain=True)
     lean = Netlist.parse(plain_lean)
-    root = Typed(sheet).of(sheet.term)
+    root = Typed(sheet).root()
     counts = [("nodes", len(sheet.nodes)), ("depth", sheet.depth), ("types", len(sheet.types)), ("parts", len(full.parts)),
               ("points", len(full.points)), ("kept points", len(lean.points)), ("wires", len(full.wires)), ("pins", len(full.pins)),
               ("full netlist bytes", len(plain_full)), ("lean netlist bytes", len(plain_lean)),
@@ -69,7 +69,7 @@ def refused_lines(data: bytes, refused: Refused, names: Named = None) -> list[st
         return lines + _look(terminals(Sheet.parse(data)))
     if refused.number == 27:
         sheet = Sheet.parse(data)
-        root = Typed(sheet).of(sheet.term)
+        root = Typed(sheet).root()
         return lines + ["root type %d: %s" % (sheet.types.index(root), root)] + _look([root_fault(root)])
     if refused.number in (18, 19, 28, 29):
         return lines + at_terminal(Sheet.parse(data, names), refused)

@@ -32,7 +32,7 @@ def around(data: bytes, refused: Refused) -> list[str]:
         net = Netlist.parse(data)
         wires = [w for w in net.wires if w[1] == refused.place]
         pins = [i for i, pin in enumerate(net.pins) if pin == refused.place]
-        element = net.element_of(refused.place)
+        element = next(e for e in net.elements if refused.place in e.inputs)
         return ["look at: it is an input of %s %d; %d wires drive it%s, and it is %d pins" % (
             element.name, element.first, len(wires), "".join(" (from %d)" % w[0] for w in wires), len(pins))]
     if refused.number == 26:

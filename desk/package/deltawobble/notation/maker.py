@@ -45,7 +45,8 @@ class Maker:
     """Makes the records of a file's main."""
 
     def __init__(self, file: File):
-        self.file, self.through, self.deep, self.count = file, (), 0, 0
+        self.file, self.deep, self.count = file, 0, 0
+        self.through: tuple[Span, ...] = ()
         self.inside: list[str] = ["main"]
 
     def main(self) -> Record:
