@@ -7,7 +7,7 @@ import unittest
 from pathlib import Path
 
 import deltawobble
-from deltawobble import NotationError, Refused, Sheet, make, show
+from deltawobble import NotationError, Refused, make, show
 
 from . import generate
 from .support import EXAMPLES, command, examples

@@ -2,13 +2,22 @@
 from __future__ import annotations
 
 from .naming import names_of
-from .netlist import Netlist
+from .netlist import BODY, Netlist
 from .sheet import SECOND, Sheet, read_types
 from .tree import label
 
 
+#: bytes that a report shows of a stretch
+MOST_BYTES = 32
+
+
 def hex_of(part: bytes) -> str:
     return " ".join("%02X" % b for b in part)
+
+
+def shortened(part: bytes) -> str:
+    """Bytes in hex, each behind a space; past 32 of them three dots."""
+    return "".join(" %02X" % b for b in part[:MOST_BYTES]) + (" ..." if len(part) > MOST_BYTES else "")
 
 
 def sheet_hex(data: bytes, own: dict[int, list[str]] | None = None) -> str:
@@ -25,7 +34,6 @@ def sheet_hex(data: bytes, own: dict[int, list[str]] | None = None) -> str:
 
 def netlist_hex(data: bytes) -> str:
     """A netlist, each record as the listing has it."""
-    from .netlist import BODY
     net, at, rows = Netlist.parse(data), 0, []
     for number, line in enumerate(net.lines()):
         size = 1 + BODY[data[at]]

@@ -54,7 +54,7 @@ def names_of(sheet: Sheet) -> Names:
     names, typed = Names(), Typed(sheet)
 
     def go(node: Node, scope: list[Binder]) -> None:
-        if node.binder is not None:
+        if node.is_variable:
             names.meant[node.number] = scope[node.binder] if node.binder < len(scope) else None
             names.scope[node.number] = scope
         inner = scope

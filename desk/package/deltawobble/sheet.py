@@ -17,16 +17,19 @@ SECOND = 0x31
 
 @dataclass
 class Node:
-    """A node of the term: its number, kind, place in the sheet, what its record says, and its subterms."""
+    """A node of the term: its number, kind, place in the sheet, what its record says, and its subterms.
+
+    `binder` is a variable's, `part` a constant's, `type_number` what any record with a type names; -1 where a record has none.
+    """
 
     number: int
     kind: int
     offset: int
     end: int = 0
     depth: int = 1
-    binder: Optional[int] = None
-    part: Optional[int] = None
-    type_number: Optional[int] = None
+    binder: int = -1
+    part: int = -1
+    type_number: int = -1
     parent: Optional["Node"] = field(default=None, repr=False)
     subterms: list["Node"] = field(default_factory=list, repr=False)
 
@@ -34,6 +37,10 @@ class Node:
     def word(self) -> str:
         """The kind in words."""
         return KINDS[self.kind]
+
+    @property
+    def is_variable(self) -> bool:
+        return self.binder >= 0
 
     def above(self) -> list["Node"]:
         """The nodes above this one, from the root down."""
@@ -51,7 +58,7 @@ class Sheet:
     `names` are names for the variables that a node binds, by its number: from the notation that a sheet was made from.
     """
 
-    bytes: bytes
+    data: bytes
     edition: int
     types: list[Type]
     nodes: list[Node]

@@ -17,7 +17,7 @@ BELOW = 3
 def label(node: Node, names: Names) -> str:
     """A node in the words of the notation, without its subterms."""
     bound = names.bound.get(node.number, [])
-    if node.binder is not None:
+    if node.is_variable:
         return names.word(node)
     if node.kind in (0x13, 0x15, 0x19):
         t = bound[0].type

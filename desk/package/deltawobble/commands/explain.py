@@ -4,7 +4,8 @@ from __future__ import annotations
 import argparse
 import json
 
-from ..explain import report, type_words, wanted_form
+from ..at_node import type_words, wanted_form
+from ..explain import report
 from ..files import read
 from ..sheet import Sheet
 from ..terminal import paint

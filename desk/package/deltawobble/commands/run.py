@@ -24,11 +24,12 @@ EXAMPLE = "deltawobble run examples/full-adder.hex examples/full-adder.trace --w
 
 def add(parser: argparse.ArgumentParser) -> None:
     parser.add_argument("sheet", help="raw bytes, commented hex or notation; - for standard input")
-    parser.add_argument("trace", nargs="?", help="a text or CSV file: a line of bits for each tick, a bit for each input pin; - for standard input")
+    parser.add_argument("trace", nargs="?", help="a text or CSV file, a line for each tick, a bit for each input pin; - for standard input")
     parser.add_argument("--ticks", type=int, metavar="N", help="so many ticks: of a circuit without input pins, or with all inputs 0")
     parser.add_argument("--starts", metavar="BITS", help="what each register shows at tick 0, by rising terminal (0 where not said)")
     parser.add_argument("--waves", action="store_true", help="draw the pins as waves")
-    parser.add_argument("--period", action="store_true", help="say when the registers show their starts again, all inputs 0; or with a trace, when the outputs come again")
+    parser.add_argument("--period", action="store_true",
+                        help="say when the registers show their starts again, all inputs 0; or with a trace, when the outputs come again")
     parser.add_argument("--vcd", metavar="FILE", help="write a value change dump too, for GTKWave")
 
 
