@@ -18,6 +18,15 @@ enum {
 uint64_t deltawobble_translate(const uint8_t *sheet, size_t sheet_len, uint8_t *out, size_t out_len,
                                uint16_t *work, size_t work_len, bool lean, bool plain);
 
+/* Runs a recorded trace through the lean netlist of a sheet: the bits of its input pins, in pin order,
+   tick after tick, and a start bit for each register by rising terminal; written are the bits of its
+   output pins, likewise, one byte a bit everywhere. The result as above: the number of bytes written, or
+   a refusal; 19 for a ring without a register, at the lowest input on any, 20 for bits that are not of
+   the exact number or no bits, 17 with the room needed. */
+uint64_t deltawobble_run(const uint8_t *sheet, size_t sheet_len, const uint8_t *inputs, size_t inputs_len,
+                         const uint8_t *starts, size_t starts_len, uint8_t *out, size_t out_len,
+                         uint16_t *work, size_t work_len, uint16_t ticks);
+
 /* The stretch of the sheet that holds a node: start in the upper half, length in the lower. */
 uint64_t deltawobble_stretch(const uint8_t *sheet, size_t sheet_len, size_t node);
 #endif
