@@ -20,7 +20,7 @@ use Rattle.circuit_theorems.specs.Formed.{Shown, Formed}
 use Rattle.circuit_theorems.proofs.Rings.{has}
 use Rattle.circuit_theorems.proofs.Terminals.{made-high, out-high, each-target, pin-ins}
 use Rattle.circuit_theorems.proofs.Forming.{lean-formed}
-use Rattle.circuit_theorems.proofs.Outputs.{Named as Shows}
+use Rattle.circuit_theorems.proofs.Outputs.{EndHolds}
 use Rattle.circuit_theorems.proofs.Wiring.{pins-show}
 use Rattle.circuit_theorems.proofs.RootLaws.{root-reached}
 use Rattle.circuit_theorems.proofs.BackLaws.{backs-out}
@@ -174,10 +174,10 @@ module _ (u : List ℕ) (e k p : ℕ) (q : Whole u e k p) (known : All Known (ne
           let l : length (region u 18944 p) ≡ p = region-length u 18944 p (omega arith) in
           subst (λ (x : ℕ). P (terminalOf x)) (region-at u 18944 p i h) (pin-at P (region u 18944 p) i a (omega arith))
 
-      code-low : (c : ℕ) → Shows (λ i. madeAt es i ≡ 1) (λ o. T (isOut es o)) (terminalOf c) → c / 2 < 8192
+      code-low : (c : ℕ) → EndHolds (λ i. madeAt es i ≡ 1) (λ o. T (isOut es o)) (terminalOf c) → c / 2 < 8192
       code-low c = by (eqb (c % 2) 0)
         where
-          by : (b : Bool) → Shows (λ i. madeAt es i ≡ 1) (λ o. T (isOut es o)) (cond b (inp (c / 2)) (out (c / 2))) → c / 2 < 8192
+          by : (b : Bool) → EndHolds (λ i. madeAt es i ≡ 1) (λ o. T (isOut es o)) (cond b (inp (c / 2)) (out (c / 2))) → c / 2 < 8192
           by true h = input-below u e k p r (c / 2) (omega arith)
           by false h = output-below u e k p r (c / 2) h
 
@@ -199,7 +199,7 @@ module _ (u : List ℕ) (e k p : ℕ) (q : Whole u e k p) (known : All Known (ne
           low : (j : ℕ) → j < p → getD w₂ (18944 + j) 0 / 2 < 8192
           low j h =
               let f = r .few-pins in
-              subst (λ (z : ℕ). z / 2 < 8192) (sym (high-same (18944 + j) (omega arith))) (code-low (getD u (18944 + j) 0) (codes (Shows (λ i. madeAt es i ≡ 1) (λ o. T (isOut es o))) (pins-show net (r .formed)) j h))
+              subst (λ (z : ℕ). z / 2 < 8192) (sym (high-same (18944 + j) (omega arith))) (code-low (getD u (18944 + j) 0) (codes (EndHolds (λ i. madeAt es i ≡ 1) (λ o. T (isOut es o))) (pins-show net (r .formed)) j h))
 
       -- ---- the pins
 
