@@ -8,6 +8,7 @@ ghost use Rattle.calculus.specs.Stretch.{stretchOf};
 ghost use Rattle.calculus.specs.Translate.{call};
 ghost use Rattle.batch.specs.Batch.{batchCall};
 ghost use Rattle.foreign_theorems.specs.Foreign.{checkCall};
+ghost use Rattle.trace_calculus.specs.Trace.{runCall};
 ghost use Rattle.deltawobble.specs.Boundary.{Packs, PacksBatch, PacksCheck, packedStretch};
 
 // The netlist of a sheet. Bits 0 to 31 of the answer are the number of bytes written or the place, 32 to 39 the refusal's number, 0 for none,
@@ -59,6 +60,22 @@ pub extern "C" fn deltawobble_check(net: &[u8], work: &mut [u16], lean: bool) ->
             found: 0,
         })),
     }
+}
+
+// A recorded trace run through the lean netlist of a sheet; the answer likewise.
+#[no_mangle]
+pub extern "C" fn deltawobble_run(
+    sheet: &[u8],
+    inputs: &[u8],
+    starts: &[u8],
+    out: &mut [u8],
+    work: &mut [u16],
+    ticks: u16,
+) -> u64
+    ensures { λ r. ⌜ Packs r (now (out .exit)) (now (work .exit)) (runCall (now (sheet .entry)) (now (inputs .entry)) (now (starts .entry)) ticks (now (out .entry)) (now (work .entry))) ⌝ }
+{
+    let answer = trace::run(sheet, inputs, starts, out, work, ticks);
+    translator::word(answer)
 }
 
 // Where the stretch of a node begins, and its length; 0 where the sheet is refused or the number is too large.

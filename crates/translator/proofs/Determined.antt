@@ -13,7 +13,7 @@ use Rattle.calculus.specs.Translate.{workOf}
 use Rattle.calculus.proofs.Answers.{refused≢good, good-inj, refused-inj}
 use Rattle.memory.specs.Map.{netIn}
 use Rattle.memory.proofs.Zeroed.{zeroed-later}
-use Rattle.wiring.specs.Whole.{Stands}
+use Rattle.wiring.specs.Whole.{NetStands}
 use Rattle.wiring.proofs.Determined.{one-netlist}
 use Rattle.translator.specs.Made.{Makes}
 use Rattle.translator.specs.declared.Made as code
@@ -29,8 +29,8 @@ same-later u v h k e = sym (zeroed-later 32768 v) ∙ ap (drop 32768) (sym (work
 one-made : (plain : Bool) (s w u v : List ℕ) (x y : code.Made) → Makes plain x s w u → Makes plain y s w v → x ≡ y
 one-made plain s w u v (made.Net c) (made.Net d) f g =
     let n : netIn v (d .elements) (d .wires) (d .pins) ≡ netIn u (c .elements) (c .wires) (c .pins) = good-inj (g .said ∙ sym (f .said)) in
-    let a : Stands (netIn u (c .elements) (c .wires) (c .pins)) c u u = record { net = refl; ready = f .standing .0; known = f .standing .1; later = refl } in
-    let b : Stands (netIn u (c .elements) (c .wires) (c .pins)) d u v =
+    let a : NetStands (netIn u (c .elements) (c .wires) (c .pins)) c u u = record { net = refl; ready = f .standing .0; known = f .standing .1; later = refl } in
+    let b : NetStands (netIn u (c .elements) (c .wires) (c .pins)) d u v =
     record { net = n; ready = g .standing .0; known = g .standing .1; later = same-later u v (f .standing .0 .size) (g .standing .0 .size) (f .keeps ∙ sym (g .keeps)) } in
     ap made.Net (one-netlist a b .0)
 one-made plain s w u v (made.Net c) (made.Refused q) f g = absurd (refused≢good (g .said ∙ sym (f .said)))

@@ -20,7 +20,7 @@ use Rattle.memory.proofs.NetStays.{net-same, ready-same}
 use Rattle.netlist.proofs.InMemory.{elements-here}
 use Rattle.makers.specs.Naming.{Nameable}
 use Rattle.wiring.specs.declared.Counts.{Counts}
-use Rattle.wiring.specs.Whole.{Read, Stands}
+use Rattle.wiring.specs.Whole.{Read, NetStands}
 use Rattle.wiring.proofs.FullLaws.{counting}
 
 module _ (s : List ℕ) (m : Net) (ok : full s ≡ good m) (σ : Sheet) (read : readSheet s ≡ good σ) where
@@ -57,7 +57,7 @@ module _ (s : List ℕ) (m : Net) (ok : full s ≡ good m) (σ : Sheet) (read : 
         memory = h;
       }
 
-  module _ (c : Counts) (work mid : List ℕ) (S : Stands m c work mid) where
+  module _ (c : Counts) (work mid : List ℕ) (S : NetStands m c work mid) where
     abbrev after : List ℕ
     after = sets mid makersAt ks
 
@@ -67,7 +67,7 @@ module _ (s : List ℕ) (m : Net) (ok : full s ≡ good m) (σ : Sheet) (read : 
     same : netIn after (c .elements) (c .wires) (c .pins) ≡ netIn mid (c .elements) (c .wires) (c .pins)
     same = net-same mid (c .elements) (c .wires) (c .pins) (S .ready) after (length-sets mid makersAt ks) low
 
-    pub named-stands : Stands m c work after
+    pub named-stands : NetStands m c work after
     named-stands = record {
       net = same ∙ S .net;
       ready = ready-same mid (c .elements) (c .wires) (c .pins) (S .ready) after (length-sets mid makersAt ks) low;

@@ -18,7 +18,7 @@ use Rattle.typing.specs.Verdicts.{saidWhy}
 use Rattle.records.specs.Editions.{editionBy}
 use Rattle.typing.specs.Answers.{TermAt, typeOf, checkOf}
 use Rattle.wiring.specs.declared.Counts.{Counts}
-use Rattle.wiring.specs.Whole.{Stands}
+use Rattle.wiring.specs.Whole.{NetStands}
 use Rattle.translator.specs.Stages.{Opened}
 use Rattle.translator.specs.Made.{lent, refusedOf, Named, Makes}
 use Rattle.translator.specs.declared.Made.the-variants as made
@@ -43,7 +43,7 @@ refused-makes : (plain : Bool) (s work : List ℕ) (why : Why) → 32768 ≤ len
 refused-makes plain s work why h e = record { said = sym (lent-enough (length work) s h ∙ e); standing = tt; named = tt; keeps = refl }
 
 -- a netlist that stands in it
-pub net-makes : (plain : Bool) (s work after : List ℕ) (c : Counts) (m : Net) → 32768 ≤ length work → full s ≡ good m → Stands m c work after → Named plain (made.Net c) s after → Makes plain (made.Net c) s work after
+pub net-makes : (plain : Bool) (s work after : List ℕ) (c : Counts) (m : Net) → 32768 ≤ length work → full s ≡ good m → NetStands m c work after → Named plain (made.Net c) s after → Makes plain (made.Net c) s work after
 net-makes plain s work after c m h e S n = record {
   said = rw (S .net) (sym (lent-enough (length work) s h ∙ e));
   standing = (S .ready, S .known);
