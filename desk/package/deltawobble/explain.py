@@ -10,12 +10,10 @@ from .at_offset import at_offset
 from .at_terminal import at_terminal, root_fault, terminals
 from .hexes import shortened
 from .netlist import Netlist
-from .sheet import Sheet
+from .sheet import Own, Sheet
 from .typed import Typed
 
 MOST_BEFORE = 16
-#: names for the variables that nodes bind, by the node's number
-Named = Optional[dict[int, list[str]]]
 
 
 def explain(sheet: bytes, *, card: bool = False) -> str:
@@ -23,12 +21,12 @@ def explain(sheet: bytes, *, card: bool = False) -> str:
     return "\n".join(report(sheet, card=card)[1]) + "\n"
 
 
-def report(sheet: bytes, *, card: bool = False, names: Named = None) -> tuple[Optional[Refused], list[str]]:
-    """The refusal, if there is one, and the report's lines. `names` are a notation's own."""
+def report(sheet: bytes, *, card: bool = False, own: Optional[Own] = None) -> tuple[Optional[Refused], list[str]]:
+    """The refusal, if there is one, and the report's lines. `own` are a notation's names."""
     try:
         full = calls.translate(sheet, plain=True, card=card)
     except Refused as refused:
-        return refused, refused_lines(sheet, refused, names)
+        return refused, refused_lines(sheet, refused, own)
     return None, accepted_lines(sheet, full)
 
 
@@ -57,13 +55,13 @@ def accepted_lines(data: bytes, plain_full: bytes) -> list[str]:
 
 # ---- refused
 
-def refused_lines(data: bytes, refused: Refused, names: Named = None) -> list[str]:
+def refused_lines(data: bytes, refused: Refused, own: Optional[Own] = None) -> list[str]:
     """The report of a refusal of this sheet, by any call on sheets."""
     lines = ["refused %d %d" % (refused.number, refused.place), refused.sentence]
     if 2 <= refused.number <= 9:
         return lines + _around(data, refused.place) + _look(at_offset(data, refused))
     if 10 <= refused.number <= 15:
-        said, hints = at_node(Sheet.parse(data, names), refused)
+        said, hints = at_node(Sheet.parse(data, own), refused)
         return lines + said + _look(hints)
     if refused.number == 16:
         return lines + _look(terminals(Sheet.parse(data)))
@@ -72,7 +70,7 @@ def refused_lines(data: bytes, refused: Refused, names: Named = None) -> list[st
         root = Typed(sheet).root()
         return lines + ["root type %d: %s" % (sheet.types.index(root), root)] + _look([root_fault(root)])
     if refused.number in (18, 19, 28, 29):
-        return lines + at_terminal(Sheet.parse(data, names), refused)
+        return lines + at_terminal(Sheet.parse(data, own), refused)
     if refused.number == 17:
         return lines + ["%d bytes are needed" % refused.place]
     return lines

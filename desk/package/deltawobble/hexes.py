@@ -1,9 +1,11 @@
 """Sheets and netlists as commented hex, one record a line."""
 from __future__ import annotations
 
+from typing import Optional
+
 from .naming import names_of
 from .netlist import BODY, Netlist
-from .sheet import SECOND, Sheet, read_types
+from .sheet import SECOND, Own, Sheet, read_types
 from .tree import label
 
 
@@ -20,7 +22,7 @@ def shortened(part: bytes) -> str:
     return "".join(" %02X" % b for b in part[:MOST_BYTES]) + (" ..." if len(part) > MOST_BYTES else "")
 
 
-def sheet_hex(data: bytes, own: dict[int, list[str]] | None = None) -> str:
+def sheet_hex(data: bytes, own: Optional[Own] = None) -> str:
     """A sheet that can be read: each type, and each node in the words of the notation, with its own names where there are some."""
     sheet = Sheet.parse(data, own)
     names, rows = names_of(sheet), [(bytes([SECOND]), "second edition")] if sheet.edition == 2 else []

@@ -52,17 +52,22 @@ class Node:
 
 
 @dataclass
-class Sheet:
-    """A sheet: its edition, its types in record order, and the nodes of its term in record order.
+class Own:
+    """A notation's own names: for the variables that a node binds, by its number, and for types."""
 
-    `names` are names for the variables that a node binds, by its number: from the notation that a sheet was made from.
-    """
+    binders: dict[int, list[str]] = field(default_factory=dict)
+    types: dict[Type, str] = field(default_factory=dict)
+
+
+@dataclass
+class Sheet:
+    """A sheet: its edition, its types in record order, the nodes of its term in record order, and the names it was written with."""
 
     data: bytes
     edition: int
     types: list[Type]
     nodes: list[Node]
-    names: dict[int, list[str]] = field(default_factory=dict, repr=False)
+    own: Own = field(default_factory=Own, repr=False)
 
     @property
     def term(self) -> Node:
@@ -73,11 +78,11 @@ class Sheet:
         return max(node.depth for node in self.nodes)
 
     @staticmethod
-    def parse(data: bytes, names: Optional[dict[int, list[str]]] = None) -> "Sheet":
+    def parse(data: bytes, own: Optional[Own] = None) -> "Sheet":
         """The sheet in these bytes. ValueError, with the offset, where they are none (refusals 3, 4, 5 and 9)."""
         edition = 2 if data[:1] == bytes([SECOND]) else 1
         records, at = read_types(data, edition - 1)
-        return Sheet(data, edition, [t for _, t in records], list(_nodes(data, at, edition)), names or {})
+        return Sheet(data, edition, [t for _, t in records], list(_nodes(data, at, edition)), own or Own())
 
 
 def read_types(data: bytes, at: int) -> tuple[list[tuple[int, Type]], int]:

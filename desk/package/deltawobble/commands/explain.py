@@ -22,7 +22,7 @@ def add(parser: argparse.ArgumentParser) -> None:
 
 def run(given: argparse.Namespace) -> int:
     source = read(given.sheet)
-    refused, lines = report(source.bytes, card=given.card, names=source.names)
+    refused, lines = report(source.bytes, card=given.card, own=source.own)
     if refused and source.made:
         lines += source.made.place_lines(source.bytes, refused)
     if given.json:

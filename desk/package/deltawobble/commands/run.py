@@ -101,7 +101,7 @@ def refuse(source: Source, refused: Refused, rows: list[Row], given: argparse.Na
 
 def joined(source: Source, lean: Netlist, rows: list[Row], shown: bytes) -> Run:
     """Names and bits of the pins together."""
-    names, inputs = pin_names(Sheet.parse(source.bytes, source.names)), set(lean.input_pins)
+    names, inputs = pin_names(Sheet.parse(source.bytes, source.own)), set(lean.input_pins)
     width = len(lean.output_pins)
     return Run([n for n, pin in zip(names, lean.pins) if pin in inputs], [n for n, pin in zip(names, lean.pins) if pin not in inputs],
                [(row.bits, shown[t * width:(t + 1) * width]) for t, row in enumerate(rows)])
