@@ -1,25 +1,82 @@
 -- What a run promises holds of what a call leaves: an accepted run has written the bits of the only possible record with these inputs and
--- starts; 19 is given exactly when a ring passes through no register, at the lowest input on any. Assumes nothing.
+-- starts; 19 is given exactly when a ring passes through no register, at the lowest input on any. And the number that a call for C answers
+-- tells what it said. Assumes nothing.
 use Prim.Native.Nat.{ℕ, _+_, _*_, _≤_, _<_}
 use mathlib.Core.Path.{_≡_, refl, sym, ap, _∙_, subst}
-use mathlib.Core.Bool.{Bool, true, false}
-use mathlib.Core.Logic.{_↔_}
-use mathlib.Core.List.{List, _++_}
+use mathlib.Core.Bool.{Bool, true, false, cond, _||_}
+use mathlib.Core.Logic.{_↔_, ⊎-elim}
+use mathlib.Core.List.{List, [], _∷_, _++_, map}
 use native.Mathlib.Omega.{arith}
-use lib.Dec.{T, leb, leb→le}
-use lib.ListN.{length, drop}
+use lib.Dec.{T, eqb, leb, eqb→eq, leb→le}
+use lib.ListN.{length, drop, length-map}
 use borrow.Author.Tests.{le-leb}
 use Rattle.calculus.specs.Answer.{Refusal, Answer, good, refused, _>>=_, numbered, refuse, need}
 use Rattle.calculus.proofs.Answers.{refused≢good, good-inj, refused-inj}
-use Rattle.calculus.specs.Net.{Net}
-use Rattle.calculus.specs.Lean.{lean}
+use Rattle.laws.proofs.Tests.{or-elim, or-left, or-right}
+use Rattle.calculus.specs.Terms.{partAt}
+use Rattle.calculus.specs.Net.{Interface, inp, out, Element, point, part, Net}
+use Rattle.calculus.specs.Lean.{kept, keep, leanPin, lean}
 use Rattle.calculus.specs.Translate.{full, saidOf, outOf, workOf, Call}
-use Rattle.circuit_theorems.proofs.Main.{formed-lean}
+use Rattle.circuit_theorems.specs.Formed.{Rising}
+use Rattle.circuit_theorems.proofs.Rings.{has}
+use Rattle.circuit_theorems.proofs.Terminals.{rising-end}
+use Rattle.circuit_theorems.proofs.Main.{formed, formed-lean}
+use Rattle.circuit_theorems.proofs.Bounds.{few-pins}
 use Rattle.sheet_theorems.proofs.Judging.{of-refused}
-use Rattle.translator.proofs.Places.{full-places}
-use Rattle.trace_calculus.specs.Trace.{ran, trace, runCall}
+use Rattle.translator.specs.Word.{packed, Fits}
+use Rattle.translator.proofs.WordLaws.{word-tells}
+use Rattle.translator.proofs.Places.{names-small, full-places}
+use Rattle.trace_calculus.specs.Trace.{In, upFrom, inputs, outPins, ran, trace, runCall}
 use Rattle.trace_calculus.specs.Promise.{Traced, Ringless, LowestOnRing, ExactBits, Needs, OfSheet, RunPromise}
+use Rattle.trace_theorems.proofs.Lists.{in-has}
+use Rattle.trace_theorems.proofs.Sources.{has-left, has-right, has-append, has-up}
 use Rattle.trace_theorems.proofs.Outcome.{Came, by-ring, by-bits, by-room, to-end, came}
+use Rattle.trace.proofs.FreeLaws.{mul-few}
+
+-- ---- bounds of a sheet's lean netlist
+
+input-low : (es : List Element) (n e x : ℕ) → Rising es n e → T (has (inputs es) x) → x < e
+input-low [] n e x r t = absurd t
+input-low (point i ∷ es) n e x r t =
+    or-elim (eqb i x) (has (inputs es) x) t (λ u. let q = eqb→eq i x u in omega (arith, rising-end es (i + 2) e (r .1))) (λ u. input-low es (i + 2) e x (r .1) u)
+input-low (part p i ∷ es) n e x r t =
+    ⊎-elim (λ u. omega (arith, has-up (partAt p .inputs) i x u .1, rising-end es (i + partAt p .inputs + 1) e (r .1))) (λ u. input-low es (i + partAt p .inputs + 1) e x (r .1) u)
+    (has-append (upFrom (partAt p .inputs) i) (inputs es) x t)
+
+kept-input : (m : Net) (es : List Element) (x : ℕ) → T (has (inputs (keep m es)) x) → T (has (inputs es) x)
+kept-input m [] x t = absurd t
+kept-input m (point i ∷ es) x t = by (kept m (point i)) t (kept-input m es x)
+  where
+    by : (c : Bool) → T (has (inputs (cond c (point i ∷ keep m es) (keep m es))) x) → (T (has (inputs (keep m es)) x) → T (has (inputs es) x)) → T (eqb i x || has (inputs es) x)
+    by true t f = or-elim (eqb i x) (has (inputs (keep m es)) x) t (λ u. or-left (eqb i x) (has (inputs es) x) u) (λ u. or-right (eqb i x) (has (inputs es) x) (f u))
+    by false t f = or-right (eqb i x) (has (inputs es) x) (f t)
+kept-input m (part p i ∷ es) x t =
+    ⊎-elim (λ u. has-left (upFrom (partAt p .inputs) i) (inputs es) x u) (λ u. has-right (upFrom (partAt p .inputs) i) (inputs es) x (kept-input m es x u))
+    (has-append (upFrom (partAt p .inputs) i) (inputs (keep m es)) x t)
+
+outs-length : (ps : Interface) → length (outPins ps) ≤ length ps
+outs-length [] = omega arith
+outs-length (inp i ∷ ps) = omega (arith, outs-length ps)
+outs-length (out o ∷ ps) = omega (arith, outs-length ps)
+
+module _ (s : List ℕ) (m : Net) (e : full s ≡ good m) where
+  ring-low : (x : ℕ) → In x (inputs (lean m .elements)) → x < 8192
+  unfolding lean
+  ring-low x h = let f = formed s m e in omega (arith, input-low (m .elements) 0 (f .net .end) x (f .net .rising) (kept-input m (m .elements) x (in-has h)), f .few)
+
+  lean-pins : length (lean m .pins) ≡ length (m .pins)
+  unfolding lean
+  lean-pins = length-map (m .pins) (leanPin m)
+
+  outs-few : (n : ℕ) → n ≤ 65535 → n * length (outPins (lean m .pins)) ≤ 8388480
+  outs-few n h = let z = mul-few n (length (outPins (lean m .pins))) h (omega (arith, outs-length (lean m .pins), lean-pins, few-pins s m e)) in omega arith
+
+-- a refusal before there is a netlist
+record Early (why : Refusal) : Type 0 where
+  pub from : 1 ≤ why .number
+  pub to : why .number ≤ 16
+  pub few : why .place ≤ 16384
+  pub small : (why .wanted ≤ 256) × (why .found ≤ 256)
 
 module _ (s bits starts : List ℕ) (n room : ℕ) (work : List ℕ) where
   -- the full netlist, or refusal 1 to 16
@@ -28,7 +85,7 @@ module _ (s bits starts : List ℕ) (n room : ℕ) (work : List ℕ) where
 
   -- how a call ends: early, or as the run of the lean netlist does
   data Ends : Answer (List ℕ) → Type 0 where
-    early : {why : Refusal} → made ≡ refused why → why .number ≤ 16 → Ends (refused why)
+    early : {why : Refusal} → made ≡ refused why → Early why → Ends (refused why)
     of-net : {a : Answer (List ℕ)} (m : Net) → 32768 ≤ length work → full s ≡ good m → Came (lean m) n bits starts room a → Ends a
 
   made-good : (m : Net) → 32768 ≤ length work → full s ≡ good m → made ≡ good m
@@ -48,11 +105,11 @@ module _ (s bits starts : List ℕ) (n room : ℕ) (work : List ℕ) where
           (of-net m (leb→le 32768 (length work) (subst T (sym e) tt)) q (came (lean m) n bits starts (formed-lean s m q) room))
       sheet e (refused why) q =
           trace-as true e (ap (λ (a : Answer Net). a >>= λ m. ran (lean m) n bits starts room) q)
-          (early (ap (λ (c : Bool). need c 1 0 >>= λ _. full s) e ∙ q) (of-refused (full s) why (full-places s) q .to))
+          (early (ap (λ (c : Bool). need c 1 0 >>= λ _. full s) e ∙ q) (let p = of-refused (full s) why (full-places s) q in record { from = omega (arith, p .from); to = p .to; few = p .few; small = names-small s why (p .names) }))
 
       memory : (b : Bool) → leb 32768 (length work) ≡ b → Ends (need (leb 32768 (length work)) 1 0 >>= λ _. full s >>= λ m. ran (lean m) n bits starts room)
       memory true e = sheet e (full s) refl
-      memory false e = trace-as false e refl (early (ap (λ (c : Bool). need c 1 0 >>= λ _. full s) e) (omega arith))
+      memory false e = trace-as false e refl (early (ap (λ (c : Bool). need c 1 0 >>= λ _. full s) e) (record { from = omega arith; to = omega arith; few = omega arith; small = (omega arith, omega arith) }))
 
   -- one sheet has one netlist
   same-net : {P : Net → Type 0} (m : Net) → full s ≡ good m → OfSheet s work P → P (lean m)
@@ -100,7 +157,7 @@ module _ (s bits starts : List ℕ) (n room : ℕ) (work : List ℕ) where
       late (to-end d h z t) e = refused≢good (sym e)
 
   rings : (x : ℕ) {a : Answer (List ℕ)} → Ends a → saidOf a ≡ refuse 19 x → OfSheet s work (λ m. LowestOnRing m x)
-  rings x (early q l) e = absurd (let z = ap (λ (r : Refusal). r .number) (refused-inj e) in omega arith)
+  rings x (early q l) e = absurd (let z = ap (λ (r : Refusal). r .number) (refused-inj e) in omega (arith, l .to))
   rings x (of-net m l q (by-ring h)) e = record { memory = l; net = m; of-sheet = q; has = subst (LowestOnRing (lean m)) (number-of e .1) h }
   rings x (of-net m l q (by-bits f h)) e = absurd (let z = number-of e .0 in omega arith)
   rings x (of-net m l q (by-room d h)) e = absurd (let z = number-of e .0 in omega arith)
@@ -117,7 +174,7 @@ module _ (s bits starts : List ℕ) (n room : ℕ) (work : List ℕ) where
   ringed x (of-net m l q (to-end d h z t)) o = absurd (d .ringless x (same-net m q o .ring))
 
   wrong : (x : ℕ) {a : Answer (List ℕ)} → Ends a → saidOf a ≡ refuse 20 x → (x ≡ 0) × OfSheet s work (λ m. Ringless m × (ExactBits m n bits starts → ⊥))
-  wrong x (early q l) e = absurd (let z = ap (λ (r : Refusal). r .number) (refused-inj e) in omega arith)
+  wrong x (early q l) e = absurd (let z = ap (λ (r : Refusal). r .number) (refused-inj e) in omega (arith, l .to))
   wrong x (of-net m l q (by-ring h)) e = absurd (let z = number-of e .0 in omega arith)
   wrong x (of-net m l q (by-bits f h)) e = (sym (number-of e .1), record { memory = l; net = m; of-sheet = q; has = (f, h) })
   wrong x (of-net m l q (by-room d h)) e = absurd (let z = number-of e .0 in omega arith)
@@ -131,7 +188,7 @@ module _ (s bits starts : List ℕ) (n room : ℕ) (work : List ℕ) where
   wronged x (of-net m l q (to-end d h y t)) (z, o) = absurd (same-net m q o .1 (d .exact))
 
   shorts : (k : ℕ) {a : Answer (List ℕ)} → Ends a → saidOf a ≡ refuse 17 k → OfSheet s work (λ m. Needs m n bits starts k × (room < k))
-  shorts k (early q l) e = absurd (let z = ap (λ (r : Refusal). r .number) (refused-inj e) in omega arith)
+  shorts k (early q l) e = absurd (let z = ap (λ (r : Refusal). r .number) (refused-inj e) in omega (arith, l .to))
   shorts k (of-net m l q (by-ring h)) e = absurd (let z = number-of e .0 in omega arith)
   shorts k (of-net m l q (by-bits f h)) e = absurd (let z = number-of e .0 in omega arith)
   shorts k (of-net m l q (by-room d h)) e = record { memory = l; net = m; of-sheet = q; has = subst (λ (j : ℕ). Needs (lean m) n bits starts j × (room < j)) (number-of e .1) (d, h) }
@@ -143,6 +200,15 @@ module _ (s bits starts : List ℕ) (n room : ℕ) (work : List ℕ) where
   shorted k (of-net m l q (by-bits f h)) o = let p = same-net m q o in absurd (h (p .0 .exact))
   shorted k (of-net m l q (by-room d h)) o = let p = same-net m q o in ap (refuse 17) (sym (d .count) ∙ p .0 .count)
   shorted k (of-net m l q (to-end d h z t)) o = let p = same-net m q o in absurd (let y = sym (d .count) ∙ p .0 .count in omega (arith, p .1))
+
+  -- ---- what it says fits its bits
+
+  fits : n ≤ 65535 → {a : Answer (List ℕ)} → Ends a → Fits (saidOf a)
+  fits h (early q l) = (l .from, omega (arith, l .to), omega (arith, l .few), omega (arith, l .small .0), omega (arith, l .small .1))
+  fits h (of-net m l q (by-ring {x = x} r)) = (omega arith, omega arith, omega (arith, ring-low s m q x (r .input)), omega arith, omega arith)
+  fits h (of-net m l q (by-bits f r)) = (omega arith, omega arith, omega arith, omega arith, omega arith)
+  fits h (of-net m l q (by-room d r)) = (omega arith, omega arith, omega (arith, d .count, outs-few s m q n h), omega arith, omega arith)
+  fits h (of-net m l q (to-end d r z t)) = omega (arith, z, d .count, outs-few s m q n h)
 
 stayed : (a : Answer (List ℕ)) (output : List ℕ) (why : Refusal) → saidOf a ≡ refused why → outOf a output ≡ output
 stayed (good w) output why e = absurd (refused≢good (sym e))
@@ -165,3 +231,11 @@ run-promise s bits starts n output work =
       stays = λ why. stayed (trace (length work) s n bits starts room) output why;
       cleared = refl;
     }
+
+-- two calls for C that answer the same number said the same
+pub run-tells : (s s′ bits bits′ starts starts′ : List ℕ) (n n′ : ℕ) (output output′ work work′ : List ℕ) → n ≤ 65535 → n′ ≤ 65535
+    → packed (runCall s bits starts n output work .said) ≡ packed (runCall s′ bits′ starts′ n′ output′ work′ .said) → runCall s bits starts n output work .said ≡ runCall s′ bits′ starts′ n′ output′ work′ .said
+unfolding runCall
+run-tells s s′ bits bits′ starts starts′ n n′ output output′ work work′ h h′ e =
+    word-tells _ _ (fits s bits starts n (length output) work h (ends s bits starts n (length output) work))
+    (fits s′ bits′ starts′ n′ (length output′) work′ h′ (ends s′ bits′ starts′ n′ (length output′) work′)) e
