@@ -1,0 +1,3 @@
+pub mod Typing
+pub mod Making
+pub mod Leaning
