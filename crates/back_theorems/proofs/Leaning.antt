@@ -158,9 +158,9 @@ module _ (k q : ℕ) (gs : List Gate) (len : length gs ≡ suc q) (o : All (Gate
   at-part r h =
       let u : isPin (inputsFrom k 0 ++ outputsFrom gs top) (2 * k + 2 * r) ≡ false = no-pin k 0 (2 * k + 2 * r) gs top (omega arith) in
       let b : back net (2 * k + 2 * r + 1) ≡ outputAt gs top r =
-          back-past net k 0 (2 * k + 2 * r + 1) (pointsFrom (length gs) (2 * k) ++ partsFrom gs top) (omega arith)
-          ∙ back-row net (length gs) (2 * k) r (partsFrom gs top) h u
-          ∙ join-at (λ w. (d : ℕ) → driver (net .wires) (w .to) d ≡ w .from) gs top (2 * k) r h (all-right _ (allWires (λ s. pointOf k s + 1) gs top) _ (ok .one)) (2 * k + 2 * r + 1) in
+      back-past net k 0 (2 * k + 2 * r + 1) (pointsFrom (length gs) (2 * k) ++ partsFrom gs top) (omega arith)
+      ∙ back-row net (length gs) (2 * k) r (partsFrom gs top) h u
+      ∙ join-at (λ w. (d : ℕ) → driver (net .wires) (w .to) d ≡ w .from) gs top (2 * k) r h (all-right _ (allWires (λ s. pointOf k s + 1) gs top) _ (ok .one)) (2 * k + 2 * r + 1) in
       sym (root-back net (2 * k + 2 * r + 1)) ∙ ap (root net) b ∙ stays (outputAt gs top r) (output-high gs top r h)
 
   moved : (r : ℕ) → r < length gs → root (fullNet k gs) (2 * k + 2 * r + 1) ≡ 2 * k + 2 * r + 1 → ⊥

@@ -1,3 +1,7 @@
 pub mod Typing
 pub mod Making
 pub mod Leaning
+pub mod Reading
+pub mod CameBack
+pub mod SameParts
+pub mod Main

@@ -191,14 +191,14 @@ full-made k g gs o z =
     let t = tuple-made Θ q k h g gs (2 * k + 2 * suc q) o in
     let m = make Θ (tupleTerm k q (g ∷ gs)) (scopeEnv q (2 * k) (openedEnv k 0 [])) (2 * k + 2 * suc q) in
     let f : Made3 Θ q k h (make Θ (fix (tuple q) (projections q (tupleTerm k q (g ∷ gs)))) (openedEnv k 0 []) (2 * k))
-            (pointsFrom (suc q) (2 * k) ++ partsFrom (g ∷ gs) (2 * k + 2 * suc q))
-            (allWires (λ s. pointOf k s + 1) (g ∷ gs) (2 * k + 2 * suc q) ++ join (outputsFrom (g ∷ gs) (2 * k + 2 * suc q)) (inputsFrom (suc q) (2 * k)))
-            (outputsFrom (g ∷ gs) (2 * k + 2 * suc q)) =
-        (let e = fix-made Θ q k h (tupleTerm k q (g ∷ gs)) (openedEnv k 0 []) (2 * k) in
-        record {
-          elements = ap (λ (x : Made). x .elements) e ∙ ap₂ _++_ (ap (λ (ts : List Bool). points ts (2 * k)) (turns-tupleType q) ∙ points-falses (suc q) (2 * k)) (t .elements);
-          wires = ap (λ (x : Made). x .wires) e ∙ ap₂ _++_ (t .wires) (ap₂ join (t .side) (ap (λ (ts : List Bool). inSide ts (2 * k)) (turns-tupleType q) ∙ in-falses (suc q) (2 * k)));
-          side = ap (λ (x : Made). x .side) e ∙ t .side;
-        }) in
+    (pointsFrom (suc q) (2 * k) ++ partsFrom (g ∷ gs) (2 * k + 2 * suc q))
+    (allWires (λ s. pointOf k s + 1) (g ∷ gs) (2 * k + 2 * suc q) ++ join (outputsFrom (g ∷ gs) (2 * k + 2 * suc q)) (inputsFrom (suc q) (2 * k)))
+    (outputsFrom (g ∷ gs) (2 * k + 2 * suc q)) =
+    (let e = fix-made Θ q k h (tupleTerm k q (g ∷ gs)) (openedEnv k 0 []) (2 * k) in
+    record {
+      elements = ap (λ (x : Made). x .elements) e ∙ ap₂ _++_ (ap (λ (ts : List Bool). points ts (2 * k)) (turns-tupleType q) ∙ points-falses (suc q) (2 * k)) (t .elements);
+      wires = ap (λ (x : Made). x .wires) e ∙ ap₂ _++_ (t .wires) (ap₂ join (t .side) (ap (λ (ts : List Bool). inSide ts (2 * k)) (turns-tupleType q) ∙ in-falses (suc q) (2 * k)));
+      side = ap (λ (x : Made). x .side) e ∙ t .side;
+    }) in
     let r = functions-made Θ q k h k (fix (tuple q) (projections q (tupleTerm k q (g ∷ gs)))) [] 0 (2 * k) _ _ _ (omega arith) (omega arith) f in
     λ i. record { elements = r .elements i; wires = r .wires i; pins = r .side i }

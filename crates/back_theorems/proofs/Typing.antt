@@ -71,8 +71,8 @@ arrows-new Θ t zero τ l z e j h = let f : j ≡ 0 = omega arith in rw (f, add-
 arrows-new Θ t (suc k) τ l z e j h =
     ⊎-elim
     (λ (f : j ≡ suc k). subst (λ (x : ℕ). tree (arrows Θ t (suc k)) (t + x) ≡ towards x τ) (sym f)
-      (subst (λ (n : ℕ). tree (arrows Θ t (suc k)) n ≡ arrow bit (towards k τ)) (let q : length (arrows Θ t k) ≡ t + suc k = omega (arith, arrows-length Θ t k) in q)
-      (tree-new (arrows Θ t k) (rec03 0 (t + k)) ∙ ap₂ arrow (arrows-old Θ t k 0 (omega arith) ∙ z) (arrows-new Θ t k τ l z e k (omega arith)))))
+    (subst (λ (n : ℕ). tree (arrows Θ t (suc k)) n ≡ arrow bit (towards k τ)) (let q : length (arrows Θ t k) ≡ t + suc k = omega (arith, arrows-length Θ t k) in q)
+    (tree-new (arrows Θ t k) (rec03 0 (t + k)) ∙ ap₂ arrow (arrows-old Θ t k 0 (omega arith) ∙ z) (arrows-new Θ t k τ l z e k (omega arith)))))
     (λ g. tree-prefix (arrows Θ t k) (rec03 0 (t + k) ∷ []) (t + j) (omega (arith, arrows-length Θ t k)) ∙ arrows-new Θ t k τ l z e j (omega arith))
     (eq-or-lt-of-le h)
 
