@@ -5,3 +5,4 @@ pub mod Reading
 pub mod CameBack
 pub mod SameParts
 pub mod Main
+pub mod Worked
