@@ -84,7 +84,11 @@ pub fn part_before(net: &[u8], parts: usize, o: usize) -> usize {
 
 // 1 where an input is undriven, else 0.
 fn open_at(net: &[u8], parts: usize, i: usize) -> usize {
-    if driver(net, parts, i) == memory::NONE { 1 } else { 0 }
+    if driver(net, parts, i) == memory::NONE {
+        1
+    } else {
+        0
+    }
 }
 
 // The undriven ones of at most two inputs.

@@ -173,16 +173,7 @@ fn put_part(
     let inputs = netlist::inputs_of(g.part) as usize;
     let head = put_pair(out, at, parts - r);
     let mid = put_head(out, head, g.part, inputs);
-    let then = put_sources(
-        net,
-        out,
-        mid,
-        g.first as usize,
-        inputs,
-        parts,
-        open,
-        before,
-    );
+    let then = put_sources(net, out, mid, g.first as usize, inputs, parts, open, before);
     Next {
         at: mid + 2 * inputs,
         before: then,
@@ -191,7 +182,10 @@ fn put_part(
 
 // All parts, as pairs nested to the right.
 fn put_parts(net: &[u8], out: &mut [u8], from: usize, parts: usize, open: usize) {
-    let mut next = Next { at: from, before: 0 };
+    let mut next = Next {
+        at: from,
+        before: 0,
+    };
     let mut r: usize = 0;
     while r < parts {
         next = put_part(net, out, next.at, r, parts, open, next.before);

@@ -23,24 +23,11 @@ use Rattle.laws.proofs.Tests.{by-eqb}
 use Rattle.sheet_theorems.proofs.Exact.{exact}
 use Rattle.circuit_theorems.proofs.Outputs.{tiled}
 use Rattle.back_theorems.specs.Back.{Source, undriven, output, Gate, fed, partBefore, sources, undrivens, gatesFrom, gates, openIns, backTable, backTerm, gatesSheet, backSheet, pointsFrom, partsFrom, backNet}
+use Rattle.back_theorems.specs.Promises.{PartOnly, Returns, LeanOf}
 use Rattle.back_theorems.proofs.Typing.{tupleType, towards, few, SourceIn, GateIn, back-typed}
 use Rattle.back_theorems.proofs.Making.{full-made}
 use Rattle.back_theorems.proofs.Leaning.{lean-back}
 use Rattle.back_theorems.proofs.Reading.{back-read}
-
--- ---- netlists of parts
-
-abbrev pub PartOnly : Element → Type 0
-PartOnly (point i) = ⊥
-PartOnly (part p i) = p < 7
-
--- a netlist with 1 to 16 known parts, no points and at most 24 undriven inputs, whose wires come from its parts
-pub record Returns (m : Net) : Type 0 where
-  pub parts : All PartOnly (m .elements)
-  pub from : All (λ w. T (isOut (m .elements) (w .from))) (m .wires)
-  pub some : 1 ≤ length (m .elements)
-  pub most : length (m .elements) ≤ 16
-  pub inputs : openIns (gates m) ≤ 24
 
 -- ---- its gates
 
@@ -123,12 +110,6 @@ written k g gs o z l h =
     ap (λ (x : Net). length (x .elements)) (full-made k g gs o z)
     ∙ length-append (pointsFrom k 0) (pointsFrom (suc q) (2 * k) ++ partsFrom (g ∷ gs) n) ∙ ap₂ _+_ (points-count k 0) (length-append (pointsFrom (suc q) (2 * k)) (partsFrom (g ∷ gs) n) ∙ ap₂ _+_ (points-count (suc q) (2 * k)) (parts-count (g ∷ gs) n)) in
     accepted-by _ (record { edition = first; table = Θ; term = e }) (towards k (tupleType q)) (back-read k g gs o z l h) (back-typed k g gs o z) (omega (arith, tiled-few (make Θ e [] 0 .elements) 0 (make Θ e [] 0 .next) (tiled Θ e [] 0)))
-
--- translating a sheet gives this lean netlist
-pub record LeanOf (sheet : List ℕ) (m : Net) : Type 0 where
-  pub net : Net
-  pub accepted : full sheet ≡ good net
-  pub lean-is : lean net ≡ m
 
 -- of one part at most two inputs are undriven
 one-part : (g : Gate) (gs : List Gate) → length gs ≡ 0 → (k : ℕ) → k ≡ openIns (g ∷ gs) → length (g .ins) ≡ partAt (g .part) .inputs → k ≤ 2

@@ -24,7 +24,8 @@ use Rattle.foreign_theorems.specs.Foreign.{Bytes, Accepts, check}
 use Rattle.foreign_theorems.proofs.Exact.{check-exact}
 use Rattle.back_theorems.specs.Back.{gates, openIns, backSheet, inputsFrom, outputsFrom, backNet, gatesSeen}
 use Rattle.back_theorems.specs.Returned.{noPoint, within, returned}
-use Rattle.back_theorems.proofs.CameBack.{PartOnly, Returns, LeanOf, net-came-back}
+use Rattle.back_theorems.specs.Promises.{PartOnly, Returns, Back, LeanOf, Same}
+use Rattle.back_theorems.proofs.CameBack.{net-came-back}
 use Rattle.back_theorems.proofs.SameParts.{same-gates}
 
 -- what is accepted is read
@@ -55,11 +56,6 @@ within-of m ok = rw (le-leb 1 (length (m .elements)) (ok .some), le-leb (length 
 
 -- ---- accepted exactly when L8 accepts, and the netlist has 1 to 16 parts, no points and at most 24 undriven inputs
 
-pub record Back (told : Bool) (s sheet : List ℕ) : Type 0 where
-  pub accepts : Accepts told s
-  pub returns : Returns (accepts .net)
-  pub is : backSheet (accepts .net) ≡ sheet
-
 pub back-exact : (told : Bool) (s sheet : List ℕ) → Bytes s → (returned told s ≡ good sheet) ↔ Back told s sheet
 unfolding returned
 back-exact told s sheet b = (there, again)
@@ -89,12 +85,7 @@ came-back told s sheet b e m r = go (back-exact told s sheet b .0 e)
         subst (λ (x : List ℕ). LeanOf x (backNet (openIns (gates m)) (gates m))) (k .is)
         (subst (λ (x : Net). LeanOf (backSheet (k .accepts .net)) (backNet (openIns (gates x)) (gates x))) n (net-came-back (k .accepts .net) (k .returns)))
 
--- the same parts in the same order, each part input with the same driving part or the matching input pin; the pins are the open inputs,
--- then all part outputs
-pub record Same (m b : Net) : Type 0 where
-  pub gates-same : gatesSeen b (b .elements) ≡ gates m
-  pub pins : b .pins ≡ inputsFrom (openIns (gates m)) 0 ++ outputsFrom (gates m) (2 * openIns (gates m) + 2 * length (gates m))
-
+-- the same parts in the same order, with the same drivers
 pub same-parts : (told : Bool) (s sheet : List ℕ) → Bytes s → returned told s ≡ good sheet → (m net : Net) → readNet s ≡ good m → full sheet ≡ good net → Same m (lean net)
 same-parts told s sheet b e m net r f = go (back-exact told s sheet b .0 e) (came-back told s sheet b e m r)
   where

@@ -13,9 +13,10 @@ use Rattle.calculus.specs.Lean.{driver}
 use Rattle.calculus.specs.Record.{All}
 use Rattle.back_theorems.specs.Back.{Source, undriven, output, Gate, partBefore, gates, openIns, pointsFrom, partsFrom, outputAt, sourceAt, gateWires, allWires, inputsFrom, outputsFrom, backNet, pointOut, pinBefore, sourceSeen, sourcesSeen, gatesSeen}
 use Rattle.circuit_theorems.proofs.Lists.{all-append, all-map}
+use Rattle.back_theorems.specs.Promises.{Returns}
 use Rattle.back_theorems.proofs.Typing.{SourceIn, GateIn}
 use Rattle.back_theorems.proofs.Leaning.{output-high}
-use Rattle.back_theorems.proofs.CameBack.{Returns, gates-length, gates-in}
+use Rattle.back_theorems.proofs.CameBack.{gates-length, gates-in}
 
 point-out : (k n j : ℕ) (es : List Element) → j < k → pointOut (pointsFrom k n ++ es) (n + 2 * j + 1) ≡ true
 point-out zero n j es h = absurd (omega arith)
