@@ -1,5 +1,14 @@
 // What the bytes of a netlist of parts say: its parts, and what drives their inputs. There are few, so each is looked for where it is asked.
 use net_reader::Record;
+ghost use mathlib.Core.Path.{_≡_};
+ghost use Prim.Native.Nat.{_+_, _≤_, _<_};
+ghost use lib.ListN.{getD};
+ghost use Rattle.calculus.specs.Net.{point, part};
+ghost use Rattle.calculus.specs.Lean.{driver as driverOf};
+ghost use Rattle.net_reader.specs.Said.{saidRecord};
+ghost use Rattle.back_theorems.specs.Back.{partBefore, sources, undrivens};
+ghost use Rattle.back.specs.Gates.{netHere, Accepted, OfParts, PartHere, partsOr25, endOf, Counted};
+ghost use Rattle.back.specs.Said.{saidParts};
 
 // As many parts and no point, or the offset of the first point.
 pub enum Parts {
@@ -15,50 +24,61 @@ pub struct Gate {
 
 // The undriven inputs, and all inputs.
 pub struct Counts {
-    pub open: usize,
+    pub undriven: usize,
     pub inputs: usize,
 }
 
-// The record behind some parts: a point, or the elements are at their end.
-fn behind(record: Record, at: usize) -> Parts {
-    match record {
+// The record behind n parts, at an offset: a point, or the elements are at their end.
+fn behind(r: Record, n: usize, at: usize) -> Parts
+    ensures { λ p. ⌜ saidParts p ≡ endOf (saidRecord r) n at ⌝ }
+{
+    match r {
         Record::Point(_) => Parts::Point(at),
-        Record::Part(_, _) => Parts::All(at / 4),
-        Record::Wire(_, _) => Parts::All(at / 4),
-        Record::Pin(_) => Parts::All(at / 4),
-        Record::End => Parts::All(at / 4),
-        Record::Broken => Parts::All(at / 4),
+        Record::Part(_, _) => Parts::All(n),
+        Record::Wire(_, _) => Parts::All(n),
+        Record::Pin(_) => Parts::All(n),
+        Record::End => Parts::All(n),
+        Record::Broken => Parts::All(n),
     }
 }
 
 // The parts of a netlist.
-pub fn parts(net: &[u8]) -> Parts {
-    let mut at: usize = 0;
-    while at < net.len() {
-        let record = net_reader::read(net, at);
-        let Record::Part(_, _) = record else {
-            return behind(record, at);
+pub fn count_parts(net: &[u8]) -> Parts
+    requires { ⌜ Accepted (now net) ⌝ }
+    ensures { λ r. ⌜ saidParts r ≡ partsOr25 (netHere (now (net .entry)) .elements) ⌝ }
+{
+    let mut n: usize = 0;
+    while 4 * n < net.len() {
+        let x = net_reader::read(net, 4 * n);
+        let Record::Part(_, _) = x else {
+            return behind(x, n, 4 * n);
         };
-        at = at + 4;
+        n = n + 1;
     }
-    Parts::All(at / 4)
+    Parts::All(n)
 }
 
 // The part at a place among the parts.
-pub fn gate_at(net: &[u8], r: usize) -> Gate {
-    let record = net_reader::read(net, 4 * r);
-    let Record::Part(part, first) = record else {
+pub fn gate_at(net: &[u8], r: usize) -> Gate
+    requires { ⌜ PartHere (now net) r ⌝ }
+    ensures { λ g. ⌜ part (g .part) (g .first) ≡ getD (netHere (now (net .entry)) .elements) r (point 0) ⌝ }
+{
+    let x = net_reader::read(net, 4 * r);
+    let Record::Part(part, first) = x else {
         return Gate { part: 0, first: 0 };
     };
     Gate { part, first }
 }
 
 // The output that drives an input; NONE where no wire does.
-pub fn driver(net: &[u8], parts: usize, i: usize) -> u16 {
+pub fn driver(net: &[u8], parts: usize, i: usize) -> u16
+    requires { ⌜ OfParts (now net) parts ⌝ }
+    ensures { λ r. ⌜ r ≡ driverOf (netHere (now (net .entry)) .wires) i 65535 ⌝ }
+{
     let mut at = 4 * parts;
     while at < net.len() {
-        let record = net_reader::read(net, at);
-        let Record::Wire(from, to) = record else {
+        let x = net_reader::read(net, at);
+        let Record::Wire(from, to) = x else {
             return memory::NONE;
         };
         if to as usize == i {
@@ -70,7 +90,10 @@ pub fn driver(net: &[u8], parts: usize, i: usize) -> u16 {
 }
 
 // How many parts stand before the one with an output.
-pub fn part_before(net: &[u8], parts: usize, o: usize) -> usize {
+pub fn part_before(net: &[u8], parts: usize, o: usize) -> usize
+    requires { ⌜ OfParts (now net) parts ⌝ }
+    ensures { λ r. ⌜ r ≡ partBefore (netHere (now (net .entry)) .elements) o ⌝ }
+{
     let mut r: usize = 0;
     while r < parts {
         let g = gate_at(net, r);
@@ -83,7 +106,10 @@ pub fn part_before(net: &[u8], parts: usize, o: usize) -> usize {
 }
 
 // 1 where an input is undriven, else 0.
-fn open_at(net: &[u8], parts: usize, i: usize) -> usize {
+fn open_at(net: &[u8], parts: usize, i: usize) -> usize
+    requires { ⌜ OfParts (now net) parts ⌝ }
+    ensures { λ r. ⌜ r ≡ undrivens (sources (netHere (now (net .entry))) 1 i 0) ⌝ }
+{
     if driver(net, parts, i) == memory::NONE {
         1
     } else {
@@ -92,7 +118,10 @@ fn open_at(net: &[u8], parts: usize, i: usize) -> usize {
 }
 
 // The undriven ones of at most two inputs.
-fn open_of(net: &[u8], parts: usize, first: usize, inputs: usize) -> usize {
+fn open_of(net: &[u8], parts: usize, first: usize, inputs: usize) -> usize
+    requires { ⌜ OfParts (now net) parts × (first < 65536) × (inputs ≤ 2) ⌝ }
+    ensures { λ r. ⌜ r ≡ undrivens (sources (netHere (now (net .entry))) inputs first 0) ⌝ }
+{
     if inputs == 0 {
         return 0;
     }
@@ -104,16 +133,19 @@ fn open_of(net: &[u8], parts: usize, first: usize, inputs: usize) -> usize {
 }
 
 // The undriven inputs of all parts, and all inputs.
-pub fn count(net: &[u8], parts: usize) -> Counts {
-    let mut open: usize = 0;
+pub fn count_inputs(net: &[u8], parts: usize) -> Counts
+    requires { ⌜ OfParts (now net) parts × (parts ≤ 16) ⌝ }
+    ensures { λ r. ⌜ Counted (now (net .entry)) (r .undriven) (r .inputs) ⌝ }
+{
+    let mut undriven: usize = 0;
     let mut inputs: usize = 0;
     let mut r: usize = 0;
     while r < parts {
         let g = gate_at(net, r);
         let n = netlist::inputs_of(g.part) as usize;
-        open = open + open_of(net, parts, g.first as usize, n);
+        undriven = undriven + open_of(net, parts, g.first as usize, n);
         inputs = inputs + n;
         r = r + 1;
     }
-    Counts { open, inputs }
+    Counts { undriven, inputs }
 }

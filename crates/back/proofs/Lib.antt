@@ -1,0 +1,4 @@
+pub mod RowLaws
+pub mod GateLaws
+pub mod RecordLaws
+pub mod SourceLaws
