@@ -123,3 +123,21 @@ none-left [] zero h = refl
 none-left [] (suc r) h = refl
 none-left (e ∷ es) zero h = absurd (omega arith)
 none-left (e ∷ es) (suc r) h = none-left es r (let l : suc (length es) ≤ suc r = h in omega arith)
+
+pub before-few : (es : List Element) (o : ℕ) → partBefore es o ≤ length es
+before-few [] o = omega arith
+before-few (point i ∷ es) o = omega (arith, before-few es o)
+before-few (part p i ∷ es) o = by (eqb (i + partAt p .inputs) o) (before-few es o)
+  where
+    by : (b : Bool) → partBefore es o ≤ length es → cond b 0 (suc (partBefore es o)) ≤ suc (length es)
+    by true h = omega arith
+    by false h = omega arith
+
+pub sources-length : (m : Net) (k i j : ℕ) → length (sources m k i j) ≡ k
+sources-length m zero i j = refl
+sources-length m (suc k) i j = by (fed (m .wires) i) (sources-length m k (i + 1) j) (sources-length m k (i + 1) (suc j))
+  where
+    by : (b : Bool) → length (sources m k (i + 1) j) ≡ k → length (sources m k (i + 1) (suc j)) ≡ k
+        → length (cond b (output (partBefore (m .elements) (driver (m .wires) i 0)) ∷ sources m k (i + 1) j) (undriven j ∷ sources m k (i + 1) (suc j))) ≡ suc k
+    by true e f = ap suc e
+    by false e f = ap suc f

@@ -47,6 +47,11 @@ sourceRows k q (s ∷ ss) = 0x11 ∷ binderOf k q s ∷ sourceRows k q ss
 abbrev pub gateRow : ℕ → ℕ → ℕ → Gate → List ℕ
 gateRow k q left g = pairRow left ++ (headRow (g .part) (partAt (g .part) .inputs) ++ sourceRows k q (g .ins))
 
+-- all parts, as pairs nested to the right
+abbrev pub tupleRows : ℕ → ℕ → List Gate → List ℕ
+tupleRows k q [] = []
+tupleRows k q (g ∷ gs) = gateRow k q (suc (length gs)) g ++ tupleRows k q gs
+
 -- the gate of an element, with j undriven inputs before it; a point is none
 abbrev pub gateOf : Net → Element → ℕ → Gate
 gateOf m (point i) j = record { part = 0; ins = [] }

@@ -1,21 +1,21 @@
+-- By the driver. Assumes nothing.
 use borrow.Author.Needs.{needs}
+use native.Mathlib.Omega.{arith}
+use mathlib.Core.Path.{_≡_, ap, sym, _∙_}
+use Rattle.back_theorems.specs.Back.{undrivens}
+use Rattle.back.proofs.SourceLaws.{source-open, source-wired}
 use Rattle.back.proofs.gates.open_at.Statement.{statement}
 use Rattle.back.proofs.gates.open_at.Tie as tie
-use Rattle.back.proofs.gates.open_at.Reads as reads
-use Rattle.back.proofs.gates.open_at.Lts as lts
-use Rattle.back.proofs.gates.driver.Reads as driver-reads
 
--- src/gates.rt:113:8
-driver-requires : tie.Need-driver-requires
-driver-requires c κs = search needs
-
--- src/gates.rt:109:1
 returns : tie.Need-returns
-returns c = ?
+returns c =
+    let a = c .before .before .before in
+    sym (ap undrivens (source-open (a .args .net .now) (a .pre .accepted) (a .args .i) 0 (omega (arith, c .before .driver .ensures))))
 
--- src/gates.rt:109:1
 returns-2 : tie.Need-returns-2
-returns-2 c = ?
+returns-2 c =
+    let a = c .before .before .before in
+    sym (ap undrivens (source-wired (a .args .net .now) (a .pre .accepted) (a .args .i) 0 (λ e. omega (arith, c .before .driver .ensures))))
 
 pub open-at-spec : {M : Type 1} → statement M
-open-at-spec = tie.close (tie.spec driver-requires returns returns-2)
+open-at-spec = tie.close (tie.spec (λ c κs. search needs) returns returns-2)

@@ -1,46 +1,37 @@
+-- One input behind the other. Assumes nothing.
 use borrow.Author.Needs.{needs}
+use native.Mathlib.Omega.{arith}
+use mathlib.Core.Path.{_≡_, ap, sym, _∙_}
+use Prim.Native.Nat.{ℕ, _+_}
+use Rattle.back_theorems.specs.Back.{sources, undrivens}
+use Rattle.back.specs.Gates.{netHere}
+use Rattle.back.proofs.SourceLaws.{undrivens-few, undrivens-split}
 use Rattle.back.proofs.gates.open_of.Statement.{statement}
 use Rattle.back.proofs.gates.open_of.Tie as tie
-use Rattle.back.proofs.gates.open_of.Reads as reads
-use Rattle.back.proofs.gates.open_of.Lts as lts
-use Rattle.back.proofs.gates.open_at.Reads as open-at-reads
 
--- src/gates.rt:126:9
 returns : tie.Need-returns
-returns c = search needs
+returns c = let a = c .before .before .args in let e : a .inputs ≡ 0 = omega arith in rw e
 
--- src/gates.rt:128:9
-open-at-requires : tie.Need-open-at-requires
-open-at-requires c κs = search needs
-
--- src/gates.rt:130:9
 returns-2 : tie.Need-returns-2
-returns-2 c = ?
+returns-2 c =
+    let a = c .before .before .before .before .args in
+    let e : a .inputs ≡ 1 = omega arith in
+    c .before .open-at .ensures ∙ rw e
 
--- src/gates.rt:132:31
-add-open-at : tie.Need-add-open-at
-add-open-at c = search needs
-
--- src/gates.rt:132:11
-open-at-requires-2 : tie.Need-open-at-requires-2
-open-at-requires-2 c κs = search needs
-
--- src/gates.rt:132:5
 add-result : tie.Need-add-result
-add-result c = ?
+add-result c =
+    let a = c .before .before .before .before .before .args in
+    let m = netHere (a .net .now) in
+    omega (arith, c .before .before .open-at .ensures, c .open-at2 .ensures, undrivens-few m 1 (a .first) 0, undrivens-few m 1 (a .first + 1) 0)
 
--- src/gates.rt:121:1
 returns-3 : tie.Need-returns-3
-returns-3 c = ?
+returns-3 c =
+    let a = c .before .before .before .before .before in
+    let m = netHere (a .args .net .now) in
+    let two = a .pre .2 in
+    let e : a .args .inputs ≡ 2 = omega arith in
+    rw (e, c .before .before .open-at .ensures, c .open-at2 .ensures) (sym (undrivens-split m 1 (a .args .first)))
 
 pub open-of-spec : {M : Type 1} → statement M
 open-of-spec =
-    tie.close
-    (tie.spec
-    returns
-    open-at-requires
-    returns-2
-    add-open-at
-    open-at-requires-2
-    add-result
-    returns-3)
+    tie.close (tie.spec returns (λ c κs. search needs) returns-2 (λ c. search needs) (λ c κs. search needs) add-result returns-3)

@@ -1,20 +1,15 @@
+-- By the number of parts. Assumes nothing.
 use borrow.Author.Needs.{needs}
+use native.Mathlib.Omega.{arith}
+use borrow.Author.Tests.{eq-eqb, ne-eqb}
 use Rattle.back.proofs.write.arrow_length.Statement.{statement}
 use Rattle.back.proofs.write.arrow_length.Tie as tie
-use Rattle.back.proofs.write.arrow_length.Reads as reads
-use Rattle.back.proofs.write.arrow_length.Lts as lts
 
--- src/write.rt:26:32
-mul-result : tie.Need-mul-result
-mul-result c = search needs
-
--- src/write.rt:22:1
 returns : tie.Need-returns
-returns c = ?
+returns c = rw (eq-eqb (c .before .args .parts) 1 (omega arith))
 
--- src/write.rt:22:1
 returns-2 : tie.Need-returns-2
-returns-2 c = ?
+returns-2 c = rw (ne-eqb (c .before .args .parts) 1 (λ e. omega arith))
 
 pub arrow-length-spec : {M : Type 1} → statement M
-arrow-length-spec = tie.close (tie.spec mul-result returns returns-2)
+arrow-length-spec = tie.close (tie.spec (λ c. search needs) returns returns-2)

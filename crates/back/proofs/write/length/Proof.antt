@@ -1,56 +1,31 @@
+-- A sum. Assumes nothing.
 use borrow.Author.Needs.{needs}
+use native.Mathlib.Omega.{arith}
+use mathlib.Core.Path.{_≡_}
+use Prim.Native.Nat.{ℕ, _≤_, _*_}
+use mathlib.Core.Bool.{Bool, true, false, cond}
+use lib.Dec.{eqb}
+use Rattle.back.specs.Rows.{arrowLength}
 use Rattle.back.proofs.write.length.Statement.{statement}
 use Rattle.back.proofs.write.length.Tie as tie
-use Rattle.back.proofs.write.length.Reads as reads
-use Rattle.back.proofs.write.length.Lts as lts
-use Rattle.back.proofs.write.arrow_length.Reads as arrow-length-reads
 
--- src/write.rt:34:5
-mul-result : tie.Need-mul-result
-mul-result c = search needs
+arrows-few : (n k : ℕ) → arrowLength n k ≤ 3 * k
+arrows-few n k = by (eqb n 1)
+  where
+    by : (b : Bool) → cond b 0 (3 * k) ≤ 3 * k
+    by true = omega arith
+    by false = omega arith
 
--- src/write.rt:34:5
-add-result : tie.Need-add-result
-add-result c = search needs
-
--- src/write.rt:34:22
-arrow-length-requires : tie.Need-arrow-length-requires
-arrow-length-requires c κs = search needs
-
--- src/write.rt:34:5
 add-result-2 : tie.Need-add-result-2
-add-result-2 c = ?
+add-result-2 c = omega (arith, c .arrow-length .ensures, arrows-few (c .before .args .parts) (c .before .args .undriven))
 
--- src/write.rt:34:54
-mul-result-2 : tie.Need-mul-result-2
-mul-result-2 c = search needs
-
--- src/write.rt:34:5
 add-result-3 : tie.Need-add-result-3
-add-result-3 c = ?
+add-result-3 c = omega (arith, c .arrow-length .ensures, arrows-few (c .before .args .parts) (c .before .args .undriven))
 
--- src/write.rt:34:69
-mul-result-3 : tie.Need-mul-result-3
-mul-result-3 c = search needs
-
--- src/write.rt:34:5
 add-result-4 : tie.Need-add-result-4
-add-result-4 c = ?
-
--- src/write.rt:30:1
-returns : tie.Need-returns
-returns c = search needs
+add-result-4 c = omega (arith, c .arrow-length .ensures, arrows-few (c .before .args .parts) (c .before .args .undriven))
 
 pub length-spec : {M : Type 1} → statement M
 length-spec =
     tie.close
-    (tie.spec
-    mul-result
-    add-result
-    arrow-length-requires
-    add-result-2
-    mul-result-2
-    add-result-3
-    mul-result-3
-    add-result-4
-    returns)
+    (tie.spec (λ c. search needs) (λ c. search needs) (λ c κs. search needs) add-result-2 (λ c. search needs) add-result-3 (λ c. search needs) add-result-4 (λ c. search needs))

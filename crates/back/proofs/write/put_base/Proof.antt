@@ -1,31 +1,22 @@
+-- One byte, and twice three. Assumes nothing.
 use borrow.Author.Needs.{needs}
+use native.Mathlib.Omega.{arith}
+use mathlib.Core.Path.{_≡_, _∙_}
+use lib.ListN.{length, length-set}
 use Rattle.back.proofs.write.put_base.Statement.{statement}
 use Rattle.back.proofs.write.put_base.Tie as tie
-use Rattle.back.proofs.write.put_base.Reads as reads
-use Rattle.back.proofs.write.put_base.Lts as lts
-use Rattle.back.proofs.write.put_three.Reads as put-three-reads
 
--- src/write.rt:60:5
-slice-write-out : tie.Need-slice-write-out
-slice-write-out c = search needs
-
--- src/write.rt:61:5
-put-three-requires : tie.Need-put-three-requires
-put-three-requires c κs = ?
-
--- src/write.rt:62:5
 put-three-requires-2 : tie.Need-put-three-requires-2
-put-three-requires-2 c κs = ?
+put-three-requires-2 c κs =
+    let l : length (c .before .before .before .put-three .last .0) ≡ length (c .before .before .before .before .before .before .args .out .now) =
+        c .before .before .before .put-three .kept .0 ∙ simp length-set in
+    omega arith
 
--- src/write.rt:56:1
 same-length : tie.Need-same-length
-same-length c = ?
+same-length c = c .before .before .put-three2 .kept .0 ∙ c .before .before .before .before .before .before .put-three .kept .0 ∙ simp length-set
 
--- src/write.rt:56:1
 returns : tie.Need-returns
-returns c = ?
+returns c = c .before .before .put-three2 .ensures ∙ rw (c .before .before .before .before .before .before .put-three .ensures)
 
 pub put-base-spec : {M : Type 1} → statement M
-put-base-spec =
-    tie.close
-    (tie.spec slice-write-out put-three-requires put-three-requires-2 same-length returns)
+put-base-spec = tie.close (tie.spec (λ c. search needs) (λ c κs. simp length-set (omega arith)) put-three-requires-2 same-length returns)

@@ -1,52 +1,25 @@
+-- By what is left. Assumes nothing.
 use borrow.Author.Needs.{needs}
+use native.Mathlib.Omega.{arith}
+use mathlib.Core.Path.{_≡_, refl, sym, _∙_}
+use Prim.Native.Nat.{ℕ, _+_, _-_}
+use borrow.Author.Tests.{lt-ltb, le-ltb}
+use Rattle.back_theorems.proofs.Typing.{tuple-low}
 use Rattle.back.proofs.write.put_pair.Statement.{statement}
 use Rattle.back.proofs.write.put_pair.Tie as tie
-use Rattle.back.proofs.write.put_pair.Reads as reads
-use Rattle.back.proofs.write.put_pair.Lts as lts
-use Rattle.back.proofs.write.put_two.Reads as put-two-reads
-use Rattle.back.proofs.write.tuple.Reads as tuple-reads
 
--- src/write.rt:203:9
 returns : tie.Need-returns
-returns c = ?
+returns c = let a = c .before .before .args in rw (lt-ltb (a .left) 2 (omega arith)) (omega arith, refl)
 
--- src/write.rt:205:34
-sub-tuple : tie.Need-sub-tuple
-sub-tuple c = search needs
-
--- src/write.rt:205:28
-tuple-requires : tie.Need-tuple-requires
-tuple-requires c κs = search needs
-
--- src/write.rt:205:28
 cast-put-two : tie.Need-cast-put-two
-cast-put-two c = ?
+cast-put-two c = let a = c .before .before .before .before .args in omega (arith, c .tuple .ensures, tuple-low (a .left - 1))
 
--- src/write.rt:205:5
-put-two-requires : tie.Need-put-two-requires
-put-two-requires c κs = search needs
-
--- src/write.rt:206:5
-add-result : tie.Need-add-result
-add-result c = search needs
-
--- src/write.rt:198:1
-same-length : tie.Need-same-length
-same-length c = search needs
-
--- src/write.rt:198:1
 returns-2 : tie.Need-returns-2
-returns-2 c = ?
+returns-2 c =
+    let a = c .before .before .before .before .before .before .before .args in
+    rw (le-ltb (a .left) 2 (omega arith)) (refl, c .before .before .put-two .ensures ∙ rw (c .before .before .before .tuple .ensures))
 
 pub put-pair-spec : {M : Type 1} → statement M
 put-pair-spec =
     tie.close
-    (tie.spec
-    returns
-    sub-tuple
-    tuple-requires
-    cast-put-two
-    put-two-requires
-    add-result
-    same-length
-    returns-2)
+    (tie.spec returns (λ c. search needs) (λ c κs. search needs) cast-put-two (λ c κs. search needs) (λ c. search needs) (λ c. search needs) returns-2)

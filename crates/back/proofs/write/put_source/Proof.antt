@@ -1,75 +1,45 @@
+-- By the driver. Assumes nothing.
 use borrow.Author.Needs.{needs}
+use native.Mathlib.Omega.{arith}
+use mathlib.Core.Path.{_≡_, refl, sym, ap, ap₂, _∙_}
+use mathlib.Core.List.{List, [], _∷_}
+use Prim.Native.Nat.{ℕ, _+_, _-_, _*_}
+use lib.ListN.{length}
+use lib.Seq.{sets}
+use Rattle.back.specs.Gates.{netHere}
+use Rattle.back.proofs.SourceLaws.{before-few}
+use Rattle.back_theorems.specs.Back.{partBefore}
+use Rattle.back.proofs.WriteLaws.{open-row, wired-row}
 use Rattle.back.proofs.write.put_source.Statement.{statement}
 use Rattle.back.proofs.write.put_source.Tie as tie
-use Rattle.back.proofs.write.put_source.Reads as reads
-use Rattle.back.proofs.write.put_source.Lts as lts
-use Rattle.back.proofs.gates.driver.Reads as driver-reads
-use Rattle.back.proofs.gates.part_before.Reads as part-before-reads
-use Rattle.back.proofs.write.open_binder.Reads as open-binder-reads
-use Rattle.back.proofs.write.output_binder.Reads as output-binder-reads
-use Rattle.back.proofs.write.put_two.Reads as put-two-reads
 
--- src/write.rt:162:9
-driver-requires : tie.Need-driver-requires
-driver-requires c κs = search needs
-
--- src/write.rt:164:32
-open-binder-requires : tie.Need-open-binder-requires
-open-binder-requires c κs = search needs
-
--- src/write.rt:164:9
-put-two-requires : tie.Need-put-two-requires
-put-two-requires c κs = search needs
-
--- src/write.rt:165:16
-add-result : tie.Need-add-result
-add-result c = search needs
-
--- src/write.rt:165:9
-same-length : tie.Need-same-length
-same-length c = search needs
-
--- src/write.rt:165:9
 returns : tie.Need-returns
-returns c = ?
+returns c =
+    let x = c .before .before .before .before .before .before .before .before .before  in
+    let a = x .args in
+    let e = open-row (a .net .now) (x .pre .limited .of .accepted) (a .undriven) (a .parts - 1) (a .i) (a .before) (omega (arith, c .before .before .before .before .before .before .driver .ensures)) in
+    (e .0, c .before .before .put-two .ensures ∙ ap (sets (a .out .now) (a .at)) (ap (λ (b : ℕ). 0x11 ∷ b ∷ []) (c .before .before .before .open-binder .ensures) ∙ e .1))
 
--- src/write.rt:167:44
-cast-part-before : tie.Need-cast-part-before
-cast-part-before c = search needs
-
--- src/write.rt:167:9
-part-before-requires : tie.Need-part-before-requires
-part-before-requires c κs = search needs
-
--- src/write.rt:168:28
 output-binder-requires : tie.Need-output-binder-requires
-output-binder-requires c κs = ?
+output-binder-requires c κs =
+    let x = c .before .before .before .before .before .before  in
+    let l = x .pre .limited in
+    let s = l .some in
+    let m = l .most in
+    let n = l .of .count in
+    (omega arith, omega arith, omega (arith, c .before .part-before .ensures, before-few (netHere (x .args .net .now) .elements) (c .before .before .before .driver .result)))
 
--- src/write.rt:168:5
-put-two-requires-2 : tie.Need-put-two-requires-2
-put-two-requires-2 c κs = search needs
-
--- src/write.rt:149:1
-same-length-2 : tie.Need-same-length-2
-same-length-2 c = search needs
-
--- src/write.rt:149:1
 returns-2 : tie.Need-returns-2
-returns-2 c = ?
+returns-2 c =
+    let x = c .before .before .before .before .before .before .before .before .before .before  in
+    let a = x .args in
+    let d = c .before .before .before .before .before .before .before .driver in
+    let p = c .before .before .before .before .before .part-before in
+    let e = wired-row (a .net .now) (x .pre .limited .of .accepted) (a .undriven) (a .parts - 1) (a .i) (a .before) (λ h. omega (arith, d .ensures)) in
+    let r : p .result ≡ partBefore (netHere (a .net .now) .elements) _ = p .ensures ∙ ap (partBefore (netHere (a .net .now) .elements)) (d .ensures) in
+    (e .0, c .before .before .put-two2 .ensures ∙ ap (sets (a .out .now) (a .at)) (ap (λ (b : ℕ). 0x11 ∷ b ∷ []) (c .before .before .before .output-binder .ensures ∙ ap (λ (y : ℕ). 2 * (a .parts - 1 - y) - 1) r) ∙ e .1))
 
 pub put-source-spec : {M : Type 1} → statement M
 put-source-spec =
     tie.close
-    (tie.spec
-    driver-requires
-    open-binder-requires
-    put-two-requires
-    add-result
-    same-length
-    returns
-    cast-part-before
-    part-before-requires
-    output-binder-requires
-    put-two-requires-2
-    same-length-2
-    returns-2)
+    (tie.spec (λ c κs. search needs) (λ c κs. search needs) (λ c κs. search needs) (λ c. search needs) (λ c. search needs) returns (λ c. search needs) (λ c κs. search needs) output-binder-requires (λ c κs. search needs) (λ c. search needs) returns-2)

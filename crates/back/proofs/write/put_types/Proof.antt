@@ -1,78 +1,69 @@
+-- The first three types, the products, the arrows. Assumes nothing.
 use borrow.Author.Needs.{needs}
+use native.Mathlib.Omega.{arith}
+use mathlib.Core.Path.{_≡_, refl, sym, ap, _∙_}
+use mathlib.Core.List.{List}
+use Prim.Native.Nat.{ℕ, _+_, _-_, _*_, _≤_}
+use lib.ListN.{length}
+use lib.Seq.{sets}
+use borrow.Author.Tests.{eq-eqb, ne-eqb}
+use Rattle.back.specs.Rows.{arrowLength}
+use Rattle.back.proofs.TermLaws.{types-one, types-length, types-written}
 use Rattle.back.proofs.write.put_types.Statement.{statement}
 use Rattle.back.proofs.write.put_types.Tie as tie
-use Rattle.back.proofs.write.put_types.Reads as reads
-use Rattle.back.proofs.write.put_types.Lts as lts
-use Rattle.back.proofs.write.put_arrows.Reads as put-arrows-reads
-use Rattle.back.proofs.write.put_base.Reads as put-base-reads
-use Rattle.back.proofs.write.put_products.Reads as put-products-reads
 
--- src/write.rt:95:5
+-- behind more than one part there are arrows for all
+arrows-all : (n k : ℕ) → 2 ≤ n → arrowLength n k ≡ 3 * k
+arrows-all n k h = rw (ne-eqb n 1 (λ e. omega arith))
+
 put-base-requires : tie.Need-put-base-requires
-put-base-requires c κs = ?
+put-base-requires c κs =
+    let x = c .before .before in
+    let l = types-length (x .args .parts) (x .args .undriven) (x .pre .0) in
+    let r = x .pre .3 in
+    let s = x .pre .0 in
+    omega arith
 
--- src/write.rt:97:9
-same-length : tie.Need-same-length
-same-length c = search needs
-
--- src/write.rt:97:9
 returns : tie.Need-returns
-returns c = ?
+returns c =
+    let x = c .before .before .before .before .before .before  in
+    let e = types-one (x .args .parts) (x .args .undriven) (omega arith) in
+    (sym (ap length e), c .before .before .before .put-base .ensures ∙ ap (sets (x .args .out .now) 0) (sym e))
 
--- src/write.rt:99:26
-sub-put-products : tie.Need-sub-put-products
-sub-put-products c = search needs
-
--- src/write.rt:99:5
 put-products-requires : tie.Need-put-products-requires
-put-products-requires c κs = ?
+put-products-requires c κs =
+    let x = c .before .before .before .before .before .before .before  in
+    let k = c .before .before .before .before .put-base .kept .0 in
+    let l = types-length (x .args .parts) (x .args .undriven) (x .pre .0) in
+    let r = x .pre .3 in
+    let s = x .pre .0 in
+    let t = x .pre .1 in
+    (omega arith, omega arith)
 
--- src/write.rt:100:18
-mul-at : tie.Need-mul-at
-mul-at c = search needs
-
--- src/write.rt:100:14
-add-at : tie.Need-add-at
-add-at c = search needs
-
--- src/write.rt:101:25
-add-put-arrows : tie.Need-add-put-arrows
-add-put-arrows c = search needs
-
--- src/write.rt:101:5
 put-arrows-requires : tie.Need-put-arrows-requires
-put-arrows-requires c κs = ?
+put-arrows-requires c κs =
+    let x = c .before .before .before .before .before .before .before .before .before .before .before  in
+    let k = c .before .before .before .before .before .before .before .before .put-base .kept .0 in
+    let p = c .before .before .before .put-products .kept .0 in
+    let l = types-length (x .args .parts) (x .args .undriven) (x .pre .0) in
+    let r = x .pre .3 in
+    let s = x .pre .0 in
+    let t = x .pre .1 in
+    let u = x .pre .2 in
+    let w = arrows-all (x .args .parts) (x .args .undriven) (omega arith) in
+    (omega arith, omega arith)
 
--- src/write.rt:102:10
-mul-result : tie.Need-mul-result
-mul-result c = search needs
-
--- src/write.rt:102:5
-add-result : tie.Need-add-result
-add-result c = search needs
-
--- src/write.rt:90:1
-same-length-2 : tie.Need-same-length-2
-same-length-2 c = search needs
-
--- src/write.rt:90:1
 returns-2 : tie.Need-returns-2
-returns-2 c = ?
+returns-2 c =
+    let x = c .before .before .before .before .before .before .before .before .before .before .before .before .before .before  in
+    let s = x .pre .0 in
+    let two : 2 ≤ x .args .parts = omega arith in
+    let w = arrows-all (x .args .parts) (x .args .undriven) two in (
+      omega (arith, types-length (x .args .parts) (x .args .undriven) s),
+      types-written (x .args .parts) (x .args .undriven) (x .args .out .now) _ _ _ two (c .before .before .before .before .before .before .before .before .before .before .before .put-base .ensures) (c .before .before .before .before .before .before .put-products .ensures) (c .before .before .put-arrows .ensures),
+    )
 
 pub put-types-spec : {M : Type 1} → statement M
 put-types-spec =
     tie.close
-    (tie.spec
-    put-base-requires
-    same-length
-    returns
-    sub-put-products
-    put-products-requires
-    mul-at
-    add-at
-    add-put-arrows
-    put-arrows-requires
-    mul-result
-    add-result
-    same-length-2
-    returns-2)
+    (tie.spec put-base-requires (λ c. search needs) returns (λ c. search needs) put-products-requires (λ c. search needs) (λ c. search needs) (λ c. search needs) put-arrows-requires (λ c. search needs) (λ c. search needs) (λ c. search needs) returns-2)
