@@ -232,14 +232,19 @@ module _ (s : List ℕ) (a : Accepted s) (at i : ℕ) where
           let q : w ≡ record { from = from; to = to } = let x = item-inj (sym (item-here s _ at (wire w) (f .0) g) ∙ e) in cc in
           let qf : w .from ≡ from = ap (λ (v : Wire). v .from) q in
           let qt : w .to ≡ to = ap (λ (v : Wire). v .to) q in
-          let room : at + 5 ≤ length s = within s (itemBytes (wire w)) _ at g (omega arith) in
-          (((λ k. sym qf ∙ sym (rw (eq-eqb (w .to) i (qt ∙ k))) ∙ z), (λ k. record {
-            left = left;
-            here = behind s (itemBytes (wire w)) _ at g;
-            fits = f .1;
-            same = sym (rw (ne-eqb (w .to) i (λ x. k (sym qt ∙ x)))) ∙ z;
-            low = room;
-          })), room)
+          let room : at + 5 ≤ length s = within s (itemBytes (wire w)) _ at g (omega arith) in (
+            (
+              (λ k. sym qf ∙ sym (rw (eq-eqb (w .to) i (qt ∙ k))) ∙ z),
+              (λ k. record {
+                left = left;
+                here = behind s (itemBytes (wire w)) _ at g;
+                fits = f .1;
+                same = sym (rw (ne-eqb (w .to) i (λ x. k (sym qt ∙ x)))) ∙ z;
+                low = room;
+              }),
+            ),
+            room,
+          )
 
   -- no wire stands here: all were passed
   pub wires-done : WiresLeft s at i → NotWire (itemAt s at) → 65535 ≡ driver (netHere s .wires) i 65535

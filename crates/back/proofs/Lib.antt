@@ -4,3 +4,5 @@ pub mod RecordLaws
 pub mod SourceLaws
 pub mod TermLaws
 pub mod WriteLaws
+pub mod SheetLaws
+pub mod AnswerLaws

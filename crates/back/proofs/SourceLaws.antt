@@ -111,7 +111,7 @@ module _ (es : List Element) (r : ℕ) (p f : ℕ) (h : r < length es) (g : part
     opens-more e =
         let v : undrivens (sources m (partAt p .inputs) f j) ≡ u = undrivens-any m (partAt p .inputs) f j 0 ∙ sym i in
         let w : j + (undrivens (sources m (partAt p .inputs) f j) + openIns (gatesFrom m (drop (r + 1) es) (j + undrivens (sources m (partAt p .inputs) f j)))) ≡ T =
-            ap (λ (l : List Element). j + openIns (gatesFrom m l j)) (sym part-next) ∙ e in
+        ap (λ (l : List Element). j + openIns (gatesFrom m l j)) (sym part-next) ∙ e in
         let x : j + (u + openIns (gatesFrom m (drop (r + 1) es) (j + u))) ≡ T = rw v at w in
         omega arith
 

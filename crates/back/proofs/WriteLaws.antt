@@ -80,8 +80,8 @@ module _ (m : Net) (k q left p f j : ℕ) where
   part-written out o₁ o₂ o₃ at mid end n i e g a b c =
       let x : o₂ ≡ sets out at (pairRow left ++ headRow p n) = b ∙ ap (λ (o : List ℕ). sets o mid (headRow p n)) a ∙ written-more out (pairRow left) (headRow p n) at mid e in
       let y : o₃ ≡ sets out at ((pairRow left ++ headRow p n) ++ sourceRows k q (sources m n f j)) =
-          c ∙ ap (λ (o : List ℕ). sets o end (sourceRows k q (sources m n f j))) x
-          ∙ written-more out (pairRow left ++ headRow p n) (sourceRows k q (sources m n f j)) at end (omega (arith, length-append (pairRow left) (headRow p n), head-length p n)) in
+      c ∙ ap (λ (o : List ℕ). sets o end (sourceRows k q (sources m n f j))) x
+      ∙ written-more out (pairRow left ++ headRow p n) (sourceRows k q (sources m n f j)) at end (omega (arith, length-append (pairRow left) (headRow p n), head-length p n)) in
       y ∙ ap (λ (bs : List ℕ). sets out at bs) (append-assoc (pairRow left) (headRow p n) (sourceRows k q (sources m n f j)))
       ∙ ap (λ (x : ℕ). sets out at (pairRow left ++ (headRow p x ++ sourceRows k q (sources m x f j)))) i
 

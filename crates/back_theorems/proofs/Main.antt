@@ -34,7 +34,7 @@ accepts-read told s a = ap readNet (a .bytes) ∙ read-back (a .net) (a .formed)
 
 -- ---- 25 and 26
 
-parts-of : (es : List Element) (at : ℕ) → All Known es → noPoint es at ≡ good tt → All PartOnly es
+pub parts-of : (es : List Element) (at : ℕ) → All Known es → noPoint es at ≡ good tt → All PartOnly es
 parts-of [] at k e = tt
 parts-of (point i ∷ es) at k e = absurd (refused≢good e)
 parts-of (part p i ∷ es) at k e = (k .0, parts-of es (at + 4) (k .1) e)

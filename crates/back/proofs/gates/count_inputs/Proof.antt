@@ -66,7 +66,7 @@ loop-again c =
           (
             opens-more (m .elements) (l .r) (p .part) (p .first) (omega arith) (g .gate-at .ensures) m (l .undriven) (c .open-of .result) _ (e ∙ ap (λ (k : ℕ). undrivens (sources m k (p .first) 0)) i) (l .inv .1 .1 .1 .0),
             ap (λ (k : ℕ). l .inputs + k + inputsIn (drop (l .r + 1) (m .elements))) i
-            ∙ inputs-more (m .elements) (l .r) (p .part) (p .first) (omega arith) (g .gate-at .ensures) (l .inputs) _ (l .inv .1 .1 .1 .1),
+                ∙ inputs-more (m .elements) (l .r) (p .part) (p .first) (omega arith) (g .gate-at .ensures) (l .inputs) _ (l .inv .1 .1 .1 .1),
           ),
         ),
       ),

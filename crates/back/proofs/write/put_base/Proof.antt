@@ -9,7 +9,7 @@ use Rattle.back.proofs.write.put_base.Tie as tie
 put-three-requires-2 : tie.Need-put-three-requires-2
 put-three-requires-2 c κs =
     let l : length (c .before .before .before .put-three .last .0) ≡ length (c .before .before .before .before .before .before .args .out .now) =
-        c .before .before .before .put-three .kept .0 ∙ simp length-set in
+    c .before .before .before .put-three .kept .0 ∙ simp length-set in
     omega arith
 
 same-length : tie.Need-same-length

@@ -14,9 +14,11 @@ returns : tie.Need-returns
 returns c =
     let a = c .before .before .before .before .before .before .before .before .before .args in
     let put = c .before .before .put-three in
-    let first = c .before .before .before .before .before .before .put-applications in
-    (refl, put .ensures ∙ ap (λ (o : List ℕ). sets o (a .at + a .inputs) (0x1A ∷ a .part ∷ a .inputs ∷ [])) (first .ensures)
-    ∙ written-more (a .out .now) (rows applicationRow (a .inputs)) (0x1A ∷ a .part ∷ a .inputs ∷ []) (a .at) (a .at + a .inputs) (omega (arith, rows-length applicationRow 1 (λ j. refl) (a .inputs))))
+    let first = c .before .before .before .before .before .before .put-applications in (
+      refl,
+      put .ensures ∙ ap (λ (o : List ℕ). sets o (a .at + a .inputs) (0x1A ∷ a .part ∷ a .inputs ∷ [])) (first .ensures)
+          ∙ written-more (a .out .now) (rows applicationRow (a .inputs)) (0x1A ∷ a .part ∷ a .inputs ∷ []) (a .at) (a .at + a .inputs) (omega (arith, rows-length applicationRow 1 (λ j. refl) (a .inputs))),
+    )
 
 pub put-head-spec : {M : Type 1} → statement M
 put-head-spec =

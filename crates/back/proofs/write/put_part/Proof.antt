@@ -20,7 +20,7 @@ gate-at-requires c κs = let x = c .before .before in record { n = x .args .part
 
 put-pair-requires : tie.Need-put-pair-requires
 put-pair-requires c κs =
-    let x = c .before .before .before .before .before  in
+    let x = c .before .before .before .before .before in
     let a = x .args in
     let m = netHere (a .net .now) in
     let g = c .before .before .gate-at in
@@ -29,20 +29,21 @@ put-pair-requires c κs =
 
 put-head-requires : tie.Need-put-head-requires
 put-head-requires c κs =
-    let x = c .before .before .before .before .before .before .before .before .before  in
+    let x = c .before .before .before .before .before .before .before .before .before in
     let a = x .args in
     let m = netHere (a .net .now) in
     let g = c .before .before .before .before .before .before .gate-at in
     let i = c .before .before .before .before .before .inputs-of .ensures in
     let p = c .before .before .before .put-pair in
     let k = p .kept .0 in
-    let e = p .ensures .0 in
-    (omega (arith, few (g .result .part)),
-    omega (arith, part-room m (m .elements) (a .r) (g .result .part) (g .result .first) (g .ensures) (a .undriven) (a .parts - 1) (a .parts - a .r) (a .before) (a .at) (length (a .out .now)) (x .pre .fits)))
+    let e = p .ensures .0 in (
+      omega (arith, few (g .result .part)),
+      omega (arith, part-room m (m .elements) (a .r) (g .result .part) (g .result .first) (g .ensures) (a .undriven) (a .parts - 1) (a .parts - a .r) (a .before) (a .at) (length (a .out .now)) (x .pre .fits)),
+    )
 
 put-sources-requires : tie.Need-put-sources-requires
 put-sources-requires c κs =
-    let x = c .before .before .before .before .before .before .before .before .before .before .before .before .before .before  in
+    let x = c .before .before .before .before .before .before .before .before .before .before .before .before .before .before in
     let a = x .args in
     let m = netHere (a .net .now) in
     let g = c .before .before .before .before .before .before .before .before .before .before .before .gate-at in
@@ -66,7 +67,7 @@ add-t21 c =
     let h = c .before .before .before .before .before .before .before .put-head in
     let i = c .before .before .before .before .before .before .before .before .before .before .before .before .before .inputs-of .ensures in
     let p = c .before .before .before .before .before .before .before .before .before .before .before .put-pair in
-    let x = c .before .before .before .before .before .before .before .before .before .before .before .before .before .before .before .before .before  in
+    let x = c .before .before .before .before .before .before .before .before .before .before .before .before .before .before .before .before .before in
     let a = x .args in
     let m = netHere (a .net .now) in
     let g = c .before .before .before .before .before .before .before .before .before .before .before .before .before .before .gate-at in
@@ -74,7 +75,7 @@ add-t21 c =
 
 returns : tie.Need-returns
 returns c =
-    let x = c .before .before .before .before .before .before .before .before .before .before .before .before .before .before .before .before .before  in
+    let x = c .before .before .before .before .before .before .before .before .before .before .before .before .before .before .before .before .before in
     let a = x .args in
     let m = netHere (a .net .now) in
     let g = c .before .before .before .before .before .before .before .before .before .before .before .before .before .before .gate-at in
@@ -87,7 +88,8 @@ returns c =
     rw (← g .ensures) (
       omega (arith, h .ensures .0, p .ensures .0, i .ensures, gate-length m (a .undriven) q left (g .result .part) (g .result .first) (a .before)),
       s .ensures .0 ∙ ap (λ (n : ℕ). a .before + undrivens (sources m n (g .result .first) (a .before))) (i .ensures),
-      part-written m (a .undriven) q left (g .result .part) (g .result .first) (a .before) (a .out .now) _ _ _ (a .at) (p .result) (h .result) (i .result) (i .ensures) (p .ensures .0) (h .ensures .0) (p .ensures .1) (h .ensures .1) (s .ensures .1))
+      part-written m (a .undriven) q left (g .result .part) (g .result .first) (a .before) (a .out .now) _ _ _ (a .at) (p .result) (h .result) (i .result) (i .ensures) (p .ensures .0) (h .ensures .0) (p .ensures .1) (h .ensures .1) (s .ensures .1),
+    )
 
 pub put-part-spec : {M : Type 1} → statement M
 put-part-spec =

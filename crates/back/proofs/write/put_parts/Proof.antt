@@ -25,7 +25,7 @@ loop-holds c =
 
 put-part-requires : tie.Need-put-part-requires Inv-loop μ-loop
 put-part-requires c κs =
-    let x = c .before .before .before .before .before  in
+    let x = c .before .before .before .before .before in
     let a = x .args in
     let l = c .before .before .loop in
     let m = netHere (a .net .now) in
@@ -43,14 +43,14 @@ put-part-requires c κs =
 
 loop-again : tie.Need-loop-again Inv-loop μ-loop
 loop-again c =
-    let x = c .before .before .before .before .before .before .before .before  in
+    let x = c .before .before .before .before .before .before .before .before in
     let a = x .args in
     let l = c .before .before .before .before .before .loop in
     let p = c .before .before .put-part in
     let m = netHere (a .net .now) in
     let o = x .pre .limited .of in
     let t = c .before .before .before .before .loop-test .taken in
-    (omega arith, next-written m (a .undriven) (a .parts - 1) (a .from) (a .out .now) (l .out) (l .next .at) (l .next .before) (l .r) (a .parts) (o .parts) (o .count) t (l .inv .1) _ _ _ (p .kept .0) (p .ensures .0) (p .ensures .1) (p .ensures .2))
+    (omega arith, next-written m (a .undriven) (a .parts - 1) (a .from) (a .out .now) (l .out) (l .next .at) (l .next .before) (l .r) (a .parts) (o .parts) (o .count) t (l .inv .1) _ _ _ (p .kept .1 .0) (p .ensures .0) (p .ensures .1) (p .ensures .2))
 
 same-length : tie.Need-same-length Inv-loop μ-loop
 same-length c = c .before .loop .inv .1 .same
@@ -58,7 +58,7 @@ same-length c = c .before .loop .inv .1 .same
 returns : tie.Need-returns Inv-loop μ-loop
 returns c =
     let l = c .before .loop in
-    let x = c .before .before .before .before  in
+    let x = c .before .before .before .before in
     let a = x .args in
     let m = netHere (a .net .now) in
     let o = x .pre .limited .of in

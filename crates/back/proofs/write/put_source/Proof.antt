@@ -15,14 +15,14 @@ use Rattle.back.proofs.write.put_source.Tie as tie
 
 returns : tie.Need-returns
 returns c =
-    let x = c .before .before .before .before .before .before .before .before .before  in
+    let x = c .before .before .before .before .before .before .before .before .before in
     let a = x .args in
     let e = open-row (a .net .now) (x .pre .limited .of .accepted) (a .undriven) (a .parts - 1) (a .i) (a .before) (omega (arith, c .before .before .before .before .before .before .driver .ensures)) in
     (e .0, c .before .before .put-two .ensures ∙ ap (sets (a .out .now) (a .at)) (ap (λ (b : ℕ). 0x11 ∷ b ∷ []) (c .before .before .before .open-binder .ensures) ∙ e .1))
 
 output-binder-requires : tie.Need-output-binder-requires
 output-binder-requires c κs =
-    let x = c .before .before .before .before .before .before  in
+    let x = c .before .before .before .before .before .before in
     let l = x .pre .limited in
     let s = l .some in
     let m = l .most in
@@ -31,7 +31,7 @@ output-binder-requires c κs =
 
 returns-2 : tie.Need-returns-2
 returns-2 c =
-    let x = c .before .before .before .before .before .before .before .before .before .before  in
+    let x = c .before .before .before .before .before .before .before .before .before .before in
     let a = x .args in
     let d = c .before .before .before .before .before .before .before .driver in
     let p = c .before .before .before .before .before .part-before in

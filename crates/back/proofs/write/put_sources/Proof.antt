@@ -15,7 +15,7 @@ returns c = let a = c .before .before .before .args in let e : a .inputs ≡ 0 =
 
 put-source-requires : tie.Need-put-source-requires
 put-source-requires c κs =
-    let x = c .before .before .before .before  in
+    let x = c .before .before .before .before in
     let f = x .pre .fits in
     let l = x .pre .low in
     record { limited = x .pre .limited; fits = omega arith; low = omega arith }
@@ -28,7 +28,7 @@ returns-2 c =
 
 put-source-requires-2 : tie.Need-put-source-requires-2
 put-source-requires-2 c κs =
-    let x = c .before .before .before .before .before .before .before .before .before  in
+    let x = c .before .before .before .before .before .before .before .before .before in
     let a = x .args in
     let f = x .pre .fits in
     let t = x .pre .two in
@@ -40,15 +40,17 @@ put-source-requires-2 c κs =
 
 returns-3 : tie.Need-returns-3
 returns-3 c =
-    let x = c .before .before .before .before .before .before .before .before .before .before .before .before  in
+    let x = c .before .before .before .before .before .before .before .before .before .before .before .before in
     let a = x .args in
     let t = x .pre .two in
     let m = netHere (a .net .now) in
     let p = c .before .before .before .before .before .before .before .put-source in
     let q = c .before .before .put-source2 in
     let e : a .inputs ≡ 2 = omega arith in
-    rw e (q .ensures .0 ∙ two-undriven m (a .undriven) (a .parts - 1) (a .first) (a .before) (p .result) (p .ensures .0),
-    two-written m (a .undriven) (a .parts - 1) (a .first) (a .before) (a .out .now) _ _ (a .at) (p .result) (p .ensures .0) (p .ensures .1) (q .ensures .1))
+    rw e (
+      q .ensures .0 ∙ two-undriven m (a .undriven) (a .parts - 1) (a .first) (a .before) (p .result) (p .ensures .0),
+      two-written m (a .undriven) (a .parts - 1) (a .first) (a .before) (a .out .now) _ _ (a .at) (p .result) (p .ensures .0) (p .ensures .1) (q .ensures .1),
+    )
 
 pub put-sources-spec : {M : Type 1} → statement M
 put-sources-spec =

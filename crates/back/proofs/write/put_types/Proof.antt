@@ -26,13 +26,13 @@ put-base-requires c κs =
 
 returns : tie.Need-returns
 returns c =
-    let x = c .before .before .before .before .before .before  in
+    let x = c .before .before .before .before .before .before in
     let e = types-one (x .args .parts) (x .args .undriven) (omega arith) in
     (sym (ap length e), c .before .before .before .put-base .ensures ∙ ap (sets (x .args .out .now) 0) (sym e))
 
 put-products-requires : tie.Need-put-products-requires
 put-products-requires c κs =
-    let x = c .before .before .before .before .before .before .before  in
+    let x = c .before .before .before .before .before .before .before in
     let k = c .before .before .before .before .put-base .kept .0 in
     let l = types-length (x .args .parts) (x .args .undriven) (x .pre .0) in
     let r = x .pre .3 in
@@ -42,7 +42,7 @@ put-products-requires c κs =
 
 put-arrows-requires : tie.Need-put-arrows-requires
 put-arrows-requires c κs =
-    let x = c .before .before .before .before .before .before .before .before .before .before .before  in
+    let x = c .before .before .before .before .before .before .before .before .before .before .before in
     let k = c .before .before .before .before .before .before .before .before .put-base .kept .0 in
     let p = c .before .before .before .put-products .kept .0 in
     let l = types-length (x .args .parts) (x .args .undriven) (x .pre .0) in
@@ -55,7 +55,7 @@ put-arrows-requires c κs =
 
 returns-2 : tie.Need-returns-2
 returns-2 c =
-    let x = c .before .before .before .before .before .before .before .before .before .before .before .before .before .before  in
+    let x = c .before .before .before .before .before .before .before .before .before .before .before .before .before .before in
     let s = x .pre .0 in
     let two : 2 ≤ x .args .parts = omega arith in
     let w = arrows-all (x .args .parts) (x .args .undriven) two in (
