@@ -6,3 +6,4 @@ pub mod TermLaws
 pub mod WriteLaws
 pub mod SheetLaws
 pub mod AnswerLaws
+pub mod Determined
