@@ -1,0 +1,74 @@
+-- What a caller knows of the bytes of a netlist that was checked (document 02, L11). Assumes nothing.
+use Prim.Native.Nat.{ℕ, _+_, _*_, _<_, _≤_}
+use mathlib.Core.Path.{_≡_}
+use mathlib.Core.Bool.{Bool}
+use mathlib.Core.List.{List, [], _∷_}
+use lib.ListN.{length, getD}
+use Rattle.calculus.specs.Answer.{Answer, good, refused, refuse, _>>=_}
+use Rattle.calculus.specs.Terms.{partAt}
+use Rattle.calculus.specs.Net.{Element, point, part, Net, element, wire, pin}
+use Rattle.calculus.specs.NetRead.{Front, item, ended, broken, readNet}
+use Rattle.calculus.specs.Record.{All}
+use Rattle.foreign_theorems.specs.Foreign.{Accepts}
+use Rattle.back_theorems.specs.Back.{gates, openIns}
+use Rattle.back_theorems.specs.Returned.{noPoint}
+use Rattle.back_theorems.specs.Promises.{PartOnly}
+
+-- the netlist that bytes stand for; an empty one where they are none
+abbrev pub orNone : Answer Net → Net
+orNone (good m) = m
+orNone (refused why) = record { elements = []; wires = []; pins = [] }
+
+unfoldable pub netHere : List ℕ → Net
+netHere s = orNone (readNet s)
+
+-- bytes that the check accepts
+pub record Accepted (s : List ℕ) : Type 0 where
+  pub told : Bool
+  pub accepts : Accepts told s
+
+-- .. and whose elements are n parts
+pub record OfParts (s : List ℕ) (n : ℕ) : Type 0 where
+  pub accepted : Accepted s
+  pub parts : All PartOnly (netHere s .elements)
+  pub count : n ≡ length (netHere s .elements)
+
+-- .. one of them at place r
+pub record PartHere (s : List ℕ) (r : ℕ) : Type 0 where
+  pub n : ℕ
+  pub of : OfParts s n
+  pub low : r < n
+
+-- the parts, or 25 for the first point
+abbrev pub partsOr25 : List Element → Answer ℕ
+partsOr25 es = do
+  _ ← noPoint es 0
+  good (length es)
+
+-- what stands behind n parts, at an offset, ends them
+abbrev pub endOf : Front → ℕ → ℕ → Answer ℕ
+endOf (item (element (point i))) n at = refuse 25 at
+endOf (item (element (part p i))) n at = good n
+endOf (item (wire w)) n at = good n
+endOf (item (pin t)) n at = good n
+endOf ended n at = good n
+endOf broken n at = good n
+
+-- the inputs of all elements
+abbrev pub inputsIn : List Element → ℕ
+inputsIn [] = 0
+inputsIn (point i ∷ es) = 1 + inputsIn es
+inputsIn (part p i ∷ es) = partAt p .inputs + inputsIn es
+
+-- what is counted of a netlist
+pub record Counted (s : List ℕ) (k inputs : ℕ) : Type 0 where
+  pub undriven : k ≡ openIns (gates (netHere s))
+  pub all : inputs ≡ inputsIn (netHere s .elements)
+
+-- a netlist within the limits, with its counts
+pub record Limited (s : List ℕ) (n k : ℕ) : Type 0 where
+  pub of : OfParts s n
+  pub some : 1 ≤ n
+  pub most : n ≤ 16
+  pub undriven : k ≡ openIns (gates (netHere s))
+  pub few : k ≤ 24

@@ -1,0 +1,5 @@
+pub mod Gates
+pub mod Rows
+pub mod Room
+pub mod Said
+pub mod Answered

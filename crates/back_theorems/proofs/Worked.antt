@@ -1,0 +1,13 @@
+-- The definition, run over the netlists that were worked out by hand. Assumes nothing.
+use mathlib.Core.Path.{_≡_, refl}
+use mathlib.Core.List.{map}
+use Rattle.calculus.specs.Write.{recordBytes, sheetBytes}
+use Rattle.calculus.specs.NetRead.{itemAt, itemsFrom, readNet}
+use Rattle.foreign_theorems.specs.Foreign.{check}
+use Rattle.back_theorems.specs.Back.{backSheet}
+use Rattle.back_theorems.specs.Returned.{returned}
+use Rattle.back_theorems.specs.Worked.{table, answers}
+
+pub worked-backs : map answers table ≡ table
+unfolding table returned check readNet itemsFrom itemAt backSheet sheetBytes recordBytes
+worked-backs = refl

@@ -1,0 +1,4 @@
+pub mod Back
+pub mod Returned
+pub mod Promises
+pub mod Worked
