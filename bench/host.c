@@ -2,7 +2,8 @@
    It is compiled for the archive's processor, and runs under an emulator where that isn't ours.
    Arguments: file descriptor, size, page size, then the offsets of the pages that nobody may touch.
    Each request is eight numbers of 64 bits: what to do (0 translate, 1 stretch, 2 translate on a
-   painted stack), then the parameters, offsets for pointers, 1 for the lean netlist.
+   painted stack), then the parameters, offsets for pointers, the wishes one bit each: 1 for the lean
+   netlist, 2 for plain kinds.
    The answer is two numbers: what the call returned, and the bytes of stack it wrote on. */
 #define _GNU_SOURCE
 #include <stdbool.h>
@@ -14,7 +15,7 @@
 #include <ucontext.h>
 
 uint64_t deltawobble_translate(const uint8_t *sheet, size_t sheet_len, uint8_t *out, size_t out_len,
-                               uint16_t *work, size_t work_len, bool lean);
+                               uint16_t *work, size_t work_len, bool lean, bool plain);
 uint64_t deltawobble_stretch(const uint8_t *sheet, size_t sheet_len, size_t node);
 
 enum { STACK = 1 << 20, PAINT = 0xA5 };
@@ -27,7 +28,7 @@ static ucontext_t here, there;
 
 static uint64_t translate(void) {
     return deltawobble_translate(base + request[1], request[2], base + request[3], request[4],
-                                 (uint16_t *)(base + request[5]), request[6], request[7] & 1);
+                                 (uint16_t *)(base + request[5]), request[6], request[7] & 1, request[7] >> 1 & 1);
 }
 
 static void on_painted_stack(void) {

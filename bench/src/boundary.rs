@@ -19,6 +19,7 @@ pub mod linked {
             work: *mut u16,
             work_len: usize,
             lean: bool,
+            plain: bool,
         ) -> u64;
         pub fn deltawobble_stretch(sheet: *const u8, sheet_len: usize, node: usize) -> u64;
     }
@@ -35,6 +36,7 @@ pub mod linked {
                 work_at,
                 work.len(),
                 wish.lean,
+                wish.plain,
             )
         }
     }
@@ -113,7 +115,7 @@ impl Host {
             output.length as u64,
             memory.offset as u64,
             memory.length as u64 / 2,
-            u64::from(wish.lean),
+            u64::from(wish.lean) | u64::from(wish.plain) << 1,
         ]
     }
 
@@ -154,6 +156,7 @@ impl Boundary {
                     fences.address(call.memory).cast(),
                     call.memory.length / 2,
                     call.wish.lean,
+                    call.wish.plain,
                 )
             }),
             #[cfg(not(linked))]

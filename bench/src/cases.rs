@@ -21,9 +21,10 @@ pub struct Try {
     pub nodes: Vec<usize>,
 }
 
-/// Full or lean. The boundary writes plain kinds.
-pub fn wishes() -> [Wish; 2] {
-    [false, true].map(|lean| Wish { lean, plain: true, card: false })
+/// Full or lean, in plain kinds or with nodes.
+pub fn wishes() -> [Wish; 4] {
+    let kinds = [(false, true), (true, true), (false, false), (true, false)];
+    kinds.map(|(lean, plain)| Wish { lean, plain, card: false })
 }
 
 /// Each named case as it stands, by every wish; a sheet's first case also at its netlists' lengths.

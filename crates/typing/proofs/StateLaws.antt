@@ -31,7 +31,8 @@ use Rattle.typing.specs.declared.Verdict.{Verdict}
 use Rattle.typing.specs.declared.Verdict.the-variants as verdict
 use Rattle.typing.specs.declared.Refusal.{Refusal}
 use Rattle.typing.specs.declared.Checked.{Checked}
-use Rattle.typing.specs.Steps.{Types, leftOf, rightOf, constantOf, leafOf, openingOf, bindingOf, opened, enterOf, wantedOf, usedUp, leaveOne, entersOf, halvesIn, halvesOf, betweenOf, joinedOf, closesOf, leaveTwo}
+use Rattle.records.specs.TypeNumbers.{leftNo, rightNo}
+use Rattle.typing.specs.Steps.{Types, constantOf, leafOf, openingOf, bindingOf, opened, enterOf, wantedOf, usedUp, leaveOne, entersOf, halvesIn, halvesOf, betweenOf, joinedOf, closesOf, leaveTwo}
 use Rattle.typing.specs.Verdicts.{checked, halves, FollowsOn, Follows}
 use Rattle.typing.specs.Fits.{Counts}
 use Rattle.typing.proofs.VerdictLaws.{foundAt, follows-on, follows-at}
@@ -166,7 +167,7 @@ module _ (b : Binders) (L : Long b) (c : ℕ) (r : c + 1 < 128) where
 
   halves-are : (R : Types) (w : Rule) (u : ℕ) {q : Halves} {m : ℕ} → q ≡ halvesIn w u (R u) → m ≡ closesOf w → stackOf (halvedTo b c q m) ≡ halvesOf R w u (inScope b c)
   unfolding closesOf halvesIn
-  halves-are R w u {q} e h = rw (h, e) (halves-at (isProjection w) (isNaming w) u (leftOf (R u)) (rightOf (R u)))
+  halves-are R w u {q} e h = rw (h, e) (halves-at (isProjection w) (isNaming w) u (leftNo (R u)) (rightNo (R u)))
 
 -- two at most
 pub closes-few : (w : Rule) → closesOf w ≤ 2

@@ -14,3 +14,4 @@ pub mod CountLaws
 pub mod FullLaws
 pub mod Accepting
 pub mod Determined
+pub mod Drivers

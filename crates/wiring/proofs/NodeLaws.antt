@@ -16,30 +16,32 @@ use Rattle.records.specs.Heads.{nodeOf}
 use Rattle.records.specs.Rules.{isConstant}
 use Rattle.records.specs.Forms.{recIn}
 use Rattle.sheet_theorems.proofs.Standing.{fun-body, lfun-body, fix-body, app-function, app-argument, lapp-function, lapp-argument, pair-first, pair-second, proj-pair, proj-body, name-first, name-body}
-use Rattle.circuit_theorems.proofs.Drivers.{Fits, Env, env-many, env-once, env-away, split-env, binder-fits, halves, term-driven}
-use Rattle.wiring.specs.Sides.{sidesOf, Knows}
+use Rattle.circuit_theorems.proofs.Drivers.{split-env, binder-fits, halves, term-driven}
+use Rattle.circuit_theorems.specs.Scope.{Suits, Env, env-many, env-once, env-away}
+use Rattle.records.specs.TypeNumbers.{leftNo, rightNo}
+use Rattle.wiring.specs.Sides.{Knows}
 use Rattle.wiring.specs.Nodes.{funOf, Binding, Twofold, Variable, Constant}
 
 -- ---- the sides of a type, by its record
 
-pub record Sided (Θ : Table) (t l r : ℕ) : Type 0 where
+pub record SidesAt (Θ : Table) (t l r : ℕ) : Type 0 where
   pub left-below : l < t
   pub right-below : r < t
   pub left : leftOf (tree Θ t) ≡ tree Θ l
   pub right : rightOf (tree Θ t) ≡ tree Θ r
 
-sided-of : (Θ : Table) (t : ℕ) (q : TyRec) → Agrees Θ q (tree Θ t) → Below t q → (tree Θ t ≡ bit → ⊥) → Sided Θ t (sidesOf q .left) (sidesOf q .right)
+sided-of : (Θ : Table) (t : ℕ) (q : TyRec) → Agrees Θ q (tree Θ t) → Below t q → (tree Θ t ≡ bit → ⊥) → SidesAt Θ t (leftNo q) (rightNo q)
 sided-of Θ t rec01 a b f = absurd (f a)
 sided-of Θ t (rec02 l r) a b f = record { left-below = b .0; right-below = b .1; left = ap leftOf (a .0); right = ap rightOf (a .0) }
 sided-of Θ t (rec03 l r) a b f = record { left-below = b .0; right-below = b .1; left = ap leftOf (a .0); right = ap rightOf (a .0) }
 sided-of Θ t (rec04 l r) a b f = record { left-below = b .0; right-below = b .1; left = ap leftOf (a .0); right = ap rightOf (a .0) }
 
-pub sided-at : {s sizes : List ℕ} {Θ : Table} → Knows s sizes Θ → (t : ℕ) → t < length Θ → (tree Θ t ≡ bit → ⊥) → Sided Θ t (sidesOf (recIn s t) .left) (sidesOf (recIn s t) .right)
+pub sided-at : {s sizes : List ℕ} {Θ : Table} → Knows s sizes Θ → (t : ℕ) → t < length Θ → (tree Θ t ≡ bit → ⊥) → SidesAt Θ t (leftNo (recIn s t)) (rightNo (recIn s t))
 sided-at {Θ = Θ} K t h f = rw (K .records t h) (sided-of Θ t (recAt Θ t) (K .ok .agrees t) (K .ok .earlier t h) f)
 
 -- ---- binders' interfaces and contexts
 
-bound-fits : (τ α : Ty) (n : ℕ) → α ≡ τ → Fits τ (binder α n)
+bound-fits : (τ α : Ty) (n : ℕ) → α ≡ τ → Suits τ (binder α n)
 bound-fits τ α n e = rw e (binder-fits τ n)
 
 not-arrow : {τ θ ρ : Ty} → τ ≡ arrow θ ρ → τ ≡ bit → ⊥
@@ -65,7 +67,7 @@ module _ {s sizes : List ℕ} {E : Edition} {Θ : Table} (K : Knows s sizes Θ) 
   binding (LVar x) st rg v h = absurd (omega arith)
   binding (→I {t = t} {e = e} {θ = θ} {τ = τ} eτ sh d) st rg v h =
       let S = sided-at K t (rg .0) (not-arrow eτ) in
-      let b = sidesOf (recIn s t) .left in
+      let b = leftNo (recIn s t) in
       let eb : tree Θ b ≡ θ = sym (S .left) ∙ ap leftOf eτ in
       record {
         body = e;
@@ -86,7 +88,7 @@ module _ {s sizes : List ℕ} {E : Edition} {Θ : Table} (K : Knows s sizes Θ) 
       }
   binding (⊸I {t = t} {e = e} {κ = κ} {τ = τ} eτ ar d) st rg v h =
       let S = sided-at K t (rg .0) (not-lolli eτ) in
-      let b = sidesOf (recIn s t) .left in
+      let b = leftNo (recIn s t) in
       let eb : tree Θ b ≡ κ = sym (S .left) ∙ ap leftOf eτ in
       record {
         body = e;

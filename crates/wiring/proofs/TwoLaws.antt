@@ -18,18 +18,19 @@ use Rattle.records.specs.Forms.{recIn}
 use Rattle.records.specs.Rules.{isProjection, isNaming}
 use Rattle.records.specs.declared.Rule.{Rule}
 use Rattle.records.specs.declared.Node.{Node}
-use Rattle.memory.specs.Map.{region, code, kindOf}
+use Rattle.memory.specs.Map.{bindersAt, region, code, kindOf}
 use Rattle.sheet_theorems.proofs.Standing.{stands-in}
 use Rattle.circuit_theorems.proofs.Bounds.{next-is, made-side, made-type}
-use Rattle.circuit_theorems.proofs.Drivers.{dirs, term-driven}
+use Rattle.circuit_theorems.proofs.Drivers.{term-driven}
+use Rattle.circuit_theorems.specs.Scope.{dirs}
 use Rattle.wiring.specs.declared.walk.State.{State}
 use Rattle.wiring.specs.declared.walk.Built.{Built}
-use Rattle.wiring.specs.Sides.{sidesOf}
+use Rattle.records.specs.TypeNumbers.{leftNo, rightNo}
 use Rattle.wiring.specs.Store.{Store, Holds, atBinders, target, after}
 use Rattle.wiring.specs.Asks.{BoundAt, Binds, Asks, madeOf, Leaves, Here, halved, namedIn, byBinding, betweenIn, middle, Between}
 use Rattle.wiring.specs.Nodes.{Applied, Paired, Halved, Projected, Twofold}
 use Rattle.wiring.proofs.StoreLaws.{push-binders}
-use Rattle.wiring.proofs.NodeLaws.{Sided, sided-at, twofold}
+use Rattle.wiring.proofs.NodeLaws.{SidesAt, sided-at, twofold}
 use Rattle.wiring.proofs.BindLaws.{binds-grow, binds-push}
 
 depth-some : (e : Term) → 0 < depth e
@@ -168,10 +169,10 @@ module _ {s sizes w : List ℕ} {node : Node} {st : State} (q : Here s sizes w n
     -- ---- between
 
     abbrev pub left : ℕ
-    left = sidesOf (recIn s (f .ty)) .left
+    left = leftNo (recIn s (f .ty))
 
     abbrev pub right : ℕ
-    right = sidesOf (recIn s (f .ty)) .right
+    right = rightNo (recIn s (f .ty))
 
     abbrev pub bound : List ℕ
     bound = Q .store .binders ++ left ∷ (2 * st .top) ∷ []
@@ -195,14 +196,14 @@ module _ {s sizes w : List ℕ} {node : Node} {st : State} (q : Here s sizes w n
     unfolding halved
     halved-holds =
         let c = Q .binds .count in
-        let P = push-binders first-holds (left ∷ (2 * st .top) ∷ []) (27392 + 2 * st .scope) (omega arith) (omega (arith, scope-few)) in
-        push-binders P (right ∷ (2 * (st .top + getD sizes left 0)) ∷ []) (27392 + 2 * (st .scope + 1))
+        let P = push-binders first-holds (left ∷ (2 * st .top) ∷ []) (bindersAt + 2 * st .scope) (omega arith) (omega (arith, scope-few)) in
+        push-binders P (right ∷ (2 * (st .top + getD sizes left 0)) ∷ []) (bindersAt + 2 * (st .scope + 1))
         (omega (arith, length-append (Q .store .binders) (left ∷ (2 * st .top) ∷ []))) (omega (arith, scope-few, length-append (Q .store .binders) (left ∷ (2 * st .top) ∷ [])))
 
     named-holds : Holds (namedIn w₁ (f .ty) (st .scope) (st .top)) (atBinders (after (Q .store) x) one-bound)
     named-holds =
         let c = Q .binds .count in
-        push-binders first-holds (f .ty ∷ (2 * st .top) ∷ []) (27392 + 2 * st .scope) (omega arith) (omega (arith, scope-few))
+        push-binders first-holds (f .ty ∷ (2 * st .top) ∷ []) (bindersAt + 2 * st .scope) (omega arith) (omega (arith, scope-few))
 
     pub between-holds : (w₂ : List ℕ) → w₂ ≡ betweenIn s sizes w₁ node st f → Holds w₂ store₂
     unfolding betweenIn
@@ -218,7 +219,7 @@ module _ {s sizes w : List ℕ} {node : Node} {st : State} (q : Here s sizes w n
 
     -- the halves of a projection
     module _ (z : Halved (Q .edition) Θ s (q .at) n (Q .env) (Q .term) (Q .type) x y (both .type) (both .env₂) (both .type₂)) where
-      sided : Sided Θ (f .ty) left right
+      sided : SidesAt Θ (f .ty) left right
       sided = sided-at (Q .knows) (f .ty) (first-left .1) (λ e. z .product (sym (first-left .2) ∙ e))
 
       left-is : leftOf (x .type) ≡ tree Θ left

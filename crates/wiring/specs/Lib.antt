@@ -5,3 +5,4 @@ pub mod Asks
 pub mod Nodes
 pub mod Count
 pub mod Whole
+pub mod Drivers

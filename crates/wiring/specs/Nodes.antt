@@ -13,8 +13,9 @@ use Rattle.calculus.specs.Rules.{Ctx, Typed}
 use Rattle.calculus.specs.Net.{turns, points, inSide, Bound, Made, leftOf, rightOf, binder, madeApp, madePair, firstHalf, secondHalf, wholeOf, madeProj, madeFix, madeVar, madeCon, unbound, make}
 use Rattle.records.specs.Heads.{nodeOf}
 use Rattle.records.specs.Rules.{isPair, isProjection, isFixedPoint, isNaming}
-use Rattle.circuit_theorems.proofs.Drivers.{Env}
-use Rattle.wiring.specs.Asks.{boundIn, ofBody}
+use Rattle.circuit_theorems.specs.Scope.{Env}
+use Rattle.records.specs.TypeNumbers.{boundIn}
+use Rattle.wiring.specs.Asks.{ofBody}
 
 -- a function of type τ that binds α, around its body
 abbrev pub funOf : Ty → Ty → ℕ → Made → Made
