@@ -1,2 +1,5 @@
 pub mod CardLaws
 pub mod Card
+pub mod Scanning
+pub mod VerilogRead
+pub mod VerilogLength
