@@ -3,3 +3,4 @@ pub mod Card
 pub mod Scanning
 pub mod VerilogRead
 pub mod VerilogLength
+pub mod Verilog

@@ -26,6 +26,11 @@ pub record KeptRing (m : Net) (i : ℕ) : Type 0 where
   pub kept : Among (point i) (m .elements)
   pub inner : isPin (m .pins) i ≡ false
 
+-- the lowest input of one
+pub record LowestRing (m : Net) (i : ℕ) : Type 0 where
+  pub ring : KeptRing m i
+  pub lowest : (j : ℕ) → KeptRing m j → i ≤ j
+
 -- a part's output that drives no wire and is no pin
 pub record Unread (m : Net) (o : ℕ) : Type 0 where
   pub part-number : ℕ
