@@ -18,6 +18,10 @@ enum {
 uint64_t deltawobble_translate(const uint8_t *sheet, size_t sheet_len, uint8_t *out, size_t out_len,
                                uint16_t *work, size_t work_len, bool lean, bool plain);
 
+/* Writes the lean netlist of a sheet as one module of structural Verilog; the result likewise. */
+uint64_t deltawobble_verilog(const uint8_t *sheet, size_t sheet_len, uint8_t *out, size_t out_len,
+                             uint16_t *work, size_t work_len);
+
 /* The stretch of the sheet that holds a node: start in the upper half, length in the lower. */
 uint64_t deltawobble_stretch(const uint8_t *sheet, size_t sheet_len, size_t node);
 #endif

@@ -3,6 +3,7 @@ use translation::Wish;
 ghost use mathlib.Core.Path.{_≡_};
 ghost use Rattle.calculus.specs.Stretch.{stretchOf};
 ghost use Rattle.calculus.specs.Translate.{call};
+ghost use Rattle.export_calculus.specs.Verilog.{verilogCall};
 ghost use Rattle.deltawobble.specs.Boundary.{Packs, packedStretch};
 
 // The netlist of a sheet. Bits 0 to 31 of the answer are the number of bytes written or the place, 32 to 39 the refusal's number, 0 for none,
@@ -18,6 +19,15 @@ pub extern "C" fn deltawobble_translate(
     ensures { λ r. ⌜ Packs r (now (out .exit)) (now (work .exit)) (call (record { lean = lean; plain = plain }) (now (sheet .entry)) (now (out .entry)) (now (work .entry))) ⌝ }
 {
     let answer = translation::translate(sheet, out, work, Wish { lean, plain });
+    translator::word(answer)
+}
+
+// The lean netlist of a sheet as a module of Verilog; the answer likewise.
+#[no_mangle]
+pub extern "C" fn deltawobble_verilog(sheet: &[u8], out: &mut [u8], work: &mut [u16]) -> u64
+    ensures { λ r. ⌜ Packs r (now (out .exit)) (now (work .exit)) (verilogCall (now (sheet .entry)) (now (out .entry)) (now (work .entry))) ⌝ }
+{
+    let answer = verilog::verilog(sheet, out, work);
     translator::word(answer)
 }
 
