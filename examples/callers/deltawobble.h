@@ -37,6 +37,10 @@ uint64_t deltawobble_batch(const uint8_t *sheets, size_t sheets_len, const uint3
    4,294,967,295 bytes: an offset from there on shows as that number. */
 uint64_t deltawobble_check(const uint8_t *net, size_t net_len, uint16_t *work, size_t work_len, bool lean);
 
+/* Writes the lean netlist of a sheet as one module of structural Verilog. */
+uint64_t deltawobble_verilog(const uint8_t *sheet, size_t sheet_len, uint8_t *out, size_t out_len,
+                             uint16_t *work, size_t work_len);
+
 /* The stretch of the sheet that holds a node: start in the upper half, length in the lower. */
 uint64_t deltawobble_stretch(const uint8_t *sheet, size_t sheet_len, size_t node);
 

@@ -9,6 +9,7 @@ ghost use Rattle.calculus.specs.Translate.{call};
 ghost use Rattle.batch.specs.Batch.{batchCall};
 ghost use Rattle.foreign_theorems.specs.Foreign.{checkCall};
 ghost use Rattle.trace_calculus.specs.Trace.{runCall};
+ghost use Rattle.export_calculus.specs.Verilog.{verilogCall};
 ghost use Rattle.deltawobble.specs.Boundary.{Packs, PacksBatch, PacksCheck, packedStretch};
 
 // The netlist of a sheet. Bits 0 to 31 of the answer are the number of bytes written or the place, 32 to 39 the refusal's number, 0 for none,
@@ -75,6 +76,15 @@ pub extern "C" fn deltawobble_run(
     ensures { λ r. ⌜ Packs r (now (out .exit)) (now (work .exit)) (runCall (now (sheet .entry)) (now (inputs .entry)) (now (starts .entry)) ticks (now (out .entry)) (now (work .entry))) ⌝ }
 {
     let answer = trace::run(sheet, inputs, starts, out, work, ticks);
+    translator::word(answer)
+}
+
+// The lean netlist of a sheet as a module of Verilog; the answer likewise.
+#[no_mangle]
+pub extern "C" fn deltawobble_verilog(sheet: &[u8], out: &mut [u8], work: &mut [u16]) -> u64
+    ensures { λ r. ⌜ Packs r (now (out .exit)) (now (work .exit)) (verilogCall (now (sheet .entry)) (now (out .entry)) (now (work .entry))) ⌝ }
+{
+    let answer = verilog::verilog(sheet, out, work);
     translator::word(answer)
 }
 

@@ -15,7 +15,7 @@ use Rattle.calculus.specs.Lean.{driver, isPin, root, keep, toInputs, toElement,
 use Rattle.calculus.specs.Record.{All}
 use Rattle.calculus.specs.Inputs.{tally, ins, madeAt, isOut}
 use Rattle.circuit_theorems.specs.Formed.{Shown}
-use Rattle.memory.specs.Map.{elementsAt, stackAt, makersAt, region, terminalOf, netIn}
+use Rattle.memory.specs.Map.{elementsAt, stackAt, makersAt, region, elementsFrom, terminalOf, netIn}
 use Rattle.netlist.specs.Said.{wire}
 use Rattle.netlist.specs.Elements.{afterAll}
 use Rattle.laws.proofs.Regions.{region-length, region-at}
@@ -123,6 +123,12 @@ module _ (w : List ℕ) (e k p : ℕ) (q : Whole w e k p) where
 
   abbrev js : List ℕ
   js = region w makersAt e
+
+  -- the lean netlist is what the tables tell
+  pub lean-net : lean m ≡ record { elements = keepIn w (elementsFrom ks 0); wires = wiresIn w (elementsFrom ks 0); pins = map (λ c. pinIn w (terminalOf c)) (region w stackAt p) }
+  unfolding lean netIn
+  lean-net =
+      rw (← keep-in (m .elements) (λ x t. t), ← wires-in (m .elements) (λ y h. h) (λ y t. t), ← pins-in (region w stackAt p) (q .ready .formed .shown))
 
   -- the rows, over the definition's elements, wires and pins
   rows-are : (plain : Bool) → written plain (lean m) (leanMakers m js) ≡ recordsOf plain (lean m .elements) (leanMakers m js) ++ (wireBytes (lean m .wires) ++ pinBytes (lean m .pins))

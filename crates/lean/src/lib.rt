@@ -13,6 +13,10 @@ mod sizes;
 mod table;
 mod write;
 
+// What the tables tell of one point and of one pin, for every other writer of the lean netlist.
+pub use table::is_kept;
+pub use write::lean_pin;
+
 // The root of every output.
 pub fn roots(work: &mut [u16], elements: usize, wires: usize, pins: usize)
     requires { ⌜ Ready (now work) elements wires pins ⌝ }

@@ -136,7 +136,7 @@ pub fn put_wires(work: &[u16], elements: usize, out: &mut [u8], from: usize) -> 
 }
 
 // A pin, with an output's root in the output's place.
-fn lean_pin(work: &[u16], coded: u16) -> Terminal
+pub fn lean_pin(work: &[u16], coded: u16) -> Terminal
     requires { ⌜ (memorySize ≤ length (now work)) × LowPin (terminalOf coded) ⌝ }
     ensures { λ r. ⌜ saidTerminal r ≡ pinIn (now (work .entry)) (terminalOf coded) ⌝ }
 {

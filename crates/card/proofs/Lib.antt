@@ -1,0 +1,4 @@
+pub mod MarkLaws
+pub mod UnreadLaws
+pub mod JudgeLaws
+pub mod Determined

@@ -1,0 +1,73 @@
+-- The length of the text, by counting lines: a form has one length, whatever its numbers. Assumes nothing.
+use Prim.Native.Nat.{ℕ, _+_, _*_}
+use mathlib.Core.Path.{_≡_, refl, ap}
+use mathlib.Core.Bool.{Bool, true, false, cond}
+use mathlib.Core.List.{List, [], _∷_, _++_, map}
+use native.Mathlib.Omega.{arith}
+use lib.ListN.{length, getD, length-append}
+use Rattle.calculus.specs.Net.{Interface, inp, out, Wire, Net}
+use Rattle.export_calculus.specs.Verilog.{elementForms, portForms, assignForms, header, portsEnd, moduleEnd, fourDigits, isMark, pick, letter, filled, Line, lineText, linesText, lineOfElement, lineOfWire, linesOfPins, linesOfPorts, moduleText}
+
+letter-length : (c x y z : ℕ) → length (letter c x y z) ≡ length (letter c 0 0 0)
+unfolding letter
+letter-length c x y z = by (isMark c)
+  where
+    by : (b : Bool) → length (cond b (fourDigits (pick c x y z)) (c ∷ [])) ≡ length (cond b (fourDigits (pick c 0 0 0)) (c ∷ []))
+    by true = refl
+    by false = refl
+
+filled-length : (f : List ℕ) (x y z : ℕ) → length (filled f x y z) ≡ length (filled f 0 0 0)
+filled-length [] x y z = refl
+filled-length (c ∷ f) x y z =
+    omega (arith, letter-length c x y z, filled-length f x y z, length-append (letter c x y z) (filled f x y z), length-append (letter c 0 0 0) (filled f 0 0 0))
+
+-- the length of a list of lines
+abbrev pub sizes : List (List ℕ) → List Line → ℕ
+sizes fs [] = 0
+sizes fs (l ∷ ls) = length (filled (getD fs (l .form) []) 0 0 0) + sizes fs ls
+
+texts-size : (fs : List (List ℕ)) (ls : List Line) → length (linesText fs ls) ≡ sizes fs ls
+unfolding lineText
+texts-size fs [] = refl
+texts-size fs (l ∷ ls) =
+    omega (arith, filled-length (getD fs (l .form) []) (l .x) (l .y) (l .z), texts-size fs ls, length-append (lineText fs l) (linesText fs ls))
+
+wires-size : (ws : List Wire) → sizes assignForms (map lineOfWire ws) ≡ 22 * length ws
+unfolding assignForms letter
+wires-size [] = refl
+wires-size (w ∷ ws) = omega (arith, wires-size ws)
+
+pins-size : (k : ℕ) (ts : Interface) → sizes assignForms (linesOfPins k ts) ≡ 22 * length ts
+unfolding assignForms letter
+pins-size k [] = refl
+pins-size k (inp i ∷ ts) = omega (arith, pins-size (k + 1) ts)
+pins-size k (out o ∷ ts) = omega (arith, pins-size (k + 1) ts)
+
+fixed : length header + length portsEnd + length moduleEnd ≡ 44
+unfolding header portsEnd moduleEnd
+fixed = refl
+
+pub verilog-length : (m : Net) → length (moduleText m)
+    ≡ 44 + sizes portForms (linesOfPorts 0 (m .pins)) + sizes elementForms (map lineOfElement (m .elements)) + 22 * length (m .wires) + 22 * length (m .pins)
+unfolding moduleText
+verilog-length m =
+    let p = linesText portForms (linesOfPorts 0 (m .pins)) in
+    let e = linesText elementForms (map lineOfElement (m .elements)) in
+    let w = linesText assignForms (map lineOfWire (m .wires)) in
+    let a = linesText assignForms (linesOfPins 0 (m .pins)) in
+    omega (
+      arith,
+      fixed,
+      length-append header (p ++ (portsEnd ++ (e ++ (w ++ (a ++ moduleEnd))))),
+      length-append p (portsEnd ++ (e ++ (w ++ (a ++ moduleEnd)))),
+      length-append portsEnd (e ++ (w ++ (a ++ moduleEnd))),
+      length-append e (w ++ (a ++ moduleEnd)),
+      length-append w (a ++ moduleEnd),
+      length-append a moduleEnd,
+      texts-size portForms (linesOfPorts 0 (m .pins)),
+      texts-size elementForms (map lineOfElement (m .elements)),
+      texts-size assignForms (map lineOfWire (m .wires)),
+      texts-size assignForms (linesOfPins 0 (m .pins)),
+      wires-size (m .wires),
+      pins-size 0 (m .pins),
+    )

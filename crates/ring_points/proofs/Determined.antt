@@ -1,0 +1,8 @@
+-- The contract of the public function determines what it answers: two results that it allows for a call are equal. Assumes nothing.
+use mathlib.Core.Path.{sym, _∙_}
+use Rattle.laws.proofs.OneResult.{Result}
+use Rattle.ring_points.proofs.lowest.Kinds as lowest
+use Rattle.ring_points.proofs.lowest.Reads as lowest-reads
+
+pub lowest-determined : Result lowest.ps lowest.r lowest-reads.Post
+lowest-determined κs a x y s t f g = f ∙ sym g

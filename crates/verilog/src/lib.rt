@@ -1,0 +1,100 @@
+// The call that writes the lean netlist of a sheet as a module of Verilog.
+mod form;
+mod line;
+mod walk;
+
+use translator::Answer;
+use translator::Made;
+use typing::Refusal;
+use wiring::Counts;
+ghost use mathlib.Core.Path.{_≡_};
+ghost use lib.ListN.{length};
+ghost use Rattle.calculus.specs.Lean.{lean};
+ghost use Rattle.calculus.specs.NetRead.{Known};
+ghost use Rattle.calculus.specs.Record.{All};
+ghost use Rattle.export_calculus.specs.Verilog.{moduleText, exported, export, verilogCall};
+ghost use Rattle.memory.specs.Map.{netIn, Ready};
+ghost use Rattle.lines.specs.Wrote.{Wrote};
+ghost use Rattle.translator.specs.Made.{Keeps};
+ghost use Rattle.translator.specs.Said.{Says, called};
+ghost use Rattle.verilog.specs.InMemory.{Leaned, ringKept};
+
+// 18, at a kept ring point's input.
+fn ring_kept(input: usize) -> Answer
+    ensures { λ r. ⌜ r ≡ ringKept input ⌝ }
+{
+    Answer::Refused(Refusal {
+        number: 18,
+        place: input,
+        wanted: 0,
+        found: 0,
+    })
+}
+
+// The module's text, stored as far as the output reaches, and its length. So an output of any length tells the length, and one that is
+// long enough has the whole text.
+fn put_module(work: &[u16], out: &mut [u8], elements: usize, wires: usize, pins: usize) -> usize
+    requires { ⌜ Leaned (now work) elements wires pins ⌝ }
+    ensures { λ r. ⌜ Wrote (now (out .entry)) 0 (moduleText (lean (netIn (now (work .entry)) elements wires pins))) (now (out .exit)) r ⌝ }
+{
+    let ports = form::put_form(out, 0, b"module circuit (\n  input clock", 0, 0, 0);
+    let closing = walk::put_ports(work, pins, out, ports);
+    let first = form::put_form(out, closing, b"\n);\n", 0, 0, 0);
+    let second = walk::put_elements(work, elements, out, first);
+    let third = walk::put_wires(work, elements, out, second);
+    let last = walk::put_pins(work, pins, out, third);
+    form::put_form(out, last, b"endmodule\n", 0, 0, 0)
+}
+
+// Of the netlist that stands in the working memory with its roots: 18 where a ring point is kept, then 17 with the length needed where the
+// output is shorter, or the module at the start of the output. The first pass only tells the length.
+fn export_lean(work: &[u16], out: &mut [u8], elements: usize, wires: usize, pins: usize) -> Answer
+    requires { ⌜ Leaned (now work) elements wires pins ⌝ }
+    ensures { λ r. ⌜ Says r (now (out .entry)) (now (out .exit)) (exported (netIn (now (work .entry)) elements wires pins) (length (now (out .entry)))) ⌝ }
+{
+    let place = ring_points::lowest(work, elements, wires, pins);
+    if place < 8192 {
+        return ring_kept(place);
+    }
+    let mut none = [0u8; 1];
+    let n = put_module(work, &mut none, elements, wires, pins);
+    if out.len() < n {
+        return translator::too_short(n);
+    }
+    let written = put_module(work, out, elements, wires, pins);
+    Answer::Written(written)
+}
+
+// .. with its roots still to be found.
+fn export_net(work: &mut [u16], out: &mut [u8], counts: Counts) -> Answer
+    requires { ⌜ (Ready (now work) (counts .elements) (counts .wires) (counts .pins)) × (All Known (netIn (now work) (counts .elements) (counts .wires) (counts .pins) .elements)) ⌝ }
+    ensures { λ r. ⌜ (Says r (now (out .entry)) (now (out .exit)) (exported (netIn (now (work .entry)) (counts .elements) (counts .wires) (counts .pins)) (length (now (out .entry)))))
+        × (Keeps (now (work .entry)) (now (work .exit))) ⌝ }
+{
+    let elements = counts.elements;
+    let wires = counts.wires;
+    let pins = counts.pins;
+    lean::roots(work, elements, wires, pins);
+    export_lean(&work[..], out, elements, wires, pins)
+}
+
+// The netlist is made and exported. The working memory is not yet cleared.
+fn export_sheet(sheet: &[u8], out: &mut [u8], work: &mut [u16]) -> Answer
+    ensures { λ r. ⌜ (Says r (now (out .entry)) (now (out .exit)) (export (length (now (work .entry))) (now (sheet .entry)) (length (now (out .entry)))))
+        × (Keeps (now (work .entry)) (now (work .exit))) ⌝ }
+{
+    match translator::make(sheet, work, true) {
+        Made::Refused(refusal) => Answer::Refused(refusal),
+        Made::Net(counts) => export_net(work, out, counts),
+    }
+}
+
+// The lean netlist of a sheet is written to the start of the output as a module of Verilog; or the sheet is refused, and the output stays.
+// The working memory is left as by every call.
+pub fn verilog(sheet: &[u8], out: &mut [u8], work: &mut [u16]) -> Answer
+    ensures { λ r. ⌜ called r (now (out .exit)) (now (work .exit)) ≡ verilogCall (now (sheet .entry)) (now (out .entry)) (now (work .entry)) ⌝ }
+{
+    let r = export_sheet(sheet, out, work);
+    translator::clear(work);
+    r
+}

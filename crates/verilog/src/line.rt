@@ -1,0 +1,74 @@
+// The lines of the module, by their forms.
+use crate::form;
+use netlist::In;
+use netlist::Out;
+use netlist::Terminal;
+ghost use mathlib.Core.Path.{_≡_};
+ghost use Prim.Native.Nat.{_≤_, _<_};
+ghost use Rattle.export_calculus.specs.Verilog.{elementForms, portForms, assignForms, lineText, kindLine, lineOfWire, lineOfPin, lineOfPort};
+ghost use Rattle.netlist.specs.Said.{saidTerminal, wire};
+ghost use Rattle.lines.specs.Wrote.{Wrote};
+
+// An element of a kind whose first terminal is given: its nets, and what drives its output.
+pub fn put_element(out: &mut [u8], at: usize, kind: u16, first: u16) -> usize
+    requires { ⌜ (kind < 8) × (first ≤ 8192) × (at ≤ 4294967296) ⌝ }
+    ensures { λ r. ⌜ Wrote (now (out .entry)) at (lineText elementForms (kindLine kind first)) (now (out .exit)) r ⌝ }
+{
+    let n = first as usize;
+    let y = n + 1;
+    let z = n + 2;
+    match kind {
+        0 => form::put_form(out, at, b"wire tX;\nassign tX = 1'b0;\n", n, y, z),
+        1 => form::put_form(
+            out,
+            at,
+            b"wire tX;\nreg tY;\nalways @(posedge clock) tY <= tX;\n",
+            n,
+            y,
+            z,
+        ),
+        2 => form::put_form(out, at, b"wire tX, tY, tZ;\nand (tZ, tX, tY);\n", n, y, z),
+        3 => form::put_form(out, at, b"wire tX, tY, tZ;\nor (tZ, tX, tY);\n", n, y, z),
+        4 => form::put_form(out, at, b"wire tX, tY, tZ;\nxor (tZ, tX, tY);\n", n, y, z),
+        5 => form::put_form(out, at, b"wire tX, tY;\nnot (tY, tX);\n", n, y, z),
+        6 => form::put_form(out, at, b"wire tX;\nassign tX = 1'b1;\n", n, y, z),
+        _ => form::put_form(out, at, b"wire tX, tY;\nassign tY = tX;\n", n, y, z),
+    }
+}
+
+// A wire.
+pub fn put_wire(out: &mut [u8], at: usize, from: Out, to: In) -> usize
+    requires { ⌜ at ≤ 4294967296 ⌝ }
+    ensures { λ r. ⌜ Wrote (now (out .entry)) at (lineText assignForms (lineOfWire (wire (from .0) (to .0)))) (now (out .exit)) r ⌝ }
+{
+    form::put_form(
+        out,
+        at,
+        b"assign tX = tY;\n",
+        to.0 as usize,
+        from.0 as usize,
+        0,
+    )
+}
+
+// The pin at position k.
+pub fn put_pin(out: &mut [u8], at: usize, k: usize, t: Terminal) -> usize
+    requires { ⌜ at ≤ 4294967296 ⌝ }
+    ensures { λ r. ⌜ Wrote (now (out .entry)) at (lineText assignForms (lineOfPin k (saidTerminal t))) (now (out .exit)) r ⌝ }
+{
+    match t {
+        Terminal::Input(i) => form::put_form(out, at, b"assign tX = pY;\n", i.0 as usize, k, 0),
+        Terminal::Output(o) => form::put_form(out, at, b"assign pY = tX;\n", o.0 as usize, k, 0),
+    }
+}
+
+// Its port.
+pub fn put_port(out: &mut [u8], at: usize, k: usize, t: Terminal) -> usize
+    requires { ⌜ at ≤ 4294967296 ⌝ }
+    ensures { λ r. ⌜ Wrote (now (out .entry)) at (lineText portForms (lineOfPort k (saidTerminal t))) (now (out .exit)) r ⌝ }
+{
+    match t {
+        Terminal::Input(_) => form::put_form(out, at, b",\n  input pX", k, 0, 0),
+        Terminal::Output(_) => form::put_form(out, at, b",\n  output pX", k, 0, 0),
+    }
+}
