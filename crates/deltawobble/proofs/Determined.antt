@@ -9,6 +9,8 @@ use Rattle.deltawobble.proofs.deltawobble_translate.Kinds as c-translat
 use Rattle.deltawobble.proofs.deltawobble_translate.Reads as c-translate-reads
 use Rattle.deltawobble.proofs.deltawobble_run.Kinds as c-run
 use Rattle.deltawobble.proofs.deltawobble_run.Reads as c-run-reads
+use Rattle.deltawobble.proofs.deltawobble_back.Kinds as c-back
+use Rattle.deltawobble.proofs.deltawobble_back.Reads as c-back-reads
 use Rattle.deltawobble.proofs.deltawobble_stretch.Kinds as c-stretch
 use Rattle.deltawobble.proofs.deltawobble_stretch.Reads as c-stretch-reads
 
@@ -19,6 +21,10 @@ determined-deltawobble-translate κs a x y s t f g = record { answer = f .said �
 pub determined-deltawobble-run : (κs : Lfts 5) (a : Dens κs c-run.ps) (x y : resT c-run.r κs .Denot) (s t : AtExit (endedOf 5 c-run.ps c-run.r) κs)
     → c-run-reads.Post κs a x s → c-run-reads.Post κs a y t → Same x y (s .1 .1 .1 .0 .now) (t .1 .1 .1 .0 .now) (s .1 .1 .1 .1 .0 .now) (t .1 .1 .1 .1 .0 .now)
 determined-deltawobble-run κs a x y s t f g = record { answer = f .said ∙ sym (g .said); out = f .wrote ∙ sym (g .wrote); work = f .kept ∙ sym (g .kept) }
+
+pub determined-deltawobble-back : (κs : Lfts 3) (a : Dens κs c-back.ps) (x y : resT c-back.r κs .Denot) (s t : AtExit (endedOf 3 c-back.ps c-back.r) κs)
+    → c-back-reads.Post κs a x s → c-back-reads.Post κs a y t → Same x y (s .1 .0 .now) (t .1 .0 .now) (s .1 .1 .0 .now) (t .1 .1 .0 .now)
+determined-deltawobble-back κs a x y s t f g = record { answer = f .said ∙ sym (g .said); out = f .wrote ∙ sym (g .wrote); work = f .kept ∙ sym (g .kept) }
 
 pub determined-deltawobble-stretch : (κs : Lfts 1) (a : Dens κs c-stretch.ps) (x y : resT c-stretch.r κs .Denot) (s t : AtExit (endedOf 1 c-stretch.ps c-stretch.r) κs)
     → c-stretch-reads.Post κs a x s → c-stretch-reads.Post κs a y t → x ≡ y

@@ -4,6 +4,7 @@ ghost use mathlib.Core.Path.{_≡_};
 ghost use Rattle.calculus.specs.Stretch.{stretchOf};
 ghost use Rattle.calculus.specs.Translate.{call};
 ghost use Rattle.trace_calculus.specs.Trace.{runCall};
+ghost use Rattle.back_theorems.specs.Returned.{backCall};
 ghost use Rattle.deltawobble.specs.Boundary.{Packs, packedStretch};
 
 // The netlist of a sheet. Bits 0 to 31 of the answer are the number of bytes written or the place, 32 to 39 the refusal's number, 0 for none,
@@ -35,6 +36,15 @@ pub extern "C" fn deltawobble_run(
     ensures { λ r. ⌜ Packs r (now (out .exit)) (now (work .exit)) (runCall (now (sheet .entry)) (now (inputs .entry)) (now (starts .entry)) ticks (now (out .entry)) (now (work .entry))) ⌝ }
 {
     let answer = trace::run(sheet, inputs, starts, out, work, ticks);
+    translator::word(answer)
+}
+
+// A netlist back to a sheet; the answer likewise.
+#[no_mangle]
+pub extern "C" fn deltawobble_back(net: &[u8], out: &mut [u8], work: &mut [u16], lean: bool) -> u64
+    ensures { λ r. ⌜ Packs r (now (out .exit)) (now (work .exit)) (backCall lean (now (net .entry)) (now (out .entry)) (now (work .entry))) ⌝ }
+{
+    let answer = back::back(net, out, work, lean);
     translator::word(answer)
 }
 
