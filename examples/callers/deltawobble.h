@@ -50,4 +50,10 @@ uint64_t deltawobble_stretch(const uint8_t *sheet, size_t sheet_len, size_t node
 uint64_t deltawobble_run(const uint8_t *sheet, size_t sheet_len, const uint8_t *inputs, size_t inputs_len,
                          const uint8_t *starts, size_t starts_len, uint8_t *out, size_t out_len,
                          uint16_t *work, size_t work_len, uint16_t ticks);
+
+/* Writes a first-edition sheet whose lean netlist has the parts of a netlist with the same drivers. The
+   netlist has 1 to 16 parts, no points and at most 24 undriven inputs; lean says if it is a lean one.
+   393 bytes of output always do. */
+uint64_t deltawobble_back(const uint8_t *net, size_t net_len, uint8_t *out, size_t out_len,
+                          uint16_t *work, size_t work_len, bool lean);
 #endif

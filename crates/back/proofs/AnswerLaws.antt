@@ -25,24 +25,13 @@ use Rattle.back_theorems.specs.Back.{gates, openIns, backSheet}
 use Rattle.back_theorems.specs.Returned.{noPoint, within, returned, backAnswer, backCall}
 use Rattle.back_theorems.proofs.Main.{accepts-read, parts-of}
 use Rattle.back.specs.Gates.{netHere, Accepted, OfParts, partsOr25}
-use Rattle.back.specs.Said.{saidParts, Says, called}
-use Rattle.back.specs.Answered.{fitAnswer, limitAnswer, netAnswer}
-use Rattle.back.specs.declared.Answer as code
-use Rattle.back.specs.declared.Answer.the-variants as answer
+use Rattle.translator.specs.Said.{inRoom, Says, called}
+use Rattle.translator.specs.declared.Answer as code
+use Rattle.back.specs.Said.{saidParts, refusedAs}
+use Rattle.back.specs.Answered.{limitAnswer, netAnswer}
 use Rattle.back.specs.declared.gates.Parts.{Parts}
 use Rattle.back.specs.declared.gates.Parts.the-variants as parts
 use Rattle.back.proofs.GateLaws.{here-is}
-
--- ---- 17, or the sheet
-
-module _ (m : Net) (out : List ℕ) (n : ℕ) (e : n ≡ length (backSheet m)) where
-  pub says-17 : length out < n → Says (answer.Refused 17 n) out out (fitAnswer m (length out))
-  unfolding fitAnswer
-  says-17 h = rw (e, lt-leb (length (backSheet m)) (length out) (omega arith)) (record { said = refl; wrote = refl })
-
-  pub says-fit : (after : List ℕ) → n ≤ length out → after ≡ sets out 0 (backSheet m) → Says (answer.Written n) out after (fitAnswer m (length out))
-  unfolding fitAnswer
-  says-fit after h w = rw (e, le-leb (length (backSheet m)) (length out) (omega arith)) (record { said = refl; wrote = w ∙ sets-front (backSheet m) out (omega arith) })
 
 -- ---- 26
 
@@ -60,20 +49,20 @@ module _ (m : Net) where
   within-all a b h = rw (le-leb 1 (length (m .elements)) a, le-leb (length (m .elements)) 16 b, le-leb (openIns (gates m)) 24 h)
 
   module _ (out : List ℕ) where
-    says-26 : within m ≡ false → Says (answer.Refused 26 0) out out (limitAnswer m (length out))
+    says-26 : within m ≡ false → Says (refusedAs 26 0) out out (limitAnswer m (length out))
     unfolding limitAnswer
     says-26 e = rw e (record { said = refl; wrote = refl })
 
-    pub says-none : length (m .elements) ≡ 0 → Says (answer.Refused 26 0) out out (limitAnswer m (length out))
+    pub says-none : length (m .elements) ≡ 0 → Says (refusedAs 26 0) out out (limitAnswer m (length out))
     says-none e = says-26 (within-none e)
 
-    pub says-many : 16 < length (m .elements) → Says (answer.Refused 26 0) out out (limitAnswer m (length out))
+    pub says-many : 16 < length (m .elements) → Says (refusedAs 26 0) out out (limitAnswer m (length out))
     says-many h = says-26 (within-many (omega arith) h)
 
-    pub says-open : 1 ≤ length (m .elements) → length (m .elements) ≤ 16 → 24 < openIns (gates m) → Says (answer.Refused 26 0) out out (limitAnswer m (length out))
+    pub says-open : 1 ≤ length (m .elements) → length (m .elements) ≤ 16 → 24 < openIns (gates m) → Says (refusedAs 26 0) out out (limitAnswer m (length out))
     says-open a b h = says-26 (within-open a b h)
 
-    pub says-within : (r : code.Answer) (after : List ℕ) → 1 ≤ length (m .elements) → length (m .elements) ≤ 16 → openIns (gates m) ≤ 24 → Says r out after (fitAnswer m (length out)) → Says r out after (limitAnswer m (length out))
+    pub says-within : (r : code.Answer) (after : List ℕ) → 1 ≤ length (m .elements) → length (m .elements) ≤ 16 → openIns (gates m) ≤ 24 → Says r out after (inRoom (backSheet m) (length out)) → Says r out after (limitAnswer m (length out))
     unfolding limitAnswer
     says-within r after a b h w = rw (within-all a b h) w
 
@@ -83,11 +72,11 @@ module _ (s : List ℕ) (a : Accepted s) (p : Parts) (e : saidParts p ≡ partsO
   abbrev es : List Element
   es = netHere s .elements
 
-  pub says-25 : (out : List ℕ) (at : ℕ) → p ≡ parts.Point at → Says (answer.Refused 25 at) out out (netAnswer (netHere s) (length out))
+  pub says-25 : (out : List ℕ) (at : ℕ) → p ≡ parts.Point at → Says (refusedAs 25 at) out out (netAnswer (netHere s) (length out))
   unfolding netAnswer
   says-25 out at q = by (noPoint (netHere s .elements) 0) (sym (ap saidParts q) ∙ e)
     where
-      by : (x : Answer (Unit {0})) → refuse 25 at ≡ (x >>= λ _. good (length (netHere s .elements))) → Says (answer.Refused 25 at) out out (x >>= λ _. limitAnswer (netHere s) (length out))
+      by : (x : Answer (Unit {0})) → refuse 25 at ≡ (x >>= λ _. good (length (netHere s .elements))) → Says (refusedAs 25 at) out out (x >>= λ _. limitAnswer (netHere s) (length out))
       by (good u) z = absurd (refused≢good z)
       by (refused why) z = rw (← refused-inj z) (record { said = refl; wrote = refl })
 
@@ -134,7 +123,7 @@ module _ (lean : Bool) (s w w′ : List ℕ) (v : Verdict) (e : foreign.called v
   unfolding checkCall
   work-is = ap (λ (c : Checked). c .work) e
 
-  pub call-refused : (n p : ℕ) → v ≡ verdict.Refused n p → (out : List ℕ) → called (answer.Refused n p) out w′ ≡ backCall lean s out w
+  pub call-refused : (n p : ℕ) → v ≡ verdict.Refused n p → (out : List ℕ) → called (refusedAs n p) out w′ ≡ backCall lean s out w
   unfolding backCall backAnswer returned
   call-refused n p q out =
       let z : backAnswer (length w) lean s (length out) ≡ refuse n p = off (leb 32768 (length w)) (check lean s) _ _ (numbered n p) (sym (ap saidVerdict q) ∙ said-is) in
@@ -151,7 +140,7 @@ module _ (lean : Bool) (s w w′ : List ℕ) (v : Verdict) (e : foreign.called v
     read-is = accepts-read (call-accepted .told) s (call-accepted .accepts) ∙ ap good (sym (here-is s call-accepted))
 
     answer-is : (room : ℕ) → backAnswer (length w) lean s room ≡ netAnswer (netHere s) room
-    unfolding backAnswer returned netAnswer limitAnswer fitAnswer
+    unfolding backAnswer returned netAnswer limitAnswer inRoom
     answer-is room = rw (checked .0, checked .1, read-is) (answer-net (noPoint (netHere s .elements) 0) (within (netHere s)) room (backSheet (netHere s)))
 
     pub call-good : (r : code.Answer) (out after : List ℕ) → Says r out after (netAnswer (netHere s) (length out)) → called r after w′ ≡ backCall lean s out w

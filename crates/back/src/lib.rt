@@ -5,29 +5,39 @@ mod write;
 use foreign::Verdict;
 use gates::Counts;
 use gates::Parts;
+use translator::Answer;
+use typing::Refusal;
 ghost use mathlib.Core.Path.{_≡_};
 ghost use lib.ListN.{length};
 ghost use Prim.Native.Nat.{_≤_};
+ghost use Rattle.back_theorems.specs.Back.{backSheet};
 ghost use Rattle.back_theorems.specs.Returned.{backCall};
 ghost use Rattle.back.specs.Gates.{netHere, Accepted, OfParts, Limited, Counted};
-ghost use Rattle.back.specs.Said.{Says, called};
-ghost use Rattle.back.specs.Answered.{fitAnswer, limitAnswer, netAnswer};
+ghost use Rattle.translator.specs.Said.{inRoom, Says, called};
+ghost use Rattle.back.specs.Said.{refusedAs};
+ghost use Rattle.back.specs.Answered.{limitAnswer, netAnswer};
 
-// The number of bytes written, or a refusal's number and place.
-pub enum Answer {
-    Written(usize),
-    Refused(u8, usize),
+// A refusal that names no types.
+fn refused(number: u8, place: usize) -> Answer
+    ensures { λ r. ⌜ r ≡ refusedAs number place ⌝ }
+{
+    Answer::Refused(Refusal {
+        number,
+        place,
+        wanted: 0,
+        found: 0,
+    })
 }
 
 // 17 where the output is shorter than the sheet; else the sheet is written.
 fn fitted(net: &[u8], out: &mut [u8], parts: usize, counts: Counts) -> Answer
     requires { ⌜ Limited (now net) parts (counts .undriven) × Counted (now net) (counts .undriven) (counts .inputs) ⌝ }
-    ensures { λ r. ⌜ Says r (now (out .entry)) (now (out .exit)) (fitAnswer (netHere (now (net .entry))) (length (now (out .entry)))) ⌝ }
+    ensures { λ r. ⌜ Says r (now (out .entry)) (now (out .exit)) (inRoom (backSheet (netHere (now (net .entry)))) (length (now (out .entry)))) ⌝ }
 {
     let undriven = counts.undriven;
     let n = write::length(parts, undriven, counts.inputs);
     if out.len() < n {
-        return Answer::Refused(17, n);
+        return translator::too_short(n);
     }
     write::sheet(net, out, parts, undriven);
     Answer::Written(n)
@@ -39,14 +49,14 @@ fn limited(net: &[u8], out: &mut [u8], parts: usize) -> Answer
     ensures { λ r. ⌜ Says r (now (out .entry)) (now (out .exit)) (limitAnswer (netHere (now (net .entry))) (length (now (out .entry)))) ⌝ }
 {
     if parts == 0 {
-        return Answer::Refused(26, 0);
+        return refused(26, 0);
     }
     if 16 < parts {
-        return Answer::Refused(26, 0);
+        return refused(26, 0);
     }
     let counts = gates::count_inputs(net, parts);
     if 24 < counts.undriven {
-        return Answer::Refused(26, 0);
+        return refused(26, 0);
     }
     fitted(net, out, parts, counts)
 }
@@ -57,7 +67,7 @@ fn returned(net: &[u8], out: &mut [u8]) -> Answer
     ensures { λ r. ⌜ Says r (now (out .entry)) (now (out .exit)) (netAnswer (netHere (now (net .entry))) (length (now (out .entry)))) ⌝ }
 {
     match gates::count_parts(net) {
-        Parts::Point(at) => Answer::Refused(25, at),
+        Parts::Point(at) => refused(25, at),
         Parts::All(n) => limited(net, out, n),
     }
 }
@@ -68,7 +78,7 @@ pub fn back(net: &[u8], out: &mut [u8], work: &mut [u16], lean: bool) -> Answer
     ensures { λ r. ⌜ called r (now (out .exit)) (now (work .exit)) ≡ backCall lean (now (net .entry)) (now (out .entry)) (now (work .entry)) ⌝ }
 {
     match foreign::check(net, work, lean) {
-        Verdict::Refused(number, place) => Answer::Refused(number, place),
+        Verdict::Refused(number, place) => refused(number, place),
         Verdict::Accepted => returned(net, out),
     }
 }

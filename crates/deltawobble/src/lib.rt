@@ -10,6 +10,7 @@ ghost use Rattle.batch.specs.Batch.{batchCall};
 ghost use Rattle.foreign_theorems.specs.Foreign.{checkCall};
 ghost use Rattle.trace_calculus.specs.Trace.{runCall};
 ghost use Rattle.export_calculus.specs.Verilog.{verilogCall};
+ghost use Rattle.back_theorems.specs.Returned.{backCall};
 ghost use Rattle.deltawobble.specs.Boundary.{Packs, PacksBatch, PacksCheck, packedStretch};
 
 // The netlist of a sheet. Bits 0 to 31 of the answer are the number of bytes written or the place, 32 to 39 the refusal's number, 0 for none,
@@ -85,6 +86,15 @@ pub extern "C" fn deltawobble_verilog(sheet: &[u8], out: &mut [u8], work: &mut [
     ensures { λ r. ⌜ Packs r (now (out .exit)) (now (work .exit)) (verilogCall (now (sheet .entry)) (now (out .entry)) (now (work .entry))) ⌝ }
 {
     let answer = verilog::verilog(sheet, out, work);
+    translator::word(answer)
+}
+
+// A netlist back to a sheet; the answer likewise.
+#[no_mangle]
+pub extern "C" fn deltawobble_back(net: &[u8], out: &mut [u8], work: &mut [u16], lean: bool) -> u64
+    ensures { λ r. ⌜ Packs r (now (out .exit)) (now (work .exit)) (backCall lean (now (net .entry)) (now (out .entry)) (now (work .entry))) ⌝ }
+{
+    let answer = back::back(net, out, work, lean);
     translator::word(answer)
 }
 

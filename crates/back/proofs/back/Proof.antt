@@ -15,9 +15,9 @@ returned-requires c κs =
 
 returns : tie.Need-returns
 returns c =
-    let x = c .before .before .before .before .before .before .before .before .before .before in
-    let k = c .before .before .before .before .before .check in
-    call-refused (x .args .lean) (x .args .net .now) (x .args .work .now) _ (k .result) (k .ensures) _ _ (c .before .number .given .1) (x .args .out .now)
+    let x = c .before .before .before .before .before .before .before .before .before .before .before in
+    let k = c .before .before .before .before .before .before .check in
+    rw (c .refused .ensures) (call-refused (x .args .lean) (x .args .net .now) (x .args .work .now) _ (k .result) (k .ensures) _ _ (c .before .before .number .given .1) (x .args .out .now))
 
 returns-2 : tie.Need-returns-2
 returns-2 c =
@@ -27,4 +27,4 @@ returns-2 c =
     call-good (x .args .lean) (x .args .net .now) (x .args .work .now) _ (k .result) (k .ensures) (c .before .before .before .before .enum-told .given .1) b _ (x .args .out .now) _ (c .before .before .returned .ensures)
 
 pub back-spec : {M : Type 1} → statement M
-back-spec = tie.close (tie.spec (λ c κs. search needs) (λ c. search needs) (λ c. search needs) returned-requires (λ c. search needs) returns (λ c. search needs) (λ c. search needs) returns-2)
+back-spec = tie.close (tie.spec (λ c κs. search needs) (λ c. search needs) (λ c κs. search needs) (λ c. search needs) returned-requires (λ c. search needs) returns (λ c. search needs) (λ c. search needs) returns-2)

@@ -3,9 +3,10 @@ use borrow.Author.Needs.{needs}
 use native.Mathlib.Omega.{arith}
 use mathlib.Core.Path.{_≡_, _∙_}
 use lib.ListN.{length}
+use Rattle.back_theorems.specs.Back.{backSheet}
 use Rattle.back.specs.Gates.{netHere}
 use Rattle.back.proofs.SheetLaws.{sheet-length, inputs-few}
-use Rattle.back.proofs.AnswerLaws.{says-17, says-fit}
+use Rattle.translator.proofs.SaidLaws.{says-short, says-fits}
 use Rattle.back.proofs.fitted.Statement.{statement}
 use Rattle.back.proofs.fitted.Tie as tie
 
@@ -19,9 +20,10 @@ length-requires c κs =
 
 returns : tie.Need-returns
 returns c =
-    let x = c .before .before .before .before in
+    let x = c .before .before .before .before .before in
     let a = x .args in
-    says-17 (netHere (a .net .now)) (a .out .now) (c .before .length .result) (c .before .length .ensures ∙ sheet-length (a .net .now) (a .parts) (a .counts .undriven) (a .counts .inputs) (x .pre .0) (x .pre .1 .all)) (c .if1 .taken)
+    let n = c .before .before .length in
+    rw (c .too-short .ensures) (says-short (backSheet (netHere (a .net .now))) (a .out .now) (n .result) (n .ensures ∙ sheet-length (a .net .now) (a .parts) (a .counts .undriven) (a .counts .inputs) (x .pre .0) (x .pre .1 .all)) (c .before .if1 .taken))
 
 sheet-requires : tie.Need-sheet-requires
 sheet-requires c κs =
@@ -35,7 +37,7 @@ returns-2 c =
     let x = c .before .before .before .before .before .before .before .before in
     let a = x .args in
     let e = c .before .before .before .before .before .length .ensures ∙ sheet-length (a .net .now) (a .parts) (a .counts .undriven) (a .counts .inputs) (x .pre .0) (x .pre .1 .all) in
-    says-fit (netHere (a .net .now)) (a .out .now) (c .before .before .before .before .before .length .result) e _ (omega arith) (c .before .before .sheet .ensures)
+    says-fits (backSheet (netHere (a .net .now))) (a .out .now) (c .before .before .before .before .before .length .result) _ (omega arith) e (c .before .before .sheet .ensures)
 
 pub fitted-spec : {M : Type 1} → statement M
-fitted-spec = tie.close (tie.spec length-requires returns sheet-requires (λ c. search needs) returns-2)
+fitted-spec = tie.close (tie.spec length-requires (λ c κs. search needs) returns sheet-requires (λ c. search needs) returns-2)

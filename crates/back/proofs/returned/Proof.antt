@@ -13,9 +13,9 @@ limited-requires c κs =
 
 returns : tie.Need-returns
 returns c =
-    let p = c .before .before .before .count-parts in
-    let x = c .before .before .before .before .before .before in
-    says-25 (x .args .net .now) (x .pre) (p .result) (p .ensures) (x .args .out .now) _ (c .before .at .given .1)
+    let p = c .before .before .before .before .count-parts in
+    let x = c .before .before .before .before .before .before .before in
+    rw (c .refused .ensures) (says-25 (x .args .net .now) (x .pre) (p .result) (p .ensures) (x .args .out .now) _ (c .before .before .at .given .1))
 
 returns-2 : tie.Need-returns-2
 returns-2 c =
@@ -24,4 +24,4 @@ returns-2 c =
     says-parts (x .args .net .now) (x .pre) (p .result) (p .ensures) _ (c .before .before .before .before .before .n .given .1) _ (x .args .out .now) _ (c .before .before .limited .ensures)
 
 pub returned-spec : {M : Type 1} → statement M
-returned-spec = tie.close (tie.spec (λ c κs. search needs) (λ c. search needs) (λ c. search needs) limited-requires returns (λ c. search needs) returns-2)
+returned-spec = tie.close (tie.spec (λ c κs. search needs) (λ c. search needs) (λ c κs. search needs) (λ c. search needs) limited-requires returns (λ c. search needs) returns-2)
