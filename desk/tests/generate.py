@@ -189,12 +189,12 @@ def _mistyped(rng: random.Random, data: bytearray) -> None:
         at = rng.choice(circuits).offset
         data[at:at + 2] = bytes([0x1A, 1, read.types.index(CIRCUITS[0])])
         return
-    node = rng.choice([n for n in read.nodes if n.binder is not None] or read.nodes) if rng.random() < 0.5 else rng.choice(read.nodes)
-    if node.binder is not None and rng.random() < 0.9:
+    node = rng.choice([n for n in read.nodes if n.is_variable] or read.nodes) if rng.random() < 0.5 else rng.choice(read.nodes)
+    if node.is_variable and rng.random() < 0.9:
         data[node.offset + 1] = rng.randrange(4)
-    elif node.type_number is not None and rng.random() < 0.6:
-        data[node.offset + (2 if node.part is not None else 1)] = rng.randrange(len(read.types))
-    elif node.part is not None:
+    elif node.type_number >= 0 and rng.random() < 0.6:
+        data[node.offset + (2 if node.part >= 0 else 1)] = rng.randrange(len(read.types))
+    elif node.part >= 0:
         data[node.offset + 1] = rng.randrange(9)
     else:
         data[node.offset] = OTHER[node.kind]

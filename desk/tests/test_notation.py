@@ -7,7 +7,7 @@ import unittest
 from pathlib import Path
 
 import deltawobble
-from deltawobble import NotationError, Refused, Sheet, make, show
+from deltawobble import NotationError, Refused, make, show
 
 from . import generate
 from .support import EXAMPLES, command, examples
@@ -161,6 +161,13 @@ class Refusals(unittest.TestCase):
     def test_a_definition_tells_where_it_was_put_in(self):
         lines = self.lines("bad = fun x : 1. x x\ntwice = bad\nmain = fun y : 1. twice y")
         self.assertEqual((lines[0].split(":")[1:3], lines[3]), (["1", "18"], "     | put in at 2:9, itself put in at 3:19"))
+
+    def test_long_types_go_by_their_names(self):
+        word = "type word = 1 * 1 * 1 * 1\nmain = fun x : word -> 1. fun y : 1. x y"
+        self.assertIn("^ wants word, and gets 1", self.lines(word)[2])
+
+    def test_which_half_of_a_pair_is_a_circuit(self):
+        self.assertIn("its second half has type 1 -> 1", self.lines("main = (one, reg)")[2])
 
     def test_limits_stand_where_they_are_passed(self):
         self.assertIn("refused 8", self.lines("main = " + "inv (" * 64 + "one" + ")" * 64)[0])

@@ -88,7 +88,8 @@ def tree_dot(sheet: Sheet, mark: Optional[Node], title: str) -> str:
     """The term as a tree, the node marked; of a large term what stands around it."""
     names, seen = names_of(sheet), shown(sheet, mark)
     lines = ["digraph term {", "  ranksep=0.3; nodesep=0.2; labelloc=t; fontname=Helvetica; fontsize=12; label=%s;" % q(title),
-             "  node [shape=box style=\"rounded,filled\" fillcolor=white fontname=Helvetica fontsize=10 height=0.25 margin=\"0.08,0.04\"]; edge [arrowsize=0.5];"]
+             "  node [shape=box style=\"rounded,filled\" fillcolor=white fontname=Helvetica fontsize=10 height=0.25 margin=\"0.08,0.04\"];",
+             "  edge [arrowsize=0.5];"]
     for node in sheet.nodes:
         if node.number not in seen:
             continue

@@ -13,7 +13,7 @@ import struct
 import subprocess
 from dataclasses import dataclass, field
 from pathlib import Path
-from typing import Optional, Protocol, Union
+from typing import IO, Optional, Protocol, Union
 
 ROOT = Path(__file__).resolve().parents[3]
 MADE = ROOT / "target" / "desk"
@@ -21,13 +21,13 @@ MADE = ROOT / "target" / "desk"
 MEMORY = 32768
 #: the calls, in the order of the host's numbers; each with what it is lent besides the working memory, and its other parameters
 CALLS: dict[str, tuple[str, ...]] = {
-    "translate": ("bytes", "out", "work", "lean", "plain", "card"),
-    "stretch": ("bytes", "number"),
-    "batch": ("bytes", "lengths", "out", "results", "work", "lean", "plain", "card"),
-    "verilog": ("bytes", "out", "work"),
-    "run": ("bytes", "inputs", "starts", "out", "work", "ticks"),
-    "check": ("bytes", "work", "lean"),
-    "back": ("bytes", "out", "work", "lean")}
+    "translate": ("data", "out", "work", "lean", "plain", "card"),
+    "stretch": ("data", "number"),
+    "batch": ("data", "lengths", "out", "results", "work", "lean", "plain", "card"),
+    "verilog": ("data", "out", "work"),
+    "run": ("data", "inputs", "starts", "out", "work", "ticks"),
+    "check": ("data", "work", "lean"),
+    "back": ("data", "out", "work", "lean")}
 
 
 class NoLibrary(Exception):
@@ -46,7 +46,7 @@ class Request:
     """One call: its name, the bytes lent, and the room lent for what it writes."""
 
     name: str
-    bytes: bytes
+    data: bytes
     inputs: bytes = b""
     starts: bytes = b""
     lengths: list[int] = field(default_factory=list)
@@ -106,7 +106,7 @@ class Library:
     @staticmethod
     def _parameter(parameter: str, request: Request, out, results) -> list:
         size = ctypes.c_size_t
-        if parameter in ("bytes", "inputs", "starts"):
+        if parameter in ("data", "inputs", "starts"):
             lent = getattr(request, parameter)
             return [ctypes.c_char_p(lent), size(len(lent))]
         if parameter == "lengths":
@@ -124,14 +124,18 @@ class Library:
         return [ctypes.c_bool(getattr(request, parameter))]
 
 
+ENDED = "the host process has ended: build it again with desk/build"
+
+
 class Host:
     """The host process (desk/host.c), kept running for many calls."""
 
-    #: which call, lengths of bytes, inputs, starts, lengths; room; the wishes; the node or the ticks
+    #: which call, lengths of data, inputs, starts, lengths; room; the wishes; the node or the ticks
     HEAD = struct.Struct("<8Q")
 
     def __init__(self, words: list[str]):
-        self._words, self._process, self.name = words, None, "%s, a process of its own" % " ".join(words)
+        self._words, self.name = words, "%s, a process of its own" % " ".join(words)
+        self._process: Optional[subprocess.Popen[bytes]] = None
         self._calls = self._ask(self.HEAD.pack(len(CALLS), 0, 0, 0, 0, 0, 0, 0))[0]
 
     def has(self, name: str) -> bool:
@@ -140,40 +144,50 @@ class Host:
     def call(self, request: Request) -> Reply:
         wishes = request.lean | request.plain << 1 | request.card << 2
         lengths = struct.pack("<%dI" % len(request.lengths), *request.lengths)
-        head = self.HEAD.pack(list(CALLS).index(request.name), len(request.bytes), len(request.inputs), len(request.starts),
+        head = self.HEAD.pack(list(CALLS).index(request.name), len(request.data), len(request.inputs), len(request.starts),
                               len(request.lengths), request.room, wishes, request.number)
-        word, out = self._ask(head + request.bytes + request.inputs + request.starts + lengths)
+        word, out = self._ask(head + request.data + request.inputs + request.starts + lengths)
         results = list(struct.unpack("<%dQ" % len(request.lengths), self._read(8 * len(request.lengths))))
         return Reply(word, out, results)
 
-    def _ask(self, frame: bytes) -> tuple[int, bytes]:
+    def _pipes(self) -> tuple[IO[bytes], IO[bytes]]:
+        """The process's standard input and output; it is started where it is not running."""
         if self._process is None:
             try:
                 self._process = subprocess.Popen(self._words, stdin=subprocess.PIPE, stdout=subprocess.PIPE, start_new_session=True)
             except OSError as error:
                 raise NoLibrary("%s cannot be run (%s): build it again with desk/build" % (self._words[0], error)) from error
             atexit.register(self.close)
+        assert self._process.stdin and self._process.stdout
+        return self._process.stdin, self._process.stdout
+
+    def _ask(self, frame: bytes) -> tuple[int, bytes]:
+        given, _ = self._pipes()
         try:
-            self._process.stdin.write(frame)
-            self._process.stdin.flush()
+            given.write(frame)
+            given.flush()
         except BrokenPipeError:
-            raise NoLibrary("the host process has ended: build it again with desk/build") from None
+            raise NoLibrary(ENDED) from None
         word, size = struct.unpack("<2Q", self._read(16))
         return word, self._read(size)
 
     def _read(self, size: int) -> bytes:
-        data = self._process.stdout.read(size)
+        data = self._pipes()[1].read(size)
         if len(data) < size:
-            raise NoLibrary("the host process has ended: build it again with desk/build")
+            raise NoLibrary(ENDED)
         return data
 
     def close(self) -> None:
         """Ends the process; the next call starts it again."""
-        if self._process is not None:
-            self._process.stdin.close()
-            self._process.stdout.close()
-            self._process.wait()
-            self._process = None
+        if self._process is None:
+            return
+        for pipe in self._pipes():
+            try:
+                pipe.close()
+            except BrokenPipeError:
+                pass
+        self._process.wait()
+        self._process = None
 
 
 _found: Optional[Engine] = None

@@ -6,6 +6,8 @@ from dataclasses import dataclass
 from pathlib import Path
 from typing import TYPE_CHECKING, Optional
 
+from .sheet import Own
+
 if TYPE_CHECKING:
     from .notation import Made
 
@@ -26,9 +28,9 @@ class Source:
     made: Optional["Made"] = None
 
     @property
-    def names(self) -> dict[int, list[str]]:
-        """The notation's names for variables, by the node that binds them."""
-        return self.made.names() if self.made else {}
+    def own(self) -> Optional[Own]:
+        """The notation's own names, where it was made from one."""
+        return self.made.own() if self.made else None
 
     @property
     def stem(self) -> str:

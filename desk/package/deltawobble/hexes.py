@@ -1,17 +1,28 @@
 """Sheets and netlists as commented hex, one record a line."""
 from __future__ import annotations
 
+from typing import Optional
+
 from .naming import names_of
-from .netlist import Netlist
-from .sheet import SECOND, Sheet, read_types
+from .netlist import BODY, Netlist
+from .sheet import SECOND, Own, Sheet, read_types
 from .tree import label
+
+
+#: bytes that a report shows of a stretch
+MOST_BYTES = 32
 
 
 def hex_of(part: bytes) -> str:
     return " ".join("%02X" % b for b in part)
 
 
-def sheet_hex(data: bytes, own: dict[int, list[str]] | None = None) -> str:
+def shortened(part: bytes) -> str:
+    """Bytes in hex, each behind a space; past 32 of them three dots."""
+    return "".join(" %02X" % b for b in part[:MOST_BYTES]) + (" ..." if len(part) > MOST_BYTES else "")
+
+
+def sheet_hex(data: bytes, own: Optional[Own] = None) -> str:
     """A sheet that can be read: each type, and each node in the words of the notation, with its own names where there are some."""
     sheet = Sheet.parse(data, own)
     names, rows = names_of(sheet), [(bytes([SECOND]), "second edition")] if sheet.edition == 2 else []
@@ -25,7 +36,6 @@ def sheet_hex(data: bytes, own: dict[int, list[str]] | None = None) -> str:
 
 def netlist_hex(data: bytes) -> str:
     """A netlist, each record as the listing has it."""
-    from .netlist import BODY
     net, at, rows = Netlist.parse(data), 0, []
     for number, line in enumerate(net.lines()):
         size = 1 + BODY[data[at]]

@@ -11,7 +11,7 @@ class _Copy:
     """A node of the sheet that is written: the record's own bytes, its binder number apart, and its subterms."""
 
     own: bytes
-    binder: int | None
+    binder: int
     subterms: list["_Copy"]
     binds: int
 
@@ -48,17 +48,17 @@ def _replaced(node: _Copy, inside: int, argument: _Copy) -> _Copy:
     """The argument where the variable stands, `inside` binders further in; variables from outside lose one binder."""
     if node.binder == inside:
         return _raised(argument, 0, inside)
-    if node.binder is not None and node.binder > inside:
+    if node.binder > inside:
         return _Copy(node.own, node.binder - 1, [], 0)
     return _over(node, lambda s, binds: _replaced(s, inside + binds, argument))
 
 
 def _raised(node: _Copy, inside: int, by: int) -> _Copy:
-    if node.binder is not None and node.binder >= inside:
+    if node.binder >= inside:
         return _Copy(node.own, node.binder + by, [], 0)
     return _over(node, lambda s, binds: _raised(s, inside + binds, by))
 
 
 def _written(node: _Copy) -> bytes:
-    own = node.own if node.binder is None else node.own[:1] + bytes([node.binder])
+    own = node.own if node.binder < 0 else node.own[:1] + bytes([node.binder])
     return own + b"".join(_written(s) for s in node.subterms)

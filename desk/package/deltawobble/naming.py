@@ -30,6 +30,8 @@ class Names:
     meant: dict[int, Optional[Binder]] = field(default_factory=dict)
     #: the binders around each variable, the nearest first
     scope: dict[int, list[Binder]] = field(default_factory=dict)
+    #: names for types
+    types: dict[Type, str] = field(default_factory=dict)
 
     def word(self, node: Node) -> str:
         """What a variable is called."""
@@ -51,15 +53,15 @@ def fresh(t: Optional[Type], taken: Iterable[str]) -> str:
 
 def names_of(sheet: Sheet) -> Names:
     """Names for all binders of a sheet that can be read: its own, or fresh ones."""
-    names, typed = Names(), Typed(sheet)
+    names, typed = Names(types=sheet.own.types), Typed(sheet)
 
     def go(node: Node, scope: list[Binder]) -> None:
-        if node.binder is not None:
+        if node.is_variable:
             names.meant[node.number] = scope[node.binder] if node.binder < len(scope) else None
             names.scope[node.number] = scope
         inner = scope
         if node.kind in BINDS:
-            own = sheet.names.get(node.number, [])
+            own = sheet.own.binders.get(node.number, [])
             for i, t in enumerate(typed.bound(node)):
                 name = own[i] if i < len(own) else fresh(t, [b.name for b in inner])
                 inner = [Binder(name, node, t, node.kind == 0x15)] + inner

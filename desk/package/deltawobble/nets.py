@@ -5,8 +5,8 @@ import json
 import sys
 
 from .answer import Refused
-from .explain import hexes
 from .files import Source
+from .hexes import shortened
 from .netlist import BODY, Netlist
 from .terminal import paint
 from .words import PARTS
@@ -26,13 +26,13 @@ def around(data: bytes, refused: Refused) -> list[str]:
     """The record at an offset and the one before it; or what drives a terminal."""
     if refused.number in (21, 22, 25):
         size = 1 + BODY.get(data[refused.place], 0) if refused.place < len(data) else 0
-        lines = ["offset %d:%s" % (refused.place, hexes(data[refused.place:refused.place + size]) or " the end")]
+        lines = ["offset %d:%s" % (refused.place, shortened(data[refused.place:refused.place + size]) or " the end")]
         return lines + ["look at: " + hint for hint in [record_fault(data, refused)] if hint]
     if refused.number == 23:
         net = Netlist.parse(data)
         wires = [w for w in net.wires if w[1] == refused.place]
         pins = [i for i, pin in enumerate(net.pins) if pin == refused.place]
-        element = net.element_of(refused.place)
+        element = next(e for e in net.elements if refused.place in e.inputs)
         return ["look at: it is an input of %s %d; %d wires drive it%s, and it is %d pins" % (
             element.name, element.first, len(wires), "".join(" (from %d)" % w[0] for w in wires), len(pins))]
     if refused.number == 26:

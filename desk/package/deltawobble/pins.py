@@ -14,13 +14,11 @@ def pin_names(sheet: Sheet) -> list[str]:
     """
     node, names = sheet.term, names_of(sheet)
     found: list[str] = []
-    t = Typed(sheet).of(node)
+    t, functions = Typed(sheet).root(), True
     while t.kind > 2:
-        if node is not None and node.kind in (0x13, 0x15):
-            name = names.bound[node.number][0].name
-            node = node.subterms[0]
-        else:
-            name, node = "in%d" % (len(found) + 1), None
+        functions = functions and node.kind in (0x13, 0x15)
+        name = names.bound[node.number][0].name if functions else "in%d" % (len(found) + 1)
+        node = node.subterms[0] if functions else node
         found += bits(name, t.left)
         t = t.right
     return found + bits("out", t)

@@ -20,7 +20,8 @@ def say(source: Source, refused: Refused, as_json: bool = False) -> int:
         lines = lines or ["%s: %s" % (source.name, refused)]
     else:
         lines = ["%s: %s" % (source.name, refused)]
-        lines += [line for line in refused_lines(source.bytes, refused, source.names) if line.startswith(("wanted ", "look at: ", "terminal ", "made by "))]
+        report = refused_lines(source.bytes, refused, source.own)
+        lines += [line for line in report if line.startswith(("wanted ", "look at: ", "terminal ", "made by "))]
         lines += ["(deltawobble explain shows more)"] if refused.number <= 16 else []
     print(paint(lines[0], "red", sys.stderr), *lines[1:], sep="\n", file=sys.stderr)
     return 1

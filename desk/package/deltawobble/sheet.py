@@ -17,16 +17,19 @@ SECOND = 0x31
 
 @dataclass
 class Node:
-    """A node of the term: its number, kind, place in the sheet, what its record says, and its subterms."""
+    """A node of the term: its number, kind, place in the sheet, what its record says, and its subterms.
+
+    `binder` is a variable's, `part` a constant's, `type_number` what any record with a type names; -1 where a record has none.
+    """
 
     number: int
     kind: int
     offset: int
     end: int = 0
     depth: int = 1
-    binder: Optional[int] = None
-    part: Optional[int] = None
-    type_number: Optional[int] = None
+    binder: int = -1
+    part: int = -1
+    type_number: int = -1
     parent: Optional["Node"] = field(default=None, repr=False)
     subterms: list["Node"] = field(default_factory=list, repr=False)
 
@@ -34,6 +37,10 @@ class Node:
     def word(self) -> str:
         """The kind in words."""
         return KINDS[self.kind]
+
+    @property
+    def is_variable(self) -> bool:
+        return self.binder >= 0
 
     def above(self) -> list["Node"]:
         """The nodes above this one, from the root down."""
@@ -45,17 +52,22 @@ class Node:
 
 
 @dataclass
+class Own:
+    """A notation's own names: for the variables that a node binds, by its number, and for types."""
+
+    binders: dict[int, list[str]] = field(default_factory=dict)
+    types: dict[Type, str] = field(default_factory=dict)
+
+
+@dataclass
 class Sheet:
-    """A sheet: its edition, its types in record order, and the nodes of its term in record order.
+    """A sheet: its edition, its types in record order, the nodes of its term in record order, and the names it was written with."""
 
-    `names` are names for the variables that a node binds, by its number: from the notation that a sheet was made from.
-    """
-
-    bytes: bytes
+    data: bytes
     edition: int
     types: list[Type]
     nodes: list[Node]
-    names: dict[int, list[str]] = field(default_factory=dict, repr=False)
+    own: Own = field(default_factory=Own, repr=False)
 
     @property
     def term(self) -> Node:
@@ -66,11 +78,11 @@ class Sheet:
         return max(node.depth for node in self.nodes)
 
     @staticmethod
-    def parse(data: bytes, names: Optional[dict[int, list[str]]] = None) -> "Sheet":
+    def parse(data: bytes, own: Optional[Own] = None) -> "Sheet":
         """The sheet in these bytes. ValueError, with the offset, where they are none (refusals 3, 4, 5 and 9)."""
         edition = 2 if data[:1] == bytes([SECOND]) else 1
         records, at = read_types(data, edition - 1)
-        return Sheet(data, edition, [t for _, t in records], list(_nodes(data, at, edition)), names or {})
+        return Sheet(data, edition, [t for _, t in records], list(_nodes(data, at, edition)), own or Own())
 
 
 def read_types(data: bytes, at: int) -> tuple[list[tuple[int, Type]], int]:

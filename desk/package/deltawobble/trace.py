@@ -42,7 +42,8 @@ def inputs_of(name: str, rows: list[Row], width: int) -> bytes:
     """The rows laid end to end, each as wide as there are input pins."""
     for row in rows:
         if len(row.bits) != width:
-            raise WrongUse("%s:%d: %s, and there are %d input pins" % (name, row.line, "1 bit" if len(row.bits) == 1 else "%d bits" % len(row.bits), width))
+            count = "1 bit" if len(row.bits) == 1 else "%d bits" % len(row.bits)
+            raise WrongUse("%s:%d: %s, and there are %d input pins" % (name, row.line, count, width))
     return b"".join(row.bits for row in rows)
 
 

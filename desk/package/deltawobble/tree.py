@@ -17,11 +17,11 @@ BELOW = 3
 def label(node: Node, names: Names) -> str:
     """A node in the words of the notation, without its subterms."""
     bound = names.bound.get(node.number, [])
-    if node.binder is not None:
+    if node.is_variable:
         return names.word(node)
     if node.kind in (0x13, 0x15, 0x19):
         t = bound[0].type
-        return "%s %s : %s" % ("fix" if node.kind == 0x19 else "fun", bound[0].name, written(t) if t else "?")
+        return "%s %s : %s" % ("fix" if node.kind == 0x19 else "fun", bound[0].name, written(t, names.types) if t else "?")
     if node.kind == 0x18:
         return "let (%s, %s) =" % (bound[0].name, bound[1].name)
     if node.kind == 0x1B:
@@ -50,7 +50,7 @@ def tree_lines(sheet: Sheet, mark: Optional[Node] = None) -> list[str]:
         head = "%s %4d  %s%s" % (">" if node is mark else " ", node.number, "  " * level, label(node, names))
         hidden = any(s.number not in show for s in node.subterms)
         t = typed.of(node)
-        rows.append((head + (" ..." if hidden else ""), "" if t is None else str(t)))
+        rows.append((head + (" ..." if hidden else ""), "" if t is None else written(t, names.types)))
         for s in node.subterms:
             if s.number in show:
                 go(s, level + 1)

@@ -19,6 +19,12 @@ class Typed:
     def of(self, node: Node) -> Optional[Type]:
         return self._of[node.number]
 
+    def root(self) -> Type:
+        """The type of an accepted sheet's term."""
+        t = self.of(self.sheet.term)
+        assert t is not None, "an accepted sheet has a type"
+        return t
+
     def number(self, node: Node) -> Optional[int]:
         """The number of a node's type in the sheet's table."""
         t = self.of(node)
@@ -31,10 +37,11 @@ class Typed:
     def _written(self, node: Node) -> Optional[Type]:
         """The type that a record names; None where it names none."""
         known = self.sheet.types
-        return known[node.type_number] if node.type_number is not None and node.type_number < len(known) else None
+        return known[node.type_number] if 0 <= node.type_number < len(known) else None
 
     def _go(self, node: Node, scope: list[Optional[Type]]) -> Optional[Type]:
-        found, inner = [], scope
+        found: list[Optional[Type]] = []
+        inner = scope
         for i, subterm in enumerate(node.subterms):
             if i == len(node.subterms) - 1 and node.kind in BINDS:
                 self._bound[node.number] = self._binds(node, found)
@@ -53,7 +60,7 @@ class Typed:
         return [written if node.kind == 0x19 else written.left if written else None]
 
     def _result(self, node: Node, found: list[Optional[Type]], scope: list[Optional[Type]]) -> Optional[Type]:
-        if node.binder is not None:
+        if node.is_variable:
             return scope[node.binder] if node.binder < len(scope) else None
         if node.kind in (0x14, 0x16):
             return found[0].right if found[0] and found[0].kind > 2 else None

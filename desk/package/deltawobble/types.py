@@ -8,11 +8,11 @@ from typing import Optional
 
 @dataclass(frozen=True)
 class Type:
-    """A single bit (kind 1), a product (2), a sharable arrow (3) or a linear arrow (4)."""
+    """A single bit (kind 1), which has no sides, a product (2), a sharable arrow (3) or a linear arrow (4)."""
 
     kind: int
-    left: Optional["Type"] = None
-    right: Optional["Type"] = None
+    left: "Type" = None  # type: ignore[assignment]
+    right: "Type" = None  # type: ignore[assignment]
 
     @property
     def sharable(self) -> bool:

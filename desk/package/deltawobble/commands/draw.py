@@ -48,14 +48,14 @@ def drawing(source: Source, given: argparse.Namespace):
     which = "lean netlist" if given.lean else "full netlist"
     try:
         net = Netlist.parse(calls.translate(source.bytes, lean=given.lean))
-        names = pin_names(Sheet.parse(source.bytes, source.names))
+        names = pin_names(Sheet.parse(source.bytes, source.own))
         return 0, lambda images: netlist_dot(net, names, "%s, %s" % (source.stem, which), images)
     except Refused as refused:
         if refused.number < 10 and not given.json:
             raise SystemExit(say(source, refused)) from None
         if not given.json:
             say(source, refused)
-        sheet = Sheet.parse(source.bytes, source.names)
+        sheet = Sheet.parse(source.bytes, source.own)
         mark = sheet.nodes[refused.place] if refused.number < 16 else None
         title = "%s, %s" % (source.stem, str(refused).split(":")[0])
         return 1, lambda images: tree_dot(sheet, mark, title)

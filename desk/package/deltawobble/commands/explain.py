@@ -4,7 +4,8 @@ from __future__ import annotations
 import argparse
 import json
 
-from ..explain import report, type_words, wanted_form
+from ..at_node import type_words, wanted_form
+from ..explain import report
 from ..files import read
 from ..sheet import Sheet
 from ..terminal import paint
@@ -21,7 +22,7 @@ def add(parser: argparse.ArgumentParser) -> None:
 
 def run(given: argparse.Namespace) -> int:
     source = read(given.sheet)
-    refused, lines = report(source.bytes, card=given.card, names=source.names)
+    refused, lines = report(source.bytes, card=given.card, own=source.own)
     if refused and source.made:
         lines += source.made.place_lines(source.bytes, refused)
     if given.json:

@@ -33,7 +33,8 @@ def run(given: argparse.Namespace) -> int:
         calls.translate(source.bytes)
     except Refused as refused:
         return say(source, refused, given.json)
-    sheet, done = source.bytes, []
+    sheet = source.bytes
+    done: list[int] = []
     while True:
         node = chosen(sheet, given.node, source.name) if not done else chosen(sheet, None, None)
         if node is None:

@@ -34,5 +34,5 @@ def run(given: argparse.Namespace) -> int:
     if given.json:
         print(json.dumps({"accepted": True, "bytes": len(made.sheet), "sheet": made.sheet.hex()}))
     if given.output or not given.json:
-        put(given.output, made.sheet, lambda sheet: sheet_hex(sheet, made.names()))
+        put(given.output, made.sheet, lambda sheet: sheet_hex(sheet, made.own()))
     return 0

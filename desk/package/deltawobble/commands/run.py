@@ -24,11 +24,12 @@ EXAMPLE = "deltawobble run examples/full-adder.hex examples/full-adder.trace --w
 
 def add(parser: argparse.ArgumentParser) -> None:
     parser.add_argument("sheet", help="raw bytes, commented hex or notation; - for standard input")
-    parser.add_argument("trace", nargs="?", help="a text or CSV file: a line of bits for each tick, a bit for each input pin; - for standard input")
+    parser.add_argument("trace", nargs="?", help="a text or CSV file, a line for each tick, a bit for each input pin; - for standard input")
     parser.add_argument("--ticks", type=int, metavar="N", help="so many ticks: of a circuit without input pins, or with all inputs 0")
     parser.add_argument("--starts", metavar="BITS", help="what each register shows at tick 0, by rising terminal (0 where not said)")
     parser.add_argument("--waves", action="store_true", help="draw the pins as waves")
-    parser.add_argument("--period", action="store_true", help="say when the registers show their starts again, all inputs 0; or with a trace, when the outputs come again")
+    parser.add_argument("--period", action="store_true",
+                        help="say when the registers show their starts again, all inputs 0; or with a trace, when the outputs come again")
     parser.add_argument("--vcd", metavar="FILE", help="write a value change dump too, for GTKWave")
 
 
@@ -100,7 +101,7 @@ def refuse(source: Source, refused: Refused, rows: list[Row], given: argparse.Na
 
 def joined(source: Source, lean: Netlist, rows: list[Row], shown: bytes) -> Run:
     """Names and bits of the pins together."""
-    names, inputs = pin_names(Sheet.parse(source.bytes, source.names)), set(lean.input_pins)
+    names, inputs = pin_names(Sheet.parse(source.bytes, source.own)), set(lean.input_pins)
     width = len(lean.output_pins)
     return Run([n for n, pin in zip(names, lean.pins) if pin in inputs], [n for n, pin in zip(names, lean.pins) if pin not in inputs],
                [(row.bits, shown[t * width:(t + 1) * width]) for t, row in enumerate(rows)])

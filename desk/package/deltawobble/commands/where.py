@@ -7,8 +7,10 @@ import json
 from .. import calls
 from ..answer import Refused
 from ..engine import NoCall
-from ..explain import element_words, hexes, node_line
+from ..at_node import node_line
+from ..at_terminal import element_words
 from ..files import WrongUse, read
+from ..hexes import shortened
 from ..netlist import Netlist
 from ..refusing import say
 from ..sheet import Sheet
@@ -44,7 +46,7 @@ def run(given: argparse.Namespace) -> int:
     side = "output" if given.terminal == element.output else "input"
     print("terminal %d: the %s of %s%s" % (given.terminal, side, element_words(element), "" if kept else "; not in the lean netlist"))
     print("made by " + node_line(node))
-    print("offset %d:%s" % (start, hexes(source.bytes[start:start + size])))
+    print("offset %d:%s" % (start, shortened(source.bytes[start:start + size])))
     above = node.above()
     print("above it, from the root down:" if above else "above it: nothing, it is the root")
     for n in above:

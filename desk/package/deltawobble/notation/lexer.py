@@ -39,7 +39,7 @@ def tokens(text: Text) -> list[Token]:
             if match.lastgroup not in ("space", "comment"):
                 word = SIGNS.get(match[0], match[0])
                 plain = match.lastgroup == "sign" or word in RESERVED
-                found.append(Token(word if plain else match.lastgroup, word, span))
-    last = len(text.lines[-1]) + 1 if text.lines else 1
-    line = max(len(text.lines), 1)
-    return found + [Token("end", "the end of the text", Span(line, last, line, last + 1))]
+                found.append(Token(word if plain else str(match.lastgroup), word, span))
+    column = len(text.lines[-1]) + 1 if text.lines else 1
+    last = max(len(text.lines), 1)
+    return found + [Token("end", "the end of the text", Span(last, column, last, column + 1))]

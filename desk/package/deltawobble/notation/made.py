@@ -6,8 +6,8 @@ from typing import Optional
 
 from ..answer import Refused
 from ..netlist import Netlist
-from ..sheet import Sheet
-from ..types import Type
+from ..sheet import Own, Sheet
+from ..types import BIT, Type, written
 from ..words import FORM, place_word
 from .maker import Maker, Record, encode
 from .parser import parse
@@ -28,9 +28,10 @@ class Made:
         self.file = file
         self.sheet, self.origins, self.nodes = encode(file, root)
 
-    def names(self) -> dict[int, list[str]]:
-        """The names of the variables that each node binds; those that the text does not name are called rest."""
-        return {number: [b.name if b.name != "." else "rest" for b in record.binds] for number, record in enumerate(self.nodes) if record.binds}
+    def own(self) -> Own:
+        """The text's own names; a variable that it does not name is called rest."""
+        binders = {number: [b.name if b.name != "." else "rest" for b in record.binds] for number, record in enumerate(self.nodes)}
+        return Own({number: names for number, names in binders.items() if names}, self.file.type_names)
 
     def record_of(self, refused: Refused) -> Optional[Record | Span]:
         """What in the text a refusal of the sheet is about."""
@@ -65,11 +66,18 @@ class Made:
             lines.append("     | put in at " + ", itself put in at ".join(spans))
         return lines
 
+    def _type(self, t: Type) -> str:
+        return written(t, self.file.type_names)
+
     def _word(self, refused: Refused, record: Record) -> str:
         """What stands behind the carets."""
         if refused.number == 12:
             types = Sheet.parse(self.sheet).types
-            return misfit(record, types[refused.found], None if refused.wanted == FORM else types[refused.wanted])
+            wanted = "" if refused.wanted == FORM else self._type(types[refused.wanted])
+            return misfit(record, types[refused.found].sharable, self._type(types[refused.found]), wanted)
+        if refused.number == 6 and record.kind == 0x17:
+            half = next((i for i, s in enumerate(record.subterms) if s.type and not s.type.sharable), 0)
+            return "its %s half has type %s" % (("first", "second")[half], self._type(record.subterms[half].type or BIT))
         if refused.number == 13:
             return "%s is linear, and is used here again" % record.body[0].name
         if refused.number == 14:
@@ -77,12 +85,12 @@ class Made:
         return ""
 
 
-def misfit(record: Record, found: Type, wanted: Optional[Type]) -> str:
-    """Refusal 12 in a few words."""
+def misfit(record: Record, sharable: bool, found: str, wanted: str) -> str:
+    """Refusal 12 in a few words: the type found, sharable or not, and the one wanted, if it is one type."""
     if record.kind in (0x14, 0x16):
-        if wanted is not None:
+        if wanted:
             return "wants %s, and gets %s" % (wanted, found)
-        return "has type %s, and is no function" % found if found.sharable else "has type %s" % found
+        return "has type %s, and is no function" % found if sharable else "has type %s" % found
     if record.kind == 0x18:
         return "has type %s, and is no pair" % found
     if record.kind == 0x19:

@@ -45,7 +45,8 @@ class Maker:
     """Makes the records of a file's main."""
 
     def __init__(self, file: File):
-        self.file, self.through, self.deep, self.count = file, (), 0, 0
+        self.file, self.deep, self.count = file, 0, 0
+        self.through: tuple[Span, ...] = ()
         self.inside: list[str] = ["main"]
 
     def main(self) -> Record:
@@ -84,7 +85,8 @@ class Maker:
         if term.name not in above:
             near = difflib.get_close_matches(term.name, [b.name for b in scope] + above + list(PART_NUMBERS), 1)
             later = " above: a definition knows those before it" if term.name in known else ""
-            raise NotationError(self.file.text, term.span, "%s is not defined%s" % (term.name, later), "did you mean %s?" % near[0] if near and not later else "")
+            hint = "did you mean %s?" % near[0] if near and not later else ""
+            raise NotationError(self.file.text, term.span, "%s is not defined%s" % (term.name, later), hint)
         kept = self.through
         self.inside.append(term.name)
         self.through = kept + (term.span,)

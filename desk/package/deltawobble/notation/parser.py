@@ -11,6 +11,8 @@ from .syntax import Apart, Apply, File, Fix, Fun, Let, Name, NotationError, Pair
 MOST_NESTED = 300
 #: single bits in a type that is written; a sheet's types have at most 128
 MOST_BITS = 1024
+#: characters of a type that messages write out; a longer one goes by its name
+MOST_WORDS = 12
 
 
 def parse(text: Text) -> File:
@@ -96,6 +98,8 @@ class Parser:
             raise self.fault("the type %s is defined twice" % name.text, name.span)
         self.expect("=", "behind the type's name")
         self.types[name.text] = self.type()
+        if len(str(self.types[name.text])) > MOST_WORDS:
+            self.result.type_names.setdefault(self.types[name.text], name.text)
 
     def table(self) -> None:
         self.next()

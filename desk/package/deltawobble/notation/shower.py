@@ -4,7 +4,7 @@ from __future__ import annotations
 from dataclasses import dataclass, field
 from typing import Optional
 
-from ..naming import Names, names_of
+from ..naming import names_of
 from ..sheet import Node, Sheet, part_name
 from ..types import BIT, Type, written
 
@@ -47,7 +47,7 @@ class Shower:
         ordered = canonical(self.sheet) == self.sheet.types
         listed = [] if ordered else self.sheet.types
         annotated = [b.type for bound in self.names.bound.values() for b in bound if b.node.kind in (0x13, 0x15, 0x19)]
-        needed = closed(listed + annotated)
+        needed = closed([*listed, *annotated])
         lines = []
         for number, t in enumerate(self.sheet.types):
             if t in needed and len(written(t, self.type_names)) > LONG:
@@ -56,8 +56,8 @@ class Shower:
                 self.type_names[t] = name
         return lines + wrapped("table ", [self.type(t) for t in listed])
 
-    def type(self, t: Type) -> str:
-        return written(t, self.type_names)
+    def type(self, t: Optional[Type]) -> str:
+        return written(t, self.type_names) if t else "?"
 
     # ---- terms
 
@@ -69,7 +69,7 @@ class Shower:
 
     def _shape(self, node: Node) -> tuple[Shape, int]:
         """The words of a node, and how closely they bind."""
-        if node.binder is not None:
+        if node.is_variable:
             return Shape(self.names.word(node)), ARGUMENT
         if node.kind == 0x1A:
             return Shape(part_name(node.part)), ARGUMENT
@@ -95,7 +95,8 @@ class Shower:
         """Binders that follow one another stand in one line while there is room; functions over one type share it."""
         head = ""
         while True:
-            word, names, t = "fix" if node.kind == 0x19 else "fun", [], self.names.bound[node.number][0].type
+            word, t = "fix" if node.kind == 0x19 else "fun", self.names.bound[node.number][0].type
+            names: list[str] = []
             while not names or word == "fun" and node.kind in (0x13, 0x15) and self.names.bound[node.number][0].type == t:
                 names.append(self.names.bound[node.number][0].name)
                 node = node.subterms[0]
@@ -193,7 +194,7 @@ def canonical(sheet: Sheet) -> list[Type]:
             found[t] = None
 
     for node in sheet.nodes:
-        if node.type_number is not None:
+        if node.type_number >= 0:
             add(sheet.types[node.type_number])
     return list(found)
 

@@ -126,3 +126,5 @@ class File:
     #: where each definition's name stands
     heads: dict[str, Span] = field(default_factory=dict)
     end: Optional[Span] = None
+    #: names of long types
+    type_names: dict[Type, str] = field(default_factory=dict)
