@@ -18,6 +18,8 @@ use Rattle.translator.specs.Said.{saidAnswer, called}
 use Rattle.translator.specs.declared.Answer as code
 use Rattle.translator.proofs.Places.{names-small}
 use Rattle.translator.proofs.WordLaws.{word-tells}
+use Rattle.export_calculus.specs.Verilog.{verilogCall}
+use Rattle.verilog.proofs.Places.{verilog-places, verilog-fits}
 use Rattle.translation.proofs.Places.{CallPlace, CallCount, call-places}
 use Rattle.batch.specs.Batch.{Batch}
 use Rattle.batch.specs.Left.{left}
@@ -68,6 +70,9 @@ fits s room (refusal {why} h) = let (w, f) = names-small s why (h .names) in (h 
 -- the number tells what a call said: two that answer the same number said the same
 pub packed-tells : (b b′ : Wish) (s s′ out out′ work work′ : List ℕ) → packed (call b s out work .said) ≡ packed (call b′ s′ out′ work′ .said) → call b s out work .said ≡ call b′ s′ out′ work′ .said
 packed-tells b b′ s s′ out out′ work work′ e = word-tells _ _ (fits s (length out) (call-places b s out work)) (fits s′ (length out′) (call-places b′ s′ out′ work′)) e
+
+pub verilog-tells : (s s′ out out′ work work′ : List ℕ) → packed (verilogCall s out work .said) ≡ packed (verilogCall s′ out′ work′ .said) → verilogCall s out work .said ≡ verilogCall s′ out′ work′ .said
+verilog-tells s s′ out out′ work work′ e = word-tells _ _ (verilog-fits s (length out) (verilog-places s out work)) (verilog-fits s′ (length out′) (verilog-places s′ out′ work′)) e
 
 -- ---- a stretch
 

@@ -33,8 +33,9 @@ use Rattle.circuit_theorems.proofs.Bounds.{few-pins}
 use Rattle.circuit_theorems.proofs.Told.{lean-known}
 use Rattle.export_calculus.specs.Card.{needAll, noRing, inputPlace}
 use Rattle.export_calculus.specs.Verilog.{moduleText, readVerilog, exported, export, verilogCall}
-use Rattle.export_theorems.specs.Broken.{KeptRing, LowestRing}
+use Rattle.export_theorems.specs.Broken.{Among, here, there, KeptRing, LowestRing}
 use Rattle.export_theorems.proofs.CardLaws.{Ringed, ring-refused, ring-free}
+use Rattle.export_theorems.proofs.VerilogLength.{verilog-few}
 use Rattle.export_theorems.proofs.VerilogRead.{ElementFour, FitsFour, verilog-read}
 
 -- ---- a formed netlist of known parts, with terminals below 8,192 and few pins, fits four digits
@@ -83,6 +84,20 @@ module _ (s : List ℕ) (m : Net) (e : full s ≡ good m) where
   -- the text, read by the definition of the subset, is the lean netlist
   pub verilog-sheet : readVerilog (moduleText (lean m)) ≡ some (lean m)
   verilog-sheet = verilog-read (lean m) lean-four
+
+  -- a kept ring point is one of its elements
+  pub ring-low : (i : ℕ) → KeptRing (lean m) i → i < 10000
+  ring-low i r = let h : i + 2 < 10000 = among (lean m .elements) (lean-four .elements) (r .kept) in omega arith
+    where
+      among : (es : List Element) → All ElementFour es → Among (point i) es → i + 2 < 10000
+      among (x ∷ es) a here = a .0
+      among (x ∷ es) a (there k) = among es (a .1) k
+
+  -- output bytes that always do
+  pub verilog-enough : length (moduleText (lean m)) ≤ 395400
+  verilog-enough =
+      let f = formed s m e in
+      omega (arith, verilog-few (lean m) (lean-formed m (f .net)) (lean-known s m e), lean-end m (f .net), f .few, lean-pins m, few-pins s m e)
 
   -- ---- the call's three ways out, by the rings of the lean netlist and the room
 

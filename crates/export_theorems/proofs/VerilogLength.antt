@@ -1,11 +1,15 @@
 -- The length of the text, by counting lines: a form has one length, whatever its numbers. Assumes nothing.
-use Prim.Native.Nat.{ℕ, _+_, _*_}
+use Prim.Native.Nat.{ℕ, zero, suc, _+_, _*_, _≤_}
 use mathlib.Core.Path.{_≡_, refl, ap}
 use mathlib.Core.Bool.{Bool, true, false, cond}
 use mathlib.Core.List.{List, [], _∷_, _++_, map}
 use native.Mathlib.Omega.{arith}
 use lib.ListN.{length, getD, length-append}
-use Rattle.calculus.specs.Net.{Interface, inp, out, Wire, Net}
+use Rattle.calculus.specs.Net.{Interface, inp, out, Element, point, part, Wire, Net}
+use Rattle.calculus.specs.NetRead.{Known}
+use Rattle.calculus.specs.Record.{All}
+use Rattle.circuit_theorems.specs.Formed.{Rising, Formed}
+use Rattle.circuit_theorems.proofs.Counts.{wires-few}
 use Rattle.export_calculus.specs.Verilog.{elementForms, portForms, assignForms, header, portsEnd, moduleEnd, fourDigits, isMark, pick, letter, filled, Line, lineText, linesText, lineOfElement, lineOfWire, linesOfPins, linesOfPorts, moduleText}
 
 letter-length : (c x y z : ℕ) → length (letter c x y z) ≡ length (letter c 0 0 0)
@@ -43,6 +47,26 @@ pins-size k [] = refl
 pins-size k (inp i ∷ ts) = omega (arith, pins-size (k + 1) ts)
 pins-size k (out o ∷ ts) = omega (arith, pins-size (k + 1) ts)
 
+ports-size : (k : ℕ) (ts : Interface) → sizes portForms (linesOfPorts k ts) ≤ 16 * length ts
+unfolding portForms letter
+ports-size k [] = omega arith
+ports-size k (inp i ∷ ts) = omega (arith, ports-size (k + 1) ts)
+ports-size k (out o ∷ ts) = omega (arith, ports-size (k + 1) ts)
+
+-- at most 33 bytes for each terminal
+elements-size : (es : List Element) (n e : ℕ) → Rising es n e → All Known es → sizes elementForms (map lineOfElement es) + 33 * n ≤ 33 * e
+unfolding elementForms letter
+elements-size [] n e a k = omega (arith, a)
+elements-size (point i ∷ es) n e a k = omega (arith, a .0, elements-size es (i + 2) e (a .1) (k .1))
+elements-size (part zero i ∷ es) n e a k = omega (arith, a .0, elements-size es (i + 0 + 1) e (a .1) (k .1))
+elements-size (part (suc zero) i ∷ es) n e a k = omega (arith, a .0, elements-size es (i + 1 + 1) e (a .1) (k .1))
+elements-size (part (suc (suc zero)) i ∷ es) n e a k = omega (arith, a .0, elements-size es (i + 2 + 1) e (a .1) (k .1))
+elements-size (part (suc (suc (suc zero))) i ∷ es) n e a k = omega (arith, a .0, elements-size es (i + 2 + 1) e (a .1) (k .1))
+elements-size (part (suc (suc (suc (suc zero)))) i ∷ es) n e a k = omega (arith, a .0, elements-size es (i + 2 + 1) e (a .1) (k .1))
+elements-size (part (suc (suc (suc (suc (suc zero))))) i ∷ es) n e a k = omega (arith, a .0, elements-size es (i + 1 + 1) e (a .1) (k .1))
+elements-size (part (suc (suc (suc (suc (suc (suc zero)))))) i ∷ es) n e a k = omega (arith, a .0, elements-size es (i + 0 + 1) e (a .1) (k .1))
+elements-size (part (suc (suc (suc (suc (suc (suc (suc p))))))) i ∷ es) n e a k = absurd (omega (arith, k .0))
+
 fixed : length header + length portsEnd + length moduleEnd ≡ 44
 unfolding header portsEnd moduleEnd
 fixed = refl
@@ -71,3 +95,8 @@ verilog-length m =
       wires-size (m .wires),
       pins-size 0 (m .pins),
     )
+
+-- a netlist of known parts with so many terminals and pins
+pub verilog-few : (m : Net) (ok : Formed m) → All Known (m .elements) → 3 * length (moduleText m) ≤ 132 + 143 * ok .end + 114 * length (m .pins)
+verilog-few m ok k =
+    omega (arith, verilog-length m, ports-size 0 (m .pins), elements-size (m .elements) 0 (ok .end) (ok .rising) k, wires-few m ok)

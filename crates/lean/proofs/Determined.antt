@@ -13,11 +13,16 @@ use Rattle.calculus.specs.Net.{Net}
 use Rattle.calculus.specs.Lean.{root}
 use Rattle.calculus.specs.Inputs.{isOut}
 use Rattle.memory.specs.Map.{rootsAt, rootsEnd}
+use Rattle.netlist.proofs.Determined.{one-terminal}
 use Rattle.lean.specs.Table.{entry, Rooted}
 use Rattle.lean.proofs.roots.Kinds as roots
 use Rattle.lean.proofs.roots.Reads as roots-reads
 use Rattle.lean.proofs.lean_length.Kinds as lean-length
 use Rattle.lean.proofs.lean_length.Reads as lean-length-reads
+use Rattle.lean.proofs.table.is_kept.Kinds as is-kept
+use Rattle.lean.proofs.table.is_kept.Reads as is-kept-reads
+use Rattle.lean.proofs.write.lean_pin.Kinds as lean-pin
+use Rattle.lean.proofs.write.lean_pin.Reads as lean-pin-reads
 use Rattle.lean.proofs.write_lean.Kinds as write-lean
 use Rattle.lean.proofs.write_lean.Reads as write-lean-reads
 
@@ -47,3 +52,9 @@ lean-length-determined κs a x y s t f g = f ∙ sym g
 
 pub write-lean-determined : Results write-lean.ps write-lean.r write-lean-reads.Post (λ κs s. s .1 .0 .now)
 write-lean-determined κs a x y s t f g = (f .0 ∙ sym (g .0), f .1 ∙ sym (g .1))
+
+pub is-kept-determined : Result is-kept.ps is-kept.r is-kept-reads.Post
+is-kept-determined κs a x y s t f g = f ∙ sym g
+
+pub lean-pin-determined : Result lean-pin.ps lean-pin.r lean-pin-reads.Post
+lean-pin-determined κs a x y s t f g = one-terminal x y (f ∙ sym g)

@@ -42,7 +42,7 @@ use Rattle.netlist.proofs.full_length.Reads as full-length-reads
 use Rattle.netlist.proofs.write_full.Kinds as write-full
 use Rattle.netlist.proofs.write_full.Reads as write-full-reads
 
-one-terminal : (x y : Terminal) → saidTerminal x ≡ saidTerminal y → x ≡ y
+pub one-terminal : (x y : Terminal) → saidTerminal x ≡ saidTerminal y → x ≡ y
 one-terminal (Input i) (Input j) e = let h : i .0 ≡ j .0 = cc in ap (λ (x : ℕ). Input (record { 0 = x })) h
 one-terminal (Input i) (Output p) e = cc
 one-terminal (Output o) (Input j) e = cc

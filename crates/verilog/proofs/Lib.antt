@@ -4,3 +4,4 @@ pub mod ModuleLaws
 pub mod ExportLaws
 pub mod CallLaws
 pub mod Determined
+pub mod Places
