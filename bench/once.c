@@ -1,6 +1,7 @@
 /* Calls a translator once on each sheet, for counting instructions; linked with the proved one, with
-   second_once.rs or with limit_once.c: once full|lean|none|lengths ROOM FILE ROOM FILE ..
-   `none` does all but the calls; `lengths` prints the bytes of both netlists, 0 where refused. */
+   second_once.rs or with limit_once.c: once full|lean|plain|lean-plain|none|lengths ROOM FILE ROOM FILE ..
+   `plain` is the full netlist in plain kinds, `lean-plain` the lean one; `none` does all but the calls;
+   `lengths` prints the bytes of both netlists with nodes, 0 where refused. */
 #include <stdbool.h>
 #include <stdint.h>
 #include <stdio.h>
@@ -8,13 +9,13 @@
 #include <string.h>
 
 uint64_t deltawobble_translate(const uint8_t *sheet, size_t sheet_len, uint8_t *out, size_t out_len,
-                               uint16_t *work, size_t work_len, bool lean);
+                               uint16_t *work, size_t work_len, bool lean, bool plain);
 
 static uint8_t sheet[16385], out[57728];
 static uint16_t work[32768];
 
 static unsigned length_of(size_t length, size_t room, bool lean) {
-    uint64_t answer = deltawobble_translate(sheet, length, out, room, work, 32768, lean);
+    uint64_t answer = deltawobble_translate(sheet, length, out, room, work, 32768, lean, false);
     return answer >> 32 ? 0 : (unsigned)answer;
 }
 
@@ -32,7 +33,8 @@ int main(int count, char **words) {
         if (strcmp(words[1], "lengths") == 0)
             printf("%u %u\n", length_of(length, room, false), length_of(length, room, true));
         else if (strcmp(words[1], "none") != 0)
-            deltawobble_translate(sheet, length, out, room, work, 32768, strcmp(words[1], "lean") == 0);
+            deltawobble_translate(sheet, length, out, room, work, 32768, strncmp(words[1], "lean", 4) == 0,
+                                  strstr(words[1], "plain") != 0);
     }
     return ground;
 }

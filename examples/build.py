@@ -5,13 +5,16 @@
 """
 import os
 
-from terms import app, arrow, bit, const, fix, fun, gate, let, lolli, pair, prod, proj, sheet
+from terms import app, arrow, bit, first, fix, fun, pair, prod, proj, second, sheet
 
 HERE = os.path.dirname(os.path.abspath(__file__))
 
 
-def write(name, meaning, term):
-    lines = sheet(term)
+const, gate = first.const, first.gate
+
+
+def write(name, meaning, term, edition=first):
+    lines = sheet(term, edition)
     with open(os.path.join(HERE, name + ".hex"), "w") as out:
         for m in meaning.strip().split("\n"):
             out.write("# %s\n" % m.strip())
@@ -19,11 +22,16 @@ def write(name, meaning, term):
             out.write("%-12s # %s\n" % (" ".join("%02X" % b for b in own), words))
 
 
-def full_adder(a, b, c, body):
+def full_adder(edition, a, b, c, body):
     """sum and carry of three bits, named once each"""
+    gate, let = edition.gate, edition.let
     return let("h", gate("xor", a, b), lambda h:
            let("s", gate("xor", h, c), lambda s:
            let("k", gate("or", gate("and", a, b), gate("and", h, c)), lambda k: body(s, k))))
+
+
+def one_adder(edition):
+    return fun("a", bit, lambda a: fun("b", bit, lambda b: fun("c", bit, lambda c: full_adder(edition, a, b, c, pair))))
 
 
 def vector(n):
@@ -45,7 +53,29 @@ def ripple(xs, ys, c, sums=()):
     if not xs:
         return together(list(sums) + [c])
     # a projection costs one level of depth a stage, where names by functions would cost six: 64 levels are the limit
-    return proj(full_adder(xs[0], ys[0], c, pair), "s%d" % len(sums), "k%d" % len(sums), lambda s, k: ripple(xs[1:], ys[1:], k, tuple(sums) + (s,)))
+    return proj(full_adder(first, xs[0], ys[0], c, pair), "s%d" % len(sums), "k%d" % len(sums), lambda s, k: ripple(xs[1:], ys[1:], k, tuple(sums) + (s,)))
+
+
+def named_ripple(xs, ys, c, sums=()):
+    """the same with names by 1B, three levels of depth a stage: sum and carry need no pair to leave it"""
+    if not xs:
+        return together(list(sums) + [c])
+    return full_adder(second, xs[0], ys[0], c, lambda s, k: named_ripple(xs[1:], ys[1:], k, tuple(sums) + (s,)))
+
+
+def adder_8(stages, zero):
+    return fun("x", vector(8), lambda x: fun("y", vector(8), lambda y:
+        apart(x, 8, "x", lambda xs: apart(y, 8, "y", lambda ys: stages(xs, ys, zero)))))
+
+
+def comparator(edition):
+    """the state is (greater, diverged)"""
+    gate, let = edition.gate, edition.let
+    return fun("x", bit, lambda x: fun("y", bit, lambda y: fix("s", prod(bit, bit), lambda s: proj(s, "greater", "diverged", lambda g, d:
+        let("old", gate("reg", d), lambda old:
+        let("differ", gate("xor", x, y), lambda differ:
+            pair(gate("or", gate("reg", g), gate("and", gate("inv", old), gate("and", differ, x))),
+                 gate("or", old, differ))))))))
 
 
 def main():
@@ -68,12 +98,20 @@ def main():
     write("full-adder", """
         A full adder: three bits in; out comes the pair of sum and carry.
         Pins: a, b, c in, then sum, carry.""",
-          fun("a", bit, lambda a: fun("b", bit, lambda b: fun("c", bit, lambda c: full_adder(a, b, c, pair)))))
+          one_adder(first))
+    write("full-adder-second", """
+        The full adder in the second edition: the gates take pairs, and names (1B) need no points.
+        Pins: a, b, c in, then sum, carry.""",
+          one_adder(second), second)
     write("ripple-adder-8", """
         A ripple adder of 8 bits: two vectors (pairs nested to the right, least bit first); out come 8 sum bits and the carry.
         Pins: 8 bits of x, 8 bits of y, then 8 sums and the carry.""",
-          fun("x", vector(8), lambda x: fun("y", vector(8), lambda y:
-              apart(x, 8, "x", lambda xs: apart(y, 8, "y", lambda ys: ripple(xs, ys, const("zero")))))))
+          adder_8(ripple, const("zero")))
+    write("ripple-adder-8-second", """
+        The ripple adder of 8 bits in the second edition. Each stage names its sum and its carry (1B) for the stages below it:
+        no pair, no projection, and three levels of depth a stage where names by functions would cost six.
+        Pins: 8 bits of x, 8 bits of y, then 8 sums and the carry.""",
+          adder_8(named_ripple, second.const("zero")), second)
 
     def shift(r, n, seed, taps):
         """a register chain in a loop: bit 0 takes the feedback, every other the bit before it"""
@@ -99,18 +137,18 @@ def main():
         The same function, not applied: the card's user plugs the two circuits in.
         Pins: the first circuit's input (an output here) and output (an input here), the second's, then the bit in and the bit out.""",
           fun("f", chain_ty, lambda f: fun("g", chain_ty, lambda g: fun("x", bit, lambda x: app(g, app(f, x))))))
-    state = prod(bit, bit)
     write("comparator-divergence", """
         A bit-serial comparator of two streams, most significant bit first, with a divergence bit that stays once it is set.
         State: (greater, diverged). A stream that differs sets diverged; greater keeps the verdict of the first difference.
         This is so if both registers start with 0. If diverged's register starts with 1, diverged is 1 from tick 0 on and greater
         keeps its own start; if only greater's does, greater is 1 whatever comes.
         Pins: x, y in, then greater, diverged.""",
-          fun("x", bit, lambda x: fun("y", bit, lambda y: fix("s", state, lambda s: proj(s, "greater", "diverged", lambda g, d:
-              let("old", gate("reg", d), lambda old:
-              let("differ", gate("xor", x, y), lambda differ:
-                  pair(gate("or", gate("reg", g), gate("and", gate("inv", old), gate("and", differ, x))),
-                       gate("or", old, differ)))))))))
+          comparator(first))
+    write("comparator-divergence-second", """
+        The comparator with a divergence bit in the second edition: the gates take pairs, and the names old and differ (1B) need
+        no points. Both registers must start with 0; diverged's is made first here, where old is named.
+        Pins: x, y in, then greater, diverged.""",
+          comparator(second), second)
 
 
 if __name__ == "__main__":

@@ -109,7 +109,8 @@ def chain(c):
     return "from either start, which it shows inverted at tick 0"
 
 
-def comparator(c):
+def comparator(c, second=False):
+    """in the second edition diverged's register is made first, where old is named, and so it has the lower terminal"""
     rng = random.Random(9)
     xs, ys = [rng.randrange(2) for _ in range(20)], [0] * 20
     ys[:5] = xs[:5]
@@ -117,22 +118,38 @@ def comparator(c):
     compared = {(0, 0): ([0] * 5 + [xs[5]] * 15, [0] * 5 + [1] * 15), (1, 0): ([1] * 20, [0] * 5 + [1] * 15),
                 (0, 1): ([0] * 20, [1] * 20), (1, 1): ([1] * 20, [1] * 20)}
     for starts, (greater, diverged) in compared.items():
-        shown = c.run(starts, list(zip(xs, ys)))
+        shown = c.run(starts[::-1] if second else starts, list(zip(xs, ys)))
         assert [g for g, _ in shown] == greater and [d for _, d in shown] == diverged, starts
     return "from starts 0 0; from any other, greater keeps what it woke up with"
 
 
 CHECKS = {"full-adder": full_adder, "ripple-adder-8": lambda c: adder(c, 8), "shift-register-8": shift_register,
           "chain-two": chain, "comparator-divergence": comparator}
+# the same circuits in the second edition
+SECOND = {"full-adder": full_adder, "ripple-adder-8": lambda c: adder(c, 8), "comparator-divergence": lambda c: comparator(c, second=True)}
+
+
+def saved(one, two):
+    """the points and wires that the second edition's full netlist is without"""
+    lines = [text.split("\nlean\n")[0].split("\n") for text in (one, two)]
+    points, wires = [[sum(line.startswith(word) for line in half) for half in lines] for word in ("point", "wire")]
+    return "%d of %d points and %d of %d wires" % (points[0] - points[1], points[0], wires[0] - wires[1], wires[0])
+
+
+def listing(name):
+    with open(os.path.join(sys.argv[1], name + ".listing")) as f:
+        return f.read()
 
 
 def main():
     if len(sys.argv) != 2:
         sys.exit(__doc__)
     for name, check in sorted(CHECKS.items()):
-        with open(os.path.join(sys.argv[1], name + ".listing")) as f:
-            starts = check(Circuit(f.read()))
-        print("%s does what it is for: %s" % (name, starts))
+        text = listing(name)
+        print("%s does what it is for: %s" % (name, check(Circuit(text))))
+        if name in SECOND:
+            again = listing(name + "-second")
+            print("%s-second too: %s; it saves %s" % (name, SECOND[name](Circuit(again)), saved(text, again)))
 
 
 if __name__ == "__main__":

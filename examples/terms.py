@@ -35,9 +35,25 @@ def lolli(a, b):
     return Ty(4, a, b)
 
 
-GATE1 = arrow(bit, bit)
-GATE2 = arrow(bit, GATE1)
-PART_TYPES = [bit, GATE1, GATE2, GATE2, GATE2, GATE1, bit]
+class Edition:
+    """what an edition decides (document 02, L7): its first byte, the type of the two-input gates, how a value gets a name"""
+
+    def __init__(self, opening, gate_type, naming):
+        one = arrow(bit, bit)
+        self.opening, self.naming = opening, naming
+        self.part_types = [bit, one, gate_type, gate_type, gate_type, one, bit]
+
+    def const(self, name):
+        p = PARTS.index(name)
+        return Node(0x1A, [p, self.part_types[p]], [], [], self.part_types[p], name)
+
+    def gate(self, name, *args):
+        part = self.const(name)
+        return app(part, *(args if part.ty.left == bit else [pair(*args)]))
+
+    def let(self, name, value, body):
+        """a name for a value of sharable type"""
+        return self.naming(name, node(value), body)
 
 
 class Binder:
@@ -107,19 +123,18 @@ def fix(name, ty, body):
     return Node(0x19, [ty], [e], [b], ty, "fix %s : %s" % (name, ty))
 
 
-def const(name):
-    p = PARTS.index(name)
-    return Node(0x1A, [p, PART_TYPES[p]], [], [], PART_TYPES[p], name)
-
-
-def gate(name, *args):
-    return app(const(name), *args)
-
-
-def let(name, value, body):
-    """a name for a value of sharable type: a function applied to it"""
-    value = node(value)
+def by_function(name, value, body):
     return app(fun(name, value.ty, lambda x: node(body(x))), value)
+
+
+def by_naming(name, value, body):
+    b = Binder(name, value.ty)
+    e = node(body(var_maker(b)))
+    return Node(0x1B, [], [value, e], [b], e.ty, "name %s" % name)
+
+
+first = Edition([], arrow(bit, arrow(bit, bit)), by_function)
+second = Edition([0x31], arrow(prod(bit, bit), bit), by_naming)
 
 
 def collect(term, table):
@@ -140,13 +155,13 @@ def collect(term, table):
     go(term)
 
 
-def sheet(term):
+def sheet(term, edition):
     """the sheet's lines: (bytes, comment)"""
     term = node(term)
     table = [bit]
     collect(term, table)
     number = lambda t: next(i for i, q in enumerate(table) if q == t)
-    lines = []
+    lines = [(edition.opening, "second edition")] if edition.opening else []
     for i, t in enumerate(table):
         own = [t.kind] if t.kind == 1 else [t.kind, number(t.left), number(t.right)]
         lines.append((own, "type %d: %s" % (i, t)))

@@ -1,4 +1,4 @@
-/* Calls the proved translator from C: prints P3's full and lean netlist in hex, or the refusal. */
+/* Calls the proved translator from C: prints P3's full and lean netlist, in plain kinds, in hex, or the refusal. */
 #include "deltawobble.h"
 #include <stdio.h>
 
@@ -8,7 +8,7 @@ static uint8_t out[DELTAWOBBLE_ROOM];
 static uint16_t work[DELTAWOBBLE_MEMORY];
 
 static void show(const char *name, bool lean) {
-    uint64_t answer = deltawobble_translate(sheet, sizeof sheet, out, sizeof out, work, DELTAWOBBLE_MEMORY, lean);
+    uint64_t answer = deltawobble_translate(sheet, sizeof sheet, out, sizeof out, work, DELTAWOBBLE_MEMORY, lean, true);
     uint32_t number = answer >> 32 & 255, value = (uint32_t)answer;
     if (number) {
         printf("%s refused %u %u\n", name, number, value);

@@ -9,13 +9,14 @@ extern "C" {
         work: *mut u16,
         work_len: usize,
         lean: bool,
+        plain: bool,
     ) -> u64;
 }
 
 /// A refusal's number and place.
 struct Refusal(u32, u32);
 
-/// The bytes of a sheet's netlist. 41,344 bytes of output always do.
+/// The bytes of a sheet's netlist in plain kinds. 41,344 bytes of output always do.
 fn translate(sheet: &[u8], lean: bool) -> Result<Vec<u8>, Refusal> {
     let mut out = vec![0u8; 41_344];
     let mut work = vec![0u16; 32_768];
@@ -30,6 +31,7 @@ fn translate(sheet: &[u8], lean: bool) -> Result<Vec<u8>, Refusal> {
             work.as_mut_ptr(),
             memory,
             lean,
+            true,
         )
     };
     match ((answer >> 32 & 255) as u32, answer as u32) {

@@ -7,9 +7,9 @@ use lib.ListN.{length}
 use Rattle.calculus.specs.Answer.{Answer, good, refused, _>>=_, refuse, clash, aForm}
 use Rattle.calculus.specs.Net.{Net, Interface, inp, out, Element, point, part, Wire}
 use Rattle.calculus.specs.Lean.{lean}
-use Rattle.calculus.specs.Makers.{makersOf, leanMakers, netNodeBytes, dropNodes}
+use Rattle.calculus.specs.Makers.{dropNodes}
 use Rattle.calculus.specs.NetRead.{readNet}
-use Rattle.calculus.specs.Translate.{full, answer}
+use Rattle.calculus.specs.Translate.{full, Wish, answer}
 use Rattle.calculus.specs.Listing.{Text, listing}
 
 infix 80 _⟶_
@@ -313,29 +313,39 @@ clashes = T1 ∷ T2 ∷ T3 ∷ T4 ∷ T5 ∷ T6 ∷ T7 ∷ T8 ∷ T9 ∷ T10 ∷
 
 -- ---- what the definitions answer
 
+-- the two netlists, plain and with nodes
+abbrev fullPlain : Wish
+fullPlain = record { lean = false; plain = true }
+
+abbrev leanPlain : Wish
+leanPlain = record { lean = true; plain = true }
+
+abbrev fullNodes : Wish
+fullNodes = record { lean = false; plain = false }
+
+abbrev leanNodes : Wish
+leanNodes = record { lean = true; plain = false }
+
 -- a call with enough memory and room
-abbrev bytesOf : Bool → List ℕ → Answer (List ℕ)
-bytesOf wantLean s = answer 32768 wantLean s 41344
+abbrev bytesOf : Wish → List ℕ → Answer (List ℕ)
+bytesOf w s = answer 32768 w s 57728
 
 unfoldable pub run : List ℕ → Answer Both
 run s = do
   m ← full s
-  f ← bytesOf false s
-  l ← bytesOf true s
-  good (record {
-    full = m;
-    fullBytes = f;
-    fullNodes = netNodeBytes m (makersOf s);
-    lean = lean m;
-    leanBytes = l;
-    leanNodes = netNodeBytes (lean m) (leanMakers m (makersOf s));
-  })
+  f ← bytesOf fullPlain s
+  fn ← bytesOf fullNodes s
+  l ← bytesOf leanPlain s
+  ln ← bytesOf leanNodes s
+  good (record { full = m; fullBytes = f; fullNodes = fn; lean = lean m; leanBytes = l; leanNodes = ln })
 
--- the answers of calls that lack something: memory of 32,767 numbers (1), and room one byte short (17), full and lean
+-- the answers of calls that lack something: memory of 32,767 numbers (1), and room one byte short (17), for each wish
 pub record Lacking : Type 0 where
   pub memory : Answer (List ℕ)
   pub fullRoom : Answer (List ℕ)
+  pub fullNodesRoom : Answer (List ℕ)
   pub leanRoom : Answer (List ℕ)
+  pub leanNodesRoom : Answer (List ℕ)
 
 abbrev short : List ℕ → ℕ
 short [] = 0
@@ -343,16 +353,30 @@ short (b ∷ bs) = length bs
 
 unfoldable pub lacking : List ℕ → Answer Both → Lacking
 lacking s (good b) = record {
-  memory = answer 32767 false s 41344;
-  fullRoom = answer 32768 false s (short (b .fullBytes));
-  leanRoom = answer 32768 true s (short (b .leanBytes));
+  memory = answer 32767 fullNodes s 57728;
+  fullRoom = answer 32768 fullPlain s (short (b .fullBytes));
+  fullNodesRoom = answer 32768 fullNodes s (short (b .fullNodes));
+  leanRoom = answer 32768 leanPlain s (short (b .leanBytes));
+  leanNodesRoom = answer 32768 leanNodes s (short (b .leanNodes));
 }
-lacking s (refused why) = record { memory = answer 32767 false s 0; fullRoom = answer 32768 false s 0; leanRoom = answer 32768 true s 0 }
+lacking s (refused why) = record {
+  memory = answer 32767 fullNodes s 0;
+  fullRoom = answer 32768 fullPlain s 0;
+  fullNodesRoom = answer 32768 fullNodes s 0;
+  leanRoom = answer 32768 leanPlain s 0;
+  leanNodesRoom = answer 32768 leanNodes s 0;
+}
 
 -- 1 before all else; 17 with the length needed, after all else
 unfoldable pub lacks : Answer Both → Lacking
-lacks (good b) = record { memory = refuse 1 0; fullRoom = refuse 17 (length (b .fullBytes)); leanRoom = refuse 17 (length (b .leanBytes)) }
-lacks (refused why) = record { memory = refuse 1 0; fullRoom = refused why; leanRoom = refused why }
+lacks (good b) = record {
+  memory = refuse 1 0;
+  fullRoom = refuse 17 (length (b .fullBytes));
+  fullNodesRoom = refuse 17 (length (b .fullNodes));
+  leanRoom = refuse 17 (length (b .leanBytes));
+  leanNodesRoom = refuse 17 (length (b .leanNodes));
+}
+lacks (refused why) = record { memory = refuse 1 0; fullRoom = refused why; fullNodesRoom = refused why; leanRoom = refused why; leanNodesRoom = refused why }
 
 -- both netlists, as their bytes tell them
 abbrev pub reads : Answer Both → List (Answer Net)

@@ -1,4 +1,4 @@
--- The whole translation, as a call has it (document 01, "Numbers of the refusals"). Assumes nothing.
+-- The whole translation, as a call has it (document 01, "Numbers of the refusals"; document 02, L6). Assumes nothing.
 use Prim.Native.Nat.{ℕ}
 use mathlib.Core.Bool.{Bool, cond}
 use mathlib.Core.List.{List, [], _++_}
@@ -7,8 +7,9 @@ use lib.ListN.{length, drop, replicate}
 use Rattle.calculus.specs.Answer.{Answer, good, refused, _>>=_, need}
 use Rattle.calculus.specs.Read.{readSheet}
 use Rattle.calculus.specs.Walk.{walk}
-use Rattle.calculus.specs.Net.{Net, make, netOf, netBytes}
+use Rattle.calculus.specs.Net.{Net, make, netOf}
 use Rattle.calculus.specs.Lean.{lean}
+use Rattle.calculus.specs.Makers.{makersOf, leanMakers, written}
 
 -- the full netlist of a sheet, or refusal 2 to 16
 unfoldable pub full : List ℕ → Answer Net
@@ -19,16 +20,29 @@ full s = do
     _ ← need (leb (m .next) 8192) 16 0
     good (netOf m)
 
+-- what a caller wishes: the lean netlist or the full one; the plain kinds 21 and 22, or every element with its node (document 02, L6)
+pub record Wish : Type 0 where
+  pub lean : Bool
+  pub plain : Bool
+
 -- the netlist asked for: yes means lean
 abbrev pub asked : Bool → Net → Net
 asked wantLean m = cond wantLean (lean m) m
 
+-- the nodes that made its elements, by those of the full one's
+abbrev pub askedMakers : Bool → Net → List ℕ → List ℕ
+askedMakers wantLean m ks = cond wantLean (leanMakers m ks) ks
+
+-- its bytes, in the kinds asked for
+abbrev pub askedBytes : Wish → Net → List ℕ → List ℕ
+askedBytes w m ks = written (w .plain) (asked (w .lean) m) (askedMakers (w .lean) m ks)
+
 -- the bytes that a call writes, or its refusal: 1, then 2 to 16, then 17
-unfoldable pub answer : ℕ → Bool → List ℕ → ℕ → Answer (List ℕ)
-answer memory wantLean s room = do
+unfoldable pub answer : ℕ → Wish → List ℕ → ℕ → Answer (List ℕ)
+answer memory w s room = do
   _ ← need (leb 32768 memory) 1 0
   m ← full s
-  let out = netBytes (asked wantLean m) in do
+  let out = askedBytes w m (makersOf s) in do
     _ ← need (leb (length out) room) 17 (length out)
     good out
 
@@ -57,8 +71,8 @@ pub record Call : Type 0 where
   pub out : List ℕ
   pub work : List ℕ
 
--- a call: lent a sheet, an output and working memory, and told which netlist to write
-unfoldable pub call : Bool → List ℕ → List ℕ → List ℕ → Call
-call wantLean s out work =
-    let a = answer (length work) wantLean s (length out) in
+-- a call: lent a sheet, an output and working memory, and told which netlist to write, and in which kinds
+unfoldable pub call : Wish → List ℕ → List ℕ → List ℕ → Call
+call w s out work =
+    let a = answer (length work) w s (length out) in
     record { said = saidOf a; out = outOf a out; work = workOf work }

@@ -19,8 +19,9 @@ use Rattle.calculus.specs.Translate.{full}
 use Rattle.circuit_theorems.specs.Terminals.{terminals}
 use Rattle.circuit_theorems.proofs.Lists.{all-map}
 use Rattle.circuit_theorems.proofs.Terminals.{tiled-rising, rising-end}
-use Rattle.circuit_theorems.proofs.Drivers.{dirs, turns-size, Env, env-end, Driven, term-driven, opposite, dirs-left, dirs-in}
-use Rattle.circuit_theorems.proofs.Outputs.{tiled, Named, names-below}
+use Rattle.circuit_theorems.proofs.Drivers.{turns-size, Driven, term-driven, opposite, dirs-left, dirs-in}
+use Rattle.circuit_theorems.specs.Scope.{dirs, Env, env-end}
+use Rattle.circuit_theorems.proofs.Outputs.{tiled, EndHolds, names-below}
 use Rattle.circuit_theorems.proofs.Counts.{part-inputs, elements-few, wires-few, bytes-few, lean-bytes}
 use Rattle.sheet_theorems.proofs.Laying.{laid}
 use Rattle.circuit_theorems.proofs.Main.{Accepts, accepts, formed}
@@ -206,7 +207,7 @@ pub record Names (m : Net) : Type 0 where
   pub wires : All (λ w. (w .from < 8192) × (w .to < 8192)) (m .wires)
   pub pins : All (λ p. number p < 8192) (m .pins)
 
-pin-below : (p : Terminal) → Named (λ x. x < 8192) (λ x. x < 8192) p → number p < 8192
+pin-below : (p : Terminal) → EndHolds (λ x. x < 8192) (λ x. x < 8192) p → number p < 8192
 pin-below (inp i) h = h
 pin-below (out o) h = h
 
@@ -217,7 +218,7 @@ names-net Θ e h =
     record {
       elements = rising-below 8192 (m .elements) 0 (m .next) (tiled-rising (m .elements) 0 (m .next) (tiled Θ e [] 0)) h;
       wires = r .wires;
-      pins = all-map (Named (λ x. x < 8192) (λ x. x < 8192)) (λ p. number p < 8192) pin-below (m .side) (r .side);
+      pins = all-map (EndHolds (λ x. x < 8192) (λ x. x < 8192)) (λ p. number p < 8192) pin-below (m .side) (r .side);
     }
 
 module _ (s : List ℕ) (m : Net) (ok : full s ≡ good m) where

@@ -18,7 +18,8 @@ use Rattle.calculus.specs.Inputs.{tally, ins, madeAt, targets}
 use Rattle.circuit_theorems.specs.Formed.{Rising, Formed}
 use Rattle.circuit_theorems.proofs.Lists.{all-map}
 use Rattle.circuit_theorems.proofs.Terminals.{tiled-rising, rising-end, made-high, no-ins, each-target}
-use Rattle.circuit_theorems.proofs.Drivers.{linears, Env, term-driven}
+use Rattle.circuit_theorems.proofs.Drivers.{linears, term-driven}
+use Rattle.circuit_theorems.specs.Scope.{Env}
 use Rattle.circuit_theorems.proofs.Outputs.{Shows, Runs, BoundShows, tiled, names-below}
 use Rattle.circuit_theorems.proofs.Forming.{free-targets, pin-targets, lean-formed, lean-end}
 

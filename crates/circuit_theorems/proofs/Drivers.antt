@@ -15,6 +15,7 @@ use Rattle.calculus.specs.Terms.{Edition, first, second, Term, partAt}
 use Rattle.calculus.specs.Rules.{many, once, away, Ctx, NoLinear, none-end, none-many, none-away, InΓ, in-here, in-many, in-away, IsΔ, is-here, is-many, is-away, Split, split-end, split-many, split-first, split-second, split-away, Typed, Var, LVar, →I, →E, ⊸I, ⊸E, ×I, ×E, Fix, Con, ×E′}
 use Rattle.calculus.specs.Net.{Terminal, inp, out, Interface, turns, Element, point, part, Wire, points, inSide, outSide, join, partSide, Bound, unbound, Made, leftOf, rightOf, binder, madeVar, madeFun, madeApp, madePair, firstHalf, secondHalf, wholeOf, madeProj, madeFix, madeCon, make}
 use Rattle.calculus.specs.Inputs.{ins, madeAt, targets}
+use Rattle.circuit_theorems.specs.Scope.{dir, dirs, Suits, Env, env-end, env-many, env-once, env-away}
 
 -- ---- counts of an input terminal
 
@@ -39,15 +40,6 @@ made-append (part p j ∷ s) t i = omega (arith, made-append s t i)
 pub targets-append : (s t : List Wire) (i : ℕ) → targets (s ++ t) i ≡ targets s i + targets t i
 targets-append [] t i = omega arith
 targets-append (w ∷ s) t i = omega (arith, targets-append s t i)
-
--- ---- directions: true at an input terminal
-
-abbrev pub dir : Terminal → Bool
-dir (inp i) = true
-dir (out o) = false
-
-abbrev pub dirs : Interface → List Bool
-dirs s = map dir s
 
 pub dirs-in : (ts : List Bool) (n : ℕ) → dirs (inSide ts n) ≡ map not ts
 dirs-in [] n = refl
@@ -129,16 +121,6 @@ ins-parts k s i = sym (ins-append (take k s) (drop k s) i) ∙ ap (λ (r : Inter
 
 -- ---- the binders' interfaces fit the context
 
-pub record Fits (τ : Ty) (b : Bound) : Type 0 where
-  pub type : b .type ≡ τ
-  pub dirs : dirs (b .side) ≡ turns false τ
-
-pub data Env : Ctx → List Bound → Type 0 where
-  env-end : Env [] []
-  env-many : {θ : Ty} {b : Bound} {Γ : Ctx} {env : List Bound} → T (sharable θ) → Fits θ b → Env Γ env → Env (many θ ∷ Γ) (b ∷ env)
-  env-once : {κ : Ty} {b : Bound} {Γ : Ctx} {env : List Bound} → Fits κ b → Env Γ env → Env (once κ ∷ Γ) (b ∷ env)
-  env-away : {b : Bound} {Γ : Ctx} {env : List Bound} → Env Γ env → Env (away ∷ Γ) (b ∷ env)
-
 pub split-env : {Γ Γ₁ Γ₂ : Ctx} {env : List Bound} → Split Γ Γ₁ Γ₂ → Env Γ env → Env Γ₁ env × Env Γ₂ env
 split-env split-end env-end = (env-end, env-end)
 split-env (split-many z) (env-many h f v) = let (p, q) = split-env z v in (env-many h f p, env-many h f q)
@@ -165,17 +147,17 @@ none-linears [] i (none-away z) = refl
 none-linears (b ∷ env) i (none-away z) = none-linears env i z
 
 -- a variable's interface
-pub record Shown (Γ : Ctx) (env : List Bound) (τ : Ty) (b : Bound) : Type 0 where
-  pub fits : Fits τ b
+pub record VariableShown (Γ : Ctx) (env : List Bound) (τ : Ty) (b : Bound) : Type 0 where
+  pub fits : Suits τ b
   pub count : (i : ℕ) → linears Γ env i ≡ ins (b .side) i
 
-shown-shared : {Γ : Ctx} {env : List Bound} {k : ℕ} {θ : Ty} → InΓ Γ k θ → Env Γ env → Shown Γ env θ (getD env k unbound)
+shown-shared : {Γ : Ctx} {env : List Bound} {k : ℕ} {θ : Ty} → InΓ Γ k θ → Env Γ env → VariableShown Γ env θ (getD env k unbound)
 shown-shared (in-here {θ = θ} z) (env-many {b = b} {env = env} h f v) =
     record { fits = f; count = λ i. none-linears env i z ∙ sym (outputs-only θ (b .side) i h (f .dirs)) }
 shown-shared (in-many x) (env-many h f v) = let r = shown-shared x v in record { fits = r .fits; count = r .count }
 shown-shared (in-away x) (env-away v) = let r = shown-shared x v in record { fits = r .fits; count = r .count }
 
-shown-linear : {Γ : Ctx} {env : List Bound} {k : ℕ} {κ : Ty} → IsΔ Γ k κ → Env Γ env → Shown Γ env κ (getD env k unbound)
+shown-linear : {Γ : Ctx} {env : List Bound} {k : ℕ} {κ : Ty} → IsΔ Γ k κ → Env Γ env → VariableShown Γ env κ (getD env k unbound)
 shown-linear (is-here z) (env-once {env = env} f v) =
     record { fits = f; count = λ i. omega (arith, none-linears env i z) }
 shown-linear (is-many x) (env-many h f v) = let r = shown-linear x v in record { fits = r .fits; count = r .count }
@@ -188,10 +170,10 @@ pub record Driven (Γ : Ctx) (env : List Bound) (τ : Ty) (m : Made) : Type 0 wh
   pub dirs : dirs (m .side) ≡ turns false τ
   pub count : (i : ℕ) → madeAt (m .elements) i + linears Γ env i ≡ targets (m .wires) i + ins (m .side) i
 
-pub binder-fits : (τ : Ty) (n : ℕ) → Fits τ (binder τ n)
+pub binder-fits : (τ : Ty) (n : ℕ) → Suits τ (binder τ n)
 binder-fits τ n = record { type = refl; dirs = dirs-out (turns false τ) n }
 
-var-driven : {Γ : Ctx} {env : List Bound} {τ : Ty} {b : Bound} (n : ℕ) → Shown Γ env τ b → Driven Γ env τ (madeVar b n)
+var-driven : {Γ : Ctx} {env : List Bound} {τ : Ty} {b : Bound} (n : ℕ) → VariableShown Γ env τ b → Driven Γ env τ (madeVar b n)
 var-driven n s = record { type = s .fits .type; dirs = s .fits .dirs; count = λ i. omega (arith, s .count i) }
 
 in-dirs : (α τ : Ty) (n : ℕ) (s : Interface) → dirs s ≡ turns false τ → dirs (inSide (turns false α) n ++ s) ≡ turns true α ++ turns false τ
@@ -279,7 +261,7 @@ module _ {Γ : Ctx} {env : List Bound} where
       count = λ i. omega (arith, c .count i, d .count i, split-linears env i z, made-append (a .elements) (e .elements) i, targets-append (a .wires) (e .wires) i, outputs-only θ (a .side) i sh (c .dirs));
     }
 
-pub halves : (θ₁ θ₂ : Ty) (a : Made) → a .type ≡ prod θ₁ θ₂ → dirs (a .side) ≡ turns false (prod θ₁ θ₂) → Fits θ₁ (firstHalf a) × Fits θ₂ (secondHalf a)
+pub halves : (θ₁ θ₂ : Ty) (a : Made) → a .type ≡ prod θ₁ θ₂ → dirs (a .side) ≡ turns false (prod θ₁ θ₂) → Suits θ₁ (firstHalf a) × Suits θ₂ (secondHalf a)
 halves θ₁ θ₂ a et ed = (
   record { type = ap leftOf et; dirs = rw et (dirs-left false θ₁ (turns false θ₂) (a .side) ed) },
   record { type = ap rightOf et; dirs = rw et (dirs-right false θ₁ (turns false θ₂) (a .side) ed) },

@@ -17,13 +17,13 @@ use Rattle.circuit_theorems.specs.Formed.{Shown, Tiled, Rising, Formed}
 use Rattle.circuit_theorems.proofs.RootLaws.{root-reached, root-root}
 use Rattle.circuit_theorems.proofs.BackLaws.{backs-out, pin-root}
 use Rattle.circuit_theorems.proofs.Drivers.{drivers, targets-append}
-use Rattle.circuit_theorems.proofs.Outputs.{Named, tiled, outputs}
+use Rattle.circuit_theorems.proofs.Outputs.{EndHolds, tiled, outputs}
 use Rattle.circuit_theorems.proofs.Lists.{all-map, all-append, all-cond}
 use Rattle.circuit_theorems.proofs.Terminals.{partIn, within, tiled-rising, made-one, part-made, pin-ins, no-ins, driver-fed}
 
 -- ---- the full netlist
 
-shown : (es : List Element) (p : Terminal) → Named (λ x. 1 ≤ madeAt es x) (λ x. T (isOut es x)) p → Shown es p
+shown : (es : List Element) (p : Terminal) → EndHolds (λ x. 1 ≤ madeAt es x) (λ x. T (isOut es x)) p → Shown es p
 shown es (inp i) s = tt
 shown es (out o) s = s
 
@@ -108,39 +108,39 @@ module _ (m : Net) where
       (λ t. or-right (eqb (i + partAt p .inputs) x) (isOut (keep m es) x) (keep-out es x e t))
 
   module _ (ok : Formed m) where
-    abbrev Kept : ℕ → Type 0
-    Kept x = T (isOut (keep m (m .elements)) x)
+    abbrev InLean : ℕ → Type 0
+    InLean x = T (isOut (keep m (m .elements)) x)
 
     -- the root of an output is kept
-    pub root-kept : (o : ℕ) → T (isOut (m .elements) o) → Kept (root m o)
+    pub root-kept : (o : ℕ) → T (isOut (m .elements) o) → InLean (root m o)
     root-kept o h =
         let (k, h₁, e) = root-reached m o in
         keep-out (m .elements) (root m o) (root-root m o) (subst (λ (x : ℕ). T (isOut (m .elements) x)) (sym e) (backs-out m ok k o h))
 
     -- ---- where the wires come from
 
-    from-inputs : (k i : ℕ) → ((x : ℕ) → T (within k i x) → T (partIn (m .elements) x)) → All (λ w. Kept (w .from)) (toInputs m k i)
+    from-inputs : (k i : ℕ) → ((x : ℕ) → T (within k i x) → T (partIn (m .elements) x)) → All (λ w. InLean (w .from)) (toInputs m k i)
     from-inputs zero i h = tt
     from-inputs (suc k) i h =
-        all-append (λ w. Kept (w .from)) (cond (isPin (m .pins) i) [] (record { from = root m (driver (m .wires) i 0); to = i } ∷ [])) (toInputs m k (i + 1))
-        (all-cond (λ w. Kept (w .from)) (isPin (m .pins) i) [] (record { from = root m (driver (m .wires) i 0); to = i } ∷ []) (λ _. tt) (λ u. (fed (not-true _ u), tt)))
+        all-append (λ w. InLean (w .from)) (cond (isPin (m .pins) i) [] (record { from = root m (driver (m .wires) i 0); to = i } ∷ [])) (toInputs m k (i + 1))
+        (all-cond (λ w. InLean (w .from)) (isPin (m .pins) i) [] (record { from = root m (driver (m .wires) i 0); to = i } ∷ []) (λ _. tt) (λ u. (fed (not-true _ u), tt)))
         (from-inputs k (i + 1) (λ x w. h x (or-right (eqb i x) (within k (i + 1) x) w)))
       where
-        fed : isPin (m .pins) i ≡ false → Kept (root m (driver (m .wires) i 0))
+        fed : isPin (m .pins) i ≡ false → InLean (root m (driver (m .wires) i 0))
         fed u =
             root-kept _ (driver-fed (λ x. T (isOut (m .elements) x)) (m .wires) i 0 (ok .from)
             (omega (arith, ok .reached i, no-ins (m .pins) i u, part-made (m .elements) i (h i (or-left (eqb i i) (within k (i + 1) i) (eqb-refl i))))))
 
     from-lean : (es : List Element) → ((x : ℕ) → T (partIn es x) → T (partIn (m .elements) x)) → ((x : ℕ) → T (isOut es x) → T (isOut (m .elements) x))
-        → All (λ w. Kept (w .from)) (leanWires m es)
+        → All (λ w. InLean (w .from)) (leanWires m es)
     from-lean [] h g = tt
     from-lean (point i ∷ es) h g =
-        all-append (λ w. Kept (w .from)) (toElement m (point i)) (leanWires m es)
-        (all-cond (λ w. Kept (w .from)) (kept m (point i) && not (isPin (m .pins) i)) (record { from = i + 1; to = i } ∷ []) []
+        all-append (λ w. InLean (w .from)) (toElement m (point i)) (leanWires m es)
+        (all-cond (λ w. InLean (w .from)) (kept m (point i) && not (isPin (m .pins) i)) (record { from = i + 1; to = i } ∷ []) []
         (λ t. (keep-out (m .elements) (i + 1) (eqb→eq (root m (i + 1)) (i + 1) (and-both (kept m (point i)) (not (isPin (m .pins) i)) t .0)) (g (i + 1) (or-left (eqb (i + 1) (i + 1)) (isOut es (i + 1)) (eqb-refl (i + 1)))), tt)) (λ _. tt))
         (from-lean es h (λ x t. g x (or-right (eqb (i + 1) x) (isOut es x) t)))
     from-lean (part p i ∷ es) h g =
-        all-append (λ w. Kept (w .from)) (toElement m (part p i)) (leanWires m es)
+        all-append (λ w. InLean (w .from)) (toElement m (part p i)) (leanWires m es)
         (from-inputs (partAt p .inputs) i (λ x w. h x (or-left (within (partAt p .inputs) i x) (partIn es x) w)))
         (from-lean es (λ x w. h x (or-right (within (partAt p .inputs) i x) (partIn es x) w)) (λ x t. g x (or-right (eqb (i + partAt p .inputs) x) (isOut es x) t)))
 

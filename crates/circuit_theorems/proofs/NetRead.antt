@@ -20,7 +20,7 @@ use Rattle.circuit_theorems.specs.Formed.{Rising, Formed}
 use Rattle.calculus.specs.NetRead.{Fits, itemSize, Front, item, ended, twoAt, itemAt, andRest, itemsFrom, elementsIn, wiresIn, pinsIn, terminalOf, netFrom, readNet}
 use Rattle.calculus.proofs.Answers.{good-inj}
 use Rattle.sheet_theorems.proofs.Bytes.{behind}
-use Rattle.circuit_theorems.proofs.Outputs.{Named}
+use Rattle.circuit_theorems.proofs.Outputs.{EndHolds}
 use Rattle.circuit_theorems.proofs.Terminals.{out-low, made-low}
 use Rattle.circuit_theorems.proofs.Wiring.{pins-show}
 
@@ -179,7 +179,7 @@ out-not-made (part p i ∷ es) n e x a t =
 
 -- the elements tell a pin's direction
 abbrev pub Shows : List Element → Terminal → Type 0
-Shows es t = Named (λ i. madeAt es i ≡ 1) (λ o. T (isOut es o)) t
+Shows es t = EndHolds (λ i. madeAt es i ≡ 1) (λ o. T (isOut es o)) t
 
 pub terminal-is : (es : List Element) (e : ℕ) (t : Terminal) → Rising es 0 e → Shows es t → terminalOf es (number t) ≡ t
 terminal-is es e (inp i) up a = rw (is-false (isOut es i) (λ u. omega (arith, out-not-made es 0 e i up u)))

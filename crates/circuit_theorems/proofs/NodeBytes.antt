@@ -1,13 +1,14 @@
 -- Dropping the node numbers gives the plain bytes, and how long the bytes with nodes are (document 02, L6). Assumes nothing.
 use Prim.Native.Nat.{ℕ, _+_, _*_, _≤_}
 use mathlib.Core.Path.{_≡_, refl, ap, _∙_}
+use mathlib.Core.Bool.{Bool, true, false}
 use mathlib.Core.List.{List, [], _∷_, _++_}
 use native.Mathlib.Omega.{arith}
 use lib.ListN.{length, drop, length-append}
 use Rattle.calculus.specs.Answer.{good}
 use Rattle.calculus.specs.Net.{Interface, Element, point, part, Wire, Net, elementBytes, wireBytes, pinBytes, netBytes}
 use Rattle.calculus.specs.Lean.{lean}
-use Rattle.calculus.specs.Makers.{elementNodeBytes, netNodeBytes, dropping, dropNodes}
+use Rattle.calculus.specs.Makers.{elementNodeBytes, netNodeBytes, written, dropping, dropNodes}
 use Rattle.calculus.specs.Translate.{full}
 use Rattle.circuit_theorems.specs.Formed.{Tiled}
 use Rattle.circuit_theorems.proofs.Terminals.{tiled-rising}
@@ -38,6 +39,24 @@ nodes-dropped m ks =
     dropping-elements (m .elements) ks (wireBytes (m .wires) ++ pinBytes (m .pins))
     ∙ ap (λ (x : List ℕ). elementBytes (m .elements) ++ x)
     (dropping-wires (m .wires) (pinBytes (m .pins)) ∙ ap (λ (x : List ℕ). wireBytes (m .wires) ++ x) (dropping-pins (m .pins)))
+
+-- plain bytes stay as they are
+staying-elements : (es : List Element) (rest : List ℕ) → dropping 0 0 (elementBytes es ++ rest) ≡ elementBytes es ++ dropping 0 0 rest
+staying-elements [] rest = refl
+staying-elements (point i ∷ es) rest = rw (staying-elements es rest)
+staying-elements (part p i ∷ es) rest = rw (staying-elements es rest)
+
+plain-stays : (m : Net) → dropNodes (netBytes m) ≡ netBytes m
+unfolding dropNodes netBytes
+plain-stays m =
+    staying-elements (m .elements) (wireBytes (m .wires) ++ pinBytes (m .pins))
+    ∙ ap (λ (x : List ℕ). elementBytes (m .elements) ++ x)
+    (dropping-wires (m .wires) (pinBytes (m .pins)) ∙ ap (λ (x : List ℕ). wireBytes (m .wires) ++ x) (dropping-pins (m .pins)))
+
+-- so for either way of writing
+pub written-dropped : (plain : Bool) (m : Net) (ks : List ℕ) → dropNodes (written plain m ks) ≡ netBytes m
+written-dropped true m ks = plain-stays m
+written-dropped false m ks = nodes-dropped m ks
 
 -- ---- lengths
 

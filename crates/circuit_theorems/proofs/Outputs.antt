@@ -60,13 +60,13 @@ out-right (part p i ∷ s) t x h = or-right (eqb (i + partAt p .inputs) x) _ (ou
 
 -- I holds of the inputs and O of the outputs that ..
 module _ (I O : ℕ → Type 0) where
-  abbrev pub Named : Terminal → Type 0
-  Named (inp i) = I i
-  Named (out o) = O o
+  abbrev pub EndHolds : Terminal → Type 0
+  EndHolds (inp i) = I i
+  EndHolds (out o) = O o
 
   -- .. an interface shows
   abbrev pub Shows : Interface → Type 0
-  Shows s = All Named s
+  Shows s = All EndHolds s
 
   -- .. a wire runs between
   abbrev pub Runs : Wire → Type 0
@@ -129,7 +129,7 @@ module _ (I O : ℕ → Type 0) where
     pub wires : All Runs (m .wires)
 
   fun-shows : (τ : Ty) (n : ℕ) (e : Made) → Covers (points (turns false (leftOf τ)) n) → Showing e → Showing (madeFun τ n e)
-  fun-shows τ n e c r = let ts = turns false (leftOf τ) in record { side = all-append Named (inSide ts n) (e .side) (side-in ts n c) (r .side); wires = r .wires }
+  fun-shows τ n e c r = let ts = turns false (leftOf τ) in record { side = all-append EndHolds (inSide ts n) (e .side) (side-in ts n c) (r .side); wires = r .wires }
 
   fix-shows : (τ : Ty) (n : ℕ) (e : Made) → Covers (points (turns false τ) n) → Showing e → Showing (madeFix τ n e)
   fix-shows τ n e c r =
@@ -140,13 +140,13 @@ module _ (I O : ℕ → Type 0) where
   app-shows f a r q =
       let k = size (leftOf (f .type)) in
       record {
-        side = all-drop Named k (f .side) (r .side);
+        side = all-drop EndHolds k (f .side) (r .side);
         wires = all-append Runs (f .wires ++ a .wires) (join (a .side) (take k (f .side))) (all-append Runs (f .wires) (a .wires) (r .wires) (q .wires))
-            (runs-join (a .side) (take k (f .side)) (q .side) (all-take Named k (f .side) (r .side)));
+            (runs-join (a .side) (take k (f .side)) (q .side) (all-take EndHolds k (f .side) (r .side)));
       }
 
   pair-shows : (τ : Ty) (a b : Made) → Showing a → Showing b → Showing (madePair τ a b)
-  pair-shows τ a b r q = record { side = all-append Named (a .side) (b .side) (r .side) (q .side); wires = all-append Runs (a .wires) (b .wires) (r .wires) (q .wires) }
+  pair-shows τ a b r q = record { side = all-append EndHolds (a .side) (b .side) (r .side) (q .side); wires = all-append Runs (a .wires) (b .wires) (r .wires) (q .wires) }
 
   proj-shows : (a e : Made) → Showing a → Showing e → Showing (madeProj a e)
   proj-shows a e r q = record { side = q .side; wires = all-append Runs (a .wires) (e .wires) (r .wires) (q .wires) }
@@ -156,7 +156,7 @@ module _ (I O : ℕ → Type 0) where
   BoundShows b = Shows (b .side)
 
   halves-show : (a : Made) (env : List Bound) → Shows (a .side) → All BoundShows env → All BoundShows (secondHalf a ∷ firstHalf a ∷ env)
-  halves-show a env r v = let k = size (leftOf (a .type)) in (all-drop Named k (a .side) r, (all-take Named k (a .side) r, v))
+  halves-show a env r v = let k = size (leftOf (a .type)) in (all-drop EndHolds k (a .side) r, (all-take EndHolds k (a .side) r, v))
 
   pub outputs : (Θ : Table) (e : Term) (env : List Bound) (n : ℕ) → All BoundShows env → Covers (make Θ e env n .elements) → Showing (make Θ e env n)
   outputs Θ (var i) env n v c = record { side = all-getD BoundShows env i unbound v tt; wires = tt }

@@ -16,7 +16,7 @@ use Rattle.circuit_theorems.specs.Formed.{Rising, Formed}
 use Rattle.calculus.specs.NetRead.{Known, Fits, readNet}
 use Rattle.calculus.specs.Translate.{full, asked}
 use Rattle.circuit_theorems.proofs.Lists.{all-append}
-use Rattle.circuit_theorems.proofs.Outputs.{Named}
+use Rattle.circuit_theorems.proofs.Outputs.{EndHolds}
 use Rattle.circuit_theorems.proofs.Terminals.{rising-end, out-high, made-high}
 use Rattle.circuit_theorems.proofs.Wiring.{wires-run, pins-show}
 use Rattle.circuit_theorems.proofs.Forming.{lean-formed, lean-end}
@@ -39,7 +39,7 @@ low-wires es e [] up h a = tt
 low-wires es e (w ∷ ws) up h a =
     ((omega (arith, out-high es 0 e (w .from) up (a .0 .0)), omega (arith, made-below es e (w .to) up (a .0 .1))), low-wires es e ws up h (a .1))
 
-low-pins : (es : List Element) (e : ℕ) (ts : Interface) → Rising es 0 e → e ≤ 65536 → All (Named (λ i. madeAt es i ≡ 1) (λ o. T (isOut es o))) ts → All Fits (map (λ t. pin (number t)) ts)
+low-pins : (es : List Element) (e : ℕ) (ts : Interface) → Rising es 0 e → e ≤ 65536 → All (EndHolds (λ i. madeAt es i ≡ 1) (λ o. T (isOut es o))) ts → All Fits (map (λ t. pin (number t)) ts)
 low-pins es e [] up h a = tt
 low-pins es e (inp i ∷ ts) up h a = (omega (arith, made-below es e i up (a .0)), low-pins es e ts up h (a .1))
 low-pins es e (out o ∷ ts) up h a = (omega (arith, out-high es 0 e o up (a .0)), low-pins es e ts up h (a .1))

@@ -17,7 +17,7 @@ use Rattle.circuit_theorems.proofs.Rings.{has, outs}
 use Rattle.circuit_theorems.proofs.RootLaws.{root-stays}
 use Rattle.circuit_theorems.proofs.BackLaws.{back-other, point-root}
 use Rattle.circuit_theorems.proofs.Lists.{all-map, all-zip}
-use Rattle.circuit_theorems.proofs.Outputs.{Named}
+use Rattle.circuit_theorems.proofs.Outputs.{EndHolds}
 use Rattle.circuit_theorems.proofs.Terminals.{pointIn, partIn, in-low, out-low, out-not-in, outs-out, made-one, made-in, part-made, each-target, unique, pin-ins, no-ins}
 
 -- the output that stands for a terminal
@@ -104,10 +104,10 @@ module _ (m : Net) (ok : Formed m) where
       (all-map (λ w. 1 ≤ targets (m .wires) (w .to)) (λ w. madeAt (m .elements) (w .to) ≡ 1) (λ w t. omega (arith, ok .reached (w .to), input-once (w .to))) (m .wires) (each-target (m .wires)))
 
   -- pins show outputs and inputs that are made
-  pub pins-show : All (Named (λ i. madeAt (m .elements) i ≡ 1) (λ o. T (isOut (m .elements) o))) (m .pins)
+  pub pins-show : All (EndHolds (λ i. madeAt (m .elements) i ≡ 1) (λ o. T (isOut (m .elements) o))) (m .pins)
   pins-show = shows (m .pins) (ok .shown) (λ i u. u)
     where
-      shows : (ps : Interface) → All (Shown (m .elements)) ps → ((i : ℕ) → T (isPin ps i) → T (isPin (m .pins) i)) → All (Named (λ i. madeAt (m .elements) i ≡ 1) (λ o. T (isOut (m .elements) o))) ps
+      shows : (ps : Interface) → All (Shown (m .elements)) ps → ((i : ℕ) → T (isPin ps i) → T (isPin (m .pins) i)) → All (EndHolds (λ i. madeAt (m .elements) i ≡ 1) (λ o. T (isOut (m .elements) o))) ps
       shows [] s k = tt
       shows (inp i ∷ ps) s k =
           (omega (arith, ok .reached i, input-once i, pin-ins (m .pins) i (k i (or-left (eqb i i) (isPin ps i) (eqb-refl i)))), shows ps (s .1) (λ j u. k j (or-right (eqb i j) (isPin ps j) u)))
@@ -115,7 +115,7 @@ module _ (m : Net) (ok : Formed m) where
 
   -- ---- the facts that the equivalence uses
 
-  pin-ok : (p : Terminal) → Named (λ i. madeAt (m .elements) i ≡ 1) (λ o. T (isOut (m .elements) o)) p → PinOk m p
+  pin-ok : (p : Terminal) → EndHolds (λ i. madeAt (m .elements) i ≡ 1) (λ o. T (isOut (m .elements) o)) p → PinOk m p
   pin-ok (inp i) e = made-in (m .elements) i (omega arith)
   pin-ok (out o) t = out-clear o t
 
@@ -127,7 +127,7 @@ module _ (m : Net) (ok : Formed m) where
     no-pin = all-map (λ w. 1 ≤ targets (m .wires) (w .to)) _ (λ w t. is-false _ (λ u. omega (arith, pin-undriven (w .to) u))) (m .wires) (each-target (m .wires));
     one = unique (m .wires) target-one;
     fed = λ i h u. omega (arith, ok .reached i, no-ins (m .pins) i u, part-made (m .elements) i h);
-    pins-ok = all-map (Named (λ i. madeAt (m .elements) i ≡ 1) (λ o. T (isOut (m .elements) o))) (PinOk m) pin-ok (m .pins) pins-show;
+    pins-ok = all-map (EndHolds (λ i. madeAt (m .elements) i ≡ 1) (λ o. T (isOut (m .elements) o))) (PinOk m) pin-ok (m .pins) pins-show;
   }
 
   -- the root of a point's output is the root of the output that drives the point's input

@@ -1,8 +1,8 @@
 // Reads packed calls from standard input, and prints a line for each: for the full, then the lean netlist, the answer and the checksums of
 // output and memory after the call; then where some nodes' stretches begin, and their lengths. Its input was made by
 // 'second pack whole 12 1800 640000', and what it must print by 'second answers whole'.
-use deltawobble::Answer;
-use deltawobble::Wish;
+use translation::Wish;
+use translator::Answer;
 ghost use Prim.Native.Nat.{_<_};
 
 fn wide(x: u8) -> usize
@@ -70,7 +70,7 @@ fn fields(number: u8, value: usize, out: &[u8], work: &[u16]) {
 // One call, and what it leaves. The output is filled before, and what the call has written is filled again. The length or the place.
 fn call(sheet: &[u8], out: &mut [u8], work: &mut [u16], lean: bool) -> usize {
     fill_work(work);
-    match deltawobble::translate(sheet, out, work, Wish { lean: lean }) {
+    match translation::translate(sheet, out, work, Wish { lean, plain: true }) {
         Answer::Written(n) => {
             fields(0, n, out, work);
             fill_out(&mut out[..n]);

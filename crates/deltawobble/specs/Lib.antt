@@ -1,3 +1,1 @@
 pub mod Boundary
-pub mod Demands
-pub mod Said

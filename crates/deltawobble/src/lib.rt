@@ -1,43 +1,31 @@
-// The public calls. Each makes the netlist in the working memory, goes on from there, and clears.
-mod boundary;
-mod write;
-
-use translator::Made;
-use typing::Refusal;
+// The public calls for C: the answer of each is one number.
+use translation::Wish;
 ghost use mathlib.Core.Path.{_≡_};
-ghost use lib.ListN.{length};
-ghost use Rattle.calculus.specs.Translate.{answer, call};
-ghost use Rattle.translator.specs.Made.{Keeps};
-ghost use Rattle.deltawobble.specs.Said.{Says, called};
+ghost use Rattle.calculus.specs.Stretch.{stretchOf};
+ghost use Rattle.calculus.specs.Translate.{call};
+ghost use Rattle.deltawobble.specs.Boundary.{Packs, packedStretch};
 
-// What a caller wishes: the lean netlist or the full one.
-pub struct Wish {
-    pub lean: bool,
-}
-
-// The number of bytes written, or a refusal: its number and place, and for 12 the type number wanted and the one found.
-pub enum Answer {
-    Written(usize),
-    Refused(Refusal),
-}
-
-// The netlist is made and written. The working memory is not yet cleared.
-fn run(sheet: &[u8], out: &mut [u8], work: &mut [u16], wish: Wish) -> Answer
-    ensures { λ r. ⌜ (Says r (now (out .entry)) (now (out .exit)) (answer (length (now (work .entry))) (wish .lean) (now (sheet .entry)) (length (now (out .entry)))))
-        × (Keeps (now (work .entry)) (now (work .exit))) ⌝ }
+// The netlist of a sheet. Bits 0 to 31 of the answer are the number of bytes written or the place, 32 to 39 the refusal's number, 0 for none,
+// 40 to 51 the type number wanted and 52 to 63 the one found.
+#[no_mangle]
+pub extern "C" fn deltawobble_translate(
+    sheet: &[u8],
+    out: &mut [u8],
+    work: &mut [u16],
+    lean: bool,
+    plain: bool,
+) -> u64
+    ensures { λ r. ⌜ Packs r (now (out .exit)) (now (work .exit)) (call (record { lean = lean; plain = plain }) (now (sheet .entry)) (now (out .entry)) (now (work .entry))) ⌝ }
 {
-    match translator::make(sheet, work) {
-        Made::Refused(refusal) => Answer::Refused(refusal),
-        Made::Net(counts) => write::write(work, out, counts, wish),
-    }
+    let answer = translation::translate(sheet, out, work, Wish { lean, plain });
+    translator::word(answer)
 }
 
-// The netlist of a sheet, the full one or the lean one, is written to the start of the output; or the sheet is refused, and the output
-// stays. The first 32,768 numbers of the working memory are 0 afterwards; where it has fewer, that is refusal 1, and it stays too.
-pub fn translate(sheet: &[u8], out: &mut [u8], work: &mut [u16], wish: Wish) -> Answer
-    ensures { λ r. ⌜ called r (now (out .exit)) (now (work .exit)) ≡ call (wish .lean) (now (sheet .entry)) (now (out .entry)) (now (work .entry)) ⌝ }
+// Where the stretch of a node begins, and its length; 0 where the sheet is refused or the number is too large.
+#[no_mangle]
+pub extern "C" fn deltawobble_stretch(sheet: &[u8], node: usize) -> u64
+    ensures { λ r. ⌜ r ≡ packedStretch (stretchOf (now (sheet .entry)) node) ⌝ }
 {
-    let r = run(sheet, out, work, wish);
-    translator::clear(work);
-    r
+    let b = sheet::stretch_bounds(sheet, node);
+    b.start as u64 * 4294967296 + b.size as u64
 }

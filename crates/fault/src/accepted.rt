@@ -1,10 +1,10 @@
 // What an accepted sheet's report counts.
 use crate::text::put;
 use crate::text::put_count;
-use deltawobble::Answer;
-use deltawobble::Wish;
 use records::Record;
 use sheet::Verdict;
+use translation::Wish;
+use translator::Answer;
 ghost use mathlib.Core.Path.{_≡_};
 ghost use Prim.Native.Nat.{_≤_, max};
 ghost use lib.ListN.{length, take};
@@ -144,7 +144,15 @@ fn tally(net: &[u8]) -> Counts
 
 // The length of the lean netlist, which is then in the output.
 fn lean(s: &[u8], out: &mut [u8], work: &mut [u16]) -> usize {
-    match deltawobble::translate(s, out, work, Wish { lean: true }) {
+    match translation::translate(
+        s,
+        out,
+        work,
+        Wish {
+            lean: true,
+            plain: true,
+        },
+    ) {
         Answer::Written(n) => n,
         Answer::Refused(_) => 0,
     }

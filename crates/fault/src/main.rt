@@ -18,11 +18,19 @@ mod refused;
 mod text;
 mod words;
 
-use deltawobble::Answer;
-use deltawobble::Wish;
+use translation::Wish;
+use translator::Answer;
 
 fn answer(s: &[u8], out: &mut [u8], work: &mut [u16]) {
-    match deltawobble::translate(s, out, work, Wish { lean: false }) {
+    match translation::translate(
+        s,
+        out,
+        work,
+        Wish {
+            lean: false,
+            plain: true,
+        },
+    ) {
         Answer::Written(length) => {
             accepted::show(s, out, work, length);
         }

@@ -12,6 +12,7 @@ use Rattle.calculus.specs.Answer.{Answer, good, refuse, _>>=_}
 use Rattle.calculus.specs.Net.{Net}
 use Rattle.calculus.specs.Inputs.{ins, madeAt, targets, isOut}
 use Rattle.circuit_theorems.specs.Formed.{Rising}
+use Rattle.memory.specs.Map.{memorySize}
 use Rattle.foreign_theorems.specs.Foreign.{Reading, begin, readOn, oneEach, check, Checked, checkCall, Bytes}
 use Rattle.calculus.specs.Translate.{zeroed, workOf}
 use Rattle.memory.proofs.Zeroed.{zeroed-length, zeroed-zeros, zeroed-same, zeroed-later}
@@ -113,21 +114,21 @@ module _ (lean : Bool) (s : List ℕ) (b : Bytes s) (r : Walked) (w : List ℕ) 
 
 -- ---- a call
 
-pub called-1 : (lean : Bool) (s w : List ℕ) → length w < 32768 → record { said = refuse 1 0; work = w } ≡ checkCall lean s w
+pub called-1 : (lean : Bool) (s w : List ℕ) → length w < memorySize → record { said = refuse 1 0; work = w } ≡ checkCall lean s w
 unfolding checkCall workOf
-called-1 lean s w h = rw (lt-leb 32768 (length w) h)
+called-1 lean s w h = rw (lt-leb memorySize (length w) h)
 
-pub clear-clear : (w : List ℕ) → 32768 ≤ length w → Clear (zeroed 8192 w)
+pub clear-clear : (w : List ℕ) → memorySize ≤ length w → Clear (zeroed 8192 w)
 clear-clear w h = record { size = omega (arith, zeroed-length 8192 w (omega arith)); zeros = λ i l. zeroed-zeros 8192 w i l }
 
 -- what is cleared of the table is no later number
-later : (w : List ℕ) → drop 32768 (zeroed 8192 w) ≡ drop 32768 w
+later : (w : List ℕ) → drop memorySize (zeroed 8192 w) ≡ drop memorySize w
 later w = sym (drop-drop 24576 8192 (zeroed 8192 w)) ∙ ap (drop 24576) (zeroed-later 8192 w) ∙ drop-drop 24576 8192 w
 
-pub called-2 : (lean : Bool) (s w u v : List ℕ) (a : Answer (Unit {0})) → 32768 ≤ length w → a ≡ check lean s → Keeps (zeroed 8192 w) u → v ≡ zeroed 32768 u → record { said = a; work = v } ≡ checkCall lean s w
+pub called-2 : (lean : Bool) (s w u v : List ℕ) (a : Answer (Unit {0})) → memorySize ≤ length w → a ≡ check lean s → Keeps (zeroed 8192 w) u → v ≡ zeroed memorySize u → record { said = a; work = v } ≡ checkCall lean s w
 unfolding checkCall workOf
 called-2 lean s w u v a h e k z =
-    rw (le-leb 32768 (length w) h) (ap₂ (λ (x : Answer (Unit {0})) (y : List ℕ). mk x y) e (z ∙ zeroed-same 32768 u w (k .later ∙ later w)))
+    rw (le-leb memorySize (length w) h) (ap₂ (λ (x : Answer (Unit {0})) (y : List ℕ). mk x y) e (z ∙ zeroed-same memorySize u w (k .later ∙ later w)))
   where
     mk : Answer (Unit {0}) → List ℕ → Checked
     mk x y = record { said = x; work = y }

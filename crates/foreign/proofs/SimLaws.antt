@@ -19,6 +19,7 @@ use Rattle.circuit_theorems.specs.Formed.{Rising}
 use Rattle.circuit_theorems.proofs.Terminals.{out-high, made-high}
 use Rattle.circuit_theorems.proofs.Drivers.{made-append, targets-append}
 use Rattle.calculus.specs.NetRead.{item}
+use Rattle.memory.specs.Map.{memorySize}
 use Rattle.foreign_theorems.specs.Foreign.{Reading, firstOf, pastOf, starts, isIn, moreElement, moreWire, morePin, judge}
 use Rattle.foreign_theorems.proofs.Sound.{Read, numbered-rising}
 use Rattle.circuit_theorems.proofs.NetRead.{out-not-made}
@@ -116,7 +117,7 @@ Matches at (wrong k v) (good τ) w = ⊥
 pub keeps-same : (w : List ℕ) → Keeps w w
 keeps-same w = record { same = refl; later = refl }
 
-module _ (lean : Bool) (at : ℕ) (p : List ℕ) (σ : Reading) (w : List ℕ) (size : 32768 ≤ length w) (ok : Read lean p σ) (h : Holds w (σ .net)) where
+module _ (lean : Bool) (at : ℕ) (p : List ℕ) (σ : Reading) (w : List ℕ) (size : memorySize ≤ length w) (ok : Read lean p σ) (h : Holds w (σ .net)) where
   up : Rising (σ .net .elements) 0 (σ .next)
   up = numbered-rising lean (σ .net .elements) 0 (σ .next) (ok .numbering)
 
@@ -194,7 +195,7 @@ module _ (lean : Bool) (at : ℕ) (p : List ℕ) (σ : Reading) (w : List ℕ) (
         ]
 
     keeps-element : Keeps w (sets w i (cellsOf k))
-    keeps-element = record { same = length-sets w i (cellsOf k); later = sets-drop (cellsOf k) w i 32768 (omega (arith, cells-length k, past-is e)) }
+    keeps-element = record { same = length-sets w i (cellsOf k); later = sets-drop (cellsOf k) w i memorySize (omega (arith, cells-length k, past-is e)) }
 
   element-by : (b₁ b₂ b₃ : Bool) (τ : Reading) (v : List ℕ) (n : ℕ) → (T b₁ → T b₂ → T b₃ → (0 ≡ τ .stage) × (n ≡ τ .next) × Holds v (τ .net) × Keeps w v)
       → Matches at (cond b₁ (cond b₂ (cond b₃ (next 0 n v) (wrong 22 w)) (wrong 22 w)) (wrong 21 w)) (need b₁ 21 at >>= λ _. need (b₂ && b₃) 22 at >>= λ _. good τ) w
@@ -238,7 +239,7 @@ module _ (lean : Bool) (at : ℕ) (p : List ℕ) (σ : Reading) (w : List ℕ) (
   keeps-driven i l = by (ltb (getD w i 0) 3)
     where
       by : (b : Bool) → Keeps w (cond b (set w i (getD w i 0 + 1)) w)
-      by true = record { same = length-set w i (getD w i 0 + 1); later = drop-set-lt 32768 w i (getD w i 0 + 1) (omega arith) }
+      by true = record { same = length-set w i (getD w i 0 + 1); later = drop-set-lt memorySize w i (getD w i 0 + 1) (omega arith) }
       by false = keeps-same w
 
   holds-driven : (to : ℕ) (n : Net) → n .elements ≡ σ .net .elements → ((x : ℕ) → targets (n .wires) x + ins (n .pins) x ≡ targets (σ .net .wires) x + ins (σ .net .pins) x + tally x to)

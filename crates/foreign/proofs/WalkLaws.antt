@@ -8,6 +8,7 @@ use lib.ListN.{length, take}
 use Rattle.calculus.specs.Answer.{Answer, good, refused, refuse, _>>=_}
 use Rattle.calculus.specs.Net.{Item}
 use Rattle.calculus.specs.NetRead.{Front, item, ended, broken, itemAt, itemSize}
+use Rattle.memory.specs.Map.{memorySize}
 use Rattle.foreign_theorems.specs.Foreign.{Reading, begin, judge, onFront, readOn, Bytes}
 use Rattle.foreign_theorems.proofs.Standing.{Stood, item-stood, ended-stood}
 use Rattle.circuit_theorems.proofs.NetRead.{item-some, ends-here}
@@ -66,7 +67,7 @@ going-first lean s w c = record {
 keeps-on : (u v w : List ℕ) → Keeps u v → Keeps v w → Keeps u w
 keeps-on u v w a b = record { same = b .same ∙ a .same; later = b .later ∙ a .later }
 
-module _ (lean : Bool) (s w₀ w : List ℕ) (b : Bytes s) (size : 32768 ≤ length w₀) (stage n at : ℕ) (g : Going lean s w₀ w stage n at) (l : at < length s) where
+module _ (lean : Bool) (s w₀ w : List ℕ) (b : Bytes s) (size : memorySize ≤ length w₀) (stage n at : ℕ) (g : Going lean s w₀ w stage n at) (l : at < length s) where
   abbrev σ : Reading
   σ = g .reading
 
@@ -140,7 +141,7 @@ going-done {lean} {s} {at = at} g l = (g .reading, sym (g .rest) ∙ ended-on (g
 
 -- ---- the code's own step
 
-module _ {lean : Bool} {s w₀ w : List ℕ} {stage n at : ℕ} (b : Bytes s) (size : 32768 ≤ length w₀) (g : Going lean s w₀ w stage n at) (l : at < length s) (r : Went) (v : List ℕ)
+module _ {lean : Bool} {s w₀ w : List ℕ} {stage n at : ℕ} (b : Bytes s) (size : memorySize ≤ length w₀) (g : Going lean s w₀ w stage n at) (l : at < length s) (r : Went) (v : List ℕ)
     (h : saidWent r v ≡ goneTo (took lean stage n (itemAt s at) w) (at + frontSize (itemAt s at))) where
   pub walk-on : {t : State} {m : ℕ} → r ≡ went.On t m → Going lean s w₀ v (t .stage) (t .next) m × (at < m)
   walk-on e = subst (Leads lean s w₀ w b size stage n at g l) (sym h ∙ ap (λ (y : Went). saidWent y v) e) (gone lean s w₀ w b size stage n at g l)

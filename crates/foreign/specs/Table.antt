@@ -8,6 +8,7 @@ use lib.Dec.{ltb}
 use lib.ListN.{length, getD, set, drop, replicate}
 use Rattle.calculus.specs.Net.{Net}
 use Rattle.calculus.specs.Inputs.{ins, targets, isOut}
+use Rattle.memory.specs.Map.{memorySize}
 use Rattle.foreign_theorems.specs.Foreign.{isIn}
 
 -- an element of k inputs: they, then its output
@@ -32,9 +33,9 @@ Holds w m = (i : ℕ) → i < 8192 → getD w i 0 ≡ cellOf m i
 -- nothing from number 32,768 on was changed
 pub record Keeps (w after : List ℕ) : Type 0 where
   pub same : length after ≡ length w
-  pub later : drop 32768 after ≡ drop 32768 w
+  pub later : drop memorySize after ≡ drop memorySize w
 
 -- the table is clear
 pub record Clear (w : List ℕ) : Type 0 where
-  pub size : 32768 ≤ length w
+  pub size : memorySize ≤ length w
   pub zeros : (i : ℕ) → i < 8192 → getD w i 0 ≡ 0

@@ -18,7 +18,7 @@ use Rattle.calculus.specs.Inputs.{ins, madeAt, targets, isOut}
 use Rattle.calculus.specs.NetRead.{Known, Fits, itemSize, Front, item, ended, broken, itemAt, terminalOf}
 use Rattle.circuit_theorems.specs.Formed.{Shown, Tiled, Rising, Formed}
 use Rattle.circuit_theorems.proofs.Lists.{all-map, all-append}
-use Rattle.circuit_theorems.proofs.Outputs.{Named}
+use Rattle.circuit_theorems.proofs.Outputs.{EndHolds}
 use Rattle.circuit_theorems.proofs.Terminals.{tiled-rising, made-high}
 use Rattle.circuit_theorems.proofs.NetRead.{itemsOf, itemsBytes, items-append, records-in-a-row, item-length, item-some}
 use Rattle.foreign_theorems.specs.Foreign.{Bytes, Numbered, Accepts, Reading, begin, firstOf, pastOf, starts, isIn, moreElement, moreWire, morePin, judge, onFront, readOn, oneEach, check}
@@ -26,7 +26,7 @@ use Rattle.foreign_theorems.proofs.Standing.{Stood, item-stood, ended-s
 
 -- a pin names a terminal that is made
 abbrev pub Pins : List Element → Terminal → Type 0
-Pins es t = Named (λ i. 1 ≤ madeAt es i) (λ o. T (isOut es o)) t
+Pins es t = EndHolds (λ i. 1 ≤ madeAt es i) (λ o. T (isOut es o)) t
 
 -- a wire runs from an output to an input that are made
 abbrev pub Runs : List Element → Wire → Type 0

@@ -7,16 +7,16 @@ use Rattle.calculus.specs.Net.{two}
 use Rattle.foreign_theorems.specs.Foreign.{check}
 
 -- a netlist's bytes, and the two answers
-pub record Row : Type 0 where
+pub record WorkedRow : Type 0 where
   pub net : List ℕ
   pub full : Answer (Unit {0})
   pub lean : Answer (Unit {0})
 
-abbrev row : List ℕ → Answer (Unit {0}) → Answer (Unit {0}) → Row
+abbrev row : List ℕ → Answer (Unit {0}) → Answer (Unit {0}) → WorkedRow
 row s a b = record { net = s; full = a; lean = b }
 
 -- both the same
-abbrev both : List ℕ → Answer (Unit {0}) → Row
+abbrev both : List ℕ → Answer (Unit {0}) → WorkedRow
 both s a = row s a a
 
 abbrev accepted : Answer (Unit {0})
@@ -37,34 +37,34 @@ pin t = 0x24 ∷ two t
 -- ---- the rows
 
 -- an empty netlist; P4's full one; P6's lean one; an output that is two pins
-abbrev taken : List Row
+abbrev taken : List WorkedRow
 taken =
     both [] accepted ∷ both (point 0 ++ wire 1 0 ++ pin 1) accepted
     ∷ row (part 2 2 ++ part 0 5 ++ part 1 6 ++ wire 5 2 ++ wire 7 3 ++ wire 4 6 ++ pin 4) (refuse 22 0) accepted ∷ both (part 0 0 ++ pin 0 ++ pin 0) accepted ∷ []
 
 -- 21: cut short, unknown (the kinds of L6 too), an eighth part; an element behind a wire, a wire behind a pin, and 21 before 22
-abbrev broken : List Row
+abbrev broken : List WorkedRow
 broken =
     both (0x21 ∷ []) (refuse 21 0) ∷ both (0x21 ∷ 0 ∷ []) (refuse 21 0) ∷ both (part 0 0 ++ (0x23 ∷ 0 ∷ 0 ∷ 1 ∷ [])) (refuse 21 4) ∷ both (0x00 ∷ []) (refuse 21 0)
     ∷ both (0x25 ∷ 0 ∷ 0 ∷ 0 ∷ 0 ∷ []) (refuse 21 0) ∷ both (part 7 0) (refuse 21 0) ∷ both (point 0 ++ wire 1 0 ++ point 2) (refuse 21 8) ∷ both (point 0 ++ pin 0 ++ wire 1 0) (refuse 21 6)
     ∷ both (point 0 ++ pin 0 ++ part 0 0) (refuse 21 6) ∷ []
 
 -- 22: a gap, an overlap, terminals 8,191 and above; a wire before any element, from an input, to an output; a pin that names nothing
-abbrev misnumbered : List Row
+abbrev misnumbered : List WorkedRow
 misnumbered =
     row (point 1) (refuse 22 0) (refuse 23 1) ∷ both (point 0 ++ point 1) (refuse 22 3) ∷ row (part 0 8191) (refuse 22 0) accepted ∷ both (part 0 8192) (refuse 22 0) ∷ both (point 8191) (refuse 22 0)
     ∷ both (point 65535) (refuse 22 0) ∷ both (wire 0 0) (refuse 22 0) ∷ both (point 0 ++ wire 0 0) (refuse 22 3) ∷ both (point 0 ++ wire 1 1) (refuse 22 3) ∷ both (point 0 ++ wire 1 2) (refuse 22 3)
     ∷ both (point 0 ++ pin 2) (refuse 22 3) ∷ []
 
 -- 23: no driver, two wires, a wire and a pin, two pins; the lowest of two, and the higher where the lower has one
-abbrev undriven : List Row
+abbrev undriven : List WorkedRow
 undriven =
     both (point 0) (refuse 23 0) ∷ both (point 0 ++ wire 1 0 ++ wire 1 0) (refuse 23 0) ∷ both (point 0 ++ wire 1 0 ++ pin 0) (refuse 23 0) ∷ both (point 0 ++ pin 0 ++ pin 0) (refuse 23 0)
     ∷ both (point 0 ++ point 2) (refuse 23 0) ∷ both (point 0 ++ point 2 ++ pin 0) (refuse 23 2) ∷ []
 
-unfoldable pub table : List Row
+unfoldable pub table : List WorkedRow
 table = taken ++ (broken ++ (misnumbered ++ undriven))
 
 -- what the check says
-abbrev pub checks : Row → Row
+abbrev pub checks : WorkedRow → WorkedRow
 checks r = row (r .net) (check false (r .net)) (check true (r .net))

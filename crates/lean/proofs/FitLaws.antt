@@ -11,11 +11,11 @@ use Rattle.calculus.specs.Makers.{leanMakers, written}
 use Rattle.memory.specs.Map.{elementsAt, stackAt, makersAt, region, netIn}
 use Rattle.netlist.proofs.InMemory.{kind-here}
 use Rattle.lean.specs.InMemory.{keptRow, wireRow, pinRow}
-use Rattle.lean.specs.Fitting.{Fits, RowFits, PinsFit}
+use Rattle.lean.specs.Fitting.{LeanFits, RowFits, PinsFit}
 use Rattle.lean.proofs.RowLaws.{writing-start, writing-step}
 use Rattle.lean.proofs.LeanLaws.{lean-bytes, driven, kinds-low, pins-low}
 
-module _ (plain : Bool) (w : List ℕ) (e k p room : ℕ) (f : Fits plain w e k p room) where
+module _ (plain : Bool) (w : List ℕ) (e k p room : ℕ) (f : LeanFits plain w e k p room) where
   abbrev first : List ℕ
   first = keptRow plain w (region w elementsAt e) (region w makersAt e) 0
 

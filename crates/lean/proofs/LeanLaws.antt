@@ -24,7 +24,7 @@ use Rattle.netlist.proofs.Elements.{records-are}
 use Rattle.netlist.proofs.Records as records
 use Rattle.lean.specs.Table.{entry, Whole}
 use Rattle.lean.specs.InMemory.{undriven, keepIn, keepMakersIn, inputIn, inputsIn, elementIn, wiresIn, pinIn, keptRow, wireRow, pinRow}
-use Rattle.lean.specs.Fitting.{Driven, LowPin}
+use Rattle.lean.specs.Fitting.{DriversLow, LowPin}
 use Rattle.lean.proofs.KindLaws.{tiled-after}
 use Rattle.lean.proofs.RowLaws.{kept-any}
 use Rattle.lean.proofs.SumLaws.{rowsSize}
@@ -146,7 +146,7 @@ module _ (w : List ℕ) (e k p : ℕ) (q : Whole w e k p) where
 
   -- ---- what the writers ask
 
-  pub driven : Driven w
+  pub driven : DriversLow w
   driven = record { size = q .ready .size; low = λ i l d. output-below w e k p (q .ready) (getD w i 0) (driver-out w e k p (q .ready) i l d) }
 
   pub kinds-low : afterAll ks 0 ≤ 8192

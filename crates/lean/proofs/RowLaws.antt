@@ -251,7 +251,7 @@ pub wire-rows : (w : List ℕ) → Rows (wireRows w)
 wire-rows w = record { none = wire-none w; first = λ k ks j js n. wire-first w k ks n }
 
 -- i elements are done, n is the next free terminal
-pub record Row (F : List ℕ → List ℕ → ℕ → List ℕ) (w : List ℕ) (elements : ℕ) (out₀ : List ℕ) (from : ℕ) (o : List ℕ) (at n i : ℕ) : Type 0 where
+pub record RowDone (F : List ℕ → List ℕ → ℕ → List ℕ) (w : List ℕ) (elements : ℕ) (out₀ : List ℕ) (from : ℕ) (o : List ℕ) (at n i : ℕ) : Type 0 where
   pub low : afterAll (drop i (region w elementsAt elements)) n ≤ 8192
   pub writing : Writing out₀ from (F (region w elementsAt elements) (region w makersAt elements) 0) o at (F (drop i (region w elementsAt elements)) (drop i (region w makersAt elements)) n)
 
@@ -266,10 +266,10 @@ module _ {F : List ℕ → List ℕ → ℕ → List ℕ} (rows : Rows F) (out�
   pub row-size : makersAt + elements ≤ length w
   row-size = let a = f .driven .size in let b = f .few in omega arith
 
-  pub row-start : Row F w elements out₀ from out₀ from 0 0
+  pub row-start : RowDone F w elements out₀ from out₀ from 0 0
   row-start = record { low = f .low; writing = writing-start out₀ from (F ks js 0) }
 
-  module _ {o : List ℕ} {at n i : ℕ} (r : Row F w elements out₀ from o at n i) where
+  module _ {o : List ℕ} {at n i : ℕ} (r : RowDone F w elements out₀ from o at n i) where
     pub row-end : elements ≤ i → (at ≡ from + length (F ks js 0)) × (o ≡ sets out₀ from (F ks js 0))
     row-end h =
         writing-end out₀ from (F ks js 0) o at (F (drop i ks) (drop i js) n) (r .writing) (ap₂ (λ (x y : List ℕ). F x y n) (region-end w elementsAt elements i (omega (arith, row-size)) h) (region-end w makersAt elements i row-size h) ∙ rows .none n)
@@ -303,7 +303,7 @@ module _ {F : List ℕ → List ℕ → ℕ → List ℕ} (rows : Rows F) (out�
       }
 
       pub row-step : {o₁ : List ℕ} {at₁ n₁ : ℕ} → (at₁ ≡ at + length (F (k ∷ []) (j ∷ []) n)) × (o₁ ≡ sets o at (F (k ∷ []) (j ∷ []) n)) → n₁ ≡ after k n
-          → Row F w elements out₀ from o₁ at₁ n₁ (i + 1)
+          → RowDone F w elements out₀ from o₁ at₁ n₁ (i + 1)
       row-step {o₁} {at₁} {n₁} g h = record {
         low = rw h low-next;
         writing = rw h

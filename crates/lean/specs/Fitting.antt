@@ -14,26 +14,26 @@ use Rattle.netlist.specs.Elements.{after, afterAll}
 use Rattle.lean.specs.Table.{Whole}
 
 -- a whole lean netlist, the full one's makers beside it
-pub record Fits (plain : Bool) (w : List ℕ) (elements wires pins room : ℕ) : Type 0 where
+pub record LeanFits (plain : Bool) (w : List ℕ) (elements wires pins room : ℕ) : Type 0 where
   pub whole : Whole w elements wires pins
   pub known : All Known (netIn w elements wires pins .elements)
   pub target : length (written plain (lean (netIn w elements wires pins)) (leanMakers (netIn w elements wires pins) (region w makersAt elements))) ≤ room
 
 -- a driver is below 8,192
-pub record Driven (w : List ℕ) : Type 0 where
+pub record DriversLow (w : List ℕ) : Type 0 where
   pub size : memorySize ≤ length w
   pub low : (i : ℕ) → i < 8192 → (getD w i 0 ≡ 65535 → ⊥) → getD w i 0 < 8192
 
 -- an element of kind k that starts at n, and room for its records
 pub record ElementFits (w : List ℕ) (k n : ℕ) (bytes : List ℕ) (room at : ℕ) : Type 0 where
-  pub driven : Driven w
+  pub driven : DriversLow w
   pub known : k < 8
   pub low : after k n ≤ 8192
   pub target : at + length bytes ≤ room
 
 -- all elements, and room for their records from an offset on
 pub record RowFits (w : List ℕ) (elements : ℕ) (bytes : List ℕ) (room from : ℕ) : Type 0 where
-  pub driven : Driven w
+  pub driven : DriversLow w
   pub few : elements ≤ 5120
   pub known : (i : ℕ) → i < elements → getD w (elementsAt + i) 0 < 8
   pub low : afterAll (region w elementsAt elements) 0 ≤ 8192
@@ -52,12 +52,12 @@ pub record PinsFit (w : List ℕ) (pins : ℕ) (bytes : List ℕ) (room from : �
 
 -- an input, and room for its wire
 pub record InputFits (w : List ℕ) (i : ℕ) (bytes : List ℕ) (room at : ℕ) : Type 0 where
-  pub driven : Driven w
+  pub driven : DriversLow w
   pub low : i < 8192
   pub target : at + length bytes ≤ room
 
 -- so many inputs, and room for their wires
 pub record InputsFit (w : List ℕ) (count first : ℕ) (bytes : List ℕ) (room from : ℕ) : Type 0 where
-  pub driven : Driven w
+  pub driven : DriversLow w
   pub low : first + count ≤ 8192
   pub target : from + length bytes ≤ room

@@ -7,7 +7,7 @@ ghost use Rattle.calculus.specs.Lean.{lean};
 ghost use Rattle.calculus.specs.Makers.{leanMakers, written};
 ghost use Rattle.memory.specs.Map.{makersAt, region, netIn, Ready};
 ghost use Rattle.lean.specs.Table.{Rooted, Whole};
-ghost use Rattle.lean.specs.Fitting.{Fits};
+ghost use Rattle.lean.specs.Fitting.{LeanFits};
 
 mod sizes;
 mod table;
@@ -36,7 +36,7 @@ pub fn write_lean(
     pins: usize,
     plain: bool,
 ) -> usize
-    requires { ⌜ Fits plain (now work) elements wires pins (length (now out)) ⌝ }
+    requires { ⌜ LeanFits plain (now work) elements wires pins (length (now out)) ⌝ }
     ensures { λ r. ⌜ (r ≡ length (written plain (lean (netIn (now (work .entry)) elements wires pins)) (leanMakers (netIn (now (work .entry)) elements wires pins) (region (now (work .entry)) makersAt elements))))
         × (now (out .exit) ≡ sets (now (out .entry)) 0 (written plain (lean (netIn (now (work .entry)) elements wires pins)) (leanMakers (netIn (now (work .entry)) elements wires pins) (region (now (work .entry)) makersAt elements)))) ⌝ }
 {

@@ -15,7 +15,7 @@ use Rattle.calculus.specs.Record.{Stream, Bits, Law, All, streams, Works, Joine
 use Rattle.circuit_theorems.specs.Formed.{Tiled}
 use Rattle.circuit_theorems.proofs.Lists.{all-map}
 use Rattle.circuit_theorems.proofs.Terminals.{tiled-rising, rising-end}
-use Rattle.circuit_theorems.proofs.Outputs.{Named, Shows, BoundShows, tiled, next-le, names-below}
+use Rattle.circuit_theorems.proofs.Outputs.{EndHolds, Shows, BoundShows, tiled, next-le, names-below}
 use Rattle.circuit_theorems.proofs.Bounds.{Below}
 use Rattle.linear_theorems.specs.Marked.{Seen, PartsSeen}
 use Rattle.linear_theorems.proofs.Meaning.{cut, Cut, lines, Val, build}
@@ -49,14 +49,14 @@ LowSide b s = Shows (λ x. x < b) (λ x. x < b) s
 abbrev pub LowEnv : ℕ → List Bound → Type 0
 LowEnv b env = All (BoundShows (λ x. x < b) (λ x. x < b)) env
 
-low-up : (b c : ℕ) → b ≤ c → (x : Terminal) → Named (λ x. x < b) (λ x. x < b) x → Named (λ x. x < c) (λ x. x < c) x
+low-up : (b c : ℕ) → b ≤ c → (x : Terminal) → EndHolds (λ x. x < b) (λ x. x < b) x → EndHolds (λ x. x < c) (λ x. x < c) x
 low-up b c h (inp i) a = omega arith
 low-up b c h (out o) a = omega arith
 
 pub env-up : (b c : ℕ) → b ≤ c → (env : List Bound) → LowEnv b env → LowEnv c env
 env-up b c h env a =
     all-map (BoundShows (λ x. x < b) (λ x. x < b)) (BoundShows (λ x. x < c) (λ x. x < c))
-    (λ x q. all-map (Named (λ x. x < b) (λ x. x < b)) (Named (λ x. x < c) (λ x. x < c)) (low-up b c h) (x .side) q) env a
+    (λ x q. all-map (EndHolds (λ x. x < b) (λ x. x < b)) (EndHolds (λ x. x < c) (λ x. x < c)) (low-up b c h) (x .side) q) env a
 
 pub low-in : (b : ℕ) (ts : List Bool) (i : ℕ) → i + 2 * length ts ≤ b → LowSide b (inSide ts i)
 low-in b [] i h = tt

@@ -10,7 +10,8 @@ use Rattle.calculus.specs.Terms.{first}
 use Rattle.calculus.specs.Rules.{Ctx, Typed, Var, LVar, →I, →E, ⊸I, ⊸E, ×I, ×E, Fix, Con}
 use Rattle.calculus.specs.Net.{Interface, turns, Element, point, part, points, inSide, join, Bound, unbound, Made, leftOf, binder, firstHalf, secondHalf, madeApp, madeFix, make}
 use Rattle.calculus.specs.Record.{Bits, Law, All, Works, Joined}
-use Rattle.circuit_theorems.proofs.Drivers.{dirs, turns-size, dirs-in, dirs-left, opposite, Env, env-many, env-once, split-env, binder-fits, halves, term-driven}
+use Rattle.circuit_theorems.proofs.Drivers.{turns-size, dirs-in, dirs-left, opposite, split-env, binder-fits, halves, term-driven}
+use Rattle.circuit_theorems.specs.Scope.{dirs, Env, env-many, env-once}
 use Rattle.circuit_theorems.proofs.Lists.{all-left, all-right}
 use Rattle.linear_theorems.specs.Marked.{Marked, mvar, mlvar, mfun, mapp, mlfun, mlapp, mpair, mproj, mfix, mcon, plain, marks, Seen, PartsSeen}
 use Rattle.linear_theorems.proofs.Meaning.{lines, Val, node, dark, Shaped, build, Means}

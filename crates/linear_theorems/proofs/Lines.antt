@@ -12,7 +12,8 @@ use Rattle.laws.proofs.Parts.{map-take, map-drop}
 use Rattle.calculus.specs.Types.{Ty, bit, prod, arrow, lolli, size}
 use Rattle.calculus.specs.Net.{inp, out, number, Interface, turns, points, inSide, outSide, join}
 use Rattle.calculus.specs.Record.{Stream, Bits, Law, All, Works, Joined}
-use Rattle.circuit_theorems.proofs.Drivers.{dir, dirs, turns-size}
+use Rattle.circuit_theorems.proofs.Drivers.{turns-size}
+use Rattle.circuit_theorems.specs.Scope.{dir, dirs}
 use Rattle.circuit_theorems.proofs.Lists.{all-take, all-drop, all-append}
 use Rattle.linear_theorems.proofs.Meaning.{cut, Cut, lines, Val, leaf, node, Shaped, build}
 

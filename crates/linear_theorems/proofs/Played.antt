@@ -11,7 +11,8 @@ use Rattle.calculus.specs.Terms.{first, partAt}
 use Rattle.calculus.specs.Rules.{Ctx, many, once, Split, Typed, Var, LVar, →I, →E, ⊸I, ⊸E, ×I, ×E, Fix, Con}
 use Rattle.calculus.specs.Net.{turns, Element, point, part, points, inSide, outSide, join, Bound, unbound, Made, leftOf, binder, firstHalf, secondHalf, madeVar, madeFun, madeApp, madePair, madeProj, madeFix, madeCon, make}
 use Rattle.calculus.specs.Record.{Stream, Bits, Law, All, Works, Joined}
-use Rattle.circuit_theorems.proofs.Drivers.{dirs, turns-size, dirs-left, Env, env-many, env-once, split-env, binder-fits, halves, term-driven}
+use Rattle.circuit_theorems.proofs.Drivers.{turns-size, dirs-left, split-env, binder-fits, halves, term-driven}
+use Rattle.circuit_theorems.specs.Scope.{dirs, Env, env-many, env-once}
 use Rattle.circuit_theorems.proofs.Lists.{all-append, all-take, all-drop}
 use Rattle.circuit_theorems.proofs.Outputs.{next-le}
 use Rattle.linear_theorems.specs.Marked.{Marked, mvar, mlvar, mfun, mapp, mlfun, mlapp, mpair, mproj, mfix, mcon, plain, marks, Seen, PartsSeen}

@@ -14,7 +14,8 @@ use Rattle.calculus.specs.Net.{Net, Interface, number, Element, point, part, ma
 use Rattle.calculus.specs.Lean.{kept, keep, lean}
 use Rattle.calculus.specs.Record.{Stream, Bits, Law, All, PinsShow, PartShows}
 use Rattle.circuit_theorems.specs.Formed.{Formed}
-use Rattle.circuit_theorems.proofs.Drivers.{env-end, term-driven}
+use Rattle.circuit_theorems.proofs.Drivers.{term-driven}
+use Rattle.circuit_theorems.specs.Scope.{env-end}
 use Rattle.circuit_theorems.proofs.Same.{same-records}
 use Rattle.linear_theorems.specs.Marked.{Marked, plain, marks, Seen, PartsSeen, ByMarks}
 use Rattle.linear_theorems.specs.PutIn.{PutIn}

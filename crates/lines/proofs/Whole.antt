@@ -45,13 +45,13 @@ module _ (s : List ℕ) (at : ℕ) (r rest : List ℕ) (h : drop at s ≡ r ++ r
 -- ---- one record
 
 -- at an offset stand these bytes, then others
-abbrev Stands : List ℕ → ℕ → List ℕ → List ℕ → Type 0
-Stands s at r rest = drop at s ≡ r ++ rest
+abbrev BytesAt : List ℕ → ℕ → List ℕ → List ℕ → Type 0
+BytesAt s at r rest = drop at s ≡ r ++ rest
 
 byte : {xs ys : List ℕ} → xs ≡ ys → (j : ℕ) → getD xs j 0 ≡ getD ys j 0
 byte h j = ap (λ (x : List ℕ). getD x j 0) h
 
-pub element-read : (e : Element) (s : List ℕ) (at : ℕ) (rest : List ℕ) → Stands s at (elementBytes (e ∷ [])) rest
+pub element-read : (e : Element) (s : List ℕ) (at : ℕ) (rest : List ℕ) → BytesAt s at (elementBytes (e ∷ [])) rest
     → RecordAt s at (length (elementBytes (e ∷ []))) (elementLine e)
 unfolding pointLine partLine
 element-read (point i) s at rest h =
@@ -63,7 +63,7 @@ element-read (part p i) s at rest h =
     read-by s at 0x22 (partLine p i) (first-read s at r rest h) (λ z. omega arith) (stands-whole s at r rest h (omega arith))
     (rw (byte-read s at r rest h 1) (ap (partLine p) (number-read s at 2 i (byte h 2) (byte h 3))))
 
-pub wire-read : (w : Wire) (s : List ℕ) (at : ℕ) (rest : List ℕ) → Stands s at (wireBytes (w ∷ [])) rest
+pub wire-read : (w : Wire) (s : List ℕ) (at : ℕ) (rest : List ℕ) → BytesAt s at (wireBytes (w ∷ [])) rest
     → RecordAt s at (length (wireBytes (w ∷ []))) (wireLine w)
 unfolding wiredLine
 wire-read w s at rest h =
@@ -71,7 +71,7 @@ wire-read w s at rest h =
     read-by s at 0x23 (wiredLine (w .from) (w .to)) (first-read s at r rest h) (λ z. omega arith) (stands-whole s at r rest h (omega arith))
     (rw (number-read s at 1 (w .from) (byte h 1) (byte h 2), number-read s at 3 (w .to) (byte h 3) (byte h 4)))
 
-pub pin-read : (t : Terminal) (s : List ℕ) (at : ℕ) (rest : List ℕ) → Stands s at (pinBytes (t ∷ [])) rest
+pub pin-read : (t : Terminal) (s : List ℕ) (at : ℕ) (rest : List ℕ) → BytesAt s at (pinBytes (t ∷ [])) rest
     → RecordAt s at (length (pinBytes (t ∷ []))) (pinLines (t ∷ []))
 unfolding pinLine
 pin-read t s at rest h =
@@ -85,8 +85,8 @@ pin-read t s at rest h =
 module _ {A : Type 0} (bytes text : A → List ℕ) (row lines : List A → List ℕ)
     (none : row [] ≡ []) (more : (x : A) (xs : List A) → row (x ∷ xs) ≡ bytes x ++ row xs)
     (empty : lines [] ≡ []) (longer : (x : A) (xs : List A) → lines (x ∷ xs) ≡ text x ++ lines xs)
-    (reads : (x : A) (s : List ℕ) (at : ℕ) (rest : List ℕ) → Stands s at (bytes x) rest → RecordAt s at (length (bytes x)) (text x)) where
-  row-read : (xs : List A) (s : List ℕ) (at : ℕ) (rest : List ℕ) (k : ℕ) → Stands s at (row xs) rest
+    (reads : (x : A) (s : List ℕ) (at : ℕ) (rest : List ℕ) → BytesAt s at (bytes x) rest → RecordAt s at (length (bytes x)) (text x)) where
+  row-read : (xs : List A) (s : List ℕ) (at : ℕ) (rest : List ℕ) (k : ℕ) → BytesAt s at (row xs) rest
       → linesFrom (length xs + k) s at ≡ lines xs ++ linesFrom k s (at + length (row xs))
   row-read [] s at rest k h =
       let e : 0 + k ≡ k = omega arith in
@@ -94,9 +94,9 @@ module _ {A : Type 0} (bytes text : A → List ℕ) (row lines : List A → List
       rw (e, none, empty, f)
   row-read (x ∷ xs) s at rest k h =
       let b = bytes x in
-      let here : Stands s at b (row xs ++ rest) = h ∙ ap (λ (l : List ℕ). l ++ rest) (more x xs) ∙ append-assoc b (row xs) rest in
+      let here : BytesAt s at b (row xs ++ rest) = h ∙ ap (λ (l : List ℕ). l ++ rest) (more x xs) ∙ append-assoc b (row xs) rest in
       let r = reads x s at (row xs ++ rest) here in
-      let next : Stands s (at + length b) (row xs) rest = sym (drop-drop (length b) at s) ∙ ap (drop (length b)) here ∙ drop-at b (row xs ++ rest) (length b) refl in
+      let next : BytesAt s (at + length b) (row xs) rest = sym (drop-drop (length b) at s) ∙ ap (drop (length b)) here ∙ drop-at b (row xs ++ rest) (length b) refl in
       let e : suc (length xs) + k ≡ suc (length xs + k) = omega arith in
       let f : at + length b + length (row xs) ≡ at + length (b ++ row xs) = rw length-append (omega arith) in
       rw (e, r .size, r .line, row-read xs s (at + length b) rest k next, more x xs, longer x xs, f, append-assoc (text x) (lines xs) (linesFrom k s (at + length (b ++ row xs))))
@@ -115,8 +115,8 @@ net-read m =
     let W = wireBytes (m .wires) in
     let P = pinBytes (m .pins) in
     let a = 0 + length E in
-    let atW : Stands s a W P = let e : 0 + length E ≡ length E = omega arith in rw e (drop-at E (W ++ P) (length E) refl) in
-    let atP : Stands s (a + length W) P [] = sym (drop-drop (length W) a s) ∙ ap (drop (length W)) atW ∙ drop-at W P (length W) refl ∙ sym (append-nil P) in
+    let atW : BytesAt s a W P = let e : 0 + length E ≡ length E = omega arith in rw e (drop-at E (W ++ P) (length E) refl) in
+    let atP : BytesAt s (a + length W) P [] = sym (drop-drop (length W) a s) ∙ ap (drop (length W)) atW ∙ drop-at W P (length W) refl ∙ sym (append-nil P) in
     let elements =
     row-read (λ e. elementBytes (e ∷ [])) elementLine elementBytes elementLines refl (λ e es. elements-append (e ∷ []) es) refl (λ e es. refl) element-read (m .elements) s 0 (W ++ P)
     (length (m .wires) + (length (m .pins) + 0)) refl in

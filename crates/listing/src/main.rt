@@ -1,6 +1,6 @@
 // Reads one sheet from standard input, and prints its full and its lean netlist, or its refusal.
-use deltawobble::Answer;
-use deltawobble::Wish;
+use translation::Wish;
+use translator::Answer;
 ghost use Prim.Native.Nat.{_+_, _≤_};
 ghost use lib.ListN.{length};
 
@@ -49,7 +49,7 @@ fn refused(number: u8, place: usize) {
 
 // One netlist behind its heading, or the refusal. False where the sheet is refused.
 fn translated(sheet: &[u8], out: &mut [u8], work: &mut [u16], lean: bool, heading: &[u8]) -> bool {
-    match deltawobble::translate(sheet, out, work, Wish { lean: lean }) {
+    match translation::translate(sheet, out, work, Wish { lean, plain: true }) {
         Answer::Written(n) => {
             netlist(heading, &out[..n]);
             true

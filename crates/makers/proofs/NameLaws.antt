@@ -1,5 +1,5 @@
 -- Node by node: the makers of the first k nodes' elements, and what node k's record says of its own. Assumes nothing.
-use Prim.Native.Nat.{ℕ, suc, _+_, _≤_, _<_}
+use Prim.Native.Nat.{ℕ, _+_, _≤_, _<_}
 use mathlib.Core.Path.{_≡_, refl, sym, ap, _∙_, subst}
 use mathlib.Core.List.{List, [], _∷_, _++_, append-nil}
 use native.Mathlib.Omega.{arith}
@@ -7,15 +7,14 @@ use native.Mathlib.Numerals.{add-one}
 use lib.ListN.{length, getD, take, drop, replicate, length-append, length-replicate, take-append-drop, replicate-append-replicate}
 use lib.Seq.{sets, take-suc, take-length, length-take-le}
 use Rattle.laws.proofs.Regions.{sets-append}
-use Rattle.calculus.specs.Types.{Ty, size, TyRec, rec01, rec02, rec03, rec04, Table, recAt, tree}
+use Rattle.calculus.specs.Types.{size, TyRec, Table, recAt, tree}
 use Rattle.calculus.specs.Terms.{Term, var, lvar, fun, app, lfun, lapp, pair, proj, fix, con, name, nodes}
 use Rattle.calculus.specs.Net.{leftOf}
 use Rattle.calculus.specs.Makers.{makers}
-use Rattle.sheet_theorems.specs.Laid.{Agrees, Below, TableOk, Stands, Ranged, depth}
+use Rattle.sheet_theorems.specs.Laid.{Stands, Ranged, depth}
 use Rattle.sheet_theorems.specs.Subterms.{subterms, skip}
-use Rattle.sheet_theorems.proofs.TypeOffsets.{tree-zero}
 use Rattle.sheet_theorems.proofs.StretchHolds.{count-subterms, node-stretch}
-use Rattle.sheet_theorems.proofs.SubtermRead.{Limits, subterm-limits}
+use Rattle.sheet_theorems.proofs.SubtermRead.{subterm-limits}
 use Rattle.circuit_theorems.proofs.Makers.{ownCount, rowMakers, row-makers-append, row-makers}
 use Rattle.records.specs.Record.{nodeAt}
 use Rattle.records.specs.Heads.{nodeOf}
@@ -24,8 +23,10 @@ use Rattle.records.specs.declared.Node.{Node}
 use Rattle.records.proofs.Laws.{stands-node}
 use Rattle.sheet.specs.Nodes.{NodesFrom}
 use Rattle.sheet.proofs.StretchLaws.{skip-more}
-use Rattle.memory.specs.Map.{makersAt}
-use Rattle.makers.specs.Naming.{leftIn, elementsIn, Nameable}
+use Rattle.memory.specs.Map.{makersAt, memorySize}
+use Rattle.records.specs.TypeNumbers.{leftNo}
+use Rattle.records.proofs.SideLaws.{left-of}
+use Rattle.makers.specs.Naming.{elementsIn, Nameable}
 
 -- ---- a run of one number
 
@@ -36,20 +37,13 @@ run-more w to i x =
 
 -- ---- one record's elements
 
-left-of : (Θ : Table) (sizes : List ℕ) (t : ℕ) (q : TyRec) → ((u : ℕ) → u < length Θ → getD sizes u 0 ≡ size (tree Θ u)) → TableOk Θ → t < length Θ
-    → Agrees Θ q (tree Θ t) → Below t q → getD sizes (leftIn q) 0 ≡ size (leftOf (tree Θ t))
-left-of Θ sizes t rec01 f ok h a b = f 0 (omega arith) ∙ ap size (tree-zero Θ ok) ∙ sym (ap (λ (τ : Ty). size (leftOf τ)) a)
-left-of Θ sizes t (rec02 l r) f ok h a b = f l (omega (arith, b .0)) ∙ sym (ap (λ (τ : Ty). size (leftOf τ)) (a .0))
-left-of Θ sizes t (rec03 l r) f ok h a b = f l (omega (arith, b .0)) ∙ sym (ap (λ (τ : Ty). size (leftOf τ)) (a .0))
-left-of Θ sizes t (rec04 l r) f ok h a b = f l (omega (arith, b .0)) ∙ sym (ap (λ (τ : Ty). size (leftOf τ)) (a .0))
-
 module _ {s sizes w : List ℕ} {from count : ℕ} (q : Nameable s sizes w from count) where
   abbrev Θ : Table
   Θ = q .table
 
-  left-size : (t : ℕ) → t < length Θ → getD sizes (leftIn (recIn s t)) 0 ≡ size (leftOf (tree Θ t))
+  left-size : (t : ℕ) → t < length Θ → getD sizes (leftNo (recIn s t)) 0 ≡ size (leftOf (tree Θ t))
   left-size t h =
-      ap (λ (x : TyRec). getD sizes (leftIn x) 0) (q .records t h) ∙ left-of Θ sizes t (recAt Θ t) (q .sized) (q .ok) h (q .ok .agrees t) (q .ok .earlier t h)
+      ap (λ (x : TyRec). getD sizes (leftNo x) 0) (q .records t h) ∙ left-of Θ sizes t (recAt Θ t) (q .sized) (q .ok) h (q .ok .agrees t) (q .ok .earlier t h)
 
   own-is : (e : Term) (at : ℕ) → Ranged (q .edition) Θ e → elementsIn s sizes (nodeOf e at) ≡ ownCount Θ e
   unfolding elementsIn
@@ -116,16 +110,16 @@ module _ {s sizes w : List ℕ} {from count : ℕ} (q : Nameable s sizes w from 
       omega (arith, a, length-append (done k) (rowMakers Θ (drop k us) (0 + length (take k us))), q .elements)
 
 -- the first k nodes' elements are named; `to` is the next maker's place, and `at` where node k's record stands
-pub record Named (s sizes w₀ : List ℕ) (from count : ℕ) (q : Nameable s sizes w₀ from count) (w : List ℕ) (at to k : ℕ) : Type 0 where
+pub record NamedSoFar (s sizes w₀ : List ℕ) (from count : ℕ) (q : Nameable s sizes w₀ from count) (w : List ℕ) (at to k : ℕ) : Type 0 where
   pub here : at ≡ skip s k from
   pub next : to ≡ makersAt + length (done q k)
   pub stored : w ≡ sets w₀ makersAt (done q k)
 
-pub named-start : {s sizes w : List ℕ} {from count : ℕ} (q : Nameable s sizes w from count) → Named s sizes w from count q w from makersAt 0
+pub named-start : {s sizes w : List ℕ} {from count : ℕ} (q : Nameable s sizes w from count) → NamedSoFar s sizes w from count q w from makersAt 0
 unfolding skip
 named-start q = record { here = refl; next = omega arith; stored = refl }
 
-module _ {s sizes w₀ w : List ℕ} {from count at to k : ℕ} (q : Nameable s sizes w₀ from count) (n : Named s sizes w₀ from count q w at to k) (h : k < count) {r : Node} (e : r ≡ nodeAt s at) where
+module _ {s sizes w₀ w : List ℕ} {from count at to k : ℕ} (q : Nameable s sizes w₀ from count) (n : NamedSoFar s sizes w₀ from count q w at to k) (h : k < count) {r : Node} (e : r ≡ nodeAt s at) where
   own-count : elementsIn s sizes r ≡ ownCount (q .table) (getD (subterms (q .term)) k (q .term))
   own-count = own-here q k at r h (n .here) e
 
@@ -134,17 +128,17 @@ module _ {s sizes w₀ w : List ℕ} {from count at to k : ℕ} (q : Nameable s 
       ap length (done-more q k h) ∙ length-append (done q k) _
       ∙ ap (λ (x : ℕ). length (done q k) + x) (length-replicate (ownCount (q .table) (getD (subterms (q .term)) k (q .term))) k ∙ sym own-count)
 
-  pub named-room : to + elementsIn s sizes r ≤ 32768
+  pub named-room : to + elementsIn s sizes r ≤ memorySize
   named-room = omega (arith, n .next, length-more, done-few q (k + 1))
 
   pub named-step : {w₁ : List ℕ} → w₁ ≡ sets w to (replicate (elementsIn s sizes r) k)
-      → Named s sizes w₀ from count q w₁ (r .next) (to + elementsIn s sizes r) (k + 1)
+      → NamedSoFar s sizes w₀ from count q w₁ (r .next) (to + elementsIn s sizes r) (k + 1)
   named-step {w₁} f = record {
     here = skip-more s from count k at (nodes-from q) h (n .here) e;
     next = omega (arith, n .next, length-more);
     stored = f ∙ rw (n .stored, n .next, own-count) (sets-append (done q k) (replicate (ownCount (q .table) (getD (subterms (q .term)) k (q .term))) k) w₀ makersAt ∙ ap (sets w₀ makersAt) (sym (done-more q k h)));
   }
 
-pub named-end : {s sizes w₀ w : List ℕ} {from count at to k : ℕ} (q : Nameable s sizes w₀ from count) → Named s sizes w₀ from count q w at to k → k ≡ count
+pub named-end : {s sizes w₀ w : List ℕ} {from count at to k : ℕ} (q : Nameable s sizes w₀ from count) → NamedSoFar s sizes w₀ from count q w at to k → k ≡ count
     → w ≡ sets w₀ makersAt (makers (q .table) (q .term) 0)
 named-end {w₀ = w₀} q n e = n .stored ∙ ap (sets w₀ makersAt) (ap (done q) e ∙ done-all q)

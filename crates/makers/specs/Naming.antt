@@ -5,25 +5,15 @@ use mathlib.Core.Bool.{cond}
 use mathlib.Core.List.{List}
 use lib.ListN.{length, getD}
 use lib.Dec.{eqb}
-use Rattle.calculus.specs.Types.{size, TyRec, rec01, rec02, rec03, rec04, Table, recAt, tree}
+use Rattle.calculus.specs.Types.{size, Table, recAt, tree}
 use Rattle.calculus.specs.Terms.{Edition, Term, nodes}
 use Rattle.calculus.specs.Makers.{makers}
 use Rattle.sheet_theorems.specs.Laid.{TableOk, Stands, Ranged}
 use Rattle.records.specs.Forms.{recIn}
-use Rattle.records.specs.Rules.{isFixedPoint, isConstant}
+use Rattle.records.specs.Rules.{isConstant}
+use Rattle.records.specs.TypeNumbers.{boundIn}
 use Rattle.records.specs.declared.Node.{Node}
 use Rattle.memory.specs.Map.{memorySize}
-
--- the left of a type record's two numbers; 0 where it has none
-abbrev pub leftIn : TyRec → ℕ
-leftIn rec01 = 0
-leftIn (rec02 a b) = a
-leftIn (rec03 a b) = a
-leftIn (rec04 a b) = a
-
--- the type that a function or a fixed point binds
-abbrev pub boundIn : List ℕ → Node → ℕ
-boundIn s node = cond (isFixedPoint (node .rule)) (node .first) (leftIn (recIn s (node .first)))
 
 -- how many elements one record makes: a constant its part, a function or a fixed point a point for each single bit of the bound type
 unfoldable pub elementsIn : List ℕ → List ℕ → Node → ℕ

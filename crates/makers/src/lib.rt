@@ -1,6 +1,5 @@
 // The nodes that made the elements of a netlist, in the working memory: one flat pass over the term's records.
 use memory::MAKERS;
-use records::Form;
 use records::Node;
 use records::Rule;
 ghost use mathlib.Core.Path.{_≡_};
@@ -8,33 +7,8 @@ ghost use Prim.Native.Nat.{_+_, _≤_};
 ghost use lib.ListN.{length, replicate};
 ghost use lib.Seq.{sets};
 ghost use Rattle.calculus.specs.Makers.{makers};
-ghost use Rattle.records.specs.Forms.{recIn};
 ghost use Rattle.memory.specs.Map.{makersAt};
-ghost use Rattle.makers.specs.Naming.{leftIn, boundIn, elementsIn, Nameable};
-
-// The left of a type record's two numbers; 0 for the single bit.
-fn left_of(s: &[u8], t: u8) -> u8
-    ensures { λ r. ⌜ r ≡ leftIn (recIn (now (s .entry)) t) ⌝ }
-{
-    match records::type_at(s, t) {
-        Form::Bit => 0,
-        Form::Product(left, _) => left,
-        Form::Arrow(left, _) => left,
-        Form::Linear(left, _) => left,
-    }
-}
-
-// The type that a function or a fixed point binds.
-fn bound(s: &[u8], node: Node) -> u8
-    ensures { λ r. ⌜ r ≡ boundIn (now (s .entry)) node ⌝ }
-{
-    let first = node.first;
-    let rule = node.rule;
-    match rule {
-        Rule::FixedPoint => first,
-        _ => left_of(s, first),
-    }
-}
+ghost use Rattle.makers.specs.Naming.{elementsIn, Nameable};
 
 // The elements that one record makes.
 fn own_elements(s: &[u8], sizes: &[u8], node: Node) -> usize
@@ -46,7 +20,7 @@ fn own_elements(s: &[u8], sizes: &[u8], node: Node) -> usize
         Rule::Constant => 1,
         _ => {
             if node.subterms == 1 {
-                return records::wide(sizes[records::wide(bound(s, node))]);
+                return records::wide(sizes[records::wide(records::bound_by(s, node))]);
             }
             0
         }

@@ -14,6 +14,10 @@ use Rattle.records.proofs.node_at.Kinds as node-at
 use Rattle.records.proofs.node_at.Reads as node-at-reads
 use Rattle.records.proofs.type_at.Kinds as type-at
 use Rattle.records.proofs.type_at.Reads as type-at-reads
+use Rattle.records.proofs.sides_of.Kinds as sides-of
+use Rattle.records.proofs.sides_of.Reads as sides-of-reads
+use Rattle.records.proofs.bound_by.Kinds as bound-by
+use Rattle.records.proofs.bound_by.Reads as bound-by-reads
 use Rattle.records.proofs.wide.Kinds as wide
 use Rattle.records.proofs.wide.Reads as wide-reads
 
@@ -47,6 +51,12 @@ node-at-determined κs a x y s t f g = f ∙ sym g
 
 pub type-at-determined : Result type-at.ps type-at.r type-at-reads.Post
 type-at-determined κs a x y s t f g = one-form x y (f ∙ sym g)
+
+pub sides-of-determined : Result sides-of.ps sides-of.r sides-of-reads.Post
+sides-of-determined κs a x y s t f g = f ∙ sym g
+
+pub bound-by-determined : Result bound-by.ps bound-by.r bound-by-reads.Post
+bound-by-determined κs a x y s t f g = f ∙ sym g
 
 pub wide-determined : Result wide.ps wide.r wide-reads.Post
 wide-determined κs a x y s t f g = f ∙ sym g

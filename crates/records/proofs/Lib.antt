@@ -3,3 +3,4 @@ pub mod FormLaws
 pub mod RuleLaws
 pub mod Determined
 pub mod ToldLaws
+pub mod SideLaws

@@ -4,3 +4,4 @@ pub mod Rules
 pub mod Editions
 pub mod Forms
 pub mod Told
+pub mod TypeNumbers

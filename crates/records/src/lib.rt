@@ -4,6 +4,7 @@ ghost use lib.ListN.{getD, take, drop, length};
 ghost use Prim.Native.Nat.{_+_, _≤_};
 ghost use Rattle.records.specs.Record.{shapeOf, formOf, recordAt, noNode, nodeAt};
 ghost use Rattle.records.specs.Forms.{saidForm, recIn};
+ghost use Rattle.records.specs.TypeNumbers.{sidedOf, boundIn};
 
 // The rule for a type.
 pub enum TypeRule {
@@ -183,6 +184,52 @@ pub fn type_at(s: &[u8], t: u8) -> Form
         return Form::Bit;
     };
     form_of(rule, s[at + 1], s[at + 2])
+}
+
+// A type record as numbers: its kind, 1 to 4, and its two sides, 0 for the single bit.
+pub struct Sided {
+    pub kind: u8,
+    pub left: u8,
+    pub right: u8,
+}
+
+pub fn sides_of(s: &[u8], t: u8) -> Sided
+    ensures { λ r. ⌜ r ≡ sidedOf (recIn (now (s .entry)) t) ⌝ }
+{
+    match type_at(s, t) {
+        Form::Bit => Sided {
+            kind: 1,
+            left: 0,
+            right: 0,
+        },
+        Form::Product(left, right) => Sided {
+            kind: 2,
+            left,
+            right,
+        },
+        Form::Arrow(left, right) => Sided {
+            kind: 3,
+            left,
+            right,
+        },
+        Form::Linear(left, right) => Sided {
+            kind: 4,
+            left,
+            right,
+        },
+    }
+}
+
+// The type that a function or a fixed point binds.
+pub fn bound_by(s: &[u8], node: Node) -> u8
+    ensures { λ r. ⌜ r ≡ boundIn (now (s .entry)) node ⌝ }
+{
+    let first = node.first;
+    let rule = node.rule;
+    match rule {
+        Rule::FixedPoint => first,
+        _ => sides_of(s, first).left,
+    }
 }
 
 pub fn wide(x: u8) -> usize

@@ -5,7 +5,7 @@ use mathlib.Core.List.{List}
 use Rattle.calculus.specs.Answer.{Refusal}
 use Rattle.calculus.proofs.Answers.{refused≢good, good-inj, refused-inj}
 use Rattle.calculus.specs.Stretch.{Stretch}
-use Rattle.sheet.specs.Sheets.{Counts, ReadSaid, saidVerdict, saidReading}
+use Rattle.sheet.specs.Sheets.{SheetCounts, ReadSaid, saidVerdict, saidReading}
 use Rattle.sheet.specs.declared.Verdict.{Verdict}
 use Rattle.sheet.specs.declared.Verdict.the-variants as verdict
 use Rattle.sheet.specs.declared.Reading.{Reading}
@@ -28,9 +28,9 @@ use Rattle.sheet.proofs.records_of.Reads as records-of-reads
 same-verdict : (v w : Verdict) → saidVerdict v ≡ saidVerdict w → v ≡ w
 same-verdict (verdict.Read a b c) (verdict.Read x y z) e =
     let f = good-inj e in
-    let p : a ≡ x = ap (λ (c : Counts). c .types) f in
-    let q : b ≡ y = ap (λ (c : Counts). c .nodes) f in
-    let r : c ≡ z = ap (λ (c : Counts). c .start) f in
+    let p : a ≡ x = ap (λ (c : SheetCounts). c .types) f in
+    let q : b ≡ y = ap (λ (c : SheetCounts). c .nodes) f in
+    let r : c ≡ z = ap (λ (c : SheetCounts). c .start) f in
     rw (p, q, r)
 same-verdict (verdict.Read a b c) (verdict.Refused i p) e = absurd (refused≢good (sym e))
 same-verdict (verdict.Refused i p) (verdict.Read x y z) e = absurd (refused≢good e)

@@ -13,7 +13,7 @@ use Rattle.calculus.specs.Read.{kindOf, NodeKind, k11, k12, k13, k14, k15, k16,
 use Rattle.calculus.specs.Types.{rec01}
 use Rattle.sheet_theorems.proofs.Standing.{term-nonempty}
 use Rattle.sheet_theorems.proofs.Laying.{termed}
-use Rattle.sheet.specs.Said.{nodeSubs, headed, Opened, opening, opens, End, end, spanned}
+use Rattle.sheet.specs.Said.{nodeSubs, headed, HeadSaid, opening, opens, End, end, spanned}
 
 -- ---- a node with so many subterms
 
@@ -73,10 +73,10 @@ module _ (x y next n : ℕ) (go : ℕ → ℕ → Answer Got) where
 headed-good : (at : ℕ) (m : Answer NodeKind) (p q : ℕ) → opening p q ≡ headed at m → (k : NodeKind) × (m ≡ good k) × (at + 1 + nodeBody k ≡ p) × (nodeSubs k ≡ q)
 headed-good at (good k) p q e =
     let f = good-inj (sym e) in
-    (k, refl, ap (λ (o : Opened). o .next) f, ap (λ (o : Opened). o .subterms) f)
+    (k, refl, ap (λ (o : HeadSaid). o .next) f, ap (λ (o : HeadSaid). o .subterms) f)
 headed-good at (refused why) p q e = absurd (refused≢good (sym e))
 
-headed-bad : (at : ℕ) (m : Answer NodeKind) (a b : ℕ) → _≡_ {A = Answer Opened} (refuse a b) (headed at m) → m ≡ refuse a b
+headed-bad : (at : ℕ) (m : Answer NodeKind) (a b : ℕ) → _≡_ {A = Answer HeadSaid} (refuse a b) (headed at m) → m ≡ refuse a b
 headed-bad at (good k) a b e = absurd (refused≢good e)
 headed-bad at (refused why) a b e = ap refused (sym (refused-inj e))
 
@@ -119,7 +119,7 @@ module _ (E : Edition) (more : ℕ) (s : List ℕ) (types at n : ℕ) where
       let (k, h, i, j) = headed-good at (headAt E more s types at n) p q e in
       rw i at (head-tells E more s types at n k h)
 
-  pub span-bad : {a b : ℕ} → _≡_ {A = Answer Opened} (refuse a b) (opens E more s types at n) → _≡_ {A = Answer End} (refuse a b) (spanned (readTerm E more s types at n))
+  pub span-bad : {a b : ℕ} → _≡_ {A = Answer HeadSaid} (refuse a b) (opens E more s types at n) → _≡_ {A = Answer End} (refuse a b) (spanned (readTerm E more s types at n))
   unfolding opens
   span-bad {a} {b} e = read-bad E s types at n a b more (headed-bad at (headAt E more s types at n) a b e)
 

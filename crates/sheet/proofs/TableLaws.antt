@@ -20,7 +20,8 @@ use Rattle.sheet_theorems.proofs.TypeForms.{sharable-form, arrow-form}
 use Rattle.records.specs.Forms.{recIn}
 use Rattle.records.specs.Told.{sizesOf}
 use Rattle.records.proofs.ToldLaws.{sizes-front, size-at}
-use Rattle.sheet.specs.Tables.{tableIn, sharableRec, arrowRec, knownBelow, formedIn, sizeIn}
+use Rattle.sheet.specs.Tables.{tableIn, knownBelow, formedIn, sizeIn}
+use Rattle.sheet_theorems.specs.Records.{sharableRec, arrowRec}
 
 -- ---- the records
 

@@ -6,7 +6,7 @@ use Rattle.records.specs.Told.{Told}
 use Rattle.calculus.specs.Answer.{Answer, good, refused, refuse}
 use Rattle.calculus.proofs.Answers.{refused≢good, good-inj, refused-inj}
 use Rattle.calculus.specs.Read.{Sheet, readSheet}
-use Rattle.sheet.specs.Sheets.{Counts, ReadSaid, saidVerdict, saidReading, readingOf}
+use Rattle.sheet.specs.Sheets.{SheetCounts, ReadSaid, saidVerdict, saidReading, readingOf}
 use Rattle.sheet.specs.declared.Verdict.the-variants as verdict
 use Rattle.sheet.specs.declared.Reading.{Reading}
 
@@ -17,9 +17,9 @@ told-by s r types n start (good σ) e h v =
     record {
       sheet = σ;
       is = e;
-      types-are = ap (λ (c : Counts). c .types) f;
-      nodes-are = ap (λ (c : Counts). c .nodes) f;
-      start-is = ap (λ (c : Counts). c .start) f;
+      types-are = ap (λ (c : SheetCounts). c .types) f;
+      nodes-are = ap (λ (c : SheetCounts). c .nodes) f;
+      start-is = ap (λ (c : SheetCounts). c .start) f;
       sizes-are = ap (λ (x : ReadSaid). x .sizes) h;
     }
 told-by s r types n start (refused why) e h v = absurd (refused≢good (sym (ap saidVerdict (sym v) ∙ ap (λ (x : ReadSaid). x .answer) h)))

@@ -87,22 +87,22 @@ nodeSubs k1A = 0
 nodeSubs k1B = 2
 
 -- where the next record is due, and the number of subterms
-pub record Opened : Type 0 where
+pub record HeadSaid : Type 0 where
   pub next : ℕ
   pub subterms : ℕ
 
-abbrev pub opening : ℕ → ℕ → Answer Opened
+abbrev pub opening : ℕ → ℕ → Answer HeadSaid
 opening next n = good (record { next = next; subterms = n })
 
-abbrev pub saidHead : Head → Answer Opened
+abbrev pub saidHead : Head → Answer HeadSaid
 saidHead (head.Opens next n) = opening next n
 saidHead (head.Refused number place) = refuse number place
 
-abbrev pub headed : ℕ → Answer NodeKind → Answer Opened
+abbrev pub headed : ℕ → Answer NodeKind → Answer HeadSaid
 headed at (good k) = opening (at + 1 + nodeBody k) (nodeSubs k)
 headed at (refused why) = refused why
 
-unfoldable pub opens : Edition → ℕ → List ℕ → ℕ → ℕ → ℕ → Answer Opened
+unfoldable pub opens : Edition → ℕ → List ℕ → ℕ → ℕ → ℕ → Answer HeadSaid
 opens E more s types at n = headed at (headAt E more s types at n)
 
 -- a type number that the record holds names no type
@@ -120,7 +120,7 @@ mistyped rule.Constant x y types = leb types y
 mistyped rule.Naming x y types = false
 
 -- a whole record: a kind that the edition knows, count, depth, type number
-unfoldable pub limitsOf : Edition → Node → ℕ → ℕ → ℕ → ℕ → Answer Opened
+unfoldable pub limitsOf : Edition → Node → ℕ → ℕ → ℕ → ℕ → Answer HeadSaid
 limitsOf E r at n more types = do
   _ ← need (knownRule E (r .rule)) 4 at
   _ ← need (ltb n 2048) 8 at

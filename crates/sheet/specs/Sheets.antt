@@ -16,17 +16,17 @@ use Rattle.sheet.specs.declared.Bounds.{Bounds}
 -- ---- a sheet
 
 -- its number of types, its number of nodes, and where its term begins behind the opening
-pub record Counts : Type 0 where
+pub record SheetCounts : Type 0 where
   pub types : ℕ
   pub nodes : ℕ
   pub start : ℕ
 
 -- .. or a refusal, and the sizes of its types
 pub record ReadSaid : Type 0 where
-  pub answer : Answer Counts
+  pub answer : Answer SheetCounts
   pub sizes : List ℕ
 
-abbrev pub saidVerdict : Verdict → Answer Counts
+abbrev pub saidVerdict : Verdict → Answer SheetCounts
 saidVerdict (verdict.Read types n start) = good (record { types = types; nodes = n; start = start })
 saidVerdict (verdict.Refused number place) = refuse number place
 

@@ -1,6 +1,6 @@
 -- The types of a sheet by their numbers: the records of the first n types, each record's tests, and the table of sizes. Assumes nothing.
 use Prim.Native.Nat.{ℕ, zero, suc, _+_}
-use mathlib.Core.Bool.{Bool, true, false, _&&_}
+use mathlib.Core.Bool.{Bool, true, _&&_}
 use mathlib.Core.Path.{_≡_}
 use mathlib.Core.List.{List, [], _∷_, _++_}
 use lib.Dec.{ltb}
@@ -9,6 +9,7 @@ use Rattle.calculus.specs.Answer.{Answer, good, refuse, _>>=_, need}
 use Rattle.calculus.specs.Types.{size, TyRec, rec01, rec02, rec03, rec04, Table, tyOf, tysFrom}
 use Rattle.calculus.specs.Read.{checkType}
 use Rattle.sheet_theorems.specs.Laid.{TableOk}
+use Rattle.sheet_theorems.specs.Records.{sharableRec, arrowRec}
 use Rattle.records.specs.Forms.{recIn}
 use Rattle.records.specs.Told.{sizesOf}
 use Rattle.sheet.specs.declared.types.Checked.{Checked}
@@ -20,20 +21,6 @@ tableIn s zero = []
 tableIn s (suc n) = tableIn s n ++ recIn s n ∷ []
 
 -- ---- by the record alone
-
--- 01 and 02 make sharable types
-abbrev pub sharableRec : TyRec → Bool
-sharableRec rec01 = true
-sharableRec (rec02 a b) = true
-sharableRec (rec03 a b) = false
-sharableRec (rec04 a b) = false
-
--- 03 and 04 make arrows
-abbrev pub arrowRec : TyRec → Bool
-arrowRec rec01 = false
-arrowRec (rec02 a b) = false
-arrowRec (rec03 a b) = true
-arrowRec (rec04 a b) = true
 
 -- both type numbers are below n
 abbrev pub knownBelow : ℕ → TyRec → Bool

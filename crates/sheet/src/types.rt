@@ -12,7 +12,8 @@ ghost use Rattle.calculus.specs.Types.{recEq};
 ghost use Rattle.calculus.specs.Read.{repeated};
 ghost use Rattle.records.specs.Forms.{saidForm, recOf, recIn};
 ghost use Rattle.records.specs.Told.{sizesOf};
-ghost use Rattle.sheet.specs.Tables.{tableIn, sharableRec, arrowRec, knownBelow, formedIn, sizeIn, Before, sizeOf, saidChecked};
+ghost use Rattle.sheet.specs.Tables.{tableIn, knownBelow, formedIn, sizeIn, Before, sizeOf, saidChecked};
+ghost use Rattle.sheet_theorems.specs.Records.{sharableRec, arrowRec};
 ghost use Rattle.sheet.specs.Said.{saidTypes, noTypes, typesOf, typesIn, endOf};
 
 const MOST_TYPES: usize = 256;

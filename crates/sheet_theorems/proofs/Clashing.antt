@@ -15,7 +15,7 @@ use Rattle.calculus.specs.Walk.{shared, linear, Stack, product, sharableArrow, 
 use Rattle.sheet_theorems.specs.Laid.{TableOk, Ranged}
 use Rattle.sheet_theorems.specs.Clash.{Clash, Tells}
 use Rattle.sheet_theorems.proofs.Tables.{tys-count}
-use Rattle.sheet_theorems.proofs.Complete.{Numbers}
+use Rattle.sheet_theorems.specs.Numbers.{Numbers}
 use Rattle.sheet_theorems.proofs.WalkKeeps.{walk-keeps, kept-numbers, walk-in, arrow-in, lolli-in, product-in}
 use Rattle.sheet_theorems.proofs.Judging.{Judged, value, refusal, Any, of-bind, of-require}
 

@@ -13,14 +13,10 @@ use Rattle.calculus.specs.Terms.{Edition, Term, fun, app, lfun, lapp, pair, pro
 use Rattle.calculus.specs.Walk.{shared, linear, Stack, Found, found, useShared, useLinear, walk}
 use Rattle.calculus.specs.Rules.{Ctx, NoLinear, none-end, none-many, none-away, InΓ, in-here, in-many, in-away, IsΔ, is-here, is-many, is-away, Split, split-end, split-many, split-first, split-second, split-away, Typed, Var, LVar, →I, →E, ⊸I, ⊸E, ×I, ×E, Fix, Con, ×E′}
 use Rattle.sheet_theorems.specs.Laid.{Agrees, Below, TableOk, Ranged}
+use Rattle.sheet_theorems.specs.Numbers.{Numbers}
 use Rattle.laws.proofs.Tests.{and-of, T-is}
 use Rattle.sheet_theorems.proofs.Tables.{wider}
 use Rattle.sheet_theorems.proofs.Sound.{Step, step-end, step-shared, step-same, step-took}
-
-abbrev pub Numbers : Stack → ℕ → Type 0
-Numbers [] l = Unit {0}
-Numbers (shared t ∷ st) l = (t < l) × Numbers st l
-Numbers (linear t u ∷ st) l = (t < l) × Numbers st l
 
 -- ---- the two numbers of a record whose type has a form
 
@@ -68,18 +64,18 @@ idle-same (none-away z) (step-same {t = t} {u = u} s) = ap (λ (r : Stack). line
 
 -- ---- variables
 
-pub record Accepted (Θ : Table) (τ : Ty) (st : Stack) (a : Answer Found) : Type 0 where
+pub record FoundAs (Θ : Table) (τ : Ty) (st : Stack) (a : Answer Found) : Type 0 where
   pub type : ℕ
   pub type-in : type < length Θ
   pub type-is : tree Θ type ≡ τ
   pub answer : a ≡ found type st
 
-shares : {Θ : Table} {Γ : Ctx} {i : ℕ} {θ : Ty} {st st′ : Stack} (n : ℕ) → InΓ Γ i θ → Step Θ st st′ Γ → Numbers st (length Θ) → Accepted Θ θ st′ (useShared st i n)
+shares : {Θ : Table} {Γ : Ctx} {i : ℕ} {θ : Ty} {st st′ : Stack} (n : ℕ) → InΓ Γ i θ → Step Θ st st′ Γ → Numbers st (length Θ) → FoundAs Θ θ st′ (useShared st i n)
 shares n (in-here z) (step-shared {t = t} s) k = record { type = t; type-in = k .0; type-is = refl; answer = rw (idle-same z s) }
 shares n (in-many x) (step-shared s) k = let r = shares n x s (k .1) in record { type = r .type; type-in = r .type-in; type-is = r .type-is; answer = rw (r .answer) }
 shares n (in-away x) (step-same s) k = let r = shares n x s (k .1) in record { type = r .type; type-in = r .type-in; type-is = r .type-is; answer = rw (r .answer) }
 
-takes : {Θ : Table} {Γ : Ctx} {i : ℕ} {κ : Ty} {st st′ : Stack} (n : ℕ) → IsΔ Γ i κ → Step Θ st st′ Γ → Numbers st (length Θ) → Accepted Θ κ st′ (useLinear st i n)
+takes : {Θ : Table} {Γ : Ctx} {i : ℕ} {κ : Ty} {st st′ : Stack} (n : ℕ) → IsΔ Γ i κ → Step Θ st st′ Γ → Numbers st (length Θ) → FoundAs Θ κ st′ (useLinear st i n)
 takes n (is-here z) (step-took {t = t} s) k = record { type = t; type-in = k .0; type-is = refl; answer = rw (idle-same z s) }
 takes n (is-many x) (step-shared s) k = let r = takes n x s (k .1) in record { type = r .type; type-in = r .type-in; type-is = r .type-is; answer = rw (r .answer) }
 takes n (is-away x) (step-same s) k = let r = takes n x s (k .1) in record { type = r .type; type-in = r .type-in; type-is = r .type-is; answer = rw (r .answer) }
@@ -112,54 +108,54 @@ module _ (E : Edition) (Θ : Table) (ok : TableOk Θ) where
   same : {a b : ℕ} {τ : Ty} → a < length Θ → b < length Θ → tree Θ a ≡ τ → tree Θ b ≡ τ → eqb a b ≡ true
   same {a} {b} ha hb ea eb = eq-eqb a b (ok .distinct a b ha hb (ea ∙ sym eb))
 
-  app-walk : (f a : Term) (n : ℕ) (st mid st′ : Stack) (θ τ : Ty) → Accepted Θ (arrow θ τ) mid (walk E Θ f (n + 1) st)
-      → Accepted Θ θ st′ (walk E Θ a (n + 1 + nodes f) mid) → Accepted Θ τ st′ (walk E Θ (app f a) n st)
+  app-walk : (f a : Term) (n : ℕ) (st mid st′ : Stack) (θ τ : Ty) → FoundAs Θ (arrow θ τ) mid (walk E Θ f (n + 1) st)
+      → FoundAs Θ θ st′ (walk E Θ a (n + 1 + nodes f) mid) → FoundAs Θ τ st′ (walk E Θ (app f a) n st)
   app-walk f a n st mid st′ θ τ x y =
       let p = parts-arrow (x .type) (x .type-in) (x .type-is) in
       record { type = p .right; type-in = p .right-in; type-is = p .right-is; answer = simp (x .answer, y .answer, p .rec, same (y .type-in) (p .left-in) (y .type-is) (p .left-is)) }
 
-  lapp-walk : (f a : Term) (n : ℕ) (st mid st′ : Stack) (θ τ : Ty) → Accepted Θ (lolli θ τ) mid (walk E Θ f (n + 1) st)
-      → Accepted Θ θ st′ (walk E Θ a (n + 1 + nodes f) mid) → Accepted Θ τ st′ (walk E Θ (lapp f a) n st)
+  lapp-walk : (f a : Term) (n : ℕ) (st mid st′ : Stack) (θ τ : Ty) → FoundAs Θ (lolli θ τ) mid (walk E Θ f (n + 1) st)
+      → FoundAs Θ θ st′ (walk E Θ a (n + 1 + nodes f) mid) → FoundAs Θ τ st′ (walk E Θ (lapp f a) n st)
   lapp-walk f a n st mid st′ θ τ x y =
       let p = parts-lolli (x .type) (x .type-in) (x .type-is) in
       record { type = p .right; type-in = p .right-in; type-is = p .right-is; answer = simp (x .answer, y .answer, p .rec, same (y .type-in) (p .left-in) (y .type-is) (p .left-is)) }
 
-  pair-walk : (t : ℕ) (a b : Term) (n : ℕ) (st mid st′ : Stack) (θ₁ θ₂ : Ty) → t < length Θ → tree Θ t ≡ prod θ₁ θ₂ → Accepted Θ θ₁ mid (walk E Θ a (n + 1) st)
-      → Accepted Θ θ₂ st′ (walk E Θ b (n + 1 + nodes a) mid) → Accepted Θ (prod θ₁ θ₂) st′ (walk E Θ (pair t a b) n st)
+  pair-walk : (t : ℕ) (a b : Term) (n : ℕ) (st mid st′ : Stack) (θ₁ θ₂ : Ty) → t < length Θ → tree Θ t ≡ prod θ₁ θ₂ → FoundAs Θ θ₁ mid (walk E Θ a (n + 1) st)
+      → FoundAs Θ θ₂ st′ (walk E Θ b (n + 1 + nodes a) mid) → FoundAs Θ (prod θ₁ θ₂) st′ (walk E Θ (pair t a b) n st)
   pair-walk t a b n st mid st′ θ₁ θ₂ h e x y =
       let p = parts-prod t h e in
       record { type = t; type-in = h; type-is = e; answer = simp (p .rec, x .answer, y .answer, same (x .type-in) (p .left-in) (x .type-is) (p .left-is), same (y .type-in) (p .right-in) (y .type-is) (p .right-is)) }
 
   fun-walk : (t : ℕ) (e : Term) (n : ℕ) (st st′ : Stack) (θ τ : Ty) (h : t < length Θ) (eτ : tree Θ t ≡ arrow θ τ) (p : Parts Θ (recAt Θ t) rec03 θ τ)
-      → Accepted Θ τ (shared (p .left) ∷ st′) (walk E Θ e (n + 1) (shared (p .left) ∷ st)) → Accepted Θ (arrow θ τ) st′ (walk E Θ (fun t e) n st)
+      → FoundAs Θ τ (shared (p .left) ∷ st′) (walk E Θ e (n + 1) (shared (p .left) ∷ st)) → FoundAs Θ (arrow θ τ) st′ (walk E Θ (fun t e) n st)
   fun-walk t e n st st′ θ τ h eτ p x =
       record { type = t; type-in = h; type-is = eτ; answer = simp (p .rec, x .answer, same (x .type-in) (p .right-in) (x .type-is) (p .right-is)) }
 
   lfun-walk : (t : ℕ) (e : Term) (n : ℕ) (st st′ : Stack) (θ τ : Ty) (h : t < length Θ) (eτ : tree Θ t ≡ lolli θ τ) (p : Parts Θ (recAt Θ t) rec04 θ τ)
-      → Accepted Θ τ (linear (p .left) true ∷ st′) (walk E Θ e (n + 1) (linear (p .left) false ∷ st)) → Accepted Θ (lolli θ τ) st′ (walk E Θ (lfun t e) n st)
+      → FoundAs Θ τ (linear (p .left) true ∷ st′) (walk E Θ e (n + 1) (linear (p .left) false ∷ st)) → FoundAs Θ (lolli θ τ) st′ (walk E Θ (lfun t e) n st)
   lfun-walk t e n st st′ θ τ h eτ p x =
       record { type = t; type-in = h; type-is = eτ; answer = simp (p .rec, x .answer, same (x .type-in) (p .right-in) (x .type-is) (p .right-is)) }
 
-  proj-walk : (a e : Term) (n : ℕ) (st mid st′ : Stack) (θ₁ θ₂ τ : Ty) (x : Accepted Θ (prod θ₁ θ₂) mid (walk E Θ a (n + 1) st)) (p : Parts Θ (recAt Θ (x .type)) rec02 θ₁ θ₂)
-      → Accepted Θ τ (shared (p .right) ∷ shared (p .left) ∷ st′) (walk E Θ e (n + 1 + nodes a) (shared (p .right) ∷ shared (p .left) ∷ mid)) → Accepted Θ τ st′ (walk E Θ (proj a e) n st)
+  proj-walk : (a e : Term) (n : ℕ) (st mid st′ : Stack) (θ₁ θ₂ τ : Ty) (x : FoundAs Θ (prod θ₁ θ₂) mid (walk E Θ a (n + 1) st)) (p : Parts Θ (recAt Θ (x .type)) rec02 θ₁ θ₂)
+      → FoundAs Θ τ (shared (p .right) ∷ shared (p .left) ∷ st′) (walk E Θ e (n + 1 + nodes a) (shared (p .right) ∷ shared (p .left) ∷ mid)) → FoundAs Θ τ st′ (walk E Θ (proj a e) n st)
   proj-walk a e n st mid st′ θ₁ θ₂ τ x p y =
       record { type = y .type; type-in = y .type-in; type-is = y .type-is; answer = simp (x .answer, p .rec, y .answer) }
 
-  name-walk : (a e : Term) (n : ℕ) (st mid st′ : Stack) (θ τ : Ty) → T (sharable θ) → (x : Accepted Θ θ mid (walk E Θ a (n + 1) st))
-      → Accepted Θ τ (shared (x .type) ∷ st′) (walk E Θ e (n + 1 + nodes a) (shared (x .type) ∷ mid)) → Accepted Θ τ st′ (walk E Θ (name a e) n st)
+  name-walk : (a e : Term) (n : ℕ) (st mid st′ : Stack) (θ τ : Ty) → T (sharable θ) → (x : FoundAs Θ θ mid (walk E Θ a (n + 1) st))
+      → FoundAs Θ τ (shared (x .type) ∷ st′) (walk E Θ e (n + 1 + nodes a) (shared (x .type) ∷ mid)) → FoundAs Θ τ st′ (walk E Θ (name a e) n st)
   name-walk a e n st mid st′ θ τ sh x y =
       record { type = y .type; type-in = y .type-in; type-is = y .type-is; answer = simp (x .answer, T-is (sharable (tree Θ (x .type))) (rw (x .type-is) sh), y .answer) }
 
   fix-walk : (t : ℕ) (e : Term) (n : ℕ) (st st′ : Stack) (θ : Ty) (h : t < length Θ) → tree Θ t ≡ θ → T (sharable θ)
-      → Accepted Θ θ (shared t ∷ st′) (walk E Θ e (n + 1) (shared t ∷ st)) → Accepted Θ θ st′ (walk E Θ (fix t e) n st)
+      → FoundAs Θ θ (shared t ∷ st′) (walk E Θ e (n + 1) (shared t ∷ st)) → FoundAs Θ θ st′ (walk E Θ (fix t e) n st)
   fix-walk t e n st st′ θ h eτ sh x =
       record { type = t; type-in = h; type-is = eτ; answer = simp (T-is (sharable (tree Θ t)) (rw eτ sh), x .answer, same (x .type-in) h (x .type-is) eτ) }
 
-  con-walk : (p t n : ℕ) (st : Stack) → t < length Θ → p < length parts → tree Θ t ≡ partAt p .type E → Accepted Θ (partAt p .type E) st (walk E Θ (con p t) n st)
+  con-walk : (p t n : ℕ) (st : Stack) → t < length Θ → p < length parts → tree Θ t ≡ partAt p .type E → FoundAs Θ (partAt p .type E) st (walk E Θ (con p t) n st)
   con-walk p t n st h hp e =
       record { type = t; type-in = h; type-is = e; answer = simp (lt-ltb p (length parts) hp, T-is (tyEq (tree Θ t) (partAt p .type E)) (rw e (tyEq-refl (partAt p .type E)))) }
 
-  pub complete : {Γ : Ctx} {e : Term} {τ : Ty} → Typed E Θ Γ e τ → Ranged E Θ e → (n : ℕ) {st st′ : Stack} → Step Θ st st′ Γ → Numbers st (length Θ) → Accepted Θ τ st′ (walk E Θ e n st)
+  pub complete : {Γ : Ctx} {e : Term} {τ : Ty} → Typed E Θ Γ e τ → Ranged E Θ e → (n : ℕ) {st st′ : Stack} → Step Θ st st′ Γ → Numbers st (length Θ) → FoundAs Θ τ st′ (walk E Θ e n st)
   complete (Var x) g n s k = shares n x s k
   complete (LVar x) g n s k = takes n x s k
   complete (→I {t = t} {e = e} {θ = θ} {τ = τ} eτ sh d) g n {st} {st′} s k =

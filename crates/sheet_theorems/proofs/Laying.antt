@@ -235,12 +235,12 @@ offset-good n (good b) a e = e
 offset-good n (refused why) a e = absurd (refused≢good e)
 
 -- a sheet that is read: what the first byte tells, and its records behind the opening
-pub record Opened (s : List ℕ) (σ : Sheet) : Type 0 where
+pub record SheetOpened (s : List ℕ) (σ : Sheet) : Type 0 where
   pub short : length s ≤ 16384
   pub records : readRecords (editionOf s) (recordsOf s) ≡ good σ
   pub edition : σ .edition ≡ editionOf s
 
-pub opened : (s : List ℕ) (σ : Sheet) → readSheet s ≡ good σ → Opened s σ
+pub opened : (s : List ℕ) (σ : Sheet) → readSheet s ≡ good σ → SheetOpened s σ
 unfolding readSheet
 opened s σ e =
     on-need (leb (length s) 16384) 2 0 _ σ e λ h₁ e₁.

@@ -125,7 +125,7 @@ skip-next s (suc k) at = skip-next s k (after s at)
 -- ---- the stretch of a node of a sheet
 
 -- the bytes of the node's subterm, k records on from the table's end, in the caller's own sheet
-pub record Shown (s : List ℕ) (σ : Sheet) (k : ℕ) (p : Stretch) (u : Term) : Type 0 where
+pub record StretchShown (s : List ℕ) (σ : Sheet) (k : ℕ) (p : Stretch) (u : Term) : Type 0 where
   pub node : Kth s (termStart σ) k p u
   pub bytes : cut s p ≡ termBytes u
   pub nonempty : 0 < p .size
@@ -134,7 +134,7 @@ pub record Shown (s : List ℕ) (σ : Sheet) (k : ℕ) (p : Stretch) (u : Term) 
 stands-cut : (s : List ℕ) (p : Stretch) (u : Term) → Stands s (p .start) u → p .size ≡ length (termBytes u) → cut s p ≡ termBytes u
 stands-cut s p u h e = rw (e, h .here) (take-append-seam (termBytes u) (h .rest))
 
-pub stretch-holds : (s : List ℕ) (σ : Sheet) (k : ℕ) → readSheet s ≡ good σ → k < nodes (σ .term) → Shown s σ k (stretchOf s k) (getD (subterms (σ .term)) k (σ .term))
+pub stretch-holds : (s : List ℕ) (σ : Sheet) (k : ℕ) → readSheet s ≡ good σ → k < nodes (σ .term) → StretchShown s σ k (stretchOf s k) (getD (subterms (σ .term)) k (σ .term))
 unfolding stretchOf
 stretch-holds s σ k e h =
     let u = getD (subterms (σ .term)) k (σ .term) in

@@ -1,28 +1,16 @@
 -- What a type is, told by its record alone, in a table that the reader accepts. Assumes nothing.
 use Prim.Native.Nat.{ℕ, _+_, _<_}
 use mathlib.Core.Path.{_≡_, subst}
-use mathlib.Core.Bool.{Bool, true, false, _&&_}
+use mathlib.Core.Bool.{Bool, false, _&&_}
 use native.Mathlib.Omega.{arith}
 use lib.Dec.{eqb}
 use lib.ListN.{length}
 use Rattle.calculus.specs.Types.{Ty, bit, arrow, size, sharable, isArrow, tyEq, TyRec, rec01, rec02, rec03, rec04, Table, recAt, tree}
 use Rattle.sheet_theorems.specs.Laid.{Agrees, TableOk}
+use Rattle.sheet_theorems.specs.Records.{sharableRec, arrowRec}
 use Rattle.laws.proofs.Tests.{T-is, and-of}
 use Rattle.sheet_theorems.proofs.TypeOffsets.{tree-zero}
 use Rattle.sheet_theorems.proofs.Exact.{type-tests}
-
--- 01 and 02 make sharable types, 03 and 04 linear ones, which are the arrows
-abbrev pub sharableRec : TyRec → Bool
-sharableRec rec01 = true
-sharableRec (rec02 a b) = true
-sharableRec (rec03 a b) = false
-sharableRec (rec04 a b) = false
-
-abbrev pub arrowRec : TyRec → Bool
-arrowRec rec01 = false
-arrowRec (rec02 a b) = false
-arrowRec (rec03 a b) = true
-arrowRec (rec04 a b) = true
 
 -- the size, from the sizes of the types that the record names
 abbrev pub sizeRec : (ℕ → ℕ) → TyRec → ℕ

@@ -13,7 +13,7 @@ use Rattle.calculus.specs.Terms.{Edition, Term, var, lvar, fun, app, lfun, lapp
 use Rattle.calculus.specs.Walk.{Binder, shared, linear, Stack, Sides, product, sharableArrow, linearArrow, Found, useShared, useLinear, pop, topUsed, walk}
 use Rattle.sheet_theorems.specs.Laid.{Below, TableOk, Ranged}
 use Rattle.sheet_theorems.proofs.Sound.{product-good, sharable-good, linear-good, under-good}
-use Rattle.sheet_theorems.proofs.Complete.{Numbers}
+use Rattle.sheet_theorems.specs.Numbers.{Numbers}
 
 -- the same binders, of which some linear ones have been used meanwhile
 pub data Kept : Stack → Stack → Type 0 where

@@ -1,3 +1,5 @@
 pub mod Laid
 pub mod Subterms
 pub mod Clash
+pub mod Numbers
+pub mod Records

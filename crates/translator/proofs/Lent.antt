@@ -1,20 +1,25 @@
 -- What a caller of `make` knows: the netlist that stands in the working memory, or the refusal. Assumes nothing.
 use mathlib.Core.Path.{_≡_, sym, ap, subst, _∙_}
+use mathlib.Core.Bool.{Bool, false}
 use mathlib.Core.List.{List}
 use lib.ListN.{length}
 use Prim.Native.Nat.{ℕ}
 use Rattle.calculus.specs.Answer.{good, refused}
 use Rattle.typing.specs.declared.Refusal.{Refusal}
 use Rattle.typing.specs.Verdicts.{saidWhy}
-use Rattle.memory.specs.Map.{netIn}
+use Rattle.calculus.specs.Makers.{makersOf}
+use Rattle.memory.specs.Map.{makersAt, region, netIn}
 use Rattle.wiring.specs.declared.Counts.{Counts}
-use Rattle.translator.specs.Made.{lent, saidMade, Standing, Makes}
+use Rattle.translator.specs.Made.{lent, saidMade, Standing, Named, Makes}
 use Rattle.translator.specs.declared.Made as code
 use Rattle.translator.specs.declared.Made.the-variants as made
 
-module _ (r : code.Made) (s work after : List ℕ) (M : Makes r s work after) where
+module _ (plain : Bool) (r : code.Made) (s work after : List ℕ) (M : Makes plain r s work after) where
   pub net-stands : (c : Counts) → r ≡ made.Net c → Standing (made.Net c) after
   net-stands c e = subst (λ (x : code.Made). Standing x after) e (M .standing)
+
+  pub net-named : (c : Counts) → r ≡ made.Net c → plain ≡ false → region after makersAt (c .elements) ≡ makersOf s
+  net-named c e = subst (λ (x : code.Made). Named plain x s after) e (M .named)
 
   pub net-lent : (c : Counts) → r ≡ made.Net c → good (netIn after (c .elements) (c .wires) (c .pins)) ≡ lent (length work) s
   net-lent c e = ap (λ (x : code.Made). saidMade x after) (sym e) ∙ M .said

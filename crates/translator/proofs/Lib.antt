@@ -1,4 +1,8 @@
 pub mod Keeping
 pub mod StageLaws
+pub mod NameLaws
 pub mod Lent
+pub mod SaidLaws
+pub mod WordLaws
+pub mod Places
 pub mod Determined

@@ -18,9 +18,9 @@ use Rattle.typing.specs.Verdicts.{saidWhy}
 use Rattle.records.specs.Editions.{editionBy}
 use Rattle.typing.specs.Answers.{TermAt, typeOf, checkOf}
 use Rattle.wiring.specs.declared.Counts.{Counts}
-use Rattle.wiring.specs.Whole.{Stands}
+use Rattle.wiring.specs.Whole.{NetStands}
 use Rattle.translator.specs.Stages.{Opened}
-use Rattle.translator.specs.Made.{lent, refusedOf, Makes}
+use Rattle.translator.specs.Made.{lent, refusedOf, Named, Makes}
 use Rattle.translator.specs.declared.Made.the-variants as made
 use Rattle.translator.proofs.Keeping.{later-keeps}
 
@@ -35,18 +35,19 @@ lent-enough : (memory : ℕ) (s : List ℕ) → 32768 ≤ memory → lent memory
 unfolding lent
 lent-enough memory s h = rw (le-leb 32768 memory h)
 
-pub small-makes : (s work : List ℕ) → length work < 32768 → Makes (refusedOf 1 0) s work work
-small-makes s work h = record { said = sym (lent-small (length work) s h); standing = tt; keeps = refl }
+pub small-makes : (plain : Bool) (s work : List ℕ) → length work < 32768 → Makes plain (refusedOf 1 0) s work work
+small-makes plain s work h = record { said = sym (lent-small (length work) s h); standing = tt; named = tt; keeps = refl }
 
 -- a refusal leaves the working memory
-refused-makes : (s work : List ℕ) (why : Why) → 32768 ≤ length work → full s ≡ refused (saidWhy why) → Makes (made.Refused why) s work work
-refused-makes s work why h e = record { said = sym (lent-enough (length work) s h ∙ e); standing = tt; keeps = refl }
+refused-makes : (plain : Bool) (s work : List ℕ) (why : Why) → 32768 ≤ length work → full s ≡ refused (saidWhy why) → Makes plain (made.Refused why) s work work
+refused-makes plain s work why h e = record { said = sym (lent-enough (length work) s h ∙ e); standing = tt; named = tt; keeps = refl }
 
 -- a netlist that stands in it
-pub net-makes : (s work after : List ℕ) (c : Counts) (m : Net) → 32768 ≤ length work → full s ≡ good m → Stands m c work after → Makes (made.Net c) s work after
-net-makes s work after c m h e S = record {
+pub net-makes : (plain : Bool) (s work after : List ℕ) (c : Counts) (m : Net) → 32768 ≤ length work → full s ≡ good m → NetStands m c work after → Named plain (made.Net c) s after → Makes plain (made.Net c) s work after
+net-makes plain s work after c m h e S n = record {
   said = rw (S .net) (sym (lent-enough (length work) s h ∙ e));
   standing = (S .ready, S .known);
+  named = n;
   keeps = later-keeps work after h (S .ready .size) (S .later);
 }
 
@@ -57,8 +58,8 @@ module _ (s work : List ℕ) (enough : 32768 ≤ length work) where
   unfolding full
   full-unread number place e = rw e
 
-  pub unread-makes : (number place : ℕ) → readSheet s ≡ refuse number place → Makes (refusedOf number place) s work work
-  unread-makes number place e = refused-makes s work _ enough (full-unread number place e)
+  pub unread-makes : (plain : Bool) (number place : ℕ) → readSheet s ≡ refuse number place → Makes plain (refusedOf number place) s work work
+  unread-makes plain number place e = refused-makes plain s work _ enough (full-unread number place e)
 
   module _ (σ : Sheet) (read : readSheet s ≡ good σ) {E : Edition} {b : List ℕ} (edition : E ≡ editionOf s) (behind : b ≡ recordsOf s) where
     check-is : checkOf E b ≡ typeOf σ
@@ -76,8 +77,8 @@ module _ (s work : List ℕ) (enough : 32768 ≤ length work) where
         let w = untyped (walk (σ .edition) (σ .table) (σ .term) 0 []) why refl (sym check-is ∙ e) in
         rw (read, w)
 
-    pub untyped-makes : (why : Why) → checkOf E b ≡ refused (saidWhy why) → Makes (made.Refused why) s work work
-    untyped-makes why e = refused-makes s work why enough (full-untyped (saidWhy why) e)
+    pub untyped-makes : (plain : Bool) (why : Why) → checkOf E b ≡ refused (saidWhy why) → Makes plain (made.Refused why) s work work
+    untyped-makes plain why e = refused-makes plain s work why enough (full-untyped (saidWhy why) e)
 
     pub typed-found : (t : ℕ) → checkOf E b ≡ good t → (r : Found) × (walk (σ .edition) (σ .table) (σ .term) 0 [] ≡ good r)
     typed-found t e = on-bind (walk (σ .edition) (σ .table) (σ .term) 0 []) (λ r. good (r .type)) t (sym check-is ∙ e) λ r h k. (r, h)
@@ -87,8 +88,8 @@ module _ (s work : List ℕ) (enough : 32768 ≤ length work) where
     unfolding full
     full-many h = rw (read, walked, lt-leb (make (σ .table) (σ .term) [] 0 .next) 8192 h)
 
-    pub many-makes : 8192 < make (σ .table) (σ .term) [] 0 .next → Makes (refusedOf 16 0) s work work
-    many-makes h = refused-makes s work _ enough (full-many h)
+    pub many-makes : (plain : Bool) → 8192 < make (σ .table) (σ .term) [] 0 .next → Makes plain (refusedOf 16 0) s work work
+    many-makes plain h = refused-makes plain s work _ enough (full-many h)
 
     pub full-few : make (σ .table) (σ .term) [] 0 .next ≤ 8192 → full s ≡ good (netOf (make (σ .table) (σ .term) [] 0))
     unfolding full

@@ -1,2 +1,4 @@
 pub mod Made
+pub mod Said
 pub mod Stages
+pub mod Word

@@ -2,6 +2,7 @@
 -- "Numbers of the refusals"). Assumes nothing.
 use Prim.Native.Nat.{ℕ}
 use mathlib.Core.Path.{_≡_}
+use mathlib.Core.Bool.{Bool, false}
 use mathlib.Core.List.{List}
 use lib.Dec.{leb}
 use lib.ListN.{length}
@@ -10,7 +11,8 @@ use Rattle.typing.specs.Verdicts.{saidWhy}
 use Rattle.calculus.specs.Net.{Net}
 use Rattle.calculus.specs.Record.{All}
 use Rattle.calculus.specs.Translate.{full, workOf}
-use Rattle.memory.specs.Map.{netIn, Ready}
+use Rattle.calculus.specs.Makers.{makersOf}
+use Rattle.memory.specs.Map.{makersAt, region, netIn, Ready}
 use Rattle.calculus.specs.NetRead.{Known}
 use Rattle.translator.specs.declared.Made as code
 use Rattle.translator.specs.declared.Made.the-variants as made
@@ -35,11 +37,17 @@ abbrev pub Standing : code.Made → List ℕ → Type 0
 Standing (made.Net c) work = (Ready work (c .elements) (c .wires) (c .pins)) × (All Known (netIn work (c .elements) (c .wires) (c .pins) .elements))
 Standing (made.Refused why) work = Unit {0}
 
+-- the nodes that made its elements, where plain kinds are not wished
+abbrev pub Named : Bool → code.Made → List ℕ → List ℕ → Type 0
+Named plain (made.Net c) s work = plain ≡ false → region work makersAt (c .elements) ≡ makersOf s
+Named plain (made.Refused why) s work = Unit {0}
+
 -- cleared, the working memory is what it would have been before
 abbrev pub Keeps : List ℕ → List ℕ → Type 0
 Keeps work after = workOf after ≡ workOf work
 
-pub record Makes (r : code.Made) (s work after : List ℕ) : Type 0 where
+pub record Makes (plain : Bool) (r : code.Made) (s work after : List ℕ) : Type 0 where
   pub said : saidMade r after ≡ lent (length work) s
   pub standing : Standing r after
+  pub named : Named plain r s after
   pub keeps : Keeps work after

@@ -5,11 +5,20 @@ use typing::Refusal;
 use typing::Typing;
 use wiring::Counts;
 ghost use mathlib.Core.Path.{_≡_};
-ghost use Prim.Native.Nat.{_≤_};
+ghost use Prim.Native.Nat.{_≤_, min};
 ghost use lib.ListN.{length};
 ghost use Rattle.calculus.specs.Translate.{workOf};
 ghost use Rattle.translator.specs.Stages.{Opened, Typed};
 ghost use Rattle.translator.specs.Made.{refusedOf, Makes};
+ghost use Rattle.translator.specs.Said.{saidAnswer, tooShort};
+ghost use Rattle.translator.specs.Word.{packed};
+
+// What a call that writes answers: the number of bytes written, or a refusal, its number and place, and for 12 the type number wanted and
+// the one found.
+pub enum Answer {
+    Written(usize),
+    Refused(Refusal),
+}
 
 // How many elements, wires and pins of the netlist stand in the working memory, or a refusal.
 pub enum Made {
@@ -30,14 +39,25 @@ fn refused(number: u8, place: usize) -> Made
 }
 
 // The terminals are counted before anything is made: 16.
-fn counted(records: &[u8], sizes: &[u8], work: &mut [u16], nodes: usize, start: usize) -> Made
+fn counted(
+    records: &[u8],
+    sizes: &[u8],
+    work: &mut [u16],
+    nodes: usize,
+    start: usize,
+    plain: bool,
+) -> Made
     requires { ⌜ (32768 ≤ length (now work)) × (Typed (now records) (now sizes) start nodes) ⌝ }
-    ensures { λ r. ⌜ ((q : Typed (now (records .entry)) (now (sizes .entry)) start nodes) → Makes r (q .read .whole) (now (work .entry)) (now (work .exit))) ⌝ }
+    ensures { λ r. ⌜ ((q : Typed (now (records .entry)) (now (sizes .entry)) start nodes) → Makes plain r (q .read .whole) (now (work .entry)) (now (work .exit))) ⌝ }
 {
     if 8192 < wiring::count(records, sizes, start, nodes) {
         return refused(16, 0);
     }
     let counts = wiring::make_net(records, sizes, work, start);
+    if plain {
+        return Made::Net(counts);
+    }
+    makers::name(records, sizes, work, start, nodes);
     Made::Net(counts)
 }
 
@@ -50,19 +70,21 @@ fn checked(
     nodes: usize,
     start: usize,
     second: bool,
+    plain: bool,
 ) -> Made
     requires { ⌜ (32768 ≤ length (now work)) × (Opened (now records) (now sizes) types second start nodes) ⌝ }
-    ensures { λ r. ⌜ ((q : Opened (now (records .entry)) (now (sizes .entry)) types second start nodes) → Makes r (q .read .whole) (now (work .entry)) (now (work .exit))) ⌝ }
+    ensures { λ r. ⌜ ((q : Opened (now (records .entry)) (now (sizes .entry)) types second start nodes) → Makes plain r (q .read .whole) (now (work .entry)) (now (work .exit))) ⌝ }
 {
     match typing::check(records, start, types, second) {
         Typing::Refused(refusal) => Made::Refused(refusal),
-        Typing::Type(_) => counted(records, sizes, work, nodes, start),
+        Typing::Type(_) => counted(records, sizes, work, nodes, start, plain),
     }
 }
 
-// The full netlist of a sheet in the working memory, or refusal 1 to 16: here the memory, 1, and the reader, 2 to 9.
-pub fn make(sheet: &[u8], work: &mut [u16]) -> Made
-    ensures { λ r. ⌜ Makes r (now (sheet .entry)) (now (work .entry)) (now (work .exit)) ⌝ }
+// The full netlist of a sheet in the working memory, with the nodes that made its elements where plain kinds are not wished, or refusal
+// 1 to 16: here the memory, 1, and the reader, 2 to 9.
+pub fn make(sheet: &[u8], work: &mut [u16], plain: bool) -> Made
+    ensures { λ r. ⌜ Makes plain r (now (sheet .entry)) (now (work .entry)) (now (work .exit)) ⌝ }
 {
     if work.len() < 32768 {
         return refused(1, 0);
@@ -82,9 +104,22 @@ pub fn make(sheet: &[u8], work: &mut [u16]) -> Made
                 nodes,
                 start,
                 second,
+                plain,
             )
         }
     }
+}
+
+// 17, with the length needed.
+pub fn too_short(n: usize) -> Answer
+    ensures { λ r. ⌜ r ≡ tooShort n ⌝ }
+{
+    Answer::Refused(Refusal {
+        number: 17,
+        place: n,
+        wanted: 0,
+        found: 0,
+    })
 }
 
 // The working memory as every call leaves it: the first 32,768 numbers 0; where it has fewer, as it was.
@@ -93,5 +128,32 @@ pub fn clear(work: &mut [u16])
 {
     if 32768 <= work.len() {
         memory::clear(work);
+    }
+}
+
+// A number, or the largest one that can be shown.
+fn shown(n: u64, most: u64) -> u64
+    ensures { λ r. ⌜ r ≡ min n most ⌝ }
+{
+    if n < most {
+        return n;
+    }
+    most
+}
+
+// An answer as one number. Bits 0 to 31 hold the number of bytes written or the place, 32 to 39 the refusal's number, 0 for none, 40 to 51
+// the type number wanted and 52 to 63 the one found.
+pub fn word(answer: Answer) -> u64
+    ensures { λ r. ⌜ r ≡ packed (saidAnswer answer) ⌝ }
+{
+    match answer {
+        Answer::Written(n) => shown(n as u64, 4294967295),
+        Answer::Refused(r) => {
+            let place = shown(r.place as u64, 4294967295);
+            let wanted = shown(r.wanted as u64, 4095);
+            let found = shown(r.found as u64, 4095);
+            let first = r.number as u64 * 4294967296 + place;
+            first + (wanted * 1099511627776 + found * 4503599627370496)
+        }
     }
 }

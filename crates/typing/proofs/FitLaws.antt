@@ -21,10 +21,11 @@ use Rattle.records.specs.Rules.{isProjection, isNaming}
 use Rattle.records.specs.declared.Rule.{Rule}
 use Rattle.records.specs.declared.Rule.the-variants as rule
 use Rattle.sheet_theorems.proofs.Standing.{fun-body, app-function, app-argument, lfun-body, lapp-function, lapp-argument, pair-first, pair-second, proj-pair, proj-body, fix-body, name-first, name-body}
-use Rattle.sheet_theorems.proofs.Complete.{Numbers}
+use Rattle.sheet_theorems.specs.Numbers.{Numbers}
 use Rattle.typing.specs.declared.rules.Opening.{Opening}
 use Rattle.typing.specs.declared.rules.Opening.the-variants as opening
-use Rattle.typing.specs.Steps.{kindNo, leftOf, rightOf, openingOf, opened, enterOf, entersOf, halvesOf, betweenOf}
+use Rattle.records.specs.TypeNumbers.{kindNo, leftNo, rightNo}
+use Rattle.typing.specs.Steps.{openingOf, opened, enterOf, entersOf, halvesOf, betweenOf}
 use Rattle.typing.specs.Fits.{Fits}
 use Rattle.typing.proofs.Ranges.{left-in, right-in, Kept, kept}
 use Rattle.typing.proofs.WalkLaws.{firstOf, secondOf}
@@ -43,7 +44,7 @@ pub record InRange (l m : ℕ) (st : Stack) : Type 0 where
   pub few : length st ≤ m
 
 module _ (l : ℕ) where
-  opening-in : (u : Rule) (t : ℕ) (q : TyRec) → t < l → leftOf q < l → OpensIn l (openingOf u t q)
+  opening-in : (u : Rule) (t : ℕ) (q : TyRec) → t < l → leftNo q < l → OpensIn l (openingOf u t q)
   unfolding openingOf
   opening-in rule.Variable t q h g = tt
   opening-in rule.LinearVariable t q h g = tt
@@ -244,10 +245,10 @@ module _ (E : Edition) (Θ : Table) where
 -- ---- what holds at a node holds at its subterms
 
 module _ (s : List ℕ) (l : ℕ) (E : Edition) (at node : ℕ) (Θ : Table) (st : Stack) where
-  left-side : (e : Term) → Fits s l E at node Θ e st → (t : ℕ) → t < length Θ → leftOf (recIn s t) < length Θ
+  left-side : (e : Term) → Fits s l E at node Θ e st → (t : ℕ) → t < length Θ → leftNo (recIn s t) < length Θ
   left-side e F t h = rw (F .types t h) (left-in Θ (F .table) t h)
 
-  right-side : (e : Term) → Fits s l E at node Θ e st → (t : ℕ) → t < length Θ → rightOf (recIn s t) < length Θ
+  right-side : (e : Term) → Fits s l E at node Θ e st → (t : ℕ) → t < length Θ → rightNo (recIn s t) < length Θ
   right-side e F t h = rw (F .types t h) (right-in Θ (F .table) t h)
 
   typed-in : (e : Term) → Fits s l E at node Θ e st → (u : Rule) (t : ℕ) → t < length Θ → (o : Found) → enterOf (recIn s) u t node st ≡ good o → InRange (length Θ) (suc (length st)) (o .stack)
@@ -285,9 +286,9 @@ module _ (s : List ℕ) (l : ℕ) (E : Edition) (at node : ℕ) (Θ : Table) (st
   unfolding openingOf
   enter-one (var i) z o g = absurd (omega arith)
   enter-one (lvar i) z o g = absurd (omega arith)
-  enter-one (fun t e) z o g = bound-one (eqb (kindNo (recIn s t)) 3) (opening.Shared (leftOf (recIn s t))) t o (bound-shared _ t) g
+  enter-one (fun t e) z o g = bound-one (eqb (kindNo (recIn s t)) 3) (opening.Shared (leftNo (recIn s t))) t o (bound-shared _ t) g
   enter-one (app h a) z o g = absurd (omega arith)
-  enter-one (lfun t e) z o g = bound-one (eqb (kindNo (recIn s t)) 4) (opening.Linear (leftOf (recIn s t))) t o (bound-linear _ t) g
+  enter-one (lfun t e) z o g = bound-one (eqb (kindNo (recIn s t)) 4) (opening.Linear (leftNo (recIn s t))) t o (bound-linear _ t) g
   enter-one (lapp h a) z o g = absurd (omega arith)
   enter-one (pair t a b) z o g = absurd (omega arith)
   enter-one (proj a e) z o g = absurd (omega arith)
@@ -338,7 +339,7 @@ module _ (s : List ℕ) (l : ℕ) (E : Edition) (at node : ℕ) (Θ : Table) (st
       -- what is bound between the two
       halves-in : (u : Rule) → InRange (length Θ) (length (o .stack) + 2) (halvesOf (recIn s) u (x .type) (x .stack))
       halves-in u =
-          on-cond (InRange (length Θ) (length (o .stack) + 2)) (isProjection u) (shared (rightOf (recIn s (x .type))) ∷ shared (leftOf (recIn s (x .type))) ∷ x .stack) _
+          on-cond (InRange (length Θ) (length (o .stack) + 2)) (isProjection u) (shared (rightNo (recIn s (x .type))) ∷ shared (leftNo (recIn s (x .type))) ∷ x .stack) _
           (λ _. record { numbers = (right-side e F (x .type) (first-kept .type-in), (left-side e F (x .type) (first-kept .type-in), first-kept .numbers)); few = omega (arith, first-kept .count) })
           (on-cond (InRange (length Θ) (length (o .stack) + 2)) (isNaming u) (shared (x .type) ∷ x .stack) (x .stack)
           (λ _. record { numbers = (first-kept .type-in, first-kept .numbers); few = omega (arith, first-kept .count) })

@@ -13,30 +13,31 @@ use Rattle.sheet_theorems.specs.Laid.{Agrees, Below, TableOk, Ranged}
 use Rattle.calculus.specs.Walk.{Stack, Found, numberFrom, typeNumber, walk}
 use Rattle.laws.proofs.Tests.{T-is}
 use Rattle.sheet_theorems.proofs.Tables.{tys-count}
-use Rattle.sheet_theorems.proofs.Complete.{Numbers}
+use Rattle.sheet_theorems.specs.Numbers.{Numbers}
 use Rattle.sheet_theorems.proofs.WalkKeeps.{kept-length, kept-numbers, walk-keeps, walk-in}
-use Rattle.typing.specs.Steps.{Types, kindNo, leftOf, rightOf, bothSides, standsFor, numberBelow}
+use Rattle.records.specs.TypeNumbers.{kindNo, leftNo, rightNo}
+use Rattle.typing.specs.Steps.{Types, bothSides, standsFor, numberBelow}
 
 -- ---- the sides of a type in range
 
 module _ (l t : ℕ) (h : t < l) where
-  left-low : (q : TyRec) → Below t q → leftOf q < l
+  left-low : (q : TyRec) → Below t q → leftNo q < l
   left-low rec01 b = omega arith
   left-low (rec02 x y) b = omega (arith, b .0)
   left-low (rec03 x y) b = omega (arith, b .0)
   left-low (rec04 x y) b = omega (arith, b .0)
 
-  right-low : (q : TyRec) → Below t q → rightOf q < l
+  right-low : (q : TyRec) → Below t q → rightNo q < l
   right-low rec01 b = omega arith
   right-low (rec02 x y) b = omega (arith, b .1)
   right-low (rec03 x y) b = omega (arith, b .1)
   right-low (rec04 x y) b = omega (arith, b .1)
 
 module _ (Θ : Table) (ok : TableOk Θ) where
-  pub left-in : (t : ℕ) → t < length Θ → leftOf (recAt Θ t) < length Θ
+  pub left-in : (t : ℕ) → t < length Θ → leftNo (recAt Θ t) < length Θ
   left-in t h = left-low (length Θ) t h (recAt Θ t) (ok .earlier t h)
 
-  pub right-in : (t : ℕ) → t < length Θ → rightOf (recAt Θ t) < length Θ
+  pub right-in : (t : ℕ) → t < length Θ → rightNo (recAt Θ t) < length Θ
   right-in t h = right-low (length Θ) t h (recAt Θ t) (ok .earlier t h)
 
   -- ---- tests on records are tests on types
@@ -59,7 +60,7 @@ module _ (Θ : Table) (ok : TableOk Θ) where
   module _ (f g : ℕ → Bool) (σ τ : Ty) where
     -- both sides pass their tests
     abbrev Sides : TyRec → Type 0
-    Sides q = (f (leftOf q) ≡ tyEq (tree Θ (leftOf q)) σ) × (g (rightOf q) ≡ tyEq (tree Θ (rightOf q)) τ)
+    Sides q = (f (leftNo q) ≡ tyEq (tree Θ (leftNo q)) σ) × (g (rightNo q) ≡ tyEq (tree Θ (rightNo q)) τ)
 
     prod-rec : (q : TyRec) (ρ : Ty) → Agrees Θ q ρ → Sides q → bothSides 2 q f g ≡ tyEq ρ (prod σ τ)
     prod-rec rec01 ρ a h = rw a

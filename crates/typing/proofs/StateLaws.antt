@@ -31,8 +31,9 @@ use Rattle.typing.specs.declared.rules.Fit.the-variants as how
 use Rattle.typing.specs.declared.Verdict.{Verdict}
 use Rattle.typing.specs.declared.Verdict.the-variants as verdict
 use Rattle.typing.specs.declared.Refusal.{Refusal}
-use Rattle.typing.specs.Steps.{Types, leftOf, rightOf, constantOf, leafOf, openingOf, bindingOf, opened, enterOf, wantedOf, usedUp, leaveOne, entersOf, halvesIn, halvesOf, betweenOf, joinedOf, closesOf, leaveTwo}
-use Rattle.typing.specs.Verdicts.{Held, reached, atCount, halves, FollowsOn, Follows}
+use Rattle.records.specs.TypeNumbers.{leftNo, rightNo}
+use Rattle.typing.specs.Steps.{Types, constantOf, leafOf, openingOf, bindingOf, opened, enterOf, wantedOf, usedUp, leaveOne, entersOf, halvesIn, halvesOf, betweenOf, joinedOf, closesOf, leaveTwo}
+use Rattle.typing.specs.Verdicts.{Held, reached, halves, FollowsOn, Follows}
 use Rattle.typing.specs.Fits.{Counts, Names}
 use Rattle.typing.proofs.VerdictLaws.{foundAt, follows-on, follows-at}
 
@@ -205,7 +206,7 @@ module _ (b : Binders) (L : length (b .types) ≡ 128) (c : ℕ) (r : c + 1 < 12
   halves-are : (R : Types) (w : Rule) (u : ℕ) {q : Halves} {m : ℕ} {s′ u′ : List ℕ} → q ≡ halvesIn w u (R u) → m ≡ closesOf w → s′ ≡ clearedAt (b .sorts) c → u′ ≡ clearedAt (b .used) c
       → stackOf (halvedTo b c q m s′ u′) ≡ halvesOf R w u (inScope b c)
   unfolding closesOf halvesIn
-  halves-are R w u {q} e h es eu = rw (es, eu, h, e) (halves-at (isProjection w) (isNaming w) u (leftOf (R u)) (rightOf (R u)))
+  halves-are R w u {q} e h es eu = rw (es, eu, h, e) (halves-at (isProjection w) (isNaming w) u (leftNo (R u)) (rightNo (R u)))
 
 -- two at most
 pub closes-few : (w : Rule) → closesOf w ≤ 2

@@ -20,10 +20,11 @@ use Rattle.records.specs.declared.Rule.the-variants as rule
 use Rattle.records.proofs.Rule.{the-type}
 use Rattle.parts.specs.Table.{Entry, isPart, noPart, saidPart, entryOf, named, shapeTy}
 use Rattle.parts.specs.declared.Part.{Part}
-use Rattle.typing.specs.declared.rules.Sided.{Sided}
+use Rattle.records.specs.declared.Sided.{Sided}
 use Rattle.typing.specs.declared.rules.Opening.the-variants as opening
 use Rattle.typing.specs.declared.rules.Fit.the-variants as how
-use Rattle.typing.specs.Steps.{Types, kindNo, leftOf, rightOf, sidedOf, bothSides, standsFor, numberBelow, tyIn, constantOf, openingOf, wantedOf, usedUp, entersOf, halvesIn, appliedOf, pairedOf, joinedOf, closesOf}
+use Rattle.records.specs.TypeNumbers.{kindNo, leftNo, rightNo, sidedOf}
+use Rattle.typing.specs.Steps.{Types, bothSides, standsFor, numberBelow, tyIn, constantOf, openingOf, wantedOf, usedUp, entersOf, halvesIn, appliedOf, pairedOf, joinedOf, closesOf}
 
 -- ---- a test that the code turns round
 
@@ -42,11 +43,11 @@ module _ {q : Sided} (r : TyRec) (e : q ≡ sidedOf r) where
   unfolding sidedOf
   kind-is = sym (ap (λ (x : Sided). x .kind) e)
 
-  pub left-is : leftOf r ≡ q .left
+  pub left-is : leftNo r ≡ q .left
   unfolding sidedOf
   left-is = sym (ap (λ (x : Sided). x .left) e)
 
-  pub right-is : rightOf r ≡ q .right
+  pub right-is : rightNo r ≡ q .right
   unfolding sidedOf
   right-is = sym (ap (λ (x : Sided). x .right) e)
 

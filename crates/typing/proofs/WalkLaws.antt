@@ -13,9 +13,10 @@ use Rattle.sheet_theorems.specs.Laid.{TableOk, Ranged}
 use Rattle.calculus.specs.Walk.{shared, linear, Stack, product, sharableArrow, linearArrow, Found, found, pop, topUsed, walk}
 use Rattle.records.specs.Heads.{nodeOf}
 use Rattle.records.specs.declared.Rule.the-variants as rule
-use Rattle.sheet_theorems.proofs.Complete.{Numbers}
+use Rattle.sheet_theorems.specs.Numbers.{Numbers}
 use Rattle.typing.specs.declared.rules.Fit.the-variants as how
-use Rattle.typing.specs.Steps.{Types, kindNo, constantOf, leafOf, openingOf, opened, enterOf, wantedOf, usedUp, leaveOne, betweenOf, appliedOf, pairedOf, joinedOf, closesOf, fitted, leaveTwo, entersOf}
+use Rattle.records.specs.TypeNumbers.{kindNo}
+use Rattle.typing.specs.Steps.{Types, constantOf, leafOf, openingOf, opened, enterOf, wantedOf, usedUp, leaveOne, betweenOf, appliedOf, pairedOf, joinedOf, closesOf, fitted, leaveTwo, entersOf}
 use Rattle.typing.proofs.Ranges.{sharable-is, stands-for, number-is, kept}
 
 -- ---- answers

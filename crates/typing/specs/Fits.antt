@@ -9,7 +9,7 @@ use Rattle.calculus.specs.Write.{termBytes}
 use Rattle.sheet_theorems.specs.Laid.{TableOk, Stands, Ranged, depth}
 use Rattle.calculus.specs.Walk.{Stack, walk}
 use Rattle.records.specs.Forms.{recIn}
-use Rattle.sheet_theorems.proofs.Complete.{Numbers}
+use Rattle.sheet_theorems.specs.Numbers.{Numbers}
 use Rattle.typing.specs.declared.Checked.{Checked}
 use Rattle.typing.specs.declared.Verdict.{Verdict}
 use Rattle.typing.specs.declared.Verdict.the-variants as verdict

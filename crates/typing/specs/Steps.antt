@@ -6,13 +6,13 @@ use mathlib.Core.List.{_∷_}
 use lib.Dec.{leb, ltb, eqb}
 use lib.ListN.{length, drop}
 use Rattle.calculus.specs.Answer.{Answer, refused, _>>=_, clash, aForm, need, fit}
-use Rattle.calculus.specs.Types.{Ty, bit, prod, arrow, lolli, TyRec, rec01, rec02, rec03, rec04}
+use Rattle.calculus.specs.Types.{Ty, bit, prod, arrow, lolli, TyRec}
 use Rattle.calculus.specs.Terms.{Edition, first, second, parts, partAt}
 use Rattle.calculus.specs.Walk.{shared, linear, Stack, Found, found, useShared, useLinear, topUsed}
 use Rattle.records.specs.Rules.{isLinearFunction, isProjection, isFixedPoint, isNaming}
+use Rattle.records.specs.TypeNumbers.{kindNo, leftNo, rightNo}
 use Rattle.records.specs.declared.Rule.{Rule}
 use Rattle.records.specs.declared.Rule.the-variants as rule
-use Rattle.typing.specs.declared.rules.Sided.{Sided}
 use Rattle.typing.specs.declared.rules.Opening.{Opening}
 use Rattle.typing.specs.declared.rules.Opening.the-variants as opening
 use Rattle.typing.specs.declared.rules.Binding.{Binding}
@@ -25,34 +25,11 @@ use Rattle.typing.specs.declared.rules.Fit.the-variants as how
 abbrev pub Types : Type 0
 Types = ℕ → TyRec
 
--- ---- a type record as numbers
-
-abbrev pub kindNo : TyRec → ℕ
-kindNo rec01 = 1
-kindNo (rec02 a b) = 2
-kindNo (rec03 a b) = 3
-kindNo (rec04 a b) = 4
-
-abbrev pub leftOf : TyRec → ℕ
-leftOf rec01 = 0
-leftOf (rec02 a b) = a
-leftOf (rec03 a b) = a
-leftOf (rec04 a b) = a
-
-abbrev pub rightOf : TyRec → ℕ
-rightOf rec01 = 0
-rightOf (rec02 a b) = b
-rightOf (rec03 a b) = b
-rightOf (rec04 a b) = b
-
-unfoldable pub sidedOf : TyRec → Sided
-sidedOf q = record { kind = kindNo q; left = leftOf q; right = rightOf q }
-
 -- ---- leaves
 
 -- a record of kind k whose sides pass two tests
 abbrev pub bothSides : ℕ → TyRec → (ℕ → Bool) → (ℕ → Bool) → Bool
-bothSides k q f g = eqb (kindNo q) k && (f (leftOf q) && g (rightOf q))
+bothSides k q f g = eqb (kindNo q) k && (f (leftNo q) && g (rightNo q))
 
 -- a type number stands for a type
 unfoldable pub standsFor : Types → Ty → ℕ → Bool
@@ -101,9 +78,9 @@ whereKind k q o = cond (eqb (kindNo q) k) o opening.Misfit
 unfoldable pub openingOf : Rule → ℕ → TyRec → Opening
 openingOf rule.Variable t q = opening.Nothing
 openingOf rule.LinearVariable t q = opening.Nothing
-openingOf rule.Function t q = whereKind 3 q (opening.Shared (leftOf q))
+openingOf rule.Function t q = whereKind 3 q (opening.Shared (leftNo q))
 openingOf rule.Application t q = opening.Nothing
-openingOf rule.LinearFunction t q = whereKind 4 q (opening.Linear (leftOf q))
+openingOf rule.LinearFunction t q = whereKind 4 q (opening.Linear (leftNo q))
 openingOf rule.LinearApplication t q = opening.Nothing
 openingOf rule.Pair t q = whereKind 2 q opening.Nothing
 openingOf rule.Projection t q = opening.Nothing
@@ -130,7 +107,7 @@ enterOf R u t n st = opened (openingOf u t (R t)) t n st
 -- ---- leaving a node with one subterm
 
 unfoldable pub wantedOf : Rule → ℕ → TyRec → ℕ
-wantedOf u t q = cond (isFixedPoint u) t (rightOf q)
+wantedOf u t q = cond (isFixedPoint u) t (rightNo q)
 
 unfoldable pub usedUp : Rule → Stack → Bool
 usedUp u st = cond (isLinearFunction u) (topUsed st) true
@@ -150,11 +127,11 @@ entersOf u q = cond (isProjection u) (eqb (kindNo q) 2) (cond (isNaming u) (leb 
 
 -- the types that are bound by a first subterm of type t: a projection's two halves, or t itself
 unfoldable pub halvesIn : Rule → ℕ → TyRec → Halves
-halvesIn u t q = cond (isProjection u) (record { first = leftOf q; second = rightOf q }) (record { first = t; second = 0 })
+halvesIn u t q = cond (isProjection u) (record { first = leftNo q; second = rightNo q }) (record { first = t; second = 0 })
 
 -- the binders on entering a second subterm: of a projection's two variables the second is nearer
 abbrev pub halvesOf : Types → Rule → ℕ → Stack → Stack
-halvesOf R u t st = cond (isProjection u) (shared (rightOf (R t)) ∷ shared (leftOf (R t)) ∷ st) (cond (isNaming u) (shared t ∷ st) st)
+halvesOf R u t st = cond (isProjection u) (shared (rightNo (R t)) ∷ shared (leftNo (R t)) ∷ st) (cond (isNaming u) (shared t ∷ st) st)
 
 -- on entering a second subterm: 12
 unfoldable pub betweenOf : Types → Rule → ℕ → Found → Answer Found
@@ -166,11 +143,11 @@ betweenOf R u n x = do
 
 -- a function of type f, whose record is q, an arrow of kind k, at an argument of type a
 unfoldable pub appliedOf : TyRec → ℕ → ℕ → ℕ → Fit
-appliedOf q k f a = cond (eqb (kindNo q) k) (cond (eqb a (leftOf q)) (how.Type (rightOf q)) (how.Misfit (leftOf q) a)) (how.Misfit aForm f)
+appliedOf q k f a = cond (eqb (kindNo q) k) (cond (eqb a (leftNo q)) (how.Type (rightNo q)) (how.Misfit (leftNo q) a)) (how.Misfit aForm f)
 
 -- the first half that differs is named
 unfoldable pub pairedOf : TyRec → ℕ → ℕ → ℕ → Fit
-pairedOf q t a b = cond (eqb a (leftOf q)) (cond (eqb b (rightOf q)) (how.Type t) (how.Misfit (rightOf q) b)) (how.Misfit (leftOf q) a)
+pairedOf q t a b = cond (eqb a (leftNo q)) (cond (eqb b (rightNo q)) (how.Type t) (how.Misfit (rightNo q) b)) (how.Misfit (leftNo q) a)
 
 -- the types a and b of the subterms to the type of the node
 unfoldable pub joinedOf : Types → Rule → ℕ → ℕ → ℕ → Fit

@@ -1,6 +1,5 @@
 // What the typing rules say of type numbers: the types of parts, what a node binds, and the type of a node by its subterms'.
 use parts::Part;
-use records::Form;
 use records::Rule;
 ghost use mathlib.Core.Path.{_≡_};
 ghost use Prim.Native.Nat.{_≤_};
@@ -8,54 +7,20 @@ ghost use Rattle.calculus.specs.Types.{bit, prod, arrow};
 ghost use Rattle.records.specs.Forms.{recIn};
 ghost use Rattle.records.specs.Editions.{editionBy};
 ghost use Rattle.parts.specs.Table.{shapeTy, saidPart};
-ghost use Rattle.typing.specs.Steps.{sidedOf, standsFor, tyIn, numberBelow, openingOf, bindingOf, wantedOf, entersOf, halvesIn, appliedOf, pairedOf, joinedOf, closesOf};
-
-// A type record as numbers: its kind, 1 to 4, and its two sides, 0 for the single bit.
-pub struct Sided {
-    pub kind: u8,
-    pub left: u8,
-    pub right: u8,
-}
-
-pub fn sides_of(s: &[u8], t: u8) -> Sided
-    ensures { λ r. ⌜ r ≡ sidedOf (recIn (now (s .entry)) t) ⌝ }
-{
-    match records::type_at(s, t) {
-        Form::Bit => Sided {
-            kind: 1,
-            left: 0,
-            right: 0,
-        },
-        Form::Product(left, right) => Sided {
-            kind: 2,
-            left,
-            right,
-        },
-        Form::Arrow(left, right) => Sided {
-            kind: 3,
-            left,
-            right,
-        },
-        Form::Linear(left, right) => Sided {
-            kind: 4,
-            left,
-            right,
-        },
-    }
-}
+ghost use Rattle.typing.specs.Steps.{standsFor, tyIn, numberBelow, openingOf, bindingOf, wantedOf, entersOf, halvesIn, appliedOf, pairedOf, joinedOf, closesOf};
 
 // Type t is the single bit.
 fn is_bit(s: &[u8], t: u8) -> bool
     ensures { λ r. ⌜ r ≡ standsFor (recIn (now (s .entry))) bit t ⌝ }
 {
-    sides_of(s, t).kind == 1
+    records::sides_of(s, t).kind == 1
 }
 
 // Type t is the sharable arrow from the bit to the bit.
 fn is_unary(s: &[u8], t: u8) -> bool
     ensures { λ r. ⌜ r ≡ standsFor (recIn (now (s .entry))) (shapeTy 1) t ⌝ }
 {
-    let q = sides_of(s, t);
+    let q = records::sides_of(s, t);
     if q.kind != 3 {
         return false;
     }
@@ -69,7 +34,7 @@ fn is_unary(s: &[u8], t: u8) -> bool
 fn is_binary(s: &[u8], t: u8) -> bool
     ensures { λ r. ⌜ r ≡ standsFor (recIn (now (s .entry))) (shapeTy 2) t ⌝ }
 {
-    let q = sides_of(s, t);
+    let q = records::sides_of(s, t);
     if q.kind != 3 {
         return false;
     }
@@ -94,7 +59,7 @@ fn has_shape(s: &[u8], t: u8, shape: u8) -> bool
 fn is_pair(s: &[u8], t: u8) -> bool
     ensures { λ r. ⌜ r ≡ standsFor (recIn (now (s .entry))) (prod bit bit) t ⌝ }
 {
-    let q = sides_of(s, t);
+    let q = records::sides_of(s, t);
     if q.kind != 2 {
         return false;
     }
@@ -108,7 +73,7 @@ fn is_pair(s: &[u8], t: u8) -> bool
 fn is_paired(s: &[u8], t: u8) -> bool
     ensures { λ r. ⌜ r ≡ standsFor (recIn (now (s .entry))) (arrow (prod bit bit) bit) t ⌝ }
 {
-    let q = sides_of(s, t);
+    let q = records::sides_of(s, t);
     if q.kind != 3 {
         return false;
     }
@@ -168,7 +133,7 @@ pub enum Opening {
 pub fn opens(s: &[u8], rule: Rule, t: u8) -> Opening
     ensures { λ r. ⌜ r ≡ openingOf rule t (recIn (now (s .entry)) t) ⌝ }
 {
-    let q = sides_of(s, t);
+    let q = records::sides_of(s, t);
     match rule {
         Rule::Function => {
             if q.kind == 3 {
@@ -247,7 +212,7 @@ pub fn wanted(s: &[u8], rule: Rule, t: u8) -> u8
 {
     match rule {
         Rule::FixedPoint => t,
-        _ => sides_of(s, t).right,
+        _ => records::sides_of(s, t).right,
     }
 }
 
@@ -256,8 +221,8 @@ pub fn enters(s: &[u8], rule: Rule, t: u8) -> bool
     ensures { λ r. ⌜ r ≡ entersOf rule (recIn (now (s .entry)) t) ⌝ }
 {
     match rule {
-        Rule::Projection => sides_of(s, t).kind == 2,
-        Rule::Naming => sides_of(s, t).kind <= 2,
+        Rule::Projection => records::sides_of(s, t).kind == 2,
+        Rule::Naming => records::sides_of(s, t).kind <= 2,
         _ => true,
     }
 }
@@ -277,7 +242,7 @@ pub fn halves_of(s: &[u8], rule: Rule, t: u8) -> Halves
             second: 0,
         };
     };
-    let q = sides_of(s, t);
+    let q = records::sides_of(s, t);
     Halves {
         first: q.left,
         second: q.right,
@@ -294,7 +259,7 @@ pub enum Fit {
 fn applied(s: &[u8], k: u8, f: u8, a: u8) -> Fit
     ensures { λ r. ⌜ r ≡ appliedOf (recIn (now (s .entry)) f) k f a ⌝ }
 {
-    let q = sides_of(s, f);
+    let q = records::sides_of(s, f);
     if q.kind != k {
         return Fit::Misfit(FORM, f);
     }
@@ -308,7 +273,7 @@ fn applied(s: &[u8], k: u8, f: u8, a: u8) -> Fit
 fn paired(s: &[u8], t: u8, a: u8, b: u8) -> Fit
     ensures { λ r. ⌜ r ≡ pairedOf (recIn (now (s .entry)) t) t a b ⌝ }
 {
-    let q = sides_of(s, t);
+    let q = records::sides_of(s, t);
     if a != q.left {
         return Fit::Misfit(number(q.left), a);
     }

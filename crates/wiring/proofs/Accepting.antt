@@ -11,6 +11,7 @@ use Rattle.calculus.specs.Walk.{Found, walk}
 use Rattle.calculus.specs.Net.{make, netOf}
 use Rattle.calculus.specs.Translate.{full}
 use Rattle.sheet_theorems.proofs.Going.{goes, passes}
+use Rattle.memory.specs.Map.{memorySize}
 use Rattle.wiring.specs.Whole.{Read, Accepted}
 
 module _ (s : List ℕ) (σ : Sheet) (r : Found) (e : readSheet s ≡ good σ) (g : walk (σ .edition) (σ .table) (σ .term) 0 [] ≡ good r) (few : make (σ .table) (σ .term) [] 0 .next ≤ 8192) where
@@ -18,5 +19,5 @@ module _ (s : List ℕ) (σ : Sheet) (r : Found) (e : readSheet s ≡ good σ) (
   unfolding full
   full-good = goes (readSheet s) σ _ e (goes (walk (σ .edition) (σ .table) (σ .term) 0 []) r _ g (passes (leb (make (σ .table) (σ .term) [] 0 .next) 8192) 16 0 _ (rw (le-leb _ 8192 few) tt) refl))
 
-  pub accepted : {b sizes w : List ℕ} {at n : ℕ} (t : Read b sizes at n) → t .whole ≡ s → 32768 ≤ length w → Accepted b sizes w at
+  pub accepted : {b sizes w : List ℕ} {at n : ℕ} (t : Read b sizes at n) → t .whole ≡ s → memorySize ≤ length w → Accepted b sizes w at
   accepted {n = n} t q h = record { nodes = n; read = t; net = netOf (make (σ .table) (σ .term) [] 0); is = rw q full-good; memory = h }

@@ -4,10 +4,10 @@ use mathlib.Core.Path.{_≡_, refl, sym, ap, _∙_, subst}
 use mathlib.Core.List.{List, [], _∷_, _++_, append-assoc, append-nil}
 use native.Mathlib.Omega.{arith}
 use lib.ListN.{length, getD, drop}
-use Rattle.calculus.specs.Types.{Ty, size, TyRec, rec01, rec02, rec03, rec04, Table, recAt, tree}
+use Rattle.calculus.specs.Types.{size, TyRec, Table, recAt, tree}
 use Rattle.calculus.specs.Terms.{Edition, Term, var, lvar, fun, app, lfun, lapp, pair, proj, fix, con, name, nodes, partAt}
 use Rattle.calculus.specs.Write.{termBytes}
-use Rattle.sheet_theorems.specs.Laid.{Agrees, Below, TableOk, Stands, Ranged}
+use Rattle.sheet_theorems.specs.Laid.{Stands, Ranged}
 use Rattle.calculus.specs.Net.{leftOf, make}
 use Rattle.calculus.specs.Record.{All}
 use Rattle.records.specs.Record.{nodeAt}
@@ -15,13 +15,14 @@ use Rattle.records.specs.Heads.{nodeOf}
 use Rattle.records.specs.Forms.{recIn}
 use Rattle.records.specs.declared.Node.{Node}
 use Rattle.sheet_theorems.proofs.Bytes.{behind}
-use Rattle.sheet_theorems.proofs.TypeOffsets.{tree-zero}
 use Rattle.circuit_theorems.specs.Terminals.{terminals}
 use Rattle.circuit_theorems.proofs.Bounds.{next-is, terminals-few}
 use Rattle.circuit_theorems.proofs.Lists.{all-append}
-use Rattle.wiring.specs.Sides.{sidesOf, Knows}
+use Rattle.records.specs.TypeNumbers.{leftNo}
+use Rattle.records.proofs.SideLaws.{left-of}
+use Rattle.wiring.specs.Sides.{Knows}
 use Rattle.records.proofs.Laws.{stands-node}
-use Rattle.wiring.specs.Count.{ownIn, Counting, rowBytes, rowNodes, rowTerminals, Row}
+use Rattle.wiring.specs.Count.{ownIn, Counting, rowBytes, rowNodes, rowTerminals, RowLeft}
 
 -- ---- one node
 
@@ -138,16 +139,9 @@ subs-ranged E Θ (name a e) r = (r .1, (r .2, tt))
 
 -- ---- its own terminals, by its record
 
-left-of : (Θ : Table) (sizes : List ℕ) (t : ℕ) (q : TyRec) → ((u : ℕ) → u < length Θ → getD sizes u 0 ≡ size (tree Θ u)) → TableOk Θ → t < length Θ
-    → Agrees Θ q (tree Θ t) → Below t q → getD sizes (sidesOf q .left) 0 ≡ size (leftOf (tree Θ t))
-left-of Θ sizes t rec01 f ok h a b = f 0 (omega arith) ∙ ap size (tree-zero Θ ok) ∙ sym (ap (λ (τ : Ty). size (leftOf τ)) a)
-left-of Θ sizes t (rec02 l r) f ok h a b = f l (omega (arith, b .0)) ∙ sym (ap (λ (τ : Ty). size (leftOf τ)) (a .0))
-left-of Θ sizes t (rec03 l r) f ok h a b = f l (omega (arith, b .0)) ∙ sym (ap (λ (τ : Ty). size (leftOf τ)) (a .0))
-left-of Θ sizes t (rec04 l r) f ok h a b = f l (omega (arith, b .0)) ∙ sym (ap (λ (τ : Ty). size (leftOf τ)) (a .0))
-
 module _ {s sizes : List ℕ} {Θ : Table} (K : Knows s sizes Θ) where
-  left-size : (t : ℕ) → t < length Θ → 2 * getD sizes (sidesOf (recIn s t) .left) 0 ≡ 2 * size (leftOf (tree Θ t))
-  left-size t h = ap (λ (k : ℕ). 2 * k) (ap (λ (q : TyRec). getD sizes (sidesOf q .left) 0) (K .records t h) ∙ left-of Θ sizes t (recAt Θ t) (K .sized) (K .ok) h (K .ok .agrees t) (K .ok .earlier t h))
+  left-size : (t : ℕ) → t < length Θ → 2 * getD sizes (leftNo (recIn s t)) 0 ≡ 2 * size (leftOf (tree Θ t))
+  left-size t h = ap (λ (k : ℕ). 2 * k) (ap (λ (q : TyRec). getD sizes (leftNo q) 0) (K .records t h) ∙ left-of Θ sizes t (recAt Θ t) (K .sized) (K .ok) h (K .ok .agrees t) (K .ok .earlier t h))
 
   pub own-is : (E : Edition) (e : Term) (at : ℕ) → Ranged E Θ e → ownIn s sizes (nodeOf e at) ≡ own Θ e
   unfolding ownIn
@@ -183,7 +177,7 @@ pub record Next (E : Edition) (Θ : Table) (s : List ℕ) (whole : Term) (at lef
   pub stands : Stands s at term
   pub ranged : Ranged E Θ term
   pub few : total + own Θ term ≤ terminals Θ whole
-  pub then : Row E Θ s whole (nodeOf term at .next) (left - 1) (total + own Θ term)
+  pub then : RowLeft E Θ s whole (nodeOf term at .next) (left - 1) (total + own Θ term)
 
 next-of : (E : Edition) (Θ : Table) (s : List ℕ) (whole : Term) (at left total : ℕ) (row : List Term) (rest : List ℕ) → drop at s ≡ rowBytes row ++ rest → All (Ranged E Θ) row → left ≡ rowNodes row
     → total + rowTerminals Θ row ≡ terminals Θ whole → 0 < left → Next E Θ s whole at left total
@@ -215,7 +209,7 @@ end-of Θ whole [] total c u = omega arith
 end-of Θ whole (e ∷ es) total c u = absurd (omega (arith, node-count e))
 
 module _ {s sizes : List ℕ} {from count : ℕ} (q : Counting s sizes from count) where
-  pub row-start : Row (q .edition) (q .table) s (q .term) from count 0
+  pub row-start : RowLeft (q .edition) (q .table) s (q .term) from count 0
   row-start = record {
     row = q .term ∷ [];
     rest = q .stands .rest;
@@ -228,7 +222,7 @@ module _ {s sizes : List ℕ} {from count : ℕ} (q : Counting s sizes from coun
   pub row-few : terminals (q .table) (q .term) ≤ 524288
   row-few = omega (arith, terminals-few (q .table) (q .term) (q .knows .ok .small), q .nodes-are, q .few)
 
-  module _ {at left total : ℕ} (R : Row (q .edition) (q .table) s (q .term) at left total) where
+  module _ {at left total : ℕ} (R : RowLeft (q .edition) (q .table) s (q .term) at left total) where
     pub row-next : 0 < left → Next (q .edition) (q .table) s (q .term) at left total
     row-next h = next-of (q .edition) (q .table) s (q .term) at left total (R .row) (R .rest) (R .here) (R .ranged) (R .count) (R .sum) h
 
@@ -245,5 +239,5 @@ module _ {s sizes : List ℕ} {from count : ℕ} (q : Counting s sizes from coun
       pub row-room : total + ownIn s sizes node ≤ 524288
       row-room = omega (arith, row-few, row-next h .few, row-own)
 
-      pub row-then : Row (q .edition) (q .table) s (q .term) (node .next) (left - 1) (total + ownIn s sizes node)
+      pub row-then : RowLeft (q .edition) (q .table) s (q .term) (node .next) (left - 1) (total + ownIn s sizes node)
       row-then = rw (row-own, ap (λ (x : Node). x .next) row-is) (row-next h .then)

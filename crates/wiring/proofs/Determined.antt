@@ -1,47 +1,39 @@
 -- The contracts of the public functions determine what they answer: two results that one allows for a call that it asks for are equal.
 -- Of the working memory, `make_net` determines the netlist and what follows from 32,768 on; behind its lists the memory may hold anything.
 -- Assumes nothing.
-use Prim.Native.Nat.{ℕ, suc, _+_}
-use mathlib.Core.Path.{_≡_, refl, sym, ap, ap₂, _∙_}
-use mathlib.Core.List.{List, [], _∷_}
+use Prim.Native.Nat.{ℕ}
+use mathlib.Core.Path.{_≡_, sym, ap, ap₂, _∙_}
+use mathlib.Core.List.{List}
 use native.Mathlib.Omega.{arith}
-use lib.Dec.{eqb}
 use lib.ListN.{length, drop, length-map}
 use contract.Lifetimes.{Lfts}
 use denote.Triple.Clauses.{AtExit}
 use borrow.Fn.Kinds.{Dens, resT, endedOf}
-use Rattle.laws.proofs.Tests.{on-cond}
-use Rattle.calculus.specs.Terms.{partAt}
-use Rattle.calculus.specs.Net.{Element, point, part, Net}
-use Rattle.memory.specs.Map.{region, elementsFrom, terminalOf, netIn}
+use Rattle.calculus.specs.Net.{Net}
+use Rattle.memory.specs.Map.{targetsAt, elementsAt, stackAt, memorySize, region, terminalOf, netIn}
 use Rattle.netlist.proofs.InMemory.{wires-count}
+use Rattle.netlist.proofs.Elements.{kinds-length}
 use Rattle.wiring.specs.declared.Counts.{Counts}
-use Rattle.wiring.specs.Whole.{Stands}
+use Rattle.wiring.specs.Whole.{NetStands}
 use Rattle.laws.proofs.Regions.{region-length}
 use Rattle.wiring.proofs.count.Kinds as count
 use Rattle.wiring.proofs.count.Reads as count-reads
 use Rattle.wiring.proofs.make_net.Kinds as make-net
 use Rattle.wiring.proofs.make_net.Reads as make-net-reads
 
-elements-count : (ks : List ℕ) (n : ℕ) → length (elementsFrom ks n) ≡ length ks
-elements-count [] n = refl
-elements-count (k ∷ ks) n =
-    on-cond (λ (es : List Element). length es ≡ suc (length ks)) (eqb k 7) (point n ∷ elementsFrom ks (n + 2)) (part k n ∷ elementsFrom ks (n + partAt k .inputs + 1))
-    (λ t. ap suc (elements-count ks (n + 2))) (ap suc (elements-count ks (n + partAt k .inputs + 1)))
-
 -- the numbers are those of the netlist
-module _ {m : Net} {r : Counts} {w w′ : List ℕ} (S : Stands m r w w′) where
+module _ {m : Net} {r : Counts} {w w′ : List ℕ} (S : NetStands m r w w′) where
   numbers-are : (r .elements ≡ length (m .elements)) × (r .wires ≡ length (m .wires)) × (r .pins ≡ length (m .pins))
   unfolding netIn
   numbers-are =
       let R = S .ready in (
-        sym (ap (λ (x : Net). length (x .elements)) (sym (S .net)) ∙ elements-count (region w′ 13824 (r .elements)) 0 ∙ region-length w′ 13824 (r .elements) (omega (arith, R .size, R .few-elements))),
-        sym (ap (λ (x : Net). length (x .wires)) (sym (S .net)) ∙ wires-count w′ (region w′ 8192 (r .wires)) ∙ region-length w′ 8192 (r .wires) (omega (arith, R .size, R .few-wires))),
-        sym (ap (λ (x : Net). length (x .pins)) (sym (S .net)) ∙ length-map (region w′ 18944 (r .pins)) terminalOf ∙ region-length w′ 18944 (r .pins) (omega (arith, R .size, R .few-pins))),
+        sym (ap (λ (x : Net). length (x .elements)) (sym (S .net)) ∙ kinds-length (region w′ elementsAt (r .elements)) 0 ∙ region-length w′ elementsAt (r .elements) (omega (arith, R .size, R .few-elements))),
+        sym (ap (λ (x : Net). length (x .wires)) (sym (S .net)) ∙ wires-count w′ (region w′ targetsAt (r .wires)) ∙ region-length w′ targetsAt (r .wires) (omega (arith, R .size, R .few-wires))),
+        sym (ap (λ (x : Net). length (x .pins)) (sym (S .net)) ∙ length-map (region w′ stackAt (r .pins)) terminalOf ∙ region-length w′ stackAt (r .pins) (omega (arith, R .size, R .few-pins))),
       )
 
-pub one-netlist : {m : Net} {x y : Counts} {w u v : List ℕ} → Stands m x w u → Stands m y w v
-    → (x ≡ y) × (netIn u (x .elements) (x .wires) (x .pins) ≡ netIn v (y .elements) (y .wires) (y .pins)) × (drop 32768 u ≡ drop 32768 v)
+pub one-netlist : {m : Net} {x y : Counts} {w u v : List ℕ} → NetStands m x w u → NetStands m y w v
+    → (x ≡ y) × (netIn u (x .elements) (x .wires) (x .pins) ≡ netIn v (y .elements) (y .wires) (y .pins)) × (drop memorySize u ≡ drop memorySize v)
 one-netlist {m} {x} {y} {w} {u} {v} a b =
     let (e₁, k₁, p₁) = numbers-are a in
     let (e₂, k₂, p₂) = numbers-are b in

@@ -19,7 +19,7 @@ use Rattle.circuit_theorems.proofs.Drive.{table-list, table-wire, table-no-wire
 use Rattle.memory.specs.Map.{targetsAt, region, wiresFrom, netIn}
 use Rattle.wiring.specs.declared.Counts.{Counts}
 use Rattle.wiring.specs.Store.{target}
-use Rattle.wiring.specs.Whole.{Stands}
+use Rattle.wiring.specs.Whole.{NetStands}
 use Rattle.wiring.specs.Drivers.{DriversByInput}
 use Rattle.wiring.proofs.make_net.Kinds as make-net
 use Rattle.wiring.proofs.make_net.Reads as make-net-reads
@@ -30,7 +30,7 @@ targets-from : (w is : List ℕ) → map target (wiresFrom w is) ≡ is
 targets-from w [] = refl
 targets-from w (i ∷ is) = ap (λ (l : List ℕ). i ∷ l) (targets-from w is)
 
-module _ (s : List ℕ) {m : Net} {r : Counts} {w w′ : List ℕ} (ok : full s ≡ good m) (S : Stands m r w w′) where
+module _ (s : List ℕ) {m : Net} {r : Counts} {w w′ : List ℕ} (ok : full s ≡ good m) (S : NetStands m r w w′) where
   wires-are : wiresFrom w′ (region w′ targetsAt (r .wires)) ≡ m .wires
   unfolding netIn
   wires-are = ap (λ (x : Net). x .wires) (S .net)

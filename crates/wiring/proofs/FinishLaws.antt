@@ -19,14 +19,15 @@ use Rattle.records.proofs.Rule.{the-type}
 use denote.Enum.Declared.{tagOf}
 use types.Run.{OneOf, miss}
 use Rattle.records.specs.declared.Node.{Node}
-use Rattle.memory.specs.Map.{region, code, kindOf}
+use Rattle.memory.specs.Map.{stackAt, region, code, kindOf}
 use Rattle.circuit_theorems.specs.Drive.{driveAll}
 use Rattle.circuit_theorems.proofs.Bounds.{join-length}
 use Rattle.circuit_theorems.proofs.Drive.{drive-append}
-use Rattle.circuit_theorems.proofs.Drivers.{dir, dirs, dirs-left, opposite, turns-size}
+use Rattle.circuit_theorems.proofs.Drivers.{dirs-left, opposite, turns-size}
+use Rattle.circuit_theorems.specs.Scope.{dir, dirs}
 use Rattle.wiring.specs.declared.walk.State.{State}
 use Rattle.wiring.specs.declared.walk.Built.{Built}
-use Rattle.wiring.specs.Sides.{sidesOf}
+use Rattle.records.specs.TypeNumbers.{rightNo}
 use Rattle.wiring.specs.Links.{links, Apart}
 use Rattle.wiring.specs.Store.{Store, Holds, atStack, atBinders, target, moreWires, after}
 use Rattle.wiring.specs.Asks.{Asks, madeOf, Leaves, Here, betweenIn, middle, ofBody, appliedIn, finishedIn, finished, Finishable}
@@ -161,10 +162,10 @@ module _ {s sizes w : List ℕ} {node : Node} {st : State} (q : Here s sizes w n
     whole-length = omega (arith, length-append (m .stack ++ map code (x .side)) (map code (y .side)), length-map (y .side) code, low-length, len-b)
 
     abbrev second-part : Part full (m .stack ++ map code (x .side)) (map code (y .side))
-    second-part = record { above = []; is = ap (λ (l : List ℕ). (m .stack ++ map code (x .side)) ++ l) (sym (append-nil (map code (y .side)))) }
+    second-part = record { above = []; stack-is = ap (λ (l : List ℕ). (m .stack ++ map code (x .side)) ++ l) (sym (append-nil (map code (y .side)))) }
 
     abbrev below-part : Part full (m .stack) []
-    below-part = record { above = map code (x .side) ++ map code (y .side); is = append-assoc (m .stack) (map code (x .side)) (map code (y .side)) }
+    below-part = record { above = map code (x .side) ++ map code (y .side); stack-is = append-assoc (m .stack) (map code (x .side)) (map code (y .side)) }
 
     -- binders of the halves are forgotten
     forget : {v : List ℕ} (k : Store) → k .binders ≡ two.binders₂ q h2 L → Holds v k → Holds v (atBinders k (m .binders))
@@ -174,7 +175,7 @@ module _ {s sizes w : List ℕ} {node : Node} {st : State} (q : Here s sizes w n
 
     pair-holds : Pair → Holds w₃ (after m (madeOf Q))
     pair-holds z =
-        subst (λ (k : Made). Holds w₃ (after m k)) (sym (z .is))
+        subst (λ (k : Made). Holds w₃ (after m k)) (sym (z .makes))
         (subst (λ (ws : List Wire). Holds w₃ (after m (record { elements = x .elements ++ y .elements; wires = ws; type = Q .type; side = x .side ++ y .side; next = y .next }))) (append-nil (x .wires ++ y .wires))
         (both-made m x y [] (Q .type) (x .side ++ y .side) ((m .stack ++ map code (x .side)) ++ map code (y .side)) (y .next) (more code (m .stack) (x .side) (y .side))
         (no-wires (atBinders full (m .binders)) (forget full refl H))))
@@ -182,12 +183,12 @@ module _ {s sizes w : List ℕ} {node : Node} {st : State} (q : Here s sizes w n
     -- ---- a projection
 
     abbrev moved : List ℕ
-    moved = sets w₃ (18944 + st .top) (region w₃ (18944 + st .top + f .len) (b .len))
+    moved = sets w₃ (stackAt + st .top) (region w₃ (stackAt + st .top + f .len) (b .len))
 
     proj-holds : Proj → Holds moved (after m (madeOf Q))
     proj-holds z =
-        let M : Holds moved (atStack full (m .stack ++ map code (y .side))) = moved-holds H second-part below-part (18944 + st .top + f .len) (18944 + st .top) (b .len) (omega (arith, low-length)) (omega (arith, Q .top)) (omega arith) (length-map (y .side) code ∙ sym len-b) in
-        subst (λ (k : Made). Holds moved (after m k)) (sym (z .is))
+        let M : Holds moved (atStack full (m .stack ++ map code (y .side))) = moved-holds H second-part below-part (stackAt + st .top + f .len) (stackAt + st .top) (b .len) (omega (arith, low-length)) (omega (arith, Q .top)) (omega arith) (length-map (y .side) code ∙ sym len-b) in
+        subst (λ (k : Made). Holds moved (after m k)) (sym (z .makes))
         (subst (λ (ws : List Wire). Holds moved (after m (record { elements = x .elements ++ y .elements; wires = ws; type = y .type; side = y .side; next = y .next }))) (append-nil (x .wires ++ y .wires))
         (both-made m x y [] (y .type) (y .side) (m .stack ++ map code (y .side)) (y .next) refl
         (no-wires (atStack (atBinders full (m .binders)) (m .stack ++ map code (y .side))) (forget (atStack full (m .stack ++ map code (y .side))) refl M))))
@@ -229,7 +230,7 @@ module _ {s sizes w : List ℕ} {node : Node} {st : State} (q : Here s sizes w n
       js = join (y .side) start
 
       app-wires : length (madeOf Q .wires) ≡ length (x .wires) + length (y .wires) + b .len
-      app-wires = omega (arith, ap (λ (k : Made). length (k .wires)) (z .is), length-append (x .wires ++ y .wires) js, length-append (x .wires) (y .wires), join-length (y .side) start across, len-b)
+      app-wires = omega (arith, ap (λ (k : Made). length (k .wires)) (z .makes), length-append (x .wires ++ y .wires) js, length-append (x .wires) (y .wires), join-length (y .side) start across, len-b)
 
       wires-b : b .wires ≡ st .wires + length (x .wires) + length (y .wires)
       wires-b = two.second-left q h2 L er ew K .6
@@ -249,32 +250,32 @@ module _ {s sizes w : List ℕ} {node : Node} {st : State} (q : Here s sizes w n
           ∙ ap (λ (l : List ℕ). m .stack ++ l) (ap (λ (l : List ℕ). l ++ map code (y .side)) halves ∙ append-assoc (map code start) (map code end) (map code (y .side)))
 
       abbrev start-part : Part full (m .stack) (map code start)
-      start-part = record { above = map code end ++ map code (y .side); is = whole }
+      start-part = record { above = map code end ++ map code (y .side); stack-is = whole }
 
-      pub app-apart : Apart w₃ (18944 + st .top + f .len) (18944 + st .top) (b .len) (b .wires)
-      app-apart = wired-apart H (y .side) start second-part start-part (18944 + st .top + f .len) (18944 + st .top) (b .len) (b .wires) (omega (arith, low-length)) (omega (arith, Q .top)) (sym len-b) start-length wires-at few
+      pub app-apart : Apart w₃ (stackAt + st .top + f .len) (stackAt + st .top) (b .len) (b .wires)
+      app-apart = wired-apart H (y .side) start second-part start-part (stackAt + st .top + f .len) (stackAt + st .top) (b .len) (b .wires) (omega (arith, low-length)) (omega (arith, Q .top)) (sym len-b) start-length wires-at few
 
       abbrev v : List ℕ
-      v = links w₃ (b .wires) (region w₃ (18944 + st .top + f .len) (b .len)) (region w₃ (18944 + st .top) (b .len))
+      v = links w₃ (b .wires) (region w₃ (stackAt + st .top + f .len) (b .len)) (region w₃ (stackAt + st .top) (b .len))
 
       app-wired : Holds v (moreWires full js)
-      app-wired = wired-holds H (y .side) start second-part start-part (18944 + st .top + f .len) (18944 + st .top) (b .len) (b .wires) (omega (arith, low-length)) (omega (arith, Q .top)) (sym len-b) start-length wires-at few across
+      app-wired = wired-holds H (y .side) start second-part start-part (stackAt + st .top + f .len) (stackAt + st .top) (b .len) (b .wires) (omega (arith, low-length)) (omega (arith, Q .top)) (sym len-b) start-length wires-at few across
 
       end-length : length end ≡ f .len - b .len
       end-length = omega (arith, length-drop (size α) (x .side), len-f, size-is)
 
-      app-moved : Holds (appliedIn w₃ (18944 + st .top) (f .len) (b .len) (b .wires)) (atStack (moreWires full js) (m .stack ++ map code end))
+      app-moved : Holds (appliedIn w₃ (stackAt + st .top) (f .len) (b .len) (b .wires)) (atStack (moreWires full js) (m .stack ++ map code end))
       unfolding appliedIn
       app-moved =
-          let ep : Part (moreWires full js) (m .stack ++ map code start) (map code end) = record { above = map code (y .side); is = whole ∙ sym (append-assoc (m .stack) (map code start) (map code end ++ map code (y .side))) } in
-          let bp : Part (moreWires full js) (m .stack) [] = record { above = map code start ++ (map code end ++ map code (y .side)); is = whole } in
-          moved-holds app-wired ep bp (18944 + st .top + b .len) (18944 + st .top) (f .len - b .len)
+          let ep : Part (moreWires full js) (m .stack ++ map code start) (map code end) = record { above = map code (y .side); stack-is = whole ∙ sym (append-assoc (m .stack) (map code start) (map code end ++ map code (y .side))) } in
+          let bp : Part (moreWires full js) (m .stack) [] = record { above = map code start ++ (map code end ++ map code (y .side)); stack-is = whole } in
+          moved-holds app-wired ep bp (stackAt + st .top + b .len) (stackAt + st .top) (f .len - b .len)
           (omega (arith, length-append (m .stack) (map code start), length-map start code, start-length, Q .top)) (omega (arith, Q .top)) (omega arith) (length-map end code ∙ end-length)
 
-      app-holds : Holds (appliedIn w₃ (18944 + st .top) (f .len) (b .len) (b .wires)) (after m (madeOf Q))
+      app-holds : Holds (appliedIn w₃ (stackAt + st .top) (f .len) (b .len) (b .wires)) (after m (madeOf Q))
       app-holds =
-          let u = appliedIn w₃ (18944 + st .top) (f .len) (b .len) (b .wires) in
-          subst (λ (k : Made). Holds u (after m k)) (sym (z .is))
+          let u = appliedIn w₃ (stackAt + st .top) (f .len) (b .len) (b .wires) in
+          subst (λ (k : Made). Holds u (after m k)) (sym (z .makes))
           (both-made m x y js (rightOf (x .type)) end (m .stack ++ map code end) (y .next) refl (forget (atStack (moreWires full js) (m .stack ++ map code end)) refl app-moved))
 
     -- ---- all three
@@ -308,16 +309,16 @@ module _ {s sizes w : List ℕ} {node : Node} {st : State} (q : Here s sizes w n
             let e₁ = rule-is ofBody ∙ z .not-body in
             let e₂ = rule-is isPair ∙ z .not-pair in
             let S = sided-at (Q .knows) (f .ty) (two.first-left q h2 L .1) (λ k. z .arrow (sym (two.first-left q h2 L .2) ∙ k)) in
-            let t = sidesOf (recIn s (f .ty)) .right in
+            let t = rightNo (recIn s (f .ty)) in
             let tn : t < length (Q .table) = omega (arith, S .right-below, two.first-left q h2 L .1) in
             let tt′ : tree (Q .table) t ≡ Q .type = sym (S .right) ∙ ap rightOf (two.first-left q h2 L .2) ∙ z .right in
             record {
-              holds = subst (λ (c : Bool). Holds (cond c moved (cond (isPair (node .rule)) w₃ (appliedIn w₃ (18944 + st .top) (f .len) (b .len) (b .wires)))) (after m (madeOf Q))) (sym e₁)
-                  (subst (λ (c : Bool). Holds (cond c w₃ (appliedIn w₃ (18944 + st .top) (f .len) (b .len) (b .wires))) (after m (madeOf Q))) (sym e₂) (app-holds z));
+              holds = subst (λ (c : Bool). Holds (cond c moved (cond (isPair (node .rule)) w₃ (appliedIn w₃ (stackAt + st .top) (f .len) (b .len) (b .wires)))) (after m (madeOf Q))) (sym e₁)
+                  (subst (λ (c : Bool). Holds (cond c w₃ (appliedIn w₃ (stackAt + st .top) (f .len) (b .len) (b .wires))) (after m (madeOf Q))) (sym e₂) (app-holds z));
               past = past-is;
               named = subst (λ (c : Bool). cond c (b .ty) (cond (isPair (node .rule)) (node .first) t) < length (Q .table)) (sym e₁) (subst (λ (c : Bool). cond c (node .first) t < length (Q .table)) (sym e₂) tn);
               type = subst (λ (c : Bool). tree (Q .table) (cond c (b .ty) (cond (isPair (node .rule)) (node .first) t)) ≡ Q .type) (sym e₁) (subst (λ (c : Bool). tree (Q .table) (cond c (node .first) t) ≡ Q .type) (sym e₂) tt′);
-              len = ap (λ (c : Bool). cond c (b .len) (cond (isPair (node .rule)) (f .len + b .len) (f .len - b .len))) e₁ ∙ ap (λ (c : Bool). cond c (f .len + b .len) (f .len - b .len)) e₂ ∙ sym (end-length z) ∙ ap (λ (k : Made). length (k .side)) (sym (z .is));
+              len = ap (λ (c : Bool). cond c (b .len) (cond (isPair (node .rule)) (f .len + b .len) (f .len - b .len))) e₁ ∙ ap (λ (c : Bool). cond c (f .len + b .len) (f .len - b .len)) e₂ ∙ sym (end-length z) ∙ ap (λ (k : Made). length (k .side)) (sym (z .makes));
               next = next-is;
               elements = elements-is;
               wires = ap (λ (c : Bool). cond c (b .wires) (cond (isPair (node .rule)) (b .wires) (b .wires + b .len))) e₁ ∙ ap (λ (c : Bool). cond c (b .wires) (b .wires + b .len)) e₂ ∙ omega (arith, wires-b z, app-wires z);
@@ -327,33 +328,33 @@ module _ {s sizes w : List ℕ} {node : Node} {st : State} (q : Here s sizes w n
         paired z =
             let e₂ = rule-is isPair ∙ z .pair in
             let e₁ = rule-is ofBody ∙ z .not-body in
-            let t = sidesOf (recIn s (f .ty)) .right in
-            let en : node .first ≡ nodeOf (Q .term) (q .at) .first = ap (λ (k : Node). k .first) (q .is) in
+            let t = rightNo (recIn s (f .ty)) in
+            let en : node .first ≡ nodeOf (Q .term) (q .at) .first = ap (λ (k : Node). k .first) (q .node-is) in
             let tn : node .first < length (Q .table) = subst (λ (k : ℕ). k < length (Q .table)) (sym en) (z .first) in
             let tt′ : tree (Q .table) (node .first) ≡ Q .type = ap (tree (Q .table)) en ∙ z .is-type in
             record {
-              holds = subst (λ (c : Bool). Holds (cond c moved (cond (isPair (node .rule)) w₃ (appliedIn w₃ (18944 + st .top) (f .len) (b .len) (b .wires)))) (after m (madeOf Q))) (sym e₁)
-                  (subst (λ (c : Bool). Holds (cond c w₃ (appliedIn w₃ (18944 + st .top) (f .len) (b .len) (b .wires))) (after m (madeOf Q))) (sym e₂) (pair-holds z));
+              holds = subst (λ (c : Bool). Holds (cond c moved (cond (isPair (node .rule)) w₃ (appliedIn w₃ (stackAt + st .top) (f .len) (b .len) (b .wires)))) (after m (madeOf Q))) (sym e₁)
+                  (subst (λ (c : Bool). Holds (cond c w₃ (appliedIn w₃ (stackAt + st .top) (f .len) (b .len) (b .wires))) (after m (madeOf Q))) (sym e₂) (pair-holds z));
               past = past-is;
               named = subst (λ (c : Bool). cond c (b .ty) (cond (isPair (node .rule)) (node .first) t) < length (Q .table)) (sym e₁) (subst (λ (c : Bool). cond c (node .first) t < length (Q .table)) (sym e₂) tn);
               type = subst (λ (c : Bool). tree (Q .table) (cond c (b .ty) (cond (isPair (node .rule)) (node .first) t)) ≡ Q .type) (sym e₁) (subst (λ (c : Bool). tree (Q .table) (cond c (node .first) t) ≡ Q .type) (sym e₂) tt′);
-              len = ap (λ (c : Bool). cond c (b .len) (cond (isPair (node .rule)) (f .len + b .len) (f .len - b .len))) e₁ ∙ ap (λ (c : Bool). cond c (f .len + b .len) (f .len - b .len)) e₂ ∙ omega (arith, len-f, len-b, length-append (x .side) (y .side), ap (λ (k : Made). length (k .side)) (z .is));
+              len = ap (λ (c : Bool). cond c (b .len) (cond (isPair (node .rule)) (f .len + b .len) (f .len - b .len))) e₁ ∙ ap (λ (c : Bool). cond c (f .len + b .len) (f .len - b .len)) e₂ ∙ omega (arith, len-f, len-b, length-append (x .side) (y .side), ap (λ (k : Made). length (k .side)) (z .makes));
               next = next-is;
               elements = elements-is;
-              wires = ap (λ (c : Bool). cond c (b .wires) (cond (isPair (node .rule)) (b .wires) (b .wires + b .len))) e₁ ∙ ap (λ (c : Bool). cond c (b .wires) (b .wires + b .len)) e₂ ∙ omega (arith, two.second-left q h2 L er ew K .6, ap (λ (k : Made). length (k .wires)) (z .is), length-append (x .wires) (y .wires));
+              wires = ap (λ (c : Bool). cond c (b .wires) (cond (isPair (node .rule)) (b .wires) (b .wires + b .len))) e₁ ∙ ap (λ (c : Bool). cond c (b .wires) (b .wires + b .len)) e₂ ∙ omega (arith, two.second-left q h2 L er ew K .6, ap (λ (k : Made). length (k .wires)) (z .makes), length-append (x .wires) (y .wires));
             }
 
         projected : Proj → Leaves Q (finished s node f b) (finishedIn w₃ node (st .top) f b)
         projected z =
             let e₁ = rule-is ofBody ∙ z .body in
-            let t = sidesOf (recIn s (f .ty)) .right in
+            let t = rightNo (recIn s (f .ty)) in
             record {
-              holds = subst (λ (c : Bool). Holds (cond c moved (cond (isPair (node .rule)) w₃ (appliedIn w₃ (18944 + st .top) (f .len) (b .len) (b .wires)))) (after m (madeOf Q))) (sym e₁) (proj-holds z);
+              holds = subst (λ (c : Bool). Holds (cond c moved (cond (isPair (node .rule)) w₃ (appliedIn w₃ (stackAt + st .top) (f .len) (b .len) (b .wires)))) (after m (madeOf Q))) (sym e₁) (proj-holds z);
               past = past-is;
               named = subst (λ (c : Bool). cond c (b .ty) (cond (isPair (node .rule)) (node .first) t) < length (Q .table)) (sym e₁) (two.second-left q h2 L er ew K .1);
               type = subst (λ (c : Bool). tree (Q .table) (cond c (b .ty) (cond (isPair (node .rule)) (node .first) t)) ≡ Q .type) (sym e₁) (two.second-left q h2 L er ew K .2 ∙ z .same);
-              len = ap (λ (c : Bool). cond c (b .len) (cond (isPair (node .rule)) (f .len + b .len) (f .len - b .len))) e₁ ∙ len-b ∙ ap (λ (k : Made). length (k .side)) (sym (z .is));
+              len = ap (λ (c : Bool). cond c (b .len) (cond (isPair (node .rule)) (f .len + b .len) (f .len - b .len))) e₁ ∙ len-b ∙ ap (λ (k : Made). length (k .side)) (sym (z .makes));
               next = next-is;
               elements = elements-is;
-              wires = ap (λ (c : Bool). cond c (b .wires) (cond (isPair (node .rule)) (b .wires) (b .wires + b .len))) e₁ ∙ omega (arith, two.second-left q h2 L er ew K .6, ap (λ (k : Made). length (k .wires)) (z .is), length-append (x .wires) (y .wires));
+              wires = ap (λ (c : Bool). cond c (b .wires) (cond (isPair (node .rule)) (b .wires) (b .wires + b .len))) e₁ ∙ omega (arith, two.second-left q h2 L er ew K .6, ap (λ (k : Made). length (k .wires)) (z .makes), length-append (x .wires) (y .wires));
             }

@@ -21,7 +21,7 @@ use Rattle.calculus.specs.Record.{All}
 use Rattle.calculus.specs.Inputs.{targets}
 use Rattle.circuit_theorems.specs.Formed.{Tiled, Formed}
 use Rattle.calculus.specs.Translate.{full}
-use Rattle.memory.specs.Map.{region, kindOf, elementsFrom, wiresFrom, code, terminalOf, netIn}
+use Rattle.memory.specs.Map.{targetsAt, elementsAt, stackAt, bindersAt, memorySize, region, kindOf, elementsFrom, wiresFrom, code, terminalOf, netIn}
 use Rattle.calculus.specs.NetRead.{Known}
 use Rattle.circuit_theorems.proofs.KnownParts.{made-known}
 use Rattle.sheet_theorems.proofs.Laying.{laid}
@@ -29,7 +29,7 @@ use Rattle.sheet_theorems.proofs.Standing.{sheet-stands}
 use Rattle.records.specs.Told.{sizesOf}
 use Rattle.records.proofs.ToldLaws.{sheet-types, size-at, sizes-length}
 use Rattle.circuit_theorems.specs.Drive.{driveAll}
-use Rattle.circuit_theorems.proofs.Drivers.{env-end}
+use Rattle.circuit_theorems.specs.Scope.{env-end}
 use Rattle.circuit_theorems.proofs.Lists.{all-map}
 use Rattle.circuit_theorems.proofs.Wiring.{target-one}
 use Rattle.circuit_theorems.proofs.Forming.{Gapless}
@@ -43,7 +43,7 @@ use Rattle.wiring.specs.Sides.{Knows}
 use Rattle.wiring.specs.Store.{Store, Lies, Holds, target, after}
 use Rattle.wiring.specs.Asks.{Asks, Leaves}
 use Rattle.wiring.specs.Count.{Counting}
-use Rattle.wiring.specs.Whole.{Read, Accepted, Stands}
+use Rattle.wiring.specs.Whole.{Read, Accepted, NetStands}
 use Rattle.wiring.proofs.LinkLaws.{terminal-back}
 use Rattle.wiring.proofs.StoreLaws.{sets-at, lies-region}
 
@@ -127,7 +127,7 @@ module _ {s sizes w : List ℕ} {at : ℕ} (q : Accepted s sizes w at) (m : Net)
   abbrev A : Accepts (q .read .whole) m
   A = accepts (q .read .whole) m ok
 
-  root-holds : Holds w₁ (empty (drop 32768 w))
+  root-holds : Holds w₁ (empty (drop memorySize w))
   root-holds =
       let l : length (replicate {A = ℕ} 8192 65535) ≡ 8192 = length-replicate {A = ℕ} 8192 65535 in
       let z = length-sets w 0 (replicate {A = ℕ} 8192 65535) in
@@ -135,12 +135,12 @@ module _ {s sizes w : List ℕ} {at : ℕ} (q : Accepted s sizes w at) (m : Net)
         size = omega (arith, q .memory);
         drivers = record { fits = omega arith; here = λ j h. sets-at (replicate 8192 65535) w 0 j (omega (arith, q .memory)) h };
         all = l;
-        targets = none-lies (sets w 0 (replicate 8192 65535)) 8192 5632;
-        kinds = none-lies (sets w 0 (replicate 8192 65535)) 13824 5120;
-        stack = none-lies (sets w 0 (replicate 8192 65535)) 18944 8448;
+        targets = none-lies (sets w 0 (replicate 8192 65535)) targetsAt 5632;
+        kinds = none-lies (sets w 0 (replicate 8192 65535)) elementsAt 5120;
+        stack = none-lies (sets w 0 (replicate 8192 65535)) stackAt 8448;
         low = tt;
-        binders = none-lies (sets w 0 (replicate 8192 65535)) 27392 256;
-        rest = sets-drop (replicate 8192 65535) w 0 32768 (omega arith);
+        binders = none-lies (sets w 0 (replicate 8192 65535)) bindersAt 256;
+        rest = sets-drop (replicate 8192 65535) w 0 memorySize (omega arith);
       })
 
   pub root-asks : Asks s sizes w₁ at rootState
@@ -158,7 +158,7 @@ module _ {s sizes w : List ℕ} {at : ℕ} (q : Accepted s sizes w at) (m : Net)
         typed = A .typed;
         env = [];
         fits = env-end;
-        store = empty (drop 32768 w);
+        store = empty (drop memorySize w);
         holds = root-holds;
         elements = refl;
         wires = refl;
@@ -177,7 +177,7 @@ module _ {s sizes w : List ℕ} {at : ℕ} (q : Accepted s sizes w at) (m : Net)
     abbrev mk : Made
     mk = make (A .sheet .table) (A .sheet .term) [] 0
 
-    made-holds : Holds w′ (after (empty (drop 32768 w)) mk)
+    made-holds : Holds w′ (after (empty (drop memorySize w)) mk)
     unfolding root-asks
     made-holds = L .holds
 
@@ -207,31 +207,31 @@ module _ {s sizes w : List ℕ} {at : ℕ} (q : Accepted s sizes w at) (m : Net)
         let e : getD w′ i 0 ≡ getD (driveAll (mk .wires) (replicate 8192 65535)) i 0 = ap (λ (k : ℕ). getD w′ k 0) (sym z) ∙ D .here i (omega (arith, made-holds .all)) in
         e ∙ getD-any (driveAll (mk .wires) (replicate 8192 65535)) i 0 65535 (omega (arith, made-holds .all)) ∙ ap (λ (x : Net). getD (driveAll (x .wires) (replicate 8192 65535)) i 65535) is-net ∙ table-list (q .read .whole) m ok i h ∙ ap (λ (x : Net). driver (x .wires) i 65535) (sym is-net)
 
-    elements-here : elementsFrom (region w′ 13824 (r .elements)) 0 ≡ mk .elements
+    elements-here : elementsFrom (region w′ elementsAt (r .elements)) 0 ≡ mk .elements
     elements-here =
-        ap (λ (l : List ℕ). elementsFrom l 0) (list-region 13824 5120 (r .elements) (map kindOf (mk .elements)) (made-holds .kinds) (omega (arith, made-holds .size)) (omega (arith, counts .0, length-map (mk .elements) kindOf)))
+        ap (λ (l : List ℕ). elementsFrom l 0) (list-region elementsAt 5120 (r .elements) (map kindOf (mk .elements)) (made-holds .kinds) (omega (arith, made-holds .size)) (omega (arith, counts .0, length-map (mk .elements) kindOf)))
         ∙ elements-back (mk .elements) 0 (whole .net .end) (whole .tiled) (made-known (A .typed) [] 0)
 
-    wires-here : wiresFrom w′ (region w′ 8192 (r .wires)) ≡ mk .wires
+    wires-here : wiresFrom w′ (region w′ targetsAt (r .wires)) ≡ mk .wires
     wires-here =
-        ap (wiresFrom w′) (list-region 8192 5632 (r .wires) (map target (mk .wires)) (made-holds .targets) (omega (arith, made-holds .size)) (omega (arith, counts .1, length-map (mk .wires) target)))
+        ap (wiresFrom w′) (list-region targetsAt 5632 (r .wires) (map target (mk .wires)) (made-holds .targets) (omega (arith, made-holds .size)) (omega (arith, counts .1, length-map (mk .wires) target)))
         ∙ wires-back w′ (mk .wires) low (λ v x h. driver-at (v .to) h ∙ mem-driver (mk .wires) v 65535 (target-one (netOf mk) (whole .net)) x)
       where
         low : All (λ v. v .to < 8192) (mk .wires)
         low = all-map _ (λ v. v .to < 8192) (λ v a. a .1) (mk .wires) (subst (λ (x : Net). All (λ v. (v .from < 8192) × (v .to < 8192)) (x .wires)) (sym is-net) (names (q .read .whole) m ok .wires))
 
-    pins-here : map terminalOf (region w′ 18944 (r .len)) ≡ mk .side
+    pins-here : map terminalOf (region w′ stackAt (r .len)) ≡ mk .side
     pins-here =
-        ap (map terminalOf) (list-region 18944 8448 (r .len) (map code (mk .side)) (made-holds .stack) (omega (arith, made-holds .size)) (omega (arith, counts .2, length-map (mk .side) code)))
+        ap (map terminalOf) (list-region stackAt 8448 (r .len) (map code (mk .side)) (made-holds .stack) (omega (arith, made-holds .size)) (omega (arith, counts .2, length-map (mk .side) code)))
         ∙ pins-back (mk .side)
 
     net-here : netIn w′ (r .elements) (r .wires) (r .len) ≡ netOf mk
     unfolding netIn
     net-here =
-        ap₂ (λ (es : List Element) (ws : List Wire). record { elements = es; wires = ws; pins = map terminalOf (region w′ 18944 (r .len)) }) elements-here wires-here
+        ap₂ (λ (es : List Element) (ws : List Wire). record { elements = es; wires = ws; pins = map terminalOf (region w′ stackAt (r .len)) }) elements-here wires-here
         ∙ ap (λ (p : Interface). record { elements = mk .elements; wires = mk .wires; pins = p }) pins-here
 
-    pub root-stands : Stands m numbers w w′
+    pub root-stands : NetStands m numbers w w′
     root-stands = record {
       net = net-here ∙ is-net;
       ready = record {

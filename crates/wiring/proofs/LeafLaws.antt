@@ -15,12 +15,12 @@ use Rattle.calculus.specs.Net.{turns, outSide, inSide, partSide, Bound, unbound
 use Rattle.calculus.specs.Record.{All}
 use Rattle.records.specs.Rules.{isConstant}
 use Rattle.records.specs.declared.Node.{Node}
-use Rattle.memory.specs.Map.{region, code}
+use Rattle.memory.specs.Map.{elementsAt, stackAt, bindersAt, region, code}
 use Rattle.circuit_theorems.proofs.Bounds.{made-type, made-side}
 use Rattle.circuit_theorems.proofs.Counts.{part-inputs}
 use Rattle.circuit_theorems.proofs.Drivers.{turns-size}
 use Rattle.wiring.specs.declared.walk.State.{State}
-use Rattle.wiring.specs.Sides.{Named, face}
+use Rattle.wiring.specs.Sides.{KnownType, face}
 use Rattle.wiring.specs.Store.{Low}
 use Rattle.wiring.specs.Asks.{OfPoints, OfStack, BoundAt, shown, Showable, slot, Asks, madeOf, Leaves, Here}
 use Rattle.wiring.specs.Nodes.{Variable, Constant}
@@ -71,19 +71,19 @@ module _ {s sizes w : List ℕ} {node : Node} {st : State} (q : Here s sizes w n
   i = node .first
 
   var : Variable (Q .edition) (Q .table) s (q .at) (st .next) (Q .env) (Q .term) (Q .type)
-  var = variable s (q .at) (st .next) (Q .env) (Q .typed) (Q .fits) (rw (q .is) at none) (rw (q .is) at f)
+  var = variable s (q .at) (st .next) (Q .env) (Q .typed) (Q .fits) (rw (q .node-is) at none) (rw (q .node-is) at f)
 
   pub var-scope : (i < st .scope) × (st .scope ≤ 128)
-  var-scope = let v = var in let e = ap (λ (x : Node). x .first) (q .is) in (omega (arith, v .bound, Q .binds .all), omega (arith, Q .scoped))
+  var-scope = let v = var in let e = ap (λ (x : Node). x .first) (q .node-is) in (omega (arith, v .bound, Q .binds .all), omega (arith, Q .scoped))
 
   abbrev b : Bound
   b = getD (Q .env) i unbound
 
   var-is : madeOf Q ≡ madeVar b (st .next)
-  var-is = var .is ∙ ap (λ (x : Node). madeVar (getD (Q .env) (x .first) unbound) (st .next)) (sym (q .is))
+  var-is = var .makes ∙ ap (λ (x : Node). madeVar (getD (Q .env) (x .first) unbound) (st .next)) (sym (q .node-is))
 
   -- its two numbers
-  module _ (k : ℕ) (ek : k ≡ 27392 + slot (st .scope) i) where
+  module _ (k : ℕ) (ek : k ≡ bindersAt + slot (st .scope) i) where
     abbrev t : ℕ
     t = getD w k 0
 
@@ -95,12 +95,12 @@ module _ {s sizes w : List ℕ} {node : Node} {st : State} (q : Here s sizes w n
         let (h₁, h₂) = var-scope in
         let c = Q .binds .count in
         let L = Q .holds .binders in
-        let e₁ : getD w (27392 + slot (st .scope) i) 0 ≡ getD (Q .store .binders) (slot (st .scope) i) 0 = L .here (slot (st .scope) i) (omega arith) in
-        let e₂ : getD w (27392 + (slot (st .scope) i + 1)) 0 ≡ getD (Q .store .binders) (slot (st .scope) i + 1) 0 = L .here (slot (st .scope) i + 1) (omega arith) in
-        let e₃ : k + 1 ≡ 27392 + (slot (st .scope) i + 1) = omega arith in
+        let e₁ : getD w (bindersAt + slot (st .scope) i) 0 ≡ getD (Q .store .binders) (slot (st .scope) i) 0 = L .here (slot (st .scope) i) (omega arith) in
+        let e₂ : getD w (bindersAt + (slot (st .scope) i + 1)) 0 ≡ getD (Q .store .binders) (slot (st .scope) i + 1) 0 = L .here (slot (st .scope) i + 1) (omega arith) in
+        let e₃ : k + 1 ≡ bindersAt + (slot (st .scope) i + 1) = omega arith in
         rw (e₃, e₂, ek, e₁) (Q .binds .each i h₁)
 
-    abbrev pub var-named : Named s sizes t
+    abbrev pub var-named : KnownType s sizes t
     var-named = record { table = Q .table; knows = Q .knows; named = var-at .named }
 
     pub var-type : tree (Q .table) t ≡ Q .type
@@ -119,15 +119,15 @@ module _ {s sizes w : List ℕ} {node : Node} {st : State} (q : Here s sizes w n
         let v = var in
         (omega (arith, var-at .named, Q .knows .ok .few), omega (arith, Q .deep, v .shallow, var-size, Q .knows .ok .small t))
 
-    pub var-showable : (to : ℕ) → to ≡ 18944 + st .top → Showable s sizes (length w) to t place
+    pub var-showable : (to : ℕ) → to ≡ stackAt + st .top → Showable s sizes (length w) to t place
     var-showable to et =
         let (r₁, r₂) = var-room in
         let z = var-size in
         record {
           known = var-named;
           room = omega (arith, Q .holds .size);
-          points = λ h. ⊎-elim (λ p. omega (arith, p .is, p .few)) (λ p. absurd (omega (arith, p .is))) (var-at .side);
-          stack = λ h. ⊎-elim (λ p. absurd (h (omega (arith, p .is)))) (λ p. omega (arith, p .is, p .below, Q .top)) (var-at .side);
+          points = λ h. ⊎-elim (λ p. omega (arith, p .place-is, p .few)) (λ p. absurd (omega (arith, p .place-is))) (var-at .side);
+          stack = λ h. ⊎-elim (λ p. absurd (h (omega (arith, p .place-is)))) (λ p. omega (arith, p .place-is, p .below, Q .top)) (var-at .side);
         }
 
     -- what is shown is its interface
@@ -135,23 +135,23 @@ module _ {s sizes w : List ℕ} {node : Node} {st : State} (q : Here s sizes w n
     unfolding shown
     var-shown = ⊎-elim points stack (var-at .side)
       where
-        points : OfPoints (tree (Q .table) t) place (b .side) → cond (eqb (place % 2) 1) (face true (turns false (tree (Q .table) t)) (place / 2)) (region w (18944 + place / 2) (getD sizes t 0)) ≡ map code (b .side)
+        points : OfPoints (tree (Q .table) t) place (b .side) → cond (eqb (place % 2) 1) (face true (turns false (tree (Q .table) t)) (place / 2)) (region w (stackAt + place / 2) (getD sizes t 0)) ≡ map code (b .side)
         points p =
-            let e : place / 2 ≡ p .first = omega (arith, p .is) in
-            rw (eq-eqb (place % 2) 1 (omega (arith, p .is)), e, p .shown) (face-out (turns false (tree (Q .table) t)) (p .first))
+            let e : place / 2 ≡ p .first = omega (arith, p .place-is) in
+            rw (eq-eqb (place % 2) 1 (omega (arith, p .place-is)), e, p .shown) (face-out (turns false (tree (Q .table) t)) (p .first))
 
-        stack : OfStack (Q .store .stack) (tree (Q .table) t) place (b .side) → cond (eqb (place % 2) 1) (face true (turns false (tree (Q .table) t)) (place / 2)) (region w (18944 + place / 2) (getD sizes t 0)) ≡ map code (b .side)
+        stack : OfStack (Q .store .stack) (tree (Q .table) t) place (b .side) → cond (eqb (place % 2) 1) (face true (turns false (tree (Q .table) t)) (place / 2)) (region w (stackAt + place / 2) (getD sizes t 0)) ≡ map code (b .side)
         stack p =
-            let e : place / 2 ≡ p .height = omega (arith, p .is) in
+            let e : place / 2 ≡ p .height = omega (arith, p .place-is) in
             let n = size (tree (Q .table) t) in
             let L = Q .holds .stack in
-            let l₁ = region-length w (18944 + p .height) n (omega (arith, p .below, L .fits, Q .holds .size)) in
+            let l₁ = region-length w (stackAt + p .height) n (omega (arith, p .below, L .fits, Q .holds .size)) in
             let l₂ = region-length (Q .store .stack) (p .height) n (p .below) in
-            let same : region w (18944 + p .height) n ≡ region (Q .store .stack) (p .height) n =
-            ext-getD 0 (region w (18944 + p .height) n) (region (Q .store .stack) (p .height) n) (l₁ ∙ sym l₂)
-            (λ j h. let e₁ : 18944 + p .height + j ≡ 18944 + (p .height + j) = omega arith in
-            region-at w (18944 + p .height) n j (omega arith) ∙ rw e₁ (L .here (p .height + j) (omega (arith, p .below))) ∙ sym (region-at (Q .store .stack) (p .height) n j (omega arith))) in
-            rw (ne-eqb (place % 2) 1 (λ z. omega (arith, p .is)), e, var-size, p .shown) same
+            let same : region w (stackAt + p .height) n ≡ region (Q .store .stack) (p .height) n =
+            ext-getD 0 (region w (stackAt + p .height) n) (region (Q .store .stack) (p .height) n) (l₁ ∙ sym l₂)
+            (λ j h. let e₁ : stackAt + p .height + j ≡ stackAt + (p .height + j) = omega arith in
+            region-at w (stackAt + p .height) n j (omega arith) ∙ rw e₁ (L .here (p .height + j) (omega (arith, p .below))) ∙ sym (region-at (Q .store .stack) (p .height) n j (omega arith))) in
+            rw (ne-eqb (place % 2) 1 (λ z. omega (arith, p .place-is)), e, var-size, p .shown) same
 
     var-low : All Low (map code (b .side))
     var-low = ⊎-elim points stack (var-at .side)
@@ -167,7 +167,7 @@ module _ {s sizes w : List ℕ} {node : Node} {st : State} (q : Here s sizes w n
             rw (p .shown) (low-of (region (Q .store .stack) (p .height) n)
             (λ j h. rw (region-at (Q .store .stack) (p .height) n j (omega (arith, region-length (Q .store .stack) (p .height) n (p .below)))) (low-at (Q .store .stack) (Q .holds .low) (p .height + j))))
 
-    pub var-leaves : (to : ℕ) → to ≡ 18944 + st .top → (len : ℕ) → len ≡ getD sizes t 0 → (w′ : List ℕ) → w′ ≡ sets w to (shown (Q .table) (getD sizes t 0) w t place)
+    pub var-leaves : (to : ℕ) → to ≡ stackAt + st .top → (len : ℕ) → len ≡ getD sizes t 0 → (w′ : List ℕ) → w′ ≡ sets w to (shown (Q .table) (getD sizes t 0) w t place)
         → Leaves Q (record { past = node .next; ty = t; len = len; next = st .next; elements = st .elements; wires = st .wires }) w′
     var-leaves to et len el w′ ew =
         let (r₁, r₂) = var-room in
@@ -175,7 +175,7 @@ module _ {s sizes w : List ℕ} {node : Node} {st : State} (q : Here s sizes w n
         let P = push-stack (Q .holds) (map code (b .side)) to (omega (arith, Q .top)) (omega (arith, Q .top, length-map (b .side) code)) var-low in
         record {
           holds = rw (ew, var-shown, var-is, append-nil, append-nil) P;
-          past = ap (λ (x : Node). x .next) (q .is) ∙ sym (var .bytes);
+          past = ap (λ (x : Node). x .next) (q .node-is) ∙ sym (var .bytes);
           named = var-at .named;
           type = var-type;
           len = el ∙ sym l ∙ ap (λ (m : Made). length (m .side)) (sym var-is);
@@ -191,13 +191,13 @@ module _ {s sizes w : List ℕ} {node : Node} {st : State} (q : Here s sizes w n
   C = q .asks
 
   con : Constant (C .edition) (C .table) s (q .at) (st .next) (C .env) (C .term) (C .type)
-  con = constant s (q .at) (st .next) (C .env) (C .typed) (C .ranged) (rw (q .is) at f)
+  con = constant s (q .at) (st .next) (C .env) (C .typed) (C .ranged) (rw (q .node-is) at f)
 
   abbrev inputs : ℕ
   inputs = partAt (node .first) .inputs
 
   con-is : madeOf C ≡ madeCon (tree (C .table) (node .second)) (node .first) (st .next)
-  con-is = con .is ∙ ap (λ (x : Node). madeCon (tree (C .table) (x .second)) (x .first) (st .next)) (sym (q .is))
+  con-is = con .makes ∙ ap (λ (x : Node). madeCon (tree (C .table) (x .second)) (x .first) (st .next)) (sym (q .node-is))
 
   pub con-room : (st .elements + 1 ≤ 5120) × (st .top + inputs < 8448) × (st .next + inputs < 8192) × (inputs ≤ 2)
   con-room = (
@@ -207,20 +207,20 @@ module _ {s sizes w : List ℕ} {node : Node} {st : State} (q : Here s sizes w n
     part-inputs (node .first),
   )
 
-  pub con-leaves : (k : ℕ) → k ≡ inputs → (w′ : List ℕ) → w′ ≡ sets (set w (13824 + st .elements) (node .first)) (18944 + st .top) (map code (partSide k (st .next)))
-      → Leaves C (record { past = node .next; ty = node .second; len = k + 1; next = st .next + k + 1; elements = st .elements + 1; wires = st .wires }) w′
-  con-leaves k ek w′ ew =
+  pub con-leaves : (k l : ℕ) → k ≡ inputs → l ≡ inputs + 1 → (w′ : List ℕ) → w′ ≡ sets (set w (elementsAt + st .elements) (node .first)) (stackAt + st .top) (map code (partSide k (st .next)))
+      → Leaves C (record { past = node .next; ty = node .second; len = l; next = st .next + l; elements = st .elements + 1; wires = st .wires }) w′
+  con-leaves k l ek el w′ ew =
       let (r₁, r₂, r₃, r₄) = con-room in
-      let K = push-kinds (C .holds) (node .first ∷ []) (13824 + st .elements) (omega (arith, C .elements)) (omega (arith, C .elements)) in
-      let P = push-stack K (map code (partSide inputs (st .next))) (18944 + st .top) (omega (arith, C .top)) (omega (arith, C .top, part-length inputs (st .next))) (part-low inputs (st .next) r₃) in
-      let en = ap (λ (x : Node). x .second) (q .is) in
+      let K = push-kinds (C .holds) (node .first ∷ []) (elementsAt + st .elements) (omega (arith, C .elements)) (omega (arith, C .elements)) in
+      let P = push-stack K (map code (partSide inputs (st .next))) (stackAt + st .top) (omega (arith, C .top)) (omega (arith, C .top, part-length inputs (st .next))) (part-low inputs (st .next) r₃) in
+      let en = ap (λ (x : Node). x .second) (q .node-is) in
       record {
         holds = rw (ew, ek, con-is, append-nil) P;
-        past = ap (λ (x : Node). x .next) (q .is) ∙ sym (con .bytes);
+        past = ap (λ (x : Node). x .next) (q .node-is) ∙ sym (con .bytes);
         named = subst (λ (x : ℕ). x < length (C .table)) (sym en) (con .named);
         type = subst (λ (x : ℕ). tree (C .table) x ≡ C .type) (sym en) (con .is-type);
-        len = ap (λ (x : ℕ). x + 1) ek ∙ sym (part-length inputs (st .next)) ∙ length-map (partSide inputs (st .next)) code ∙ ap (λ (m : Made). length (m .side)) (sym con-is);
-        next = ap (λ (x : ℕ). st .next + x + 1) ek ∙ ap (λ (m : Made). m .next) (sym con-is);
+        len = el ∙ sym (part-length inputs (st .next)) ∙ length-map (partSide inputs (st .next)) code ∙ ap (λ (m : Made). length (m .side)) (sym con-is);
+        next = omega (arith, el, ap (λ (m : Made). m .next) con-is);
         elements = omega (arith, ap (λ (m : Made). length (m .elements)) con-is);
         wires = omega (arith, ap (λ (m : Made). length (m .wires)) con-is);
       }

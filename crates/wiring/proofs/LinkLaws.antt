@@ -12,23 +12,23 @@ use lib.Seq.{drop-cons, getD-set-other}
 use Rattle.laws.proofs.Regions.{drop-past}
 use Rattle.laws.proofs.Tests.{by-eqb}
 use Rattle.calculus.specs.Net.{Terminal, inp, out, number}
-use Rattle.memory.specs.Map.{code, terminalOf}
+use Rattle.memory.specs.Map.{targetsAt, elementsAt, code, terminalOf}
 use Rattle.wiring.specs.Links.{wired, between, linked, links, Apart}
 
-wired-high : (w : List ℕ) (k o i j : ℕ) → i < 8192 → k < 5632 → 13824 ≤ j → getD (wired w k o i) j 0 ≡ getD w j 0
-wired-high w k o i j hi hk hj = getD-set-other (set w i o) (8192 + k) j i 0 (omega arith) ∙ getD-set-other w i j o 0 (omega arith)
+wired-high : (w : List ℕ) (k o i j : ℕ) → i < 8192 → k < 5632 → elementsAt ≤ j → getD (wired w k o i) j 0 ≡ getD w j 0
+wired-high w k o i j hi hk hj = getD-set-other (set w i o) (targetsAt + k) j i 0 (omega arith) ∙ getD-set-other w i j o 0 (omega arith)
 
 -- the terminal of a low code is below 8,192
 pub low-number : (c : ℕ) → c < 16384 → number (terminalOf c) < 8192
 low-number c h = by-eqb (λ b. number (cond b (inp (c / 2)) (out (c / 2))) < 8192) (c % 2) 0 (λ e. omega arith) (λ e. omega arith)
 
-between-high : (a f : Terminal) (w : List ℕ) (k j : ℕ) → number a < 8192 → number f < 8192 → k < 5632 → 13824 ≤ j → getD (between w k a f) j 0 ≡ getD w j 0
+between-high : (a f : Terminal) (w : List ℕ) (k j : ℕ) → number a < 8192 → number f < 8192 → k < 5632 → elementsAt ≤ j → getD (between w k a f) j 0 ≡ getD w j 0
 between-high (out o) (inp i) w k j ha hf hk hj = wired-high w k o i j hf hk hj
 between-high (inp i) (out o) w k j ha hf hk hj = wired-high w k o i j ha hk hj
 between-high (out o) (out p) w k j ha hf hk hj = refl
 between-high (inp i) (inp p) w k j ha hf hk hj = refl
 
-pub linked-high : (w : List ℕ) (k a f j : ℕ) → a < 16384 → f < 16384 → k < 5632 → 13824 ≤ j → getD (linked w k a f) j 0 ≡ getD w j 0
+pub linked-high : (w : List ℕ) (k a f j : ℕ) → a < 16384 → f < 16384 → k < 5632 → elementsAt ≤ j → getD (linked w k a f) j 0 ≡ getD w j 0
 unfolding linked
 linked-high w k a f j ha hf hk hj = between-high (terminalOf a) (terminalOf f) w k j (low-number a ha) (low-number f hf) hk hj
 
@@ -46,7 +46,7 @@ unfolding linked
 linked-codes w k a f = rw (terminal-back a, terminal-back f)
 
 -- both interfaces hold low codes, where they stand as they were
-module _ {w : List ℕ} {a f n k : ℕ} (p : Apart w a f n k) (w₁ : List ℕ) (same : (j : ℕ) → 13824 ≤ j → getD w₁ j 0 ≡ getD w j 0) (i : ℕ) (h : i < n) where
+module _ {w : List ℕ} {a f n k : ℕ} (p : Apart w a f n k) (w₁ : List ℕ) (same : (j : ℕ) → elementsAt ≤ j → getD w₁ j 0 ≡ getD w j 0) (i : ℕ) (h : i < n) where
   pub low-argument : getD w₁ (a + i) 0 < 16384
   low-argument = rw (same (a + i) (omega (arith, p .high-a))) (p .low-a i h)
 

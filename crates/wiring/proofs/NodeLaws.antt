@@ -16,30 +16,32 @@ use Rattle.records.specs.Heads.{nodeOf}
 use Rattle.records.specs.Rules.{isConstant}
 use Rattle.records.specs.Forms.{recIn}
 use Rattle.sheet_theorems.proofs.Standing.{fun-body, lfun-body, fix-body, app-function, app-argument, lapp-function, lapp-argument, pair-first, pair-second, proj-pair, proj-body, name-first, name-body}
-use Rattle.circuit_theorems.proofs.Drivers.{Fits, Env, env-many, env-once, env-away, split-env, binder-fits, halves, term-driven}
-use Rattle.wiring.specs.Sides.{sidesOf, Knows}
+use Rattle.circuit_theorems.proofs.Drivers.{split-env, binder-fits, halves, term-driven}
+use Rattle.circuit_theorems.specs.Scope.{Suits, Env, env-many, env-once, env-away}
+use Rattle.records.specs.TypeNumbers.{leftNo, rightNo}
+use Rattle.wiring.specs.Sides.{Knows}
 use Rattle.wiring.specs.Nodes.{funOf, Binding, Twofold, Variable, Constant}
 
 -- ---- the sides of a type, by its record
 
-pub record Sided (Θ : Table) (t l r : ℕ) : Type 0 where
+pub record SidesAt (Θ : Table) (t l r : ℕ) : Type 0 where
   pub left-below : l < t
   pub right-below : r < t
   pub left : leftOf (tree Θ t) ≡ tree Θ l
   pub right : rightOf (tree Θ t) ≡ tree Θ r
 
-sided-of : (Θ : Table) (t : ℕ) (q : TyRec) → Agrees Θ q (tree Θ t) → Below t q → (tree Θ t ≡ bit → ⊥) → Sided Θ t (sidesOf q .left) (sidesOf q .right)
+sided-of : (Θ : Table) (t : ℕ) (q : TyRec) → Agrees Θ q (tree Θ t) → Below t q → (tree Θ t ≡ bit → ⊥) → SidesAt Θ t (leftNo q) (rightNo q)
 sided-of Θ t rec01 a b f = absurd (f a)
 sided-of Θ t (rec02 l r) a b f = record { left-below = b .0; right-below = b .1; left = ap leftOf (a .0); right = ap rightOf (a .0) }
 sided-of Θ t (rec03 l r) a b f = record { left-below = b .0; right-below = b .1; left = ap leftOf (a .0); right = ap rightOf (a .0) }
 sided-of Θ t (rec04 l r) a b f = record { left-below = b .0; right-below = b .1; left = ap leftOf (a .0); right = ap rightOf (a .0) }
 
-pub sided-at : {s sizes : List ℕ} {Θ : Table} → Knows s sizes Θ → (t : ℕ) → t < length Θ → (tree Θ t ≡ bit → ⊥) → Sided Θ t (sidesOf (recIn s t) .left) (sidesOf (recIn s t) .right)
+pub sided-at : {s sizes : List ℕ} {Θ : Table} → Knows s sizes Θ → (t : ℕ) → t < length Θ → (tree Θ t ≡ bit → ⊥) → SidesAt Θ t (leftNo (recIn s t)) (rightNo (recIn s t))
 sided-at {Θ = Θ} K t h f = rw (K .records t h) (sided-of Θ t (recAt Θ t) (K .ok .agrees t) (K .ok .earlier t h) f)
 
 -- ---- binders' interfaces and contexts
 
-bound-fits : (τ α : Ty) (n : ℕ) → α ≡ τ → Fits τ (binder α n)
+bound-fits : (τ α : Ty) (n : ℕ) → α ≡ τ → Suits τ (binder α n)
 bound-fits τ α n e = rw e (binder-fits τ n)
 
 not-arrow : {τ θ ρ : Ty} → τ ≡ arrow θ ρ → τ ≡ bit → ⊥
@@ -65,7 +67,7 @@ module _ {s sizes : List ℕ} {E : Edition} {Θ : Table} (K : Knows s sizes Θ) 
   binding (LVar x) st rg v h = absurd (omega arith)
   binding (→I {t = t} {e = e} {θ = θ} {τ = τ} eτ sh d) st rg v h =
       let S = sided-at K t (rg .0) (not-arrow eτ) in
-      let b = sidesOf (recIn s t) .left in
+      let b = leftNo (recIn s t) in
       let eb : tree Θ b ≡ θ = sym (S .left) ∙ ap leftOf eτ in
       record {
         body = e;
@@ -82,11 +84,11 @@ module _ {s sizes : List ℕ} {E : Edition} {Θ : Table} (K : Knows s sizes Θ) 
         number = refl;
         first = rg .0;
         is-type = eτ;
-        is = inr (refl, ap (λ (ρ : Ty). funOf (leftOf (tree Θ t)) ρ n (make Θ e (binder (leftOf (tree Θ t)) n ∷ env) (n + 2 * size (leftOf (tree Θ t))))) eτ ∙ ap (λ (α : Ty). funOf α (arrow θ τ) n (make Θ e (binder α n ∷ env) (n + 2 * size α))) (S .left));
+        makes = inr (refl, ap (λ (ρ : Ty). funOf (leftOf (tree Θ t)) ρ n (make Θ e (binder (leftOf (tree Θ t)) n ∷ env) (n + 2 * size (leftOf (tree Θ t))))) eτ ∙ ap (λ (α : Ty). funOf α (arrow θ τ) n (make Θ e (binder α n ∷ env) (n + 2 * size α))) (S .left));
       }
   binding (⊸I {t = t} {e = e} {κ = κ} {τ = τ} eτ ar d) st rg v h =
       let S = sided-at K t (rg .0) (not-lolli eτ) in
-      let b = sidesOf (recIn s t) .left in
+      let b = leftNo (recIn s t) in
       let eb : tree Θ b ≡ κ = sym (S .left) ∙ ap leftOf eτ in
       record {
         body = e;
@@ -103,7 +105,7 @@ module _ {s sizes : List ℕ} {E : Edition} {Θ : Table} (K : Knows s sizes Θ) 
         number = refl;
         first = rg .0;
         is-type = eτ;
-        is = inr (refl, ap (λ (ρ : Ty). funOf (leftOf (tree Θ t)) ρ n (make Θ e (binder (leftOf (tree Θ t)) n ∷ env) (n + 2 * size (leftOf (tree Θ t))))) eτ ∙ ap (λ (α : Ty). funOf α (lolli κ τ) n (make Θ e (binder α n ∷ env) (n + 2 * size α))) (S .left));
+        makes = inr (refl, ap (λ (ρ : Ty). funOf (leftOf (tree Θ t)) ρ n (make Θ e (binder (leftOf (tree Θ t)) n ∷ env) (n + 2 * size (leftOf (tree Θ t))))) eτ ∙ ap (λ (α : Ty). funOf α (lolli κ τ) n (make Θ e (binder α n ∷ env) (n + 2 * size α))) (S .left));
       }
   binding (Fix {t = t} {e = e} {θ = θ} eτ sh d) st rg v h = record {
     body = e;
@@ -120,7 +122,7 @@ module _ {s sizes : List ℕ} {E : Edition} {Θ : Table} (K : Knows s sizes Θ) 
     number = refl;
     first = rg .0;
     is-type = eτ;
-    is = inl (refl, sym eτ, refl);
+    makes = inl (refl, sym eτ, refl);
   }
   binding (→E z sh d c) st rg v h = absurd (omega arith)
   binding (⊸E z ar d c) st rg v h = absurd (omega arith)
@@ -159,7 +161,7 @@ module _ {s sizes : List ℕ} {E : Edition} {Θ : Table} (K : Knows s sizes Θ) 
         env₂ = env;
         typed₂ = c;
         fits₂ = q;
-        sort = inl (record { not-pair = refl; not-proj = refl; not-naming = refl; not-body = refl; same = refl; arrow = not-arrow refl; left = refl; right = refl; turned = refl; is = refl });
+        sort = inl (record { not-pair = refl; not-proj = refl; not-naming = refl; not-body = refl; same = refl; arrow = not-arrow refl; left = refl; right = refl; turned = refl; makes = refl });
       }
   twofold (⊸E {f = f} {a = a} {κ = κ} {τ = τ} z ar d c) st rg v h =
       let (p, q) = split-env z v in
@@ -182,7 +184,7 @@ module _ {s sizes : List ℕ} {E : Edition} {Θ : Table} (K : Knows s sizes Θ) 
         env₂ = env;
         typed₂ = c;
         fits₂ = q;
-        sort = inl (record { not-pair = refl; not-proj = refl; not-naming = refl; not-body = refl; same = refl; arrow = not-lolli refl; left = refl; right = refl; turned = refl; is = refl });
+        sort = inl (record { not-pair = refl; not-proj = refl; not-naming = refl; not-body = refl; same = refl; arrow = not-lolli refl; left = refl; right = refl; turned = refl; makes = refl });
       }
   twofold (×I {t = t} {a = a} {b = b} {θ₁ = θ₁} {θ₂ = θ₂} z eτ s₁ s₂ d c) st rg v h =
       let (p, q) = split-env z v in
@@ -205,7 +207,7 @@ module _ {s sizes : List ℕ} {E : Edition} {Θ : Table} (K : Knows s sizes Θ) 
         env₂ = env;
         typed₂ = c;
         fits₂ = q;
-        sort = inr (inl (record { pair = refl; not-proj = refl; not-naming = refl; not-body = refl; same = refl; first = rg .0; is-type = eτ; is = ap (λ (ρ : Ty). madePair ρ (make Θ a env n) (make Θ b env (make Θ a env n .next))) eτ }));
+        sort = inr (inl (record { pair = refl; not-proj = refl; not-naming = refl; not-body = refl; same = refl; first = rg .0; is-type = eτ; makes = ap (λ (ρ : Ty). madePair ρ (make Θ a env n) (make Θ b env (make Θ a env n .next))) eτ }));
       }
   twofold (×E {a = a} {e = e} {θ₁ = θ₁} {θ₂ = θ₂} {τ = τ} z s₁ s₂ d c) st rg v h =
       let (p, q) = split-env z v in
@@ -231,7 +233,7 @@ module _ {s sizes : List ℕ} {E : Edition} {Θ : Table} (K : Knows s sizes Θ) 
         env₂ = secondHalf x ∷ firstHalf x ∷ env;
         typed₂ = c;
         fits₂ = env-many s₂ h₂ (env-many s₁ h₁ q);
-        sort = inr (inr (record { body = refl; same = refl; is = refl; bound = inl (record { proj = refl; halves = refl; product = not-prod refl; sum = refl }) }));
+        sort = inr (inr (record { body = refl; same = refl; makes = refl; bound = inl (record { proj = refl; halves = refl; product = not-prod refl; sum = refl }) }));
       }
   twofold (×E′ {a = a} {e = e} {θ = θ} {τ = τ} i z sh d c) st rg v h =
       let (p, q) = split-env z v in
@@ -256,7 +258,7 @@ module _ {s sizes : List ℕ} {E : Edition} {Θ : Table} (K : Knows s sizes Θ) 
         env₂ = wholeOf x ∷ env;
         typed₂ = c;
         fits₂ = env-many sh (record { type = D .type; dirs = D .dirs }) q;
-        sort = inr (inr (record { body = refl; same = refl; is = refl; bound = inr (record { not-proj = refl; naming = refl; whole = refl }) }));
+        sort = inr (inr (record { body = refl; same = refl; makes = refl; bound = inr (record { not-proj = refl; naming = refl; whole = refl }) }));
       }
 
 -- ---- variables are bound
@@ -275,8 +277,8 @@ linear-bound (is-away x) (env-away v) = omega (arith, linear-bound x v)
 
 module _ {E : Edition} {Θ : Table} (s : List ℕ) (at n : ℕ) (env : List Bound) where
   pub variable : {Γ : Ctx} {e : Term} {τ : Ty} → Typed E Θ Γ e τ → Env Γ env → nodeOf e at .subterms ≡ 0 → (isConstant (nodeOf e at .rule) ≡ false) → Variable E Θ s at n env e τ
-  variable (Var x) v h f = record { bound = shared-bound x v; is = refl; bytes = omega arith; shallow = refl }
-  variable (LVar x) v h f = record { bound = linear-bound x v; is = refl; bytes = omega arith; shallow = refl }
+  variable (Var x) v h f = record { bound = shared-bound x v; makes = refl; bytes = omega arith; shallow = refl }
+  variable (LVar x) v h f = record { bound = linear-bound x v; makes = refl; bytes = omega arith; shallow = refl }
   variable (→I eτ sh d) v h f = absurd (omega arith)
   variable (⊸I eτ ar d) v h f = absurd (omega arith)
   variable (Fix eτ sh d) v h f = absurd (omega arith)
@@ -298,4 +300,4 @@ module _ {E : Edition} {Θ : Table} (s : List ℕ) (at n : ℕ) (env : List Boun
   constant (×I z eτ s₁ s₂ d c) rg f = absurd (true≢false (sym f))
   constant (×E z s₁ s₂ d c) rg f = absurd (true≢false (sym f))
   constant (×E′ i z sh d c) rg f = absurd (true≢false (sym f))
-  constant (Con p e z) rg f = record { known = p; named = rg; is-type = e; is = refl; bytes = omega arith; shallow = refl }
+  constant (Con p e z) rg f = record { known = p; named = rg; is-type = e; makes = refl; bytes = omega arith; shallow = refl }

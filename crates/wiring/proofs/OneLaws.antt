@@ -14,16 +14,18 @@ use Rattle.calculus.specs.Net.{turns, points, inSide, binder, Made, make, madeF
 use Rattle.records.specs.Heads.{nodeOf}
 use Rattle.records.specs.Rules.{isFixedPoint}
 use Rattle.records.specs.declared.Node.{Node}
-use Rattle.memory.specs.Map.{code, kindOf}
+use Rattle.memory.specs.Map.{elementsAt, stackAt, bindersAt, code, kindOf}
 use Rattle.circuit_theorems.specs.Drive.{driveAll}
 use Rattle.circuit_theorems.proofs.Bounds.{next-is, made-side, made-type, join-length}
 use Rattle.circuit_theorems.proofs.Drive.{drive-append}
-use Rattle.circuit_theorems.proofs.Drivers.{turns-size, dirs, dirs-in, term-driven, Env}
+use Rattle.circuit_theorems.proofs.Drivers.{turns-size, dirs-in, term-driven}
+use Rattle.circuit_theorems.specs.Scope.{dirs, Env}
+use Rattle.records.specs.TypeNumbers.{boundIn}
 use Rattle.wiring.specs.declared.walk.State.{State}
 use Rattle.wiring.specs.declared.walk.Built.{Built}
-use Rattle.wiring.specs.Sides.{Named, face}
+use Rattle.wiring.specs.Sides.{KnownType, face}
 use Rattle.wiring.specs.Store.{Store, Holds, atStack, target, moreWires, after}
-use Rattle.wiring.specs.Asks.{BoundAt, Binds, Asks, madeOf, Leaves, Here, boundIn, opened, inner, Opened, looped, closedIn, closed, Closable}
+use Rattle.wiring.specs.Asks.{BoundAt, Binds, Asks, madeOf, Leaves, Here, opened, inner, Opened, looped, closedIn, closed, Closable}
 use Rattle.wiring.specs.Nodes.{funOf, Binding}
 use Rattle.wiring.proofs.RunLaws.{face-length}
 use Rattle.wiring.proofs.StoreLaws.{push-kinds, push-stack, push-binders, cut-binders}
@@ -83,13 +85,13 @@ module _ {s sizes w : List ℕ} {node : Node} {st : State} (q : Here s sizes w n
   n = st .next
 
   one-binding : Binding (Q .edition) Θ s (q .at) n (Q .env) (Q .term) (Q .type)
-  one-binding = binding (Q .knows) (q .at) n (Q .env) (Q .typed) (Q .stands) (Q .ranged) (Q .fits) (rw (q .is) at one)
+  one-binding = binding (Q .knows) (q .at) n (Q .env) (Q .typed) (Q .stands) (Q .ranged) (Q .fits) (rw (q .node-is) at one)
 
   abbrev t : ℕ
   t = boundIn s node
 
   bound-is : t ≡ one-binding .bound
-  bound-is = ap (boundIn s) (q .is) ∙ one-binding .number
+  bound-is = ap (boundIn s) (q .node-is) ∙ one-binding .number
 
   abbrev α : Ty
   α = tree Θ t
@@ -103,15 +105,15 @@ module _ {s sizes w : List ℕ} {node : Node} {st : State} (q : Here s sizes w n
   -- a fixed point, or a function
   one-is : ((isFixedPoint (node .rule) ≡ true) × (one-binding .type ≡ α) × (madeOf Q ≡ madeFix α n body)) ⊎ ((isFixedPoint (node .rule) ≡ false) × (madeOf Q ≡ funOf α (Q .type) n body))
   one-is =
-      let ek : isFixedPoint (node .rule) ≡ isFixedPoint (nodeOf (Q .term) (q .at) .rule) = ap (λ (x : Node). isFixedPoint (x .rule)) (q .is) in
+      let ek : isFixedPoint (node .rule) ≡ isFixedPoint (nodeOf (Q .term) (q .at) .rule) = ap (λ (x : Node). isFixedPoint (x .rule)) (q .node-is) in
       ⊎-elim (λ z. inl (ek ∙ z .0, z .1 ∙ ap (tree Θ) (sym bound-is), z .2 ∙ ap (λ (b : ℕ). madeFix (tree Θ b) n (make Θ (one-binding .body) (binder (tree Θ b) n ∷ Q .env) (n + 2 * size (tree Θ b)))) (sym bound-is)))
       (λ z. inr (ek ∙ z .0, z .1 ∙ ap (λ (b : ℕ). funOf (tree Θ b) (Q .type) n (make Θ (one-binding .body) (binder (tree Θ b) n ∷ Q .env) (n + 2 * size (tree Θ b)))) (sym bound-is)))
-      (one-binding .is)
+      (one-binding .makes)
 
   pub one-named : t < length Θ
   one-named = rw bound-is (one-binding .named)
 
-  pub one-known : Named s sizes t
+  pub one-known : KnownType s sizes t
   one-known = record { table = Θ; knows = Q .knows; named = one-named }
 
   pub one-size : getD sizes t 0 ≡ size α
@@ -137,19 +139,19 @@ module _ {s sizes w : List ℕ} {node : Node} {st : State} (q : Here s sizes w n
         omega arith,
       )
 
-  pub one-opened : (w₁ w₂ w₃ : List ℕ) → w₁ ≡ sets w (13824 + st .elements) (replicate (size α) 7) → w₂ ≡ sets w₁ (18944 + st .top) (face false bs n)
-      → w₃ ≡ sets w₂ (27392 + 2 * st .scope) (t ∷ (2 * n + 1) ∷ []) → Holds w₃ (opened (Q .store) Θ t n)
+  pub one-opened : (w₁ w₂ w₃ : List ℕ) → w₁ ≡ sets w (elementsAt + st .elements) (replicate (size α) 7) → w₂ ≡ sets w₁ (stackAt + st .top) (face false bs n)
+      → w₃ ≡ sets w₂ (bindersAt + 2 * st .scope) (t ∷ (2 * n + 1) ∷ []) → Holds w₃ (opened (Q .store) Θ t n)
   one-opened w₁ w₂ w₃ e₁ e₂ e₃ =
       let (r₁, r₂, r₃, r₄, r₅) = one-room (size α) refl in
       let fl = face-length false bs n ∙ turns-size false α in
-      let H₁ = push-kinds (Q .holds) (replicate (size α) 7) (13824 + st .elements) (omega (arith, Q .elements)) (omega (arith, Q .elements, length-replicate {A = ℕ} (size α) 7)) in
-      let H₂ = push-stack H₁ (face false bs n) (18944 + st .top) (omega (arith, Q .top)) (omega (arith, Q .top)) (face-low false bs n (omega (arith, turns-size false α))) in
-      let H₃ = push-binders H₂ (t ∷ (2 * n + 1) ∷ []) (27392 + 2 * st .scope) (omega (arith, Q .binds .count)) (omega (arith, Q .binds .count)) in
+      let H₁ = push-kinds (Q .holds) (replicate (size α) 7) (elementsAt + st .elements) (omega (arith, Q .elements)) (omega (arith, Q .elements, length-replicate {A = ℕ} (size α) 7)) in
+      let H₂ = push-stack H₁ (face false bs n) (stackAt + st .top) (omega (arith, Q .top)) (omega (arith, Q .top)) (face-low false bs n (omega (arith, turns-size false α))) in
+      let H₃ = push-binders H₂ (t ∷ (2 * n + 1) ∷ []) (bindersAt + 2 * st .scope) (omega (arith, Q .binds .count)) (omega (arith, Q .binds .count)) in
       rw (e₃, e₂, e₁) H₃
 
   -- by the number and the size that were read
   module _ (u l : ℕ) (eu : u ≡ t) (el : l ≡ getD sizes u 0) where
-    abbrev pub known-at : Named s sizes u
+    abbrev pub known-at : KnownType s sizes u
     known-at = record { table = Θ; knows = Q .knows; named = subst (λ (x : ℕ). x < length Θ) (sym eu) one-named }
 
     length-at : l ≡ size α
@@ -158,12 +160,12 @@ module _ {s sizes w : List ℕ} {node : Node} {st : State} (q : Here s sizes w n
     pub room-at : (st .elements + l ≤ 5120) × (n + 2 * l ≤ 8192) × (st .top + l ≤ 8448) × (st .scope < 128) × (l ≤ 128)
     room-at = one-room l length-at
 
-    pub opened-at : (w₁ w₂ w₃ : List ℕ) → w₁ ≡ sets w (13824 + st .elements) (replicate l 7) → w₂ ≡ sets w₁ (18944 + st .top) (face false (turns false (tree Θ u)) n)
-        → w₃ ≡ sets w₂ (27392 + 2 * st .scope) (u ∷ (2 * n + 1) ∷ []) → Opened q (inner l st) w₃
+    pub opened-at : (w₁ w₂ w₃ : List ℕ) → w₁ ≡ sets w (elementsAt + st .elements) (replicate l 7) → w₂ ≡ sets w₁ (stackAt + st .top) (face false (turns false (tree Θ u)) n)
+        → w₃ ≡ sets w₂ (bindersAt + 2 * st .scope) (u ∷ (2 * n + 1) ∷ []) → Opened q (inner l st) w₃
     opened-at w₁ w₂ w₃ e₁ e₂ e₃ = record {
       state = ap (λ (x : ℕ). inner x st) length-at;
-      holds = one-opened w₁ w₂ w₃ (e₁ ∙ ap (λ (x : ℕ). sets w (13824 + st .elements) (replicate x 7)) length-at)
-          (e₂ ∙ ap (λ (x : ℕ). sets w₁ (18944 + st .top) (face false (turns false (tree Θ x)) n)) eu) (e₃ ∙ ap (λ (x : ℕ). sets w₂ (27392 + 2 * st .scope) (x ∷ (2 * n + 1) ∷ [])) eu);
+      holds = one-opened w₁ w₂ w₃ (e₁ ∙ ap (λ (x : ℕ). sets w (elementsAt + st .elements) (replicate x 7)) length-at)
+          (e₂ ∙ ap (λ (x : ℕ). sets w₁ (stackAt + st .top) (face false (turns false (tree Θ x)) n)) eu) (e₃ ∙ ap (λ (x : ℕ). sets w₂ (bindersAt + 2 * st .scope) (x ∷ (2 * n + 1) ∷ [])) eu);
     }
 
   -- ---- the body
@@ -171,13 +173,13 @@ module _ {s sizes w : List ℕ} {node : Node} {st : State} (q : Here s sizes w n
   one-bound : (xs : List ℕ) → BoundAt Θ (Q .store .stack ++ xs) t (2 * n + 1) (binder α n)
   one-bound xs =
       let (r₁, r₂, r₃, r₄, r₅) = one-room (size α) refl in
-      record { named = one-named; type = refl; side = inl (record { first = n; is = refl; few = r₂; shown = refl }) }
+      record { named = one-named; type = refl; side = inl (record { first = n; place-is = refl; few = r₂; shown = refl }) }
 
   one-fits : Env (one-binding .context) (binder α n ∷ Q .env)
   one-fits = subst (λ (b : ℕ). Env (one-binding .context) (binder (tree Θ b) n ∷ Q .env)) (sym bound-is) (one-binding .fits)
 
   one-stands : Stands s (node .next) (one-binding .body)
-  one-stands = subst (λ (x : Node). Stands s (x .next) (one-binding .body)) (sym (q .is)) (one-binding .stands)
+  one-stands = subst (λ (x : Node). Stands s (x .next) (one-binding .body)) (sym (q .node-is)) (one-binding .stands)
 
   -- wires of the body, and all
   one-wires : length (body .wires) ≤ length (madeOf Q .wires)
@@ -273,10 +275,10 @@ module _ {s sizes w : List ℕ} {node : Node} {st : State} (q : Here s sizes w n
 
       -- where the two interfaces of a fixed point stand
       low-part : Part (after (opened (Q .store) Θ t n) body) (Q .store .stack) (map code (inSide bs n))
-      low-part = record { above = map code (body .side); is = append-assoc (Q .store .stack) (face false bs n) (map code (body .side)) ∙ ap (λ (l : List ℕ). Q .store .stack ++ (l ++ map code (body .side))) (face-in bs n) }
+      low-part = record { above = map code (body .side); stack-is = append-assoc (Q .store .stack) (face false bs n) (map code (body .side)) ∙ ap (λ (l : List ℕ). Q .store .stack ++ (l ++ map code (body .side))) (face-in bs n) }
 
       high-part : Part (after (opened (Q .store) Θ t n) body) (Q .store .stack ++ face false bs n) (map code (body .side))
-      high-part = record { above = []; is = ap (λ (l : List ℕ). (Q .store .stack ++ face false bs n) ++ l) (sym (append-nil (map code (body .side)))) }
+      high-part = record { above = []; stack-is = ap (λ (l : List ℕ). (Q .store .stack ++ face false bs n) ++ l) (sym (append-nil (map code (body .side)))) }
 
       high-at : length (Q .store .stack ++ face false bs n) ≡ st .top + size α
       high-at = omega (arith, length-append (Q .store .stack) (face false bs n), face-length false bs n, turns-size false α, Q .top)
@@ -309,24 +311,24 @@ module _ {s sizes w : List ℕ} {node : Node} {st : State} (q : Here s sizes w n
           record {
             small = (r₅, body-small .0, omega arith, omega (arith, body-counts .3, one-wires, Q .few-wires));
             apart = λ k. ⊎-elim
-                (λ z. wired-apart body-holds (body .side) (inSide bs n) high-part low-part (18944 + st .top + l) (18944 + st .top) l (b .wires) (omega (arith, high-at, el)) (omega (arith, Q .top)) (same-length (z .1)) (in-length ∙ sym el) wires-at (fix-room (z .1) (z .2)))
+                (λ z. wired-apart body-holds (body .side) (inSide bs n) high-part low-part (stackAt + st .top + l) (stackAt + st .top) l (b .wires) (omega (arith, high-at, el)) (omega (arith, Q .top)) (same-length (z .1)) (in-length ∙ sym el) wires-at (fix-room (z .1) (z .2)))
                 (λ z. absurd (true≢false (sym k ∙ z .0))) one-is;
           }
 
       -- a fixed point: the wires, and the body's interface moved down
-      loop-holds : one-binding .type ≡ α → madeOf Q ≡ madeFix α n body → Holds (looped w₂ (18944 + st .top) l (b .wires)) (after (Q .store) (madeFix α n body))
+      loop-holds : one-binding .type ≡ α → madeOf Q ≡ madeFix α n body → Holds (looped w₂ (stackAt + st .top) l (b .wires)) (after (Q .store) (madeFix α n body))
       unfolding looped high-part low-part
       loop-holds e z =
-          let W = wired-holds body-holds (body .side) (inSide bs n) high-part low-part (18944 + st .top + l) (18944 + st .top) l (b .wires) (omega (arith, high-at, el)) (omega (arith, Q .top)) (same-length e) (in-length ∙ sym el) wires-at (fix-room e z) (opposite e) in
-          let hp : Part (moreWires (after (opened (Q .store) Θ t n) body) (join (body .side) (inSide bs n))) (Q .store .stack ++ face false bs n) (map code (body .side)) = record { above = []; is = high-part .is } in
-          let lp : Part (moreWires (after (opened (Q .store) Θ t n) body) (join (body .side) (inSide bs n))) (Q .store .stack) [] = record { above = map code (inSide bs n) ++ map code (body .side); is = low-part .is } in
-          fix-holds (Q .store) Θ t n body (moved-holds W hp lp (18944 + st .top + l) (18944 + st .top) l (omega (arith, high-at, el)) (omega (arith, Q .top)) (omega arith) (length-map (body .side) code ∙ same-length e))
+          let W = wired-holds body-holds (body .side) (inSide bs n) high-part low-part (stackAt + st .top + l) (stackAt + st .top) l (b .wires) (omega (arith, high-at, el)) (omega (arith, Q .top)) (same-length e) (in-length ∙ sym el) wires-at (fix-room e z) (opposite e) in
+          let hp : Part (moreWires (after (opened (Q .store) Θ t n) body) (join (body .side) (inSide bs n))) (Q .store .stack ++ face false bs n) (map code (body .side)) = record { above = []; stack-is = high-part .stack-is } in
+          let lp : Part (moreWires (after (opened (Q .store) Θ t n) body) (join (body .side) (inSide bs n))) (Q .store .stack) [] = record { above = map code (inSide bs n) ++ map code (body .side); stack-is = low-part .stack-is } in
+          fix-holds (Q .store) Θ t n body (moved-holds W hp lp (stackAt + st .top + l) (stackAt + st .top) l (omega (arith, high-at, el)) (omega (arith, Q .top)) (omega arith) (length-map (body .side) code ∙ same-length e))
 
       one-first : (node .first < length Θ) × (tree Θ (node .first) ≡ Q .type)
-      one-first = subst (λ (x : Node). (x .first < length Θ) × (tree Θ (x .first) ≡ Q .type)) (sym (q .is)) (one-binding .first, one-binding .is-type)
+      one-first = subst (λ (x : Node). (x .first < length Θ) × (tree Θ (x .first) ≡ Q .type)) (sym (q .node-is)) (one-binding .first, one-binding .is-type)
 
       one-past : b .past ≡ q .at + length (termBytes (Q .term))
-      one-past = body-counts .0 ∙ ap (λ (x : Node). x .next + length (termBytes (one-binding .body))) (q .is) ∙ sym (one-binding .bytes)
+      one-past = body-counts .0 ∙ ap (λ (x : Node). x .next + length (termBytes (one-binding .body))) (q .node-is) ∙ sym (one-binding .bytes)
 
       pub close-leaves : Leaves Q (closed node (r .top - st .top) b) (closedIn w₂ node (st .top) (r .top - st .top) b)
       unfolding closed closedIn
@@ -336,8 +338,8 @@ module _ {s sizes w : List ℕ} {node : Node} {st : State} (q : Here s sizes w n
           fixed z =
               let k = z .0 in
               record {
-                holds = subst (λ (m : Made). Holds (cond (isFixedPoint (node .rule)) (looped w₂ (18944 + st .top) l (b .wires)) w₂) (after (Q .store) m)) (sym (z .2))
-                    (subst (λ (c : Bool). Holds (cond c (looped w₂ (18944 + st .top) l (b .wires)) w₂) (after (Q .store) (madeFix α n body))) (sym k) (loop-holds (z .1) (z .2)));
+                holds = subst (λ (m : Made). Holds (cond (isFixedPoint (node .rule)) (looped w₂ (stackAt + st .top) l (b .wires)) w₂) (after (Q .store) m)) (sym (z .2))
+                    (subst (λ (c : Bool). Holds (cond c (looped w₂ (stackAt + st .top) l (b .wires)) w₂) (after (Q .store) (madeFix α n body))) (sym k) (loop-holds (z .1) (z .2)));
                 past = one-past;
                 named = one-first .0;
                 type = one-first .1;
@@ -351,8 +353,8 @@ module _ {s sizes w : List ℕ} {node : Node} {st : State} (q : Here s sizes w n
           function z =
               let k = z .0 in
               record {
-                holds = subst (λ (m : Made). Holds (cond (isFixedPoint (node .rule)) (looped w₂ (18944 + st .top) l (b .wires)) w₂) (after (Q .store) m)) (sym (z .1))
-                    (subst (λ (c : Bool). Holds (cond c (looped w₂ (18944 + st .top) l (b .wires)) w₂) (after (Q .store) (funOf α (Q .type) n body))) (sym k) (fun-holds (Q .store) Θ t n (Q .type) body body-holds));
+                holds = subst (λ (m : Made). Holds (cond (isFixedPoint (node .rule)) (looped w₂ (stackAt + st .top) l (b .wires)) w₂) (after (Q .store) m)) (sym (z .1))
+                    (subst (λ (c : Bool). Holds (cond c (looped w₂ (stackAt + st .top) l (b .wires)) w₂) (after (Q .store) (funOf α (Q .type) n body))) (sym k) (fun-holds (Q .store) Θ t n (Q .type) body body-holds));
                 past = one-past;
                 named = one-first .0;
                 type = one-first .1;

@@ -11,10 +11,10 @@ use lib.Seq.{sets, length-sets, getD-set-same, getD-set-other, getD-append-add, 
 use Rattle.laws.proofs.Regions.{sets-before, sets-outside, sets-drop, region-length, region-at}
 use Rattle.calculus.specs.Net.{inp, out, Interface, Wire, join}
 use Rattle.calculus.specs.Record.{All}
-use Rattle.memory.specs.Map.{region, code}
+use Rattle.memory.specs.Map.{targetsAt, elementsAt, stackAt, bindersAt, memorySize, region, code}
 use Rattle.circuit_theorems.specs.Drive.{driveAll}
 use Rattle.circuit_theorems.proofs.Lists.{all-append, all-left}
-use Rattle.circuit_theorems.proofs.Drivers.{dirs}
+use Rattle.circuit_theorems.specs.Scope.{dirs}
 use Rattle.wiring.specs.Links.{wired, linked, links}
 use Rattle.wiring.specs.Store.{Store, Lies, Low, Holds, moreKinds, atStack, atBinders, target, moreWires}
 use Rattle.wiring.proofs.LinkLaws.{linked-codes}
@@ -83,7 +83,7 @@ lies-region {w} {from} {room} xs ys zs L g a ea =
 -- ---- the whole
 
 module _ {w : List ℕ} {m : Store} (H : Holds w m) where
-  pub push-kinds : (vs : List ℕ) (i : ℕ) → i ≡ 13824 + length (m .kinds) → length (m .kinds) + length vs ≤ 5120 → Holds (sets w i vs) (moreKinds m vs)
+  pub push-kinds : (vs : List ℕ) (i : ℕ) → i ≡ elementsAt + length (m .kinds) → length (m .kinds) + length vs ≤ 5120 → Holds (sets w i vs) (moreKinds m vs)
   push-kinds vs i e h =
       let z = length-sets w i vs in
       record {
@@ -95,10 +95,10 @@ module _ {w : List ℕ} {m : Store} (H : Holds w m) where
         stack = lies-above (H .stack) vs i (omega arith);
         low = H .low;
         binders = lies-above (H .binders) vs i (omega arith);
-        rest = sets-drop vs w i 32768 (omega arith) ∙ H .rest;
+        rest = sets-drop vs w i memorySize (omega arith) ∙ H .rest;
       }
 
-  pub push-stack : (vs : List ℕ) (i : ℕ) → i ≡ 18944 + length (m .stack) → length (m .stack) + length vs ≤ 8448 → All Low vs → Holds (sets w i vs) (atStack m (m .stack ++ vs))
+  pub push-stack : (vs : List ℕ) (i : ℕ) → i ≡ stackAt + length (m .stack) → length (m .stack) + length vs ≤ 8448 → All Low vs → Holds (sets w i vs) (atStack m (m .stack ++ vs))
   push-stack vs i e h lo =
       let z = length-sets w i vs in
       record {
@@ -110,10 +110,10 @@ module _ {w : List ℕ} {m : Store} (H : Holds w m) where
         stack = lies-push (H .stack) vs i e h (omega (arith, H .size));
         low = all-append Low (m .stack) vs (H .low) lo;
         binders = lies-above (H .binders) vs i (omega arith);
-        rest = sets-drop vs w i 32768 (omega arith) ∙ H .rest;
+        rest = sets-drop vs w i memorySize (omega arith) ∙ H .rest;
       }
 
-  pub push-binders : (vs : List ℕ) (i : ℕ) → i ≡ 27392 + length (m .binders) → length (m .binders) + length vs ≤ 256 → Holds (sets w i vs) (atBinders m (m .binders ++ vs))
+  pub push-binders : (vs : List ℕ) (i : ℕ) → i ≡ bindersAt + length (m .binders) → length (m .binders) + length vs ≤ 256 → Holds (sets w i vs) (atBinders m (m .binders ++ vs))
   push-binders vs i e h =
       let z = length-sets w i vs in
       record {
@@ -125,7 +125,7 @@ module _ {w : List ℕ} {m : Store} (H : Holds w m) where
         stack = lies-under (H .stack) vs i (omega arith);
         low = H .low;
         binders = lies-push (H .binders) vs i e h (omega (arith, H .size));
-        rest = sets-drop vs w i 32768 (omega arith) ∙ H .rest;
+        rest = sets-drop vs w i memorySize (omega arith) ∙ H .rest;
       }
 
   pub cut-stack : (xs ys : List ℕ) → m .stack ≡ xs ++ ys → Holds w (atStack m xs)
@@ -160,17 +160,17 @@ module _ {w : List ℕ} {m : Store} (H : Holds w m) where
       let z₀ : 0 + i ≡ i = omega arith in
       let D : Lies (set w i o) 0 8192 (set (m .drivers) i o) = rw z₀ at (lies-set (H .drivers) i o (omega (arith, H .all)) (omega (arith, H .size))) in
       let T₁ = lies-above (H .targets) (o ∷ []) i (omega arith) in
-      let e₂ : 8192 + k ≡ 8192 + length (m .targets) = omega arith in
+      let e₂ : targetsAt + k ≡ targetsAt + length (m .targets) = omega arith in
       record {
         size = rw (length-set, length-set) (H .size);
-        drivers = lies-under D (i ∷ []) (8192 + k) (omega arith);
+        drivers = lies-under D (i ∷ []) (targetsAt + k) (omega arith);
         all = rw length-set (H .all);
-        targets = lies-push T₁ (i ∷ []) (8192 + k) e₂ (omega arith) (omega (arith, H .size));
-        kinds = lies-above (lies-above (H .kinds) (o ∷ []) i (omega arith)) (i ∷ []) (8192 + k) (omega arith);
-        stack = lies-above (lies-above (H .stack) (o ∷ []) i (omega arith)) (i ∷ []) (8192 + k) (omega arith);
+        targets = lies-push T₁ (i ∷ []) (targetsAt + k) e₂ (omega arith) (omega (arith, H .size));
+        kinds = lies-above (lies-above (H .kinds) (o ∷ []) i (omega arith)) (i ∷ []) (targetsAt + k) (omega arith);
+        stack = lies-above (lies-above (H .stack) (o ∷ []) i (omega arith)) (i ∷ []) (targetsAt + k) (omega arith);
         low = H .low;
-        binders = lies-above (lies-above (H .binders) (o ∷ []) i (omega arith)) (i ∷ []) (8192 + k) (omega arith);
-        rest = drop-set-lt 32768 (set w i o) (8192 + k) i (omega arith) ∙ drop-set-lt 32768 w i o (omega arith) ∙ H .rest;
+        binders = lies-above (lies-above (H .binders) (o ∷ []) i (omega arith)) (i ∷ []) (targetsAt + k) (omega arith);
+        rest = drop-set-lt memorySize (set w i o) (targetsAt + k) i (omega arith) ∙ drop-set-lt memorySize w i o (omega arith) ∙ H .rest;
       }
 
 -- ---- the wires between two interfaces

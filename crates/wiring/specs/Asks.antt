@@ -15,14 +15,15 @@ use Rattle.calculus.specs.Rules.{Ctx, Typed}
 use Rattle.calculus.specs.Net.{turns, Interface, outSide, Bound, unbound, Made, make}
 use Rattle.records.specs.Heads.{nodeOf}
 use Rattle.records.specs.Forms.{recIn}
+use Rattle.records.specs.TypeNumbers.{leftNo, rightNo, boundIn}
 use Rattle.records.specs.declared.Node.{Node}
 use Rattle.records.specs.declared.Rule.{Rule}
 use Rattle.records.specs.Rules.{isPair, isProjection, isFixedPoint, isNaming}
-use Rattle.memory.specs.Map.{region, code}
-use Rattle.circuit_theorems.proofs.Drivers.{Env}
+use Rattle.memory.specs.Map.{stackAt, bindersAt, memorySize, region, code}
+use Rattle.circuit_theorems.specs.Scope.{Env}
 use Rattle.wiring.specs.declared.walk.State.{State}
 use Rattle.wiring.specs.declared.walk.Built.{Built}
-use Rattle.wiring.specs.Sides.{sidesOf, Knows, Named, face}
+use Rattle.wiring.specs.Sides.{Knows, KnownType, face}
 use Rattle.wiring.specs.Links.{links, Apart}
 use Rattle.wiring.specs.Store.{Store, Holds, after}
 
@@ -31,14 +32,14 @@ use Rattle.wiring.specs.Store.{Store, Holds, after}
 -- the points from terminal n on, as 2 n + 1
 pub record OfPoints (τ : Ty) (place : ℕ) (side : Interface) : Type 0 where
   pub first : ℕ
-  pub is : place ≡ 2 * first + 1
+  pub place-is : place ≡ 2 * first + 1
   pub few : first + 2 * size τ ≤ 8192
   pub shown : side ≡ outSide (turns false τ) first
 
 -- codes from height h of the stack on, as 2 h
 pub record OfStack (stack : List ℕ) (τ : Ty) (place : ℕ) (side : Interface) : Type 0 where
   pub height : ℕ
-  pub is : place ≡ 2 * height
+  pub place-is : place ≡ 2 * height
   pub below : height + size τ ≤ length stack
   pub shown : map code side ≡ region stack height (size τ)
 
@@ -49,13 +50,13 @@ pub record BoundAt (Θ : Table) (stack : List ℕ) (t place : ℕ) (b : Bound) :
 
 -- the codes of a binder's output interface, of n bits
 unfoldable pub shown : Table → ℕ → List ℕ → ℕ → ℕ → List ℕ
-shown Θ n w t place = cond (eqb (place % 2) 1) (face true (turns false (tree Θ t)) (place / 2)) (region w (18944 + place / 2) n)
+shown Θ n w t place = cond (eqb (place % 2) 1) (face true (turns false (tree Θ t)) (place / 2)) (region w (stackAt + place / 2) n)
 
 pub record Showable (s sizes : List ℕ) (size to t place : ℕ) : Type 0 where
-  pub known : Named s sizes t
+  pub known : KnownType s sizes t
   pub room : to + getD sizes t 0 ≤ size
   pub points : place % 2 ≡ 1 → place / 2 + 2 * getD sizes t 0 ≤ 8192
-  pub stack : (place % 2 ≡ 1 → ⊥) → 18944 + place / 2 + getD sizes t 0 ≤ to
+  pub stack : (place % 2 ≡ 1 → ⊥) → stackAt + place / 2 + getD sizes t 0 ≤ to
 
 -- binder number i counts outwards
 abbrev pub slot : ℕ → ℕ → ℕ
@@ -109,11 +110,7 @@ pub record Leaves {s sizes w : List ℕ} {at : ℕ} {st : State} (q : Asks s siz
 pub record Here (s sizes w : List ℕ) (node : Node) (st : State) : Type 0 where
   pub at : ℕ
   pub asks : Asks s sizes w at st
-  pub is : node ≡ nodeOf (asks .term) at
-
--- the type number that a function or a fixed point binds
-abbrev pub boundIn : List ℕ → Node → ℕ
-boundIn s node = cond (isFixedPoint (node .rule)) (node .first) (sidesOf (recIn s (node .first)) .left)
+  pub node-is : node ≡ nodeOf (asks .term) at
 
 -- ---- a function or a fixed point
 
@@ -143,7 +140,7 @@ looped w at l k =
     sets v at (region v (at + l) l)
 
 unfoldable pub closedIn : List ℕ → Node → ℕ → ℕ → Built → List ℕ
-closedIn w node top l r = cond (isFixedPoint (node .rule)) (looped w (18944 + top) l (r .wires)) w
+closedIn w node top l r = cond (isFixedPoint (node .rule)) (looped w (stackAt + top) l (r .wires)) w
 
 -- the same, with another type, another interface and more wires
 abbrev pub shownAs : Built → ℕ → ℕ → ℕ → Built
@@ -161,19 +158,19 @@ closed node l r = record {
 
 pub record Closable (w : List ℕ) (node : Node) (top l : ℕ) (r : Built) : Type 0 where
   pub small : (l ≤ 128) × (r .len ≤ 128) × (top ≤ 8448) × (r .wires ≤ 5632)
-  pub apart : isFixedPoint (node .rule) ≡ true → Apart w (18944 + top + l) (18944 + top) l (r .wires)
+  pub apart : isFixedPoint (node .rule) ≡ true → Apart w (stackAt + top + l) (stackAt + top) l (r .wires)
 
 -- ---- a node of two subterms
 
 -- the halves of a product that stands at height `top`, bound: the second is the nearer
 unfoldable pub halved : List ℕ → List ℕ → List ℕ → ℕ → ℕ → ℕ → List ℕ
 halved s sizes w t scope top =
-    let x = sidesOf (recIn s t) in
-    sets (sets w (27392 + 2 * scope) (x .left ∷ 2 * top ∷ [])) (27392 + 2 * (scope + 1)) (x .right ∷ 2 * (top + getD sizes (x .left) 0) ∷ [])
+    let x = recIn s t in
+    sets (sets w (bindersAt + 2 * scope) (leftNo x ∷ 2 * top ∷ [])) (bindersAt + 2 * (scope + 1)) (rightNo x ∷ 2 * (top + getD sizes (leftNo x) 0) ∷ [])
 
 -- the whole of a term of type t that stands at height `top`, bound
 abbrev pub namedIn : List ℕ → ℕ → ℕ → ℕ → List ℕ
-namedIn w t scope top = sets w (27392 + 2 * scope) (t ∷ 2 * top ∷ [])
+namedIn w t scope top = sets w (bindersAt + 2 * scope) (t ∷ 2 * top ∷ [])
 
 -- the body's interface is the result
 abbrev pub ofBody : Rule → Bool
@@ -198,7 +195,7 @@ middle node st f = record {
 
 pub record Between (sizes w : List ℕ) (st : State) (f : Built) : Type 0 where
   pub all : length sizes ≡ 256
-  pub memory : 32768 ≤ length w
+  pub memory : memorySize ≤ length w
   pub small : (st .top ≤ 8448) × (f .len ≤ 128) × (st .scope + 1 < 128)
 
 -- an argument's interface, of m bits, stands above the function's, of l bits: it is wired to the start of that, and the rest moved down
@@ -209,13 +206,13 @@ appliedIn w at l m k =
 
 unfoldable pub finishedIn : List ℕ → Node → ℕ → Built → Built → List ℕ
 finishedIn w node top f x =
-    cond (ofBody (node .rule)) (sets w (18944 + top) (region w (18944 + top + f .len) (x .len)))
-    (cond (isPair (node .rule)) w (appliedIn w (18944 + top) (f .len) (x .len) (x .wires)))
+    cond (ofBody (node .rule)) (sets w (stackAt + top) (region w (stackAt + top + f .len) (x .len)))
+    (cond (isPair (node .rule)) w (appliedIn w (stackAt + top) (f .len) (x .len) (x .wires)))
 
 unfoldable pub finished : List ℕ → Node → Built → Built → Built
 finished s node f x = record {
   past = x .past;
-  ty = cond (ofBody (node .rule)) (x .ty) (cond (isPair (node .rule)) (node .first) (sidesOf (recIn s (f .ty)) .right));
+  ty = cond (ofBody (node .rule)) (x .ty) (cond (isPair (node .rule)) (node .first) (rightNo (recIn s (f .ty))));
   len = cond (ofBody (node .rule)) (x .len) (cond (isPair (node .rule)) (f .len + x .len) (f .len - x .len));
   next = x .next;
   elements = x .elements;
@@ -223,7 +220,7 @@ finished s node f x = record {
 }
 
 pub record Finishable (w : List ℕ) (node : Node) (top : ℕ) (f x : Built) : Type 0 where
-  pub memory : 32768 ≤ length w
+  pub memory : memorySize ≤ length w
   pub small : (f .len ≤ 128) × (x .len ≤ 128) × (x .wires ≤ 5632)
   pub height : top + f .len + x .len ≤ 8448
-  pub apart : (ofBody (node .rule) ≡ false) → (isPair (node .rule) ≡ false) → (x .len ≤ f .len) × Apart w (18944 + top + f .len) (18944 + top) (x .len) (x .wires)
+  pub apart : (ofBody (node .rule) ≡ false) → (isPair (node .rule) ≡ false) → (x .len ≤ f .len) × Apart w (stackAt + top + f .len) (stackAt + top) (x .len) (x .wires)

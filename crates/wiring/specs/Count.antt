@@ -13,8 +13,8 @@ use Rattle.calculus.specs.Record.{All}
 use Rattle.circuit_theorems.specs.Terminals.{terminals}
 use Rattle.records.specs.declared.Node.{Node}
 use Rattle.records.specs.Rules.{isConstant}
+use Rattle.records.specs.TypeNumbers.{boundIn}
 use Rattle.wiring.specs.Sides.{Knows}
-use Rattle.wiring.specs.Asks.{boundIn}
 
 -- the terminals that one record makes
 unfoldable pub ownIn : List ℕ → List ℕ → Node → ℕ
@@ -47,7 +47,7 @@ rowTerminals Θ [] = 0
 rowTerminals Θ (e ∷ es) = terminals Θ e + rowTerminals Θ es
 
 -- what is left to count: a row of terms stands at the offset
-pub record Row (E : Edition) (Θ : Table) (s : List ℕ) (whole : Term) (at left total : ℕ) : Type 0 where
+pub record RowLeft (E : Edition) (Θ : Table) (s : List ℕ) (whole : Term) (at left total : ℕ) : Type 0 where
   pub row : List Term
   pub rest : List ℕ
   pub here : drop at s ≡ rowBytes row ++ rest

@@ -3,11 +3,11 @@ use Prim.Native.Nat.{ℕ, suc, _+_, _≤_, _<_}
 use mathlib.Core.List.{List, [], _∷_}
 use lib.ListN.{length, getD, set}
 use Rattle.calculus.specs.Net.{Terminal, inp, out}
-use Rattle.memory.specs.Map.{terminalOf}
+use Rattle.memory.specs.Map.{targetsAt, elementsAt, memorySize, terminalOf}
 
 -- the wire number k, from output o to input i
 abbrev pub wired : List ℕ → ℕ → ℕ → ℕ → List ℕ
-wired w k o i = set (set w i o) (8192 + k) i
+wired w k o i = set (set w i o) (targetsAt + k) i
 
 -- the wire number k, between two terminals of one bit: from the output to the input
 abbrev pub between : List ℕ → ℕ → Terminal → Terminal → List ℕ
@@ -28,9 +28,9 @@ links w k (a ∷ l) (f ∷ fs) = links (linked w k a f) (suc k) l fs
 
 -- two interfaces of n codes that wires leave alone, and room for n wires
 pub record Apart (w : List ℕ) (a f n k : ℕ) : Type 0 where
-  pub size : 32768 ≤ length w
-  pub high-a : 13824 ≤ a
-  pub high-f : 13824 ≤ f
+  pub size : memorySize ≤ length w
+  pub high-a : elementsAt ≤ a
+  pub high-f : elementsAt ≤ f
   pub in-a : a + n ≤ length w
   pub in-f : f + n ≤ length w
   pub low-a : (j : ℕ) → j < n → getD w (a + j) 0 < 16384

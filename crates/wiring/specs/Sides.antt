@@ -1,20 +1,14 @@
 -- Types as the sheet's bytes and the table of sizes have them, and the codes of a binder's two interfaces. Assumes nothing.
 use Prim.Native.Nat.{ℕ, _+_, _*_, _≤_, _<_}
 use mathlib.Core.Path.{_≡_}
-use mathlib.Core.Bool.{Bool, true, false, cond, Bool·beq}
+use mathlib.Core.Bool.{Bool, cond, Bool·beq}
 use mathlib.Core.List.{List, [], _∷_}
 use lib.ListN.{length, getD}
-use Rattle.calculus.specs.Types.{size, TyRec, rec01, rec02, rec03, rec04, Table, recAt, tree}
+use Rattle.calculus.specs.Types.{size, Table, recAt, tree}
 use Rattle.sheet_theorems.specs.Laid.{TableOk}
 use Rattle.records.specs.Forms.{recIn}
-use Rattle.wiring.specs.declared.faces.Sides.{Sides}
-
--- if a type record is an arrow, and its two type numbers
-abbrev pub sidesOf : TyRec → Sides
-sidesOf rec01 = record { arrow = false; left = 0; right = 0 }
-sidesOf (rec02 a b) = record { arrow = false; left = a; right = b }
-sidesOf (rec03 a b) = record { arrow = true; left = a; right = b }
-sidesOf (rec04 a b) = record { arrow = true; left = a; right = b }
+use Rattle.records.specs.TypeNumbers.{sidedOf}
+use Rattle.records.specs.declared.Sided.{Sided}
 
 -- the bytes and the table of sizes are those of a table of types
 pub record Knows (s sizes : List ℕ) (Θ : Table) : Type 0 where
@@ -24,18 +18,18 @@ pub record Knows (s sizes : List ℕ) (Θ : Table) : Type 0 where
   pub all : length sizes ≡ 256
 
 -- .. and t names one of its types
-pub record Named (s sizes : List ℕ) (t : ℕ) : Type 0 where
+pub record KnownType (s sizes : List ℕ) (t : ℕ) : Type 0 where
   pub table : Table
   pub knows : Knows s sizes table
   pub named : t < length table
 
 -- x is the record of an arrow, and there is room for its interface: in a memory of so many numbers from `to` on, and for points from
 -- terminal n on
-pub record Arrow (s sizes : List ℕ) (x : Sides) (size to n : ℕ) : Type 0 where
+pub record Arrow (s sizes : List ℕ) (x : Sided) (size to n : ℕ) : Type 0 where
   pub type : ℕ
-  pub known : Named s sizes type
-  pub is : x ≡ sidesOf (recIn s type)
-  pub arrow : x .arrow ≡ true
+  pub known : KnownType s sizes type
+  pub sides-are : x ≡ sidedOf (recIn s type)
+  pub arrow : 2 < x .kind
   pub room : to + getD sizes type 0 ≤ size
   pub few : n + 2 * getD sizes type 0 ≤ 8192
 

@@ -5,7 +5,7 @@ use mathlib.Core.List.{List, _++_, map}
 use lib.ListN.{length, getD, drop}
 use Rattle.calculus.specs.Net.{Wire, Made}
 use Rattle.calculus.specs.Record.{All}
-use Rattle.memory.specs.Map.{kindOf, code}
+use Rattle.memory.specs.Map.{targetsAt, elementsAt, stackAt, bindersAt, memorySize, kindOf, code}
 use Rattle.circuit_theorems.specs.Drive.{driveAll}
 
 pub record Store : Type 0 where
@@ -26,15 +26,15 @@ abbrev pub Low : ℕ → Type 0
 Low c = c < 16384
 
 pub record Holds (w : List ℕ) (m : Store) : Type 0 where
-  pub size : 32768 ≤ length w
+  pub size : memorySize ≤ length w
   pub drivers : Lies w 0 8192 (m .drivers)
   pub all : length (m .drivers) ≡ 8192
-  pub targets : Lies w 8192 5632 (m .targets)
-  pub kinds : Lies w 13824 5120 (m .kinds)
-  pub stack : Lies w 18944 8448 (m .stack)
+  pub targets : Lies w targetsAt 5632 (m .targets)
+  pub kinds : Lies w elementsAt 5120 (m .kinds)
+  pub stack : Lies w stackAt 8448 (m .stack)
   pub low : All Low (m .stack)
-  pub binders : Lies w 27392 256 (m .binders)
-  pub rest : drop 32768 w ≡ m .rest
+  pub binders : Lies w bindersAt 256 (m .binders)
+  pub rest : drop memorySize w ≡ m .rest
 
 -- ---- changes
 

@@ -8,7 +8,7 @@ use Rattle.calculus.specs.Net.{Net}
 use Rattle.calculus.specs.Record.{All}
 use Rattle.calculus.specs.Read.{recordsOf}
 use Rattle.calculus.specs.Translate.{full}
-use Rattle.memory.specs.Map.{netIn, Ready}
+use Rattle.memory.specs.Map.{memorySize, netIn, Ready}
 use Rattle.calculus.specs.NetRead.{Known}
 use Rattle.records.specs.Told.{Told}
 use Rattle.wiring.specs.declared.Counts.{Counts}
@@ -26,11 +26,11 @@ pub record Accepted (s sizes w : List ℕ) (at : ℕ) : Type 0 where
   pub read : Read s sizes at nodes
   pub net : Net
   pub is : full (read .whole) ≡ good net
-  pub memory : 32768 ≤ length w
+  pub memory : memorySize ≤ length w
 
 -- the netlist m stands in the memory, and from 32,768 on nothing is changed
-pub record Stands (m : Net) (r : Counts) (w w′ : List ℕ) : Type 0 where
+pub record NetStands (m : Net) (r : Counts) (w w′ : List ℕ) : Type 0 where
   pub net : netIn w′ (r .elements) (r .wires) (r .pins) ≡ m
   pub ready : Ready w′ (r .elements) (r .wires) (r .pins)
   pub known : All Known (netIn w′ (r .elements) (r .wires) (r .pins) .elements)
-  pub later : drop 32768 w′ ≡ drop 32768 w
+  pub later : drop memorySize w′ ≡ drop memorySize w

@@ -2,7 +2,7 @@
 use netlist::In;
 use netlist::Out;
 use netlist::Terminal;
-use records::Form;
+use records::Sided;
 ghost use mathlib.Core.Path.{_≡_};
 ghost use mathlib.Core.Bool.{false};
 ghost use mathlib.Core.List.{map};
@@ -12,43 +12,8 @@ ghost use lib.Seq.{sets};
 ghost use Rattle.calculus.specs.Types.{tree};
 ghost use Rattle.calculus.specs.Terms.{partAt};
 ghost use Rattle.calculus.specs.Net.{turns, partSide};
-ghost use Rattle.records.specs.Forms.{recIn};
 ghost use Rattle.memory.specs.Map.{code};
-ghost use Rattle.wiring.specs.Sides.{sidesOf, Named, Arrow, endOf, face};
-
-// A type record: if it is an arrow, and its two type numbers.
-pub struct Sides {
-    pub arrow: bool,
-    pub left: u8,
-    pub right: u8,
-}
-
-pub fn sides_at(s: &[u8], t: u8) -> Sides
-    ensures { λ r. ⌜ r ≡ sidesOf (recIn (now (s .entry)) t) ⌝ }
-{
-    match records::type_at(s, t) {
-        Form::Bit => Sides {
-            arrow: false,
-            left: 0,
-            right: 0,
-        },
-        Form::Product(left, right) => Sides {
-            arrow: false,
-            left,
-            right,
-        },
-        Form::Arrow(left, right) => Sides {
-            arrow: true,
-            left,
-            right,
-        },
-        Form::Linear(left, right) => Sides {
-            arrow: true,
-            left,
-            right,
-        },
-    }
-}
+ghost use Rattle.wiring.specs.Sides.{KnownType, Arrow, endOf, face};
 
 pub fn size_of(sizes: &[u8], t: u8) -> usize
     requires { ⌜ length (now sizes) ≡ 256 ⌝ }
@@ -89,12 +54,12 @@ fn unturned(work: &mut [u16], to: usize, l: usize, n: usize, output: bool)
 // An interface of a binder of type t, whose points start at terminal n: the variable's output interface, or its input interface. The
 // falling number is the type's.
 pub fn interface(s: &[u8], sizes: &[u8], work: &mut [u16], to: usize, t: u8, n: usize, output: bool)
-    requires { ⌜ (Named (now s) (now sizes) t) × (to + getD (now sizes) t 0 ≤ length (now work)) × (n + 2 * getD (now sizes) t 0 ≤ 8192) ⌝ }
-    ensures { λ _. ⌜ ((q : Named (now (s .entry)) (now (sizes .entry)) t)
+    requires { ⌜ (KnownType (now s) (now sizes) t) × (to + getD (now sizes) t 0 ≤ length (now work)) × (n + 2 * getD (now sizes) t 0 ≤ 8192) ⌝ }
+    ensures { λ _. ⌜ ((q : KnownType (now (s .entry)) (now (sizes .entry)) t)
         → now (work .exit) ≡ sets (now (work .entry)) to (face output (turns false (tree (q .table) t)) n)) ⌝ }
 {
-    let x = sides_at(s, t);
-    if x.arrow {
+    let x = records::sides_of(s, t);
+    if x.kind > 2 {
         arrow(s, sizes, work, to, x, n, output);
     } else {
         unturned(work, to, size_of(sizes, t), n, output);
@@ -102,7 +67,7 @@ pub fn interface(s: &[u8], sizes: &[u8], work: &mut [u16], to: usize, t: u8, n: 
 }
 
 // The same of an arrow: it turns the bits of its left side, so that the other interface of this side stands there, before the right's.
-fn arrow(s: &[u8], sizes: &[u8], work: &mut [u16], to: usize, x: Sides, n: usize, output: bool)
+fn arrow(s: &[u8], sizes: &[u8], work: &mut [u16], to: usize, x: Sided, n: usize, output: bool)
     requires { ⌜ Arrow (now s) (now sizes) x (length (now work)) to n ⌝ }
     ensures { λ _. ⌜ ((q : Arrow (now (s .entry)) (now (sizes .entry)) x (length (now (work .entry))) to n)
         → now (work .exit) ≡ sets (now (work .entry)) to (face output (turns false (tree (q .known .table) (q .type))) n)) ⌝ }
@@ -112,11 +77,12 @@ fn arrow(s: &[u8], sizes: &[u8], work: &mut [u16], to: usize, x: Sides, n: usize
     interface(s, sizes, work, to + l, x.right, n + 2 * l, output);
 }
 
-// A part's number of inputs.
-pub fn inputs_of(part: u8) -> usize
-    ensures { λ r. ⌜ r ≡ partAt part .inputs ⌝ }
+// How many terminals a part has: its inputs and its outputs.
+pub fn terminals_of(number: u8) -> usize
+    ensures { λ r. ⌜ r ≡ partAt number .inputs + 1 ⌝ }
 {
-    netlist::inputs_of(part) as usize
+    let part = parts::part_of(number as u16);
+    part.inputs as usize + part.outputs as usize
 }
 
 // The interface of a part whose first terminal is n: k inputs, then the output.

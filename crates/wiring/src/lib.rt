@@ -11,7 +11,7 @@ ghost use mathlib.Core.List.{[]};
 ghost use lib.ListN.{length};
 ghost use Rattle.calculus.specs.Net.{make};
 ghost use Rattle.wiring.specs.Count.{ownIn};
-ghost use Rattle.wiring.specs.Whole.{Read, Accepted, Stands};
+ghost use Rattle.wiring.specs.Whole.{Read, Accepted, NetStands};
 
 mod faces;
 mod walk;
@@ -24,10 +24,10 @@ fn own_terminals(s: &[u8], sizes: &[u8], node: Node) -> usize
 {
     let rule = node.rule;
     match rule {
-        Rule::Constant => faces::inputs_of(node.first) + 1,
+        Rule::Constant => faces::terminals_of(node.first),
         _ => {
             if node.subterms == 1 {
-                return 2 * faces::size_of(sizes, walk::bound(s, node));
+                return 2 * faces::size_of(sizes, records::bound_by(s, node));
             }
             0
         }
@@ -61,7 +61,7 @@ pub struct Counts {
 // The full netlist of an accepted sheet, whose term begins at an offset, made in the working memory.
 pub fn make_net(s: &[u8], sizes: &[u8], work: &mut [u16], at: usize) -> Counts
     requires { ⌜ Accepted (now s) (now sizes) (now work) at ⌝ }
-    ensures { λ r. ⌜ ((q : Accepted (now (s .entry)) (now (sizes .entry)) (now (work .entry)) at) → Stands (q .net) r (now (work .entry)) (now (work .exit))) ⌝ }
+    ensures { λ r. ⌜ ((q : Accepted (now (s .entry)) (now (sizes .entry)) (now (work .entry)) at) → NetStands (q .net) r (now (work .entry)) (now (work .exit))) ⌝ }
 {
     wires::fill(work, DRIVERS, TERMINALS, NONE);
     let start = State {

@@ -14,9 +14,10 @@ ghost use Prim.Native.Nat.{_+_, _*_, _≤_, _<_};
 ghost use lib.ListN.{length, getD};
 ghost use lib.Seq.{sets};
 ghost use Rattle.records.specs.Rules.{isConstant};
+ghost use Rattle.memory.specs.Map.{bindersAt, memorySize};
 ghost use Rattle.wiring.specs.Links.{Apart};
-ghost use Rattle.wiring.specs.Sides.{Named};
-ghost use Rattle.wiring.specs.Asks.{Asks, Here, Leaves, Showable, shown, boundIn, Opened, looped, shownAs, closed, closedIn, Closable, halved, Between, middle, betweenIn, appliedIn, Finishable, finished, finishedIn};
+ghost use Rattle.wiring.specs.Sides.{KnownType};
+ghost use Rattle.wiring.specs.Asks.{Asks, Here, Leaves, Showable, shown, Opened, looped, shownAs, closed, closedIn, Closable, halved, Between, middle, betweenIn, appliedIn, Finishable, finished, finishedIn};
 
 // The next free terminal, the numbers of elements and wires made, the height of the stack and the number of binders in scope.
 pub struct State {
@@ -39,8 +40,8 @@ pub struct Built {
 
 // The binder number k, counted from the outermost: its type, and where its interface is.
 fn bind(work: &mut [u16], k: usize, t: u8, place: usize)
-    requires { ⌜ (32768 ≤ length (now work)) × (k < 128) × (place < 65536) ⌝ }
-    ensures { λ _. ⌜ now (work .exit) ≡ sets (now (work .entry)) (27392 + 2 * k) (t ∷ place ∷ []) ⌝ }
+    requires { ⌜ (memorySize ≤ length (now work)) × (k < 128) × (place < 65536) ⌝ }
+    ensures { λ _. ⌜ now (work .exit) ≡ sets (now (work .entry)) (bindersAt + 2 * k) (t ∷ place ∷ []) ⌝ }
 {
     work[BINDERS + 2 * k] = t as u16;
     work[BINDERS + 2 * k + 1] = place as u16;
@@ -49,7 +50,7 @@ fn bind(work: &mut [u16], k: usize, t: u8, place: usize)
 // The output interface of a binder of type t: that of points, or numbers further down on the stack.
 fn show(s: &[u8], sizes: &[u8], work: &mut [u16], to: usize, t: u8, place: usize)
     requires { ⌜ Showable (now s) (now sizes) (length (now work)) to t place ⌝ }
-    ensures { λ _. ⌜ ((q : Named (now (s .entry)) (now (sizes .entry)) t)
+    ensures { λ _. ⌜ ((q : KnownType (now (s .entry)) (now (sizes .entry)) t)
         → now (work .exit) ≡ sets (now (work .entry)) to (shown (q .table) (getD (now (sizes .entry)) t 0) (now (work .entry)) t place)) ⌝ }
 {
     let n = place / 2;
@@ -92,19 +93,21 @@ fn constant(s: &[u8], sizes: &[u8], work: &mut [u16], node: Node, st: State) -> 
 {
     let past = node.next;
     let ty = node.second;
-    let part = node.first;
+    let number = node.first;
     let next = st.next;
     let elements = st.elements;
     let wires = st.wires;
     let top = st.top;
-    let k = faces::inputs_of(part);
-    work[ELEMENTS + elements] = part as u16;
-    faces::terminals(work, STACK + top, k, next);
+    let part = parts::part_of(number as u16);
+    let inputs = part.inputs as usize;
+    let len = inputs + part.outputs as usize;
+    work[ELEMENTS + elements] = number as u16;
+    faces::terminals(work, STACK + top, inputs, next);
     Built {
         past,
         ty,
-        len: k + 1,
-        next: next + k + 1,
+        len,
+        next: next + len,
         elements: elements + 1,
         wires,
     }
@@ -121,18 +124,6 @@ fn leaf(s: &[u8], sizes: &[u8], work: &mut [u16], node: Node, st: State) -> Buil
     }
 }
 
-// The type that a function or a fixed point binds.
-pub fn bound(s: &[u8], node: Node) -> u8
-    ensures { λ r. ⌜ r ≡ boundIn (now (s .entry)) node ⌝ }
-{
-    let first = node.first;
-    let rule = node.rule;
-    match rule {
-        Rule::FixedPoint => first,
-        _ => faces::sides_at(s, first).left,
-    }
-}
-
 // Before the body of a function or a fixed point: its points, its input interface on the stack, and its binder.
 fn open(s: &[u8], sizes: &[u8], work: &mut [u16], node: Node, st: State) -> State
     requires { ⌜ (Here (now s) (now sizes) (now work) node st) × (node .subterms ≡ 1) ⌝ }
@@ -143,7 +134,7 @@ fn open(s: &[u8], sizes: &[u8], work: &mut [u16], node: Node, st: State) -> Stat
     let wires = st.wires;
     let top = st.top;
     let scope = st.scope;
-    let t = bound(s, node);
+    let t = records::bound_by(s, node);
     let l = faces::size_of(sizes, t);
     wires::fill(work, ELEMENTS + elements, l, POINT);
     faces::interface(s, sizes, work, STACK + top, t, next, false);
@@ -200,10 +191,10 @@ fn close(work: &mut [u16], node: Node, top: usize, l: usize, r: Built) -> Built
 
 // The halves of a product of type t, whose interface stands at height `top`, are bound: the second is the nearer.
 fn bind_halves(s: &[u8], sizes: &[u8], work: &mut [u16], t: u8, scope: usize, top: usize)
-    requires { ⌜ (length (now sizes) ≡ 256) × (32768 ≤ length (now work)) × (scope + 1 < 128) × (top ≤ 8448) ⌝ }
+    requires { ⌜ (length (now sizes) ≡ 256) × (memorySize ≤ length (now work)) × (scope + 1 < 128) × (top ≤ 8448) ⌝ }
     ensures { λ _. ⌜ now (work .exit) ≡ halved (now (s .entry)) (now (sizes .entry)) (now (work .entry)) t scope top ⌝ }
 {
-    let x = faces::sides_at(s, t);
+    let x = records::sides_of(s, t);
     let left = x.left;
     let right = x.right;
     let l = faces::size_of(sizes, left);
@@ -283,7 +274,7 @@ fn finish(s: &[u8], work: &mut [u16], node: Node, top: usize, f: Built, x: Built
         Rule::Pair => shown_as(x, first, l + len, wires),
         _ => {
             apply(work, STACK + top, l, len, wires);
-            shown_as(x, faces::sides_at(s, of).right, l - len, wires + len)
+            shown_as(x, records::sides_of(s, of).right, l - len, wires + len)
         }
     }
 }

@@ -8,12 +8,12 @@ ghost use mathlib.Core.Logic.{_⊎_};
 ghost use Prim.Native.Nat.{_+_, _≤_, _<_};
 ghost use lib.ListN.{length, replicate};
 ghost use lib.Seq.{sets};
-ghost use Rattle.memory.specs.Map.{region};
+ghost use Rattle.memory.specs.Map.{memorySize, region};
 ghost use Rattle.wiring.specs.Links.{wired, linked, links, Apart};
 
 // The wire number `count`: its source is the driver of its target.
 fn wire(work: &mut [u16], from: Out, to: In, count: usize)
-    requires { ⌜ (32768 ≤ length (now work)) × (to .0 < 8192) × (count < 5632) ⌝ }
+    requires { ⌜ (memorySize ≤ length (now work)) × (to .0 < 8192) × (count < 5632) ⌝ }
     ensures { λ _. ⌜ now (work .exit) ≡ wired (now (work .entry)) count (from .0) (to .0) ⌝ }
 {
     work[to.0 as usize] = from.0;
@@ -22,7 +22,7 @@ fn wire(work: &mut [u16], from: Out, to: In, count: usize)
 
 // The wire between two terminals of one bit: from the output to the input.
 fn link(work: &mut [u16], a: u16, f: u16, count: usize)
-    requires { ⌜ (32768 ≤ length (now work)) × (a < 16384) × (f < 16384) × (count < 5632) ⌝ }
+    requires { ⌜ (memorySize ≤ length (now work)) × (a < 16384) × (f < 16384) × (count < 5632) ⌝ }
     ensures { λ _. ⌜ now (work .exit) ≡ linked (now (work .entry)) count a f ⌝ }
 {
     match netlist::terminal_of(a) {

@@ -2,7 +2,7 @@
 use borrow.Author.Needs.{needs}
 use mathlib.Core.Path.{sym}
 use lib.Seq.{length-take-le}
-use Rattle.deltawobble.proofs.Written.{written-within}
+use Rattle.translation.proofs.Written.{written-within}
 use Rattle.corpus.proofs.call.Statement.{statement}
 use Rattle.corpus.proofs.call.Tie as tie
 

@@ -2,7 +2,7 @@
 use mathlib.Core.Path.{sym}
 use borrow.Author.Needs.{needs}
 use lib.Seq.{length-take-le}
-use Rattle.deltawobble.proofs.Written.{written-within}
+use Rattle.translation.proofs.Written.{written-within}
 use Rattle.listing.proofs.translated.Statement.{statement}
 use Rattle.listing.proofs.translated.Tie as tie
 

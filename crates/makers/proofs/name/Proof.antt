@@ -5,13 +5,13 @@ use mathlib.Core.Path.{_≡_, refl, _∙_}
 use lib.ListN.{length}
 use borrow.Author.Needs.{needs}
 use Rattle.makers.specs.Naming.{Nameable}
-use Rattle.makers.proofs.NameLaws.{Named, named-start, named-room, named-step, named-end}
+use Rattle.makers.proofs.NameLaws.{NamedSoFar, named-start, named-room, named-step, named-end}
 use Rattle.makers.proofs.name.Statement.{statement}
 use Rattle.makers.proofs.name.Tie as tie
 
 abbrev Inv-loop : tie.InvT-loop
 Inv-loop s sizes work₀ from nodes at₀ to₀ k₀ work at to k =
-    (k ≤ nodes) × (length work ≡ length work₀) × ((q : Nameable s sizes work₀ from nodes) → Named s sizes work₀ from nodes q work at to k)
+    (k ≤ nodes) × (length work ≡ length work₀) × ((q : Nameable s sizes work₀ from nodes) → NamedSoFar s sizes work₀ from nodes q work at to k)
 
 abbrev μ-loop : tie.MeasureT-loop
 μ-loop s sizes work₀ from nodes at₀ to₀ k₀ work at to k = nodes - k

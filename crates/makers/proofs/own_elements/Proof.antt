@@ -16,7 +16,7 @@ returns c =
     let bounded = c .before .before .before in
     let a = bounded .before .before .before .before .before .before .args in
     rw (not-constant (a .node .rule) (bounded .before .before .before .match .keys2), eq-eqb _ _ (bounded .before .if1 .taken))
-    (c .wide2 .ensures ∙ ap (λ (k : ℕ). getD (a .sizes .now) k 0) (c .before .before .wide .ensures ∙ bounded .bound .ensures))
+    (c .wide2 .ensures ∙ ap (λ (k : ℕ). getD (a .sizes .now) k 0) (c .before .before .wide .ensures ∙ bounded .bound-by .ensures))
 
 returns-2 : tie.Need-returns-2
 unfolding elementsIn

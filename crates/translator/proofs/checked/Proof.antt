@@ -28,7 +28,7 @@ returns : tie.Need-returns
 returns c =
     let k = c .before .before .before in
     let q = k .before .before .before .before in
-    λ p. untyped-makes (p .read .whole) (q .args .work .now) (q .pre .0) (p .read .told .sheet) (p .read .told .is) (p .edition) (p .read .behind) _ (sym (k .check .ensures) ∙ ap saidTyping (c .before .refusal .given .1))
+    λ p. untyped-makes (p .read .whole) (q .args .work .now) (q .pre .0) (p .read .told .sheet) (p .read .told .is) (p .edition) (p .read .behind) (q .args .plain) _ (sym (k .check .ensures) ∙ ap saidTyping (c .before .refusal .given .1))
 
 same-length : tie.Need-same-length
 same-length c = search needs

@@ -1,6 +1,14 @@
 -- `translator::counted` meets its contract: the count is the definition's, and so is the netlist that stands in the memory.
 -- Assumes nothing.
+use mathlib.Core.Path.{_≡_, sym, subst, _∙_}
+use mathlib.Core.Bool.{true≢false}
+use mathlib.Core.List.{List, []}
+use Prim.Native.Nat.{ℕ}
+use Rattle.calculus.specs.Net.{make, netOf}
+use Rattle.translator.specs.declared.Made.the-variants as made
+use Rattle.translator.specs.Made.{Makes}
 use Rattle.translator.proofs.StageLaws.{many-makes, full-few, net-makes}
+use Rattle.translator.proofs.NameLaws.{nameable, named-stands, named-nodes}
 use borrow.Author.Needs.{needs}
 use Rattle.translator.proofs.counted.Statement.{statement}
 use Rattle.translator.proofs.counted.Tie as tie
@@ -17,7 +25,7 @@ returns c =
     let q = n .before .before .before .before in
     λ t.
     rw (c .refused .ensures)
-    (many-makes (t .read .whole) (q .args .work .now) (q .pre .0) (t .read .told .sheet) (t .read .told .is) (t .found) (t .walked) (rw (n .count .ensures (t .read)) at (c .before .if1 .taken)))
+    (many-makes (t .read .whole) (q .args .work .now) (q .pre .0) (t .read .told .sheet) (t .read .told .is) (t .found) (t .walked) (q .args .plain) (rw (n .count .ensures (t .read)) at (c .before .if1 .taken)))
 
 make-net-requires : tie.Need-make-net-requires
 make-net-requires c κs =
@@ -38,15 +46,45 @@ same-length c = search needs
 
 returns-2 : tie.Need-returns-2
 returns-2 c =
-    let k = c .before .before in
+    let k = c .before .before .before in
     let x = k .before .before in
     let n = x .before in
     let q = n .before .before .before .before in
     λ t.
     let e = full-few (t .read .whole) (q .args .work .now) (q .pre .0) (t .read .told .sheet) (t .read .told .is) (t .found) (t .walked) (rw (n .count .ensures (t .read)) at (x .if1 .left)) in
-    net-makes (t .read .whole) (q .args .work .now) _ (k .make-net .result) _ (q .pre .0) e (k .make-net .ensures (record { nodes = _; read = t .read; net = _; is = e; memory = q .pre .0 }))
+    net-makes (q .args .plain) (t .read .whole) (q .args .work .now) _ (k .make-net .result) _ (q .pre .0) e (k .make-net .ensures (record { nodes = _; read = t .read; net = _; is = e; memory = q .pre .0 }))
+    (λ f. absurd (true≢false (sym (c .if2 .taken) ∙ f)))
+
+name-requires : tie.Need-name-requires
+name-requires c κs =
+    let k = c .before .before .before .before in
+    let x = k .before .before in
+    let n = x .before in
+    let q = n .before .before .before .before in
+    let t = q .pre .1 in
+    let e = full-few (t .read .whole) (q .args .work .now) (q .pre .0) (t .read .told .sheet) (t .read .told .is) (t .found) (t .walked) (rw (n .count .ensures (t .read)) at (x .if1 .left)) in
+    nameable (t .read .whole) _ e (t .read .told .sheet) (t .read .told .is) (t .read) (t .read .told .is)
+    (k .make-net .ensures (record { nodes = _; read = t .read; net = _; is = e; memory = q .pre .0 }) .ready .size)
+
+same-length-2 : tie.Need-same-length-2
+same-length-2 c = search needs
+
+returns-3 : tie.Need-returns-3
+returns-3 c =
+    let k = c .before .before .before .before .before .before .before in
+    let x = k .before .before in
+    let n = x .before in
+    let q = n .before .before .before .before in
+    λ t.
+    let a = q .args in
+    let e = full-few (t .read .whole) (a .work .now) (q .pre .0) (t .read .told .sheet) (t .read .told .is) (t .found) (t .walked) (rw (n .count .ensures (t .read)) at (x .if1 .left)) in
+    let S = k .make-net .ensures (record { nodes = _; read = t .read; net = _; is = e; memory = q .pre .0 }) in
+    let f = c .before .before .name .ensures (nameable (t .read .whole) _ e (t .read .told .sheet) (t .read .told .is) (t .read) (t .read .told .is) (S .ready .size)) in
+    subst (λ (w : List ℕ). Makes (a .plain) (made.Net (k .make-net .result)) (t .read .whole) (a .work .now) w) (sym f)
+    (net-makes (a .plain) (t .read .whole) (a .work .now) _ (k .make-net .result) _ (q .pre .0) e (named-stands (t .read .whole) _ e (t .read .told .sheet) (t .read .told .is) (k .make-net .result) (a .work .now) _ S)
+    (λ _. named-nodes (t .read .whole) _ e (t .read .told .sheet) (t .read .told .is) (k .make-net .result) (a .work .now) _ S))
 
 pub counted-spec : {M : Type 1} → statement M
 counted-spec =
     tie.close
-    (tie.spec count-requires refused-requires returns make-net-requires same-length returns-2)
+    (tie.spec count-requires refused-requires returns make-net-requires same-length returns-2 name-requires same-length-2 returns-3)

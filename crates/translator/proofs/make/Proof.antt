@@ -15,7 +15,7 @@ refused-requires c κs = search needs
 returns : tie.Need-returns
 returns c =
     let a = c .before .before .before .before .args in
-    rw (c .refused .ensures) (small-makes (a .sheet .now) (a .work .now) (c .before .if1 .taken))
+    rw (c .refused .ensures) (small-makes (a .plain) (a .sheet .now) (a .work .now) (c .before .if1 .taken))
 
 read-requires : tie.Need-read-requires
 read-requires c κs = search needs
@@ -53,7 +53,7 @@ returns-2 c =
     let r = k .before .before .before in
     let x = r .before in
     let a = x .before .before .before .args in
-    rw (c .refused2 .ensures) (unread-makes (a .sheet .now) (a .work .now) (x .if1 .left) _ _ (untold (a .sheet .now) (r .read .result) _ _ (r .read .ensures) (k .before .verdict .given .1)))
+    rw (c .refused2 .ensures) (unread-makes (a .sheet .now) (a .work .now) (x .if1 .left) (a .plain) _ _ (untold (a .sheet .now) (r .read .result) _ _ (r .read .ensures) (k .before .verdict .given .1)))
 
 same-length : tie.Need-same-length
 same-length c = search needs

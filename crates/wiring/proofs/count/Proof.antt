@@ -3,13 +3,13 @@
 use Rattle.wiring.proofs.FullLaws.{counting}
 use borrow.Author.Needs.{needs}
 use native.Mathlib.Omega.{arith}
-use Rattle.wiring.specs.Count.{Counting, Row}
+use Rattle.wiring.specs.Count.{Counting, RowLeft}
 use Rattle.wiring.proofs.CountLaws.{row-start, row-room, row-then, row-end}
 use Rattle.wiring.proofs.count.Statement.{statement}
 use Rattle.wiring.proofs.count.Tie as tie
 
 abbrev Inv-loop : tie.InvT-loop
-Inv-loop s sizes from nodes at₀ left₀ total₀ at left total = (q : Counting s sizes from nodes) → Row (q .edition) (q .table) s (q .term) at left total
+Inv-loop s sizes from nodes at₀ left₀ total₀ at left total = (q : Counting s sizes from nodes) → RowLeft (q .edition) (q .table) s (q .term) at left total
 
 abbrev μ-loop : tie.MeasureT-loop
 μ-loop s sizes from nodes at₀ left₀ total₀ at left total = left

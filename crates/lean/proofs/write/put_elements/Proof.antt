@@ -6,12 +6,12 @@ use lib.ListN.{getD}
 use Rattle.memory.specs.Map.{elementsAt}
 use Rattle.lean.specs.InMemory.{keptRow}
 use Rattle.lean.proofs.KindLaws.{first-low}
-use Rattle.lean.proofs.RowLaws.{kept-rows, Row, row-size, row-start, row-one, row-step, row-end}
+use Rattle.lean.proofs.RowLaws.{kept-rows, RowDone, row-size, row-start, row-one, row-step, row-end}
 use Rattle.lean.proofs.write.put_elements.Statement.{statement}
 use Rattle.lean.proofs.write.put_elements.Tie as tie
 
 abbrev Inv-loop : tie.InvT-loop
-Inv-loop work elements out₀ from plain at₀ n₀ i₀ out at n i = (i ≤ elements) × Row (keptRow plain work) work elements out₀ from out at n i
+Inv-loop work elements out₀ from plain at₀ n₀ i₀ out at n i = (i ≤ elements) × RowDone (keptRow plain work) work elements out₀ from out at n i
 
 abbrev μ-loop : tie.MeasureT-loop
 μ-loop work elements out₀ from plain at₀ n₀ i₀ out at n i = elements - i

@@ -5,12 +5,12 @@ use Prim.Native.Nat.{_≤_, _-_, _+_}
 use lib.ListN.{getD}
 use Rattle.memory.specs.Map.{elementsAt}
 use Rattle.lean.proofs.KindLaws.{first-low}
-use Rattle.lean.proofs.RowLaws.{wireRows, wire-rows, Row, row-size, row-start, row-one, row-step, row-end}
+use Rattle.lean.proofs.RowLaws.{wireRows, wire-rows, RowDone, row-size, row-start, row-one, row-step, row-end}
 use Rattle.lean.proofs.write.put_wires.Statement.{statement}
 use Rattle.lean.proofs.write.put_wires.Tie as tie
 
 abbrev Inv-loop : tie.InvT-loop
-Inv-loop work elements out₀ from at₀ n₀ i₀ out at n i = (i ≤ elements) × Row (wireRows work) work elements out₀ from out at n i
+Inv-loop work elements out₀ from at₀ n₀ i₀ out at n i = (i ≤ elements) × RowDone (wireRows work) work elements out₀ from out at n i
 
 abbrev μ-loop : tie.MeasureT-loop
 μ-loop work elements out₀ from at₀ n₀ i₀ out at n i = elements - i

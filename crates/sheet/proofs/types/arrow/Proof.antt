@@ -2,7 +2,7 @@
 use mathlib.Core.Path.{sym, ap, _∙_}
 use borrow.Author.Needs.{needs}
 use Rattle.records.specs.Forms.{saidForm}
-use Rattle.sheet.specs.Tables.{arrowRec}
+use Rattle.sheet_theorems.specs.Records.{arrowRec}
 use Rattle.sheet.proofs.types.arrow.Statement.{statement}
 use Rattle.sheet.proofs.types.arrow.Tie as tie
 

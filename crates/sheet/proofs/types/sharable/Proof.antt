@@ -2,7 +2,7 @@
 use mathlib.Core.Path.{sym, ap, _∙_}
 use borrow.Author.Needs.{needs}
 use Rattle.records.specs.Forms.{saidForm}
-use Rattle.sheet.specs.Tables.{sharableRec}
+use Rattle.sheet_theorems.specs.Records.{sharableRec}
 use Rattle.sheet.proofs.types.sharable.Statement.{statement}
 use Rattle.sheet.proofs.types.sharable.Tie as tie
 

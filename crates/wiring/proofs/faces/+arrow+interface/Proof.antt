@@ -13,7 +13,7 @@ use Rattle.wiring.proofs.faces.+arrow+interface.Lts-arrow as arrow-lts
 use Rattle.wiring.proofs.faces.interface.Reads as interface
 use Rattle.wiring.proofs.faces.interface.Kinds as interface-kinds
 use Rattle.wiring.proofs.faces.+arrow+interface.Lts-interface as interface-lts
-use Rattle.wiring.proofs.faces.sides_at.Reads as sides-at-reads
+use Rattle.records.proofs.sides_of.Reads as sides-of-reads
 use Rattle.wiring.proofs.faces.size_of.Reads as size-of-reads
 use Rattle.wiring.proofs.faces.unturned.Reads as unturned-reads
 use Rattle.wiring.proofs.faces.+arrow+interface.{statement}
@@ -65,8 +65,8 @@ pub +arrow+interface-spec : {M : Type 1} → statement M
     (λ c. c .before .before .interface2 .kept .1 .1 .0 ∙ c .before .before .before .before .before .before .interface .kept .1 .1 .0)
     (λ c. λ q. arrow-face q (c .before .before .before .before .before .before .before .before .before .before .before .before .args .output) (c .before .before .before .before .before .before .before .before .before .before .before .before .args .work .now) (c .before .before .before .before .before .before .before .before .size-of .ensures) (c .before .before .before .before .before .before .interface .ensures (left-known q)) (c .before .before .interface2 .ensures (right-known q))))
     λ t. interface-lts.spec (
-      sides-at-reads.Asked,
-      sides-at-reads.Learnt,
+      sides-of-reads.Asked,
+      sides-of-reads.Learnt,
       arrow-below t,
       arrow.Post,
       size-of-reads.Asked,
@@ -78,12 +78,12 @@ pub +arrow+interface-spec : {M : Type 1} → statement M
     interface.Post
     (λ c κs. search needs)
     (λ c κs.
-    let p = c .before .before .before .before .before .before .pre .1 in
-    let q = an-arrow (p .0) (c .before .before .sides-at .ensures) (c .before .if1 .taken) (p .1) (p .2) in
-    (omega (arith, c .before .before .before .before .before .before .pre .0, sides q .left, sides q .right), q))
-    (λ c κs. c .before .before .before .before .before .before .pre .1 .0 .knows .all)
-    (λ c κs. rw (c .size-of .ensures) (c .before .before .before .before .before .before .before .pre .1 .1, c .before .before .before .before .before .before .before .pre .1 .2))
+    let p = c .before .before .before .before .before .before .before .pre .1 in
+    let q = an-arrow (p .0) (c .before .before .before .sides-of .ensures) (c .before .if1 .taken) (p .1) (p .2) in
+    (omega (arith, c .before .before .before .before .before .before .before .pre .0, sides q .left, sides q .right), q))
+    (λ c κs. c .before .before .before .before .before .before .before .pre .1 .0 .knows .all)
+    (λ c κs. rw (c .size-of .ensures) (c .before .before .before .before .before .before .before .before .pre .1 .1, c .before .before .before .before .before .before .before .before .pre .1 .2))
     (λ c. c .before .before .arrow .kept .1 .1 .0)
-    (λ c. λ q. c .before .before .arrow .ensures (an-arrow q (c .before .before .before .before .before .sides-at .ensures) (c .before .before .before .before .if1 .taken) (c .before .before .before .before .before .before .before .before .before .pre .1 .1) (c .before .before .before .before .before .before .before .before .before .pre .1 .2)))
+    (λ c. λ q. c .before .before .arrow .ensures (an-arrow q (c .before .before .before .before .before .before .sides-of .ensures) (c .before .before .before .before .if1 .taken) (c .before .before .before .before .before .before .before .before .before .before .pre .1 .1) (c .before .before .before .before .before .before .before .before .before .before .pre .1 .2)))
     (λ c. c .before .before .unturned .kept .0)
-    (λ c. λ q. rw (flat-turns (q .knows) (q .named) (c .before .before .before .before .before .before .sides-at .ensures) (c .before .before .before .before .before .if1 .left), ← c .before .before .before .size-of .ensures) (c .before .before .unturned .ensures))
+    (λ c. λ q. rw (flat-turns (q .knows) (q .named) (c .before .before .before .before .before .before .before .sides-of .ensures) (c .before .before .before .before .before .if1 .left), ← c .before .before .before .size-of .ensures) (c .before .before .unturned .ensures))

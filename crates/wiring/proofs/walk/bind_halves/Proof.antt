@@ -1,12 +1,13 @@
 -- `wiring::bind_halves` meets its contract. Assumes nothing.
 use native.Mathlib.Omega.{arith}
+use Rattle.records.specs.TypeNumbers.{sidedOf}
 use Rattle.wiring.specs.Asks.{halved}
 use borrow.Author.Needs.{needs}
 use Rattle.wiring.proofs.walk.bind_halves.Statement.{statement}
 use Rattle.wiring.proofs.walk.bind_halves.Tie as tie
 
-sides-at-requires : tie.Need-sides-at-requires
-sides-at-requires c κs = search needs
+sides-of-requires : tie.Need-sides-of-requires
+sides-of-requires c κs = search needs
 
 size-of-requires : tie.Need-size-of-requires
 size-of-requires c κs = search needs
@@ -22,29 +23,29 @@ add-bind c = search needs
 
 add-bind-2 : tie.Need-add-bind-2
 add-bind-2 c =
-    omega (arith, c .before .before .before .before .before .size-of .ensures, c .before .before .before .before .before .before .before .before .shared-slice-known2 .given (c .before .before .before .before .before .before .sides-at .result .left))
+    omega (arith, c .before .before .before .before .before .size-of .ensures, c .before .before .before .before .before .before .before .before .shared-slice-known2 .given (c .before .before .before .before .before .before .sides-of .result .left))
 
 mul-bind-2 : tie.Need-mul-bind-2
 mul-bind-2 c =
-    omega (arith, c .before .before .before .before .before .size-of .ensures, c .before .before .before .before .before .before .before .before .shared-slice-known2 .given (c .before .before .before .before .before .before .sides-at .result .left))
+    omega (arith, c .before .before .before .before .before .size-of .ensures, c .before .before .before .before .before .before .before .before .shared-slice-known2 .given (c .before .before .before .before .before .before .sides-of .result .left))
 
 bind-requires-2 : tie.Need-bind-requires-2
 bind-requires-2 c κs =
-    (omega (arith, c .before .before .before .bind .kept .0), omega arith, omega (arith, c .before .before .before .before .before .size-of .ensures, c .before .before .before .before .before .before .before .before .shared-slice-known2 .given (c .before .before .before .before .before .before .sides-at .result .left)))
+    (omega (arith, c .before .before .before .bind .kept .0), omega arith, omega (arith, c .before .before .before .before .before .size-of .ensures, c .before .before .before .before .before .before .before .before .shared-slice-known2 .given (c .before .before .before .before .before .before .sides-of .result .left)))
 
 same-length : tie.Need-same-length
 same-length c = search needs
 
 returns : tie.Need-returns
-unfolding halved
+unfolding halved sidedOf
 returns c =
-    rw (c .before .before .before .before .before .before .bind .ensures, c .before .before .before .before .before .before .before .before .size-of .ensures, c .before .before .before .before .before .before .before .before .before .sides-at .ensures) at (c .before .before .bind2 .ensures)
+    rw (c .before .before .before .before .before .before .bind .ensures, c .before .before .before .before .before .before .before .before .size-of .ensures, c .before .before .before .before .before .before .before .before .before .sides-of .ensures) at (c .before .before .bind2 .ensures)
 
 pub bind-halves-spec : {M : Type 1} → statement M
 bind-halves-spec =
     tie.close
     (tie.spec
-    sides-at-requires
+    sides-of-requires
     size-of-requires
     mul-bind
     bind-requires

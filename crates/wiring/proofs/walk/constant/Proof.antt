@@ -1,14 +1,28 @@
 -- `wiring::constant` meets its contract: one kind behind the elements, and the part's terminals on the stack. Assumes nothing.
+use Prim.Native.Nat.{_+_}
 use native.Mathlib.Omega.{arith}
-use mathlib.Core.Path.{_∙_}
+use mathlib.Core.Path.{ap₂, _∙_}
 use lib.ListN.{length-set}
+use Rattle.netlist.proofs.PartInputs.{part-inputs, part-outputs}
 use Rattle.wiring.proofs.LeafLaws.{con-room, con-leaves}
 use borrow.Author.Needs.{needs}
 use Rattle.wiring.proofs.walk.constant.Statement.{statement}
 use Rattle.wiring.proofs.walk.constant.Tie as tie
 
-inputs-of-requires : tie.Need-inputs-of-requires
-inputs-of-requires c κs = search needs
+cast-part-of : tie.Need-cast-part-of
+cast-part-of c = search needs
+
+part-of-requires : tie.Need-part-of-requires
+part-of-requires c κs = search needs
+
+cast-inputs : tie.Need-cast-inputs
+cast-inputs c = search needs
+
+cast-len : tie.Need-cast-len
+cast-len c = search needs
+
+add-len : tie.Need-add-len
+add-len c = search needs
 
 cast-work : tie.Need-cast-work
 cast-work c = search needs
@@ -27,31 +41,23 @@ add-terminals c = search needs
 
 terminals-requires : tie.Need-terminals-requires
 terminals-requires c κs =
-    let p = c .before .before .before .before .before .pre in
+    let s = c .before .before .before .before .before .before .before in
+    let p = s .pre in
     let h = con-room (p .0) (p .1) in
-    let e = c .before .inputs-of .ensures in
+    let q = c .before .before .before .part-of in
+    let e = part-inputs (q .result) (s .args .node .first) (q .ensures) in
     (simp length-set (omega (arith, p .0 .asks .holds .size)), omega arith)
 
-add-t16 : tie.Need-add-t16
-add-t16 c =
-    let p = c .before .before .before .before .before .before .before .before .pre in
-    let h = con-room (p .0) (p .1) in
-    omega (arith, c .before .before .before .before .inputs-of .ensures)
+add-t18 : tie.Need-add-t18
+add-t18 c =
+    let s = c .before .before .before .before .before .before .before .before .before .before in
+    let q = c .before .before .before .before .before .before .part-of in
+    let h = con-room (s .pre .0) (s .pre .1) in
+    let e = part-inputs (q .result) (s .args .node .first) (q .ensures) in
+    omega (arith, part-outputs (q .result) (s .args .node .first) (q .ensures))
 
-add-t15 : tie.Need-add-t15
-add-t15 c =
-    let p = c .before .before .before .before .before .before .before .before .pre in
-    let h = con-room (p .0) (p .1) in
-    omega (arith, c .before .before .before .before .inputs-of .ensures)
-
-add-t21 : tie.Need-add-t21
-add-t21 c =
-    let p = c .before .before .before .before .before .before .before .before .pre in
-    let h = con-room (p .0) (p .1) in
-    omega (arith, c .before .before .before .before .inputs-of .ensures)
-
-add-t22 : tie.Need-add-t22
-add-t22 c = search needs
+add-t17 : tie.Need-add-t17
+add-t17 c = search needs
 
 same-length : tie.Need-same-length
 same-length c =
@@ -59,22 +65,28 @@ same-length c =
 
 returns : tie.Need-returns
 returns c =
-    λ q. con-leaves q (c .before .before .before .before .before .before .before .before .pre .1) (c .before .before .before .before .inputs-of .result) (c .before .before .before .before .inputs-of .ensures) _ (c .before .before .terminals .ensures)
+    let s = c .before .before .before .before .before .before .before .before .before .before in
+    let q = c .before .before .before .before .before .before .part-of in
+    let e = part-inputs (q .result) (s .args .node .first) (q .ensures) in
+    let f = part-outputs (q .result) (s .args .node .first) (q .ensures) in
+    λ h. con-leaves h (s .pre .1) (q .result .inputs) (q .result .inputs + q .result .outputs) e (ap₂ _+_ e f) _ (c .before .before .terminals .ensures)
 
 pub constant-spec : {M : Type 1} → statement M
 constant-spec =
     tie.close
     (tie.spec
-    inputs-of-requires
+    cast-part-of
+    part-of-requires
+    cast-inputs
+    cast-len
+    add-len
     cast-work
     add-work
     mul-work
     slice-write-work
     add-terminals
     terminals-requires
-    add-t16
-    add-t15
-    add-t21
-    add-t22
+    add-t18
+    add-t17
     same-length
     returns)

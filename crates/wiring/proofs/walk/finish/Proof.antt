@@ -3,7 +3,8 @@ use native.Mathlib.Omega.{arith}
 use mathlib.Core.Path.{ap}
 use mathlib.Core.Logic.{inl}
 use Rattle.records.specs.Rules.{isPair}
-use Rattle.wiring.specs.declared.faces.Sides.{Sides}
+use Rattle.records.specs.TypeNumbers.{sidedOf}
+use Rattle.records.specs.declared.Sided.{Sided}
 use Rattle.wiring.specs.Asks.{ofBody, finished, finishedIn}
 use Rattle.wiring.proofs.FinishLaws.{body-of, application}
 use borrow.Author.Needs.{needs}
@@ -43,8 +44,8 @@ apply-requires c κs =
     let h = c .before .before .before .before .pre .apart e g in
     (h .0, omega (arith, c .before .before .before .before .pre .height, c .before .before .before .before .pre .memory), h .1)
 
-sides-at-requires : tie.Need-sides-at-requires
-sides-at-requires c κs = search needs
+sides-of-requires : tie.Need-sides-of-requires
+sides-of-requires c κs = search needs
 
 sub-shown-as : tie.Need-sub-shown-as
 sub-shown-as c =
@@ -77,10 +78,10 @@ same-length-2 : tie.Need-same-length-2
 same-length-2 c = search needs
 
 returns-3 : tie.Need-returns-3
-unfolding finished finishedIn
+unfolding finished finishedIn sidedOf
 returns-3 c =
     let (e, g) = application (c .before .before .before .before .before .before .before .before .before .args .node .rule) (c .before .before .before .before .before .before .match .keys3) in
-    (rw (e, g) (rw (ap (λ (x : Sides). x .right) (c .before .sides-at .ensures)) at (c .shown-as3 .ensures)), rw (e, g) (c .before .before .before .before .apply .ensures))
+    (rw (e, g) (rw (ap (λ (x : Sided). x .right) (c .before .sides-of .ensures)) at (c .shown-as3 .ensures)), rw (e, g) (c .before .before .before .before .apply .ensures))
 
 pub finish-spec : {M : Type 1} → statement M
 finish-spec =
@@ -96,7 +97,7 @@ finish-spec =
     shown-as-requires-2
     add-apply
     apply-requires
-    sides-at-requires
+    sides-of-requires
     sub-shown-as
     add-shown-as-2
     shown-as-requires-3

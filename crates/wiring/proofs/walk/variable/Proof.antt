@@ -2,6 +2,7 @@
 use native.Mathlib.Omega.{arith}
 use Prim.Native.Nat.{ℕ, _+_, _*_, _-_}
 use mathlib.Core.Path.{_≡_, refl, ap}
+use Rattle.memory.specs.Map.{bindersAt}
 use Rattle.wiring.specs.Asks.{slot}
 use Rattle.wiring.proofs.LeafLaws.{var-scope, var-room, var-named, var-showable, var-leaves}
 use borrow.Author.Needs.{needs}
@@ -39,7 +40,7 @@ cast-ty : tie.Need-cast-ty
 cast-ty c =
     let p = c .before .before .before .before .before .before .pre in
     let e = c .before .wide .ensures in
-    let h = var-room (p .0) (p .1) (p .2) (27392 + 2 * (c .before .before .before .before .before .before .args .st .scope - 1 - c .before .wide .result)) (ap (λ (x : ℕ). 27392 + slot (c .before .before .before .before .before .before .args .st .scope) x) e) in
+    let h = var-room (p .0) (p .1) (p .2) (bindersAt + 2 * (c .before .before .before .before .before .before .args .st .scope - 1 - c .before .wide .result)) (ap (λ (x : ℕ). bindersAt + slot (c .before .before .before .before .before .before .args .st .scope) x) e) in
     omega arith
 
 add-place : tie.Need-add-place
@@ -53,7 +54,7 @@ slice-read-place c = search needs
 
 cast-place : tie.Need-cast-place
 cast-place c =
-    omega (arith, c .slice-known3 .given (27392 + 2 * (c .before .before .before .before .before .before .before .args .st .scope - 1 - c .before .before .wide .result) + 1))
+    omega (arith, c .slice-known3 .given (bindersAt + 2 * (c .before .before .before .before .before .before .before .args .st .scope - 1 - c .before .before .wide .result) + 1))
 
 size-of-requires : tie.Need-size-of-requires
 size-of-requires c κs = search needs
@@ -65,7 +66,7 @@ show-requires : tie.Need-show-requires
 show-requires c κs =
     let p = c .before .before .before .before .before .before .before .before .before .pre in
     let e = c .before .before .before .before .wide .ensures in
-    var-showable (p .0) (p .1) (p .2) (27392 + 2 * (c .before .before .before .before .before .before .before .before .before .args .st .scope - 1 - c .before .before .before .before .wide .result)) (ap (λ (x : ℕ). 27392 + slot (c .before .before .before .before .before .before .before .before .before .args .st .scope) x) e) _ refl
+    var-showable (p .0) (p .1) (p .2) (bindersAt + 2 * (c .before .before .before .before .before .before .before .before .before .args .st .scope - 1 - c .before .before .before .before .wide .result)) (ap (λ (x : ℕ). bindersAt + slot (c .before .before .before .before .before .before .before .before .before .args .st .scope) x) e) _ refl
 
 same-length : tie.Need-same-length
 same-length c = search needs
@@ -75,8 +76,8 @@ returns c =
     λ q.
     let p = c .before .before .before .before .before .before .before .before .before .before .before .before .pre in
     let e = c .before .before .before .before .before .before .before .wide .ensures in
-    let k = 27392 + 2 * (c .before .before .before .before .before .before .before .before .before .before .before .before .args .st .scope - 1 - c .before .before .before .before .before .before .before .wide .result) in
-    let ek : k ≡ 27392 + slot (c .before .before .before .before .before .before .before .before .before .before .before .before .args .st .scope) (c .before .before .before .before .before .before .before .before .before .before .before .before .args .node .first) = ap (λ (x : ℕ). 27392 + slot (c .before .before .before .before .before .before .before .before .before .before .before .before .args .st .scope) x) e in
+    let k = bindersAt + 2 * (c .before .before .before .before .before .before .before .before .before .before .before .before .args .st .scope - 1 - c .before .before .before .before .before .before .before .wide .result) in
+    let ek : k ≡ bindersAt + slot (c .before .before .before .before .before .before .before .before .before .before .before .before .args .st .scope) (c .before .before .before .before .before .before .before .before .before .before .before .before .args .node .first) = ap (λ (x : ℕ). bindersAt + slot (c .before .before .before .before .before .before .before .before .before .before .before .before .args .st .scope) x) e in
     var-leaves q (p .1) (p .2) k ek _ refl (c .before .before .before .before .size-of .result) (c .before .before .before .before .size-of .ensures) _ (c .before .before .show .ensures (var-named q (p .1) (p .2) k ek))
 
 pub variable-spec : {M : Type 1} → statement M

@@ -4,7 +4,7 @@ use native.Mathlib.Omega.{arith}
 use Prim.Native.Nat.{ℕ, _+_, _-_, _≤_, _<_}
 use mathlib.Core.Path.{_≡_, refl, sym, _∙_}
 use lib.ListN.{length, getD, drop}
-use Rattle.memory.specs.Map.{region}
+use Rattle.memory.specs.Map.{elementsAt, region}
 use Rattle.wiring.specs.Links.{links}
 use Rattle.wiring.proofs.LinkLaws.{low-argument, low-function, linked-high, links-start, links-again, links-end}
 use Rattle.laws.proofs.Regions.{region-length, region-at}
@@ -14,7 +14,7 @@ use Rattle.wiring.proofs.wires.connect.Tie as tie
 abbrev Inv-loop : tie.InvT-loop
 Inv-loop work₀ a f n count left₀ work left = (left ≤ n) × (length work ≡ length work₀)
     × (links work (count + (n - left)) (drop (n - left) (region work₀ a n)) (drop (n - left) (region work₀ f n)) ≡ links work₀ count (region work₀ a n) (region work₀ f n))
-    × ((j : ℕ) → 13824 ≤ j → getD work j 0 ≡ getD work₀ j 0)
+    × ((j : ℕ) → elementsAt ≤ j → getD work j 0 ≡ getD work₀ j 0)
 
 abbrev μ-loop : tie.MeasureT-loop
 μ-loop work₀ a f n count left₀ work left = left

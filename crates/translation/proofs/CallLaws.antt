@@ -1,0 +1,50 @@
+-- What a call answers, by what its stages found. Assumes nothing.
+use Prim.Native.Nat.{ℕ}
+use mathlib.Core.Path.{_≡_, refl, ap}
+use mathlib.Core.Bool.{Bool, true, false}
+use mathlib.Core.List.{List}
+use lib.Dec.{leb}
+use lib.ListN.{length}
+use Rattle.calculus.specs.Answer.{Answer, good, refused, _>>=_, need}
+use Rattle.typing.specs.declared.Refusal.{Refusal}
+use Rattle.typing.specs.Verdicts.{saidWhy}
+use Rattle.calculus.specs.Net.{Net}
+use Rattle.calculus.specs.Makers.{makersOf, written}
+use Rattle.calculus.specs.Translate.{full, Wish, answer, asked, askedMakers, askedBytes, workOf, call}
+use Rattle.translator.specs.Made.{lent, Keeps}
+use Rattle.translator.specs.Said.{inRoom, Says, called}
+use Rattle.translator.specs.declared.Answer as code
+use Rattle.translator.specs.declared.Answer.the-variants as answer
+
+-- a call's answer is that of the netlist, once there is a full one
+need-first : (t : Bool) (a : Answer Net) (f : Net → Answer (List ℕ)) → (need t 1 0 >>= λ _. a >>= f) ≡ ((need t 1 0 >>= λ _. a) >>= f)
+need-first true a f = refl
+need-first false a f = refl
+
+answer-lent : (memory : ℕ) (b : Wish) (s : List ℕ) (room : ℕ) → answer memory b s room ≡ (lent memory s >>= λ m. inRoom (askedBytes b m (makersOf s)) room)
+unfolding answer lent inRoom
+answer-lent memory b s room = need-first (leb 32768 memory) (full s) (λ m. inRoom (askedBytes b m (makersOf s)) room)
+
+-- plain bytes name no nodes
+named-bytes : (w : Wish) (m : Net) (ks js : List ℕ) → (w .plain ≡ false → ks ≡ js) → askedBytes w m ks ≡ askedBytes w m js
+named-bytes w m ks js n = by (w .plain) n
+  where
+    by : (plain : Bool) → (plain ≡ false → ks ≡ js) → written plain (asked (w .lean) m) (askedMakers (w .lean) m ks) ≡ written plain (asked (w .lean) m) (askedMakers (w .lean) m js)
+    by true n = refl
+    by false n = ap (λ (l : List ℕ). written false (asked (w .lean) m) (askedMakers (w .lean) m l)) (n refl)
+
+module _ (b : Wish) (s out : List ℕ) (memory : ℕ) where
+  -- a refusal passes through
+  pub refused-says : (why : Refusal) → refused (saidWhy why) ≡ lent memory s → Says (answer.Refused why) out out (answer memory b s (length out))
+  refused-says why e = rw (answer-lent memory b s (length out), ← e) (record { said = refl; wrote = refl })
+
+  -- a netlist that was written is the one asked for
+  pub net-says : (r : code.Answer) (after : List ℕ) (m : Net) (ks : List ℕ) → good m ≡ lent memory s → (b .plain ≡ false → ks ≡ makersOf s) → Says r out after (inRoom (askedBytes b m ks) (length out))
+      → Says r out after (answer memory b s (length out))
+  net-says r after m ks e n h = rw (answer-lent memory b s (length out), ← e, ← named-bytes b m ks (makersOf s) n) h
+
+-- after the stages, the working memory is cleared
+pub call-run : (b : Wish) (s out work : List ℕ) (r : code.Answer) (after mid : List ℕ)
+    → Says r out after (answer (length work) b s (length out)) → Keeps work mid → called r after (workOf mid) ≡ call b s out work
+unfolding call
+call-run b s out work r after mid a k = rw (a .said, a .wrote, k)

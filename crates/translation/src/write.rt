@@ -1,0 +1,73 @@
+// The netlist that stands in the working memory is written, where it fits.
+use crate::Wish;
+use translator::Answer;
+use wiring::Counts;
+ghost use mathlib.Core.Path.{_≡_};
+ghost use lib.ListN.{length};
+ghost use Rattle.calculus.specs.Lean.{lean};
+ghost use Rattle.calculus.specs.Record.{All};
+ghost use Rattle.calculus.specs.Makers.{leanMakers, written};
+ghost use Rattle.calculus.specs.Translate.{askedBytes};
+ghost use Rattle.memory.specs.Map.{makersAt, region, netIn, Ready};
+ghost use Rattle.calculus.specs.NetRead.{Known};
+ghost use Rattle.translator.specs.Made.{Keeps};
+ghost use Rattle.translator.specs.Said.{Says, inRoom};
+ghost use Rattle.translation.specs.Wished.{saidWish};
+
+// The full netlist; 17 with the length needed where the output is shorter.
+fn write_full(
+    work: &[u16],
+    out: &mut [u8],
+    elements: usize,
+    wires: usize,
+    pins: usize,
+    plain: bool,
+) -> Answer
+    requires { ⌜ (Ready (now work) elements wires pins) × (All Known (netIn (now work) elements wires pins .elements)) ⌝ }
+    ensures { λ r. ⌜ Says r (now (out .entry)) (now (out .exit)) (inRoom (written plain (netIn (now (work .entry)) elements wires pins) (region (now (work .entry)) makersAt elements)) (length (now (out .entry)))) ⌝ }
+{
+    let n = netlist::full_length(work, elements, wires, pins, plain);
+    if out.len() < n {
+        return translator::too_short(n);
+    }
+    let length = netlist::write_full(work, out, elements, wires, pins, plain);
+    Answer::Written(length)
+}
+
+// The lean netlist, likewise.
+fn write_lean(
+    work: &mut [u16],
+    out: &mut [u8],
+    elements: usize,
+    wires: usize,
+    pins: usize,
+    plain: bool,
+) -> Answer
+    requires { ⌜ (Ready (now work) elements wires pins) × (All Known (netIn (now work) elements wires pins .elements)) ⌝ }
+    ensures { λ r. ⌜ (Says r (now (out .entry)) (now (out .exit)) (inRoom (written plain (lean (netIn (now (work .entry)) elements wires pins)) (leanMakers (netIn (now (work .entry)) elements wires pins) (region (now (work .entry)) makersAt elements))) (length (now (out .entry)))))
+        × (Keeps (now (work .entry)) (now (work .exit))) ⌝ }
+{
+    lean::roots(work, elements, wires, pins);
+    let n = lean::lean_length(&work[..], elements, wires, pins, plain);
+    if out.len() < n {
+        return translator::too_short(n);
+    }
+    let written = lean::write_lean(&work[..], out, elements, wires, pins, plain);
+    Answer::Written(written)
+}
+
+// The one that is wished.
+pub fn write(work: &mut [u16], out: &mut [u8], counts: Counts, wish: Wish) -> Answer
+    requires { ⌜ (Ready (now work) (counts .elements) (counts .wires) (counts .pins)) × (All Known (netIn (now work) (counts .elements) (counts .wires) (counts .pins) .elements)) ⌝ }
+    ensures { λ r. ⌜ (Says r (now (out .entry)) (now (out .exit)) (inRoom (askedBytes (saidWish wish) (netIn (now (work .entry)) (counts .elements) (counts .wires) (counts .pins)) (region (now (work .entry)) makersAt (counts .elements))) (length (now (out .entry)))))
+        × (Keeps (now (work .entry)) (now (work .exit))) ⌝ }
+{
+    let elements = counts.elements;
+    let wires = counts.wires;
+    let pins = counts.pins;
+    let plain = wish.plain;
+    if wish.lean {
+        return write_lean(work, out, elements, wires, pins, plain);
+    }
+    write_full(&work[..], out, elements, wires, pins, plain)
+}
