@@ -10,6 +10,7 @@ pub mod OneLaws
 pub mod TwoLaws
 pub mod FinishLaws
 pub mod StepLaws
+pub mod EnterLaws
 pub mod CountLaws
 pub mod FullLaws
 pub mod Accepting
