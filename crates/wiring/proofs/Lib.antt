@@ -1,5 +1,6 @@
 pub mod RunLaws
 pub mod TurnLaws
+pub mod DueLaws
 pub mod LinkLaws
 pub mod StoreLaws
 pub mod NodeLaws
