@@ -1,9 +1,9 @@
-/* The fuzz target on the C boundary: bytes choose netlist, kinds, room and memory, the rest is the sheet.
+/* The fuzz target on translations: bytes choose netlist, kinds, profile, room and memory, the rest is the sheet.
    What document 01 says of any call is checked. */
 #include "fuzz.h"
 
 uint64_t deltawobble_translate(const uint8_t *sheet, size_t sheet_len, uint8_t *out, size_t out_len,
-                               uint16_t *work, size_t work_len, bool lean, bool plain);
+                               uint16_t *work, size_t work_len, bool lean, bool plain, bool card);
 uint64_t deltawobble_stretch(const uint8_t *sheet, size_t sheet_len, size_t node);
 
 enum { ALWAYS_ENOUGH = 57728, PLAIN_ENOUGH = 41344 };
@@ -72,16 +72,17 @@ static bool is_lean(const uint8_t *out, size_t length) {
 }
 
 /* One call with everything that holds of any call; a netlist's length, or 0. */
-static uint64_t call(const uint8_t *sheet, size_t length, size_t room, size_t numbers, bool lean, bool plain) {
+static uint64_t asked(const uint8_t *sheet, size_t length, size_t room, size_t numbers, bool lean, bool plain, bool card) {
     static unsigned calls;
     bool end[3] = {calls & 1, calls >> 1 & 1, calls >> 2 & 1};
     calls++;
     uint8_t *lent = slice(0, length, end[0]), *out = slice(1, room, end[1]);
     uint16_t *work = (uint16_t *)slice(2, 2 * numbers, end[2]);
     memcpy(lent, sheet, length);
-    uint64_t answer = deltawobble_translate(lent, length, out, room, work, numbers, lean, plain);
+    uint64_t answer = deltawobble_translate(lent, length, out, room, work, numbers, lean, plain, card);
     uint32_t number = answer >> 32 & 255, value = (uint32_t)answer, wanted = answer >> 40 & 4095, found = answer >> 52;
-    DEMAND(number <= 17);
+    DEMAND(number <= 17 || (card && number >= 27 && number <= 29));
+    DEMAND(number < 27 || (number == 27 ? value == 0 : value < 8192));
     DEMAND(number == 12 ? wanted != found && wanted <= 256 && found < 256 : wanted == 0 && found == 0);
     DEMAND((number == 1) == (numbers < CLEARED));
     DEMAND(cleared(work, numbers, number));
@@ -106,6 +107,10 @@ static uint64_t call(const uint8_t *sheet, size_t length, size_t room, size_t nu
     return answer;
 }
 
+static uint64_t call(const uint8_t *sheet, size_t length, size_t room, size_t numbers, bool lean, bool plain) {
+    return asked(sheet, length, room, numbers, lean, plain, false);
+}
+
 /* Both netlists of a sheet in one of the kinds, each in just its room and in one byte less; the full one's
    length, or its refusal. */
 static uint64_t both(const uint8_t *sheet, size_t length, bool plain) {
@@ -125,11 +130,11 @@ static uint64_t both(const uint8_t *sheet, size_t length, bool plain) {
 
 int LLVMFuzzerTestOneInput(const uint8_t *data, size_t size) {
     if (size < 3) return 0;
-    bool lean = data[0] & 1, plain = data[0] >> 4 & 1;
+    bool lean = data[0] & 1, plain = data[0] >> 4 & 1, card = data[0] >> 5 & 1;
     size_t numbers = memories[data[0] >> 1 & 7], room = data[1] | (size_t)data[2] << 8;
     const uint8_t *sheet = data + 3;
     size_t length = size - 3;
-    call(sheet, length, room % (ALWAYS_ENOUGH + 1), numbers, lean, plain);
+    asked(sheet, length, room % (ALWAYS_ENOUGH + 1), numbers, lean, plain, card);
     uint64_t nodes = both(sheet, length, false), kinds = both(sheet, length, true);
     DEMAND(nodes >> 32 ? kinds == nodes : kinds >> 32 == 0 && kinds < nodes);
     return 0;
