@@ -8,11 +8,13 @@ use crate::fences::Fences;
 use crate::modes::{Mode, MODES};
 use second::random::Random;
 use second::sheet::MEMORY;
+use second::Wish;
 
 pub fn print() -> Result<(), String> {
     let mut fences = Fences::new();
     let mut host = Host::start(&fences);
     by_class(&mut fences, &mut host)?;
+    by_depth(&mut fences, &mut host)?;
     let others = |mode: &&Mode| mode.call != Call::Translate && mode.call.there();
     for mode in MODES.iter().filter(others) {
         by_call(mode, &mut fences, &mut host)?;
@@ -36,6 +38,49 @@ fn by_call(mode: &Mode, fences: &mut Fences, host: &mut Host) -> Result<(), Stri
     Ok(())
 }
 
+/// Functions one in the other, as deep as is said: the innermost is the variable with this number.
+fn functions(depth: u8, variable: u8) -> Vec<u8> {
+    let types = (1..depth).flat_map(|k| [3, 0, k - 1]);
+    let nodes = (1..depth).rev().flat_map(|k| [0x13, k]);
+    [1].into_iter().chain(types).chain(nodes).chain([0x11, variable]).collect()
+}
+
+/// By stage: a sheet that is read to its end and refused there (9), one that is refused at its deepest
+/// node (10), and one that is translated.
+fn by_depth(fences: &mut Fences, host: &mut Host) -> Result<(), String> {
+    println!("\nStack: of functions one in the other, by depth and up to a stage.");
+    println!("{:<27}{:>9}{:>11}{:>9}", "depth", "read (9)", "typed (10)", "whole");
+    for depth in [1, 2, 4, 8, 16, 32, 64] {
+        let whole = functions(depth, 0);
+        let longer = whole.iter().copied().chain([0]).collect();
+        let mut most = [0; 3];
+        for (most, sheet) in most.iter_mut().zip([longer, functions(depth, depth), whole]) {
+            for wish in wishes() {
+                *most = translate(fences, host, &sheet, 57728, wish)?.max(*most);
+            }
+        }
+        println!("{depth:<27}{:>9}{:>11}{:>9}", most[0], most[1], most[2]);
+    }
+    Ok(())
+}
+
+/// The stack of one translation.
+fn translate(
+    fences: &mut Fences,
+    host: &mut Host,
+    sheet: &[u8],
+    room: usize,
+    wish: Wish,
+) -> Result<u64, String> {
+    let lent = [
+        fences.place(0, sheet.len(), 1, true),
+        fences.place(1, room, 1, true),
+        fences.place(2, MEMORY, 2, true),
+    ];
+    fences.bytes_mut(lent[0].offset, sheet.len()).copy_from_slice(sheet);
+    host.stack(Call::Translate, &lent, told(wish))
+}
+
 fn by_class(fences: &mut Fences, host: &mut Host) -> Result<(), String> {
     println!("\nStack: most bytes written below the caller's frame, by class, of all wishes.");
     println!("{:<27}{:>9}{:>9}", "class", "full", "lean");
@@ -43,14 +88,8 @@ fn by_class(fences: &mut Fences, host: &mut Host) -> Result<(), String> {
         let mut most = [0, 0];
         for sheet in &class.sheets {
             for wish in wishes() {
-                let lent = [
-                    fences.place(0, sheet.len(), 1, true),
-                    fences.place(1, class.room, 1, true),
-                    fences.place(2, MEMORY, 2, true),
-                ];
-                fences.bytes_mut(lent[0].offset, sheet.len()).copy_from_slice(sheet);
                 let which = usize::from(wish.lean);
-                most[which] = host.stack(Call::Translate, &lent, told(wish))?.max(most[which]);
+                most[which] = translate(fences, host, sheet, class.room, wish)?.max(most[which]);
             }
         }
         println!("{:<27}{:>9}{:>9}", class.name, most[0], most[1]);

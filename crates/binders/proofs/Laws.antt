@@ -15,7 +15,7 @@ use Rattle.calculus.specs.Walk.{Binder, shared, linear, Stack, under, useShared
 use Rattle.binders.specs.declared.Binders.{Binders}
 use Rattle.binders.specs.declared.Use.{Use}
 use Rattle.binders.specs.declared.Use.the-variants as use·
-use Rattle.binders.specs.Stacks.{isUsed, binderOf, stackFrom, stackOf, noBinders, slotOf, sharedAt, sharedUse, linearAt, linearUse, saidUse}
+use Rattle.binders.specs.Stacks.{bitsOf, isUsed, binderOf, stackFrom, stackOf, noBinders, slotOf, sharedAt, sharedUse, linearAt, linearUse, saidUse}
 
 -- the code's test of a mark
 pub mark-test : (u : ℕ) → not (eqb u 0) ≡ isUsed u
@@ -77,6 +77,12 @@ module _ (ts ss us : List ℕ) where
   past i a b c zero le = refl
   past i a b c (suc n) le =
       rw (getD-set-other ts i n a 0 (λ e. omega arith), getD-set-other ss i n b 0 (λ e. omega arith), getD-set-other us i n c 0 (λ e. omega arith), past i a b c n (omega arith))
+
+  -- .. whatever the marks are
+  pub past-kept : (i a b n : ℕ) → n ≤ i → stackFrom (set ts i a) (set ss i b) us n ≡ stackFrom ts ss us n
+  unfolding stackFrom
+  past-kept i a b zero le = refl
+  past-kept i a b (suc n) le = rw (getD-set-other ts i n a 0 (λ e. omega arith), getD-set-other ss i n b 0 (λ e. omega arith), past-kept i a b n (omega arith))
 
   pub pushed : (a b c n : ℕ) → n < length ts → n < length ss → n < length us
       → stackFrom (set ts n a) (set ss n b) (set us n c) (n + 1) ≡ binderOf a b c ∷ stackFrom ts ss us n
@@ -153,7 +159,7 @@ module _ (ts ss us : List ℕ) where
 
 -- as many binders as the stack counts
 pub length-of : (b : Binders) → length (stackOf b) ≡ b .count
-length-of b = stack-length (b .types) (b .sorts) (b .used) (b .count)
+length-of b = stack-length (b .types) (bitsOf (b .sorts)) (bitsOf (b .used)) (b .count)
 
 -- no binder is in scope
 pub none-in-scope : {b : Binders} → b ≡ noBinders → stackOf b ≡ []

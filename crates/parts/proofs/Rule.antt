@@ -12,20 +12,31 @@ use Rattle.calculus.specs.Terms.{first, parts, partAt}
 use Rattle.calculus.specs.Listing.{names}
 use Rattle.laws.proofs.Tests.{and-both}
 use Rattle.laws.proofs.Below.{below}
-use Rattle.parts.specs.declared.Row.{Row}
+use Rattle.parts.specs.declared.Part.{Part}
+use Rattle.parts.specs.declared.Name.{Name}
 use Rattle.parts.specs.Table.{Entry, isPart, noPart, saidPart, entryOf, named, nameAt, padded, shapeTy}
 
-abbrev row : ℕ → ℕ → ℕ → Bool → List ℕ → ℕ → Row
-row i o k b letters n = record { part = record { inputs = i; outputs = o; shape = k; paired = b }; name = record { letters = letters; count = n } }
+abbrev entryRow : ℕ → ℕ → ℕ → Bool → Part
+entryRow i o k b = record { inputs = i; outputs = o; shape = k; paired = b }
 
--- the table of the code
-abbrev pub table : List Row
+abbrev nameRow : List ℕ → ℕ → Name
+nameRow letters n = record { letters = letters; count = n }
+
+-- the tables of the code
+abbrev pub table : List Part
 table =
-    row 0 1 0 false (122 ∷ 101 ∷ 114 ∷ 111 ∷ []) 4 ∷ row 1 1 1 false (114 ∷ 101 ∷ 103 ∷ 0 ∷ []) 3 ∷ row 2 1 2 true (97 ∷ 110 ∷ 100 ∷ 0 ∷ []) 3 ∷ row 2 1 2 true (111 ∷ 114 ∷ 0 ∷ 0 ∷ []) 2
-    ∷ row 2 1 2 true (120 ∷ 111 ∷ 114 ∷ 0 ∷ []) 3 ∷ row 1 1 1 false (105 ∷ 110 ∷ 118 ∷ 0 ∷ []) 3 ∷ row 0 1 0 false (111 ∷ 110 ∷ 101 ∷ 0 ∷ []) 3 ∷ []
+    entryRow 0 1 0 false ∷ entryRow 1 1 1 false ∷ entryRow 2 1 2 true ∷ entryRow 2 1 2 true ∷ entryRow 2 1 2 true ∷ entryRow 1 1 1 false ∷ entryRow 0 1 0 false ∷ []
 
-abbrev rowAt : ℕ → Row
-rowAt p = getD table p (row 0 0 0 false [] 0)
+abbrev pub nameTable : List Name
+nameTable =
+    nameRow (122 ∷ 101 ∷ 114 ∷ 111 ∷ []) 4 ∷ nameRow (114 ∷ 101 ∷ 103 ∷ 0 ∷ []) 3 ∷ nameRow (97 ∷ 110 ∷ 100 ∷ 0 ∷ []) 3 ∷ nameRow (111 ∷ 114 ∷ 0 ∷ 0 ∷ []) 2
+    ∷ nameRow (120 ∷ 111 ∷ 114 ∷ 0 ∷ []) 3 ∷ nameRow (105 ∷ 110 ∷ 118 ∷ 0 ∷ []) 3 ∷ nameRow (111 ∷ 110 ∷ 101 ∷ 0 ∷ []) 3 ∷ []
+
+abbrev rowAt : ℕ → Part
+rowAt p = getD table p (entryRow 0 0 0 false)
+
+abbrev nameRowAt : ℕ → Name
+nameRowAt p = getD nameTable p (nameRow [] 0)
 
 -- two types that pass the test are one
 same-type : (σ τ : Ty) → T (tyEq σ τ) → σ ≡ τ
@@ -60,14 +71,14 @@ same-entry i j o q σ τ σ′ τ′ t =
     rw (eqb→eq i j (h .0), eqb→eq o q (k .0), same-type σ τ (l .0), same-type σ′ τ′ (l .1))
 
 -- the rule: every entry of the table is the part's
-pub right : (p : ℕ) → p < 7 → saidPart (rowAt p .part) ≡ entryOf p
-right p h = same-entry _ _ _ _ _ _ _ _ (below 7 (λ k. entryEq (saidPart (rowAt k .part)) (entryOf k)) tt p h)
+pub right : (p : ℕ) → p < 7 → saidPart (rowAt p) ≡ entryOf p
+right p h = same-entry _ _ _ _ _ _ _ _ (below 7 (λ k. entryEq (saidPart (rowAt k)) (entryOf k)) tt p h)
 
 -- any other number is zero's
-pub right-past : (p : ℕ) → 7 ≤ p → saidPart (rowAt 0 .part) ≡ entryOf p
+pub right-past : (p : ℕ) → 7 ≤ p → saidPart (rowAt 0) ≡ entryOf p
 right-past p h = rw (List·getD-eq-default parts (partAt 0) {n = p} h)
 
-pub named-part : (p : ℕ) → p < 7 → isPart (saidPart (rowAt p .part)) ≡ named p
+pub named-part : (p : ℕ) → p < 7 → isPart (saidPart (rowAt p)) ≡ named p
 unfolding named
 named-part p h = rw (lt-ltb p 7 h, right p h)
 
@@ -77,7 +88,7 @@ named-none p h = rw (le-ltb p 7 h)
 
 -- ---- the names: every row has the part's
 
-pub name-right : (p : ℕ) → p < 7 → (rowAt p .name .letters ≡ padded (nameAt p)) × (rowAt p .name .count ≡ length (nameAt p))
+pub name-right : (p : ℕ) → p < 7 → (nameRowAt p .letters ≡ padded (nameAt p)) × (nameRowAt p .count ≡ length (nameAt p))
 name-right zero h = (refl, refl)
 name-right (suc zero) h = (refl, refl)
 name-right (suc (suc zero)) h = (refl, refl)

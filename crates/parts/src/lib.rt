@@ -24,97 +24,87 @@ pub struct Name {
     pub count: u8,
 }
 
-// A part and its name. (An enum holds no array, so the name stands beside the part and not in it.)
-pub struct Row {
-    pub part: Part,
-    pub name: Name,
-}
+const PARTS: [Part; 7] = [
+    // 0 zero
+    Part {
+        inputs: 0,
+        outputs: 1,
+        shape: 0,
+        paired: false,
+    },
+    // 1 reg
+    Part {
+        inputs: 1,
+        outputs: 1,
+        shape: 1,
+        paired: false,
+    },
+    // 2 and
+    Part {
+        inputs: 2,
+        outputs: 1,
+        shape: 2,
+        paired: true,
+    },
+    // 3 or
+    Part {
+        inputs: 2,
+        outputs: 1,
+        shape: 2,
+        paired: true,
+    },
+    // 4 xor
+    Part {
+        inputs: 2,
+        outputs: 1,
+        shape: 2,
+        paired: true,
+    },
+    // 5 inv
+    Part {
+        inputs: 1,
+        outputs: 1,
+        shape: 1,
+        paired: false,
+    },
+    // 6 one
+    Part {
+        inputs: 0,
+        outputs: 1,
+        shape: 0,
+        paired: false,
+    },
+];
 
-// 0 zero, 1 reg, 2 and, 3 or, 4 xor, 5 inv, 6 one
-const PARTS: [Row; 7] = [
-    Row {
-        part: Part {
-            inputs: 0,
-            outputs: 1,
-            shape: 0,
-            paired: false,
-        },
-        name: Name {
-            letters: [b'z', b'e', b'r', b'o'],
-            count: 4,
-        },
+// The names beside them: an enum holds no array, and who looks up a part wants no name on its stack.
+const NAMES: [Name; 7] = [
+    Name {
+        letters: [b'z', b'e', b'r', b'o'],
+        count: 4,
     },
-    Row {
-        part: Part {
-            inputs: 1,
-            outputs: 1,
-            shape: 1,
-            paired: false,
-        },
-        name: Name {
-            letters: [b'r', b'e', b'g', 0],
-            count: 3,
-        },
+    Name {
+        letters: [b'r', b'e', b'g', 0],
+        count: 3,
     },
-    Row {
-        part: Part {
-            inputs: 2,
-            outputs: 1,
-            shape: 2,
-            paired: true,
-        },
-        name: Name {
-            letters: [b'a', b'n', b'd', 0],
-            count: 3,
-        },
+    Name {
+        letters: [b'a', b'n', b'd', 0],
+        count: 3,
     },
-    Row {
-        part: Part {
-            inputs: 2,
-            outputs: 1,
-            shape: 2,
-            paired: true,
-        },
-        name: Name {
-            letters: [b'o', b'r', 0, 0],
-            count: 2,
-        },
+    Name {
+        letters: [b'o', b'r', 0, 0],
+        count: 2,
     },
-    Row {
-        part: Part {
-            inputs: 2,
-            outputs: 1,
-            shape: 2,
-            paired: true,
-        },
-        name: Name {
-            letters: [b'x', b'o', b'r', 0],
-            count: 3,
-        },
+    Name {
+        letters: [b'x', b'o', b'r', 0],
+        count: 3,
     },
-    Row {
-        part: Part {
-            inputs: 1,
-            outputs: 1,
-            shape: 1,
-            paired: false,
-        },
-        name: Name {
-            letters: [b'i', b'n', b'v', 0],
-            count: 3,
-        },
+    Name {
+        letters: [b'i', b'n', b'v', 0],
+        count: 3,
     },
-    Row {
-        part: Part {
-            inputs: 0,
-            outputs: 1,
-            shape: 0,
-            paired: false,
-        },
-        name: Name {
-            letters: [b'o', b'n', b'e', 0],
-            count: 3,
-        },
+    Name {
+        letters: [b'o', b'n', b'e', 0],
+        count: 3,
     },
 ];
 
@@ -123,8 +113,7 @@ pub fn part_at(p: u8) -> Named
 {
     let i = p as usize;
     if i < 7 {
-        let row = PARTS[i];
-        let part = row.part;
+        let part = PARTS[i];
         Named::Part(part)
     } else {
         Named::Unknown
@@ -137,13 +126,11 @@ pub fn part_of(p: u16) -> Part
 {
     let i = p as usize;
     if i < 7 {
-        let row = PARTS[i];
-        let part = row.part;
+        let part = PARTS[i];
         return part;
     }
     let zero = PARTS[0];
-    let part = zero.part;
-    part
+    zero
 }
 
 // The name of a part; none where there is no such part.
@@ -152,8 +139,7 @@ pub fn name_of(p: u8) -> Name
 {
     let i = p as usize;
     if i < 7 {
-        let row = PARTS[i];
-        let name = row.name;
+        let name = NAMES[i];
         return name;
     }
     Name {

@@ -1,5 +1,6 @@
 pub mod TableLaws
 pub mod RepeatLaws
+pub mod KeyLaws
 pub mod CheckLaws
 pub mod KindLaws
 pub mod TypesLaws

@@ -148,6 +148,13 @@ module _ (s : List ℕ) (at : ℕ) {f : Form} {next : ℕ} (t : TypeHere s at f 
           within = rw (t .past) (t .whole);
         }
 
+    -- its record is the one that its number gives
+    pub type-is : (z : ℕ) → good z ≡ sizeOf Θ q at → q ≡ recIn s count
+    type-is z e =
+        let (few, ok, is) = size-tells Θ q at z (sym e) in
+        let c : length Θ ≡ count = table-count s count in
+        rec-here count (i .before .ok) (checked Θ q at tt (i .before .ok) (omega arith) ok) (i .end)
+
     pub type-refused : (number place : ℕ) → refuse number place ≡ sizeOf Θ q at → noTypes (numbered number place) ≡ typesOf (typesIn s)
     unfolding typesOf typesIn
     type-refused number place e = rw (went, ← e)

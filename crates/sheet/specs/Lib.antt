@@ -1,4 +1,5 @@
 pub mod Tables
+pub mod Keys
 pub mod Sheets
 pub mod Said
 pub mod Nodes

@@ -13,6 +13,7 @@ ghost use Rattle.sheet.specs.Nodes.{NodesFrom};
 ghost use Rattle.sheet.specs.Said.{spanned, endedOf};
 ghost use Rattle.sheet.specs.Sheets.{saidReading, noSheet, readingOf, saidBounds};
 
+mod keys;
 mod term;
 mod types;
 

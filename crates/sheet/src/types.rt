@@ -1,4 +1,5 @@
 // The type records of a sheet: refusals 3 and 5 to 8, and the sizes of the types.
+use crate::keys;
 use records::Form;
 use records::Record;
 ghost use mathlib.Core.Path.{_≡_};
@@ -13,6 +14,7 @@ ghost use Rattle.calculus.specs.Read.{repeated};
 ghost use Rattle.records.specs.Forms.{saidForm, recOf, recIn};
 ghost use Rattle.records.specs.Told.{sizesOf};
 ghost use Rattle.sheet.specs.Tables.{tableIn, knownBelow, formedIn, sizeIn, Before, sizeOf, saidChecked};
+ghost use Rattle.sheet.specs.Keys.{Keyed};
 ghost use Rattle.sheet_theorems.specs.Records.{sharableRec, arrowRec};
 ghost use Rattle.sheet.specs.Said.{saidTypes, noTypes, typesOf, typesIn, endOf};
 
@@ -104,8 +106,7 @@ fn is_record(s: &[u8], t: usize, kind: u8, left: u8, right: u8) -> bool
     s[at] == kind
 }
 
-// One of the earlier records has this kind, of two sides, and these type numbers. The first is the single bit's. Bytes are compared,
-// not forms: for 256 types this loop is most of the reading.
+// One of the earlier records has this kind, of two sides, and these type numbers. The first is the single bit's.
 fn stands(s: &[u8], count: usize, kind: u8, left: u8, right: u8) -> bool
     requires { ⌜ (count ≤ 256) × (2 ≤ kind) × (kind ≤ 4) ⌝ }
     ensures { λ r. ⌜ r ≡ repeated (tableIn (now (s .entry)) count) (recOf kind left right) ⌝ }
@@ -131,6 +132,17 @@ fn repeats(s: &[u8], count: usize, f: Form) -> bool
         Form::Arrow(a, b) => stands(s, count, 0x03, a, b),
         Form::Linear(a, b) => stands(s, count, 0x04, a, b),
     }
+}
+
+// The same, by the keys of the earlier records: where none of them has this one's, none is the same.
+fn repeats_by(s: &[u8], keys: &[u16; 256], count: usize, f: Form) -> bool
+    requires { ⌜ (count ≤ 256) × Keyed (now s) count (now keys) ⌝ }
+    ensures { λ r. ⌜ r ≡ repeated (tableIn (now (s .entry)) count) (saidForm f) ⌝ }
+{
+    if keys::among(keys, count, keys::key_of(f)) {
+        return repeats(s, count, f);
+    }
+    false
 }
 
 fn sum(sizes: &[u8], a: u8, b: u8) -> usize
@@ -159,8 +171,15 @@ pub enum Checked {
     Refused(u8, usize),
 }
 
-fn check_type(s: &[u8], at: usize, count: usize, sizes: &[u8], f: Form) -> Checked
-    requires { ⌜ Before (now s) count (now sizes) ⌝ }
+fn check_type(
+    s: &[u8],
+    at: usize,
+    count: usize,
+    sizes: &[u8],
+    keys: &[u16; 256],
+    f: Form,
+) -> Checked
+    requires { ⌜ (Before (now s) count (now sizes)) × Keyed (now s) count (now keys) ⌝ }
     ensures { λ r. ⌜ saidChecked r ≡ sizeOf (tableIn (now (s .entry)) count) (saidForm f) at ⌝ }
 {
     if MOST_TYPES <= count {
@@ -174,7 +193,7 @@ fn check_type(s: &[u8], at: usize, count: usize, sizes: &[u8], f: Form) -> Check
     if !form {
         return Checked::Refused(6, at);
     }
-    if repeats(s, count, f) {
+    if repeats_by(s, keys, count, f) {
         return Checked::Refused(7, at);
     }
     let size = size_of(sizes, f);
@@ -229,6 +248,7 @@ pub fn read_types(s: &[u8]) -> Types
     ensures { λ r. ⌜ saidTypes r ≡ typesOf (typesIn (now (s .entry))) ⌝ }
 {
     let mut sizes = no_sizes();
+    let mut keys = keys::no_keys();
     let mut at: usize = 0;
     let mut count: usize = 0;
     loop {
@@ -236,12 +256,13 @@ pub fn read_types(s: &[u8]) -> Types
         let Record::Type(f, next) = r else {
             return types_end(r, at, count, sizes);
         };
-        match check_type(s, at, count, &sizes, f) {
+        match check_type(s, at, count, &sizes, &keys, f) {
             Checked::Refused(number, place) => {
                 return no_types(number, place);
             }
             Checked::Size(size) => {
                 sizes[count] = size;
+                keys[count] = keys::key_of(f);
                 count = count + 1;
                 at = next;
             }

@@ -8,17 +8,19 @@ use Rattle.calculus.specs.Terms.{Edition}
 use Rattle.calculus.specs.Walk.{Stack, walk}
 use Rattle.sheet_theorems.proofs.Laying.{records-laid, records-edition}
 use Rattle.sheet_theorems.proofs.Standing.{sheet-stands}
+use Rattle.binders.specs.declared.Binders.{Binders}
+use Rattle.binders.specs.Stacks.{stackOf}
 use Rattle.typing.specs.declared.Verdict.the-variants as verdict
 use Rattle.typing.specs.declared.Refusal.{Refusal}
 use Rattle.typing.specs.declared.Checked.{Checked}
-use Rattle.typing.specs.Verdicts.{saidWhy, said}
+use Rattle.typing.specs.Verdicts.{saidWhy, held, said}
 use Rattle.typing.specs.Answers.{checkOf, TermAt}
 use Rattle.typing.specs.Fits.{Fits, Walked}
 use Rattle.typing.proofs.VerdictLaws.{said-fine, said-refused}
 use Rattle.records.proofs.ToldLaws.{sheet-types}
 
-module _ {s : List ℕ} {l : ℕ} {E : Edition} {at : ℕ} (term : TermAt s l E at) {st : Stack} (empty : st ≡ []) where
-  pub sheet-fits : Fits s l E at 0 (term .sheet .table) (term .sheet .term) st
+module _ {s : List ℕ} {l : ℕ} {E : Edition} {at : ℕ} (term : TermAt s l E at) (b : Binders) (empty : stackOf b ≡ []) where
+  pub sheet-fits : Fits s l E at 0 (term .sheet .table) (term .sheet .term) (stackOf b)
   sheet-fits =
       let w = records-laid E s (term .sheet) (term .short) (term .read) in
       rw (empty, term .start)
@@ -33,14 +35,14 @@ module _ {s : List ℕ} {l : ℕ} {E : Edition} {at : ℕ} (term : TermAt s l E 
         few = omega (arith, w .few);
       })
 
-  module _ (c : Checked) (w : Walked s l E at 0 st c) where
-    walk-said : said c ≡ walk E (term .sheet .table) (term .sheet .term) 0 []
+  module _ (c : Checked) (w : Walked s l E at 0 b c) where
+    walk-said : said (held b c) ≡ walk E (term .sheet .table) (term .sheet .term) 0 []
     walk-said = w _ _ sheet-fits .answer ∙ ap (λ (x : Stack). walk E (term .sheet .table) (term .sheet .term) 0 x) empty
 
     pub check-fine : {t i j : ℕ} → c .verdict ≡ verdict.Fine t i j → good t ≡ checkOf E s
     unfolding checkOf
-    check-fine v = rw (term .read, records-edition E s (term .sheet) (term .read), ← walk-said, said-fine c v)
+    check-fine v = rw (term .read, records-edition E s (term .sheet) (term .read), ← walk-said, said-fine (held b c) v)
 
     pub check-refused : {r : Refusal} → c .verdict ≡ verdict.Refused r → refused (saidWhy r) ≡ checkOf E s
     unfolding checkOf
-    check-refused v = rw (term .read, records-edition E s (term .sheet) (term .read), ← walk-said, said-refused c v)
+    check-refused v = rw (term .read, records-edition E s (term .sheet) (term .read), ← walk-said, said-refused (held b c) v)

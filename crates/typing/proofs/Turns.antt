@@ -21,9 +21,8 @@ use Rattle.binders.proofs.Laws.{length-of}
 use Rattle.typing.specs.declared.Verdict.{Verdict}
 use Rattle.typing.specs.declared.Verdict.the-variants as verdict
 use Rattle.typing.specs.declared.Refusal.{Refusal}
-use Rattle.typing.specs.declared.Checked.{Checked}
 use Rattle.typing.specs.Steps.{leafOf, enterOf, leaveOne, betweenOf, leaveTwo}
-use Rattle.typing.specs.Verdicts.{said, EndsAt, Says, Follows}
+use Rattle.typing.specs.Verdicts.{Held, said, EndsAt, Says, Follows}
 use Rattle.typing.specs.Fits.{Fits, Counts, CountsIn}
 use Rattle.typing.proofs.VerdictLaws.{foundAt, said-fine, stops, refused-ends}
 use Rattle.typing.proofs.Ranges.{Kept, kept}
@@ -49,8 +48,8 @@ module _ {s : List ℕ} {l : ℕ} {E : Edition} {at node : ℕ} {Θ : Table} {e 
   fits-kept F r h = kept E Θ (F .table) e (F .ranged) node st (F .numbers) r h
 
   -- after a walk there are as many binders as before
-  pub held : Fits s l E at node Θ e st → (x : Checked) {i j : ℕ} → Says x (walk E Θ e node st) i j → {m : ℕ} → length st ≡ m → Counts m x
-  held F x X {m} l = by-verdict (x .verdict) refl
+  pub as-many : Fits s l E at node Θ e st → (x : Held) {i j : ℕ} → Says x (walk E Θ e node st) i j → {m : ℕ} → length st ≡ m → Counts m x
+  as-many F x X {m} l = by-verdict (x .verdict) refl
     where
       by-verdict : (v : Verdict) → x .verdict ≡ v → CountsIn m v (x .binders .count)
       by-verdict (verdict.Fine t i j) q = omega (arith, fits-kept F (foundAt t (stackOf (x .binders))) (sym (X .answer) ∙ said-fine x q) .count, length-of (x .binders))
@@ -68,7 +67,7 @@ module _ (s : List ℕ) (l : ℕ) (E : Edition) (at node : ℕ) (st : Stack) (Θ
   -- a node with subterms has been entered
   pub record Inside : Type 0 where
     pub place : Here
-    pub i : Checked
+    pub i : Held
     pub some : ¬ (place .n .subterms ≡ 0)
     pub says : Says i (enterOf (recIn s) (place .n .rule) (place .n .first) node st) (place .n .next) (node + 1)
 
@@ -83,14 +82,14 @@ module _ (s : List ℕ) (l : ℕ) (E : Edition) (at node : ℕ) (st : Stack) (Θ
   -- the first subterm has been walked
   pub record First : Type 0 where
     pub opened : Opened
-    pub x : Checked
+    pub x : Held
     pub says :
         Says x (walk E Θ (firstOf e) (opened .count) (stackOf (opened .inside .i .binders))) (opened .start + length (termBytes (firstOf e))) (opened .count + nodes (firstOf e))
 
   -- there is a second one, and it has been entered
   pub record Middle : Type 0 where
     pub first : First
-    pub m : Checked
+    pub m : Held
     pub two : ¬ (first .opened .inside .place .n .subterms ≡ 1)
     pub follows : Follows (first .x) m (betweenOf (recIn s) (first .opened .inside .place .n .rule) node)
 
@@ -103,7 +102,7 @@ module _ (s : List ℕ) (l : ℕ) (E : Edition) (at node : ℕ) (st : Stack) (Θ
     pub fine : middle .m .verdict ≡ verdict.Fine u start count
 
   -- the verdict on the whole term
-  abbrev pub Done : Checked → Type 0
+  abbrev pub Done : Held → Type 0
   Done c = Says c (walk E Θ e node st) (at + length (termBytes e)) (node + nodes e)
 
 -- ---- .. and what follows there
@@ -120,7 +119,7 @@ module _ {s : List ℕ} {l : ℕ} {E : Edition} {at node : ℕ} {st : Stack} {Θ
     subterms-are : h .n .subterms ≡ nodeOf e at .subterms
     subterms-are = ap (λ (n : Node). n .subterms) node-is
 
-    pub turn-leaf : h .n .subterms ≡ 0 → {c : Checked} → Says c (leafOf (recIn s) l E (h .n .rule) (h .n .first) (h .n .second) node st) (h .n .next) (node + 1) → Done s l E at node st Θ e c
+    pub turn-leaf : h .n .subterms ≡ 0 → {c : Held} → Says c (leafOf (recIn s) l E (h .n .rule) (h .n .first) (h .n .second) node st) (h .n .next) (node + 1) → Done s l E at node st Θ e c
     turn-leaf z {c} w =
         let F = h .fits in
         let z₁ : nodeOf e at .subterms ≡ 0 = sym subterms-are ∙ z in
@@ -170,15 +169,15 @@ module _ {s : List ℕ} {l : ℕ} {E : Edition} {at node : ℕ} {st : Stack} {Θ
     -- a node with one subterm binds a variable, one with two binds none on entering
     pub turn-held-one : h .opened .inside .place .n .subterms ≡ 1 → {m : ℕ} → length st ≡ m → Counts (m + 1) (h .x)
     turn-held-one z q =
-        held (turn-first (h .opened)) (h .x) (h .says)
+        as-many (turn-first (h .opened)) (h .x) (h .says)
         (enter-one s l E at node Θ st e (sym (subterms-are (h .opened .inside .place)) ∙ z) _ (inside-is (h .opened)) ∙ ap (λ (k : ℕ). k + 1) q)
 
     pub turn-held-two : ¬ (h .opened .inside .place .n .subterms ≡ 1) → {m : ℕ} → length st ≡ m → Counts m (h .x)
     turn-held-two d q =
-        held (turn-first (h .opened)) (h .x) (h .says)
+        as-many (turn-first (h .opened)) (h .x) (h .says)
         (ap length (enter-two s l E at node Θ st e (some-is (h .opened .inside)) (λ z. d (subterms-are (h .opened .inside .place) ∙ z)) _ (inside-is (h .opened))) ∙ q)
 
-    pub turn-one : h .opened .inside .place .n .subterms ≡ 1 → {c : Checked}
+    pub turn-one : h .opened .inside .place .n .subterms ≡ 1 → {c : Held}
         → Follows (h .x) c (leaveOne (recIn s) (h .opened .inside .place .n .rule) (h .opened .inside .place .n .first) node) → Done s l E at node st Θ e c
     turn-one z {c} w =
         let N = node-is (h .opened .inside .place) in
@@ -226,7 +225,7 @@ module _ {s : List ℕ} {l : ℕ} {E : Edition} {at node : ℕ} {st : Stack} {Θ
         fits-at (ap (λ (z : ℕ). z + length (termBytes (firstOf e))) (sym (next-is o)) ∙ sym (mid-is .0)) (sym count-is)
         (fits-second s l E at node Θ st e (o .inside .place .fits) (some-is (o .inside)) _ (inside-is o) (two-is (h .middle)) a (sym (first-said (h .middle .first)) ∙ g) _ k)
 
-    pub turn-two : (y c : Checked) → Says y (walk E Θ (secondOf e) (h .count) (stackOf (h .middle .m .binders))) (h .start + length (termBytes (secondOf e))) (h .count + nodes (secondOf e))
+    pub turn-two : (y c : Held) → Says y (walk E Θ (secondOf e) (h .count) (stackOf (h .middle .m .binders))) (h .start + length (termBytes (secondOf e))) (h .count + nodes (secondOf e))
         → Follows y c (leaveTwo (recIn s) (o .inside .place .n .rule) (o .inside .place .n .first) node (h .u)) → Done s l E at node st Θ e c
     turn-two y c Y w =
         let N = end-two at e (some-is (o .inside)) (two-is (h .middle)) in

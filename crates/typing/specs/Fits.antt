@@ -2,7 +2,7 @@
 use Prim.Native.Nat.{ℕ, _+_, _*_, _≤_, _<_}
 use mathlib.Core.Path.{_≡_}
 use mathlib.Core.List.{List}
-use lib.ListN.{length}
+use lib.ListN.{length, getD}
 use Rattle.calculus.specs.Types.{Table, recAt}
 use Rattle.calculus.specs.Terms.{Edition, Term, nodes}
 use Rattle.calculus.specs.Write.{termBytes}
@@ -13,7 +13,9 @@ use Rattle.sheet_theorems.specs.Numbers.{Numbers}
 use Rattle.typing.specs.declared.Checked.{Checked}
 use Rattle.typing.specs.declared.Verdict.{Verdict}
 use Rattle.typing.specs.declared.Verdict.the-variants as verdict
-use Rattle.typing.specs.Verdicts.{Says}
+use Rattle.binders.specs.declared.Binders.{Binders}
+use Rattle.binders.specs.Stacks.{stackOf, slotOf}
+use Rattle.typing.specs.Verdicts.{Held, held, Says}
 
 -- a term stands at an offset, of a sheet that is its own table of l types; a level of the term binds two variables at most
 pub record Fits (s : List ℕ) (l : ℕ) (E : Edition) (at node : ℕ) (Θ : Table) (e : Term) (st : Stack) : Type 0 where
@@ -33,13 +35,20 @@ pub record Placed (s : List ℕ) (l : ℕ) (E : Edition) (at node : ℕ) (st : S
   pub fits : Fits s l E at node table term st
 
 -- the walk's verdict on whichever term stands there
-abbrev pub Walked : List ℕ → ℕ → Edition → ℕ → ℕ → Stack → Checked → Type 0
-Walked s l E at node st c = (Θ : Table) (e : Term) → Fits s l E at node Θ e st → Says c (walk E Θ e node st) (at + length (termBytes e)) (node + nodes e)
+abbrev pub Walked : List ℕ → ℕ → Edition → ℕ → ℕ → Binders → Checked → Type 0
+Walked s l E at node b c = (Θ : Table) (e : Term) → Fits s l E at node Θ e (stackOf b) → Says (held b c) (walk E Θ e node (stackOf b)) (at + length (termBytes e)) (node + nodes e)
 
 -- a verdict that is fine has so many binders
 abbrev pub CountsIn : ℕ → Verdict → ℕ → Type 0
 CountsIn m (verdict.Fine t x y) count = count ≡ m
 CountsIn m (verdict.Refused r) count = Unit {0}
 
-abbrev pub Counts : ℕ → Checked → Type 0
+abbrev pub Counts : ℕ → Held → Type 0
 Counts m c = CountsIn m (c .verdict) (c .binders .count)
+
+-- what a leaf is told of the binders: their number, sorts and marks, and the type of the one that a number names
+pub record Names (b : Binders) (i scope ty : ℕ) (sorts marks : List ℕ) : Type 0 where
+  pub count : scope ≡ b .count
+  pub type : ty ≡ getD (b .types) (slotOf (b .count) i) 0
+  pub same-sorts : sorts ≡ b .sorts
+  pub same-marks : marks ≡ b .used

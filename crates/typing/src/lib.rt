@@ -8,15 +8,16 @@ use rules::Fit;
 ghost use mathlib.Core.Path.{_≡_};
 ghost use mathlib.Core.List.{_∷_};
 ghost use Prim.Native.Nat.{ℕ, _+_, _<_, _≤_};
-ghost use lib.ListN.{drop};
+ghost use lib.ListN.{getD, drop};
 ghost use Rattle.calculus.specs.Walk.{Stack};
 ghost use Rattle.records.specs.Forms.{recIn};
 ghost use Rattle.records.specs.Editions.{editionBy};
-ghost use Rattle.binders.specs.Stacks.{binderOf, stackOf};
+ghost use Rattle.binders.specs.Stacks.{bitsOf, binderOf, stackOf};
+ghost use Rattle.binders.specs.declared.Binders.{Binders};
 ghost use Rattle.typing.specs.Steps.{constantOf, leafOf, usedUp, leaveOne, betweenOf, closesOf, leaveTwo};
-ghost use Rattle.typing.specs.Verdicts.{saidVerdict, refusedOf, clashOf, checked, settledOf, halves, EndsAt, Says, FollowsOn, Follows};
+ghost use Rattle.typing.specs.Verdicts.{saidVerdict, refusedOf, clashOf, checked, held, atCount, settledOf, halves, EndsAt, Says, FollowsOn, Follows};
 ghost use Rattle.typing.specs.Answers.{saidTyping, checkOf, TermAt};
-ghost use Rattle.typing.specs.Fits.{Placed, Walked, Counts};
+ghost use Rattle.typing.specs.Fits.{Placed, Walked, Counts, Names};
 
 mod rules;
 
@@ -34,10 +35,10 @@ pub enum Verdict {
     Refused(Refusal),
 }
 
-// A verdict, and the binders with their marks after it.
+// A verdict, and the marks of use after it. The binders themselves are as before, so that no level hands them back.
 pub struct Checked {
     pub verdict: Verdict,
-    pub binders: Binders,
+    pub used: [u64; 2],
 }
 
 // Refused at a place.
@@ -64,14 +65,11 @@ fn clash(node: usize, wanted: u16, found: u8) -> Verdict
     })
 }
 
-// A verdict that ends the walk, with the binders as they are.
-fn stopped(v: Verdict, b: Binders) -> Checked
-    ensures { λ r. ⌜ r ≡ checked v b ⌝ }
+// A verdict, with the marks as they are after it.
+fn answered(v: Verdict, used: [u64; 2]) -> Checked
+    ensures { λ r. ⌜ r ≡ checked v used ⌝ }
 {
-    Checked {
-        verdict: v,
-        binders: b,
-    }
+    Checked { verdict: v, used }
 }
 
 // ---- leaves
@@ -112,32 +110,37 @@ fn constant(s: &[u8], n: Node, node: usize, types: usize, second: bool) -> Verdi
     }
 }
 
-// A node without subterms. A linear variable is marked whatever the answer: after a refusal nobody looks at the marks.
-fn leaf(s: &[u8], n: Node, node: usize, b: Binders, types: usize, second: bool) -> Checked
-    requires { ⌜ (b .count ≤ 128) × (node < 2048) × (types ≤ 256) ⌝ }
-    ensures { λ r. ⌜ Says r (leafOf (recIn (now (s .entry))) types (editionBy second) (n .rule) (n .first) (n .second) node (stackOf b)) (n .next) (node + 1) ⌝ }
+// A node without subterms, under `scope` binders with these sorts and marks; `ty` is the type of the one that its number names. A linear
+// variable is marked whatever the answer: after a refusal nobody looks at the marks.
+fn leaf(
+    s: &[u8],
+    n: Node,
+    node: usize,
+    scope: usize,
+    ty: u8,
+    sorts: [u64; 2],
+    marks: [u64; 2],
+    types: usize,
+    second: bool,
+) -> Checked
+    requires { ⌜ (scope ≤ 128) × (node < 2048) × (types ≤ 256) ⌝ }
+    ensures { λ r. ⌜ ((b : Binders) → Names b (n .first) scope ty sorts marks → Says (held b r) (leafOf (recIn (now (s .entry))) types (editionBy second) (n .rule) (n .first) (n .second) node (stackOf b)) (n .next) (node + 1)) ⌝ }
 {
-    let mut own = b;
-    let c = own.count;
     let i = records::wide(n.first);
-    let k = binders::slot(c, i);
+    let k = binders::slot(scope, i);
+    let sort = binders::bit(sorts, k);
     let rule = n.rule;
-    let verdict = match rule {
-        Rule::Variable => settled(
-            binders::use_shared(c, i, own.types[k], own.sorts[k]),
-            n.next,
-            node,
-        ),
-        Rule::LinearVariable => {
-            let taken = binders::use_linear(c, i, own.types[k], own.sorts[k], own.used[k]);
-            own.used[k] = 1;
-            settled(taken, n.next, node)
+    match rule {
+        Rule::Variable => {
+            let taken = binders::use_shared(scope, i, ty, sort);
+            answered(settled(taken, n.next, node), marks)
         }
-        _ => constant(s, n, node, types, second),
-    };
-    Checked {
-        verdict,
-        binders: own,
+        Rule::LinearVariable => {
+            let taken = binders::use_linear(scope, i, ty, sort, binders::bit(marks, k));
+            let used = binders::with_bit(marks, k, 1);
+            answered(settled(taken, n.next, node), used)
+        }
+        _ => answered(constant(s, n, node, types, second), marks),
     }
 }
 
@@ -178,19 +181,18 @@ fn after_one(s: &[u8], n: Node, node: usize, v: Verdict, used: bool) -> Verdict
     }
 }
 
-// The variable, at c, goes out of scope.
-fn leave_one(s: &[u8], n: Node, node: usize, c: usize, x: Checked) -> Checked
-    requires { ⌜ (c < 128) × Counts (c + 1) x ⌝ }
-    ensures { λ r. ⌜ Follows x r (leaveOne (recIn (now (s .entry))) (n .rule) (n .first) node) ⌝ }
+// The variable, at c and of a sort, goes out of scope.
+fn leave_one(s: &[u8], n: Node, node: usize, c: usize, sort: u8, x: Checked) -> Checked
+    requires { ⌜ c < 128 ⌝ }
+    ensures { λ r. ⌜ ((b : Binders) → sort ≡ getD (bitsOf (b .sorts)) c 0 → Counts (c + 1) (held b x) → Follows (held b x) (held (atCount b c) r) (leaveOne (recIn (now (s .entry))) (n .rule) (n .first) node)) ⌝ }
 {
     let v = x.verdict;
-    let mut own = x.binders;
+    let used = x.used;
     let rule = n.rule;
-    let used = used_up(rule, own.sorts[c], own.used[c]);
-    own.count = c;
+    let all = used_up(rule, sort, binders::bit(used, c));
     Checked {
-        verdict: after_one(s, n, node, v, used),
-        binders: own,
+        verdict: after_one(s, n, node, v, all),
+        used,
     }
 }
 
@@ -230,64 +232,65 @@ fn after_two(s: &[u8], n: Node, node: usize, a: u8, v: Verdict) -> Verdict
     }
 }
 
-// The variables that were bound between the two, from c, go out of scope.
-fn leave_two(s: &[u8], n: Node, node: usize, a: u8, c: usize, y: Checked) -> Checked
-    requires { ⌜ Counts (c + closesOf (n .rule)) y ⌝ }
-    ensures { λ r. ⌜ Follows y r (leaveTwo (recIn (now (s .entry))) (n .rule) (n .first) node a) ⌝ }
+// The variables that were bound between the two go out of scope.
+fn leave_two(s: &[u8], n: Node, node: usize, a: u8, y: Checked) -> Checked
+    ensures { λ r. ⌜ ((b : Binders) (c : ℕ) → Counts (c + closesOf (n .rule)) (held b y) → Follows (held b y) (held (atCount b c) r) (leaveTwo (recIn (now (s .entry))) (n .rule) (n .first) node a)) ⌝ }
 {
     let v = y.verdict;
-    let mut own = y.binders;
-    own.count = c;
+    let used = y.used;
     Checked {
         verdict: after_two(s, n, node, a, v),
-        binders: own,
+        used,
     }
 }
 
 // ---- the walk
 
 // The term at an offset, node `node`, under the binders in scope. Each subterm has fewer bytes left, and there are at most 64 levels.
-// The binders go through the first subterm into the second with their marks. What a node binds is stored here, past the scope where
-// it binds nothing: to pass the binders through a function costs a copy each time.
+// The marks go through the first subterm into the second. What a node binds is stored here, past the scope where it binds nothing, and
+// both subterms take the one copy of the binders: it is most of what a level takes of the stack.
 fn walk(s: &[u8], at: usize, node: usize, b: Binders, types: usize, second: bool) -> Checked
     requires { ⌜ Placed (now s) types (editionBy second) at node (stackOf b) ⌝ }
-    ensures { λ r. ⌜ Walked (now (s .entry)) types (editionBy second) at node (stackOf b) r ⌝ }
+    ensures { λ r. ⌜ Walked (now (s .entry)) types (editionBy second) at node b r ⌝ }
 {
     let n = records::node_at(s, at);
+    let mut own = b;
+    let c = own.count;
+    let marks = own.used;
+    let sorts = own.sorts;
     if n.subterms == 0 {
-        return leaf(s, n, node, b, types, second);
+        let k = binders::slot(c, records::wide(n.first));
+        return leaf(s, n, node, c, own.types[k], sorts, marks, types, second);
     }
     let rule = n.rule;
     let o = rules::bound(rules::opens(s, rule, n.first));
     if !o.fits {
-        return stopped(clash(node, rules::FORM, n.first), b);
+        return answered(clash(node, rules::FORM, n.first), marks);
     }
-    let mut own = b;
-    let c = own.count;
     own.types[c] = o.ty;
-    own.sorts[c] = o.sort;
-    own.used[c] = 0;
+    own.sorts = binders::with_bit(sorts, c, o.sort);
+    own.used = binders::with_bit(marks, c, 0);
     own.count = c + o.count;
-    let x = walk(s, n.next, node + 1, own, types, second);
+    let mut x = walk(s, n.next, node + 1, own, types, second);
+    let sorts_then = own.sorts;
     if n.subterms == 1 {
-        return leave_one(s, n, node, c, x);
+        return leave_one(s, n, node, c, binders::bit(sorts_then, c), x);
     }
     let first = x.verdict;
     let v = between(s, rule, node, first);
-    own = x.binders;
+    let after = x.used;
     let Verdict::Fine { ty, next, count } = v else {
-        return stopped(v, own);
+        return answered(v, after);
     };
     let q = rules::halves_of(s, rule, ty);
-    own.types[c] = q.first;
-    own.sorts[c] = 0;
-    own.used[c] = 0;
     let d = c + 1;
+    own.types[c] = q.first;
     own.types[d] = q.second;
-    own.sorts[d] = 0;
-    own.used[d] = 0;
+    own.sorts = binders::with_bit(binders::with_bit(sorts_then, c, 0), d, 0);
+    own.used = binders::with_bit(binders::with_bit(after, c, 0), d, 0);
     own.count = c + rules::closes(rule);
-    leave_two(s, n, node, ty, c, walk(s, next, count, own, types, second))
+    x = walk(s, next, count, own, types, second);
+    leave_two(s, n, node, ty, x)
 }
 
 // The type of a sheet's term, by its number, or a refusal.

@@ -1,5 +1,6 @@
 pub mod RunLaws
 pub mod TurnLaws
+pub mod DueLaws
 pub mod LinkLaws
 pub mod StoreLaws
 pub mod NodeLaws
@@ -10,6 +11,7 @@ pub mod OneLaws
 pub mod TwoLaws
 pub mod FinishLaws
 pub mod StepLaws
+pub mod EnterLaws
 pub mod CountLaws
 pub mod FullLaws
 pub mod Accepting

@@ -133,6 +133,11 @@ pub record Opened {s sizes w : List ℕ} {node : Node} {st : State} (q : Here s 
   pub state : r ≡ inner (size (tree (q .asks .table) (boundIn s node))) st
   pub holds : Holds w′ (opened (q .asks .store) (q .asks .table) (boundIn s node) (st .next))
 
+-- .. or neither, where it has two subterms
+pub record Entered {s sizes w : List ℕ} {node : Node} {st : State} (q : Here s sizes w node st) (r : State) (w′ : List ℕ) : Type 0 where
+  pub one : node .subterms ≡ 1 → Opened q r w′
+  pub more : (node .subterms ≡ 1 → ⊥) → (st ≡ r) × (w ≡ w′)
+
 -- the body's interface wired to the input interface below it, and moved down
 unfoldable pub looped : List ℕ → ℕ → ℕ → ℕ → List ℕ
 looped w at l k =

@@ -13,7 +13,7 @@ ghost use Rattle.calculus.specs.Types.{tree};
 ghost use Rattle.calculus.specs.Terms.{partAt};
 ghost use Rattle.calculus.specs.Net.{turns, partSide};
 ghost use Rattle.memory.specs.Map.{code};
-ghost use Rattle.wiring.specs.Sides.{KnownType, Arrow, endOf, face};
+ghost use Rattle.wiring.specs.Sides.{KnownType, Arrow, StillDue, endOf, face};
 
 pub fn size_of(sizes: &[u8], t: u8) -> usize
     requires { ⌜ length (now sizes) ≡ 256 ⌝ }
@@ -51,30 +51,63 @@ fn unturned(work: &mut [u16], to: usize, l: usize, n: usize, output: bool)
     }
 }
 
-// An interface of a binder of type t, whose points start at terminal n: the variable's output interface, or its input interface. The
-// falling number is the type's.
+// A side of an arrow, or the whole, whose interface is still to be made at `to`: its type, where its points start, and which interface.
+pub struct Due {
+    pub ty: u8,
+    pub to: usize,
+    pub n: usize,
+    pub output: bool,
+}
+
+// An interface of a binder of type t, whose points start at terminal n: the variable's output interface, or its input interface. Of an
+// arrow the smaller side is made by a call and the larger one is gone on with, so that calls are at most seven deep: a type may have
+// 127 arrows one in the other, and each call takes stack. The falling number is the type's.
 pub fn interface(s: &[u8], sizes: &[u8], work: &mut [u16], to: usize, t: u8, n: usize, output: bool)
     requires { ⌜ (KnownType (now s) (now sizes) t) × (to + getD (now sizes) t 0 ≤ length (now work)) × (n + 2 * getD (now sizes) t 0 ≤ 8192) ⌝ }
     ensures { λ _. ⌜ ((q : KnownType (now (s .entry)) (now (sizes .entry)) t)
         → now (work .exit) ≡ sets (now (work .entry)) to (face output (turns false (tree (q .table) t)) n)) ⌝ }
 {
-    let x = records::sides_of(s, t);
-    if x.kind > 2 {
-        arrow(s, sizes, work, to, x, n, output);
-    } else {
-        unturned(work, to, size_of(sizes, t), n, output);
+    let mut due = Due {
+        ty: t,
+        to,
+        n,
+        output,
+    };
+    let mut x = records::sides_of(s, t);
+    while x.kind > 2 {
+        due = arrow(s, sizes, work, x, due);
+        x = records::sides_of(s, due.ty);
     }
+    unturned(work, due.to, size_of(sizes, due.ty), due.n, due.output);
 }
 
-// The same of an arrow: it turns the bits of its left side, so that the other interface of this side stands there, before the right's.
-fn arrow(s: &[u8], sizes: &[u8], work: &mut [u16], to: usize, x: Sided, n: usize, output: bool)
-    requires { ⌜ Arrow (now s) (now sizes) x (length (now work)) to n ⌝ }
-    ensures { λ _. ⌜ ((q : Arrow (now (s .entry)) (now (sizes .entry)) x (length (now (work .entry))) to n)
-        → now (work .exit) ≡ sets (now (work .entry)) to (face output (turns false (tree (q .known .table) (q .type))) n)) ⌝ }
+// The smaller side of an arrow, made, and the larger one, still due: an arrow turns the bits of its left side, so that the other
+// interface of this side stands there, before the right's.
+fn arrow(s: &[u8], sizes: &[u8], work: &mut [u16], x: Sided, due: Due) -> Due
+    requires { ⌜ Arrow (now s) (now sizes) x (length (now work)) (due .to) (due .n) ⌝ }
+    ensures { λ r. ⌜ ((q : Arrow (now (s .entry)) (now (sizes .entry)) x (length (now (work .entry))) (due .to) (due .n))
+        → StillDue q due r (now (work .entry)) (now (work .exit))) ⌝ }
 {
+    let to = due.to;
+    let n = due.n;
+    let output = due.output;
     let l = size_of(sizes, x.left);
-    interface(s, sizes, work, to, x.left, n, !output);
+    if l <= size_of(sizes, x.right) {
+        interface(s, sizes, work, to, x.left, n, !output);
+        return Due {
+            ty: x.right,
+            to: to + l,
+            n: n + 2 * l,
+            output,
+        };
+    }
     interface(s, sizes, work, to + l, x.right, n + 2 * l, output);
+    Due {
+        ty: x.left,
+        to,
+        n,
+        output: !output,
+    }
 }
 
 // How many terminals a part has: its inputs and its outputs.

@@ -17,7 +17,7 @@ ghost use Rattle.records.specs.Rules.{isConstant};
 ghost use Rattle.memory.specs.Map.{bindersAt, memorySize};
 ghost use Rattle.wiring.specs.Links.{Apart};
 ghost use Rattle.wiring.specs.Sides.{KnownType};
-ghost use Rattle.wiring.specs.Asks.{Asks, Here, Leaves, Showable, shown, Opened, looped, shownAs, closed, closedIn, Closable, halved, Between, middle, betweenIn, appliedIn, Finishable, finished, finishedIn};
+ghost use Rattle.wiring.specs.Asks.{Asks, Here, Leaves, Showable, shown, Opened, Entered, looped, shownAs, closed, closedIn, Closable, halved, Between, middle, betweenIn, appliedIn, Finishable, finished, finishedIn};
 
 // The next free terminal, the numbers of elements and wires made, the height of the stack and the number of binders in scope.
 pub struct State {
@@ -279,7 +279,19 @@ fn finish(s: &[u8], work: &mut [u16], node: Node, top: usize, f: Built, x: Built
     }
 }
 
-// The walk: what a term makes, its interface on the stack at the height on entry. The falling number is the bytes left.
+// Before the first subterm: a function or a fixed point is opened, and nothing else is done.
+fn enter(s: &[u8], sizes: &[u8], work: &mut [u16], node: Node, st: State) -> State
+    requires { ⌜ Here (now s) (now sizes) (now work) node st ⌝ }
+    ensures { λ r. ⌜ ((q : Here (now (s .entry)) (now (sizes .entry)) (now (work .entry)) node st) → Entered q r (now (work .exit))) ⌝ }
+{
+    if node.subterms == 1 {
+        return open(s, sizes, work, node, st);
+    }
+    st
+}
+
+// The walk: what a term makes, its interface on the stack at the height on entry. The falling number is the bytes left. Both subterms
+// are walked from one state, and the first of two from the same place of the code as an only one: a level then takes less of the stack.
 pub fn make(s: &[u8], sizes: &[u8], work: &mut [u16], at: usize, st: State) -> Built
     requires { ⌜ Asks (now s) (now sizes) (now work) at st ⌝ }
     ensures { λ r. ⌜ ((q : Asks (now (s .entry)) (now (sizes .entry)) (now (work .entry)) at st) → Leaves q r (now (work .exit))) ⌝ }
@@ -290,15 +302,14 @@ pub fn make(s: &[u8], sizes: &[u8], work: &mut [u16], at: usize, st: State) -> B
     if node.subterms == 0 {
         return leaf(s, sizes, work, node, st);
     }
+    let mut state = enter(s, sizes, work, node, st);
+    let f = make(s, sizes, work, next, state);
     if node.subterms == 1 {
-        let inner = open(s, sizes, work, node, st);
-        let l = inner.top - top;
-        let r = make(s, sizes, work, next, inner);
-        return close(work, node, top, l, r);
+        let l = state.top - top;
+        return close(work, node, top, l, f);
     }
-    let f = make(s, sizes, work, next, st);
     let past = f.past;
-    let middle = between(s, sizes, work, node, st, f);
-    let x = make(s, sizes, work, past, middle);
+    state = between(s, sizes, work, node, st, f);
+    let x = make(s, sizes, work, past, state);
     finish(s, work, node, top, f, x)
 }

@@ -4,17 +4,17 @@ use borrow.Author.Needs.{needs}
 use Rattle.parts.proofs.part_at.Statement.{statement}
 use Rattle.parts.proofs.part_at.Tie as tie
 
-mul-row : tie.Need-mul-row
-mul-row c = search needs
+mul-part : tie.Need-mul-part
+mul-part c = search needs
 
-array-copy-out-row : tie.Need-array-copy-out-row
-array-copy-out-row c = search needs
+array-copy-out-part : tie.Need-array-copy-out-part
+array-copy-out-part c = search needs
 
 returns : tie.Need-returns
-returns c = named-part (c .before .before .before .args .p) (c .before .before .if1 .taken)
+returns c = named-part (c .before .before .args .p) (c .before .if1 .taken)
 
 returns-2 : tie.Need-returns-2
 returns-2 c = named-none (c .before .args .p) (c .if1 .left)
 
 pub part-at-spec : {M : Type 1} → statement M
-part-at-spec = tie.close (tie.spec mul-row array-copy-out-row returns returns-2)
+part-at-spec = tie.close (tie.spec mul-part array-copy-out-part returns returns-2)

@@ -1,5 +1,6 @@
--- `typing::leave_two` meets its contract: a projection's two binders go. Assumes nothing.
+-- `typing::leave_two` meets its contract: what was bound between the two goes. Assumes nothing.
 use Rattle.typing.specs.Steps.{closesOf}
+use Rattle.typing.specs.Verdicts.{held}
 use Rattle.typing.proofs.VerdictLaws.{follows-left}
 use borrow.Author.Needs.{needs}
 use Rattle.typing.proofs.leave_two.Statement.{statement}
@@ -9,9 +10,7 @@ after-two-requires : tie.Need-after-two-requires
 after-two-requires c κs = search needs
 
 returns : tie.Need-returns
-returns c =
-    let a = c .before .before .before .args in
-    follows-left (a .y) (closesOf (a .n .rule)) (a .c) (c .before .before .before .pre) (c .after-two .ensures _)
+returns c b k n = let a = c .before .before .before .args in follows-left (held b (a .y)) (closesOf (a .n .rule)) k n (c .after-two .ensures _)
 
 pub leave-two-spec : {M : Type 1} → statement M
 leave-two-spec = tie.close (tie.spec after-two-requires returns)
