@@ -13,7 +13,7 @@ use Rattle.calculus.specs.Translate.{Wish, Call, call}
 use Rattle.sheet_theorems.proofs.Laying.{opened}
 use Rattle.sheet_theorems.proofs.StretchHolds.{stretch-holds, stretch-past, stretch-refused}
 use Rattle.sheet_theorems.proofs.Judging.{Judged, value, refusal}
-use Rattle.translator.specs.Word.{packed, Fits}
+use Rattle.translator.specs.Word.{packed, FitsWord}
 use Rattle.translator.specs.Said.{saidAnswer, called}
 use Rattle.translator.specs.declared.Answer as code
 use Rattle.translator.proofs.Places.{names-small}
@@ -63,7 +63,7 @@ check-packs v w c a e f = record {
   kept = ap (λ (x : Checked). x .work) e;
 }
 
-fits : (s : List ℕ) (room : ℕ) {a : Answer ℕ} → Judged (CallPlace s room) (CallCount room) a → Fits a
+fits : (s : List ℕ) (room : ℕ) {a : Answer ℕ} → Judged (CallPlace s room) (CallCount room) a → FitsWord a
 fits s room (value h) = omega (arith, h .0)
 fits s room (refusal {why} h) = let (w, f) = names-small s why (h .names) in (h .from, omega (arith, h .to), omega (arith, h .few), omega arith, omega arith)
 

@@ -23,7 +23,7 @@ use Rattle.circuit_theorems.proofs.Terminals.{rising-end}
 use Rattle.circuit_theorems.proofs.Main.{formed, formed-lean}
 use Rattle.circuit_theorems.proofs.Bounds.{few-pins}
 use Rattle.sheet_theorems.proofs.Judging.{of-refused}
-use Rattle.translator.specs.Word.{packed, Fits}
+use Rattle.translator.specs.Word.{packed, FitsWord}
 use Rattle.translator.proofs.WordLaws.{word-tells}
 use Rattle.translator.proofs.Places.{names-small, full-places}
 use Rattle.trace_calculus.specs.Trace.{In, upFrom, inputs, outPins, ran, trace, runCall}
@@ -203,7 +203,7 @@ module _ (s bits starts : List ℕ) (n room : ℕ) (work : List ℕ) where
 
   -- ---- what it says fits its bits
 
-  fits : n ≤ 65535 → {a : Answer (List ℕ)} → Ends a → Fits (saidOf a)
+  fits : n ≤ 65535 → {a : Answer (List ℕ)} → Ends a → FitsWord (saidOf a)
   fits h (early q l) = (l .from, omega (arith, l .to), omega (arith, l .few), omega (arith, l .small .0), omega (arith, l .small .1))
   fits h (of-net m l q (by-ring {x = x} r)) = (omega arith, omega arith, omega (arith, ring-low s m q x (r .input)), omega arith, omega arith)
   fits h (of-net m l q (by-bits f r)) = (omega arith, omega arith, omega arith, omega arith, omega arith)

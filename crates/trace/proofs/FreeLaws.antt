@@ -28,7 +28,7 @@ use Rattle.trace_theorems.proofs.Owners.{last}
 use Rattle.trace_steps.specs.Turns.{turns, Looped}
 use Rattle.trace_steps.specs.Steps.{lit, firstIn, Looks, Ordered, Register, Registers, wakeOne, beginOne}
 use Rattle.trace_steps.specs.Pins.{Counted, counted, ins, outs, Pins, Listable, Listed, registerOne}
-use Rattle.trace_steps.specs.Ticks.{Sizes, sizes, lighted, ticked, shown, Runs, Running, running, tickOne, Ran, Fits, InOrder}
+use Rattle.trace_steps.specs.Ticks.{Sizes, sizes, lighted, ticked, shown, Runs, Running, running, tickOne, Ran, TraceFits, InOrder}
 use Rattle.trace_steps.proofs.Laws.{first-low}
 use Rattle.trace_steps.proofs.SweepLaws.{looks-table}
 use Rattle.trace_steps.proofs.TickLaws.{ordered-within, registers-within, pins-within, ins-within, outs-within}
@@ -383,7 +383,7 @@ module _ (u : List ℕ) (end settled pins n : ℕ) (bits starts out : List ℕ) 
       all₃ : Within w₁ w₃
       all₃ = within-then (bg .within) (wk .within)
 
-      pub run-ready : Runs w₃ settled regs pins × Fits w₃ (length bits) (length out) pins i (pins - i) n
+      pub run-ready : Runs w₃ settled regs pins × TraceFits w₃ (length bits) (length out) pins i (pins - i) n
       run-ready = (
         record { order = ordered-within all₃ order-ready; registers = registers-within all₃ (ls .registers); pins = pins-within all₃ pins₁ },
         record {

@@ -61,7 +61,7 @@ pub record Ran (z : Sizes) (bits : List ℕ) (i o n : ℕ) (u out₀ w out : Lis
   pub whole : running w out ≡ turns (tickOne z bits i o) n 0 (running u out₀)
 
 -- there are bytes for so many ticks
-pub record Fits (w : List ℕ) (a b p i o n : ℕ) : Type 0 where
+pub record TraceFits (w : List ℕ) (a b p i o n : ℕ) : Type 0 where
   pub reads : i ≡ ins w p
   pub writes : o ≡ outs w p
   pub few : n ≤ 65535

@@ -11,7 +11,7 @@ ghost use lib.ListN.{length, getD};
 ghost use Rattle.trace_steps.specs.Steps.{Looks, gateBit, stepIn, Ordered, passOne, Register, Registers, holdAt, turnAt, wakeOne, holdOne, turnOne, beginOne};
 ghost use Rattle.trace_steps.specs.Turns.{Looped};
 ghost use Rattle.trace_steps.specs.Pins.{ins, outs, Listable, Listed};
-ghost use Rattle.trace_steps.specs.Ticks.{sizes, Runs, Ticked, Fits, Ran};
+ghost use Rattle.trace_steps.specs.Ticks.{sizes, Runs, Ticked, TraceFits, Ran};
 
 // Every bit is 0, but that of a part one.
 pub fn begin(work: &mut [u16], end: usize)
@@ -157,7 +157,7 @@ pub fn run(
     writes: usize,
     ticks: usize,
 )
-    requires { ⌜ (Runs (now work) settled regs pins) × (Fits (now work) (length (now inputs)) (length (now out)) pins reads writes ticks) ⌝ }
+    requires { ⌜ (Runs (now work) settled regs pins) × (TraceFits (now work) (length (now inputs)) (length (now out)) pins reads writes ticks) ⌝ }
     ensures { λ _. ⌜ Ran (sizes settled regs pins) (now (inputs .entry)) reads writes ticks (now (work .entry)) (now (out .entry)) (now (work .exit)) (now (out .exit)) ⌝ }
 {
     let mut from: usize = 0;

@@ -3,12 +3,12 @@ use Prim.Native.Nat.{ℕ, _+_, _*_, _≤_, _<_, min}
 use mathlib.Core.Path.{_≡_, sym, ap, ap₂, _∙_}
 use native.Mathlib.Omega.{arith}
 use Rattle.calculus.specs.Answer.{Refusal, Answer, good, refused}
-use Rattle.translator.specs.Word.{halves, packed, Fits}
+use Rattle.translator.specs.Word.{halves, packed, FitsWord}
 
 shows : (n m : ℕ) → n ≤ m → min n m ≡ n
 shows n m h = omega arith
 
-unshown : (why : Refusal) → Fits (refused why) → packed (refused why) ≡ halves (why .number) (why .place) + (why .wanted * 1099511627776 + why .found * 4503599627370496)
+unshown : (why : Refusal) → FitsWord (refused why) → packed (refused why) ≡ halves (why .number) (why .place) + (why .wanted * 1099511627776 + why .found * 4503599627370496)
 unshown why (f, n, p, w, d) = rw (shows (why .place) 4294967295 (omega arith), shows (why .wanted) 4095 (omega arith), shows (why .found) 4095 (omega arith))
 
 same-refusal : (i j : Refusal) → i .number ≡ j .number → i .place ≡ j .place → i .wanted ≡ j .wanted → i .found ≡ j .found → i ≡ j
@@ -17,7 +17,7 @@ same-refusal i j n p w f =
     ∙ ap₂ (λ (x y : ℕ). record { number = j .number; place = j .place; wanted = x; found = y }) w f
 
 -- a number of the parts of two refusals is a number of each part
-parts-tell : (i j : Refusal) → Fits (refused i) → Fits (refused j)
+parts-tell : (i j : Refusal) → FitsWord (refused i) → FitsWord (refused j)
     → halves (i .number) (i .place) + (i .wanted * 1099511627776 + i .found * 4503599627370496) ≡ halves (j .number) (j .place) + (j .wanted * 1099511627776 + j .found * 4503599627370496) → i ≡ j
 parts-tell i j h k e =
     let f : i .found ≡ j .found = omega (arith, e, h .1, h .2, h .3, h .4, k .1, k .2, k .3, k .4) in
@@ -32,7 +32,7 @@ value-small n = omega arith
 refusal-large : (why : Refusal) → 1 ≤ why .number → 4294967296 ≤ packed (refused why)
 refusal-large why h = omega (arith, h)
 
-pub word-tells : (a b : Answer ℕ) → Fits a → Fits b → packed a ≡ packed b → a ≡ b
+pub word-tells : (a b : Answer ℕ) → FitsWord a → FitsWord b → packed a ≡ packed b → a ≡ b
 word-tells (good m) (good n) f g e = ap good (sym (shows m 4294967295 (omega arith)) ∙ e ∙ shows n 4294967295 (omega arith))
 word-tells (good m) (refused why) f g e = absurd (omega (arith, e, value-small m, refusal-large why (g .0)))
 word-tells (refused why) (good n) f g e = absurd (omega (arith, e, value-small n, refusal-large why (f .0)))

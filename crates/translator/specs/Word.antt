@@ -13,6 +13,6 @@ packed (good n) = min n 4294967295
 packed (refused why) = halves (why .number) (min (why .place) 4294967295) + (min (why .wanted) 4095 * 1099511627776 + min (why .found) 4095 * 4503599627370496)
 
 -- each part fits its bits, and a refusal has a number
-abbrev pub Fits : Answer ℕ → Type 0
-Fits (good n) = n < 4294967296
-Fits (refused why) = (1 ≤ why .number) × (why .number < 256) × (why .place < 4294967296) × (why .wanted < 4096) × (why .found < 4096)
+abbrev pub FitsWord : Answer ℕ → Type 0
+FitsWord (good n) = n < 4294967296
+FitsWord (refused why) = (1 ≤ why .number) × (why .number < 256) × (why .place < 4294967296) × (why .wanted < 4096) × (why .found < 4096)

@@ -8,7 +8,7 @@ ghost use mathlib.Core.Path.{_≡_};
 ghost use Prim.Native.Nat.{_≤_, min};
 ghost use lib.ListN.{length};
 ghost use Rattle.calculus.specs.Translate.{workOf};
-ghost use Rattle.translator.specs.Stages.{Opened, Typed};
+ghost use Rattle.translator.specs.Stages.{ReadStage, WellTyped};
 ghost use Rattle.translator.specs.Made.{refusedOf, Makes};
 ghost use Rattle.translator.specs.Said.{saidAnswer, tooShort};
 ghost use Rattle.translator.specs.Word.{packed};
@@ -20,9 +20,9 @@ pub enum Answer {
     Refused(Refusal),
 }
 
-// How many elements, wires and pins of the netlist stand in the working memory, or a refusal.
+// How many elements, wires and pins of the netlist stand in the working memory, and the number of the root's type; or a refusal.
 pub enum Made {
-    Net(Counts),
+    Net(Counts, u8),
     Refused(Refusal),
 }
 
@@ -45,20 +45,21 @@ fn counted(
     work: &mut [u16],
     nodes: usize,
     start: usize,
+    root: u8,
     plain: bool,
 ) -> Made
-    requires { ⌜ (32768 ≤ length (now work)) × (Typed (now records) (now sizes) start nodes) ⌝ }
-    ensures { λ r. ⌜ ((q : Typed (now (records .entry)) (now (sizes .entry)) start nodes) → Makes plain r (q .read .whole) (now (work .entry)) (now (work .exit))) ⌝ }
+    requires { ⌜ (32768 ≤ length (now work)) × (WellTyped (now records) (now sizes) start nodes root) ⌝ }
+    ensures { λ r. ⌜ ((q : WellTyped (now (records .entry)) (now (sizes .entry)) start nodes root) → Makes plain r (q .read .whole) (now (work .entry)) (now (work .exit))) ⌝ }
 {
     if 8192 < wiring::count(records, sizes, start, nodes) {
         return refused(16, 0);
     }
     let counts = wiring::make_net(records, sizes, work, start);
     if plain {
-        return Made::Net(counts);
+        return Made::Net(counts, root);
     }
     makers::name(records, sizes, work, start, nodes);
-    Made::Net(counts)
+    Made::Net(counts, root)
 }
 
 // The typing walk: 10 to 15.
@@ -72,12 +73,12 @@ fn checked(
     second: bool,
     plain: bool,
 ) -> Made
-    requires { ⌜ (32768 ≤ length (now work)) × (Opened (now records) (now sizes) types second start nodes) ⌝ }
-    ensures { λ r. ⌜ ((q : Opened (now (records .entry)) (now (sizes .entry)) types second start nodes) → Makes plain r (q .read .whole) (now (work .entry)) (now (work .exit))) ⌝ }
+    requires { ⌜ (32768 ≤ length (now work)) × (ReadStage (now records) (now sizes) types second start nodes) ⌝ }
+    ensures { λ r. ⌜ ((q : ReadStage (now (records .entry)) (now (sizes .entry)) types second start nodes) → Makes plain r (q .read .whole) (now (work .entry)) (now (work .exit))) ⌝ }
 {
     match typing::check(records, start, types, second) {
         Typing::Refused(refusal) => Made::Refused(refusal),
-        Typing::Type(_) => counted(records, sizes, work, nodes, start, plain),
+        Typing::Type(root) => counted(records, sizes, work, nodes, start, root, plain),
     }
 }
 

@@ -26,8 +26,8 @@ use Rattle.typing.specs.declared.rules.Opening.{Opening}
 use Rattle.typing.specs.declared.rules.Opening.the-variants as opening
 use Rattle.records.specs.TypeNumbers.{kindNo, leftNo, rightNo}
 use Rattle.typing.specs.Steps.{openingOf, opened, enterOf, entersOf, halvesOf, betweenOf}
-use Rattle.typing.specs.Fits.{Fits}
-use Rattle.typing.proofs.Ranges.{left-in, right-in, Kept, kept}
+use Rattle.typing.specs.Walkable.{Walkable}
+use Rattle.typing.proofs.Ranges.{left-in, right-in, StaysIn, kept}
 use Rattle.typing.proofs.WalkLaws.{firstOf, secondOf}
 
 -- ---- the binders that entering adds
@@ -245,16 +245,16 @@ module _ (E : Edition) (Θ : Table) where
 -- ---- what holds at a node holds at its subterms
 
 module _ (s : List ℕ) (l : ℕ) (E : Edition) (at node : ℕ) (Θ : Table) (st : Stack) where
-  left-side : (e : Term) → Fits s l E at node Θ e st → (t : ℕ) → t < length Θ → leftNo (recIn s t) < length Θ
+  left-side : (e : Term) → Walkable s l E at node Θ e st → (t : ℕ) → t < length Θ → leftNo (recIn s t) < length Θ
   left-side e F t h = rw (F .types t h) (left-in Θ (F .table) t h)
 
-  right-side : (e : Term) → Fits s l E at node Θ e st → (t : ℕ) → t < length Θ → rightNo (recIn s t) < length Θ
+  right-side : (e : Term) → Walkable s l E at node Θ e st → (t : ℕ) → t < length Θ → rightNo (recIn s t) < length Θ
   right-side e F t h = rw (F .types t h) (right-in Θ (F .table) t h)
 
-  typed-in : (e : Term) → Fits s l E at node Θ e st → (u : Rule) (t : ℕ) → t < length Θ → (o : Found) → enterOf (recIn s) u t node st ≡ good o → InRange (length Θ) (suc (length st)) (o .stack)
+  typed-in : (e : Term) → Walkable s l E at node Θ e st → (u : Rule) (t : ℕ) → t < length Θ → (o : Found) → enterOf (recIn s) u t node st ≡ good o → InRange (length Θ) (suc (length st)) (o .stack)
   typed-in e F u t h o g = opened-in (length Θ) (openingOf u t (recIn s t)) t node st o (opening-in (length Θ) u t (recIn s t) h (left-side e F t h)) (F .numbers) g
 
-  enter-in : (e : Term) → Fits s l E at node Θ e st → ¬ (nodeOf e at .subterms ≡ 0) → (o : Found)
+  enter-in : (e : Term) → Walkable s l E at node Θ e st → ¬ (nodeOf e at .subterms ≡ 0) → (o : Found)
       → enterOf (recIn s) (nodeOf e at .rule) (nodeOf e at .first) node st ≡ good o → InRange (length Θ) (suc (length st)) (o .stack)
   unfolding openingOf
   enter-in (var i) F d o g = absurd (d refl)
@@ -316,9 +316,9 @@ module _ (s : List ℕ) (l : ℕ) (E : Edition) (at node : ℕ) (Θ : Table) (st
   enter-two (con p t) d f o g = absurd (d refl)
   enter-two (name a e) d f o g = ap (λ (x : Found). x .stack) (sym (good-inj g))
 
-  module _ (e : Term) (F : Fits s l E at node Θ e st) (d : ¬ (nodeOf e at .subterms ≡ 0)) (o : Found)
+  module _ (e : Term) (F : Walkable s l E at node Θ e st) (d : ¬ (nodeOf e at .subterms ≡ 0)) (o : Found)
       (g : enterOf (recIn s) (nodeOf e at .rule) (nodeOf e at .first) node st ≡ good o) where
-    pub fits-first : Fits s l E (nodeOf e at .next) (node + 1) Θ (firstOf e) (o .stack)
+    pub fits-first : Walkable s l E (nodeOf e at .next) (node + 1) Θ (firstOf e) (o .stack)
     fits-first =
         let w = enter-in e F d o g in
         record {
@@ -333,7 +333,7 @@ module _ (s : List ℕ) (l : ℕ) (E : Edition) (at node : ℕ) (Θ : Table) (st
         }
 
     module _ (d₁ : ¬ (nodeOf e at .subterms ≡ 1)) (x : Found) (h : walk E Θ (firstOf e) (node + 1) (o .stack) ≡ good x) where
-      pub first-kept : Kept Θ (o .stack) x
+      pub first-kept : StaysIn Θ (o .stack) x
       first-kept = kept E Θ (F .table) (firstOf e) (first-ranged E Θ e (F .ranged)) (node + 1) (o .stack) (enter-in e F d o g .numbers) x h
 
       -- what is bound between the two
@@ -352,7 +352,7 @@ module _ (s : List ℕ) (l : ℕ) (E : Edition) (at node : ℕ) (Θ : Table) (st
           subst (λ (m : Found). InRange (length Θ) (length (o .stack) + 2) (m .stack)) (good-inj y) (halves-in u)
 
       pub fits-second : (m : Found) → betweenOf (recIn s) (nodeOf e at .rule) node x ≡ good m
-          → Fits s l E (nodeOf e at .next + length (termBytes (firstOf e))) (node + 1 + nodes (firstOf e)) Θ (secondOf e) (m .stack)
+          → Walkable s l E (nodeOf e at .next + length (termBytes (firstOf e))) (node + 1 + nodes (firstOf e)) Θ (secondOf e) (m .stack)
       fits-second m z =
           let w = between-in (nodeOf e at .rule) m z in
           let l : length (o .stack) ≡ length st = ap length (enter-two e d d₁ o g) in

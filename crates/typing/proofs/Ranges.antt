@@ -108,12 +108,12 @@ number-is Θ ok R same τ l e =
 
 -- ---- the walk keeps to the table and to the binders
 
-pub record Kept (Θ : Table) (st : Stack) (r : Found) : Type 0 where
+pub record StaysIn (Θ : Table) (st : Stack) (r : Found) : Type 0 where
   pub type-in : r .type < length Θ
   pub numbers : Numbers (r .stack) (length Θ)
   pub count : length (r .stack) ≡ length st
 
-pub kept : (E : Edition) (Θ : Table) → TableOk Θ → (e : Term) → Ranged E Θ e → (n : ℕ) (st : Stack) → Numbers st (length Θ) → (r : Found) → walk E Θ e n st ≡ good r → Kept Θ st r
+pub kept : (E : Edition) (Θ : Table) → TableOk Θ → (e : Term) → Ranged E Θ e → (n : ℕ) (st : Stack) → Numbers st (length Θ) → (r : Found) → walk E Θ e n st ≡ good r → StaysIn Θ st r
 kept E Θ ok e ranged n st k r h =
     let q = walk-keeps E Θ e n st r h in
     record { type-in = walk-in Θ ok E e n st r ranged k h; numbers = kept-numbers (length Θ) q k; count = kept-length q }

@@ -15,12 +15,12 @@ use Rattle.typing.specs.declared.Refusal.{Refusal}
 use Rattle.typing.specs.declared.Checked.{Checked}
 use Rattle.typing.specs.Verdicts.{saidWhy, held, said}
 use Rattle.typing.specs.Answers.{checkOf, TermAt}
-use Rattle.typing.specs.Fits.{Fits, Walked}
+use Rattle.typing.specs.Walkable.{Walkable, Walked}
 use Rattle.typing.proofs.VerdictLaws.{said-fine, said-refused}
 use Rattle.records.proofs.ToldLaws.{sheet-types}
 
 module _ {s : List ℕ} {l : ℕ} {E : Edition} {at : ℕ} (term : TermAt s l E at) (b : Binders) (empty : stackOf b ≡ []) where
-  pub sheet-fits : Fits s l E at 0 (term .sheet .table) (term .sheet .term) (stackOf b)
+  pub sheet-fits : Walkable s l E at 0 (term .sheet .table) (term .sheet .term) (stackOf b)
   sheet-fits =
       let w = records-laid E s (term .sheet) (term .short) (term .read) in
       rw (empty, term .start)

@@ -34,7 +34,7 @@ use Rattle.typing.specs.declared.Refusal.{Refusal}
 use Rattle.records.specs.TypeNumbers.{leftNo, rightNo}
 use Rattle.typing.specs.Steps.{Types, constantOf, leafOf, openingOf, bindingOf, opened, enterOf, wantedOf, usedUp, leaveOne, entersOf, halvesIn, halvesOf, betweenOf, joinedOf, closesOf, leaveTwo}
 use Rattle.typing.specs.Verdicts.{Held, reached, halves, FollowsOn, Follows}
-use Rattle.typing.specs.Fits.{Counts, Names}
+use Rattle.typing.specs.Walkable.{CountsOf, Names}
 use Rattle.typing.proofs.VerdictLaws.{foundAt, follows-on, follows-at}
 
 -- ---- leaves
@@ -218,7 +218,7 @@ module _ (R : Types) (w : Rule) (x : Held) {f : Found → Answer Found} {v : Ver
   pub follows-refused : {r : Refusal} → v ≡ verdict.Refused r → FollowsOn (x .verdict) (stackOf (x .binders)) v (halves R w v (stackOf (x .binders))) f → Follows x (reached v (x .binders)) f
   follows-refused e F = follows-on x (x .binders) (subst (λ (st : Stack). FollowsOn (x .verdict) (stackOf (x .binders)) v st f) (rw e refl) F)
 
-  pub follows-halves : length (x .binders .types) ≡ 128 → (c : ℕ) → c + 1 < 128 → Counts c x → {u i j : ℕ} → v ≡ verdict.Fine u i j
+  pub follows-halves : length (x .binders .types) ≡ 128 → (c : ℕ) → c + 1 < 128 → CountsOf c x → {u i j : ℕ} → v ≡ verdict.Fine u i j
       → FollowsOn (x .verdict) (inScope (x .binders) c) v (halves R w v (inScope (x .binders) c)) f
       → {q : Halves} {m : ℕ} {s′ u′ : List ℕ} → q ≡ halvesIn w u (R u) → m ≡ closesOf w → s′ ≡ clearedAt (x .binders .sorts) c → u′ ≡ clearedAt (x .binders .used) c
       → Follows x (reached (verdict.Fine u i j) (halvedTo (x .binders) c q m s′ u′)) f

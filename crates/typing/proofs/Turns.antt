@@ -23,9 +23,9 @@ use Rattle.typing.specs.declared.Verdict.the-variants as verdict
 use Rattle.typing.specs.declared.Refusal.{Refusal}
 use Rattle.typing.specs.Steps.{leafOf, enterOf, leaveOne, betweenOf, leaveTwo}
 use Rattle.typing.specs.Verdicts.{Held, said, EndsAt, Says, Follows}
-use Rattle.typing.specs.Fits.{Fits, Counts, CountsIn}
+use Rattle.typing.specs.Walkable.{Walkable, CountsOf, CountsIn}
 use Rattle.typing.proofs.VerdictLaws.{foundAt, said-fine, stops, refused-ends}
-use Rattle.typing.proofs.Ranges.{Kept, kept}
+use Rattle.typing.proofs.Ranges.{StaysIn, kept}
 use Rattle.typing.proofs.WalkLaws.{bind-same, bind-assoc, firstOf, secondOf, after, walk-leaf, walk-steps, after-one, after-two}
 use Rattle.typing.proofs.FitLaws.{depth-some, nodes-some, end-none, end-one, end-two, enter-one, enter-two, fits-first, fits-second}
 
@@ -35,20 +35,20 @@ ends-as : (v : Verdict) {a b x y : ℕ} → a ≡ x → b ≡ y → EndsAt v a b
 ends-as v {a} {b} {x} {y} e f h = subst (λ (z : ℕ). EndsAt v x z) f (subst (λ (z : ℕ). EndsAt v z b) e h)
 
 module _ {s : List ℕ} {l : ℕ} {E : Edition} {at node : ℕ} {Θ : Table} {e : Term} {st : Stack} where
-  pub few-binders : Fits s l E at node Θ e st → length st ≤ 126
+  pub few-binders : Walkable s l E at node Θ e st → length st ≤ 126
   few-binders F = omega (arith, F .room, depth-some e)
 
-  pub few-nodes : Fits s l E at node Θ e st → node < 2048
+  pub few-nodes : Walkable s l E at node Θ e st → node < 2048
   few-nodes F = omega (arith, F .few, nodes-some e)
 
-  pub fits-at : {a n : ℕ} → at ≡ a → node ≡ n → Fits s l E at node Θ e st → Fits s l E a n Θ e st
-  fits-at {a} {n} p q F = subst (λ (z : ℕ). Fits s l E a z Θ e st) q (subst (λ (z : ℕ). Fits s l E z node Θ e st) p F)
+  pub fits-at : {a n : ℕ} → at ≡ a → node ≡ n → Walkable s l E at node Θ e st → Walkable s l E a n Θ e st
+  fits-at {a} {n} p q F = subst (λ (z : ℕ). Walkable s l E a z Θ e st) q (subst (λ (z : ℕ). Walkable s l E z node Θ e st) p F)
 
-  fits-kept : Fits s l E at node Θ e st → (r : Found) → walk E Θ e node st ≡ good r → Kept Θ st r
+  fits-kept : Walkable s l E at node Θ e st → (r : Found) → walk E Θ e node st ≡ good r → StaysIn Θ st r
   fits-kept F r h = kept E Θ (F .table) e (F .ranged) node st (F .numbers) r h
 
   -- after a walk there are as many binders as before
-  pub as-many : Fits s l E at node Θ e st → (x : Held) {i j : ℕ} → Says x (walk E Θ e node st) i j → {m : ℕ} → length st ≡ m → Counts m x
+  pub as-many : Walkable s l E at node Θ e st → (x : Held) {i j : ℕ} → Says x (walk E Θ e node st) i j → {m : ℕ} → length st ≡ m → CountsOf m x
   as-many F x X {m} l = by-verdict (x .verdict) refl
     where
       by-verdict : (v : Verdict) → x .verdict ≡ v → CountsIn m v (x .binders .count)
@@ -62,7 +62,7 @@ module _ (s : List ℕ) (l : ℕ) (E : Edition) (at node : ℕ) (st : Stack) (Θ
   pub record Here : Type 0 where
     pub n : Node
     pub here : n ≡ nodeAt s at
-    pub fits : Fits s l E at node Θ e st
+    pub fits : Walkable s l E at node Θ e st
 
   -- a node with subterms has been entered
   pub record Inside : Type 0 where
@@ -72,7 +72,7 @@ module _ (s : List ℕ) (l : ℕ) (E : Edition) (at node : ℕ) (st : Stack) (Θ
     pub says : Says i (enterOf (recIn s) (place .n .rule) (place .n .first) node st) (place .n .next) (node + 1)
 
   -- .. and not refused
-  pub record Opened : Type 0 where
+  pub record InsideFine : Type 0 where
     pub inside : Inside
     pub t : ℕ
     pub start : ℕ
@@ -81,7 +81,7 @@ module _ (s : List ℕ) (l : ℕ) (E : Edition) (at node : ℕ) (st : Stack) (Θ
 
   -- the first subterm has been walked
   pub record First : Type 0 where
-    pub opened : Opened
+    pub opened : InsideFine
     pub x : Held
     pub says :
         Says x (walk E Θ (firstOf e) (opened .count) (stackOf (opened .inside .i .binders))) (opened .start + length (termBytes (firstOf e))) (opened .count + nodes (firstOf e))
@@ -142,7 +142,7 @@ module _ {s : List ℕ} {l : ℕ} {E : Edition} {at node : ℕ} {st : Stack} {Θ
     pub turn-refused : {r : Refusal} → h .i .verdict ≡ verdict.Refused r → Done s l E at node st Θ e (h .i)
     turn-refused v = record { answer = stops (h .i) _ v refl ∙ sym steps; ends = refused-ends (h .i) _ _ v }
 
-  module _ (h : Opened s l E at node st Θ e) where
+  module _ (h : InsideFine s l E at node st Θ e) where
     start-is : (h .start ≡ h .inside .place .n .next) × (h .count ≡ node + 1)
     start-is = rw (h .fine) at (h .inside .says .ends)
 
@@ -155,7 +155,7 @@ module _ {s : List ℕ} {l : ℕ} {E : Edition} {at node : ℕ} {st : Stack} {Θ
     pub turn-falls : length s - h .start < length s - at
     turn-falls = omega (arith, node-ends (h .inside .place), start-is .0)
 
-    pub turn-first : Fits s l E (h .start) (h .count) Θ (firstOf e) (stackOf (h .inside .i .binders))
+    pub turn-first : Walkable s l E (h .start) (h .count) Θ (firstOf e) (stackOf (h .inside .i .binders))
     turn-first = fits-at (sym next-is) (sym (start-is .1)) (fits-first s l E at node Θ st e (h .inside .place .fits) (some-is (h .inside)) _ inside-is)
 
   module _ (h : First s l E at node st Θ e) where
@@ -167,12 +167,12 @@ module _ {s : List ℕ} {l : ℕ} {E : Edition} {at node : ℕ} {st : Stack} {Θ
     rest = steps (h .opened .inside) ∙ rw (said-fine (h .opened .inside .i) (h .opened .fine), first-said) refl
 
     -- a node with one subterm binds a variable, one with two binds none on entering
-    pub turn-held-one : h .opened .inside .place .n .subterms ≡ 1 → {m : ℕ} → length st ≡ m → Counts (m + 1) (h .x)
+    pub turn-held-one : h .opened .inside .place .n .subterms ≡ 1 → {m : ℕ} → length st ≡ m → CountsOf (m + 1) (h .x)
     turn-held-one z q =
         as-many (turn-first (h .opened)) (h .x) (h .says)
         (enter-one s l E at node Θ st e (sym (subterms-are (h .opened .inside .place)) ∙ z) _ (inside-is (h .opened)) ∙ ap (λ (k : ℕ). k + 1) q)
 
-    pub turn-held-two : ¬ (h .opened .inside .place .n .subterms ≡ 1) → {m : ℕ} → length st ≡ m → Counts m (h .x)
+    pub turn-held-two : ¬ (h .opened .inside .place .n .subterms ≡ 1) → {m : ℕ} → length st ≡ m → CountsOf m (h .x)
     turn-held-two d q =
         as-many (turn-first (h .opened)) (h .x) (h .says)
         (ap length (enter-two s l E at node Θ st e (some-is (h .opened .inside)) (λ z. d (subterms-are (h .opened .inside .place) ∙ z)) _ (inside-is (h .opened))) ∙ q)
@@ -207,7 +207,7 @@ module _ {s : List ℕ} {l : ℕ} {E : Edition} {at node : ℕ} {st : Stack} {Θ
     turn-halfway v = record { answer = stops (h .m) second v refl ∙ sym rest-two; ends = refused-ends (h .m) _ _ v }
 
   module _ (h : Second s l E at node st Θ e) where
-    abbrev o : Opened s l E at node st Θ e
+    abbrev o : InsideFine s l E at node st Θ e
     o = h .middle .first .opened
 
     mid-is : (h .start ≡ o .start + length (termBytes (firstOf e))) × (h .count ≡ o .count + nodes (firstOf e))
@@ -219,7 +219,7 @@ module _ {s : List ℕ} {l : ℕ} {E : Edition} {at node : ℕ} {st : Stack} {Θ
     pub turn-falls-again : length s - h .start < length s - at
     turn-falls-again = omega (arith, node-ends (o .inside .place), start-is o .0, mid-is .0)
 
-    pub turn-second : Fits s l E (h .start) (h .count) Θ (secondOf e) (stackOf (h .middle .m .binders))
+    pub turn-second : Walkable s l E (h .start) (h .count) Θ (secondOf e) (stackOf (h .middle .m .binders))
     turn-second =
         on-bind (said (h .middle .first .x)) (betweenOf (recIn s) (nodeOf e at .rule) node) (foundAt (h .u) (stackOf (h .middle .m .binders))) (sym (middle-said (h .middle)) ∙ said-fine (h .middle .m) (h .fine)) λ a g k.
         fits-at (ap (λ (z : ℕ). z + length (termBytes (firstOf e))) (sym (next-is o)) ∙ sym (mid-is .0)) (sym count-is)

@@ -16,7 +16,7 @@ use Rattle.typing.specs.declared.Verdict.the-variants as verdict
 use Rattle.typing.specs.declared.Refusal.{Refusal}
 use Rattle.typing.specs.declared.Checked.{Checked}
 use Rattle.typing.specs.Verdicts.{saidWhy, saidVerdict, checked, Held, reached, withMarks, held, atCount, said, settledOf, EndsAt, Says, FollowsOn, Follows}
-use Rattle.typing.specs.Fits.{Counts, CountsIn}
+use Rattle.typing.specs.Walkable.{CountsOf, CountsIn}
 
 -- a type and a stack
 abbrev pub foundAt : ℕ → Stack → Found
@@ -100,7 +100,7 @@ module _ (x : Held) {f : Found → Answer Found} {w : Verdict} (b : Binders) whe
   follows-on F = record { answer = F .answer; ends = F .ends }
 
   -- .. by the number of binders that a fine verdict has
-  pub follows-at : (m : ℕ) → Counts m x → FollowsOn (x .verdict) (stackFrom (x .binders .types) (bitsOf (x .binders .sorts)) (bitsOf (x .binders .used)) m) w (stackOf b) f → Follows x (reached w b) f
+  pub follows-at : (m : ℕ) → CountsOf m x → FollowsOn (x .verdict) (stackFrom (x .binders .types) (bitsOf (x .binders .sorts)) (bitsOf (x .binders .used)) m) w (stackOf b) f → Follows x (reached w b) f
   follows-at m n F = by-verdict (x .verdict) refl n F
     where
       by-verdict : (v : Verdict) → x .verdict ≡ v → CountsIn m v (x .binders .count) → FollowsOn v (stackFrom (x .binders .types) (bitsOf (x .binders .sorts)) (bitsOf (x .binders .used)) m) w (stackOf b) f → Follows x (reached w b) f
@@ -108,7 +108,7 @@ module _ (x : Held) {f : Found → Answer Found} {w : Verdict} (b : Binders) whe
       by-verdict (verdict.Refused r) e h F = follows-on (rw e (record { answer = F .answer; ends = F .ends }))
 
 -- .. where the k nearest binders go out of scope
-pub follows-left : (x : Held) {f : Found → Answer Found} {w : Verdict} (k c : ℕ) → Counts (c + k) x
+pub follows-left : (x : Held) {f : Found → Answer Found} {w : Verdict} (k c : ℕ) → CountsOf (c + k) x
     → FollowsOn (x .verdict) (stackFrom (x .binders .types) (bitsOf (x .binders .sorts)) (bitsOf (x .binders .used)) (c + k)) w (drop k (stackFrom (x .binders .types) (bitsOf (x .binders .sorts)) (bitsOf (x .binders .used)) (c + k))) f
     → Follows x (reached w (atCount (x .binders) c)) f
 follows-left x k c n F =

@@ -1,4 +1,4 @@
 pub mod Steps
 pub mod Verdicts
-pub mod Fits
+pub mod Walkable
 pub mod Answers

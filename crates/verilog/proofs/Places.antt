@@ -16,7 +16,7 @@ use Rattle.export_calculus.specs.Verilog.{moduleText, exported, export, verilog
 use Rattle.export_theorems.proofs.CardLaws.{ring-refused}
 use Rattle.export_theorems.proofs.Verilog.{ring-low, verilog-enough}
 use Rattle.sheet_theorems.proofs.Judging.{Judged, value, refusal, Any, of-bind, of-require, weaker}
-use Rattle.translator.specs.Word.{Fits}
+use Rattle.translator.specs.Word.{FitsWord}
 use Rattle.translator.proofs.Places.{Names, no-names, names-small, full-places}
 
 -- a refusal of a call with an output of so many bytes
@@ -64,6 +64,6 @@ unfolding verilogCall
 verilog-places s out work = said-places s (length out) (export-places (length work) s (length out))
 
 -- .. and it fits the bits of one number
-pub verilog-fits : (s : List ℕ) (room : ℕ) {a : Answer ℕ} → Judged (VerilogPlace s room) (ModuleCount room) a → Fits a
+pub verilog-fits : (s : List ℕ) (room : ℕ) {a : Answer ℕ} → Judged (VerilogPlace s room) (ModuleCount room) a → FitsWord a
 verilog-fits s room (value h) = omega (arith, h .0)
 verilog-fits s room (refusal {why} h) = let (w, f) = names-small s why (h .names) in (h .from, omega (arith, h .to), omega (arith, h .few), omega arith, omega arith)

@@ -15,12 +15,12 @@ use Rattle.binders.specs.Stacks.{bitsOf, withBit, stackOf, slotOf}
 use Rattle.binders.proofs.Laws.{length-of, slot-low}
 use Rattle.typing.specs.declared.Verdict.the-variants as verdict
 use Rattle.typing.specs.Verdicts.{reached, withMarks, held, atCount}
-use Rattle.typing.specs.Fits.{Fits}
+use Rattle.typing.specs.Walkable.{Walkable}
 use Rattle.typing.proofs.StepLaws.{not-so, so}
 use Rattle.typing.proofs.VerdictLaws.{says-fine, says-refused, says-under, says-as, says-anyhow}
 use Rattle.typing.proofs.StateLaws.{boundTo, enter-misfit, enter-opened, binds-few, binds-sort, halvedTo, clearedAt, closes-few, follows-refused, follows-halves, bound-kept, halved-kept}
 use Rattle.typing.proofs.WalkLaws.{firstOf, secondOf}
-use Rattle.typing.proofs.Turns.{few-binders, few-nodes, as-many, Here, Inside, Opened, First, Middle, Second, turn-leaf, turn-refused, turn-falls, turn-first, turn-held-one, turn-held-two, turn-one, turn-halfway, turn-falls-again, turn-second, turn-two}
+use Rattle.typing.proofs.Turns.{few-binders, few-nodes, as-many, Here, Inside, InsideFine, First, Middle, Second, turn-leaf, turn-refused, turn-falls, turn-first, turn-held-one, turn-held-two, turn-one, turn-halfway, turn-falls-again, turn-second, turn-two}
 use Prim.Native.Nat.{ℕ, _+_, _-_, _≤_, _<_}
 use borrow.Fn.Kinds.{In}
 use borrow.Fn.PlainCycle.{Measures, is, falls, and}
@@ -118,7 +118,7 @@ module _ (t : ℕ) where
   On P c Θ e = P (c .args .s .now) (c .args .types) (editionBy (c .args .second)) (c .args .at) (c .args .node) (stackOf (c .args .b)) Θ e
 
   abbrev Fitting : Start → Table → Term → Type 0
-  Fitting c Θ e = Fits (c .args .s .now) (c .args .types) (editionBy (c .args .second)) (c .args .at) (c .args .node) Θ e (stackOf (c .args .b))
+  Fitting c Θ e = Walkable (c .args .s .now) (c .args .types) (editionBy (c .args .second)) (c .args .at) (c .args .node) Θ e (stackOf (c .args .b))
 
   -- room for two binders more
   few : (c : Start) → c .args .b .count ≤ 126
@@ -158,7 +158,7 @@ module _ (t : ℕ) where
               (enter-opened (recIn (a .s .now)) _ _ _ (o .before .before .before .opens .ensures) (o .before .before .bound .ensures) (a .b) (long (from-opened o)) (first-slot (from-opened o)) (so _ (o .if2 .left)) (c .before .before .with-bit .ensures) (c .before .with-bit2 .ensures));
         }
 
-    abbrev opened : (c : walk-lts.After-struct-known3 (calls t) (walk-at t) walk.Post) → Fitting (from-opened (opening c)) Θ e → On Opened (from-opened (opening c)) Θ e
+    abbrev opened : (c : walk-lts.After-struct-known3 (calls t) (walk-at t) walk.Post) → Fitting (from-opened (opening c)) Θ e → On InsideFine (from-opened (opening c)) Θ e
     opened c F = record { inside = inside c F; t = _; start = _; count = _; fine = refl }
 
     abbrev first : (c : walk-lts.After-walk (calls t) (walk-at t) walk.Post) → Fitting (from-first c) Θ e → On First (from-first c) Θ e

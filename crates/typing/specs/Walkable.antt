@@ -18,7 +18,7 @@ use Rattle.binders.specs.Stacks.{stackOf, slotOf}
 use Rattle.typing.specs.Verdicts.{Held, held, Says}
 
 -- a term stands at an offset, of a sheet that is its own table of l types; a level of the term binds two variables at most
-pub record Fits (s : List ℕ) (l : ℕ) (E : Edition) (at node : ℕ) (Θ : Table) (e : Term) (st : Stack) : Type 0 where
+pub record Walkable (s : List ℕ) (l : ℕ) (E : Edition) (at node : ℕ) (Θ : Table) (e : Term) (st : Stack) : Type 0 where
   pub table : TableOk Θ
   pub count : l ≡ length Θ
   pub types : (t : ℕ) → t < length Θ → recIn s t ≡ recAt Θ t
@@ -32,19 +32,19 @@ pub record Fits (s : List ℕ) (l : ℕ) (E : Edition) (at node : ℕ) (Θ : Tab
 pub record Placed (s : List ℕ) (l : ℕ) (E : Edition) (at node : ℕ) (st : Stack) : Type 0 where
   pub table : Table
   pub term : Term
-  pub fits : Fits s l E at node table term st
+  pub fits : Walkable s l E at node table term st
 
 -- the walk's verdict on whichever term stands there
 abbrev pub Walked : List ℕ → ℕ → Edition → ℕ → ℕ → Binders → Checked → Type 0
-Walked s l E at node b c = (Θ : Table) (e : Term) → Fits s l E at node Θ e (stackOf b) → Says (held b c) (walk E Θ e node (stackOf b)) (at + length (termBytes e)) (node + nodes e)
+Walked s l E at node b c = (Θ : Table) (e : Term) → Walkable s l E at node Θ e (stackOf b) → Says (held b c) (walk E Θ e node (stackOf b)) (at + length (termBytes e)) (node + nodes e)
 
 -- a verdict that is fine has so many binders
 abbrev pub CountsIn : ℕ → Verdict → ℕ → Type 0
 CountsIn m (verdict.Fine t x y) count = count ≡ m
 CountsIn m (verdict.Refused r) count = Unit {0}
 
-abbrev pub Counts : ℕ → Held → Type 0
-Counts m c = CountsIn m (c .verdict) (c .binders .count)
+abbrev pub CountsOf : ℕ → Held → Type 0
+CountsOf m c = CountsIn m (c .verdict) (c .binders .count)
 
 -- what a leaf is told of the binders: their number, sorts and marks, and the type of the one that a number names
 pub record Names (b : Binders) (i scope ty : ℕ) (sorts marks : List ℕ) : Type 0 where
