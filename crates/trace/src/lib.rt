@@ -39,7 +39,7 @@ fn run_sheet(
 {
     match translator::make(sheet, work, true) {
         Made::Refused(refusal) => Answer::Refused(refusal),
-        Made::Net(counts) => net::run_net(work, inputs, starts, out, counts, ticks as usize),
+        Made::Net(counts, _) => net::run_net(work, inputs, starts, out, counts, ticks as usize),
     }
 }
 

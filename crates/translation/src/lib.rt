@@ -24,7 +24,7 @@ fn run(sheet: &[u8], out: &mut [u8], work: &mut [u16], wish: Wish) -> Answer
     let plain = wish.plain;
     match translator::make(sheet, work, plain) {
         Made::Refused(refusal) => Answer::Refused(refusal),
-        Made::Net(counts) => write::write(work, out, counts, wish),
+        Made::Net(counts, _) => write::write(work, out, counts, wish),
     }
 }
 

@@ -85,7 +85,7 @@ fn export_sheet(sheet: &[u8], out: &mut [u8], work: &mut [u16]) -> Answer
 {
     match translator::make(sheet, work, true) {
         Made::Refused(refusal) => Answer::Refused(refusal),
-        Made::Net(counts) => export_net(work, out, counts),
+        Made::Net(counts, _) => export_net(work, out, counts),
     }
 }
 
