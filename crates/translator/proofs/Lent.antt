@@ -10,19 +10,22 @@ use Rattle.typing.specs.Verdicts.{saidWhy}
 use Rattle.calculus.specs.Makers.{makersOf}
 use Rattle.memory.specs.Map.{makersAt, region, netIn}
 use Rattle.wiring.specs.declared.Counts.{Counts}
-use Rattle.translator.specs.Made.{lent, saidMade, Standing, Named, Makes}
+use Rattle.translator.specs.Made.{lent, saidMade, Standing, Named, rootNumber, RootTold, Makes}
 use Rattle.translator.specs.declared.Made as code
 use Rattle.translator.specs.declared.Made.the-variants as made
 
 module _ (plain : Bool) (r : code.Made) (s work after : List ℕ) (M : Makes plain r s work after) where
-  pub net-stands : (c : Counts) → r ≡ made.Net c → Standing (made.Net c) after
+  pub net-stands : (c : Counts) {t : ℕ} → r ≡ made.Net c t → Standing (made.Net c t) after
   net-stands c e = subst (λ (x : code.Made). Standing x after) e (M .standing)
 
-  pub net-named : (c : Counts) → r ≡ made.Net c → plain ≡ false → region after makersAt (c .elements) ≡ makersOf s
+  pub net-named : (c : Counts) {t : ℕ} → r ≡ made.Net c t → plain ≡ false → region after makersAt (c .elements) ≡ makersOf s
   net-named c e = subst (λ (x : code.Made). Named plain x s after) e (M .named)
 
-  pub net-lent : (c : Counts) → r ≡ made.Net c → good (netIn after (c .elements) (c .wires) (c .pins)) ≡ lent (length work) s
+  pub net-lent : (c : Counts) {t : ℕ} → r ≡ made.Net c t → good (netIn after (c .elements) (c .wires) (c .pins)) ≡ lent (length work) s
   net-lent c e = ap (λ (x : code.Made). saidMade x after) (sym e) ∙ M .said
+
+  pub net-root : (c : Counts) {t : ℕ} → r ≡ made.Net c t → rootNumber s ≡ good t
+  net-root c e = subst (λ (x : code.Made). RootTold x s) e (M .root)
 
   pub refusal-lent : (why : Refusal) → r ≡ made.Refused why → refused (saidWhy why) ≡ lent (length work) s
   refusal-lent why e = ap (λ (x : code.Made). saidMade x after) (sym e) ∙ M .said

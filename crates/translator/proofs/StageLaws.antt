@@ -6,7 +6,7 @@ use mathlib.Core.List.{List, []}
 use lib.ListN.{length}
 use borrow.Author.Tests.{lt-leb, le-leb}
 use Rattle.calculus.specs.Answer.{Refusal, Answer, good, refused, refuse, _>>=_}
-use Rattle.calculus.proofs.Answers.{refused≢good, refused-inj, on-bind}
+use Rattle.calculus.proofs.Answers.{refused≢good, good-inj, refused-inj, on-bind}
 use Rattle.calculus.specs.Read.{Sheet, editionOf, recordsOf, readSheet}
 use Rattle.calculus.specs.Terms.{Edition}
 use Rattle.calculus.specs.Walk.{Found, walk}
@@ -20,7 +20,7 @@ use Rattle.typing.specs.Answers.{TermAt, typeOf, checkOf}
 use Rattle.wiring.specs.declared.Counts.{Counts}
 use Rattle.wiring.specs.Whole.{NetStands}
 use Rattle.translator.specs.Stages.{Opened}
-use Rattle.translator.specs.Made.{lent, refusedOf, Named, Makes}
+use Rattle.translator.specs.Made.{lent, refusedOf, Named, rootNumber, Makes}
 use Rattle.translator.specs.declared.Made.the-variants as made
 use Rattle.translator.proofs.Keeping.{later-keeps}
 
@@ -36,18 +36,19 @@ unfolding lent
 lent-enough memory s h = rw (le-leb 32768 memory h)
 
 pub small-makes : (plain : Bool) (s work : List ℕ) → length work < 32768 → Makes plain (refusedOf 1 0) s work work
-small-makes plain s work h = record { said = sym (lent-small (length work) s h); standing = tt; named = tt; keeps = refl }
+small-makes plain s work h = record { said = sym (lent-small (length work) s h); standing = tt; named = tt; root = tt; keeps = refl }
 
 -- a refusal leaves the working memory
 refused-makes : (plain : Bool) (s work : List ℕ) (why : Why) → 32768 ≤ length work → full s ≡ refused (saidWhy why) → Makes plain (made.Refused why) s work work
-refused-makes plain s work why h e = record { said = sym (lent-enough (length work) s h ∙ e); standing = tt; named = tt; keeps = refl }
+refused-makes plain s work why h e = record { said = sym (lent-enough (length work) s h ∙ e); standing = tt; named = tt; root = tt; keeps = refl }
 
 -- a netlist that stands in it
-pub net-makes : (plain : Bool) (s work after : List ℕ) (c : Counts) (m : Net) → 32768 ≤ length work → full s ≡ good m → NetStands m c work after → Named plain (made.Net c) s after → Makes plain (made.Net c) s work after
-net-makes plain s work after c m h e S n = record {
+pub net-makes : (plain : Bool) (s work after : List ℕ) (c : Counts) (t : ℕ) (m : Net) → 32768 ≤ length work → full s ≡ good m → rootNumber s ≡ good t → NetStands m c work after → Named plain (made.Net c t) s after → Makes plain (made.Net c t) s work after
+net-makes plain s work after c t m h e f S n = record {
   said = rw (S .net) (sym (lent-enough (length work) s h ∙ e));
   standing = (S .ready, S .known);
   named = n;
+  root = f;
   keeps = later-keeps work after h (S .ready .size) (S .later);
 }
 
@@ -80,8 +81,8 @@ module _ (s work : List ℕ) (enough : 32768 ≤ length work) where
     pub untyped-makes : (plain : Bool) (why : Why) → checkOf E b ≡ refused (saidWhy why) → Makes plain (made.Refused why) s work work
     untyped-makes plain why e = refused-makes plain s work why enough (full-untyped (saidWhy why) e)
 
-    pub typed-found : (t : ℕ) → checkOf E b ≡ good t → (r : Found) × (walk (σ .edition) (σ .table) (σ .term) 0 [] ≡ good r)
-    typed-found t e = on-bind (walk (σ .edition) (σ .table) (σ .term) 0 []) (λ r. good (r .type)) t (sym check-is ∙ e) λ r h k. (r, h)
+    pub typed-found : (t : ℕ) → checkOf E b ≡ good t → (r : Found) × (walk (σ .edition) (σ .table) (σ .term) 0 [] ≡ good r) × (r .type ≡ t)
+    typed-found t e = on-bind (walk (σ .edition) (σ .table) (σ .term) 0 []) (λ r. good (r .type)) t (sym check-is ∙ e) λ r h k. (r, h, good-inj k)
 
   module _ (σ : Sheet) (read : readSheet s ≡ good σ) (r : Found) (walked : walk (σ .edition) (σ .table) (σ .term) 0 [] ≡ good r) where
     full-many : 8192 < make (σ .table) (σ .term) [] 0 .next → full s ≡ refuse 16 0
@@ -90,6 +91,10 @@ module _ (s work : List ℕ) (enough : 32768 ≤ length work) where
 
     pub many-makes : (plain : Bool) → 8192 < make (σ .table) (σ .term) [] 0 .next → Makes plain (refusedOf 16 0) s work work
     many-makes plain h = refused-makes plain s work _ enough (full-many h)
+
+    pub root-found : (t : ℕ) → r .type ≡ t → rootNumber s ≡ good t
+    unfolding rootNumber
+    root-found t e = rw (read, walked, e)
 
     pub full-few : make (σ .table) (σ .term) [] 0 .next ≤ 8192 → full s ≡ good (netOf (make (σ .table) (σ .term) [] 0))
     unfolding full

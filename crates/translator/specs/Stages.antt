@@ -15,7 +15,9 @@ pub record Opened (s sizes : List ℕ) (types : ℕ) (second : Bool) (start node
   pub count : types ≡ read .types
   pub edition : editionBy second ≡ editionOf (read .whole)
 
-pub record Typed (s sizes : List ℕ) (start nodes : ℕ) : Type 0 where
+-- the number of the root's type is that of the walk
+pub record Typed (s sizes : List ℕ) (start nodes root : ℕ) : Type 0 where
   pub read : Read s sizes start nodes
   pub found : Found
   pub walked : walk (read .told .sheet .edition) (read .told .sheet .table) (read .told .sheet .term) 0 [] ≡ good found
+  pub root-is : found .type ≡ root

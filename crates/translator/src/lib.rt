@@ -20,9 +20,9 @@ pub enum Answer {
     Refused(Refusal),
 }
 
-// How many elements, wires and pins of the netlist stand in the working memory, or a refusal.
+// How many elements, wires and pins of the netlist stand in the working memory, and the number of the root's type; or a refusal.
 pub enum Made {
-    Net(Counts),
+    Net(Counts, u8),
     Refused(Refusal),
 }
 
@@ -45,20 +45,21 @@ fn counted(
     work: &mut [u16],
     nodes: usize,
     start: usize,
+    root: u8,
     plain: bool,
 ) -> Made
-    requires { ⌜ (32768 ≤ length (now work)) × (Typed (now records) (now sizes) start nodes) ⌝ }
-    ensures { λ r. ⌜ ((q : Typed (now (records .entry)) (now (sizes .entry)) start nodes) → Makes plain r (q .read .whole) (now (work .entry)) (now (work .exit))) ⌝ }
+    requires { ⌜ (32768 ≤ length (now work)) × (Typed (now records) (now sizes) start nodes root) ⌝ }
+    ensures { λ r. ⌜ ((q : Typed (now (records .entry)) (now (sizes .entry)) start nodes root) → Makes plain r (q .read .whole) (now (work .entry)) (now (work .exit))) ⌝ }
 {
     if 8192 < wiring::count(records, sizes, start, nodes) {
         return refused(16, 0);
     }
     let counts = wiring::make_net(records, sizes, work, start);
     if plain {
-        return Made::Net(counts);
+        return Made::Net(counts, root);
     }
     makers::name(records, sizes, work, start, nodes);
-    Made::Net(counts)
+    Made::Net(counts, root)
 }
 
 // The typing walk: 10 to 15.
@@ -77,7 +78,7 @@ fn checked(
 {
     match typing::check(records, start, types, second) {
         Typing::Refused(refusal) => Made::Refused(refusal),
-        Typing::Type(_) => counted(records, sizes, work, nodes, start, plain),
+        Typing::Type(root) => counted(records, sizes, work, nodes, start, root, plain),
     }
 }
 
