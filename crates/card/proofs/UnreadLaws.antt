@@ -31,7 +31,7 @@ use Rattle.netlist.specs.Elements.{outputOf, after, afterAll}
 use Rattle.netlist.proofs.Elements.{after-rises}
 use Rattle.lean.specs.Table.{entry, Whole}
 use Rattle.lean.specs.InMemory.{undriven, keptIn, keepIn, inputIn, inputsIn, elementIn, wiresIn, pinIn}
-use Rattle.lean.specs.Fitting.{Driven}
+use Rattle.lean.specs.Fitting.{DriversLow}
 use Rattle.lean.proofs.DriverLaws.{rising, output-below, driver-out}
 use Rattle.lean.proofs.KindLaws.{region-next, region-end, output-low, first-low, part-low}
 use Rattle.lean.proofs.LeanLaws.{entry-root, lean-net, kinds-low, driven}
@@ -204,7 +204,7 @@ pins-has w (c ∷ cs) o = by (terminalOf c) (pins-has w cs o)
 
 -- ---- without kept ring points, all wires go to parts
 
-module _ {w : List ℕ} (d : Driven w) where
+module _ {w : List ℕ} (d : DriversLow w) where
   input-sources : (i : ℕ) → i < 8192 → map (λ (v : Wire). v .from) (inputIn w i) ≡ sourceIn w i
   input-sources i l = by (undriven w i) refl
     where
