@@ -2,7 +2,7 @@
 use translation::Wish;
 ghost use mathlib.Core.Path.{_≡_};
 ghost use Rattle.calculus.specs.Stretch.{stretchOf};
-ghost use Rattle.calculus.specs.Translate.{call};
+ghost use Rattle.export_calculus.specs.CardCall.{cardCall};
 ghost use Rattle.deltawobble.specs.Boundary.{Packs, packedStretch};
 
 // The netlist of a sheet. Bits 0 to 31 of the answer are the number of bytes written or the place, 32 to 39 the refusal's number, 0 for none,
@@ -14,10 +14,11 @@ pub extern "C" fn deltawobble_translate(
     work: &mut [u16],
     lean: bool,
     plain: bool,
+    card: bool,
 ) -> u64
-    ensures { λ r. ⌜ Packs r (now (out .exit)) (now (work .exit)) (call (record { lean = lean; plain = plain }) (now (sheet .entry)) (now (out .entry)) (now (work .entry))) ⌝ }
+    ensures { λ r. ⌜ Packs r (now (out .exit)) (now (work .exit)) (cardCall card (record { lean = lean; plain = plain }) (now (sheet .entry)) (now (out .entry)) (now (work .entry))) ⌝ }
 {
-    let answer = translation::translate(sheet, out, work, Wish { lean, plain });
+    let answer = translation::translate(sheet, out, work, Wish { lean, plain, card });
     translator::word(answer)
 }
 

@@ -151,6 +151,7 @@ fn lean(s: &[u8], out: &mut [u8], work: &mut [u16]) -> usize {
         Wish {
             lean: true,
             plain: true,
+            card: false,
         },
     ) {
         Answer::Written(n) => n,

@@ -29,6 +29,7 @@ fn answer(s: &[u8], out: &mut [u8], work: &mut [u16]) {
         Wish {
             lean: false,
             plain: true,
+            card: false,
         },
     ) {
         Answer::Written(length) => {

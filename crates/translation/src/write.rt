@@ -6,7 +6,6 @@ use typing::Refusal;
 use wiring::Counts;
 ghost use mathlib.Core.Path.{_≡_};
 ghost use lib.ListN.{length};
-ghost use Rattle.calculus.specs.Answer.{_>>=_};
 ghost use Rattle.calculus.specs.Read.{recordsOf};
 ghost use Rattle.calculus.specs.Lean.{lean};
 ghost use Rattle.calculus.specs.Record.{All};
@@ -19,7 +18,7 @@ ghost use Rattle.export_calculus.specs.Card.{profiled};
 ghost use Rattle.root_type.specs.Chains.{chainIn};
 ghost use Rattle.translator.specs.Made.{Keeps};
 ghost use Rattle.translator.specs.Said.{Says, inRoom};
-ghost use Rattle.translation.specs.Wished.{saidWish, cardBy};
+ghost use Rattle.translation.specs.Wished.{saidWish, cardBy, onPass};
 
 // The full netlist; 17 with the length needed where the output is shorter.
 fn write_full(
@@ -86,8 +85,8 @@ fn write_card(
     wish: Wish,
 ) -> Answer
     requires { ⌜ (Ready (now work) (counts .elements) (counts .wires) (counts .pins)) × (All Known (netIn (now work) (counts .elements) (counts .wires) (counts .pins) .elements)) ⌝ }
-    ensures { λ r. ⌜ (Says r (now (out .entry)) (now (out .exit)) (profiled (chainIn (now (records .entry)) 256 root) (lean (netIn (now (work .entry)) (counts .elements) (counts .wires) (counts .pins)))
-            >>= λ _. inRoom (askedBytes (saidWish wish) (netIn (now (work .entry)) (counts .elements) (counts .wires) (counts .pins)) (region (now (work .entry)) makersAt (counts .elements))) (length (now (out .entry)))))
+    ensures { λ r. ⌜ (Says r (now (out .entry)) (now (out .exit)) (onPass (profiled (chainIn (now (records .entry)) 256 root) (lean (netIn (now (work .entry)) (counts .elements) (counts .wires) (counts .pins))))
+        (inRoom (askedBytes (saidWish wish) (netIn (now (work .entry)) (counts .elements) (counts .wires) (counts .pins)) (region (now (work .entry)) makersAt (counts .elements))) (length (now (out .entry))))))
         × (Keeps (now (work .entry)) (now (work .exit))) ⌝ }
 {
     let elements = counts.elements;
@@ -132,8 +131,8 @@ pub fn write(
     wish: Wish,
 ) -> Answer
     requires { ⌜ (Ready (now work) (counts .elements) (counts .wires) (counts .pins)) × (All Known (netIn (now work) (counts .elements) (counts .wires) (counts .pins) .elements)) ⌝ }
-    ensures { λ r. ⌜ (Says r (now (out .entry)) (now (out .exit)) (cardBy (wish .card) (chainIn (recordsOf (now (sheet .entry))) 256 root) (netIn (now (work .entry)) (counts .elements) (counts .wires) (counts .pins))
-            >>= λ _. inRoom (askedBytes (saidWish wish) (netIn (now (work .entry)) (counts .elements) (counts .wires) (counts .pins)) (region (now (work .entry)) makersAt (counts .elements))) (length (now (out .entry)))))
+    ensures { λ r. ⌜ (Says r (now (out .entry)) (now (out .exit)) (onPass (cardBy (wish .card) (chainIn (recordsOf (now (sheet .entry))) 256 root) (netIn (now (work .entry)) (counts .elements) (counts .wires) (counts .pins)))
+        (inRoom (askedBytes (saidWish wish) (netIn (now (work .entry)) (counts .elements) (counts .wires) (counts .pins)) (region (now (work .entry)) makersAt (counts .elements))) (length (now (out .entry))))))
         × (Keeps (now (work .entry)) (now (work .exit))) ⌝ }
 {
     if wish.card {
