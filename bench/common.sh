@@ -1,6 +1,6 @@
 # Sourced by the scripts of this folder and of examples/callers, in the repository's root: the
 # archive of the proved translator, the processor it is for, and the compiler and the emulator for it.
-archive=target/staticlib/libdeltawobble.a
+archive=${BENCH_ARCHIVE:-target/staticlib/libdeltawobble.a}
 
 . bench/tools.sh
 asked cargo
@@ -23,6 +23,12 @@ if [ "$for_processor" = "$(uname -m)" ]; then
 else
     native=no cc=$for_processor-linux-gnu-gcc emulator=qemu-$for_processor static=-static
     need "$cc" "gcc-$(echo "$for_processor" | tr _ -)-linux-gnu"
+    # its C library's headers are a package of their own
+    echo '#include <stdint.h>' | "$cc" -E - >/dev/null 2>&1 || {
+        case $for_processor in x86_64) headers=libc6-dev-amd64-cross ;; *) headers=libc6-dev-arm64-cross ;; esac
+        echo "installing $headers for $cc" >&2
+        { apt-get update && apt-get install -y --no-install-recommends "$headers"; } >/dev/null
+    }
     # the toolchain runs its own programs under an emulator that stands beside its compiler
     kit=$(readlink -f "$(command -v rt)" || true)
     beside=${kit%/bin/rt}/on/$(uname -m)/toolchain/bin/$emulator
@@ -30,10 +36,13 @@ else
     echo "the archive is for $for_processor and this machine is $(uname -m): running it under ${emulator##*/}" >&2
 fi
 
+# the calls that the archive has, as definitions for the C compiler: -DHAS_batch ..
+has=$(readelf -sW "$archive" | sed -n 's/.* GLOBAL DEFAULT *[0-9]* deltawobble_\([a-z]*\)$/-DHAS_\1/p' | sort -u)
+
 # the host process and the bench program
 build_bench() {
     (cd bench && cargo build --release --offline --quiet -j1)
     mkdir -p bench/target
-    "$cc" -O2 -Wall -Wextra $static -o bench/target/host bench/host.c "$archive"
+    "$cc" -O2 -Wall -Wextra $static $has -o bench/target/host bench/host.c "$archive"
     export BENCH_HOST="$emulator bench/target/host"
 }

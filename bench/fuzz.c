@@ -1,61 +1,16 @@
-/* The fuzz target on the C boundary: bytes choose netlist, kinds, room and memory, the rest is the sheet.
-   What document 01 says of any call is checked. The archive has no instrumentation: so each slice
-   lies against a page that nobody may touch, with guard bytes at its other end (a sanitizer would
-   see nothing), and the answers themselves are the feedback (`seen`). */
-#include <stdbool.h>
-#include <stddef.h>
-#include <stdint.h>
-#include <stdio.h>
-#include <stdlib.h>
-#include <string.h>
-#include <sys/mman.h>
-#include <unistd.h>
+/* The fuzz target on translations: bytes choose netlist, kinds, profile, room and memory, the rest is the sheet.
+   What document 01 says of any call is checked. */
+#include "fuzz.h"
 
 uint64_t deltawobble_translate(const uint8_t *sheet, size_t sheet_len, uint8_t *out, size_t out_len,
-                               uint16_t *work, size_t work_len, bool lean, bool plain);
+                               uint16_t *work, size_t work_len, bool lean, bool plain, bool card);
 uint64_t deltawobble_stretch(const uint8_t *sheet, size_t sheet_len, size_t node);
 
-enum { CLEARED = 32768, ALWAYS_ENOUGH = 57728, PLAIN_ENOUGH = 41344, SEEN = 1 << 14, STRETCH = 1 << 17, GUARD = 64 };
+enum { ALWAYS_ENOUGH = 57728, PLAIN_ENOUGH = 41344 };
 
-/* libFuzzer reads this section as counters; fuzz_alone.c reads it by name */
-__attribute__((section("__libfuzzer_extra_counters"))) uint8_t seen[SEEN];
-
-static const size_t memories[] = {32768, 32768, 32768, 32769, 32767, 0, 40000, 33000};
-
-#define DEMAND(fact) \
-    do { \
-        if (!(fact)) { \
-            fprintf(stderr, "broken: %s (line %d)\n", #fact, __LINE__); \
-            abort(); \
-        } \
-    } while (0)
-
-/* A slice of so many bytes, filled with 0xA5 and so are its guards, in one of three stretches of
-   memory between two pages that nobody may touch: against the one or the other. */
-static uint8_t *slice(int which, size_t size, bool at_end) {
-    static uint8_t *stretches[3];
-    if (!stretches[which]) {
-        size_t page = sysconf(_SC_PAGESIZE);
-        uint8_t *base = mmap(0, STRETCH + 2 * page, PROT_READ | PROT_WRITE, MAP_PRIVATE | MAP_ANONYMOUS, -1, 0);
-        DEMAND(base != MAP_FAILED && mprotect(base, page, PROT_NONE) == 0);
-        DEMAND(mprotect(base + page + STRETCH, page, PROT_NONE) == 0);
-        stretches[which] = base + page;
-    }
-    DEMAND(size + GUARD <= STRETCH);
-    uint8_t *from = stretches[which] + (at_end ? STRETCH - size - GUARD : 0);
-    memset(from, 0xA5, size + GUARD);
-    return at_end ? from + GUARD : from;
-}
-
-/* Whether so many bytes all have one value. */
-static bool all(const void *from, uint8_t value, size_t size) {
-    const uint8_t *bytes = from;
-    return size == 0 || (bytes[0] == value && memcmp(bytes, bytes + 1, size - 1) == 0);
-}
-
-static bool guarded(const void *from, size_t size, bool at_end) {
-    return all((const uint8_t *)from + (at_end ? -(ptrdiff_t)GUARD : (ptrdiff_t)size), 0xA5, GUARD);
-}
+/* the bytes that fuzz_alone.c puts in */
+const uint8_t kinds[] = {1, 2, 3, 4, 0x11, 0x12, 0x13, 0x14, 0x15, 0x16, 0x17, 0x18, 0x19, 0x1A, 0x1B, 0x31};
+const size_t kinds_count = sizeof kinds;
 
 /* The bytes of a record, by its kind. */
 static size_t size_of(int kind) {
@@ -63,12 +18,10 @@ static size_t size_of(int kind) {
     return kind >= 0x21 && kind <= 0x26 ? sizes[kind - 0x21] : 0;
 }
 
-static void mark(uint32_t hash) { seen[hash * 2654435761u >> 18] = 1; }
-
 static void mark_answer(uint32_t number, uint32_t value, bool lean, bool plain, const uint8_t *out) {
     uint32_t size = 0;
     while (value >> size) size++;
-    mark(1u << 24 & -(uint32_t)plain | number << 8 | size << 1 | lean);
+    mark((uint32_t)plain << 24 | number << 8 | size << 1 | lean);
     if (number) return;
     /* the parts and record kinds that follow each other in the netlist */
     uint32_t before = 0;
@@ -119,20 +72,20 @@ static bool is_lean(const uint8_t *out, size_t length) {
 }
 
 /* One call with everything that holds of any call; a netlist's length, or 0. */
-static uint64_t call(const uint8_t *sheet, size_t length, size_t room, size_t numbers, bool lean, bool plain) {
+static uint64_t asked(const uint8_t *sheet, size_t length, size_t room, size_t numbers, bool lean, bool plain, bool card) {
     static unsigned calls;
     bool end[3] = {calls & 1, calls >> 1 & 1, calls >> 2 & 1};
     calls++;
     uint8_t *lent = slice(0, length, end[0]), *out = slice(1, room, end[1]);
     uint16_t *work = (uint16_t *)slice(2, 2 * numbers, end[2]);
     memcpy(lent, sheet, length);
-    uint64_t answer = deltawobble_translate(lent, length, out, room, work, numbers, lean, plain);
+    uint64_t answer = deltawobble_translate(lent, length, out, room, work, numbers, lean, plain, card);
     uint32_t number = answer >> 32 & 255, value = (uint32_t)answer, wanted = answer >> 40 & 4095, found = answer >> 52;
-    DEMAND(number <= 17);
+    DEMAND(number <= 17 || (card && number >= 27 && number <= 29));
+    DEMAND(number < 27 || (number == 27 ? value == 0 : value < 8192));
     DEMAND(number == 12 ? wanted != found && wanted <= 256 && found < 256 : wanted == 0 && found == 0);
     DEMAND((number == 1) == (numbers < CLEARED));
-    size_t cleared = number == 1 ? 0 : CLEARED;
-    DEMAND(all(work, 0, 2 * cleared) && all(work + cleared, 0xA5, 2 * (numbers - cleared)));
+    DEMAND(cleared(work, numbers, number));
     DEMAND(number || value <= room);
     size_t written = number ? 0 : value;
     DEMAND(all(out + written, 0xA5, room - written));
@@ -154,6 +107,10 @@ static uint64_t call(const uint8_t *sheet, size_t length, size_t room, size_t nu
     return answer;
 }
 
+static uint64_t call(const uint8_t *sheet, size_t length, size_t room, size_t numbers, bool lean, bool plain) {
+    return asked(sheet, length, room, numbers, lean, plain, false);
+}
+
 /* Both netlists of a sheet in one of the kinds, each in just its room and in one byte less; the full one's
    length, or its refusal. */
 static uint64_t both(const uint8_t *sheet, size_t length, bool plain) {
@@ -173,11 +130,11 @@ static uint64_t both(const uint8_t *sheet, size_t length, bool plain) {
 
 int LLVMFuzzerTestOneInput(const uint8_t *data, size_t size) {
     if (size < 3) return 0;
-    bool lean = data[0] & 1, plain = data[0] >> 4 & 1;
+    bool lean = data[0] & 1, plain = data[0] >> 4 & 1, card = data[0] >> 5 & 1;
     size_t numbers = memories[data[0] >> 1 & 7], room = data[1] | (size_t)data[2] << 8;
     const uint8_t *sheet = data + 3;
     size_t length = size - 3;
-    call(sheet, length, room % (ALWAYS_ENOUGH + 1), numbers, lean, plain);
+    asked(sheet, length, room % (ALWAYS_ENOUGH + 1), numbers, lean, plain, card);
     uint64_t nodes = both(sheet, length, false), kinds = both(sheet, length, true);
     DEMAND(nodes >> 32 ? kinds == nodes : kinds >> 32 == 0 && kinds < nodes);
     return 0;

@@ -10,7 +10,9 @@ enum { SEEN = 1 << 14, MOST = 16400, KEPT = 4096 };
 extern uint8_t seen[SEEN];
 int LLVMFuzzerTestOneInput(const uint8_t *data, size_t size);
 
-static const uint8_t kinds[] = {1, 2, 3, 4, 0x11, 0x12, 0x13, 0x14, 0x15, 0x16, 0x17, 0x18, 0x19, 0x1A, 0x1B, 0x31};
+/* bytes that records begin with, by the target */
+extern const uint8_t kinds[];
+extern const size_t kinds_count;
 static struct { uint8_t *data; size_t size; } kept[KEPT];
 static size_t count;
 static uint8_t known[SEEN];
@@ -42,7 +44,7 @@ static void keep(const uint8_t *data, size_t size) {
 
 static size_t change(uint8_t *data, size_t size) {
     size_t at = draw(size + 1), other = draw(count), from, length;
-    uint8_t byte = draw(3) ? (draw(2) ? kinds[draw(sizeof kinds)] : draw(6)) : draw(256);
+    uint8_t byte = draw(3) ? (draw(2) ? kinds[draw(kinds_count)] : draw(6)) : draw(256);
     switch (draw(7)) {
     case 0: if (at < size) data[at] ^= 1 << draw(8); break;
     case 1: case 2: if (at < size) data[at] = byte; break;

@@ -1,10 +1,11 @@
-/* The host process: calls the proved translator on memory that it shares with the bench program.
+/* The host process: makes the calls of the archive on memory that it shares with the bench program.
    It is compiled for the archive's processor, and runs under an emulator where that isn't ours.
    Arguments: file descriptor, size, page size, then the offsets of the pages that nobody may touch.
-   Each request is eight numbers of 64 bits: what to do (0 translate, 1 stretch, 2 translate on a
-   painted stack), then the parameters, offsets for pointers, the wishes one bit each: 1 for the lean
-   netlist, 2 for plain kinds.
-   The answer is two numbers: what the call returned, and the bytes of stack it wrote on. */
+   Each request is twelve numbers of 64 bits: the call, by its place in the list below, and PAINTED more
+   for a call on a painted stack; for each slice its offset and its number of elements; and at the end
+   the node, the ticks, or the wishes, one bit each.
+   The answer is two numbers: what the call returned, and the bytes of stack it wrote on.
+   HAS_.. says of each later call that the archive has it. */
 #define _GNU_SOURCE
 #include <stdbool.h>
 #include <stdint.h>
@@ -14,25 +15,61 @@
 #include <sys/mman.h>
 #include <ucontext.h>
 
-uint64_t deltawobble_translate(const uint8_t *sheet, size_t sheet_len, uint8_t *out, size_t out_len,
-                               uint16_t *work, size_t work_len, bool lean, bool plain);
-uint64_t deltawobble_stretch(const uint8_t *sheet, size_t sheet_len, size_t node);
+#define SLICE(type) type *, size_t
+/* a translator from before L6 or L12 takes fewer wishes, and never looks at the last ones */
+#define WISHES bool, bool, bool
+uint64_t deltawobble_translate(SLICE(const uint8_t), SLICE(uint8_t), SLICE(uint16_t), WISHES);
+uint64_t deltawobble_stretch(SLICE(const uint8_t), size_t);
+uint64_t deltawobble_batch(SLICE(const uint8_t), SLICE(const uint32_t), SLICE(uint8_t), SLICE(uint64_t),
+                           SLICE(uint16_t), WISHES);
+uint64_t deltawobble_verilog(SLICE(const uint8_t), SLICE(uint8_t), SLICE(uint16_t));
+uint64_t deltawobble_run(SLICE(const uint8_t), SLICE(const uint8_t), SLICE(const uint8_t), SLICE(uint8_t),
+                         SLICE(uint16_t), uint16_t);
+uint64_t deltawobble_check(SLICE(const uint8_t), SLICE(uint16_t), bool);
+uint64_t deltawobble_back(SLICE(const uint8_t), SLICE(uint8_t), SLICE(uint16_t), bool);
 
+enum { TRANSLATE, STRETCH, BATCH, VERILOG, RUN, CHECK, BACK, PAINTED = 16 };
 enum { STACK = 1 << 20, PAINT = 0xA5 };
 
 static uint8_t *base;
-static uint64_t request[8], answer[2];
+static uint64_t request[12], answer[2];
 static bool idle;
 static uint8_t stack[STACK] __attribute__((aligned(64)));
 static ucontext_t here, there;
 
-static uint64_t translate(void) {
-    return deltawobble_translate(base + request[1], request[2], base + request[3], request[4],
-                                 (uint16_t *)(base + request[5]), request[6], request[7] & 1, request[7] >> 1 & 1);
+/* slice i of the request, as a pointer to its type and a length */
+#define AT(i, type) (type *)(base + request[1 + 2 * (i)]), request[2 + 2 * (i)]
+
+static uint64_t call(void) {
+    uint64_t last = request[11];
+    bool lean = last & 1, plain = last >> 1 & 1, card = last >> 2 & 1;
+    switch (request[0] % PAINTED) {
+    case TRANSLATE: return deltawobble_translate(AT(0, uint8_t), AT(1, uint8_t), AT(2, uint16_t), lean, plain, card);
+    case STRETCH: return deltawobble_stretch(AT(0, uint8_t), last);
+#ifdef HAS_batch
+    case BATCH:
+        return deltawobble_batch(AT(0, uint8_t), AT(1, uint32_t), AT(2, uint8_t), AT(3, uint64_t), AT(4, uint16_t),
+                                 lean, plain, card);
+#endif
+#ifdef HAS_verilog
+    case VERILOG: return deltawobble_verilog(AT(0, uint8_t), AT(1, uint8_t), AT(2, uint16_t));
+#endif
+#ifdef HAS_run
+    case RUN: return deltawobble_run(AT(0, uint8_t), AT(1, uint8_t), AT(2, uint8_t), AT(3, uint8_t), AT(4, uint16_t), last);
+#endif
+#ifdef HAS_check
+    case CHECK: return deltawobble_check(AT(0, uint8_t), AT(1, uint16_t), lean);
+#endif
+#ifdef HAS_back
+    case BACK: return deltawobble_back(AT(0, uint8_t), AT(1, uint8_t), AT(2, uint16_t), lean);
+#endif
+    }
+    fprintf(stderr, "the archive has no call %d\n", (int)request[0]);
+    exit(2);
 }
 
 static void on_painted_stack(void) {
-    if (!idle) answer[0] = translate();
+    if (!idle) answer[0] = call();
 }
 
 /* How far down the painted stack was written on. */
@@ -59,10 +96,8 @@ int main(int count, char **words) {
         if (mprotect(base + strtoul(words[i], 0, 10), page, PROT_NONE)) return 2;
     while (fread(request, sizeof request, 1, stdin) == 1) {
         answer[0] = answer[1] = 0;
-        if (request[0] == 0) {
-            answer[0] = translate();
-        } else if (request[0] == 1) {
-            answer[0] = deltawobble_stretch(base + request[1], request[2], request[3]);
+        if (request[0] < PAINTED) {
+            answer[0] = call();
         } else {
             size_t empty = depth(true);
             answer[1] = depth(false) - empty;

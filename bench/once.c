@@ -9,13 +9,13 @@
 #include <string.h>
 
 uint64_t deltawobble_translate(const uint8_t *sheet, size_t sheet_len, uint8_t *out, size_t out_len,
-                               uint16_t *work, size_t work_len, bool lean, bool plain);
+                               uint16_t *work, size_t work_len, bool lean, bool plain, bool card);
 
 static uint8_t sheet[16385], out[57728];
 static uint16_t work[32768];
 
 static unsigned length_of(size_t length, size_t room, bool lean) {
-    uint64_t answer = deltawobble_translate(sheet, length, out, room, work, 32768, lean, false);
+    uint64_t answer = deltawobble_translate(sheet, length, out, room, work, 32768, lean, false, false);
     return answer >> 32 ? 0 : (unsigned)answer;
 }
 
@@ -34,7 +34,7 @@ int main(int count, char **words) {
             printf("%u %u\n", length_of(length, room, false), length_of(length, room, true));
         else if (strcmp(words[1], "none") != 0)
             deltawobble_translate(sheet, length, out, room, work, 32768, strncmp(words[1], "lean", 4) == 0,
-                                  strstr(words[1], "plain") != 0);
+                                  strstr(words[1], "plain") != 0, false);
     }
     return ground;
 }

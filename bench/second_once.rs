@@ -17,8 +17,9 @@ pub unsafe extern "C" fn deltawobble_translate(
     work_len: usize,
     lean: bool,
     plain: bool,
+    card: bool,
 ) -> u64 {
     let sheet = from_raw_parts(sheet, sheet_len);
     let (out, work) = (from_raw_parts_mut(out, out_len), from_raw_parts_mut(work, work_len));
-    second::translate::call(sheet, out, work, second::Wish { lean, plain, card: false })
+    second::translate::call(sheet, out, work, second::Wish { lean, plain, card })
 }

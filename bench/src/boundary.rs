@@ -1,17 +1,90 @@
-//! The C boundary of the proved translator: linked in, or called through the host process where the
-//! archive was made for another processor.
+//! The C boundary of the archive: linked in, or called through the host process where the archive was
+//! made for another processor. A call is lent slices, in the order of its C signature, and told one
+//! number: the node, the ticks, or its wishes, one bit each.
 
 use crate::fences::{Fences, Place};
 use second::Wish;
 use std::io::{Read, Write};
 use std::process::{Child, ChildStdin, ChildStdout, Command, Stdio};
 
+/// The public calls, by their places in host.c's list.
+#[derive(Clone, Copy, Debug, PartialEq, Eq)]
+pub enum Call {
+    Translate,
+    Stretch,
+    Batch,
+    Verilog,
+    Run,
+    Check,
+    Back,
+}
+
+/// What users are told there is.
+const HEADER: &str = include_str!("../../examples/callers/deltawobble.h");
+
+impl Call {
+    pub fn name(self) -> &'static str {
+        match self {
+            Call::Translate => "translate",
+            Call::Stretch => "stretch",
+            Call::Batch => "batch",
+            Call::Verilog => "verilog",
+            Call::Run => "run",
+            Call::Check => "check",
+            Call::Back => "back",
+        }
+    }
+
+    /// Whether the archive has it.
+    pub fn there(self) -> bool {
+        match self {
+            Call::Translate | Call::Stretch => true,
+            Call::Batch => cfg!(has_batch),
+            Call::Verilog => cfg!(has_verilog),
+            Call::Run => cfg!(has_run),
+            Call::Check => cfg!(has_check),
+            Call::Back => cfg!(has_back),
+        }
+    }
+
+    /// Whether the header declares it.
+    pub fn declared(self) -> bool {
+        HEADER.contains(&format!("deltawobble_{}(", self.name()))
+    }
+}
+
+/// What a translation can be asked for, as far as the header has it: L6 brings plain, L12 the card.
+pub fn wishes() -> Vec<Wish> {
+    let told = |name: &str| HEADER.contains(&format!("bool {name}"));
+    let choices = |there: bool, otherwise: bool| match there {
+        true => vec![false, true],
+        false => vec![otherwise],
+    };
+    let mut wishes = Vec::new();
+    for lean in [false, true] {
+        for &plain in &choices(told("plain"), true) {
+            for &card in &choices(told("card"), false) {
+                wishes.push(Wish { lean, plain, card });
+            }
+        }
+    }
+    wishes
+}
+
+/// Wishes as a number.
+pub fn told(wish: Wish) -> u64 {
+    u64::from(wish.lean) | u64::from(wish.plain) << 1 | u64::from(wish.card) << 2
+}
+
 #[cfg(linked)]
 pub mod linked {
+    use super::{told, Call};
     use second::Wish;
 
     extern "C" {
-        pub fn deltawobble_translate(
+        // a translator from before L6 or L12 takes fewer wishes, and never looks at the last ones
+        #[rustfmt::skip]
+        fn deltawobble_translate(
             sheet: *const u8,
             sheet_len: usize,
             out: *mut u8,
@@ -20,54 +93,130 @@ pub mod linked {
             work_len: usize,
             lean: bool,
             plain: bool,
+            card: bool,
         ) -> u64;
-        pub fn deltawobble_stretch(sheet: *const u8, sheet_len: usize, node: usize) -> u64;
+        fn deltawobble_stretch(sheet: *const u8, sheet_len: usize, node: usize) -> u64;
+        #[cfg(has_batch)]
+        #[rustfmt::skip]
+        fn deltawobble_batch(
+            sheets: *const u8,
+            sheets_len: usize,
+            lengths: *const u32,
+            lengths_len: usize,
+            out: *mut u8,
+            out_len: usize,
+            results: *mut u64,
+            results_len: usize,
+            work: *mut u16,
+            work_len: usize,
+            lean: bool,
+            plain: bool,
+            card: bool,
+        ) -> u64;
+        #[cfg(has_verilog)]
+        #[rustfmt::skip]
+        fn deltawobble_verilog(
+            sheet: *const u8,
+            sheet_len: usize,
+            out: *mut u8,
+            out_len: usize,
+            work: *mut u16,
+            work_len: usize,
+        ) -> u64;
+        #[cfg(has_run)]
+        #[rustfmt::skip]
+        fn deltawobble_run(
+            sheet: *const u8,
+            sheet_len: usize,
+            inputs: *const u8,
+            inputs_len: usize,
+            starts: *const u8,
+            starts_len: usize,
+            out: *mut u8,
+            out_len: usize,
+            work: *mut u16,
+            work_len: usize,
+            ticks: u16,
+        ) -> u64;
+        #[cfg(has_check)]
+        #[rustfmt::skip]
+        fn deltawobble_check(
+            net: *const u8,
+            net_len: usize,
+            work: *mut u16,
+            work_len: usize,
+            lean: bool,
+        ) -> u64;
+        #[cfg(has_back)]
+        #[rustfmt::skip]
+        fn deltawobble_back(
+            net: *const u8,
+            net_len: usize,
+            out: *mut u8,
+            out_len: usize,
+            work: *mut u16,
+            work_len: usize,
+            lean: bool,
+        ) -> u64;
     }
 
-    /// One call on slices.
-    pub fn translate(sheet: &[u8], out: &mut [u8], work: &mut [u16], wish: Wish) -> u64 {
-        let (out_at, work_at) = (out.as_mut_ptr(), work.as_mut_ptr());
-        unsafe {
-            deltawobble_translate(
-                sheet.as_ptr(),
-                sheet.len(),
-                out_at,
-                out.len(),
-                work_at,
-                work.len(),
-                wish.lean,
-                wish.plain,
-            )
+    /// The call on slices, each an address and its number of elements.
+    ///
+    /// # Safety
+    /// The slices are the caller's, whole, apart and of the call's types.
+    pub unsafe fn call(call: Call, slices: &[(*mut u8, usize)], last: u64) -> u64 {
+        let (lean, plain, card) = (last & 1 == 1, last >> 1 & 1 == 1, last >> 2 & 1 == 1);
+        match (call, slices) {
+            (Call::Translate, &[(sheet, n), (out, m), (work, k)]) => {
+                deltawobble_translate(sheet, n, out, m, work.cast(), k, lean, plain, card)
+            }
+            (Call::Stretch, &[(sheet, n)]) => deltawobble_stretch(sheet, n, last as usize),
+            #[cfg(has_batch)]
+            #[rustfmt::skip]
+            (Call::Batch, &[(sheets, n), (lengths, l), (out, m), (results, r), (work, k)]) => {
+                deltawobble_batch(sheets, n, lengths.cast(), l, out, m, results.cast(), r, work.cast(), k, lean, plain, card)
+            },
+            #[cfg(has_verilog)]
+            (Call::Verilog, &[(sheet, n), (out, m), (work, k)]) => {
+                deltawobble_verilog(sheet, n, out, m, work.cast(), k)
+            }
+            #[cfg(has_run)]
+            #[rustfmt::skip]
+            (Call::Run, &[(sheet, n), (inputs, i), (starts, s), (out, m), (work, k)]) => {
+                deltawobble_run(sheet, n, inputs, i, starts, s, out, m, work.cast(), k, last as u16)
+            },
+            #[cfg(has_check)]
+            (Call::Check, &[(net, n), (work, k)]) => {
+                deltawobble_check(net, n, work.cast(), k, lean)
+            }
+            #[cfg(has_back)]
+            (Call::Back, &[(net, n), (out, m), (work, k)]) => {
+                deltawobble_back(net, n, out, m, work.cast(), k, lean)
+            }
+            _ => unreachable!("{call:?} on {} slices", slices.len()),
         }
     }
 
-    pub fn stretch(sheet: &[u8], node: usize) -> u64 {
-        unsafe { deltawobble_stretch(sheet.as_ptr(), sheet.len(), node) }
+    /// One translation, for the table of times.
+    pub fn translate(sheet: &[u8], out: &mut [u8], work: &mut [u16], wish: Wish) -> u64 {
+        let lent = [
+            (sheet.as_ptr().cast_mut(), sheet.len()),
+            (out.as_mut_ptr(), out.len()),
+            (work.as_mut_ptr().cast(), work.len()),
+        ];
+        unsafe { call(Call::Translate, &lent, told(wish)) }
     }
 }
 
-/// A translate call on places within the fences.
-#[derive(Clone, Copy, Debug)]
-pub struct Call {
-    pub sheet: Place,
-    pub output: Place,
-    pub memory: Place,
-    pub wish: Wish,
-}
-
-/// The host process: eight numbers in (what to do, then its parameters, the wishes one bit each), two
-/// numbers out.
+/// The host process: twelve numbers in, two numbers out.
 pub struct Host {
     child: Child,
     to: ChildStdin,
     from: ChildStdout,
 }
 
-#[cfg(not(linked))]
-const TRANSLATE: u64 = 0;
-#[cfg(not(linked))]
-const STRETCH: u64 = 1;
-const STACK: u64 = 2;
+/// Added to a call's number: on a painted stack.
+const PAINTED: u64 = 16;
 
 impl Host {
     /// The command line comes from the script: an emulator where one is needed, and the program.
@@ -90,7 +239,14 @@ impl Host {
         Host { child, to, from }
     }
 
-    fn ask(&mut self, request: [u64; 8]) -> Result<(u64, u64), String> {
+    fn ask(&mut self, what: u64, slices: &[Place], last: u64) -> Result<(u64, u64), String> {
+        let mut request = [0; 12];
+        request[0] = what;
+        for (index, slice) in slices.iter().enumerate() {
+            request[1 + 2 * index] = slice.offset as u64;
+            request[2 + 2 * index] = slice.count as u64;
+        }
+        request[11] = last;
         let bytes: Vec<u8> = request.iter().flat_map(|number| number.to_le_bytes()).collect();
         let mut answer = [0; 16];
         let asked = self.to.write_all(&bytes).and_then(|()| self.to.flush());
@@ -105,23 +261,9 @@ impl Host {
         }
     }
 
-    fn request(call: Call, what: u64) -> [u64; 8] {
-        let Call { sheet, output, memory, wish } = call;
-        [
-            what,
-            sheet.offset as u64,
-            sheet.length as u64,
-            output.offset as u64,
-            output.length as u64,
-            memory.offset as u64,
-            memory.length as u64 / 2,
-            u64::from(wish.lean) | u64::from(wish.plain) << 1,
-        ]
-    }
-
-    /// The answer, and how many bytes of stack the call wrote on.
-    pub fn stack(&mut self, call: Call) -> Result<(u64, u64), String> {
-        self.ask(Host::request(call, STACK))
+    /// How many bytes of stack a call wrote on.
+    pub fn stack(&mut self, call: Call, slices: &[Place], last: u64) -> Result<u64, String> {
+        Ok(self.ask(call as u64 + PAINTED, slices, last)?.1)
     }
 }
 
@@ -143,39 +285,24 @@ impl Boundary {
         Boundary::Host(Host::start(fences))
     }
 
-    pub fn translate(&mut self, fences: &Fences, call: Call) -> Result<u64, String> {
+    /// The call's answer, on places within the fences.
+    pub fn call(
+        &mut self,
+        fences: &Fences,
+        call: Call,
+        slices: &[Place],
+        last: u64,
+    ) -> Result<u64, String> {
         let _ = fences;
         match self {
             #[cfg(linked)]
-            Boundary::Linked => Ok(unsafe {
-                linked::deltawobble_translate(
-                    fences.address(call.sheet),
-                    call.sheet.length,
-                    fences.address(call.output),
-                    call.output.length,
-                    fences.address(call.memory).cast(),
-                    call.memory.length / 2,
-                    call.wish.lean,
-                    call.wish.plain,
-                )
-            }),
-            #[cfg(not(linked))]
-            Boundary::Host(host) => Ok(host.ask(Host::request(call, TRANSLATE))?.0),
-        }
-    }
-
-    pub fn stretch(&mut self, fences: &Fences, sheet: Place, node: usize) -> Result<u64, String> {
-        let _ = fences;
-        match self {
-            #[cfg(linked)]
-            Boundary::Linked => Ok(unsafe {
-                linked::deltawobble_stretch(fences.address(sheet), sheet.length, node)
-            }),
-            #[cfg(not(linked))]
-            Boundary::Host(host) => {
-                let (offset, length) = (sheet.offset as u64, sheet.length as u64);
-                Ok(host.ask([STRETCH, offset, length, node as u64, 0, 0, 0, 0])?.0)
+            Boundary::Linked => {
+                let at = |place: &Place| (fences.address(*place), place.count);
+                let lent: Vec<(*mut u8, usize)> = slices.iter().map(at).collect();
+                Ok(unsafe { linked::call(call, &lent, last) })
             }
+            #[cfg(not(linked))]
+            Boundary::Host(host) => Ok(host.ask(call as u64, slices, last)?.0),
         }
     }
 }

@@ -1,8 +1,9 @@
-//! A step over a fence stops the program: tell the sheet that did it before ending with status 1.
+//! A step over a fence stops the program: tell the call that did it before ending with status 1.
 
-use crate::differential::hex;
+use crate::request::{told, Request};
 use std::ffi::c_int;
-use std::sync::Mutex;
+use std::ptr::null;
+use std::sync::atomic::{AtomicPtr, Ordering};
 
 extern "C" {
     fn signal(number: c_int, handler: extern "C" fn(c_int)) -> usize;
@@ -11,8 +12,8 @@ extern "C" {
 
 const SIGNALS: [c_int; 4] = [4, 7, 8, 11];
 
-/// What is being tried, in words, and its sheet.
-static NOW: Mutex<(String, Vec<u8>)> = Mutex::new((String::new(), Vec::new()));
+/// The request that is being tried.
+static NOW: AtomicPtr<Request> = AtomicPtr::new(null::<Request>().cast_mut());
 
 pub fn watch() {
     for number in SIGNALS {
@@ -20,17 +21,19 @@ pub fn watch() {
     }
 }
 
-pub fn now(what: String, sheet: &[u8]) {
-    let mut now = NOW.lock().expect("one thread");
-    now.0 = what;
-    now.1.clear();
-    now.1.extend_from_slice(sheet);
+/// Do something with this request: if the program is stopped meanwhile, it is told.
+pub fn during<T>(request: &Request, act: impl FnOnce() -> T) -> T {
+    NOW.store(std::ptr::from_ref(request).cast_mut(), Ordering::SeqCst);
+    let done = act();
+    NOW.store(null::<Request>().cast_mut(), Ordering::SeqCst);
+    done
 }
 
 extern "C" fn stopped(number: c_int) {
-    if let Ok(now) = NOW.try_lock() {
+    let now = NOW.swap(null::<Request>().cast_mut(), Ordering::SeqCst);
+    if !now.is_null() {
         println!("DIFFERENCE: stopped by signal {number}, as by a step over a slice's end");
-        println!("{}\nsheet {}", now.0, hex(&now.1));
+        println!("{}", told(unsafe { &*now }));
         println!("differences 1 (stopped at the first)");
     }
     unsafe { _exit(1) }

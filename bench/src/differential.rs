@@ -1,167 +1,164 @@
-//! The proved translator against the second program, call by call: the answer, every output byte,
-//! every number of the memory, the sheet, and all guard bytes around the three.
+//! The proved calls against the second program, call by call: the answer, every slice from end to end,
+//! and the guard bytes.
 
 use crate::boundary::{Boundary, Call};
-use crate::cases::{generated_try, named_tries, Try};
 use crate::crash;
-use crate::fences::{Fences, MEMORY, OUTPUT, SHEET};
+use crate::fences::{Fences, Place};
+use crate::modes::{Mode, MODES};
+use crate::put_in;
+use crate::request::{paint, told, Case, Request};
 use crate::tally::{Said, Tally};
 use second::random::Random;
-use second::{translate, Wish};
 
-/// What the three stretches of memory must hold after a call.
-struct Expected {
-    sheet: Vec<u8>,
-    output: Vec<u8>,
-    memory: Vec<u16>,
-}
-
-pub struct Differential {
+/// Lends slices within fences.
+pub struct Lender {
     fences: Fences,
     boundary: Boundary,
-    expected: Expected,
-    pub tally: Tally,
 }
 
-impl Differential {
-    pub fn new() -> Differential {
+impl Lender {
+    pub fn new() -> Lender {
         let fences = Fences::new();
         let boundary = Boundary::new(&fences);
-        let expected = Expected {
-            sheet: vec![0; fences.whole(SHEET).len()],
-            output: vec![0; fences.whole(OUTPUT).len()],
-            memory: vec![0; fences.whole(MEMORY).len() / 2],
-        };
-        Differential { fences, boundary, expected, tally: Tally::default() }
+        Lender { fences, boundary }
     }
 
-    pub fn run(&mut self, tried: &Try, random: &mut Random) -> Result<(), String> {
-        self.tally.sheets += 1;
-        let sheet = &tried.sheet;
-        let told = |what: String, call: &str| format!("{what}\n{call}\nsheet {}", hex(sheet));
-        for &(room, memory, wish) in &tried.calls {
-            let words = format!("room {room}, memory {memory}, {wish:?}");
-            crash::now(words.clone(), sheet);
-            self.call(sheet, room, memory, wish, random).map_err(|what| told(what, &words))?;
+    /// The answer and all that the call was lent, or what differs.
+    pub fn tried(&mut self, request: &Request, salt: u64) -> Result<(), String> {
+        let places = lay(&mut self.fences, request, salt);
+        let (fences, boundary) = (&self.fences, &mut self.boundary);
+        let ask = || boundary.call(fences, request.call, &places, request.last);
+        let answer = crash::during(request, ask)?;
+        if answer != request.wanted {
+            return Err(format!("answer {}, wanted {}", Said(answer), Said(request.wanted)));
         }
-        for &node in &tried.nodes {
-            let words = format!("stretch of node {node}");
-            crash::now(words.clone(), sheet);
-            self.stretch(sheet, node, random).map_err(|what| told(what, &words))?;
+        for (slice, place) in request.slices.iter().zip(places) {
+            self.same(slice.name, place, slice.after(), salt)?;
         }
         Ok(())
     }
 
-    fn call(
-        &mut self,
-        sheet: &[u8],
-        room: usize,
-        memory: usize,
-        wish: Wish,
-        random: &mut Random,
-    ) -> Result<(), String> {
-        let salt = random.draw();
-        let side = |bit: u32| salt >> (32 + bit) & 1 == 1;
-        let call = Call {
-            sheet: self.fences.place(SHEET, sheet.len(), side(0)),
-            output: self.fences.place(OUTPUT, room, side(1)),
-            memory: self.fences.place(MEMORY, 2 * memory, side(2)),
-            wish,
-        };
-        let at = [
-            self.fences.within(SHEET, call.sheet),
-            self.fences.within(OUTPUT, call.output),
-            self.fences.within(MEMORY, call.memory) / 2,
-        ];
-        let Expected { sheet: all_sheet, output: all_output, memory: all_memory } =
-            &mut self.expected;
-        paint(all_sheet, salt as u8);
-        all_sheet[at[0]..at[0] + sheet.len()].copy_from_slice(sheet);
-        paint(all_output, (salt >> 8) as u8);
-        paint_numbers(all_memory, (salt >> 16) as u16);
-        self.fences.whole_mut(SHEET).copy_from_slice(all_sheet);
-        self.fences.whole_mut(OUTPUT).copy_from_slice(all_output);
-        self.fences.whole_mut(MEMORY).copy_from_slice(bytes_of(all_memory));
-
-        let answer = self.boundary.translate(&self.fences, call)?;
-
-        let own_output = &mut all_output[at[1]..at[1] + room];
-        let own_memory = &mut all_memory[at[2]..at[2] + memory];
-        let wanted = translate::call(sheet, own_output, own_memory, wish);
-        if answer != wanted {
-            return Err(format!("answer {}, wanted {}", Said(answer), Said(wanted)));
+    /// The first byte that differs, counted from the slice's start (guard bytes before it are negative).
+    fn same(&self, what: &str, place: Place, wanted: &[u8], salt: u64) -> Result<(), String> {
+        let (offset, length, before) = place.guarded();
+        let mut all = vec![0; length];
+        let (guard, held) = ends(&mut all, before, wanted.len());
+        paint_mut(guard, salt);
+        held.copy_from_slice(wanted);
+        let got = self.fences.bytes(offset, length);
+        if got == all {
+            return Ok(());
         }
-        self.tally.answer(sheet, answer);
-        same("output", self.fences.whole(OUTPUT), all_output, at[1])?;
-        same("memory", self.fences.whole(MEMORY), bytes_of(all_memory), 2 * at[2])?;
-        same("sheet", self.fences.whole(SHEET), all_sheet, at[0])
-    }
-
-    fn stretch(&mut self, sheet: &[u8], node: usize, random: &mut Random) -> Result<(), String> {
-        self.tally.stretches += 1;
-        let salt = random.draw();
-        let place = self.fences.place(SHEET, sheet.len(), salt & 256 == 0);
-        let at = self.fences.within(SHEET, place);
-        let whole = &mut self.expected.sheet;
-        paint(whole, salt as u8);
-        whole[at..at + sheet.len()].copy_from_slice(sheet);
-        self.fences.whole_mut(SHEET).copy_from_slice(whole);
-        let answer = self.boundary.stretch(&self.fences, place, node)?;
-        let got = ((answer >> 32) as usize, (answer & 0xFFFF_FFFF) as usize);
-        let wanted = second::stretch(sheet, node);
-        if got.1 > 0 {
-            self.tally.full_stretches += 1;
-        }
-        if got != wanted {
-            let (start, length) = wanted;
-            return Err(format!("stretch {} {}, wanted {start} {length}", got.0, got.1));
-        }
-        same("sheet", self.fences.whole(SHEET), whole, at)
+        let at = got.iter().zip(&all).position(|(one, other)| one != other).unwrap_or(0);
+        let from_start = at as isize - before as isize;
+        Err(format!("{what} byte {from_start}: {:02x}, wanted {:02x}", got[at], all[at]))
     }
 }
 
-/// COUNT sheets, all named edges first; Err tells the first difference.
-pub fn differential(count: usize, seed: u64) -> Result<Tally, String> {
+/// The slices and their guard bytes, each against a fence by lot.
+pub fn lay(fences: &mut Fences, request: &Request, salt: u64) -> Vec<Place> {
+    let mut places = Vec::new();
+    for (which, slice) in request.slices.iter().enumerate() {
+        let at_end = salt >> (32 + which) & 1 == 1;
+        let place = fences.place(which, slice.count(), slice.size, at_end);
+        let (offset, length, before) = place.guarded();
+        let lent = fences.bytes_mut(offset, length);
+        let (guard, held) = ends(lent, before, slice.before.len());
+        paint_mut(guard, salt);
+        held.copy_from_slice(&slice.before);
+        places.push(place);
+    }
+    places
+}
+
+/// The guard bytes, which lie before the slice or behind it, and the slice.
+fn ends(all: &mut [u8], before: usize, length: usize) -> (&mut [u8], &mut [u8]) {
+    if before > 0 {
+        all.split_at_mut(before)
+    } else {
+        let (held, guard) = all.split_at_mut(length);
+        (guard, held)
+    }
+}
+
+fn paint_mut(guard: &mut [u8], salt: u64) {
+    paint(guard, (salt >> 16) as u8);
+}
+
+/// A mode's named cases, then generated ones: its share of COUNT. Err tells the first difference.
+fn run(mode: &Mode, count: usize, seed: u64) -> Result<Tally, String> {
     let mut random = Random::new(seed);
-    let mut differential = Differential::new();
+    let mut lender = Lender::new();
+    let mut tally = Tally::default();
+    let mut attempt = |case: &dyn Case, random: &mut Random, tally: &mut Tally| {
+        let request = case.request(random);
+        if !request.fits() {
+            return Ok(());
+        }
+        let tried = lender.tried(&request, random.draw());
+        tried.map_err(|what| format!("{what}\n{}", told(&request)))?;
+        tally.calls += 1;
+        tally.count(&request.keys);
+        Ok::<(), String>(())
+    };
+    for case in (mode.named)(&mut random) {
+        attempt(&*case, &mut random, &mut tally)?;
+        tally.named += 1;
+    }
+    for index in 0..mode.share(count) {
+        for case in (mode.generated)(&mut random, index) {
+            attempt(&*case, &mut random, &mut tally)?;
+        }
+        tally.generated += 1;
+    }
+    Ok(tally)
+}
+
+/// All modes of the calls that are there, or those named: whether all is well.
+pub fn differential(count: usize, seed: u64, only: &[String]) -> bool {
     crash::watch();
-    for tried in named_tries(&mut random) {
-        differential.run(&tried, &mut random)?;
+    let mut well = true;
+    for mode in &MODES {
+        let call = mode.call;
+        if only.is_empty() || only.iter().any(|name| name == call.name()) {
+            well &= match (call.there(), call.declared()) {
+                (true, true) => report(mode, run(mode, count, seed)),
+                (there, declared) => absent(call, there, declared),
+            };
+        }
     }
-    differential.tally.named = differential.tally.sheets;
-    while differential.tally.sheets < count {
-        let tried = generated_try(&mut random, differential.tally.sheets);
-        differential.run(&tried, &mut random)?;
+    if only.is_empty() || only.iter().any(|name| name == "put-in") {
+        well &= put_in::run(count / 10, seed);
     }
-    Ok(differential.tally)
+    well
 }
 
-fn paint(bytes: &mut [u8], salt: u8) {
-    for (index, byte) in bytes.iter_mut().enumerate() {
-        *byte = (index as u8).wrapping_mul(31).wrapping_add(salt);
+/// A call that has not landed is told; one that users are told of must be there, and the reverse.
+fn absent(call: Call, there: bool, declared: bool) -> bool {
+    let name = call.name();
+    if there {
+        println!("NOT DECLARED: the archive has deltawobble_{name}, and deltawobble.h does not");
+    } else {
+        println!("NOT THERE: the archive has no deltawobble_{name}; nothing of it was tried");
     }
+    !there && !declared
 }
 
-fn paint_numbers(numbers: &mut [u16], salt: u16) {
-    for (index, number) in numbers.iter_mut().enumerate() {
-        *number = (index as u16).wrapping_mul(40_503).wrapping_add(salt);
+fn report(mode: &Mode, result: Result<Tally, String>) -> bool {
+    match result {
+        Err(difference) => {
+            println!("DIFFERENCE: {difference}");
+            println!("{}: differences 1 (stopped at the first)", mode.call.name());
+            false
+        }
+        Ok(tally) => {
+            tally.print(mode.call.name());
+            println!("{}: differences 0", mode.call.name());
+            let missing = tally.missing(&(mode.due)());
+            if !missing.is_empty() {
+                println!("never occurred: {}", missing.join(", "));
+            }
+            missing.is_empty()
+        }
     }
-}
-
-fn bytes_of(numbers: &[u16]) -> &[u8] {
-    unsafe { std::slice::from_raw_parts(numbers.as_ptr().cast(), 2 * numbers.len()) }
-}
-
-/// The first byte that differs, counted from the slice's start (guard bytes before it are negative).
-fn same(what: &str, got: &[u8], wanted: &[u8], start: usize) -> Result<(), String> {
-    if got == wanted {
-        return Ok(());
-    }
-    let at = got.iter().zip(wanted).position(|(one, other)| one != other).unwrap_or(0);
-    let offset = at as isize - start as isize;
-    Err(format!("{what} byte {offset}: {:02x}, wanted {:02x}", got[at], wanted[at]))
-}
-
-pub fn hex(bytes: &[u8]) -> String {
-    bytes.iter().map(|byte| format!("{byte:02x}")).collect()
 }

@@ -2,59 +2,85 @@
 //! so that valgrind sees every step over an end.
 
 use crate::boundary::linked;
-use crate::cases::{clash_tries, named_tries, small_try, Try};
-use crate::differential::hex;
+use crate::modes::{Mode, MODES};
+use crate::request::{told, Case, Cases, Request};
 use crate::tally::{Said, Tally};
 use second::random::Random;
-use second::translate;
+use std::alloc::{alloc, dealloc, Layout};
+use std::ptr::NonNull;
 
-/// Sheets above this length are slow under valgrind: of the named ones every eighth is taken.
+/// Cases above this size are slow under valgrind: of the named ones a few are taken.
 const LARGE: usize = 600;
 
-pub fn exact(count: usize, seed: u64) -> Result<Tally, String> {
-    let mut random = Random::new(seed);
-    let mut tally = Tally::default();
-    let (small, large): (Vec<Try>, Vec<Try>) =
-        named_tries(&mut random).into_iter().partition(|tried| tried.sheet.len() <= LARGE);
-    let every = (small.len() / count.max(1)).max(1);
-    let named = small.iter().step_by(every).chain(large.iter().step_by(8));
-    for tried in named.chain(&clash_tries()) {
-        run(tried, &mut tally)?;
-    }
-    tally.named = tally.sheets;
-    for index in 0..count {
-        run(&small_try(&mut random, index, LARGE), &mut tally)?;
-    }
-    Ok(tally)
+/// Whether all is well, for each call that is there.
+pub fn exact(count: usize, seed: u64) -> bool {
+    MODES.iter().filter(|mode| mode.call.there()).all(|mode| sample(mode, count, seed))
 }
 
-fn run(tried: &Try, tally: &mut Tally) -> Result<(), String> {
-    tally.sheets += 1;
-    let sheet: Box<[u8]> = tried.sheet.clone().into_boxed_slice();
-    for &(room, memory, wish) in &tried.calls {
-        let mut output = vec![0xA5u8; room].into_boxed_slice();
-        let mut numbers = vec![0xA5A5u16; memory].into_boxed_slice();
-        let (mut own_output, mut own_numbers) = (output.clone(), numbers.clone());
-        let answer = linked::translate(&sheet, &mut output, &mut numbers, wish);
-        let wanted = translate::call(&sheet, &mut own_output, &mut own_numbers, wish);
-        if answer != wanted
-            || output != own_output
-            || numbers != own_numbers
-            || *sheet != tried.sheet
-        {
-            let both = format!("answer {}, wanted {}", Said(answer), Said(wanted));
-            let call = format!("room {room}, memory {memory}, {wish:?}");
-            return Err(format!("{both}\n{call}\nsheet {}", hex(&sheet)));
+/// About COUNT named cases and COUNT generated ones.
+fn sample(mode: &Mode, count: usize, seed: u64) -> bool {
+    let mut random = Random::new(seed);
+    let named = (mode.named)(&mut random);
+    let every = (named.len() / count.max(1)).max(1);
+    let small = named.iter().filter(|case| case.size() <= LARGE).step_by(every);
+    let large = named.iter().filter(|case| case.size() > LARGE).step_by(8 * every);
+    let named: Vec<&Box<dyn Case>> = small.chain(large).collect();
+    let generated = (0..).flat_map(|index| (mode.generated)(&mut random, index));
+    let generated: Cases = generated.filter(|case| case.size() <= LARGE).take(count).collect();
+    let mut tally = Tally::of(named.len(), generated.len());
+    for case in named.into_iter().chain(&generated) {
+        let request = case.request(&mut random);
+        tally.calls += 1;
+        if let Err(what) = run(&request) {
+            println!("DIFFERENCE: {what}\n{}", told(&request));
+            return false;
         }
-        tally.answer(&sheet, answer);
+        tally.count(&request.keys);
     }
-    for &node in &tried.nodes {
-        tally.stretches += 1;
-        let (start, length) = second::stretch(&sheet, node);
-        if linked::stretch(&sheet, node) != (start as u64) << 32 | length as u64 {
-            return Err(format!("stretch of node {node}\nsheet {}", hex(&sheet)));
+    tally.print(mode.call.name());
+    println!("{}: differences 0", mode.call.name());
+    true
+}
+
+fn run(request: &Request) -> Result<(), String> {
+    let lent: Vec<Own> = request.slices.iter().map(|slice| Own::of(&slice.before)).collect();
+    let both = lent.iter().zip(&request.slices);
+    let slices: Vec<(*mut u8, usize)> = both.map(|(own, slice)| (own.at, slice.count())).collect();
+    let answer = unsafe { linked::call(request.call, &slices, request.last) };
+    if answer != request.wanted {
+        return Err(format!("answer {}, wanted {}", Said(answer), Said(request.wanted)));
+    }
+    let differs = lent.iter().zip(&request.slices).find(|(own, slice)| own.held() != slice.after());
+    differs.map_or(Ok(()), |(_, slice)| Err(format!("{} differs", slice.name)))
+}
+
+/// An allocation of so many bytes, where any numbers may lie.
+struct Own {
+    at: *mut u8,
+    layout: Layout,
+}
+
+impl Own {
+    fn of(bytes: &[u8]) -> Own {
+        let layout = Layout::from_size_align(bytes.len(), align_of::<u64>()).expect("a layout");
+        let at = match bytes.len() {
+            0 => NonNull::<u64>::dangling().as_ptr().cast(),
+            _ => unsafe { alloc(layout) },
+        };
+        assert!(!at.is_null(), "no memory");
+        unsafe { at.copy_from_nonoverlapping(bytes.as_ptr(), bytes.len()) };
+        Own { at, layout }
+    }
+
+    fn held(&self) -> &[u8] {
+        unsafe { std::slice::from_raw_parts(self.at, self.layout.size()) }
+    }
+}
+
+impl Drop for Own {
+    fn drop(&mut self) {
+        if self.layout.size() > 0 {
+            unsafe { dealloc(self.at, self.layout) }
         }
-        tally.full_stretches += usize::from(length > 0);
     }
-    Ok(())
 }

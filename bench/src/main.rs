@@ -1,22 +1,34 @@
 //! The bench program. The scripts beside it build it and call it from the repository's root:
-//! `differential COUNT SEED`, `exact COUNT SEED` (for memcheck), `table`, `stack`, `sheets FOLDER`.
+//! `differential COUNT SEED CALL..`, `put-in COUNT SEED`, `exact COUNT SEED` (for memcheck), `table`, `stack`,
+//! `sheets FOLDER`, `nets FOLDER`.
 
 mod boundary;
-mod cases;
+mod circuit;
 mod classes;
 mod crash;
 mod differential;
 #[cfg(linked)]
 mod exact;
 mod fences;
+mod modes;
+mod put_in;
+mod request;
 mod stack;
 #[cfg(linked)]
 mod table;
 mod tally;
 #[cfg(linked)]
 mod timing;
+mod try_back;
+mod try_batch;
+mod try_check;
+mod try_run;
+mod try_translate;
+mod try_verilog;
 mod worst;
 
+use second::random::Random;
+use second::{edges_foreign, nets};
 use std::process::exit;
 
 fn main() {
@@ -25,47 +37,38 @@ fn main() {
         None => otherwise,
         Some(word) => word.parse().unwrap_or_else(|_| usage()),
     };
-    match words.first().map(String::as_str) {
+    let well = match words.first().map(String::as_str) {
         Some("differential") => {
-            report(differential::differential(number(1, 20_000) as usize, number(2, 1)))
+            let only = words.get(3..).unwrap_or_default();
+            differential::differential(number(1, 20_000) as usize, number(2, 1), only)
         }
+        Some("put-in") => put_in::run(number(1, 20_000) as usize, number(2, 1)),
         #[cfg(linked)]
-        Some("exact") => report(exact::exact(number(1, 200) as usize, number(2, 1))),
+        Some("exact") => exact::exact(number(1, 200) as usize, number(2, 1)),
         #[cfg(linked)]
-        Some("table") => table::print(),
-        Some("stack") => stack::print().unwrap_or_else(|why| {
-            println!("{why}");
-            exit(1)
-        }),
-        Some("sheets") if words.len() == 2 => sheets(&words[1]),
+        Some("table") => {
+            table::print();
+            true
+        }
+        Some("stack") => stack::print().map_err(|why| println!("{why}")).is_ok(),
+        Some("sheets") if words.len() == 2 => {
+            sheets(&words[1]);
+            true
+        }
+        Some("nets") if words.len() == 2 => {
+            nets(&words[1]);
+            true
+        }
         _ => usage(),
-    }
+    };
+    exit(if well { 0 } else { 1 })
 }
 
 fn usage() -> ! {
-    eprintln!("usage: bench differential [COUNT] [SEED] | stack | sheets FOLDER");
+    eprintln!("usage: bench differential [COUNT] [SEED] [CALL..] | put-in [COUNT] [SEED]");
+    eprintln!("       bench stack | sheets FOLDER | nets FOLDER");
     eprintln!("and where the archive is linked in: bench exact [COUNT] [SEED] | table");
     exit(2)
-}
-
-/// The summary; status 1 at a difference, or where a refusal or a cause of 12 never occurred.
-fn report(result: Result<tally::Tally, String>) {
-    match result {
-        Err(difference) => {
-            println!("DIFFERENCE: {difference}");
-            println!("differences 1 (stopped at the first)");
-            exit(1)
-        }
-        Ok(tally) => {
-            tally.print();
-            println!("differences 0");
-            let missing = tally.missing();
-            if !missing.is_empty() {
-                println!("never occurred: {}", missing.join(", "));
-                exit(1)
-            }
-        }
-    }
 }
 
 /// The timed sheets as files CLASS-SHEET, and a line for each class: number, room, name.
@@ -76,5 +79,16 @@ fn sheets(folder: &str) {
             let path = format!("{folder}/{index}-{at}");
             std::fs::write(&path, sheet).unwrap_or_else(|why| panic!("{path}: {why}"));
         }
+    }
+}
+
+/// Netlists as files, named and generated: seeds for the fuzzer of L8's check.
+fn nets(folder: &str) {
+    let mut random = Random::new(8);
+    let named = edges_foreign::edges().into_iter().map(|edge| edge.net);
+    let generated = (0..300).map(|index| nets::any(&mut random, index).net);
+    for (at, net) in named.chain(generated).filter(|net| net.len() < 16_000).enumerate() {
+        let path = format!("{folder}/{at}");
+        std::fs::write(&path, net).unwrap_or_else(|why| panic!("{path}: {why}"));
     }
 }

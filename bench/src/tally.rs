@@ -1,67 +1,76 @@
 //! What became of the calls, and the summary that is printed.
 
-use second::edges_clash::{cause, KINDS};
-use second::sheet::Edition;
 use std::collections::BTreeMap;
 use std::fmt;
 
+/// Something that is counted: by group, then by label, numbers in their order.
+#[derive(Clone, Debug, PartialEq, Eq, PartialOrd, Ord)]
+pub struct Key {
+    pub group: &'static str,
+    length: usize,
+    label: String,
+}
+
+impl Key {
+    pub fn new(group: &'static str, label: impl ToString) -> Key {
+        let label = label.to_string();
+        Key { group, length: label.len(), label }
+    }
+
+    /// An answer's number; 0 for accepted.
+    pub fn number(group: &'static str, word: u64) -> Key {
+        Key::new(group, Said(word).number())
+    }
+}
+
 #[derive(Default)]
 pub struct Tally {
-    pub sheets: usize,
     pub named: usize,
-    pub stretches: usize,
-    pub full_stretches: usize,
-    /// By edition and refusal number; 0 for accepted.
-    answers: [[usize; 18]; 2],
-    /// The calls refused with 12, by cause.
-    causes: BTreeMap<(u8, bool), usize>,
+    pub generated: usize,
+    pub calls: usize,
+    counts: BTreeMap<Key, usize>,
 }
 
 impl Tally {
-    /// An answer on which both programs agree.
-    pub fn answer(&mut self, sheet: &[u8], word: u64) {
-        let said = Said(word);
-        let number = said.number();
-        self.answers[Edition::of(sheet).mark()][number] += 1;
-        if number == 12 {
-            let cause = cause(sheet, said.value(), said.wanted());
-            *self.causes.entry(cause).or_default() += 1;
+    #[cfg(linked)]
+    pub fn of(named: usize, generated: usize) -> Tally {
+        Tally { named, generated, ..Tally::default() }
+    }
+
+    pub fn count(&mut self, keys: &[Key]) {
+        for key in keys {
+            *self.counts.entry(key.clone()).or_default() += 1;
         }
     }
 
-    /// What never occurred: numbers by edition (0 for accepted), causes of 12.
-    pub fn missing(&self) -> Vec<String> {
-        let mut missing = Vec::new();
-        for (edition, answers) in EDITIONS.iter().zip(&self.answers) {
-            let numbers = (0..18).filter(|&number| answers[number] == 0);
-            missing.extend(numbers.map(|number| format!("{number} in the {edition} edition")));
-        }
-        let causes = KINDS.iter().filter(|cause| !self.causes.contains_key(cause));
-        missing.extend(causes.map(|cause| format!("12 at {}", cause_name(cause))));
-        missing
+    /// Of these keys, those that never occurred.
+    pub fn missing(&self, due: &[Key]) -> Vec<String> {
+        let missing = due.iter().filter(|key| !self.counts.contains_key(key));
+        missing.map(|key| format!("{} {}", key.group, key.label)).collect()
     }
 
-    pub fn print(&self) {
-        let calls: usize = self.answers.iter().flatten().sum();
-        let accepted: usize = self.answers.iter().map(|answers| answers[0]).sum();
-        println!("sheets tried {} (named edges {}), calls {calls}", self.sheets, self.named);
-        println!("accepted {accepted}, refused {}", calls - accepted);
-        for (edition, answers) in EDITIONS.iter().zip(&self.answers) {
-            let numbers = (1..18).map(|number| format!("{number}: {}", answers[number]));
-            let refused = numbers.collect::<Vec<_>>().join("  ");
-            println!("{edition} edition: accepted {}, refused by number  {refused}", answers[0]);
+    /// A line for the whole, then one for each group: `0` stands for accepted.
+    pub fn print(&self, name: &str) {
+        let Tally { named, generated, calls, .. } = self;
+        println!("{name}: {named} named and {generated} generated cases, {calls} calls");
+        let mut last = "";
+        let mut line = String::new();
+        for (key, count) in &self.counts {
+            if key.group != last {
+                print_line(&line);
+                last = key.group;
+                line = format!("  {last}");
+            }
+            line += &format!("  {}: {count}", key.label);
         }
-        let causes =
-            self.causes.iter().map(|(cause, count)| format!("{}: {count}", cause_name(cause)));
-        println!("12 by the node's kind  {}", causes.collect::<Vec<_>>().join("  "));
-        println!("stretches {} ({} not empty)", self.stretches, self.full_stretches);
+        print_line(&line);
     }
 }
 
-const EDITIONS: [&str; 2] = ["first", "second"];
-
-fn cause_name(&(kind, form): &(u8, bool)) -> String {
-    format!("{kind:X}{}", if form { " form" } else { "" })
+fn print_line(line: &str) {
+    if !line.is_empty() {
+        println!("{line}");
+    }
 }
 
 /// A word in its four fields: number, value or place, wanted, found.

@@ -3,6 +3,7 @@ use translation::Wish;
 ghost use mathlib.Core.Path.{_≡_};
 ghost use Rattle.calculus.specs.Stretch.{stretchOf};
 ghost use Rattle.export_calculus.specs.CardCall.{cardCall};
+ghost use Rattle.trace_calculus.specs.Trace.{runCall};
 ghost use Rattle.deltawobble.specs.Boundary.{Packs, packedStretch};
 
 // The netlist of a sheet. Bits 0 to 31 of the answer are the number of bytes written or the place, 32 to 39 the refusal's number, 0 for none,
@@ -19,6 +20,22 @@ pub extern "C" fn deltawobble_translate(
     ensures { λ r. ⌜ Packs r (now (out .exit)) (now (work .exit)) (cardCall card (record { lean = lean; plain = plain }) (now (sheet .entry)) (now (out .entry)) (now (work .entry))) ⌝ }
 {
     let answer = translation::translate(sheet, out, work, Wish { lean, plain, card });
+    translator::word(answer)
+}
+
+// A recorded trace run through the lean netlist of a sheet; the answer likewise.
+#[no_mangle]
+pub extern "C" fn deltawobble_run(
+    sheet: &[u8],
+    inputs: &[u8],
+    starts: &[u8],
+    out: &mut [u8],
+    work: &mut [u16],
+    ticks: u16,
+) -> u64
+    ensures { λ r. ⌜ Packs r (now (out .exit)) (now (work .exit)) (runCall (now (sheet .entry)) (now (inputs .entry)) (now (starts .entry)) ticks (now (out .entry)) (now (work .entry))) ⌝ }
+{
+    let answer = trace::run(sheet, inputs, starts, out, work, ticks);
     translator::word(answer)
 }
 

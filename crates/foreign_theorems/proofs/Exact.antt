@@ -106,7 +106,7 @@ One m i = targets (m .wires) i + ins (m .pins) i ≡ madeAt (m .elements) i
 -- all was read; at the place there is not exactly one wire or pin, and at each terminal below it there is
 pub record Lowest (lean : Bool) (s : List ℕ) (why : Refusal) : Type 0 where
   pub place : ℕ
-  pub is : why ≡ numbered 23 place
+  pub why-is : why ≡ numbered 23 place
   pub reading : Reading
   pub all : Read lean s reading
   pub not-one : One (reading .net) place → ⊥
@@ -138,4 +138,4 @@ check-refused lean s b why e =
     (λ τ h₁ h₂.
     let r = read-all lean s b (length s) 0 begin τ (omega arith) (omega arith) (read-none lean) h₁ in
     let m = lowest-from (τ .net) (τ .next) 0 why h₂ (λ j l. absurd (omega arith)) in
-    inr (record { place = m .0; is = m .1; reading = τ; all = r; not-one = m .2; below = m .3 }))
+    inr (record { place = m .0; why-is = m .1; reading = τ; all = r; not-one = m .2; below = m .3 }))

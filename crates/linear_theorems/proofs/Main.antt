@@ -38,7 +38,7 @@ pub record Start (Θ : Table) (e : Marked) (m : Net) : Type 0 where
   pub type : Ty
   pub typed : Typed first Θ [] (plain e) type
   pub few : make Θ (plain e) [] 0 .next ≤ 8192
-  pub is : netOf (make Θ (plain e) [] 0) ≡ m
+  pub net-is : netOf (make Θ (plain e) [] 0) ≡ m
 
 start : {s s′ : List ℕ} (r : Rewritten s s′) (m : Net) → full s ≡ good m → Start (r .table) (r .before) m
 start {s} r m a =
@@ -52,7 +52,7 @@ start {s} r m a =
       type = τ;
       typed = subst (λ (σ : Sheet). Typed (σ .edition) (σ .table) [] (σ .term) τ) e d;
       few = subst (λ (σ : Sheet). make (σ .table) (σ .term) [] 0 .next ≤ 8192) e f;
-      is = subst (λ (σ : Sheet). netOf (make (σ .table) (σ .term) [] 0) ≡ m) e i;
+      net-is = subst (λ (σ : Sheet). netOf (make (σ .table) (σ .term) [] 0) ≡ m) e i;
     }
 
 -- a sheet that is read, has a derivation and makes few enough terminals is accepted
@@ -111,7 +111,7 @@ module _ {s s′ : List ℕ} (r : Rewritten s s′) (m : Net) (a : full s ≡ go
   same-records : (law : Law) (n : ℕ) (γ : Bits) (ρ : Seen) → ByMarks law m (marks (r .before)) n γ ρ ↔ ByMarks law net′ (marks (r .after)) n γ ρ
   same-records law n γ ρ =
       let p = start r m a in
-      subst (λ (x : Net). ByMarks law x (marks (r .before)) n γ ρ ↔ ByMarks law net′ (marks (r .after)) n γ ρ) (p .is) (same-shown law Θ n γ ρ (r .puts) (p .typed))
+      subst (λ (x : Net). ByMarks law x (marks (r .before)) n γ ρ ↔ ByMarks law net′ (marks (r .after)) n γ ρ) (p .net-is) (same-shown law Θ n γ ρ (r .puts) (p .typed))
 
   same-lean-records : full s′ ≡ good net′ → (law : Law) (n : ℕ) (γ : Bits) (ρ : Seen) → ByMarks law (lean m) (marks (r .before)) n γ ρ ↔ ByMarks law (lean net′) (marks (r .after)) n γ ρ
   same-lean-records b law n γ ρ =

@@ -143,7 +143,7 @@ pub head-limits : (E : Edition) (more : ℕ) (s : List ℕ) (types at n : ℕ) (
 head-limits E more s types at n r e =
     let l = node-next true s at e in
     let h : at < length s = omega arith in
-    let w = node-here s at h r e in limits-here E more s types at n r (w .kind) h (w .is) (w .whole) (w .same)
+    let w = node-here s at h r e in limits-here E more s types at n r (w .kind) h (w .kind-is) (w .whole) (w .same)
 
 -- ---- the limits, by the facts that the tests find one after the other
 

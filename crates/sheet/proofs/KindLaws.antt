@@ -78,7 +78,7 @@ nodeAs s at k = record { rule = nodeRule k; first = bodyAt s (at + 1) (nodeBody 
 -- a whole type record at an offset, of form f, up to `next`
 pub record TypeHere (s : List ℕ) (at : ℕ) (f : Form) (next : ℕ) : Type 0 where
   pub kind : TypeKind
-  pub is : kindOf (byte s at) ≡ type kind
+  pub kind-is : kindOf (byte s at) ≡ type kind
   pub whole : at + 1 + typeBody kind ≤ length s
   pub past : next ≡ at + 1 + typeBody kind
   pub said : saidForm f ≡ typeRec kind (byte s (at + 1)) (byte s (at + 2))
@@ -117,7 +117,7 @@ module _ (s : List ℕ) (at : ℕ) where
       let l : typeBody k ≤ length s - (at + 1) = leb-true _ _ w in
       let q : formHere s at k ≡ f = cc in
       let p : at + 1 + typeBody k ≡ next = cc in
-      record { kind = k; is = i; whole = omega arith; past = sym p; said = rw (← q) (numbers s at k) }
+      record { kind = k; kind-is = i; whole = omega arith; past = sym p; said = rw (← q) (numbers s at k) }
   type-of-test k false f next i w h e = absurd (not-type e)
 
   type-of-kind : (k : Kind) (f : Form) (next : ℕ) → kindOf (byte s at) ≡ k → at < length s → recordOf false (kindShape k) s at ≡ rec.Type f next → TypeHere s at f next
@@ -150,7 +150,7 @@ module _ (s : List ℕ) (at : ℕ) where
 -- a whole node's record at an offset
 pub record NodeHere (s : List ℕ) (at : ℕ) (r : Node) : Type 0 where
   pub kind : NodeKind
-  pub is : kindOf (byte s at) ≡ node kind
+  pub kind-is : kindOf (byte s at) ≡ node kind
   pub whole : at + 1 + nodeBody kind ≤ length s
   pub same : r ≡ nodeAs s at kind
 
@@ -167,7 +167,7 @@ module _ (s : List ℕ) (at : ℕ) (h : at < length s) where
   node-of-kind (node k) r i e = by (leb (nodeBody k) (length s - (at + 1))) refl e
     where
       by : (t : Bool) → leb (nodeBody k) (length s - (at + 1)) ≡ t → cond t (rec.Node (nodeAs s at k)) (rec.Refused 3 at) ≡ rec.Node r → NodeHere s at r
-      by true f e = let l : nodeBody k ≤ length s - (at + 1) = leb-true _ _ f in record { kind = k; is = i; whole = omega arith; same = sym (node-inj e) }
+      by true f e = let l : nodeBody k ≤ length s - (at + 1) = leb-true _ _ f in record { kind = k; kind-is = i; whole = omega arith; same = sym (node-inj e) }
       by false f e = absurd (refused-not-node e)
 
   pub node-here : (r : Node) → recordAt true s at ≡ rec.Node r → NodeHere s at r

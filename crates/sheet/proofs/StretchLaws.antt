@@ -31,7 +31,7 @@ use Rattle.sheet.proofs.KindLaws.{NodeHere, node-here}
 -- ---- one record further
 
 after-here : (s : List ℕ) (at : ℕ) (r : Node) → NodeHere s at r → r .next ≡ after s at
-after-here s at r w = ap (λ (x : Node). x .next) (w .same) ∙ ap (λ (k : Kind). at + 1 + bodyOf k) (sym (w .is))
+after-here s at r w = ap (λ (x : Node). x .next) (w .same) ∙ ap (λ (k : Kind). at + 1 + bodyOf k) (sym (w .kind-is))
 
 -- the record of a node ends where the next begins
 after-node : (s : List ℕ) (at : ℕ) (r : Node) → recordAt true s at ≡ rec.Node r → r .next ≡ after s at

@@ -118,7 +118,7 @@ module _ (s : List ℕ) (at : ℕ) {f : Form} {next : ℕ} (t : TypeHere s at f 
       let b : typeBody (t .kind) ≡ 2 = rec-by (t .kind) (byte s (at + 1)) (byte s (at + 2)) d in
       let w : at + 1 + typeBody (t .kind) ≤ length s = t .whole in
       let a : at ≡ 3 * suc n - 2 = omega (arith, table-length Θ o (omega arith)) in
-      let k : byte s at ≡ typeByte (t .kind) = type-byte (byte s at) (t .kind) (t .is) in
+      let k : byte s at ≡ typeByte (t .kind) = type-byte (byte s at) (t .kind) (t .kind-is) in
       sym (rec-later s (suc n) at (λ z. omega arith) a ∙ rec-long s at (omega arith) ∙ rw k (said-by (t .kind) (byte s (at + 1)) (byte s (at + 2))))
 
   module _ (count : ℕ) (sizes : List ℕ) (i : SoFar s at count sizes) where
@@ -129,7 +129,7 @@ module _ (s : List ℕ) (at : ℕ) {f : Form} {next : ℕ} (t : TypeHere s at f 
     room = let f = i .before .ok .few in omega (arith, table-count s count)
 
     went : readTypes 256 s [] 0 ≡ (sizeOf Θ q at >>= λ z. readTypes (256 - count - 1) s (Θ ++ q ∷ []) (at + 1 + typeBody (t .kind)))
-    went = i .left ∙ types-whole s Θ at (256 - count) (t .kind) room (t .is) (t .whole)
+    went = i .left ∙ types-whole s Θ at (256 - count) (t .kind) room (t .kind-is) (t .whole)
 
     -- one type further
     pub next-type : (z : ℕ) → good z ≡ sizeOf Θ q at → SoFar s next (count + 1) (set sizes count z)

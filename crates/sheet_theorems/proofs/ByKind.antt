@@ -12,14 +12,14 @@ use Rattle.sheet_theorems.proofs.Standing.{kindIn, stands-kind, stands-
 -- a node with one subterm, after a type number
 pub record One (mk : ℕ → Term → Term) (s : List ℕ) (at : ℕ) (e : Term) : Type 0 where
   pub body : Term
-  pub is : e ≡ mk (byte s (at + 1)) body
+  pub term-is : e ≡ mk (byte s (at + 1)) body
   pub stands : Stands s (at + 2) body
 
 -- a node with two subterms
 pub record Two (mk : Term → Term → Term) (s : List ℕ) (at : ℕ) (e : Term) : Type 0 where
   pub first : Term
   pub second : Term
-  pub is : e ≡ mk first second
+  pub term-is : e ≡ mk first second
   pub stands-first : Stands s (at + 1) first
   pub stands-second : Stands s (at + 1 + length (termBytes first)) second
 
@@ -27,7 +27,7 @@ pub record Two (mk : Term → Term → Term) (s : List ℕ) (at : ℕ) (e : Term
 pub record Both (s : List ℕ) (at : ℕ) (e : Term) : Type 0 where
   pub first : Term
   pub second : Term
-  pub is : e ≡ pair (byte s (at + 1)) first second
+  pub term-is : e ≡ pair (byte s (at + 1)) first second
   pub stands-first : Stands s (at + 2) first
   pub stands-second : Stands s (at + 2 + length (termBytes first)) second
 
@@ -48,15 +48,15 @@ module _ {s : List ℕ} {at : ℕ} where
   own-form : (e : Term) → Stands s at e → Form (kindIn e) s at e
   own-form (var i) h = ap var (sym (var-binder h))
   own-form (lvar i) h = ap lvar (sym (lvar-binder h))
-  own-form (fun t e) h = record { body = e; is = ap (λ (t : ℕ). fun t e) (sym (fun-type h)); stands = fun-body h }
-  own-form (app f a) h = record { first = f; second = a; is = refl; stands-first = app-function h; stands-second = app-argument h }
-  own-form (lfun t e) h = record { body = e; is = ap (λ (t : ℕ). lfun t e) (sym (lfun-type h)); stands = lfun-body h }
-  own-form (lapp f a) h = record { first = f; second = a; is = refl; stands-first = lapp-function h; stands-second = lapp-argument h }
-  own-form (pair t a b) h = record { first = a; second = b; is = ap (λ (t : ℕ). pair t a b) (sym (pair-type h)); stands-first = pair-first h; stands-second = pair-second h }
-  own-form (proj a e) h = record { first = a; second = e; is = refl; stands-first = proj-pair h; stands-second = proj-body h }
-  own-form (fix t e) h = record { body = e; is = ap (λ (t : ℕ). fix t e) (sym (fix-type h)); stands = fix-body h }
+  own-form (fun t e) h = record { body = e; term-is = ap (λ (t : ℕ). fun t e) (sym (fun-type h)); stands = fun-body h }
+  own-form (app f a) h = record { first = f; second = a; term-is = refl; stands-first = app-function h; stands-second = app-argument h }
+  own-form (lfun t e) h = record { body = e; term-is = ap (λ (t : ℕ). lfun t e) (sym (lfun-type h)); stands = lfun-body h }
+  own-form (lapp f a) h = record { first = f; second = a; term-is = refl; stands-first = lapp-function h; stands-second = lapp-argument h }
+  own-form (pair t a b) h = record { first = a; second = b; term-is = ap (λ (t : ℕ). pair t a b) (sym (pair-type h)); stands-first = pair-first h; stands-second = pair-second h }
+  own-form (proj a e) h = record { first = a; second = e; term-is = refl; stands-first = proj-pair h; stands-second = proj-body h }
+  own-form (fix t e) h = record { body = e; term-is = ap (λ (t : ℕ). fix t e) (sym (fix-type h)); stands = fix-body h }
   own-form (con p t) h = ap₂ con (sym (con-part h)) (sym (con-type h))
-  own-form (name a e) h = record { first = a; second = e; is = refl; stands-first = name-first h; stands-second = name-body h }
+  own-form (name a e) h = record { first = a; second = e; term-is = refl; stands-first = name-first h; stands-second = name-body h }
 
   pub by-kind : {e : Term} → Stands s at e → (k : NodeKind) → kindOf (byte s at) ≡ node k → Form k s at e
   by-kind {e} h k d =
@@ -102,20 +102,20 @@ module _ {s : List ℕ} {at : ℕ} where
 
 module _ (s : List ℕ) where
   same-one : (mk : ℕ → Term → Term) (t at : ℕ) (e u : Term) → byte s (at + 1) ≡ t → One mk s at u → ((b : Term) → Stands s (at + 2) b → e ≡ b) → mk t e ≡ u
-  same-one mk t at e u p f ih = let h = ih (f .body) (f .stands) in let z = f .is in rw (z, p, h)
+  same-one mk t at e u p f ih = let h = ih (f .body) (f .stands) in let z = f .term-is in rw (z, p, h)
 
   same-two : (mk : Term → Term → Term) (at : ℕ) (a b u : Term) → Two mk s at u → ((c : Term) → Stands s (at + 1) c → a ≡ c) → ((c : Term) → Stands s (at + 1 + length (termBytes a)) c → b ≡ c) → mk a b ≡ u
   same-two mk at a b u f ia ib =
       let h = ia (f .first) (f .stands-first) in
       let k = ib (f .second) (subst (λ (c : Term). Stands s (at + 1 + length (termBytes c)) (f .second)) (sym h) (f .stands-second)) in
-      let z = f .is in
+      let z = f .term-is in
       rw (z, h, k)
 
   same-both : (t at : ℕ) (a b u : Term) → byte s (at + 1) ≡ t → Both s at u → ((c : Term) → Stands s (at + 2) c → a ≡ c) → ((c : Term) → Stands s (at + 2 + length (termBytes a)) c → b ≡ c) → pair t a b ≡ u
   same-both t at a b u p f ia ib =
       let h = ia (f .first) (f .stands-first) in
       let k = ib (f .second) (subst (λ (c : Term). Stands s (at + 2 + length (termBytes c)) (f .second)) (sym h) (f .stands-second)) in
-      let z = f .is in
+      let z = f .term-is in
       rw (z, p, h, k)
 
   pub stands-one : (e u : Term) (at : ℕ) → Stands s at e → Stands s at u → e ≡ u

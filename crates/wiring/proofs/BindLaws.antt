@@ -21,7 +21,7 @@ bound-grows {Θ} {stack} {t} {place} {b} xs B = record { named = B .named; type 
     stacked : OfStack stack (tree Θ t) place (b .side) → OfStack (stack ++ xs) (tree Θ t) place (b .side)
     stacked p = record {
       height = p .height;
-      is = p .is;
+      place-is = p .place-is;
       below = omega (arith, p .below, length-append stack xs);
       shown = p .shown ∙ sym (region-append stack xs (p .height) (size (tree Θ t)) (p .below));
     }

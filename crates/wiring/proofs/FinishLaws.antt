@@ -162,10 +162,10 @@ module _ {s sizes w : List ℕ} {node : Node} {st : State} (q : Here s sizes w n
     whole-length = omega (arith, length-append (m .stack ++ map code (x .side)) (map code (y .side)), length-map (y .side) code, low-length, len-b)
 
     abbrev second-part : Part full (m .stack ++ map code (x .side)) (map code (y .side))
-    second-part = record { above = []; is = ap (λ (l : List ℕ). (m .stack ++ map code (x .side)) ++ l) (sym (append-nil (map code (y .side)))) }
+    second-part = record { above = []; stack-is = ap (λ (l : List ℕ). (m .stack ++ map code (x .side)) ++ l) (sym (append-nil (map code (y .side)))) }
 
     abbrev below-part : Part full (m .stack) []
-    below-part = record { above = map code (x .side) ++ map code (y .side); is = append-assoc (m .stack) (map code (x .side)) (map code (y .side)) }
+    below-part = record { above = map code (x .side) ++ map code (y .side); stack-is = append-assoc (m .stack) (map code (x .side)) (map code (y .side)) }
 
     -- binders of the halves are forgotten
     forget : {v : List ℕ} (k : Store) → k .binders ≡ two.binders₂ q h2 L → Holds v k → Holds v (atBinders k (m .binders))
@@ -175,7 +175,7 @@ module _ {s sizes w : List ℕ} {node : Node} {st : State} (q : Here s sizes w n
 
     pair-holds : Pair → Holds w₃ (after m (madeOf Q))
     pair-holds z =
-        subst (λ (k : Made). Holds w₃ (after m k)) (sym (z .is))
+        subst (λ (k : Made). Holds w₃ (after m k)) (sym (z .makes))
         (subst (λ (ws : List Wire). Holds w₃ (after m (record { elements = x .elements ++ y .elements; wires = ws; type = Q .type; side = x .side ++ y .side; next = y .next }))) (append-nil (x .wires ++ y .wires))
         (both-made m x y [] (Q .type) (x .side ++ y .side) ((m .stack ++ map code (x .side)) ++ map code (y .side)) (y .next) (more code (m .stack) (x .side) (y .side))
         (no-wires (atBinders full (m .binders)) (forget full refl H))))
@@ -188,7 +188,7 @@ module _ {s sizes w : List ℕ} {node : Node} {st : State} (q : Here s sizes w n
     proj-holds : Proj → Holds moved (after m (madeOf Q))
     proj-holds z =
         let M : Holds moved (atStack full (m .stack ++ map code (y .side))) = moved-holds H second-part below-part (stackAt + st .top + f .len) (stackAt + st .top) (b .len) (omega (arith, low-length)) (omega (arith, Q .top)) (omega arith) (length-map (y .side) code ∙ sym len-b) in
-        subst (λ (k : Made). Holds moved (after m k)) (sym (z .is))
+        subst (λ (k : Made). Holds moved (after m k)) (sym (z .makes))
         (subst (λ (ws : List Wire). Holds moved (after m (record { elements = x .elements ++ y .elements; wires = ws; type = y .type; side = y .side; next = y .next }))) (append-nil (x .wires ++ y .wires))
         (both-made m x y [] (y .type) (y .side) (m .stack ++ map code (y .side)) (y .next) refl
         (no-wires (atStack (atBinders full (m .binders)) (m .stack ++ map code (y .side))) (forget (atStack full (m .stack ++ map code (y .side))) refl M))))
@@ -230,7 +230,7 @@ module _ {s sizes w : List ℕ} {node : Node} {st : State} (q : Here s sizes w n
       js = join (y .side) start
 
       app-wires : length (madeOf Q .wires) ≡ length (x .wires) + length (y .wires) + b .len
-      app-wires = omega (arith, ap (λ (k : Made). length (k .wires)) (z .is), length-append (x .wires ++ y .wires) js, length-append (x .wires) (y .wires), join-length (y .side) start across, len-b)
+      app-wires = omega (arith, ap (λ (k : Made). length (k .wires)) (z .makes), length-append (x .wires ++ y .wires) js, length-append (x .wires) (y .wires), join-length (y .side) start across, len-b)
 
       wires-b : b .wires ≡ st .wires + length (x .wires) + length (y .wires)
       wires-b = two.second-left q h2 L er ew K .6
@@ -250,7 +250,7 @@ module _ {s sizes w : List ℕ} {node : Node} {st : State} (q : Here s sizes w n
           ∙ ap (λ (l : List ℕ). m .stack ++ l) (ap (λ (l : List ℕ). l ++ map code (y .side)) halves ∙ append-assoc (map code start) (map code end) (map code (y .side)))
 
       abbrev start-part : Part full (m .stack) (map code start)
-      start-part = record { above = map code end ++ map code (y .side); is = whole }
+      start-part = record { above = map code end ++ map code (y .side); stack-is = whole }
 
       pub app-apart : Apart w₃ (stackAt + st .top + f .len) (stackAt + st .top) (b .len) (b .wires)
       app-apart = wired-apart H (y .side) start second-part start-part (stackAt + st .top + f .len) (stackAt + st .top) (b .len) (b .wires) (omega (arith, low-length)) (omega (arith, Q .top)) (sym len-b) start-length wires-at few
@@ -267,15 +267,15 @@ module _ {s sizes w : List ℕ} {node : Node} {st : State} (q : Here s sizes w n
       app-moved : Holds (appliedIn w₃ (stackAt + st .top) (f .len) (b .len) (b .wires)) (atStack (moreWires full js) (m .stack ++ map code end))
       unfolding appliedIn
       app-moved =
-          let ep : Part (moreWires full js) (m .stack ++ map code start) (map code end) = record { above = map code (y .side); is = whole ∙ sym (append-assoc (m .stack) (map code start) (map code end ++ map code (y .side))) } in
-          let bp : Part (moreWires full js) (m .stack) [] = record { above = map code start ++ (map code end ++ map code (y .side)); is = whole } in
+          let ep : Part (moreWires full js) (m .stack ++ map code start) (map code end) = record { above = map code (y .side); stack-is = whole ∙ sym (append-assoc (m .stack) (map code start) (map code end ++ map code (y .side))) } in
+          let bp : Part (moreWires full js) (m .stack) [] = record { above = map code start ++ (map code end ++ map code (y .side)); stack-is = whole } in
           moved-holds app-wired ep bp (stackAt + st .top + b .len) (stackAt + st .top) (f .len - b .len)
           (omega (arith, length-append (m .stack) (map code start), length-map start code, start-length, Q .top)) (omega (arith, Q .top)) (omega arith) (length-map end code ∙ end-length)
 
       app-holds : Holds (appliedIn w₃ (stackAt + st .top) (f .len) (b .len) (b .wires)) (after m (madeOf Q))
       app-holds =
           let u = appliedIn w₃ (stackAt + st .top) (f .len) (b .len) (b .wires) in
-          subst (λ (k : Made). Holds u (after m k)) (sym (z .is))
+          subst (λ (k : Made). Holds u (after m k)) (sym (z .makes))
           (both-made m x y js (rightOf (x .type)) end (m .stack ++ map code end) (y .next) refl (forget (atStack (moreWires full js) (m .stack ++ map code end)) refl app-moved))
 
     -- ---- all three
@@ -318,7 +318,7 @@ module _ {s sizes w : List ℕ} {node : Node} {st : State} (q : Here s sizes w n
               past = past-is;
               named = subst (λ (c : Bool). cond c (b .ty) (cond (isPair (node .rule)) (node .first) t) < length (Q .table)) (sym e₁) (subst (λ (c : Bool). cond c (node .first) t < length (Q .table)) (sym e₂) tn);
               type = subst (λ (c : Bool). tree (Q .table) (cond c (b .ty) (cond (isPair (node .rule)) (node .first) t)) ≡ Q .type) (sym e₁) (subst (λ (c : Bool). tree (Q .table) (cond c (node .first) t) ≡ Q .type) (sym e₂) tt′);
-              len = ap (λ (c : Bool). cond c (b .len) (cond (isPair (node .rule)) (f .len + b .len) (f .len - b .len))) e₁ ∙ ap (λ (c : Bool). cond c (f .len + b .len) (f .len - b .len)) e₂ ∙ sym (end-length z) ∙ ap (λ (k : Made). length (k .side)) (sym (z .is));
+              len = ap (λ (c : Bool). cond c (b .len) (cond (isPair (node .rule)) (f .len + b .len) (f .len - b .len))) e₁ ∙ ap (λ (c : Bool). cond c (f .len + b .len) (f .len - b .len)) e₂ ∙ sym (end-length z) ∙ ap (λ (k : Made). length (k .side)) (sym (z .makes));
               next = next-is;
               elements = elements-is;
               wires = ap (λ (c : Bool). cond c (b .wires) (cond (isPair (node .rule)) (b .wires) (b .wires + b .len))) e₁ ∙ ap (λ (c : Bool). cond c (b .wires) (b .wires + b .len)) e₂ ∙ omega (arith, wires-b z, app-wires z);
@@ -329,7 +329,7 @@ module _ {s sizes w : List ℕ} {node : Node} {st : State} (q : Here s sizes w n
             let e₂ = rule-is isPair ∙ z .pair in
             let e₁ = rule-is ofBody ∙ z .not-body in
             let t = rightNo (recIn s (f .ty)) in
-            let en : node .first ≡ nodeOf (Q .term) (q .at) .first = ap (λ (k : Node). k .first) (q .is) in
+            let en : node .first ≡ nodeOf (Q .term) (q .at) .first = ap (λ (k : Node). k .first) (q .node-is) in
             let tn : node .first < length (Q .table) = subst (λ (k : ℕ). k < length (Q .table)) (sym en) (z .first) in
             let tt′ : tree (Q .table) (node .first) ≡ Q .type = ap (tree (Q .table)) en ∙ z .is-type in
             record {
@@ -338,10 +338,10 @@ module _ {s sizes w : List ℕ} {node : Node} {st : State} (q : Here s sizes w n
               past = past-is;
               named = subst (λ (c : Bool). cond c (b .ty) (cond (isPair (node .rule)) (node .first) t) < length (Q .table)) (sym e₁) (subst (λ (c : Bool). cond c (node .first) t < length (Q .table)) (sym e₂) tn);
               type = subst (λ (c : Bool). tree (Q .table) (cond c (b .ty) (cond (isPair (node .rule)) (node .first) t)) ≡ Q .type) (sym e₁) (subst (λ (c : Bool). tree (Q .table) (cond c (node .first) t) ≡ Q .type) (sym e₂) tt′);
-              len = ap (λ (c : Bool). cond c (b .len) (cond (isPair (node .rule)) (f .len + b .len) (f .len - b .len))) e₁ ∙ ap (λ (c : Bool). cond c (f .len + b .len) (f .len - b .len)) e₂ ∙ omega (arith, len-f, len-b, length-append (x .side) (y .side), ap (λ (k : Made). length (k .side)) (z .is));
+              len = ap (λ (c : Bool). cond c (b .len) (cond (isPair (node .rule)) (f .len + b .len) (f .len - b .len))) e₁ ∙ ap (λ (c : Bool). cond c (f .len + b .len) (f .len - b .len)) e₂ ∙ omega (arith, len-f, len-b, length-append (x .side) (y .side), ap (λ (k : Made). length (k .side)) (z .makes));
               next = next-is;
               elements = elements-is;
-              wires = ap (λ (c : Bool). cond c (b .wires) (cond (isPair (node .rule)) (b .wires) (b .wires + b .len))) e₁ ∙ ap (λ (c : Bool). cond c (b .wires) (b .wires + b .len)) e₂ ∙ omega (arith, two.second-left q h2 L er ew K .6, ap (λ (k : Made). length (k .wires)) (z .is), length-append (x .wires) (y .wires));
+              wires = ap (λ (c : Bool). cond c (b .wires) (cond (isPair (node .rule)) (b .wires) (b .wires + b .len))) e₁ ∙ ap (λ (c : Bool). cond c (b .wires) (b .wires + b .len)) e₂ ∙ omega (arith, two.second-left q h2 L er ew K .6, ap (λ (k : Made). length (k .wires)) (z .makes), length-append (x .wires) (y .wires));
             }
 
         projected : Proj → Leaves Q (finished s node f b) (finishedIn w₃ node (st .top) f b)
@@ -353,8 +353,8 @@ module _ {s sizes w : List ℕ} {node : Node} {st : State} (q : Here s sizes w n
               past = past-is;
               named = subst (λ (c : Bool). cond c (b .ty) (cond (isPair (node .rule)) (node .first) t) < length (Q .table)) (sym e₁) (two.second-left q h2 L er ew K .1);
               type = subst (λ (c : Bool). tree (Q .table) (cond c (b .ty) (cond (isPair (node .rule)) (node .first) t)) ≡ Q .type) (sym e₁) (two.second-left q h2 L er ew K .2 ∙ z .same);
-              len = ap (λ (c : Bool). cond c (b .len) (cond (isPair (node .rule)) (f .len + b .len) (f .len - b .len))) e₁ ∙ len-b ∙ ap (λ (k : Made). length (k .side)) (sym (z .is));
+              len = ap (λ (c : Bool). cond c (b .len) (cond (isPair (node .rule)) (f .len + b .len) (f .len - b .len))) e₁ ∙ len-b ∙ ap (λ (k : Made). length (k .side)) (sym (z .makes));
               next = next-is;
               elements = elements-is;
-              wires = ap (λ (c : Bool). cond c (b .wires) (cond (isPair (node .rule)) (b .wires) (b .wires + b .len))) e₁ ∙ omega (arith, two.second-left q h2 L er ew K .6, ap (λ (k : Made). length (k .wires)) (z .is), length-append (x .wires) (y .wires));
+              wires = ap (λ (c : Bool). cond c (b .wires) (cond (isPair (node .rule)) (b .wires) (b .wires + b .len))) e₁ ∙ omega (arith, two.second-left q h2 L er ew K .6, ap (λ (k : Made). length (k .wires)) (z .makes), length-append (x .wires) (y .wires));
             }

@@ -20,22 +20,22 @@ use Rattle.wiring.proofs.LeafLaws.{low-at}
 -- numbers ys on the stack, above xs
 pub record Part (m : Store) (xs ys : List ℕ) : Type 0 where
   pub above : List ℕ
-  pub is : m .stack ≡ xs ++ (ys ++ above)
+  pub stack-is : m .stack ≡ xs ++ (ys ++ above)
 
 module _ {w : List ℕ} {m : Store} (H : Holds w m) where
   pub part-within : {xs ys : List ℕ} → Part m xs ys → (at l : ℕ) → at ≡ stackAt + length xs → length ys ≡ l → (length xs + l ≤ 8448) × (at + l ≤ length w) × (elementsAt ≤ at)
   part-within {xs} {ys} p at l ea el =
-      let e = ap length (p .is) ∙ length-append xs (ys ++ p .above) in
+      let e = ap length (p .stack-is) ∙ length-append xs (ys ++ p .above) in
       let e₂ = length-append ys (p .above) in
       (omega (arith, H .stack .fits), omega (arith, H .stack .fits, H .size), omega arith)
 
   pub part-region : {xs ys : List ℕ} → Part m xs ys → (at l : ℕ) → at ≡ stackAt + length xs → length ys ≡ l → region w at l ≡ ys
   part-region {xs} {ys} p at l ea el =
-      let L = subst (Lies w stackAt 8448) (p .is) (H .stack) in
+      let L = subst (Lies w stackAt 8448) (p .stack-is) (H .stack) in
       ap (region w at) (sym el) ∙ lies-region xs ys (p .above) L (omega (arith, H .size)) at ea
 
   pub part-low : {xs ys : List ℕ} → Part m xs ys → All Low ys
-  part-low {xs} {ys} p = all-left Low ys (p .above) (all-right Low xs (ys ++ p .above) (subst (All Low) (p .is) (H .low)))
+  part-low {xs} {ys} p = all-left Low ys (p .above) (all-right Low xs (ys ++ p .above) (subst (All Low) (p .stack-is) (H .low)))
 
   low-there : {xs ys : List ℕ} → Part m xs ys → (at l : ℕ) → at ≡ stackAt + length xs → length ys ≡ l → (j : ℕ) → j < l → getD w (at + j) 0 < 16384
   low-there {xs} {ys} p at l ea el j h = subst Low (ap (λ (x : List ℕ). getD x j 0) (sym (part-region p at l ea el)) ∙ region-at w at l j h) (low-at ys (part-low p) j)
@@ -71,4 +71,4 @@ module _ {w : List ℕ} {m : Store} (H : Holds w m) where
       → Holds (sets w to (region w from l)) (atStack m (zs ++ ys))
   moved-holds {xs} {ys} {zs} p z from to l ef et down el =
       let b = part-within p from l ef el in
-      rw (part-region p from l ef el) (push-stack (cut-stack H zs (z .above) (z .is)) ys to et (omega arith) (part-low p))
+      rw (part-region p from l ef el) (push-stack (cut-stack H zs (z .above) (z .stack-is)) ys to et (omega arith) (part-low p))

@@ -71,16 +71,16 @@ module _ {s sizes w : List ℕ} {node : Node} {st : State} (q : Here s sizes w n
   i = node .first
 
   var : Variable (Q .edition) (Q .table) s (q .at) (st .next) (Q .env) (Q .term) (Q .type)
-  var = variable s (q .at) (st .next) (Q .env) (Q .typed) (Q .fits) (rw (q .is) at none) (rw (q .is) at f)
+  var = variable s (q .at) (st .next) (Q .env) (Q .typed) (Q .fits) (rw (q .node-is) at none) (rw (q .node-is) at f)
 
   pub var-scope : (i < st .scope) × (st .scope ≤ 128)
-  var-scope = let v = var in let e = ap (λ (x : Node). x .first) (q .is) in (omega (arith, v .bound, Q .binds .all), omega (arith, Q .scoped))
+  var-scope = let v = var in let e = ap (λ (x : Node). x .first) (q .node-is) in (omega (arith, v .bound, Q .binds .all), omega (arith, Q .scoped))
 
   abbrev b : Bound
   b = getD (Q .env) i unbound
 
   var-is : madeOf Q ≡ madeVar b (st .next)
-  var-is = var .is ∙ ap (λ (x : Node). madeVar (getD (Q .env) (x .first) unbound) (st .next)) (sym (q .is))
+  var-is = var .makes ∙ ap (λ (x : Node). madeVar (getD (Q .env) (x .first) unbound) (st .next)) (sym (q .node-is))
 
   -- its two numbers
   module _ (k : ℕ) (ek : k ≡ bindersAt + slot (st .scope) i) where
@@ -126,8 +126,8 @@ module _ {s sizes w : List ℕ} {node : Node} {st : State} (q : Here s sizes w n
         record {
           known = var-named;
           room = omega (arith, Q .holds .size);
-          points = λ h. ⊎-elim (λ p. omega (arith, p .is, p .few)) (λ p. absurd (omega (arith, p .is))) (var-at .side);
-          stack = λ h. ⊎-elim (λ p. absurd (h (omega (arith, p .is)))) (λ p. omega (arith, p .is, p .below, Q .top)) (var-at .side);
+          points = λ h. ⊎-elim (λ p. omega (arith, p .place-is, p .few)) (λ p. absurd (omega (arith, p .place-is))) (var-at .side);
+          stack = λ h. ⊎-elim (λ p. absurd (h (omega (arith, p .place-is)))) (λ p. omega (arith, p .place-is, p .below, Q .top)) (var-at .side);
         }
 
     -- what is shown is its interface
@@ -137,12 +137,12 @@ module _ {s sizes w : List ℕ} {node : Node} {st : State} (q : Here s sizes w n
       where
         points : OfPoints (tree (Q .table) t) place (b .side) → cond (eqb (place % 2) 1) (face true (turns false (tree (Q .table) t)) (place / 2)) (region w (stackAt + place / 2) (getD sizes t 0)) ≡ map code (b .side)
         points p =
-            let e : place / 2 ≡ p .first = omega (arith, p .is) in
-            rw (eq-eqb (place % 2) 1 (omega (arith, p .is)), e, p .shown) (face-out (turns false (tree (Q .table) t)) (p .first))
+            let e : place / 2 ≡ p .first = omega (arith, p .place-is) in
+            rw (eq-eqb (place % 2) 1 (omega (arith, p .place-is)), e, p .shown) (face-out (turns false (tree (Q .table) t)) (p .first))
 
         stack : OfStack (Q .store .stack) (tree (Q .table) t) place (b .side) → cond (eqb (place % 2) 1) (face true (turns false (tree (Q .table) t)) (place / 2)) (region w (stackAt + place / 2) (getD sizes t 0)) ≡ map code (b .side)
         stack p =
-            let e : place / 2 ≡ p .height = omega (arith, p .is) in
+            let e : place / 2 ≡ p .height = omega (arith, p .place-is) in
             let n = size (tree (Q .table) t) in
             let L = Q .holds .stack in
             let l₁ = region-length w (stackAt + p .height) n (omega (arith, p .below, L .fits, Q .holds .size)) in
@@ -151,7 +151,7 @@ module _ {s sizes w : List ℕ} {node : Node} {st : State} (q : Here s sizes w n
             ext-getD 0 (region w (stackAt + p .height) n) (region (Q .store .stack) (p .height) n) (l₁ ∙ sym l₂)
             (λ j h. let e₁ : stackAt + p .height + j ≡ stackAt + (p .height + j) = omega arith in
             region-at w (stackAt + p .height) n j (omega arith) ∙ rw e₁ (L .here (p .height + j) (omega (arith, p .below))) ∙ sym (region-at (Q .store .stack) (p .height) n j (omega arith))) in
-            rw (ne-eqb (place % 2) 1 (λ z. omega (arith, p .is)), e, var-size, p .shown) same
+            rw (ne-eqb (place % 2) 1 (λ z. omega (arith, p .place-is)), e, var-size, p .shown) same
 
     var-low : All Low (map code (b .side))
     var-low = ⊎-elim points stack (var-at .side)
@@ -175,7 +175,7 @@ module _ {s sizes w : List ℕ} {node : Node} {st : State} (q : Here s sizes w n
         let P = push-stack (Q .holds) (map code (b .side)) to (omega (arith, Q .top)) (omega (arith, Q .top, length-map (b .side) code)) var-low in
         record {
           holds = rw (ew, var-shown, var-is, append-nil, append-nil) P;
-          past = ap (λ (x : Node). x .next) (q .is) ∙ sym (var .bytes);
+          past = ap (λ (x : Node). x .next) (q .node-is) ∙ sym (var .bytes);
           named = var-at .named;
           type = var-type;
           len = el ∙ sym l ∙ ap (λ (m : Made). length (m .side)) (sym var-is);
@@ -191,13 +191,13 @@ module _ {s sizes w : List ℕ} {node : Node} {st : State} (q : Here s sizes w n
   C = q .asks
 
   con : Constant (C .edition) (C .table) s (q .at) (st .next) (C .env) (C .term) (C .type)
-  con = constant s (q .at) (st .next) (C .env) (C .typed) (C .ranged) (rw (q .is) at f)
+  con = constant s (q .at) (st .next) (C .env) (C .typed) (C .ranged) (rw (q .node-is) at f)
 
   abbrev inputs : ℕ
   inputs = partAt (node .first) .inputs
 
   con-is : madeOf C ≡ madeCon (tree (C .table) (node .second)) (node .first) (st .next)
-  con-is = con .is ∙ ap (λ (x : Node). madeCon (tree (C .table) (x .second)) (x .first) (st .next)) (sym (q .is))
+  con-is = con .makes ∙ ap (λ (x : Node). madeCon (tree (C .table) (x .second)) (x .first) (st .next)) (sym (q .node-is))
 
   pub con-room : (st .elements + 1 ≤ 5120) × (st .top + inputs < 8448) × (st .next + inputs < 8192) × (inputs ≤ 2)
   con-room = (
@@ -213,10 +213,10 @@ module _ {s sizes w : List ℕ} {node : Node} {st : State} (q : Here s sizes w n
       let (r₁, r₂, r₃, r₄) = con-room in
       let K = push-kinds (C .holds) (node .first ∷ []) (elementsAt + st .elements) (omega (arith, C .elements)) (omega (arith, C .elements)) in
       let P = push-stack K (map code (partSide inputs (st .next))) (stackAt + st .top) (omega (arith, C .top)) (omega (arith, C .top, part-length inputs (st .next))) (part-low inputs (st .next) r₃) in
-      let en = ap (λ (x : Node). x .second) (q .is) in
+      let en = ap (λ (x : Node). x .second) (q .node-is) in
       record {
         holds = rw (ew, ek, con-is, append-nil) P;
-        past = ap (λ (x : Node). x .next) (q .is) ∙ sym (con .bytes);
+        past = ap (λ (x : Node). x .next) (q .node-is) ∙ sym (con .bytes);
         named = subst (λ (x : ℕ). x < length (C .table)) (sym en) (con .named);
         type = subst (λ (x : ℕ). tree (C .table) x ≡ C .type) (sym en) (con .is-type);
         len = el ∙ sym (part-length inputs (st .next)) ∙ length-map (partSide inputs (st .next)) code ∙ ap (λ (m : Made). length (m .side)) (sym con-is);

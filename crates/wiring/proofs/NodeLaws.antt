@@ -84,7 +84,7 @@ module _ {s sizes : List ℕ} {E : Edition} {Θ : Table} (K : Knows s sizes Θ) 
         number = refl;
         first = rg .0;
         is-type = eτ;
-        is = inr (refl, ap (λ (ρ : Ty). funOf (leftOf (tree Θ t)) ρ n (make Θ e (binder (leftOf (tree Θ t)) n ∷ env) (n + 2 * size (leftOf (tree Θ t))))) eτ ∙ ap (λ (α : Ty). funOf α (arrow θ τ) n (make Θ e (binder α n ∷ env) (n + 2 * size α))) (S .left));
+        makes = inr (refl, ap (λ (ρ : Ty). funOf (leftOf (tree Θ t)) ρ n (make Θ e (binder (leftOf (tree Θ t)) n ∷ env) (n + 2 * size (leftOf (tree Θ t))))) eτ ∙ ap (λ (α : Ty). funOf α (arrow θ τ) n (make Θ e (binder α n ∷ env) (n + 2 * size α))) (S .left));
       }
   binding (⊸I {t = t} {e = e} {κ = κ} {τ = τ} eτ ar d) st rg v h =
       let S = sided-at K t (rg .0) (not-lolli eτ) in
@@ -105,7 +105,7 @@ module _ {s sizes : List ℕ} {E : Edition} {Θ : Table} (K : Knows s sizes Θ) 
         number = refl;
         first = rg .0;
         is-type = eτ;
-        is = inr (refl, ap (λ (ρ : Ty). funOf (leftOf (tree Θ t)) ρ n (make Θ e (binder (leftOf (tree Θ t)) n ∷ env) (n + 2 * size (leftOf (tree Θ t))))) eτ ∙ ap (λ (α : Ty). funOf α (lolli κ τ) n (make Θ e (binder α n ∷ env) (n + 2 * size α))) (S .left));
+        makes = inr (refl, ap (λ (ρ : Ty). funOf (leftOf (tree Θ t)) ρ n (make Θ e (binder (leftOf (tree Θ t)) n ∷ env) (n + 2 * size (leftOf (tree Θ t))))) eτ ∙ ap (λ (α : Ty). funOf α (lolli κ τ) n (make Θ e (binder α n ∷ env) (n + 2 * size α))) (S .left));
       }
   binding (Fix {t = t} {e = e} {θ = θ} eτ sh d) st rg v h = record {
     body = e;
@@ -122,7 +122,7 @@ module _ {s sizes : List ℕ} {E : Edition} {Θ : Table} (K : Knows s sizes Θ) 
     number = refl;
     first = rg .0;
     is-type = eτ;
-    is = inl (refl, sym eτ, refl);
+    makes = inl (refl, sym eτ, refl);
   }
   binding (→E z sh d c) st rg v h = absurd (omega arith)
   binding (⊸E z ar d c) st rg v h = absurd (omega arith)
@@ -161,7 +161,7 @@ module _ {s sizes : List ℕ} {E : Edition} {Θ : Table} (K : Knows s sizes Θ) 
         env₂ = env;
         typed₂ = c;
         fits₂ = q;
-        sort = inl (record { not-pair = refl; not-proj = refl; not-naming = refl; not-body = refl; same = refl; arrow = not-arrow refl; left = refl; right = refl; turned = refl; is = refl });
+        sort = inl (record { not-pair = refl; not-proj = refl; not-naming = refl; not-body = refl; same = refl; arrow = not-arrow refl; left = refl; right = refl; turned = refl; makes = refl });
       }
   twofold (⊸E {f = f} {a = a} {κ = κ} {τ = τ} z ar d c) st rg v h =
       let (p, q) = split-env z v in
@@ -184,7 +184,7 @@ module _ {s sizes : List ℕ} {E : Edition} {Θ : Table} (K : Knows s sizes Θ) 
         env₂ = env;
         typed₂ = c;
         fits₂ = q;
-        sort = inl (record { not-pair = refl; not-proj = refl; not-naming = refl; not-body = refl; same = refl; arrow = not-lolli refl; left = refl; right = refl; turned = refl; is = refl });
+        sort = inl (record { not-pair = refl; not-proj = refl; not-naming = refl; not-body = refl; same = refl; arrow = not-lolli refl; left = refl; right = refl; turned = refl; makes = refl });
       }
   twofold (×I {t = t} {a = a} {b = b} {θ₁ = θ₁} {θ₂ = θ₂} z eτ s₁ s₂ d c) st rg v h =
       let (p, q) = split-env z v in
@@ -207,7 +207,7 @@ module _ {s sizes : List ℕ} {E : Edition} {Θ : Table} (K : Knows s sizes Θ) 
         env₂ = env;
         typed₂ = c;
         fits₂ = q;
-        sort = inr (inl (record { pair = refl; not-proj = refl; not-naming = refl; not-body = refl; same = refl; first = rg .0; is-type = eτ; is = ap (λ (ρ : Ty). madePair ρ (make Θ a env n) (make Θ b env (make Θ a env n .next))) eτ }));
+        sort = inr (inl (record { pair = refl; not-proj = refl; not-naming = refl; not-body = refl; same = refl; first = rg .0; is-type = eτ; makes = ap (λ (ρ : Ty). madePair ρ (make Θ a env n) (make Θ b env (make Θ a env n .next))) eτ }));
       }
   twofold (×E {a = a} {e = e} {θ₁ = θ₁} {θ₂ = θ₂} {τ = τ} z s₁ s₂ d c) st rg v h =
       let (p, q) = split-env z v in
@@ -233,7 +233,7 @@ module _ {s sizes : List ℕ} {E : Edition} {Θ : Table} (K : Knows s sizes Θ) 
         env₂ = secondHalf x ∷ firstHalf x ∷ env;
         typed₂ = c;
         fits₂ = env-many s₂ h₂ (env-many s₁ h₁ q);
-        sort = inr (inr (record { body = refl; same = refl; is = refl; bound = inl (record { proj = refl; halves = refl; product = not-prod refl; sum = refl }) }));
+        sort = inr (inr (record { body = refl; same = refl; makes = refl; bound = inl (record { proj = refl; halves = refl; product = not-prod refl; sum = refl }) }));
       }
   twofold (×E′ {a = a} {e = e} {θ = θ} {τ = τ} i z sh d c) st rg v h =
       let (p, q) = split-env z v in
@@ -258,7 +258,7 @@ module _ {s sizes : List ℕ} {E : Edition} {Θ : Table} (K : Knows s sizes Θ) 
         env₂ = wholeOf x ∷ env;
         typed₂ = c;
         fits₂ = env-many sh (record { type = D .type; dirs = D .dirs }) q;
-        sort = inr (inr (record { body = refl; same = refl; is = refl; bound = inr (record { not-proj = refl; naming = refl; whole = refl }) }));
+        sort = inr (inr (record { body = refl; same = refl; makes = refl; bound = inr (record { not-proj = refl; naming = refl; whole = refl }) }));
       }
 
 -- ---- variables are bound
@@ -277,8 +277,8 @@ linear-bound (is-away x) (env-away v) = omega (arith, linear-bound x v)
 
 module _ {E : Edition} {Θ : Table} (s : List ℕ) (at n : ℕ) (env : List Bound) where
   pub variable : {Γ : Ctx} {e : Term} {τ : Ty} → Typed E Θ Γ e τ → Env Γ env → nodeOf e at .subterms ≡ 0 → (isConstant (nodeOf e at .rule) ≡ false) → Variable E Θ s at n env e τ
-  variable (Var x) v h f = record { bound = shared-bound x v; is = refl; bytes = omega arith; shallow = refl }
-  variable (LVar x) v h f = record { bound = linear-bound x v; is = refl; bytes = omega arith; shallow = refl }
+  variable (Var x) v h f = record { bound = shared-bound x v; makes = refl; bytes = omega arith; shallow = refl }
+  variable (LVar x) v h f = record { bound = linear-bound x v; makes = refl; bytes = omega arith; shallow = refl }
   variable (→I eτ sh d) v h f = absurd (omega arith)
   variable (⊸I eτ ar d) v h f = absurd (omega arith)
   variable (Fix eτ sh d) v h f = absurd (omega arith)
@@ -300,4 +300,4 @@ module _ {E : Edition} {Θ : Table} (s : List ℕ) (at n : ℕ) (env : List Boun
   constant (×I z eτ s₁ s₂ d c) rg f = absurd (true≢false (sym f))
   constant (×E z s₁ s₂ d c) rg f = absurd (true≢false (sym f))
   constant (×E′ i z sh d c) rg f = absurd (true≢false (sym f))
-  constant (Con p e z) rg f = record { known = p; named = rg; is-type = e; is = refl; bytes = omega arith; shallow = refl }
+  constant (Con p e z) rg f = record { known = p; named = rg; is-type = e; makes = refl; bytes = omega arith; shallow = refl }

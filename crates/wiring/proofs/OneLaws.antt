@@ -85,13 +85,13 @@ module _ {s sizes w : List ℕ} {node : Node} {st : State} (q : Here s sizes w n
   n = st .next
 
   one-binding : Binding (Q .edition) Θ s (q .at) n (Q .env) (Q .term) (Q .type)
-  one-binding = binding (Q .knows) (q .at) n (Q .env) (Q .typed) (Q .stands) (Q .ranged) (Q .fits) (rw (q .is) at one)
+  one-binding = binding (Q .knows) (q .at) n (Q .env) (Q .typed) (Q .stands) (Q .ranged) (Q .fits) (rw (q .node-is) at one)
 
   abbrev t : ℕ
   t = boundIn s node
 
   bound-is : t ≡ one-binding .bound
-  bound-is = ap (boundIn s) (q .is) ∙ one-binding .number
+  bound-is = ap (boundIn s) (q .node-is) ∙ one-binding .number
 
   abbrev α : Ty
   α = tree Θ t
@@ -105,10 +105,10 @@ module _ {s sizes w : List ℕ} {node : Node} {st : State} (q : Here s sizes w n
   -- a fixed point, or a function
   one-is : ((isFixedPoint (node .rule) ≡ true) × (one-binding .type ≡ α) × (madeOf Q ≡ madeFix α n body)) ⊎ ((isFixedPoint (node .rule) ≡ false) × (madeOf Q ≡ funOf α (Q .type) n body))
   one-is =
-      let ek : isFixedPoint (node .rule) ≡ isFixedPoint (nodeOf (Q .term) (q .at) .rule) = ap (λ (x : Node). isFixedPoint (x .rule)) (q .is) in
+      let ek : isFixedPoint (node .rule) ≡ isFixedPoint (nodeOf (Q .term) (q .at) .rule) = ap (λ (x : Node). isFixedPoint (x .rule)) (q .node-is) in
       ⊎-elim (λ z. inl (ek ∙ z .0, z .1 ∙ ap (tree Θ) (sym bound-is), z .2 ∙ ap (λ (b : ℕ). madeFix (tree Θ b) n (make Θ (one-binding .body) (binder (tree Θ b) n ∷ Q .env) (n + 2 * size (tree Θ b)))) (sym bound-is)))
       (λ z. inr (ek ∙ z .0, z .1 ∙ ap (λ (b : ℕ). funOf (tree Θ b) (Q .type) n (make Θ (one-binding .body) (binder (tree Θ b) n ∷ Q .env) (n + 2 * size (tree Θ b)))) (sym bound-is)))
-      (one-binding .is)
+      (one-binding .makes)
 
   pub one-named : t < length Θ
   one-named = rw bound-is (one-binding .named)
@@ -173,13 +173,13 @@ module _ {s sizes w : List ℕ} {node : Node} {st : State} (q : Here s sizes w n
   one-bound : (xs : List ℕ) → BoundAt Θ (Q .store .stack ++ xs) t (2 * n + 1) (binder α n)
   one-bound xs =
       let (r₁, r₂, r₃, r₄, r₅) = one-room (size α) refl in
-      record { named = one-named; type = refl; side = inl (record { first = n; is = refl; few = r₂; shown = refl }) }
+      record { named = one-named; type = refl; side = inl (record { first = n; place-is = refl; few = r₂; shown = refl }) }
 
   one-fits : Env (one-binding .context) (binder α n ∷ Q .env)
   one-fits = subst (λ (b : ℕ). Env (one-binding .context) (binder (tree Θ b) n ∷ Q .env)) (sym bound-is) (one-binding .fits)
 
   one-stands : Stands s (node .next) (one-binding .body)
-  one-stands = subst (λ (x : Node). Stands s (x .next) (one-binding .body)) (sym (q .is)) (one-binding .stands)
+  one-stands = subst (λ (x : Node). Stands s (x .next) (one-binding .body)) (sym (q .node-is)) (one-binding .stands)
 
   -- wires of the body, and all
   one-wires : length (body .wires) ≤ length (madeOf Q .wires)
@@ -275,10 +275,10 @@ module _ {s sizes w : List ℕ} {node : Node} {st : State} (q : Here s sizes w n
 
       -- where the two interfaces of a fixed point stand
       low-part : Part (after (opened (Q .store) Θ t n) body) (Q .store .stack) (map code (inSide bs n))
-      low-part = record { above = map code (body .side); is = append-assoc (Q .store .stack) (face false bs n) (map code (body .side)) ∙ ap (λ (l : List ℕ). Q .store .stack ++ (l ++ map code (body .side))) (face-in bs n) }
+      low-part = record { above = map code (body .side); stack-is = append-assoc (Q .store .stack) (face false bs n) (map code (body .side)) ∙ ap (λ (l : List ℕ). Q .store .stack ++ (l ++ map code (body .side))) (face-in bs n) }
 
       high-part : Part (after (opened (Q .store) Θ t n) body) (Q .store .stack ++ face false bs n) (map code (body .side))
-      high-part = record { above = []; is = ap (λ (l : List ℕ). (Q .store .stack ++ face false bs n) ++ l) (sym (append-nil (map code (body .side)))) }
+      high-part = record { above = []; stack-is = ap (λ (l : List ℕ). (Q .store .stack ++ face false bs n) ++ l) (sym (append-nil (map code (body .side)))) }
 
       high-at : length (Q .store .stack ++ face false bs n) ≡ st .top + size α
       high-at = omega (arith, length-append (Q .store .stack) (face false bs n), face-length false bs n, turns-size false α, Q .top)
@@ -320,15 +320,15 @@ module _ {s sizes w : List ℕ} {node : Node} {st : State} (q : Here s sizes w n
       unfolding looped high-part low-part
       loop-holds e z =
           let W = wired-holds body-holds (body .side) (inSide bs n) high-part low-part (stackAt + st .top + l) (stackAt + st .top) l (b .wires) (omega (arith, high-at, el)) (omega (arith, Q .top)) (same-length e) (in-length ∙ sym el) wires-at (fix-room e z) (opposite e) in
-          let hp : Part (moreWires (after (opened (Q .store) Θ t n) body) (join (body .side) (inSide bs n))) (Q .store .stack ++ face false bs n) (map code (body .side)) = record { above = []; is = high-part .is } in
-          let lp : Part (moreWires (after (opened (Q .store) Θ t n) body) (join (body .side) (inSide bs n))) (Q .store .stack) [] = record { above = map code (inSide bs n) ++ map code (body .side); is = low-part .is } in
+          let hp : Part (moreWires (after (opened (Q .store) Θ t n) body) (join (body .side) (inSide bs n))) (Q .store .stack ++ face false bs n) (map code (body .side)) = record { above = []; stack-is = high-part .stack-is } in
+          let lp : Part (moreWires (after (opened (Q .store) Θ t n) body) (join (body .side) (inSide bs n))) (Q .store .stack) [] = record { above = map code (inSide bs n) ++ map code (body .side); stack-is = low-part .stack-is } in
           fix-holds (Q .store) Θ t n body (moved-holds W hp lp (stackAt + st .top + l) (stackAt + st .top) l (omega (arith, high-at, el)) (omega (arith, Q .top)) (omega arith) (length-map (body .side) code ∙ same-length e))
 
       one-first : (node .first < length Θ) × (tree Θ (node .first) ≡ Q .type)
-      one-first = subst (λ (x : Node). (x .first < length Θ) × (tree Θ (x .first) ≡ Q .type)) (sym (q .is)) (one-binding .first, one-binding .is-type)
+      one-first = subst (λ (x : Node). (x .first < length Θ) × (tree Θ (x .first) ≡ Q .type)) (sym (q .node-is)) (one-binding .first, one-binding .is-type)
 
       one-past : b .past ≡ q .at + length (termBytes (Q .term))
-      one-past = body-counts .0 ∙ ap (λ (x : Node). x .next + length (termBytes (one-binding .body))) (q .is) ∙ sym (one-binding .bytes)
+      one-past = body-counts .0 ∙ ap (λ (x : Node). x .next + length (termBytes (one-binding .body))) (q .node-is) ∙ sym (one-binding .bytes)
 
       pub close-leaves : Leaves Q (closed node (r .top - st .top) b) (closedIn w₂ node (st .top) (r .top - st .top) b)
       unfolding closed closedIn

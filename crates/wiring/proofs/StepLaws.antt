@@ -30,7 +30,7 @@ module _ {s sizes w : List ℕ} {at : ℕ} {st : State} (q : Asks s sizes w at s
   node-of = e ∙ stands-node s at (q .term) (q .stands)
 
   abbrev pub here : Here s sizes w node st
-  here = record { at = at; asks = q; is = node-of }
+  here = record { at = at; asks = q; node-is = node-of }
 
   -- the record ends past its start and within the sheet
   pub behind : (at < node .next) × (node .next ≤ length s)

@@ -65,11 +65,11 @@ module _ {s sizes : List ℕ} {Θ : Table} (K : Knows s sizes Θ) {t : ℕ} (h :
 
 abbrev pub an-arrow : {s sizes : List ℕ} {x : Sided} {room to n t : ℕ} → KnownType s sizes t → x ≡ sidedOf (recIn s t) → 2 < x .kind → to + getD sizes t 0 ≤ room → n + 2 * getD sizes t 0 ≤ 8192
     → Arrow s sizes x room to n
-an-arrow {t = t} k e a r f = record { type = t; known = k; is = e; arrow = a; room = r; few = f }
+an-arrow {t = t} k e a r f = record { type = t; known = k; sides-are = e; arrow = a; room = r; few = f }
 
 module _ {s sizes : List ℕ} {x : Sided} {room to n : ℕ} (q : Arrow s sizes x room to n) where
   pub sides : ArrowAt (q .known .table) (q .type) (x .left) (x .right)
-  sides = arrow-at (q .known .knows) (q .known .named) (q .is) (q .arrow)
+  sides = arrow-at (q .known .knows) (q .known .named) (q .sides-are) (q .arrow)
 
   pub left-named : x .left < length (q .known .table)
   left-named = omega (arith, sides .left, q .known .named)

@@ -67,7 +67,7 @@ module _ {s sizes w : List ℕ} {node : Node} {st : State} (q : Here s sizes w n
   n = st .next
 
   pub both : Twofold (Q .edition) Θ s (q .at) n (Q .env) (Q .term) (Q .type)
-  both = twofold (Q .knows) (q .at) n (Q .env) (Q .typed) (Q .stands) (Q .ranged) (Q .fits) (rw (q .is) at two)
+  both = twofold (Q .knows) (q .at) n (Q .env) (Q .typed) (Q .stands) (Q .ranged) (Q .fits) (rw (q .node-is) at two)
 
   abbrev pub x : Made
   x = make Θ (both .first) (Q .env) n
@@ -81,14 +81,14 @@ module _ {s sizes w : List ℕ} {node : Node} {st : State} (q : Here s sizes w n
       ⊎ Projected (Q .edition) Θ s (q .at) n (Q .env) (Q .term) (Q .type) x y (both .type) (both .env₂) (both .type₂))
 
   pub rule-is : (f : Rule → Bool) → f (node .rule) ≡ f (nodeOf (Q .term) (q .at) .rule)
-  rule-is f = ap (λ (z : Node). f (z .rule)) (q .is)
+  rule-is f = ap (λ (z : Node). f (z .rule)) (q .node-is)
 
   -- what holds of all three sorts
   pub two-next : madeOf Q .next ≡ y .next
-  two-next = ⊎-elim (λ z. ap (λ (m : Made). m .next) (z .is)) (⊎-elim (λ z. ap (λ (m : Made). m .next) (z .is)) (λ z. ap (λ (m : Made). m .next) (z .is))) (both .sort)
+  two-next = ⊎-elim (λ z. ap (λ (m : Made). m .next) (z .makes)) (⊎-elim (λ z. ap (λ (m : Made). m .next) (z .makes)) (λ z. ap (λ (m : Made). m .next) (z .makes))) (both .sort)
 
   pub two-elements : madeOf Q .elements ≡ x .elements ++ y .elements
-  two-elements = ⊎-elim (λ z. ap (λ (m : Made). m .elements) (z .is)) (⊎-elim (λ z. ap (λ (m : Made). m .elements) (z .is)) (λ z. ap (λ (m : Made). m .elements) (z .is))) (both .sort)
+  two-elements = ⊎-elim (λ z. ap (λ (m : Made). m .elements) (z .makes)) (⊎-elim (λ z. ap (λ (m : Made). m .elements) (z .makes)) (λ z. ap (λ (m : Made). m .elements) (z .makes))) (both .sort)
 
   pub two-count : length (madeOf Q .elements) ≡ length (x .elements) + length (y .elements)
   two-count = ap length two-elements ∙ length-append (x .elements) (y .elements)
@@ -96,14 +96,14 @@ module _ {s sizes w : List ℕ} {node : Node} {st : State} (q : Here s sizes w n
   pub two-wires : length (x .wires) + length (y .wires) ≤ length (madeOf Q .wires)
   two-wires =
       let e = length-append (x .wires) (y .wires) in
-      ⊎-elim (λ z. omega (arith, ap (λ (m : Made). length (m .wires)) (z .is), length-append (x .wires ++ y .wires) (join (y .side) (take (size (leftOf (x .type))) (x .side)))))
-      (⊎-elim (λ z. omega (arith, ap (λ (m : Made). length (m .wires)) (z .is))) (λ z. omega (arith, ap (λ (m : Made). length (m .wires)) (z .is)))) (both .sort)
+      ⊎-elim (λ z. omega (arith, ap (λ (m : Made). length (m .wires)) (z .makes), length-append (x .wires ++ y .wires) (join (y .side) (take (size (leftOf (x .type))) (x .side)))))
+      (⊎-elim (λ z. omega (arith, ap (λ (m : Made). length (m .wires)) (z .makes))) (λ z. omega (arith, ap (λ (m : Made). length (m .wires)) (z .makes)))) (both .sort)
 
   first-next : x .next ≤ y .next
   first-next = omega (arith, next-is Θ (both .second) (both .env₂) (x .next))
 
   pub next-at : node .next ≡ nodeOf (Q .term) (q .at) .next
-  next-at = ap (λ (z : Node). z .next) (q .is)
+  next-at = ap (λ (z : Node). z .next) (q .node-is)
 
   -- ---- the first
 
@@ -240,7 +240,7 @@ module _ {s sizes w : List ℕ} {node : Node} {st : State} (q : Here s sizes w n
         type = left-is;
         side = inr (record {
           height = st .top;
-          is = refl;
+          place-is = refl;
           below = omega (arith, long, sum, ap size left-is);
           shown = front-region (Q .store .stack) (x .side) (st .top) (size (leftOf (x .type))) (Q .top) ∙ ap (λ (τ : Ty). region (Q .store .stack ++ map code (x .side)) (st .top) (size τ)) left-is;
         });
@@ -252,7 +252,7 @@ module _ {s sizes w : List ℕ} {node : Node} {st : State} (q : Here s sizes w n
         type = right-is;
         side = inr (record {
           height = st .top + size (leftOf (x .type));
-          is = ap (λ (k : ℕ). 2 * (st .top + k)) left-size;
+          place-is = ap (λ (k : ℕ). 2 * (st .top + k)) left-size;
           below = omega (arith, long, sum, ap size right-is);
           shown = back-region (Q .store .stack) (x .side) (st .top) (size (leftOf (x .type))) (size (rightOf (x .type))) (Q .top) sum
               ∙ ap (λ (τ : Ty). region (Q .store .stack ++ map code (x .side)) (st .top + size (leftOf (x .type))) (size τ)) right-is;
@@ -275,7 +275,7 @@ module _ {s sizes w : List ℕ} {node : Node} {st : State} (q : Here s sizes w n
           type = is;
           side = inr (record {
             height = st .top;
-            is = refl;
+            place-is = refl;
             below = omega (arith, long, l);
             shown = ap (map code) (sym (take-all (size (tree Θ (f .ty))) (x .side) (omega arith))) ∙ front-region (Q .store .stack) (x .side) (st .top) (size (tree Θ (f .ty))) (Q .top);
           });

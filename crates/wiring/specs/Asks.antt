@@ -32,14 +32,14 @@ use Rattle.wiring.specs.Store.{Store, Holds, after}
 -- the points from terminal n on, as 2 n + 1
 pub record OfPoints (τ : Ty) (place : ℕ) (side : Interface) : Type 0 where
   pub first : ℕ
-  pub is : place ≡ 2 * first + 1
+  pub place-is : place ≡ 2 * first + 1
   pub few : first + 2 * size τ ≤ 8192
   pub shown : side ≡ outSide (turns false τ) first
 
 -- codes from height h of the stack on, as 2 h
 pub record OfStack (stack : List ℕ) (τ : Ty) (place : ℕ) (side : Interface) : Type 0 where
   pub height : ℕ
-  pub is : place ≡ 2 * height
+  pub place-is : place ≡ 2 * height
   pub below : height + size τ ≤ length stack
   pub shown : map code side ≡ region stack height (size τ)
 
@@ -110,7 +110,7 @@ pub record Leaves {s sizes w : List ℕ} {at : ℕ} {st : State} (q : Asks s siz
 pub record Here (s sizes w : List ℕ) (node : Node) (st : State) : Type 0 where
   pub at : ℕ
   pub asks : Asks s sizes w at st
-  pub is : node ≡ nodeOf (asks .term) at
+  pub node-is : node ≡ nodeOf (asks .term) at
 
 -- ---- a function or a fixed point
 

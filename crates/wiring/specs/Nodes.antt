@@ -45,7 +45,7 @@ module _ (E : Edition) (Θ : Table) (s : List ℕ) (at n : ℕ) (env : List Boun
     pub first : nodeOf e at .first < length Θ
     pub is-type : tree Θ (nodeOf e at .first) ≡ τ
     -- a fixed point, or a function
-    pub is : ((isFixedPoint (nodeOf e at .rule) ≡ true) × (type ≡ tree Θ bound) × (make Θ e env n ≡ madeFix (tree Θ bound) n (make Θ body (binder (tree Θ bound) n ∷ env) (n + 2 * size (tree Θ bound)))))
+    pub makes : ((isFixedPoint (nodeOf e at .rule) ≡ true) × (type ≡ tree Θ bound) × (make Θ e env n ≡ madeFix (tree Θ bound) n (make Θ body (binder (tree Θ bound) n ∷ env) (n + 2 * size (tree Θ bound)))))
         ⊎ ((isFixedPoint (nodeOf e at .rule) ≡ false) × (make Θ e env n ≡ funOf (tree Θ bound) τ n (make Θ body (binder (tree Θ bound) n ∷ env) (n + 2 * size (tree Θ bound)))))
 
   module _ (x y : Made) (τ₁ : Ty) (env₂ : List Bound) (τ₂ : Ty) where
@@ -59,7 +59,7 @@ module _ (E : Edition) (Θ : Table) (s : List ℕ) (at n : ℕ) (env : List Boun
       pub left : leftOf τ₁ ≡ τ₂
       pub right : rightOf τ₁ ≡ τ
       pub turned : turns false τ₁ ≡ turns true τ₂ ++ turns false τ
-      pub is : make Θ e env n ≡ madeApp x y
+      pub makes : make Θ e env n ≡ madeApp x y
 
     pub record Paired : Type 0 where
       pub pair : isPair (nodeOf e at .rule) ≡ true
@@ -69,7 +69,7 @@ module _ (E : Edition) (Θ : Table) (s : List ℕ) (at n : ℕ) (env : List Boun
       pub same : env₂ ≡ env
       pub first : nodeOf e at .first < length Θ
       pub is-type : tree Θ (nodeOf e at .first) ≡ τ
-      pub is : make Θ e env n ≡ madePair τ x y
+      pub makes : make Θ e env n ≡ madePair τ x y
 
     -- the halves of the first are bound
     pub record Halved : Type 0 where
@@ -87,7 +87,7 @@ module _ (E : Edition) (Θ : Table) (s : List ℕ) (at n : ℕ) (env : List Boun
     pub record Projected : Type 0 where
       pub body : ofBody (nodeOf e at .rule) ≡ true
       pub same : τ₂ ≡ τ
-      pub is : make Θ e env n ≡ madeProj x y
+      pub makes : make Θ e env n ≡ madeProj x y
       pub bound : Halved ⊎ Whole
 
   pub record Twofold : Type 0 where
@@ -115,7 +115,7 @@ module _ (E : Edition) (Θ : Table) (s : List ℕ) (at n : ℕ) (env : List Boun
 
   pub record Variable : Type 0 where
     pub bound : nodeOf e at .first < length env
-    pub is : make Θ e env n ≡ madeVar (getD env (nodeOf e at .first) unbound) n
+    pub makes : make Θ e env n ≡ madeVar (getD env (nodeOf e at .first) unbound) n
     pub bytes : at + length (termBytes e) ≡ nodeOf e at .next
     pub shallow : depth e ≡ 1
 
@@ -123,6 +123,6 @@ module _ (E : Edition) (Θ : Table) (s : List ℕ) (at n : ℕ) (env : List Boun
     pub known : nodeOf e at .first < 7
     pub named : nodeOf e at .second < length Θ
     pub is-type : tree Θ (nodeOf e at .second) ≡ τ
-    pub is : make Θ e env n ≡ madeCon (tree Θ (nodeOf e at .second)) (nodeOf e at .first) n
+    pub makes : make Θ e env n ≡ madeCon (tree Θ (nodeOf e at .second)) (nodeOf e at .first) n
     pub bytes : at + length (termBytes e) ≡ nodeOf e at .next
     pub shallow : depth e ≡ 1

@@ -28,7 +28,7 @@ pub record KnownType (s sizes : List ℕ) (t : ℕ) : Type 0 where
 pub record Arrow (s sizes : List ℕ) (x : Sided) (size to n : ℕ) : Type 0 where
   pub type : ℕ
   pub known : KnownType s sizes type
-  pub is : x ≡ sidedOf (recIn s type)
+  pub sides-are : x ≡ sidedOf (recIn s type)
   pub arrow : 2 < x .kind
   pub room : to + getD sizes type 0 ≤ size
   pub few : n + 2 * getD sizes type 0 ≤ 8192

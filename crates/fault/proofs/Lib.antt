@@ -1,3 +1,0 @@
-pub mod AboveLaws
-pub mod TallyLaws
-pub mod DeepLaws

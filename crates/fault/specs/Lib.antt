@@ -1,3 +1,0 @@
-pub mod Above
-pub mod Netlists
-pub mod Deep

@@ -1,0 +1,167 @@
+-- What a run promises holds of what a call leaves: an accepted run has written the bits of the only possible record with these inputs and
+-- starts; 19 is given exactly when a ring passes through no register, at the lowest input on any. Assumes nothing.
+use Prim.Native.Nat.{ℕ, _+_, _*_, _≤_, _<_}
+use mathlib.Core.Path.{_≡_, refl, sym, ap, _∙_, subst}
+use mathlib.Core.Bool.{Bool, true, false}
+use mathlib.Core.Logic.{_↔_}
+use mathlib.Core.List.{List, _++_}
+use native.Mathlib.Omega.{arith}
+use lib.Dec.{T, leb, leb→le}
+use lib.ListN.{length, drop}
+use borrow.Author.Tests.{le-leb}
+use Rattle.calculus.specs.Answer.{Refusal, Answer, good, refused, _>>=_, numbered, refuse, need}
+use Rattle.calculus.proofs.Answers.{refused≢good, good-inj, refused-inj}
+use Rattle.calculus.specs.Net.{Net}
+use Rattle.calculus.specs.Lean.{lean}
+use Rattle.calculus.specs.Translate.{full, saidOf, outOf, workOf, Call}
+use Rattle.circuit_theorems.proofs.Main.{formed-lean}
+use Rattle.sheet_theorems.proofs.Judging.{of-refused}
+use Rattle.translator.proofs.Places.{full-places}
+use Rattle.trace_calculus.specs.Trace.{ran, trace, runCall}
+use Rattle.trace_calculus.specs.Promise.{Traced, Ringless, LowestOnRing, ExactBits, Needs, OfSheet, RunPromise}
+use Rattle.trace_theorems.proofs.Outcome.{Came, by-ring, by-bits, by-room, to-end, came}
+
+module _ (s bits starts : List ℕ) (n room : ℕ) (work : List ℕ) where
+  -- the full netlist, or refusal 1 to 16
+  abbrev made : Answer Net
+  made = need (leb 32768 (length work)) 1 0 >>= λ _. full s
+
+  -- how a call ends: early, or as the run of the lean netlist does
+  data Ends : Answer (List ℕ) → Type 0 where
+    early : {why : Refusal} → made ≡ refused why → why .number ≤ 16 → Ends (refused why)
+    of-net : {a : Answer (List ℕ)} (m : Net) → 32768 ≤ length work → full s ≡ good m → Came (lean m) n bits starts room a → Ends a
+
+  made-good : (m : Net) → 32768 ≤ length work → full s ≡ good m → made ≡ good m
+  made-good m l e = rw (le-leb 32768 (length work) l, e)
+
+  ends : Ends (trace (length work) s n bits starts room)
+  unfolding trace
+  ends = memory (leb 32768 (length work)) refl
+    where
+      trace-as : (b : Bool) → leb 32768 (length work) ≡ b → {a : Answer (List ℕ)} → (need b 1 0 >>= λ _. full s >>= λ m. ran (lean m) n bits starts room) ≡ a → Ends a
+          → Ends (need (leb 32768 (length work)) 1 0 >>= λ _. full s >>= λ m. ran (lean m) n bits starts room)
+      trace-as b e f h = subst Ends (sym (ap (λ (c : Bool). need c 1 0 >>= λ _. full s >>= λ m. ran (lean m) n bits starts room) e ∙ f)) h
+
+      sheet : leb 32768 (length work) ≡ true → (a : Answer Net) → full s ≡ a → Ends (need (leb 32768 (length work)) 1 0 >>= λ _. full s >>= λ m. ran (lean m) n bits starts room)
+      sheet e (good m) q =
+          trace-as true e (ap (λ (a : Answer Net). a >>= λ m. ran (lean m) n bits starts room) q)
+          (of-net m (leb→le 32768 (length work) (subst T (sym e) tt)) q (came (lean m) n bits starts (formed-lean s m q) room))
+      sheet e (refused why) q =
+          trace-as true e (ap (λ (a : Answer Net). a >>= λ m. ran (lean m) n bits starts room) q)
+          (early (ap (λ (c : Bool). need c 1 0 >>= λ _. full s) e ∙ q) (of-refused (full s) why (full-places s) q .to))
+
+      memory : (b : Bool) → leb 32768 (length work) ≡ b → Ends (need (leb 32768 (length work)) 1 0 >>= λ _. full s >>= λ m. ran (lean m) n bits starts room)
+      memory true e = sheet e (full s) refl
+      memory false e = trace-as false e refl (early (ap (λ (c : Bool). need c 1 0 >>= λ _. full s) e) (omega arith))
+
+  -- one sheet has one netlist
+  same-net : {P : Net → Type 0} (m : Net) → full s ≡ good m → OfSheet s work P → P (lean m)
+  same-net {P} m e o = subst (λ (x : Net). P (lean x)) (good-inj (sym (o .of-sheet) ∙ e)) (o .has)
+
+  -- .. and is not refused
+  not-early : {P : Net → Type 0} {why : Refusal} → made ≡ refused why → OfSheet s work P → ⊥
+  not-early q o = refused≢good (sym q ∙ made-good (o .net) (o .memory) (o .of-sheet))
+
+  number-of : {A : Type 0} {i j x y : ℕ} → _≡_ {A = Answer A} (refuse i x) (refuse j y) → (i ≡ j) × (x ≡ y)
+  number-of e = (ap (λ (r : Refusal). r .number) (refused-inj e), ap (λ (r : Refusal). r .place) (refused-inj e))
+
+  accepts : (k : ℕ) {a : Answer (List ℕ)} → Ends a → saidOf a ≡ good k → OfSheet s work (λ m. Needs m n bits starts k × (k ≤ room))
+  accepts k (early q l) e = absurd (refused≢good e)
+  accepts k (of-net m l q (by-ring h)) e = absurd (refused≢good e)
+  accepts k (of-net m l q (by-bits f h)) e = absurd (refused≢good e)
+  accepts k (of-net m l q (by-room d h)) e = absurd (refused≢good e)
+  accepts k (of-net m l q (to-end d h z t)) e =
+      let y : _ ≡ k = sym z ∙ good-inj e in
+      record { memory = l; net = m; of-sheet = q; has = subst (λ (j : ℕ). Needs (lean m) n bits starts j × (j ≤ room)) y (d, h) }
+
+  accepted : (k : ℕ) {a : Answer (List ℕ)} → Ends a → OfSheet s work (λ m. Needs m n bits starts k × (k ≤ room)) → saidOf a ≡ good k
+  accepted k (early q l) o = absurd (not-early q o)
+  accepted k (of-net m l q (by-ring h)) o = let p = same-net m q o in absurd (p .0 .ringless _ (h .ring))
+  accepted k (of-net m l q (by-bits f h)) o = let p = same-net m q o in absurd (h (p .0 .exact))
+  accepted k (of-net m l q (by-room d h)) o = let p = same-net m q o in absurd (let y = sym (d .count) ∙ p .0 .count in omega (arith, p .1))
+  accepted k (of-net m l q (to-end d h z t)) o = let p = same-net m q o in ap good (z ∙ sym (d .count) ∙ p .0 .count)
+
+  traces : (output : List ℕ) (k : ℕ) {a : Answer (List ℕ)} → Ends a → saidOf a ≡ good k → OfSheet s work (λ m. Traced m n bits starts output (outOf a output))
+  traces output k (early q l) e = absurd (refused≢good e)
+  traces output k (of-net m l q (by-ring h)) e = absurd (refused≢good e)
+  traces output k (of-net m l q (by-bits f h)) e = absurd (refused≢good e)
+  traces output k (of-net m l q (by-room d h)) e = absurd (refused≢good e)
+  traces output k (of-net m l q (to-end {written = w} d h z t)) e =
+      record { memory = l; net = m; of-sheet = q; has = subst (λ (j : ℕ). Traced (lean m) n bits starts output (w ++ drop j output)) (sym z) (t output) }
+
+  earlier : (why : Refusal) → why .number ≤ 16 → {a : Answer (List ℕ)} → Ends a → (saidOf a ≡ refused why) ↔ (made ≡ refused why)
+  earlier why l (early q h) = ((λ e. q ∙ ap (λ (r : Refusal). refused r) (refused-inj e)), (λ e. ap (λ (r : Refusal). refused r) (refused-inj (sym q ∙ e))))
+  earlier why l (of-net m h q c) = ((λ e. absurd (late c e)), (λ e. absurd (refused≢good (sym e ∙ made-good m h q))))
+    where
+      late : {a : Answer (List ℕ)} → Came (lean m) n bits starts room a → saidOf a ≡ refused why → ⊥
+      late (by-ring h) e = let z = ap (λ (r : Refusal). r .number) (refused-inj e) in omega arith
+      late (by-bits f h) e = let z = ap (λ (r : Refusal). r .number) (refused-inj e) in omega arith
+      late (by-room d h) e = let z = ap (λ (r : Refusal). r .number) (refused-inj e) in omega arith
+      late (to-end d h z t) e = refused≢good (sym e)
+
+  rings : (x : ℕ) {a : Answer (List ℕ)} → Ends a → saidOf a ≡ refuse 19 x → OfSheet s work (λ m. LowestOnRing m x)
+  rings x (early q l) e = absurd (let z = ap (λ (r : Refusal). r .number) (refused-inj e) in omega arith)
+  rings x (of-net m l q (by-ring h)) e = record { memory = l; net = m; of-sheet = q; has = subst (LowestOnRing (lean m)) (number-of e .1) h }
+  rings x (of-net m l q (by-bits f h)) e = absurd (let z = number-of e .0 in omega arith)
+  rings x (of-net m l q (by-room d h)) e = absurd (let z = number-of e .0 in omega arith)
+  rings x (of-net m l q (to-end d h z t)) e = absurd (refused≢good (sym e))
+
+  ringed : (x : ℕ) {a : Answer (List ℕ)} → Ends a → OfSheet s work (λ m. LowestOnRing m x) → saidOf a ≡ refuse 19 x
+  ringed x (early q l) o = absurd (not-early q o)
+  ringed x (of-net m l q (by-ring {x = y} h)) o =
+      let p = same-net m q o in
+      let z : y ≡ x = (let a = h .lowest x (p .input) (p .ring) in let b = p .lowest y (h .input) (h .ring) in omega arith) in
+      ap (refuse 19) z
+  ringed x (of-net m l q (by-bits f h)) o = absurd (f x (same-net m q o .ring))
+  ringed x (of-net m l q (by-room d h)) o = absurd (d .ringless x (same-net m q o .ring))
+  ringed x (of-net m l q (to-end d h z t)) o = absurd (d .ringless x (same-net m q o .ring))
+
+  wrong : (x : ℕ) {a : Answer (List ℕ)} → Ends a → saidOf a ≡ refuse 20 x → (x ≡ 0) × OfSheet s work (λ m. Ringless m × (ExactBits m n bits starts → ⊥))
+  wrong x (early q l) e = absurd (let z = ap (λ (r : Refusal). r .number) (refused-inj e) in omega arith)
+  wrong x (of-net m l q (by-ring h)) e = absurd (let z = number-of e .0 in omega arith)
+  wrong x (of-net m l q (by-bits f h)) e = (sym (number-of e .1), record { memory = l; net = m; of-sheet = q; has = (f, h) })
+  wrong x (of-net m l q (by-room d h)) e = absurd (let z = number-of e .0 in omega arith)
+  wrong x (of-net m l q (to-end d h z t)) e = absurd (refused≢good (sym e))
+
+  wronged : (x : ℕ) {a : Answer (List ℕ)} → Ends a → (x ≡ 0) × OfSheet s work (λ m. Ringless m × (ExactBits m n bits starts → ⊥)) → saidOf a ≡ refuse 20 x
+  wronged x (early q l) (z, o) = absurd (not-early q o)
+  wronged x (of-net m l q (by-ring h)) (z, o) = absurd (same-net m q o .0 _ (h .ring))
+  wronged x (of-net m l q (by-bits f h)) (z, o) = ap (refuse 20) (sym z)
+  wronged x (of-net m l q (by-room d h)) (z, o) = absurd (same-net m q o .1 (d .exact))
+  wronged x (of-net m l q (to-end d h y t)) (z, o) = absurd (same-net m q o .1 (d .exact))
+
+  shorts : (k : ℕ) {a : Answer (List ℕ)} → Ends a → saidOf a ≡ refuse 17 k → OfSheet s work (λ m. Needs m n bits starts k × (room < k))
+  shorts k (early q l) e = absurd (let z = ap (λ (r : Refusal). r .number) (refused-inj e) in omega arith)
+  shorts k (of-net m l q (by-ring h)) e = absurd (let z = number-of e .0 in omega arith)
+  shorts k (of-net m l q (by-bits f h)) e = absurd (let z = number-of e .0 in omega arith)
+  shorts k (of-net m l q (by-room d h)) e = record { memory = l; net = m; of-sheet = q; has = subst (λ (j : ℕ). Needs (lean m) n bits starts j × (room < j)) (number-of e .1) (d, h) }
+  shorts k (of-net m l q (to-end d h z t)) e = absurd (refused≢good (sym e))
+
+  shorted : (k : ℕ) {a : Answer (List ℕ)} → Ends a → OfSheet s work (λ m. Needs m n bits starts k × (room < k)) → saidOf a ≡ refuse 17 k
+  shorted k (early q l) o = absurd (not-early q o)
+  shorted k (of-net m l q (by-ring h)) o = let p = same-net m q o in absurd (p .0 .ringless _ (h .ring))
+  shorted k (of-net m l q (by-bits f h)) o = let p = same-net m q o in absurd (h (p .0 .exact))
+  shorted k (of-net m l q (by-room d h)) o = let p = same-net m q o in ap (refuse 17) (sym (d .count) ∙ p .0 .count)
+  shorted k (of-net m l q (to-end d h z t)) o = let p = same-net m q o in absurd (let y = sym (d .count) ∙ p .0 .count in omega (arith, p .1))
+
+stayed : (a : Answer (List ℕ)) (output : List ℕ) (why : Refusal) → saidOf a ≡ refused why → outOf a output ≡ output
+stayed (good w) output why e = absurd (refused≢good (sym e))
+stayed (refused r) output why e = refl
+
+-- ---- for every call
+
+pub run-promise : (s bits starts : List ℕ) (n : ℕ) (output work : List ℕ) → RunPromise s bits starts n output work (runCall s bits starts n output work)
+unfolding runCall
+run-promise s bits starts n output work =
+    let room = length output in
+    let e = ends s bits starts n room work in
+    record {
+      accepted = λ k. (accepts s bits starts n room work k e, accepted s bits starts n room work k e);
+      traced = λ k. traces s bits starts n room work output k e;
+      early = λ why l. earlier s bits starts n room work why l e;
+      ring = λ x. (rings s bits starts n room work x e, ringed s bits starts n room work x e);
+      inexact = λ x. (wrong s bits starts n room work x e, wronged s bits starts n room work x e);
+      short = λ k. (shorts s bits starts n room work k e, shorted s bits starts n room work k e);
+      stays = λ why. stayed (trace (length work) s n bits starts room) output why;
+      cleared = refl;
+    }

@@ -1,0 +1,15 @@
+pub mod Turning
+pub mod ElementLaws
+pub mod TableLaws
+pub mod LeanTables
+pub mod GateLaws
+pub mod OrderLaws
+pub mod RingLaws
+pub mod PinLists
+pub mod RegisterLists
+pub mod RunLaws
+pub mod StageLaws
+pub mod FreeLaws
+pub mod CallLaws
+pub mod Exact
+pub mod Determined

@@ -1,0 +1,374 @@
+-- From the table to an order, or to the lowest input on a ring: what each stage leaves is what the next one asks. Assumes nothing.
+use Prim.Native.Nat.{ℕ, zero, suc, _+_, _-_, _≤_, _<_}
+use mathlib.Core.Path.{_≡_, refl, sym, ap, _∙_, subst}
+use mathlib.Core.Logic.{_⊎_, inl, inr, ⊎-elim}
+use mathlib.Core.Bool.{Bool, true, false, cond, _||_}
+use mathlib.Core.List.{List, map}
+use native.Mathlib.Omega.{arith}
+use native.Mathlib.Decide.{ℕ-discrete, decLe}
+use lib.ListN.{length, getD, set, drop, length-drop}
+use lib.Seq.{ext-getD, getD-drop}
+use lib.Dec.{T, eqb, ltb}
+use Rattle.laws.proofs.Regions.{region-ext}
+use Rattle.calculus.specs.Answer.{Answer, good, refuse, _>>=_}
+use Rattle.calculus.specs.Net.{Interface, Element, Net}
+use Rattle.calculus.specs.Lean.{lean}
+use Rattle.calculus.specs.Translate.{saidOf, outOf}
+use Rattle.circuit_theorems.proofs.Rings.{has}
+use Rattle.circuit_theorems.proofs.Terminals.{pin-ins}
+use Rattle.calculus.specs.Lean.{isPin}
+use Rattle.calculus.specs.Record.{All}
+use Rattle.calculus.specs.Inputs.{madeAt}
+use Rattle.circuit_theorems.specs.Formed.{Shown}
+use Rattle.trace_theorems.proofs.Sources.{out-terminal}
+use Rattle.trace_steps.specs.Pins.{isIn}
+use Rattle.memory.specs.Map.{region, terminalOf, netIn}
+use Rattle.calculus.specs.NetRead.{Known}
+use Rattle.netlist.proofs.InMemory.{kind-here}
+use Rattle.lean.specs.Table.{Within, entry, Whole}
+use Rattle.lean.proofs.TableLaws.{within-none, within-then, within-set, entry-same, entry-other}
+use Rattle.lean.proofs.LeanLaws.{kinds-low}
+use Rattle.trace_calculus.specs.Trace.{terminals, inputs, OnRing, noRing, byte, ran}
+use Rattle.trace_theorems.proofs.TraceRings.{accepted}
+use Rattle.trace_steps.specs.Turns.{turns, Looped}
+use Rattle.trace_steps.specs.Steps.{firstIn, freeIn, markOne, Looks, Ordered, Register}
+use Rattle.trace_steps.specs.Names.{Namable, Named}
+use Rattle.trace_steps.specs.Links.{Linked, Pinned}
+use Rattle.trace_steps.specs.Sweeps.{sweeping, Sweepable, sweeps, Settled}
+use Rattle.trace_steps.specs.Pins.{Pins, Listable}
+use Rattle.trace_steps.specs.Ticks.{InOrder}
+use Rattle.trace_steps.proofs.Laws.{first-low}
+use Rattle.trace_steps.proofs.SweepLaws.{looks-table}
+use Rattle.trace_rings.specs.Lists.{looksIn, Choosable, Chosen}
+use Rattle.trace_rings.specs.Rings.{mark, rest, met, InputOf, Rest, Fresh, Found}
+use Rattle.trace.specs.Tables.{Entry, Tabled, KeptRoots, Looking}
+use Rattle.translator.specs.Made.{Keeps}
+use Rattle.translator.proofs.Keeping.{later-keeps}
+use Rattle.translator.specs.Said.{Says}
+use Rattle.trace.specs.Said.{refusedAs, Leaned, Above, Made, freed, Runnable, Safe, Freed}
+use Rattle.translator.specs.declared.Answer as code
+use Rattle.trace.proofs.Turning.{turns-keep}
+use Rattle.trace.proofs.GateLaws.{gate-at, gate-looks, looks-looking, looking-looks, input-low}
+use Rattle.trace.proofs.OrderLaws.{Stage, End, settled-end}
+use Rattle.trace.proofs.RingLaws.{Ground, start, none-left, left-rest, left-fresh, place-is}
+use Rattle.trace.proofs.RegisterLists.{register-of}
+use Rattle.trace.proofs.PinLists.{upTo, upto-is, pinAt, number-pin, out-shown}
+use Rattle.trace.proofs.ElementLaws.{within-made, made-within, in-terminal}
+use Rattle.trace.proofs.LeanTables as tables
+
+-- ---- what stays
+
+pub above-none : (w : List ℕ) → Above w w
+above-none w = record { size = refl; above = λ j l. refl }
+
+pub above-then : {u v w : List ℕ} → Above u v → Above v w → Above u w
+above-then a b = record { size = b .size ∙ a .size; above = λ j l. b .above j l ∙ a .above j l }
+
+pub above-within : {u w : List ℕ} → Within u w → Above u w
+above-within i = record { size = i .size; above = i .above }
+
+above-later : (u w : List ℕ) → Above u w → drop 32768 w ≡ drop 32768 u
+above-later u w h =
+    ext-getD 0 (drop 32768 w) (drop 32768 u) (length-drop 32768 w ∙ ap (λ (n : ℕ). n - 32768) (h .size) ∙ sym (length-drop 32768 u))
+    (λ i l. getD-drop 32768 w i 0 ∙ h .above (32768 + i) (omega arith) ∙ sym (getD-drop 32768 u i 0))
+
+pub above-keeps : (u w : List ℕ) → 32768 ≤ length u → Above u w → Keeps u w
+above-keeps u w l h = later-keeps u w l (subst (λ (n : ℕ). 32768 ≤ n) (sym (h .size)) l) (above-later u w h)
+
+-- the table and the pins stay
+pub tabled-same : (u w : List ℕ) (m : Net) (end pins : ℕ) → length w ≡ length u → ((x : ℕ) → x < 8192 → getD w x 0 ≡ getD u x 0) → ((x : ℕ) → 18944 ≤ x → x < 19072 → getD w x 0 ≡ getD u x 0)
+    → Tabled u m end pins → Tabled w m end pins
+tabled-same u w m end pins z f g t =
+    let few = t .few in
+    let size = t .size in
+    let fp = t .few-pins in
+    record {
+      size = omega arith;
+      formed = t .formed;
+      few = t .few;
+      low = t .low;
+      entries = λ x h. (let l = t .low x h in subst (λ (v : ℕ). Entry m x v) (sym (f x (omega arith))) (t .entries x h));
+      others = λ x l. ⊎-elim inl (λ h. inr (subst (λ (v : ℕ). (v < 8192) ⊎ (v ≡ 65527)) (sym (f x (omega arith))) h)) (t .others x l);
+      few-pins = t .few-pins;
+      shown = ap (map terminalOf) (region-ext 18944 pins u w (omega arith) (omega arith) (λ j l h. g j l (omega arith))) ∙ t .shown;
+    }
+
+-- a pin's terminal is below 8,192
+pub pin-below : (w : List ℕ) (m : Net) (end pins : ℕ) → Tabled w m end pins → (j : ℕ) → j < pins → pinAt w j < 8192
+pin-below w m end pins t j l = by (isIn w j) refl
+  where
+    shown : upTo w pins ≡ m .pins
+    shown = let a = t .few-pins in let c = t .size in upto-is w pins (omega arith) ∙ t .shown
+
+    low : T (has (terminals (m .elements)) (pinAt w j)) → pinAt w j < 8192
+    low h = let a = t .low (pinAt w j) h in let c = t .few in omega arith
+
+    by : (b : Bool) → isIn w j ≡ b → pinAt w j < 8192
+    by true e =
+        let h : T (isPin (m .pins) (pinAt w j)) = subst (λ (ps : Interface). T (isPin ps (pinAt w j))) shown (number-pin w pins j l e) in
+        let k : 1 ≤ madeAt (m .elements) (pinAt w j) = (let a = pin-ins (m .pins) (pinAt w j) h in let c = t .formed .reached (pinAt w j) in omega arith) in
+        let r = made-within (m .elements) (pinAt w j) k in
+        low (in-terminal (r .0) (pinAt w j) (r .1) (r .2) (let c = r .3 in omega arith))
+    by false e = low (out-terminal (m .elements) (pinAt w j) (out-shown (m .elements) w pins j l e (subst (λ (ps : Interface). All (Shown (m .elements)) ps) (sym shown) (t .formed .shown))))
+
+-- ---- the table
+
+module _ (u : List ℕ) (e k p : ℕ) (q : Leaned u e k p) where
+  pub namable : Namable u e
+  namable = record {
+    size = q .whole .ready .size;
+    few = q .whole .ready .few-elements;
+    low = kinds-low u e k p (q .whole);
+    known = kind-here u e k p (q .whole .ready) (q .known);
+  }
+
+  pub made-of : (w₁ : List ℕ) (end : ℕ) → Named u e w₁ end → (w₂ : List ℕ) → Linked w₁ end w₂ → (w₃ : List ℕ) → Pinned w₂ p w₃ → Made u e k p w₃ end
+  made-of w₁ end n w₂ c w₃ d =
+      let f = tables.linkable u e k p (q .whole) (q .known) w₁ end n .few in
+      let g = q .whole .ready .few-pins in
+      record {
+        tabled = tables.tabled u e k p (q .whole) (q .known) w₁ end n w₂ c w₃ d;
+        roots = tables.kept-roots u e k p (q .whole) (q .known) w₁ end n w₂ c w₃ d;
+        kept = record { size = d .size ∙ c .size ∙ n .size; above = λ j l. d .above j (omega arith) ∙ c .above j (omega arith) ∙ n .above j (omega arith) };
+      }
+
+-- ---- the list and the marks
+
+module _ (w₃ : List ℕ) (m : Net) (end pins : ℕ) (t : Tabled w₃ m end pins) (k : KeptRoots w₃ m end) where
+  pub choosable : Choosable w₃ end
+  choosable = record {
+    size = t .size;
+    few = t .few;
+    looks = λ x l e. (let r = looks-looking w₃ m end pins t x l k e in let f = t .few in gate-looks w₃ m end pins t x (omega arith) (gate-at w₃ m end pins t x (r .0) (r .1)));
+  }
+
+  module _ (w₄ : List ℕ) (total : ℕ) (c : Chosen w₃ end w₄ total) where
+    pub marking-size : 32768 ≤ length w₄
+    marking-size = let a = c .size in let b = t .size in omega arith
+
+    record Marking (j : ℕ) (w : List ℕ) : Type 0 where
+      pub within : Within w₄ w
+      pub done : (x : ℕ) → x < j → mark w x ≡ byte (freeIn w₄ x)
+      pub others : (x : ℕ) → j ≤ x → mark w x ≡ mark w₄ x
+
+    mark-all : (n : ℕ) → n ≤ 8192 → Marking n (turns markOne n 0 w₄)
+    mark-all n few = turns-keep markOne Marking w₄ (record { within = within-none w₄; done = λ x l. absurd (omega arith); others = λ x l. refl }) n step
+      where
+        step : (j : ℕ) (w : List ℕ) → j < n → Marking j w → Marking (suc j) (markOne j w)
+        step j w l q =
+            let e = q .within .below j (omega arith) in
+            let s = q .within .size in
+            let b = marking-size in
+            let same : freeIn w j ≡ freeIn w₄ j = ap (λ (v : ℕ). eqb v j || (eqb v 65520 || (eqb v 65521 || eqb v 65526))) e in
+            record {
+              within = within-then (q .within) (within-set w j (byte (freeIn w j)) (omega arith));
+              done = λ x h. elim (ℕ-discrete x j) [
+                | yes z ↦ ap (mark (markOne j w)) z ∙ entry-same w j (byte (freeIn w j)) (omega arith) (omega arith) ∙ ap byte same ∙ ap (λ (y : ℕ). byte (freeIn w₄ y)) (sym z)
+                | no d ↦ entry-other w j x (byte (freeIn w j)) d ∙ q .done x (omega arith)
+              ];
+              others = λ x h. entry-other w j x (byte (freeIn w j)) (λ z. omega arith) ∙ q .others x (omega arith);
+            }
+
+    module _ (u : List ℕ) (l : Looped markOne end w₄ u) where
+      marked : Marking end u
+      marked = subst (Marking end) (sym (l .whole)) (mark-all end (t .few))
+
+      same : (x : ℕ) → x < 8192 → getD u x 0 ≡ getD w₃ x 0
+      same x h = l .within .below x (omega arith) ∙ c .table x h
+
+      list-same : (i : ℕ) → i < total → rest u i ≡ rest w₄ i
+      list-same i h = let f = c .few in l .within .below (8192 + i) (omega arith)
+
+      pub tabled-u : Tabled u m end pins
+      tabled-u = tabled-same w₃ u m end pins (l .within .size ∙ c .size) same (λ x a b. l .within .below x b ∙ c .above x (omega arith)) t
+
+      listed-at : (i : ℕ) → i < total → T (has (terminals (m .elements)) (rest u i)) × Looking (getD u (rest u i) 0)
+      listed-at i h =
+          let a = c .each i h in
+          let r = looks-looking w₃ m end pins t (rest w₄ i) (a .0) k (a .1) in
+          let f = t .few in
+          subst (λ (x : ℕ). T (has (terminals (m .elements)) x) × Looking (getD u x 0)) (sym (list-same i h)) (r .0, subst Looking (sym (same (rest w₄ i) (omega (arith, a .0)))) (r .1))
+
+      pub ground : Ground u m end pins total
+      ground = record {
+        tabled = tabled-u;
+        few = c .few;
+        each = listed-at;
+        all = λ x h g. (let lo = t .low x h in let f = t .few in let r = c .all x lo (looking-looks w₃ m end pins t x k h (subst Looking (same x (omega arith)) g)) in (r .0, r .1, list-same (r .0) (r .1) ∙ r .2));
+        falling = λ i j a b. (let p = list-same i (omega arith) in let q = list-same j b in let z = c .falling i j a b in omega arith);
+        marks = λ x h. (let f = t .few in marked .done x h ∙ ap byte (ap (λ (v : ℕ). eqb v x || (eqb v 65520 || (eqb v 65521 || eqb v 65526))) (sym (l .within .below x (omega arith)))));
+        past = λ x h g. marked .others x h ∙ c .above (19072 + x) (omega arith) ∙ k .past x h g;
+      }
+
+      pub sweepable : Sweepable u total total
+      sweepable = record { size = tabled-u .size; few = let f = c .few in omega arith; some = omega arith; looks = start u m end pins total ground .looks }
+
+      pub above-u : Above w₃ u
+      above-u = record { size = l .within .size ∙ c .size; above = λ j a. l .within .above j a ∙ c .above j (omega arith) }
+
+-- ---- after the sweeps
+
+module _ (u : List ℕ) (m : Net) (end pins total : ℕ) (g : Ground u m end pins total) (w : List ℕ) (left : ℕ) (s : Settled u total w left) where
+  abbrev ended : End u total (start u m end pins total g) w left (total - left)
+  ended = settled-end u total (start u m end pins total g) w left (s .whole)
+
+  pub above-w : Above u w
+  above-w = record { size = ended .stage .size; above = ended .stage .above }
+
+  tabled-w : Tabled w m end pins
+  tabled-w = tabled-same u w m end pins (ended .stage .size) (ended .stage .table) (ended .stage .pins) (g .tabled)
+
+  -- ---- none left
+
+  module _ (z : left ≡ 0) where
+    abbrev st : Stage u total left 0 w 0 (total - left)
+    st = ended .stage
+
+    all-done : total - left ≡ total
+    all-done = omega arith
+
+    in-list : (j : ℕ) → j < total → (n : ℕ) × (n < total) × (rest u n ≡ met w j)
+    in-list j l = st .order j (let a = all-done in omega arith)
+
+    met-low : (j : ℕ) → j < total → met w j < 8192
+    met-low j l = let r = in-list j l in subst (λ (x : ℕ). x < 8192) (r .2) (start u m end pins total g .looks (r .0) (r .1) .low)
+
+    met-looks : (j : ℕ) → j < total → Looks u (met w j)
+    met-looks j l = let r = in-list j l in subst (λ (x : ℕ). Looks u x) (r .2) (start u m end pins total g .looks (r .0) (r .1))
+
+    apart-all : (i j : ℕ) → i < total → j < total → met w i ≡ met w j → i ≡ j
+    apart-all i j a b e = elim (ℕ-discrete i j) [
+      | yes q ↦ q
+      | no d ↦ (elim (decLe i j) [ yes l ↦ absurd (st .apart i j (omega arith) (let v = all-done in omega arith) e) | no l ↦ absurd (st .apart j i (omega arith) (let v = all-done in omega arith) (sym e)) ])
+    ]
+
+    -- what an output looks at does not come at its place or later
+    before : (j i x : ℕ) → j ≤ i → i < total → InputOf u (met w j) x → getD u x 0 ≡ met w i → ⊥
+    before j i x l h n e =
+        let v = all-done in
+        ⊎-elim
+        (λ q. let r = in-list i h in start u m end pins total g .loose (r .0) (r .1) (ap (mark u) (r .2 ∙ sym e) ∙ q))
+        (λ q. let y = apart-all (q .0) i (omega (arith, q .1)) h (q .2 ∙ e) in omega (arith, q .1)) (st .sourced j x (omega arith) n)
+
+    first-at : (j : ℕ) → j < total → getD w (firstIn w (met w j)) 0 ≡ getD u (firstIn u (met w j)) 0
+    first-at j l =
+        let o = met-low j l in
+        let e : firstIn w (met w j) ≡ firstIn u (met w j) = ap (λ (a : ℕ). cond (ltb a 65525) (met w j - 2) (met w j - 1)) (st .table (met w j) o) in
+        ap (λ (a : ℕ). getD w a 0) e ∙ st .table (firstIn u (met w j)) (first-low u (met w j) o)
+
+    in-order : InOrder w total
+    in-order = record {
+      ordered = record { size = tabled-w .size; few = let f = g .few in omega arith; looks = λ j l. looks-table (st .size) (st .table) (met-looks j l) };
+      apart = apart-all;
+      first = λ j i l h e. before j i (firstIn u (met w j)) l h (inl refl) (sym (first-at j (omega arith)) ∙ e);
+      last = λ j i l h e. (let o = met-low j (omega arith) in before j i (met w j - 1) l h (inr refl) (sym (st .table (met w j - 1) (omega arith)) ∙ e));
+    }
+
+    pub runnable : Runnable w m end total pins
+    runnable = record {
+      tabled = tabled-w;
+      order = in-order;
+      listed = λ j l. (let r = in-list j l in let a = subst (λ (x : ℕ). T (has (terminals (m .elements)) x) × Looking (getD u x 0)) (r .2) (g .each (r .0) (r .1)) in (a .0, subst Looking (sym (st .table (met w j) (met-low j l))) (a .1)));
+      all = λ x h q.
+          let lo = g .tabled .low x h in
+          let f = g .tabled .few in
+          let r = g .all x h (subst Looking (st .table x (omega arith)) q) in
+          let v = all-done in
+          ⊎-elim (λ a. absurd (none (a .0) (a .1))) (λ a. (a .0, omega (arith, a .1), a .2 ∙ r .2)) (st .cover (r .0) (r .1));
+      free = accepted m (g .tabled .formed) (none-left u m end pins total g w left (total - left) ended z);
+    }
+      where
+        none : (i : ℕ) → (i < 0) ⊎ ((0 ≤ i) × (i < left)) → ⊥
+        none i (inl l) = omega arith
+        none i (inr (a, b)) = omega arith
+
+    pub safe : (n : ℕ) → n ≤ 65535 → Safe w end total pins n
+    safe n h = record {
+      size = tabled-w .size;
+      few = tabled-w .few;
+      order = in-order .ordered;
+      registers = record { size = tabled-w .size; few = tabled-w .few; register = λ x l e. register x l e };
+      pins-low = record { size = tabled-w .size; few = tabled-w .few-pins; low = λ j l. pin-below w m end pins tabled-w j l };
+      short = h;
+    }
+      where
+        register : (x : ℕ) → x < end → getD w x 0 ≡ 65521 → Register w x
+        register x l e =
+            let r = register-of w m end pins tabled-w x l e in
+            let i : r .0 ≡ x - 1 = omega (arith, r .2) in
+            let f = tabled-w .few in
+            record {
+              low = omega arith;
+              some = omega (arith, r .2);
+              source = subst (λ (y : ℕ). getD w y 0 < 8192) i (input-low w m end pins tabled-w (r .0) (within-made _ (r .0) (r .1) (omega arith) (omega arith)));
+            }
+
+    pub no-ring : noRing m (inputs (m .elements)) ≡ good tt
+    no-ring = none-left u m end pins total g w left (total - left) ended z
+
+  -- ---- some left
+
+  module _ (some : 1 ≤ left) where
+    pub rest-ready : Rest w left × Fresh w 2
+    rest-ready = (left-rest u m end pins total g w left (total - left) ended, left-fresh u m end pins total g w left (total - left) ended)
+
+    pub ring-found : (v : List ℕ) (x : ℕ) → Found w left v x → noRing m (inputs (m .elements)) ≡ refuse 19 x
+    ring-found v x f = place-is u m end pins total g w left (total - left) ended x some (f .place)
+
+-- ---- what is said
+
+stop : {A : Type 0} (a : Answer (Unit {0})) (k : Unit {0} → Answer A) (n x : ℕ) → a ≡ refuse n x → (a >>= k) ≡ refuse n x
+stop a k n x e = ap (λ (z : Answer (Unit {0})). z >>= k) e
+
+go-on : {A : Type 0} (a : Answer (Unit {0})) (k : Unit {0} → Answer A) → a ≡ good tt → (a >>= k) ≡ k tt
+go-on a k e = ap (λ (z : Answer (Unit {0})). z >>= k) e
+
+pub ring-says : (m : Net) (n : ℕ) (bits starts out : List ℕ) (x : ℕ) → noRing m (inputs (m .elements)) ≡ refuse 19 x → Says (refusedAs 19 x) out out (ran m n bits starts (length out))
+unfolding ran
+ring-says m n bits starts out x e =
+    let f = stop (noRing m (inputs (m .elements))) _ 19 x e in
+    record { said = sym (ap saidOf f); wrote = sym (ap (λ (a : Answer (List ℕ)). outOf a out) f) }
+
+pub ran-freed : (m : Net) (n : ℕ) (bits starts : List ℕ) (room : ℕ) → noRing m (inputs (m .elements)) ≡ good tt → ran m n bits starts room ≡ freed m n bits starts room
+unfolding ran freed
+ran-freed m n bits starts room e = go-on (noRing m (inputs (m .elements))) _ e
+
+-- ---- all stages
+
+module _ (u : List ℕ) (e k p : ℕ) (w₃ : List ℕ) (end : ℕ) (md : Made u e k p w₃ end) (w₄ : List ℕ) (total : ℕ) (ch : Chosen w₃ end w₄ total) (w₅ : List ℕ) (mk : Looped markOne end w₄ w₅) where
+  abbrev L : Net
+  L = lean (netIn u e k p)
+
+  pub list-ready : Choosable w₃ end
+  list-ready = choosable w₃ L end p (md .tabled) (md .roots)
+
+  grounded : Ground w₅ L end p total
+  grounded = ground w₃ L end p (md .tabled) (md .roots) w₄ total ch w₅ mk
+
+  pub settle-ready : Sweepable w₅ total total
+  settle-ready = sweepable w₃ L end p (md .tabled) (md .roots) w₄ total ch w₅ mk
+
+  large : 32768 ≤ length u
+  large = let a = md .tabled .size in let b = md .kept .size in omega arith
+
+  module _ (w₆ : List ℕ) (left : ℕ) (st : Settled w₅ total w₆ left) where
+    kept₆ : Above u w₆
+    kept₆ = above-then (md .kept) (above-then (above-u w₃ L end p (md .tabled) (md .roots) w₄ total ch w₅ mk) (above-w w₅ L end p total grounded w₆ left st))
+
+    pub lowest-ready : 1 ≤ left → Rest w₆ left × Fresh w₆ 2
+    lowest-ready l = rest-ready w₅ L end p total grounded w₆ left st l
+
+    pub ring-ran : 1 ≤ left → (w₇ : List ℕ) (x : ℕ) → Found w₆ left w₇ x → (n : ℕ) (bits starts out : List ℕ) → Says (refusedAs 19 x) out out (ran L n bits starts (length out)) × Keeps u w₇
+    ring-ran l w₇ x f n bits starts out = (
+      ring-says L n bits starts out x (ring-found w₅ L end p total grounded w₆ left st l w₇ x f),
+      above-keeps u w₇ large (above-then kept₆ (record { size = f .kept .size; above = f .kept .above })),
+    )
+
+    pub free-ready : left ≡ 0 → (n : ℕ) → n ≤ 65535 → Safe w₆ end total p n
+    free-ready z n h = safe w₅ L end p total grounded w₆ left st z n h
+
+    pub free-ran : left ≡ 0 → (n : ℕ) (bits starts out₀ w₇ out : List ℕ) (r : code.Answer) → Freed w₆ end total p n bits starts out₀ w₇ out r → Says r out₀ out (ran L n bits starts (length out₀)) × Keeps u w₇
+    free-ran z n bits starts out₀ w₇ out r f = (
+      subst (Says r out₀ out) (sym (ran-freed L n bits starts (length out₀) (no-ring w₅ L end p total grounded w₆ left st z))) (f .says L (runnable w₅ L end p total grounded w₆ left st z)),
+      above-keeps u w₇ large (above-then kept₆ (f .kept)),
+    )

@@ -1,0 +1,124 @@
+-- The tests, and then one stage after the other. Assumes nothing.
+use native.Mathlib.Omega.{arith}
+use mathlib.Core.Path.{_≡_, refl}
+use Prim.Native.Nat.{ℕ, _-_, _*_, _≤_}
+use borrow.Author.Needs.{needs}
+use Rattle.trace_steps.specs.Pins.{ins}
+use Rattle.trace.proofs.FreeLaws.{said-no, said-yes, mul-few, pins₁, ins-few₁, freed-20, freed-17, wake-ready, run-ready, freed-written}
+use Rattle.trace.proofs.free.run.Statement.{statement}
+use Rattle.trace.proofs.free.run.Tie as tie
+
+input-pins-requires : tie.Need-input-pins-requires
+input-pins-requires c κs =
+    let s = c .before .before .before .before .before .before .before .before .before in
+    let a = s .args in
+    let g = c .before .before .before .registers in
+    pins₁ (a .work .now) (a .end) (a .settled) (a .pins) (a .ticks) (a .inputs .now) (a .starts .now) (a .out .now) (s .pre) (g .last .0) (g .result) (g .ensures) (ins (g .last .0) (a .pins)) refl
+
+sub-outs : tie.Need-sub-outs
+sub-outs c =
+    let s = c .before .before .before .before .before .before .before .before .before .before in
+    let a = s .args in
+    let g = c .before .before .before .before .registers in
+    let i = c .input-pins in
+    ins-few₁ (a .work .now) (a .end) (a .settled) (a .pins) (a .ticks) (a .inputs .now) (a .starts .now) (a .out .now) (s .pre) (g .last .0) (g .result) (g .ensures) (i .result) (i .ensures)
+
+mul-reads : tie.Need-mul-reads
+mul-reads c =
+    let s = c .before .before .before .before .before .before .before .before .before .before in
+    let a = s .args in
+    let g = c .before .before .before .before .registers in
+    let i = c .input-pins in
+    let f = s .pre .pins-low .few in
+    let h = ins-few₁ (a .work .now) (a .end) (a .settled) (a .pins) (a .ticks) (a .inputs .now) (a .starts .now) (a .out .now) (s .pre) (g .last .0) (g .result) (g .ensures) (i .result) (i .ensures) in
+    omega (arith, mul-few (a .ticks) (i .result) (s .pre .short) (omega arith))
+
+mul-writes : tie.Need-mul-writes
+mul-writes c =
+    let s = c .before .before .before .before .before .before .before .before .before .before in
+    let a = s .args in
+    let g = c .before .before .before .before .registers in
+    let i = c .input-pins in
+    let f = s .pre .pins-low .few in
+    let h = ins-few₁ (a .work .now) (a .end) (a .settled) (a .pins) (a .ticks) (a .inputs .now) (a .starts .now) (a .out .now) (s .pre) (g .last .0) (g .result) (g .ensures) (i .result) (i .ensures) in
+    omega (arith, mul-few (a .ticks) (a .pins - i .result) (s .pre .short) (omega arith))
+
+returns : tie.Need-returns
+returns c =
+    let x = c .before in
+    let s = x .before .before .before .before .before .before .before .before .before .before .before .before in
+    let a = s .args in
+    let g = x .before .before .before .before .before .before .registers in
+    let i = x .before .before .input-pins in
+    let t = x .before .lent in
+    rw (c .refused .ensures) (freed-20 (a .work .now) (a .end) (a .settled) (a .pins) (a .ticks) (a .inputs .now) (a .starts .now) (a .out .now) (s .pre) (g .last .0) (g .result) (g .ensures) (i .result) (i .ensures) (said-no (t .result) (t .ensures) (x .if1 .taken)))
+
+returns-2 : tie.Need-returns-2
+returns-2 c =
+    let x = c .before in
+    let s = x .before .before .before .before .before .before .before .before .before .before .before .before .before in
+    let a = s .args in
+    let g = x .before .before .before .before .before .before .before .registers in
+    let i = x .before .before .before .input-pins in
+    let t = x .before .before .lent in
+    let e = said-yes (t .result) (t .ensures) (x .before .if1 .left) in
+    rw (c .refused2 .ensures) (freed-17 (a .work .now) (a .end) (a .settled) (a .pins) (a .ticks) (a .inputs .now) (a .starts .now) (a .out .now) (s .pre) (g .last .0) (g .result) (g .ensures) (i .result) (i .ensures) e (x .if2 .taken))
+
+wake-requires : tie.Need-wake-requires
+wake-requires c κs =
+    let s = c .before .before .before .before .before .before .before .before .before .before .before .before .before .before .before .before .before .before in
+    let a = s .args in
+    let g = c .before .before .before .before .before .before .before .before .before .before .before .before .registers in
+    let i = c .before .before .before .before .before .before .before .before .input-pins in
+    let t = c .before .before .before .before .before .before .before .lent in
+    let e = said-yes (t .result) (t .ensures) (c .before .before .before .before .before .before .if1 .left) in
+    let n = c .before .before .before .begin in
+    wake-ready (a .work .now) (a .end) (a .settled) (a .pins) (a .ticks) (a .inputs .now) (a .starts .now) (a .out .now) (s .pre) (g .last .0) (g .result) (g .ensures) (i .result) (i .ensures) e (c .before .before .before .before .before .if2 .left) (n .last .0) (n .ensures)
+
+run-requires : tie.Need-run-requires
+run-requires c κs =
+    let s = c .before .before .before .before .before .before .before .before .before .before .before .before .before .before .before .before .before .before .before .before .before .before .before in
+    let a = s .args in
+    let g = c .before .before .before .before .before .before .before .before .before .before .before .before .before .before .before .before .before .registers in
+    let i = c .before .before .before .before .before .before .before .before .before .before .before .before .before .input-pins in
+    let t = c .before .before .before .before .before .before .before .before .before .before .before .before .lent in
+    let e = said-yes (t .result) (t .ensures) (c .before .before .before .before .before .before .before .before .before .before .before .if1 .left) in
+    let n = c .before .before .before .before .before .before .before .before .begin in
+    let k = c .before .before .before .before .wake in
+    run-ready (a .work .now) (a .end) (a .settled) (a .pins) (a .ticks) (a .inputs .now) (a .starts .now) (a .out .now) (s .pre) (g .last .0) (g .result) (g .ensures) (i .result) (i .ensures) e (c .before .before .before .before .before .before .before .before .before .before .if2 .left) (n .last .0) (n .ensures) (k .last .0) (k .ensures)
+
+returns-3 : tie.Need-returns-3
+returns-3 c =
+    let s = c .before .before .before .before .before .before .before .before .before .before .before .before .before .before .before .before .before .before .before .before .before .before .before .before .before .before .before .before in
+    let a = s .args in
+    let g = c .before .before .before .before .before .before .before .before .before .before .before .before .before .before .before .before .before .before .before .before .before .before .registers in
+    let i = c .before .before .before .before .before .before .before .before .before .before .before .before .before .before .before .before .before .before .input-pins in
+    let t = c .before .before .before .before .before .before .before .before .before .before .before .before .before .before .before .before .before .lent in
+    let e = said-yes (t .result) (t .ensures) (c .before .before .before .before .before .before .before .before .before .before .before .before .before .before .before .before .if1 .left) in
+    let n = c .before .before .before .before .before .before .before .before .before .before .before .before .before .begin in
+    let k = c .before .before .before .before .before .before .before .before .before .wake in
+    let r = c .before .before .before .before .run in
+    freed-written (a .work .now) (a .end) (a .settled) (a .pins) (a .ticks) (a .inputs .now) (a .starts .now) (a .out .now) (s .pre) (g .last .0) (g .result) (g .ensures) (i .result) (i .ensures) e (c .before .before .before .before .before .before .before .before .before .before .before .before .before .before .before .if2 .left) (n .last .0) (n .ensures) (k .last .0) (k .ensures) (r .last .0) (r .last .1 .1 .0) (r .ensures)
+
+pub run-spec : {M : Type 1} → statement M
+run-spec =
+    tie.close
+    (tie.spec
+    (λ c κs. search needs)
+    input-pins-requires
+    sub-outs
+    mul-reads
+    mul-writes
+    (λ c κs. search needs)
+    (λ c κs. search needs)
+    (λ c. search needs)
+    returns
+    (λ c κs. search needs)
+    (λ c. search needs)
+    returns-2
+    (λ c κs. search needs)
+    wake-requires
+    run-requires
+    (λ c. search needs)
+    (λ c. search needs)
+    returns-3)

@@ -1,0 +1,79 @@
+-- What a run in the working memory answers and leaves, in the terms of the definitions. Assumes nothing.
+use Prim.Native.Nat.{ℕ, _*_, _≤_, _<_}
+use mathlib.Core.Path.{_≡_}
+use mathlib.Core.Bool.{Bool, _&&_}
+use mathlib.Core.List.{List}
+use lib.Dec.{T, eqb, leb}
+use lib.ListN.{length, getD}
+use Rattle.calculus.specs.Answer.{Answer, good, _>>=_, need}
+use Rattle.calculus.specs.Net.{Net}
+use Rattle.calculus.specs.Lean.{lean}
+use Rattle.calculus.specs.Record.{All}
+use Rattle.circuit_theorems.proofs.Rings.{has}
+use Rattle.memory.specs.Map.{netIn}
+use Rattle.calculus.specs.NetRead.{Known}
+use Rattle.lean.specs.Table.{Whole}
+use Rattle.trace_calculus.specs.Trace.{OnRing, terminals, inPins, outPins, registers, allBits, run, givenBits, startBits, rows}
+use Rattle.trace_steps.specs.Steps.{Ordered}
+use Rattle.trace_steps.specs.Pins.{Pins, Listable}
+use Rattle.trace_steps.specs.Ticks.{InOrder}
+use Rattle.trace_rings.specs.Rings.{met}
+use Rattle.translator.specs.Said.{Says}
+use Rattle.trace.specs.Tables.{Tabled, KeptRoots, Looking}
+use Rattle.translator.specs.declared.Answer as code
+use Rattle.translator.specs.declared.Answer.the-variants as answer
+
+-- a refusal that names no types
+abbrev pub refusedAs : ℕ → ℕ → code.Answer
+refusedAs number place = answer.Refused (record { number = number; place = place; wanted = 0; found = 0 })
+
+-- ---- the stages
+
+-- a whole netlist stands in the memory with its roots, and its parts are of the seven
+pub record Leaned (w : List ℕ) (elements wires pins : ℕ) : Type 0 where
+  pub whole : Whole w elements wires pins
+  pub known : All Known (netIn w elements wires pins .elements)
+
+-- what stays from 27,264 on
+pub record Above (u w : List ℕ) : Type 0 where
+  pub size : length w ≡ length u
+  pub above : (j : ℕ) → 27264 ≤ j → getD w j 0 ≡ getD u j 0
+
+-- the table by terminal is made
+pub record Made (u : List ℕ) (elements wires pins : ℕ) (w : List ℕ) (end : ℕ) : Type 0 where
+  pub tabled : Tabled w (lean (netIn u elements wires pins)) end pins
+  pub roots : KeptRoots w (lean (netIn u elements wires pins)) end
+  pub kept : Above u w
+
+-- input and start bits are of the exact number, and bits
+abbrev pub lentIn : List ℕ → List ℕ → ℕ → ℕ → Bool
+lentIn bits starts reads regs = eqb (length bits) reads && eqb (length starts) regs && (allBits bits && allBits starts)
+
+-- `ran`, once there is no ring: 20, then 17
+unfoldable pub freed : Net → ℕ → List ℕ → List ℕ → ℕ → Answer (List ℕ)
+freed m n bits starts room = do
+  _ ← need (lentIn bits starts (n * length (inPins (m .pins))) (length (registers (m .elements)))) 20 0
+  _ ← need (leb (n * length (outPins (m .pins))) room) 17 (n * length (outPins (m .pins)))
+  good (rows (run m (givenBits (m .pins) bits) (startBits (m .elements) starts)) (outPins (m .pins)) 0 n)
+
+-- what a run asks of the memory, whatever netlist stands there
+pub record Safe (w : List ℕ) (end settled pins ticks : ℕ) : Type 0 where
+  pub size : 32768 ≤ length w
+  pub few : end ≤ 8192
+  pub order : Ordered w settled
+  pub registers : Listable w end
+  pub pins-low : Pins w pins
+  pub short : ticks ≤ 65535
+
+-- the netlist m stands in the table, and all its gates in an order
+pub record Runnable (w : List ℕ) (m : Net) (end settled pins : ℕ) : Type 0 where
+  pub tabled : Tabled w m end pins
+  pub order : InOrder w settled
+  pub listed : (j : ℕ) → j < settled → T (has (terminals (m .elements)) (met w j)) × Looking (getD w (met w j) 0)
+  pub all : (x : ℕ) → T (has (terminals (m .elements)) x) → Looking (getD w x 0) → (j : ℕ) × (j < settled) × (met w j ≡ x)
+  pub free : (x : ℕ) → OnRing m x → ⊥
+
+-- it is run, whatever netlist it is
+pub record Freed (u : List ℕ) (end settled pins ticks : ℕ) (bits starts out₀ w out : List ℕ) (r : code.Answer) : Type 0 where
+  pub kept : Above u w
+  pub says : (m : Net) → Runnable u m end settled pins → Says r out₀ out (freed m ticks bits starts (length out₀))

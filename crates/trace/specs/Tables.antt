@@ -1,0 +1,45 @@
+-- The table by terminal and the pins in the working memory say the same as a lean netlist. Assumes nothing.
+use Prim.Native.Nat.{ℕ, _+_, _≤_, _<_}
+use mathlib.Core.Path.{_≡_}
+use mathlib.Core.Logic.{_⊎_}
+use mathlib.Core.Bool.{false}
+use mathlib.Core.List.{List, map}
+use lib.ListN.{length, getD}
+use lib.Dec.{T}
+use Rattle.calculus.specs.Terms.{partAt}
+use Rattle.calculus.specs.Net.{point, part, Net}
+use Rattle.calculus.specs.Lean.{isPin}
+use Rattle.calculus.specs.Inputs.{isOut}
+use Rattle.circuit_theorems.specs.Formed.{Formed}
+use Rattle.trace_calculus.specs.Trace.{In, pin, from, made, source, terminals}
+use Rattle.circuit_theorems.proofs.Rings.{has}
+use Rattle.memory.specs.Map.{region, terminalOf}
+
+-- the entry of terminal x: a pin has itself, another input the output that its wire comes from, an output 65,520 and its element's kind
+pub data Entry (m : Net) (x : ℕ) : ℕ → Type 0 where
+  of-pin : T (isPin (m .pins) x) → isOut (m .elements) x ≡ false → Entry m x x
+  of-wire : (y : ℕ) → source m x ≡ from y → isOut (m .elements) x ≡ false → T (isOut (m .elements) y) → Entry m x y
+  of-point : (i : ℕ) → In (point i) (m .elements) → i + 1 ≡ x → Entry m x 65527
+  of-part : (p i : ℕ) → In (part p i) (m .elements) → i + partAt p .inputs ≡ x → p < 7 → Entry m x (65520 + p)
+
+-- an entry of an output that looks at something: a point's, or a gate's
+abbrev pub Looking : ℕ → Type 0
+Looking v = (v ≡ 65527) ⊎ ((65521 < v) × (v < 65526))
+
+-- the netlist m, whose terminals are below `end`, stands in the table from 0 on and among the pins
+pub record Tabled (w : List ℕ) (m : Net) (end pins : ℕ) : Type 0 where
+  pub size : 32768 ≤ length w
+  pub formed : Formed m
+  pub few : end ≤ 8192
+  pub low : (x : ℕ) → T (has (terminals (m .elements)) x) → x < end
+  pub entries : (x : ℕ) → T (has (terminals (m .elements)) x) → Entry m x (getD w x 0)
+  -- what belongs to a point that is not kept
+  pub others : (x : ℕ) → x < end → T (has (terminals (m .elements)) x) ⊎ ((getD w x 0 < 8192) ⊎ (getD w x 0 ≡ 65527))
+  pub few-pins : pins ≤ 128
+  pub shown : map terminalOf (region w 18944 pins) ≡ m .pins
+
+-- of the points' outputs just those that are kept are their own roots, by the table of roots from 19,072 on
+pub record KeptRoots (w : List ℕ) (m : Net) (end : ℕ) : Type 0 where
+  pub kept : (x : ℕ) → x < end → getD w x 0 ≡ 65527 → getD w (19072 + x) 0 ≡ x → T (has (terminals (m .elements)) x)
+  pub rooted : (x : ℕ) → T (has (terminals (m .elements)) x) → getD w x 0 ≡ 65527 → getD w (19072 + x) 0 ≡ x
+  pub past : (x : ℕ) → end ≤ x → x < 8192 → getD w (19072 + x) 0 ≡ 0

@@ -1,0 +1,70 @@
+// A recorded trace run through the lean netlist that stands in the working memory. What stands where during a run:
+//   0       8,192  by input terminal, the terminal whose bit it has (itself for a pin); by output terminal, 65,520 and its element's kind
+//   8,192   5,120  the outputs that are not settled yet; afterwards the registers' outputs by rising number
+//   13,824  5,120  the order: the outputs that are settled, each behind those that it looks at; in the search, those that are met
+//   18,944    128  the pins, each output pin's root in its place
+//   19,072  8,192  the roots; then by terminal a mark; then by terminal its bit
+use crate::free;
+use crate::tables;
+use trace_rings::list;
+use trace_rings::ring;
+use trace_steps::order;
+use translator::Answer;
+use wiring::Counts;
+ghost use mathlib.Core.Path.{_≡_};
+ghost use Prim.Native.Nat.{_≤_};
+ghost use lib.ListN.{length};
+ghost use Rattle.calculus.specs.Lean.{lean};
+ghost use Rattle.calculus.specs.NetRead.{Known};
+ghost use Rattle.calculus.specs.Record.{All};
+ghost use Rattle.memory.specs.Map.{netIn, Ready};
+ghost use Rattle.translator.specs.Made.{Keeps};
+ghost use Rattle.trace_calculus.specs.Trace.{ran};
+ghost use Rattle.translator.specs.Said.{Says};
+ghost use Rattle.trace.specs.Said.{Leaned};
+
+// With its roots, the lean netlist is run for so many ticks: 19, 20, 17.
+fn run_lean(
+    work: &mut [u16],
+    inputs: &[u8],
+    starts: &[u8],
+    out: &mut [u8],
+    elements: usize,
+    wires: usize,
+    pins: usize,
+    ticks: usize,
+) -> Answer
+    requires { ⌜ (Leaned (now work) elements wires pins) × (ticks ≤ 65535) ⌝ }
+    ensures { λ r. ⌜ (Says r (now (out .entry)) (now (out .exit)) (ran (lean (netIn (now (work .entry)) elements wires pins)) ticks (now (inputs .entry)) (now (starts .entry)) (length (now (out .entry)))))
+        × (Keeps (now (work .entry)) (now (work .exit))) ⌝ }
+{
+    let end = tables::make(work, elements, wires, pins);
+    let total = list::list(work, end);
+    order::mark_free(work, end);
+    let left = order::settle(work, total);
+    if left > 0 {
+        let place = ring::lowest(work, left);
+        return crate::refused(19, place);
+    }
+    free::run(work, inputs, starts, out, end, total, pins, ticks)
+}
+
+// The roots are found, and the lean netlist is run.
+pub fn run_net(
+    work: &mut [u16],
+    inputs: &[u8],
+    starts: &[u8],
+    out: &mut [u8],
+    counts: Counts,
+    ticks: usize,
+) -> Answer
+    requires { ⌜ (Ready (now work) (counts .elements) (counts .wires) (counts .pins)) × (All Known (netIn (now work) (counts .elements) (counts .wires) (counts .pins) .elements)) × (ticks ≤ 65535) ⌝ }
+    ensures { λ r. ⌜ (Says r (now (out .entry)) (now (out .exit)) (ran (lean (netIn (now (work .entry)) (counts .elements) (counts .wires) (counts .pins))) ticks (now (inputs .entry)) (now (starts .entry)) (length (now (out .entry)))))
+        × (Keeps (now (work .entry)) (now (work .exit))) ⌝ }
+{
+    let elements = counts.elements;
+    let wires = counts.wires;
+    let pins = counts.pins;
+    lean::roots(work, elements, wires, pins);
+    run_lean(work, inputs, starts, out, elements, wires, pins, ticks)
+}

@@ -1,0 +1,9 @@
+-- The run, over the netlists that were worked out by hand. Assumes nothing.
+use mathlib.Core.Path.{_≡_, refl}
+use mathlib.Core.List.{map}
+use Rattle.trace_calculus.specs.Trace.{ran, run, onRing, source}
+use Rattle.trace_calculus.specs.Worked.{runs, table}
+
+pub worked-runs : map (map runs) table ≡ table
+unfolding ran run onRing source
+worked-runs = refl

@@ -1,0 +1,3 @@
+pub mod ListLaws
+pub mod SearchLaws
+pub mod Determined

@@ -1,0 +1,36 @@
+// The outputs that look at something within the tick.
+use memory::ROOTS;
+use memory::TARGETS;
+ghost use mathlib.Core.Path.{_≡_};
+ghost use Prim.Native.Nat.{_+_, _≤_, _<_};
+ghost use lib.ListN.{length};
+ghost use Rattle.trace_rings.specs.Lists.{looksIn, Choosable, Chosen};
+
+// Output x looks at something: a gate's, or a kept point's.
+fn looks(work: &[u16], x: usize) -> bool
+    requires { ⌜ (32768 ≤ length (now work)) × (x < 8192) ⌝ }
+    ensures { λ r. ⌜ r ≡ looksIn (now (work .entry)) x ⌝ }
+{
+    let entry = work[x];
+    if entry == 65527 {
+        return work[ROOTS + x] as usize == x;
+    }
+    65521 < entry && entry < 65526
+}
+
+// Those that do, by falling number; how many.
+pub fn list(work: &mut [u16], end: usize) -> usize
+    requires { ⌜ Choosable (now work) end ⌝ }
+    ensures { λ r. ⌜ Chosen (now (work .entry)) end (now (work .exit)) r ⌝ }
+{
+    let mut n: usize = 0;
+    let mut x = end;
+    while x > 0 {
+        x = x - 1;
+        if looks(&work[..], x) {
+            work[TARGETS + n] = x as u16;
+            n = n + 1;
+        }
+    }
+    n
+}

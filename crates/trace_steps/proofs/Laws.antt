@@ -1,0 +1,156 @@
+-- Laws of loops, and of a memory that changes only from 19,072 on. Assumes nothing.
+use Prim.Native.Nat.{ℕ, zero, suc, _+_, _-_, _≤_, _<_}
+use mathlib.Core.Path.{_≡_, refl, sym, ap, _∙_, subst}
+use mathlib.Core.Bool.{Bool, true, false, cond, not, _&&_, _||_, xor, Bool·beq}
+use mathlib.Core.List.{List}
+use native.Mathlib.Omega.{arith}
+use native.Mathlib.Numerals.{add-one}
+use lib.ListN.{length, getD, set}
+use lib.Dec.{eqb, ltb}
+use borrow.Author.Tests.{lt-ltb, le-ltb, eq-eqb, ne-eqb}
+use Rattle.lean.specs.Table.{Within}
+use Rattle.trace_calculus.specs.Trace.{byte}
+use Rattle.trace_steps.specs.Turns.{turns}
+use Rattle.trace_steps.specs.Steps.{firstIn, fed, readyIn, stepIn, gateBit, freeIn, Looks, Ordered, Register, Registers, holdOne, turnOne, wakeOne, passOne}
+use Rattle.lean.proofs.TableLaws.{within-then, within-set}
+
+turns-snoc : {S : Type 0} (f : ℕ → S → S) (j x : ℕ) (s : S) → turns f (suc j) x s ≡ f (x + j) (turns f j x s)
+turns-snoc f zero x s = let e : x + 0 ≡ x = omega arith in rw e
+turns-snoc f (suc j) x s = let e : x + suc j ≡ x + 1 + j = omega arith in rw e (turns-snoc f j (x + 1) (f x s))
+
+-- one turn more
+pub turns-next : {S : Type 0} (f : ℕ → S → S) (j : ℕ) (s t : S) → t ≡ turns f j 0 s → f j t ≡ turns f (j + 1) 0 s
+turns-next {S} f j s t q =
+    let e : 0 + j ≡ j = omega arith in
+    ap (f j) q ∙ sym (ap (λ (k : ℕ). turns f k 0 s) (add-one j) ∙ turns-snoc f j 0 s ∙ ap (λ (k : ℕ). f k (turns f j 0 s)) e)
+
+-- all turns
+pub turns-all : {S : Type 0} (f : ℕ → S → S) (j n : ℕ) (s t : S) → j ≡ n → t ≡ turns f j 0 s → t ≡ turns f n 0 s
+turns-all f j n s t e q = q ∙ ap (λ (k : ℕ). turns f k 0 s) e
+
+first-le : (w : List ℕ) (o : ℕ) → firstIn w o ≤ o
+first-le w o = by (ltb (getD w o 0) 65525)
+  where
+    by : (b : Bool) → cond b (o - 2) (o - 1) ≤ o
+    by true = omega arith
+    by false = omega arith
+
+pub first-low : (w : List ℕ) (o : ℕ) → o < 8192 → firstIn w o < 8192
+first-low w o h = omega (arith, first-le w o)
+
+pub first-same : {u w : List ℕ} → Within u w → (o : ℕ) → o < 8192 → firstIn w o ≡ firstIn u o
+first-same i o h = ap (λ (k : ℕ). cond (ltb k 65525) (o - 2) (o - 1)) (i .below o (omega arith))
+
+pub looks-within : {u w : List ℕ} → Within u w → {o : ℕ} → Looks u o → Looks w o
+looks-within {u} {w} i {o} l =
+    let h = l .low in
+    let e = i .below o (omega arith) in
+    let f = first-same i o h in
+    let g = i .below (firstIn u o) (omega (arith, first-low u o h)) in
+    let q = ap (λ (k : ℕ). getD w k 0) f in
+    let r = i .below (o - 1) (omega arith) in record {
+      size = let s = i .size in let z = l .size in omega arith;
+      low = h;
+      some = l .some;
+      kind = let z = l .kind in omega arith;
+      two = λ t. l .two (omega arith);
+      first = let z = l .first in omega arith;
+      last = let z = l .last in omega arith;
+    }
+
+pub ordered-at : {u w : List ℕ} {n : ℕ} → Within u w → Ordered u n → (j : ℕ) → j < n → Looks w (getD w (13824 + j) 0)
+ordered-at {u} {w} i o j h = let f = o .few in subst (λ (k : ℕ). Looks w k) (sym (i .below (13824 + j) (omega arith))) (looks-within i (o .looks j h))
+
+pub register-within : {u w : List ℕ} → Within u w → {o : ℕ} → Register u o → Register w o
+register-within i {o} r = let h = r .low in let e = i .below (o - 1) (omega arith) in let s = r .source in record { low = h; some = r .some; source = omega arith }
+
+pub register-at : {u w : List ℕ} {n : ℕ} → Within u w → Registers u n → (j : ℕ) → j < n → Register w (getD w (8192 + j) 0)
+register-at {u} {w} i r j h = let f = r .few in subst (λ (k : ℕ). Register w k) (sym (i .below (8192 + j) (omega arith))) (register-within i (r .each j h))
+
+pub first-two : (w : List ℕ) (o : ℕ) → getD w o 0 < 65525 → o - 2 ≡ firstIn w o
+first-two w o h = rw (lt-ltb (getD w o 0) 65525 h)
+
+pub first-one : (w : List ℕ) (o : ℕ) → 65525 ≤ getD w o 0 → o - 1 ≡ firstIn w o
+first-one w o h = rw (le-ltb (getD w o 0) 65525 h)
+
+-- ---- a gate's bit
+
+pub and-yes : (k : ℕ) (a b : Bool) → k ≡ 2 → a ≡ true → b ≡ gateBit k a b
+and-yes k a b e f = rw (eq-eqb k 2 e, f)
+
+pub and-no : (k : ℕ) (a b : Bool) → k ≡ 2 → a ≡ false → a ≡ gateBit k a b
+and-no k a b e f = rw (eq-eqb k 2 e, f)
+
+pub or-yes : (k : ℕ) (a b : Bool) → k ≡ 3 → a ≡ true → a ≡ gateBit k a b
+or-yes k a b e f = let d : k ≡ 2 → ⊥ = λ z. omega arith in rw (ne-eqb k 2 d, eq-eqb k 3 e, f)
+
+pub or-no : (k : ℕ) (a b : Bool) → k ≡ 3 → a ≡ false → b ≡ gateBit k a b
+or-no k a b e f = let d : k ≡ 2 → ⊥ = λ z. omega arith in rw (ne-eqb k 2 d, eq-eqb k 3 e, f)
+
+pub xor-is : (k : ℕ) (a b : Bool) → k ≡ 4 → xor a b ≡ gateBit k a b
+xor-is k a b e = let d : k ≡ 2 → ⊥ = λ z. omega arith in let f : k ≡ 3 → ⊥ = λ z. omega arith in rw (ne-eqb k 2 d, ne-eqb k 3 f, eq-eqb k 4 e)
+
+pub not-is : (k : ℕ) (a b : Bool) → k ≡ 5 → not a ≡ gateBit k a b
+not-is k a b e =
+    let d : k ≡ 2 → ⊥ = λ z. omega arith in
+    let f : k ≡ 3 → ⊥ = λ z. omega arith in
+    let g : k ≡ 4 → ⊥ = λ z. omega arith in
+    rw (ne-eqb k 2 d, ne-eqb k 3 f, ne-eqb k 4 g, eq-eqb k 5 e)
+
+pub same-is : (k : ℕ) (a b : Bool) → (k ≡ 2 → ⊥) → (k ≡ 3 → ⊥) → (k ≡ 4 → ⊥) → (k ≡ 5 → ⊥) → a ≡ gateBit k a b
+same-is k a b d f g h = rw (ne-eqb k 2 d, ne-eqb k 3 f, ne-eqb k 4 g, ne-eqb k 5 h)
+
+-- ---- a conjunction
+
+pub all-yes : (a b : Bool) → a ≡ true → b ≡ a && b
+all-yes a b e = rw e
+
+pub all-no : (a b : Bool) → a ≡ false → a ≡ a && b
+all-no a b e = rw e
+
+pub both-fed : (w : List ℕ) (o x : ℕ) (a b : Bool) → x ≡ firstIn w o → a ≡ fed w x → b ≡ fed w (o - 1) → a && b ≡ readyIn w o
+both-fed w o x a b e f g = rw (f, g, e)
+
+-- the bit that output o gets
+pub step-is : (w : List ℕ) (o x : ℕ) (a b v : Bool) (n : ℕ) → x ≡ firstIn w o → a ≡ fed w x → b ≡ fed w (o - 1) → v ≡ gateBit (getD w o 0 - 65520) a b → n ≡ byte v
+    → set w (19072 + o) n ≡ stepIn w o
+step-is w o x a b v n e f g h k = rw (k, h, f, g, e)
+
+-- ---- one of four
+
+pub or-first : (a b c d : Bool) → a ≡ true → a ≡ a || (b || (c || d))
+or-first a b c d e = rw e
+
+pub or-second : (a b c d : Bool) → a ≡ false → b ≡ true → b ≡ a || (b || (c || d))
+or-second a b c d e f = rw (e, f)
+
+pub or-third : (a b c d : Bool) → a ≡ false → b ≡ false → c ≡ true → c ≡ a || (b || (c || d))
+or-third a b c d e f g = rw (e, f, g)
+
+pub or-fourth : (a b c d : Bool) → a ≡ false → b ≡ false → c ≡ false → d ≡ a || (b || (c || d))
+or-fourth a b c d e f g = rw (e, f, g)
+
+pub differ : (a b : Bool) → not (Bool·beq a b) ≡ xor a b
+unfolding xor
+differ true true = refl
+differ true false = refl
+differ false true = refl
+differ false false = refl
+
+-- ---- loops over a memory that changes only from 19,072 on
+
+pub loop-step : (f : ℕ → List ℕ → List ℕ) (u w v : List ℕ) (j n : ℕ) → j < n → Within u w → w ≡ turns f j 0 u → v ≡ f j w → Within w (f j w)
+    → (j + 1 ≤ n) × (Within u v × (v ≡ turns f (j + 1) 0 u))
+loop-step f u w v j n h i q e k = (omega arith, (subst (λ (z : List ℕ). Within u z) (sym e) (within-then i k), e ∙ turns-next f j u w q))
+
+pub hold-within : (w : List ℕ) (j : ℕ) → Register w (getD w (8192 + j) 0) → Within w (holdOne j w)
+hold-within w j r = let l = r .low in within-set w (getD w (8192 + j) 0 - 1) _ (omega arith)
+
+pub turn-within : (w : List ℕ) (j : ℕ) → Register w (getD w (8192 + j) 0) → Within w (turnOne j w)
+turn-within w j r = within-set w (getD w (8192 + j) 0) _ (r .low)
+
+pub wake-within : (starts w : List ℕ) (j : ℕ) → Register w (getD w (8192 + j) 0) → Within w (wakeOne starts j w)
+wake-within starts w j r = within-set w (getD w (8192 + j) 0) _ (r .low)
+
+pub pass-within : (w : List ℕ) (j : ℕ) → Looks w (getD w (13824 + j) 0) → Within w (passOne j w)
+pass-within w j r = within-set w (getD w (13824 + j) 0) _ (r .low)

@@ -1,0 +1,84 @@
+-- The registers' outputs, one after the other. No two are next to each other, so there are few. Assumes nothing.
+use Prim.Native.Nat.{ℕ, _+_, _-_, _*_, _≤_, _<_}
+use mathlib.Core.Path.{_≡_, refl, sym, ap, _∙_, subst}
+use mathlib.Core.Logic.{_≢_}
+use mathlib.Core.Bool.{Bool, cond}
+use mathlib.Core.List.{List}
+use native.Mathlib.Omega.{arith}
+use native.Mathlib.Decide.{ℕ-discrete}
+use lib.ListN.{length, getD, set, length-set}
+use lib.Seq.{getD-set-same, getD-set-other}
+use borrow.Author.Tests.{eq-eqb, ne-eqb}
+use Rattle.trace_steps.specs.Turns.{turns}
+use Rattle.trace_steps.specs.Steps.{Register, Registers}
+use Rattle.trace_steps.specs.Pins.{counted, registerOne, Listable, Listed}
+use Rattle.trace_steps.proofs.Laws.{turns-next}
+
+pub record Listing (u : List ℕ) (x : ℕ) (w : List ℕ) (n : ℕ) : Type 0 where
+  pub size : length w ≡ length u
+  pub table : (y : ℕ) → y < 8192 → getD w y 0 ≡ getD u y 0
+  pub above : (j : ℕ) → 13824 ≤ j → getD w j 0 ≡ getD u j 0
+  pub each : (j : ℕ) → j < n → Register u (getD w (8192 + j) 0)
+  pub half : 2 * n ≤ x + 1
+  pub free : (getD u (x - 1) 0 ≡ 65521 → ⊥) → 2 * n ≤ x
+  pub whole : counted w n ≡ turns registerOne x 0 (counted u 0)
+
+pub listing-start : (u : List ℕ) → Listing u 0 u 0
+listing-start u = record { size = refl; table = λ y l. refl; above = λ j l. refl; each = λ j l. absurd (omega arith); half = omega arith; free = λ d. omega arith; whole = refl }
+
+module _ (u : List ℕ) (end x : ℕ) (w : List ℕ) (n : ℕ) (p : Listable u end) (h : x < end) (l : Listing u x w n) where
+  there : getD w x 0 ≡ getD u x 0
+  there = let f = p .few in l .table x (omega arith)
+
+  apart : Register u x → getD u (x - 1) 0 ≡ 65521 → ⊥
+  apart r e = let z = r .source in omega arith
+
+  pub listing-yes : getD w x 0 ≡ 65521 → Listing u (x + 1) (set w (8192 + n) x) (n + 1)
+  listing-yes e =
+      let f = p .few in
+      let z = p .size in
+      let s = l .size in
+      let r = p .register x h (sym there ∙ e) in
+      let k = l .free (apart r) in
+      let back : x + 1 - 1 ≡ x = omega arith in
+      record {
+        size = length-set w (8192 + n) x ∙ l .size;
+        table = λ y m. let ne : y ≢ 8192 + n = λ q. omega arith in getD-set-other w (8192 + n) y x 0 ne ∙ l .table y m;
+        above = λ j m. let ne : j ≢ 8192 + n = λ q. omega arith in getD-set-other w (8192 + n) j x 0 ne ∙ l .above j m;
+        each = λ j m. elim (ℕ-discrete j n) [
+          | yes q ↦ subst (λ (y : ℕ). Register u y) (sym (ap (λ (i : ℕ). getD (set w (8192 + n) x) (8192 + i) 0) q ∙ getD-set-same w (8192 + n) x 0 (omega arith))) r
+          | no d ↦ let ne : 8192 + j ≢ 8192 + n = λ q. d (omega arith) in subst (λ (y : ℕ). Register u y) (sym (getD-set-other w (8192 + n) (8192 + j) x 0 ne)) (l .each j (omega arith))
+        ];
+        half = omega arith;
+        free = λ d. absurd (d (ap (λ (y : ℕ). getD u y 0) back ∙ sym there ∙ e));
+        whole = sym (ap (λ (b : Bool). cond b (counted (set w (8192 + n) x) (n + 1)) (counted w n)) (eq-eqb (getD w x 0) 65521 e)) ∙ turns-next registerOne x (counted u 0) (counted w n) (l .whole);
+      }
+
+  pub listing-no : (getD w x 0 ≡ 65521 → ⊥) → Listing u (x + 1) w n
+  listing-no d = let k = l .half in record {
+    size = l .size;
+    table = l .table;
+    above = l .above;
+    each = l .each;
+    half = omega arith;
+    free = λ q. omega arith;
+    whole = sym (ap (λ (b : Bool). cond b (counted (set w (8192 + n) x) (n + 1)) (counted w n)) (ne-eqb (getD w x 0) 65521 d)) ∙ turns-next registerOne x (counted u 0) (counted w n) (l .whole);
+  }
+
+pub listing-end : (u : List ℕ) (end x : ℕ) (w : List ℕ) (n : ℕ) → Listable u end → x ≡ end → Listing u x w n → Listed u end w n
+listing-end u end x w n p e l =
+    let f = p .few in
+    let z = p .size in
+    let s = l .size in
+    let k = l .half in
+    record {
+      size = l .size;
+      table = l .table;
+      above = l .above;
+      registers = record {
+        size = omega arith;
+        few = omega arith;
+        each = λ j m. let r = l .each j m in let b = r .low in let t = l .table (getD w (8192 + j) 0 - 1) (omega arith) in let c = r .source in record { low = b; some = r .some; source = omega arith };
+      };
+      whole = l .whole ∙ ap (λ (y : ℕ). turns registerOne y 0 (counted u 0)) e;
+    }

@@ -1,0 +1,85 @@
+-- The invariant: the first x bits are as they begin. Assumes nothing.
+use lib.Dec.{eqb}
+use borrow.Author.Needs.{needs}
+use native.Mathlib.Omega.{arith}
+use mathlib.Core.Path.{_≡_, refl, sym, ap, _∙_, subst}
+use Prim.Native.Nat.{ℕ, _≤_, _<_, _-_, _+_}
+use mathlib.Core.List.{List}
+use lib.ListN.{length, getD, set}
+use Rattle.lean.specs.Table.{Within}
+use Rattle.lean.proofs.TableLaws.{within-none, within-then, within-set}
+use Rattle.trace_calculus.specs.Trace.{byte}
+use Rattle.trace_steps.specs.Turns.{turns}
+use Rattle.trace_steps.specs.Steps.{beginOne}
+use Rattle.trace_steps.proofs.Laws.{turns-next, turns-all, looks-within, ordered-at, register-at}
+use Rattle.trace_steps.proofs.ticks.begin.Statement.{statement}
+use Rattle.trace_steps.proofs.ticks.begin.Tie as tie
+
+abbrev Inv-loop : tie.InvT-loop
+Inv-loop work₀ end x₀ work x = (x ≤ end) × (Within work₀ work × (work ≡ turns beginOne x 0 work₀))
+
+abbrev μ-loop : tie.MeasureT-loop
+μ-loop work₀ end x₀ work x = end - x
+
+loop-holds : tie.Need-loop-holds Inv-loop μ-loop
+loop-holds c = (omega arith, (within-none _, refl))
+
+at-requires : tie.Need-at-requires Inv-loop μ-loop
+at-requires c κs = let z = c .before .before .loop .inv .1 .0 .size in omega arith
+
+byte-requires : tie.Need-byte-requires Inv-loop μ-loop
+byte-requires c κs = search needs
+
+add-work : tie.Need-add-work Inv-loop μ-loop
+add-work c = omega arith
+
+mul-work : tie.Need-mul-work Inv-loop μ-loop
+mul-work c = omega arith
+
+slice-write-work : tie.Need-slice-write-work Inv-loop μ-loop
+slice-write-work c = let z = c .before .before .before .before .loop .inv .1 .0 .size in omega arith
+
+add-x : tie.Need-add-x Inv-loop μ-loop
+add-x c = omega arith
+
+loop-less : tie.Need-loop-less Inv-loop μ-loop
+loop-less c = omega arith
+
+loop-again : tie.Need-loop-again Inv-loop μ-loop
+loop-again c =
+    let l = c .before .before .before .before .loop in
+    let a = c .before .before .before .before .before .before .args in
+    let z = l .inv .1 .0 .size in (
+      omega arith,
+      (
+        within-then (l .inv .1 .0) (within-set (l .work) (l .x) (c .byte .result) (omega arith)),
+        ap (λ (v : ℕ). set (l .work) (19072 + l .x) v) (c .byte .ensures ∙ ap (λ (k : ℕ). byte (eqb k 65526)) (c .before .at .ensures)) ∙ turns-next beginOne (l .x) (a .work .now) (l .work) (l .inv .1 .1),
+      ),
+    )
+
+same-length : tie.Need-same-length Inv-loop μ-loop
+same-length c = c .before .loop .inv .1 .0 .size
+
+returns : tie.Need-returns Inv-loop μ-loop
+returns c =
+    let l = c .before .loop in
+    let a = c .before .before .before .args in
+    record { within = l .inv .1 .0; whole = turns-all beginOne (l .x) (a .end) (a .work .now) (l .work) (omega arith) (l .inv .1 .1) }
+
+pub begin-spec : {M : Type 1} → statement M
+begin-spec =
+    tie.close
+    (tie.spec
+    Inv-loop
+    μ-loop
+    loop-holds
+    at-requires
+    byte-requires
+    add-work
+    mul-work
+    slice-write-work
+    add-x
+    loop-less
+    loop-again
+    same-length
+    returns)

@@ -1,0 +1,78 @@
+-- The invariant: the first j registers have gone on. Assumes nothing.
+use borrow.Author.Needs.{needs}
+use native.Mathlib.Omega.{arith}
+use mathlib.Core.Path.{_≡_, refl, sym, ap, _∙_, subst}
+use Prim.Native.Nat.{ℕ, _≤_, _<_, _-_, _+_}
+use mathlib.Core.List.{List}
+use lib.ListN.{length, getD, set}
+use Rattle.lean.specs.Table.{Within}
+use Rattle.lean.proofs.TableLaws.{within-none, within-then, within-set}
+use Rattle.trace_calculus.specs.Trace.{byte}
+use Rattle.trace_steps.specs.Turns.{turns}
+use Rattle.trace_steps.specs.Steps.{turnOne, turnAt, Register}
+use Rattle.trace_steps.proofs.Laws.{loop-step, turn-within, turns-all, looks-within, ordered-at, register-at}
+use Rattle.trace_steps.proofs.ticks.turn.Statement.{statement}
+use Rattle.trace_steps.proofs.ticks.turn.Tie as tie
+
+abbrev Inv-loop : tie.InvT-loop
+Inv-loop work₀ regs j₀ work j = (j ≤ regs) × (Within work₀ work × (work ≡ turns turnOne j 0 work₀))
+
+abbrev μ-loop : tie.MeasureT-loop
+μ-loop work₀ regs j₀ work j = regs - j
+
+loop-holds : tie.Need-loop-holds Inv-loop μ-loop
+loop-holds c = (omega arith, (within-none _, refl))
+
+add-at : tie.Need-add-at Inv-loop μ-loop
+add-at c = omega arith
+
+at-requires : tie.Need-at-requires Inv-loop μ-loop
+at-requires c κs = let z = c .before .before .loop .inv .1 .0 .size in omega arith
+
+turn-one-requires : tie.Need-turn-one-requires Inv-loop μ-loop
+turn-one-requires c κs =
+    let s = c .before .before .before .before .before .before in
+    let l = c .before .before .before .before .loop in
+    let z = l .inv .1 .0 .size in
+    let q = s .pre .size in
+    let r = subst (λ (k : ℕ). Register (l .work) k) (sym (c .before .at .ensures)) (register-at (l .inv .1 .0) (s .pre) (l .j) (c .before .before .before .loop-test .taken)) in
+    (omega arith, r)
+
+add-j : tie.Need-add-j Inv-loop μ-loop
+add-j c = omega arith
+
+loop-less : tie.Need-loop-less Inv-loop μ-loop
+loop-less c = omega arith
+
+loop-again : tie.Need-loop-again Inv-loop μ-loop
+loop-again c =
+    let s = c .before .before .before .before .before .before .before .before .before in
+    let l = c .before .before .before .before .before .before .before .loop in
+    let h = c .before .before .before .before .before .before .loop-test .taken in
+    loop-step turnOne (s .args .work .now) (l .work) (c .before .before .turn-one .last .0) (l .j) (s .args .regs) h (l .inv .1 .0) (l .inv .1 .1)
+    (c .before .before .turn-one .ensures ∙ ap (turnAt (l .work)) (c .before .before .before .before .at .ensures)) (turn-within (l .work) (l .j) (register-at (l .inv .1 .0) (s .pre) (l .j) h))
+
+same-length : tie.Need-same-length Inv-loop μ-loop
+same-length c = c .before .loop .inv .1 .0 .size
+
+returns : tie.Need-returns Inv-loop μ-loop
+returns c =
+    let l = c .before .loop in
+    let a = c .before .before .before .args in
+    record { within = l .inv .1 .0; whole = turns-all turnOne (l .j) (a .regs) (a .work .now) (l .work) (omega arith) (l .inv .1 .1) }
+
+pub turn-spec : {M : Type 1} → statement M
+turn-spec =
+    tie.close
+    (tie.spec
+    Inv-loop
+    μ-loop
+    loop-holds
+    add-at
+    at-requires
+    turn-one-requires
+    add-j
+    loop-less
+    loop-again
+    same-length
+    returns)

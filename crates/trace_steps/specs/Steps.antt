@@ -1,0 +1,93 @@
+-- The steps of a run, over the working memory: from 0 by input terminal its source, by output terminal 65,520 and its element's kind; from
+-- 8,192 the registers' outputs; from 13,824 the order; from 18,944 the pins; from 19,072 by terminal its mark, and then its bit. Assumes nothing.
+use Prim.Native.Nat.{ℕ, zero, suc, _+_, _-_, _/_, _%_, _≤_, _<_}
+use mathlib.Core.Path.{_≡_}
+use mathlib.Core.Bool.{Bool, true, false, cond, not, _&&_, _||_, xor}
+use mathlib.Core.List.{List, [], _∷_}
+use lib.ListN.{length, getD, set}
+use lib.Dec.{eqb, ltb}
+use Rattle.trace_calculus.specs.Trace.{byte}
+
+-- the bit, or mark, of terminal x
+abbrev pub lit : List ℕ → ℕ → Bool
+lit w x = eqb (getD w (19072 + x) 0) 1
+
+-- the first input of output o: a gate of two inputs has a kind below 5
+abbrev pub firstIn : List ℕ → ℕ → ℕ
+firstIn w o = cond (ltb (getD w o 0) 65525) (o - 2) (o - 1)
+
+-- the bit of the source of input x
+abbrev pub fed : List ℕ → ℕ → Bool
+fed w x = lit w (getD w x 0)
+
+-- output o has inputs, with sources below 8,192
+pub record Looks (w : List ℕ) (o : ℕ) : Type 0 where
+  pub size : 32768 ≤ length w
+  pub low : o < 8192
+  pub some : 1 ≤ o
+  pub kind : 65520 ≤ getD w o 0
+  pub two : getD w o 0 < 65525 → 2 ≤ o
+  pub first : getD w (firstIn w o) 0 < 8192
+  pub last : getD w (o - 1) 0 < 8192
+
+-- all that output o looks at is marked
+abbrev pub readyIn : List ℕ → ℕ → Bool
+readyIn w o = fed w (firstIn w o) && fed w (o - 1)
+
+-- 2 and, 3 or, 4 xor, 5 inv, 7 a point; the last two have their one input twice
+abbrev pub gateBit : ℕ → Bool → Bool → Bool
+gateBit k a b = cond (eqb k 2) (a && b) (cond (eqb k 3) (a || b) (cond (eqb k 4) (xor a b) (cond (eqb k 5) (not a) a)))
+
+-- output o gets its bit
+abbrev pub stepIn : List ℕ → ℕ → List ℕ
+stepIn w o = set w (19072 + o) (byte (gateBit (getD w o 0 - 65520) (fed w (firstIn w o)) (fed w (o - 1))))
+
+-- the outputs of the order, one after the other
+pub record Ordered (w : List ℕ) (n : ℕ) : Type 0 where
+  pub size : 32768 ≤ length w
+  pub few : n ≤ 5120
+  pub looks : (j : ℕ) → j < n → Looks w (getD w (13824 + j) 0)
+
+abbrev pub passOne : ℕ → List ℕ → List ℕ
+passOne j w = stepIn w (getD w (13824 + j) 0)
+
+-- ---- registers
+
+pub record Register (w : List ℕ) (o : ℕ) : Type 0 where
+  pub low : o < 8192
+  pub some : 1 ≤ o
+  pub source : getD w (o - 1) 0 < 8192
+
+pub record Registers (w : List ℕ) (n : ℕ) : Type 0 where
+  pub size : 32768 ≤ length w
+  pub few : n ≤ 5120
+  pub each : (j : ℕ) → j < n → Register w (getD w (8192 + j) 0)
+
+abbrev pub wakeOne : List ℕ → ℕ → List ℕ → List ℕ
+wakeOne starts j w = set w (19072 + getD w (8192 + j) 0) (getD starts j 0)
+
+-- the input terminal of a register gets its bit
+abbrev pub holdAt : List ℕ → ℕ → List ℕ
+holdAt w o = set w (19072 + (o - 1)) (getD w (19072 + getD w (o - 1) 0) 0)
+
+abbrev pub holdOne : ℕ → List ℕ → List ℕ
+holdOne j w = holdAt w (getD w (8192 + j) 0)
+
+-- its output gets that of its input terminal
+abbrev pub turnAt : List ℕ → ℕ → List ℕ
+turnAt w o = set w (19072 + o) (getD w (19072 + (o - 1)) 0)
+
+abbrev pub turnOne : ℕ → List ℕ → List ℕ
+turnOne j w = turnAt w (getD w (8192 + j) 0)
+
+-- ---- the table
+
+abbrev pub freeIn : List ℕ → ℕ → Bool
+freeIn w x = eqb (getD w x 0) x || (eqb (getD w x 0) 65520 || (eqb (getD w x 0) 65521 || eqb (getD w x 0) 65526))
+
+abbrev pub markOne : ℕ → List ℕ → List ℕ
+markOne x w = set w (19072 + x) (byte (freeIn w x))
+
+-- every bit is 0, but that of a part one
+abbrev pub beginOne : ℕ → List ℕ → List ℕ
+beginOne x w = set w (19072 + x) (byte (eqb (getD w x 0) 65526))

@@ -1,0 +1,7 @@
+// The steps of a run in the working memory: the table by terminal, sweeps, pins and ticks. What stands where is said in the crate `trace`.
+pub mod links;
+pub mod names;
+pub mod order;
+pub mod pins;
+pub mod table;
+pub mod ticks;

@@ -1,0 +1,44 @@
+// The table by terminal: an input's source, an output's kind; and the marks and bits.
+use memory::ROOTS;
+ghost use mathlib.Core.Path.{_≡_};
+ghost use Prim.Native.Nat.{_+_, _≤_, _<_};
+ghost use lib.ListN.{length, getD};
+ghost use Rattle.trace_calculus.specs.Trace.{byte as bit};
+ghost use Rattle.trace_steps.specs.Steps.{Looks, firstIn, fed};
+
+// An output's entry is KIND and its element's kind.
+pub const KIND: u16 = 65520;
+
+// The number at i.
+pub fn at(work: &[u16], i: usize) -> usize
+    requires { ⌜ i < length (now work) ⌝ }
+    ensures { λ r. ⌜ r ≡ getD (now (work .entry)) i 0 ⌝ }
+{
+    work[i] as usize
+}
+
+// The first of the inputs of the output o.
+pub fn first_of(work: &[u16], o: usize) -> usize
+    requires { ⌜ Looks (now work) o ⌝ }
+    ensures { λ r. ⌜ r ≡ firstIn (now (work .entry)) o ⌝ }
+{
+    if work[o] < 65525 {
+        return o - 2;
+    }
+    o - 1
+}
+
+// The bit, or mark, of the source of input x.
+pub fn is_fed(work: &[u16], x: usize) -> bool
+    requires { ⌜ (32768 ≤ length (now work)) × ((x < 8192) × (getD (now work) x 0 < 8192)) ⌝ }
+    ensures { λ r. ⌜ r ≡ fed (now (work .entry)) x ⌝ }
+{
+    work[ROOTS + work[x] as usize] == 1
+}
+
+// A bit as a number.
+pub fn byte(b: bool) -> u16
+    ensures { λ r. ⌜ r ≡ bit b ⌝ }
+{
+    if b { 1 } else { 0 }
+}

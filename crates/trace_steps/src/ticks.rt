@@ -1,0 +1,189 @@
+// The run, tick after tick, over the order. By terminal its bit.
+use crate::pins;
+use crate::table;
+use crate::table::KIND;
+use memory::ELEMENTS;
+use memory::ROOTS;
+use memory::TARGETS;
+ghost use mathlib.Core.Path.{_≡_};
+ghost use Prim.Native.Nat.{_+_, _≤_, _<_};
+ghost use lib.ListN.{length, getD};
+ghost use Rattle.trace_steps.specs.Steps.{Looks, gateBit, stepIn, Ordered, passOne, Register, Registers, holdAt, turnAt, wakeOne, holdOne, turnOne, beginOne};
+ghost use Rattle.trace_steps.specs.Turns.{Looped};
+ghost use Rattle.trace_steps.specs.Pins.{ins, outs, Listable, Listed};
+ghost use Rattle.trace_steps.specs.Ticks.{sizes, Runs, Ticked, Fits, Ran};
+
+// Every bit is 0, but that of a part one.
+pub fn begin(work: &mut [u16], end: usize)
+    requires { ⌜ (32768 ≤ length (now work)) × (end ≤ 8192) ⌝ }
+    ensures { λ _. ⌜ Looped beginOne end (now (work .entry)) (now (work .exit)) ⌝ }
+{
+    let mut x: usize = 0;
+    while x < end {
+        work[ROOTS + x] = table::byte(table::at(&work[..], x) == 65526);
+        x = x + 1;
+    }
+}
+
+// The registers' start bits.
+pub fn wake(work: &mut [u16], starts: &[u8], regs: usize)
+    requires { ⌜ (Registers (now work) regs) × (regs ≤ length (now starts)) ⌝ }
+    ensures { λ _. ⌜ Looped (wakeOne (now (starts .entry))) regs (now (work .entry)) (now (work .exit)) ⌝ }
+{
+    let mut j: usize = 0;
+    while j < regs {
+        let o = table::at(&work[..], TARGETS + j);
+        work[ROOTS + o] = starts[j] as u16;
+        j = j + 1;
+    }
+}
+
+// A gate's or a point's output bit; a point and an inverter have their one input twice.
+fn value(kind: u16, a: bool, b: bool) -> bool
+    ensures { λ r. ⌜ r ≡ gateBit kind a b ⌝ }
+{
+    if kind == 2 {
+        return a && b;
+    }
+    if kind == 3 {
+        return a || b;
+    }
+    if kind == 4 {
+        return a != b;
+    }
+    if kind == 5 {
+        return !a;
+    }
+    a
+}
+
+// Output o gets its bit.
+fn step(work: &mut [u16], o: usize)
+    requires { ⌜ Looks (now work) o ⌝ }
+    ensures { λ _. ⌜ now (work .exit) ≡ stepIn (now (work .entry)) o ⌝ }
+{
+    let kind = work[o] - KIND;
+    let x = table::first_of(&work[..], o);
+    let a = table::is_fed(&work[..], x);
+    let b = table::is_fed(&work[..], o - 1);
+    work[ROOTS + o] = table::byte(value(kind, a, b));
+}
+
+fn pass(work: &mut [u16], settled: usize)
+    requires { ⌜ Ordered (now work) settled ⌝ }
+    ensures { λ _. ⌜ Looped passOne settled (now (work .entry)) (now (work .exit)) ⌝ }
+{
+    let mut j: usize = 0;
+    while j < settled {
+        let o = table::at(&work[..], ELEMENTS + j);
+        step(work, o);
+        j = j + 1;
+    }
+}
+
+// The input terminal of the register with output o gets its bit.
+fn hold_one(work: &mut [u16], o: usize)
+    requires { ⌜ (32768 ≤ length (now work)) × Register (now work) o ⌝ }
+    ensures { λ _. ⌜ now (work .exit) ≡ holdAt (now (work .entry)) o ⌝ }
+{
+    let y = table::at(&work[..], o - 1);
+    work[ROOTS + (o - 1)] = work[ROOTS + y];
+}
+
+// Its output gets that of its input terminal.
+fn turn_one(work: &mut [u16], o: usize)
+    requires { ⌜ (32768 ≤ length (now work)) × Register (now work) o ⌝ }
+    ensures { λ _. ⌜ now (work .exit) ≡ turnAt (now (work .entry)) o ⌝ }
+{
+    work[ROOTS + o] = work[ROOTS + (o - 1)];
+}
+
+// Each register's input terminal gets its bit ..
+fn hold(work: &mut [u16], regs: usize)
+    requires { ⌜ Registers (now work) regs ⌝ }
+    ensures { λ _. ⌜ Looped holdOne regs (now (work .entry)) (now (work .exit)) ⌝ }
+{
+    let mut j: usize = 0;
+    while j < regs {
+        let o = table::at(&work[..], TARGETS + j);
+        hold_one(work, o);
+        j = j + 1;
+    }
+}
+
+// .. and then its output that of its input.
+fn turn(work: &mut [u16], regs: usize)
+    requires { ⌜ Registers (now work) regs ⌝ }
+    ensures { λ _. ⌜ Looped turnOne regs (now (work .entry)) (now (work .exit)) ⌝ }
+{
+    let mut j: usize = 0;
+    while j < regs {
+        let o = table::at(&work[..], TARGETS + j);
+        turn_one(work, o);
+        j = j + 1;
+    }
+}
+
+// One tick: its input bits from byte `from` on, its output bits to byte `to` on.
+fn tick(
+    work: &mut [u16],
+    inputs: &[u8],
+    out: &mut [u8],
+    settled: usize,
+    regs: usize,
+    pins: usize,
+    from: usize,
+    to: usize,
+)
+    requires { ⌜ (Runs (now work) settled regs pins) × ((from + ins (now work) pins ≤ length (now inputs)) × (to + outs (now work) pins ≤ length (now out))) ⌝ }
+    ensures { λ _. ⌜ Ticked (sizes settled regs pins) (now (inputs .entry)) from to (now (work .entry)) (now (out .entry)) (now (work .exit)) (now (out .exit)) ⌝ }
+{
+    let read = pins::load(work, inputs, pins, from);
+    pass(work, settled);
+    let written = pins::store(&work[..], out, pins, to);
+    hold(work, regs);
+    turn(work, regs);
+}
+
+// So many ticks, each with so many input and output bits.
+pub fn run(
+    work: &mut [u16],
+    inputs: &[u8],
+    out: &mut [u8],
+    settled: usize,
+    regs: usize,
+    pins: usize,
+    reads: usize,
+    writes: usize,
+    ticks: usize,
+)
+    requires { ⌜ (Runs (now work) settled regs pins) × (Fits (now work) (length (now inputs)) (length (now out)) pins reads writes ticks) ⌝ }
+    ensures { λ _. ⌜ Ran (sizes settled regs pins) (now (inputs .entry)) reads writes ticks (now (work .entry)) (now (out .entry)) (now (work .exit)) (now (out .exit)) ⌝ }
+{
+    let mut from: usize = 0;
+    let mut to: usize = 0;
+    let mut t: usize = 0;
+    while t < ticks {
+        tick(work, inputs, out, settled, regs, pins, from, to);
+        from = from + reads;
+        to = to + writes;
+        t = t + 1;
+    }
+}
+
+// The registers' outputs, by rising number; how many.
+pub fn registers(work: &mut [u16], end: usize) -> usize
+    requires { ⌜ Listable (now work) end ⌝ }
+    ensures { λ r. ⌜ Listed (now (work .entry)) end (now (work .exit)) r ⌝ }
+{
+    let mut n: usize = 0;
+    let mut x: usize = 0;
+    while x < end {
+        if work[x] == 65521 {
+            work[TARGETS + n] = x as u16;
+            n = n + 1;
+        }
+        x = x + 1;
+    }
+    n
+}

@@ -1,0 +1,60 @@
+"""The command `deltawobble`: its subcommands, and what it says where it is used wrongly.
+
+Exit status: 0 accepted, 1 refused, 2 wrong use (130 after Ctrl-C, 141 where the reader has gone).
+"""
+from __future__ import annotations
+
+import argparse
+import importlib
+import os
+import sys
+from typing import Optional, Sequence
+
+from .answer import Refused
+from .engine import NoLibrary
+from .files import WrongUse
+from .notation import NotationError
+from .terminal import paint
+
+COMMANDS = ("listing", "translate", "explain", "where", "batch", "verilog", "run", "check", "back", "inline", "draw", "show", "make")
+
+
+def parser() -> argparse.ArgumentParser:
+    """The command's parser: each subcommand's help ends with an example."""
+    top = argparse.ArgumentParser(
+        prog="deltawobble", description="Sheets of the linear lambda calculus, their netlists, and what is wrong with them.",
+        epilog="Exit status: 0 accepted, 1 refused, 2 wrong use. 'deltawobble COMMAND --help' shows an example.")
+    commands = top.add_subparsers(dest="command", metavar="COMMAND", required=True)
+    for name in COMMANDS:
+        module = importlib.import_module(".commands." + name, __package__)
+        sub = commands.add_parser(name, help=module.WORDS, description=module.WORDS[0].upper() + module.WORDS[1:] + ".",
+                                  epilog="example:\n  " + module.EXAMPLE.replace("\n", "\n  "), formatter_class=argparse.RawDescriptionHelpFormatter)
+        module.add(sub)
+        sub.add_argument("--json", action="store_true", help="the answer as JSON, for programs")
+        sub.set_defaults(run=module.run)
+    return top
+
+
+def main(words: Optional[Sequence[str]] = None) -> int:
+    """Runs the command and gives its exit status."""
+    given = parser().parse_args(words)
+    try:
+        status = given.run(given)
+        sys.stdout.flush()
+        return status
+    except Refused as refused:
+        print(paint(str(refused), "red", sys.stderr), file=sys.stderr)
+        return 1
+    except NotationError as error:
+        print(error, file=sys.stderr)
+        return 2
+    except (WrongUse, NoLibrary) as error:
+        print("deltawobble: %s" % error, file=sys.stderr)
+        return 2
+    except KeyboardInterrupt:
+        print("deltawobble: stopped", file=sys.stderr)
+        return 130
+    except BrokenPipeError:
+        # the reader has gone; what is left in the buffer goes nowhere
+        os.dup2(os.open(os.devnull, os.O_WRONLY), sys.stdout.fileno())
+        return 141

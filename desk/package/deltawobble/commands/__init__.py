@@ -1,0 +1,1 @@
+"""The subcommands, one module each: WORDS (one line of help), EXAMPLE, add(parser), run(arguments) -> exit status."""

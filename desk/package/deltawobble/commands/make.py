@@ -1,0 +1,38 @@
+"""deltawobble make: notation to a sheet."""
+from __future__ import annotations
+
+import argparse
+import json
+
+from .. import calls
+from ..answer import Refused
+from ..files import WrongUse, raw, text_of
+from ..files import Source
+from ..hexes import sheet_hex
+from ..notation import make
+from ..output import put
+from ..refusing import say
+
+WORDS = "make a sheet from a text in the notation (docs/NOTATION.md)"
+EXAMPLE = "deltawobble make examples/sticky.dw -o sticky.sheet"
+
+
+def add(parser: argparse.ArgumentParser) -> None:
+    parser.add_argument("text", help="a file in the notation; - for standard input")
+    parser.add_argument("-o", metavar="FILE", dest="output", help="raw bytes to FILE, commented hex to FILE.hex; without it commented hex is printed")
+
+
+def run(given: argparse.Namespace) -> int:
+    text = text_of(raw(given.text) or b"\n")
+    if text is None:
+        raise WrongUse("%s: this is no text" % given.text)
+    made = make(text, given.text)
+    try:
+        calls.translate(made.sheet)
+    except Refused as refused:
+        return say(Source(given.text, made.sheet, made), refused, given.json)
+    if given.json:
+        print(json.dumps({"accepted": True, "bytes": len(made.sheet), "sheet": made.sheet.hex()}))
+    if given.output or not given.json:
+        put(given.output, made.sheet, lambda sheet: sheet_hex(sheet, made.own()))
+    return 0

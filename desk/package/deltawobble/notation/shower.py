@@ -1,0 +1,206 @@
+"""A sheet as a text in the notation. `make` gives the same bytes back for every accepted sheet."""
+from __future__ import annotations
+
+from dataclasses import dataclass, field
+from typing import Optional
+
+from ..naming import names_of
+from ..sheet import Node, Sheet, part_name
+from ..types import BIT, Type, written
+
+WIDE = 100
+#: a type whose words are longer gets a name
+LONG = 24
+#: how closely a term binds: a whole one, a function that is applied, an argument
+WHOLE, FUNCTION, ARGUMENT = 0, 1, 2
+
+
+@dataclass
+class Shape:
+    """A term's words on one line, and where it may be broken: `head` stands first, the lines of the others below it.
+
+    `hang` tells that the last one needs no deeper indentation: the body of a let or of a fun.
+    """
+
+    flat: str
+    head: str = ""
+    parts: list[tuple[str, "Shape", str]] = field(default_factory=list)
+    hang: bool = False
+
+
+class Shower:
+    """The words of one sheet's term."""
+
+    def __init__(self, sheet: Sheet):
+        self.sheet, self.names = sheet, names_of(sheet)
+        self.type_names: dict[Type, str] = {}
+
+    def text(self) -> str:
+        lines = ["edition 2"] if self.sheet.edition == 2 else []
+        lines += self._types()
+        return "\n".join(lines + layout(self.term(self.sheet.term), "main = ", "", 2)) + "\n"
+
+    # ---- types
+
+    def _types(self) -> list[str]:
+        """Names for long types, and the table where it is not the one that the term alone would give."""
+        ordered = canonical(self.sheet) == self.sheet.types
+        listed = [] if ordered else self.sheet.types
+        annotated = [b.type for bound in self.names.bound.values() for b in bound if b.node.kind in (0x13, 0x15, 0x19)]
+        needed = closed([*listed, *annotated])
+        lines = []
+        for number, t in enumerate(self.sheet.types):
+            if t in needed and len(written(t, self.type_names)) > LONG:
+                name = "t%d" % number
+                lines.append("type %s = %s" % (name, written(t, self.type_names)))
+                self.type_names[t] = name
+        return lines + wrapped("table ", [self.type(t) for t in listed])
+
+    def type(self, t: Optional[Type]) -> str:
+        return written(t, self.type_names) if t else "?"
+
+    # ---- terms
+
+    def term(self, node: Node, place: int = WHOLE) -> Shape:
+        shape, binds = self._shape(node)
+        if binds >= place:
+            return shape
+        return Shape("(%s)" % shape.flat, "(", [("", shape, ")")])
+
+    def _shape(self, node: Node) -> tuple[Shape, int]:
+        """The words of a node, and how closely they bind."""
+        if node.is_variable:
+            return Shape(self.names.word(node)), ARGUMENT
+        if node.kind == 0x1A:
+            return Shape(part_name(node.part)), ARGUMENT
+        if node.kind == 0x17:
+            return self._pair(node), ARGUMENT
+        if node.kind in (0x13, 0x15, 0x19):
+            return self._binding(node), WHOLE
+        if node.kind == 0x18:
+            return self._apart(node), WHOLE
+        if node.kind == 0x1B:
+            return self._let(node, node.subterms[0], node.subterms[1]), WHOLE
+        if self._names_value(node):
+            return self._let(node.subterms[0], node.subterms[1], node.subterms[0].subterms[0]), WHOLE
+        function, argument = self.term(node.subterms[0], FUNCTION), self.term(node.subterms[1], ARGUMENT)
+        return Shape("%s %s" % (function.flat, argument.flat), "", [("", function, ""), ("", argument, "")]), FUNCTION
+
+    def _names_value(self, node: Node) -> bool:
+        """A function that is applied is a let; but for a sharable one in the second edition, where let is 1B."""
+        function = node.subterms[0].kind
+        return function == 0x15 and node.kind == 0x16 or function == 0x13 and node.kind == 0x14 and self.sheet.edition == 1
+
+    def _binding(self, node: Node) -> Shape:
+        """Binders that follow one another stand in one line while there is room; functions over one type share it."""
+        head = ""
+        while True:
+            word, t = "fix" if node.kind == 0x19 else "fun", self.names.bound[node.number][0].type
+            names: list[str] = []
+            while not names or word == "fun" and node.kind in (0x13, 0x15) and self.names.bound[node.number][0].type == t:
+                names.append(self.names.bound[node.number][0].name)
+                node = node.subterms[0]
+            head += "%s%s %s : %s." % (" " if head else "", word, " ".join(names), self.type(t))
+            if node.kind not in (0x13, 0x15, 0x19) or len(head) > WIDE // 2:
+                break
+        body = self.term(node)
+        return Shape("%s %s" % (head, body.flat), head, [("", body, "")], hang=True)
+
+    def _let(self, binding: Node, value: Node, body: Node) -> Shape:
+        return self._in("let %s = " % self.names.bound[binding.number][0].name, value, body)
+
+    def _in(self, head: str, value: Node, body: Node) -> Shape:
+        named = value.kind in (0x18, 0x1B) or value.kind in (0x14, 0x16) and self._names_value(value)
+        first, second = self.term(value, FUNCTION if named else WHOLE), self.term(body)
+        return Shape("%s%s in %s" % (head, first.flat, second.flat), "", [(head, first, " in"), ("", second, "")], hang=True)
+
+    def _apart(self, node: Node) -> Shape:
+        """Projections of the rest of a pair, which nobody else reads, are one."""
+        value, names = node.subterms[0], [self.names.bound[node.number][0].name]
+        while self._takes_rest(node):
+            node = node.subterms[1]
+            names.append(self.names.bound[node.number][0].name)
+        names.append(self.names.bound[node.number][1].name)
+        return self._in("let (%s) = " % ", ".join(names), value, node.subterms[1])
+
+    def _takes_rest(self, node: Node) -> bool:
+        inner = node.subterms[1]
+        if inner.kind != 0x18 or inner.subterms[0].kind != 0x11 or inner.subterms[0].binder != 0:
+            return False
+        rest = self.names.bound[node.number][1]
+        reads = [number for number, binder in self.names.meant.items() if binder is rest]
+        return reads == [inner.subterms[0].number]
+
+    def _pair(self, node: Node) -> Shape:
+        """(a, (b, c)) is (a, b, c)."""
+        halves = []
+        while node.kind == 0x17:
+            halves.append(self.term(node.subterms[0]))
+            node = node.subterms[1]
+        halves.append(self.term(node))
+        parts = [("", half, ",") for half in halves[:-1]] + [("", halves[-1], ")")]
+        return Shape("(%s)" % ", ".join(half.flat for half in halves), "(", parts)
+
+
+def layout(shape: Shape, before: str, behind: str, indent: int) -> list[str]:
+    """The lines of a term that stands behind some words and before some others; further lines begin at an indentation."""
+    if len(before) + len(shape.flat) + len(behind) <= WIDE or not shape.parts:
+        return [before + shape.flat + behind]
+    lines, first = [], before + shape.head
+    if shape.head and shape.hang:
+        lines, first = [first], " " * indent
+    for number, (head, part, tail) in enumerate(shape.parts):
+        last = number == len(shape.parts) - 1
+        inner = indent if shape.hang and last else indent + 2
+        lines += layout(part, first + head, tail + (behind if last else ""), inner)
+        first = " " * (indent if shape.hang else inner)
+    return lines
+
+
+def wrapped(head: str, words: list[str]) -> list[str]:
+    """Words behind a head, commas between, in lines that are not too wide."""
+    if not words:
+        return []
+    lines = [head + words[0]]
+    for word in words[1:]:
+        lines[-1] += ","
+        if len(lines[-1]) + len(word) >= WIDE:
+            lines.append(" " * len(head) + word)
+        else:
+            lines[-1] += " " + word
+    return lines
+
+
+def closed(types: list[Optional[Type]]) -> set[Type]:
+    """Types and all their sides."""
+    found: set[Type] = set()
+    left = [t for t in types if t]
+    while left:
+        t = left.pop()
+        if t not in found:
+            found.add(t)
+            left += [t.left, t.right] if t.kind > 1 else []
+    return found
+
+
+def canonical(sheet: Sheet) -> list[Type]:
+    """The table that the term alone gives: the single bit, then each written type behind its sides, as the nodes come."""
+    found: dict[Type, None] = {BIT: None}
+
+    def add(t: Type) -> None:
+        if t not in found:
+            add(t.left)
+            add(t.right)
+            found[t] = None
+
+    for node in sheet.nodes:
+        if node.type_number >= 0:
+            add(sheet.types[node.type_number])
+    return list(found)
+
+
+def show(sheet: bytes) -> str:
+    """The text of an accepted sheet. What is refused has no text: Refused."""
+    from ..calls import translate
+    translate(sheet)
+    return Shower(Sheet.parse(sheet)).text()

@@ -1,0 +1,61 @@
+/* A library that translates nothing: each call answers and writes numbers that depend on all it was lent, so that two back ends
+   which hand over the same things get the same answers. For test_engine. */
+#include <stdbool.h>
+#include <stddef.h>
+#include <stdint.h>
+
+static uint64_t sum;
+
+static void add(const void *from, size_t size) {
+    const uint8_t *bytes = from;
+    sum = sum * 31 + size;
+    for (size_t i = 0; i < size; i++) sum = sum * 31 + bytes[i];
+}
+
+static uint64_t answer(uint8_t *out, size_t room, uint16_t *work, size_t numbers, unsigned more) {
+    for (size_t i = 0; i < numbers; i++) sum += work[i];
+    sum = sum * 31 + numbers * 7 + room * 3 + more;
+    size_t wrote = room < 20 ? room : 20;
+    for (size_t i = 0; i < wrote; i++) out[i] = (uint8_t)(sum >> i);
+    return sum % 5 ? wrote : (sum % 1000 + (12ull << 32) + (256ull << 40) + (3ull << 52));
+}
+
+#define LENT(name) const uint8_t *name, size_t name##_len
+#define OUT uint8_t *out, size_t room, uint16_t *work, size_t numbers
+#define START(name) sum = name##_len, add(name, name##_len)
+
+uint64_t deltawobble_translate(LENT(sheet), OUT, bool lean, bool plain, bool card) {
+    START(sheet);
+    return answer(out, room, work, numbers, lean | plain << 1 | card << 2);
+}
+uint64_t deltawobble_stretch(LENT(sheet), size_t node) {
+    START(sheet);
+    return sum % 100 << 32 | node;
+}
+uint64_t deltawobble_batch(LENT(sheets), const uint32_t *lengths, size_t count, uint8_t *out, size_t room, uint64_t *results, size_t places,
+                           uint16_t *work, size_t numbers, bool lean, bool plain, bool card) {
+    START(sheets);
+    add(lengths, 4 * count);
+    for (size_t i = 0; i < places; i++) results[i] = lengths[i] * 3 + 1;
+    return answer(out, room, work, numbers, lean | plain << 1 | card << 2);
+}
+uint64_t deltawobble_verilog(LENT(sheet), OUT) {
+    START(sheet);
+    return answer(out, room, work, numbers, 0);
+}
+uint64_t deltawobble_run(LENT(sheet), LENT(inputs), LENT(starts), OUT, uint16_t ticks) {
+    START(sheet);
+    add(inputs, inputs_len);
+    add(starts, starts_len);
+    return answer(out, room, work, numbers, ticks);
+}
+uint64_t deltawobble_check(LENT(net), uint16_t *work, size_t numbers, bool lean) {
+    START(net);
+    return answer(0, 0, work, numbers, lean);
+}
+#ifndef WITHOUT_BACK
+uint64_t deltawobble_back(LENT(net), OUT, bool lean) {
+    START(net);
+    return answer(out, room, work, numbers, lean);
+}
+#endif

@@ -1,0 +1,202 @@
+"""The notation: show then make gives the same bytes; errors and refusals stand at their line and column."""
+from __future__ import annotations
+
+import random
+import tempfile
+import unittest
+from pathlib import Path
+
+import deltawobble
+from deltawobble import NotationError, Refused, make, show
+
+from . import generate
+from .support import EXAMPLES, command, examples
+
+STICKY = """-- two streams, and a bit that stays once they have differed
+edition 2
+type state = 1 * 1
+sticky = fun set : 1. fix s : 1. or (set, reg s)
+main = fun x : 1. fun y : 1. sticky (xor (x, y))
+"""
+
+
+def written(text: str) -> str:
+    return make(text).sheet.hex(" ").upper()
+
+
+class RoundTrip(unittest.TestCase):
+    def test_two_thousand_generated_sheets_of_both_editions(self):
+        for seed in range(2000):
+            sheet = generate.sheet(seed)
+            self.assertEqual(make(show(sheet)).sheet, sheet, seed)
+
+    def test_examples(self):
+        for name, sheet, listing in examples():
+            if listing.startswith("full"):
+                self.assertEqual(make(show(sheet)).sheet, sheet, name)
+
+    def test_large_sheets(self):
+        from .fault_reports import edges
+        for name in ("depth-64", "nodes-2048", "names-63", "terminals-8192", "wide-enough"):
+            self.assertEqual(make(show(edges()[name])).sheet, edges()[name], name)
+
+    def test_table_in_another_order_and_with_types_that_nobody_needs(self):
+        sheet = bytes.fromhex("01 02 00 00 03 00 00 04 02 01 13 02 11 00")
+        self.assertIn("table 1, 1 * 1, 1 -> 1, (1 -> 1) -o 1 * 1", show(sheet))
+        self.assertEqual(make(show(sheet)).sheet, sheet)
+
+    def test_what_is_refused_has_no_text(self):
+        with self.assertRaises(Refused):
+            show(bytes.fromhex("01 14 1A 00 00 1A 00 00"))
+
+
+class Making(unittest.TestCase):
+    def test_by_hand(self):
+        self.assertEqual(written("main = zero"), "01 1A 00 00")
+        self.assertEqual(written("main = fun x : 1. x"), "01 03 00 00 13 01 11 00")
+        self.assertEqual(written("main = (fun f : 1 -> 1. f zero) reg"), "01 03 00 00 04 01 00 16 15 02 14 12 00 1A 00 00 1A 01 01")
+        self.assertEqual(written("main = fix x : 1. and zero (reg x)"), "01 03 00 00 03 00 01 19 00 14 14 1A 02 02 1A 00 00 14 1A 01 01 11 00")
+        self.assertEqual(written("main = fix p : 1 * 1. let (x, y) = p in (y, x)"), "01 02 00 00 19 01 18 11 00 17 01 11 00 11 01")
+
+    def test_let_is_a_function_in_the_first_edition_and_1B_in_the_second(self):
+        self.assertEqual(written("main = let x = zero in x"), "01 03 00 00 14 13 01 11 00 1A 00 00")
+        self.assertEqual(written("edition 2 main = let x = zero in x"), "31 01 1B 1A 00 00 11 00")
+        self.assertEqual(written("edition 2 main = let f = reg in f zero"), "31 01 03 00 00 04 01 00 16 15 02 14 12 00 1A 00 00 1A 01 01")
+
+    def test_short_forms(self):
+        self.assertEqual(written("main = fun x y : 1. (x, y, x)"), written("main = fun x : 1. fun y : 1. (x, (y, x))"))
+        self.assertEqual(written("main = fun p : 1 * 1 * 1. let (x, y, z) = p in z"),
+                         written("main = fun p : 1 * (1 * 1). let (x, r) = p in let (y, z) = r in z"))
+        self.assertEqual(written("main = fun f : (1 → 1) ⊸ 1 × 1. f inv"), written("main = fun f : (1 -> 1) -o (1 * 1). f inv"))
+
+    def test_definitions_are_put_in(self):
+        self.assertEqual(written("a = fun x : 1. inv (inv x)\nmain = a (a one)"), written("main = (fun x : 1. inv (inv x)) ((fun y : 1. inv (inv y)) one)"))
+        self.assertEqual(written("x = one\nmain = fun y : 1. and x y"), written("main = fun y : 1. and one y"))
+
+    def test_a_definition_is_not_caught_by_a_variable(self):
+        self.assertEqual(written("d = fun x : 1. x\nmain = fun x : 1. d x"), written("main = fun y : 1. (fun x : 1. x) y"))
+
+    def test_tokens(self):
+        self.assertEqual(written("main=fun x:1.x--end"), written("main = fun x : 1. x"))
+        self.assertEqual(written("main = fun x' : 1.\r\n x'\r\n"), written("main = fun x : 1. x"))
+        self.assertEqual(make(STICKY).sheet, make(STICKY.replace("\n", "\r\n")).sheet)
+
+
+class Errors(unittest.TestCase):
+    def place(self, text: str) -> tuple[int, int, str]:
+        with self.assertRaises(NotationError) as caught:
+            make(text, "mine.dw")
+        said = caught.exception
+        self.assertTrue(str(said).startswith("mine.dw:%d:%d: " % (said.span.line, said.span.column)))
+        return said.span.line, said.span.column, said.what
+
+    def test_line_and_column(self):
+        for text, line, column, words in [
+                ("", 1, 1, "no definition of main"), ("main", 1, 5, "'=' is due"), ("main = ", 1, 8, "a term is due"),
+                ("main = (zero", 1, 13, "')' is due"), ("main = fun x. x", 1, 13, "':' is due"), ("main = fun x : 1 x", 1, 18, "'.' is due"),
+                ("main = y", 1, 8, "y is not defined"), ("main = fun x : t. x", 1, 16, "no type t"), ("main = zero\nmain = one", 2, 1, "defined twice"),
+                ("main = a\na = zero", 1, 8, "above"), ("a = a\nmain = a", 1, 5, "above"), ("main = zero ?", 1, 13, "'?'"), ("main = zé", 1, 9, "\\xe9"),
+                ("main = fun and : 1. zero", 1, 12, "is a part"), ("main = let (x) = zero in x", 1, 13, "one name"),
+                ("main = reg fun x : 1. x", 1, 12, "parentheses"), ("edition 3\nmain = zero", 1, 9, "editions"), ("main = 1", 1, 8, "a term is due"),
+                ("main = zero\nedition 2", 2, 1, "before all else"), ("type t = 1\ntype t = 1\nmain = zero", 2, 6, "twice"),
+                ("main = fix x : . x", 1, 16, "a type is due"), ("main = let x = zero", 1, 20, "'in' is due")]:
+            found = self.place(text)
+            self.assertEqual(found[:2], (line, column), text)
+            self.assertIn(words, found[2], text)
+
+    def test_the_line_is_shown_with_the_word_marked(self):
+        with self.assertRaises(NotationError) as caught:
+            make("main = fun first : 1.\n  inv frist", "mine.dw")
+        self.assertEqual(str(caught.exception), "mine.dw:2:7: frist is not defined\n   2 |   inv frist\n     |       ^^^^^ did you mean first?")
+
+    def test_cut_anywhere_and_any_character(self):
+        rng = random.Random(3)
+        texts = [STICKY[:n] for n in range(len(STICKY))]
+        signs = "()*=.,:- \n\t'\"#\\0129ao\u00e9\u03bb\u2192\U0001F600\x7f"
+        for _ in range(1500):
+            at = rng.randrange(len(STICKY))
+            texts.append(STICKY[:at] + rng.choice(signs) + STICKY[at + rng.randrange(2):])
+        for text in texts:
+            try:
+                make(text)
+            except NotationError:
+                pass
+
+    def test_too_much_ends(self):
+        double = "a0 = inv one\n" + "".join("a%d = and a%d a%d\n" % (n, n - 1, n - 1) for n in range(1, 40))
+        self.assertIn("nodes", self.place(double + "main = a39")[2])
+        self.assertIn("in one another", self.place("main = " + "(" * 5000)[2])
+        self.assertIn("deep", self.place("main = " + "zero " * 3000)[2])
+        types = "type t0 = 1\n" + "".join("type t%d = t%d * t%d\n" % (n, n - 1, n - 1) for n in range(1, 60))
+        self.assertIn("single bits", self.place(types + "main = zero")[2])
+
+
+class Refusals(unittest.TestCase):
+    def lines(self, text: str) -> list[str]:
+        made = make(text, "mine.dw")
+        with self.assertRaises(Refused) as caught:
+            deltawobble.translate(made.sheet)
+        return made.place_lines(made.sheet, caught.exception)
+
+    def test_the_issue_s_own(self):
+        self.assertEqual(self.lines(STICKY.replace("xor (x, y)", "x, y")), [
+            "mine.dw:5:30: refused 12 at node 2: the types do not fit",
+            "   5 | main = fun x : 1. fun y : 1. sticky (x, y)",
+            "     |                              ^^^^^^ wants 1, and gets 1 * 1"])
+
+    def test_each_that_a_text_can_have(self):
+        for text, first, word in [
+                ("main = zero zero", "mine.dw:1:8: refused 12 at node 0", "^^^^ has type 1, and is no function"),
+                ("main = reg reg", "mine.dw:1:8: refused 12 at node 0", "^^^ wants 1, and gets 1 -> 1"),
+                ("main = let (x, y) = one in x", "mine.dw:1:21: refused 12 at node 0", "^^^ has type 1, and is no pair"),
+                ("main = fix x : 1. reg", "mine.dw:1:8: refused 12 at node 0", "^^^^^ is of type 1, and its body has 1 -> 1"),
+                ("main = fix f : 1 -> 1. f", "mine.dw:1:8: refused 12 at node 0", "a fixed point is over a sharable type"),
+                ("main = fun f : 1 -> 1. and (f one) (f one)", "mine.dw:1:37: refused 13 at node 8", "^ f is linear, and is used here again"),
+                ("main = fun f : 1 -> 1. one", "mine.dw:1:8: refused 14 at node 0", "^^^^^ f is linear, and is used nowhere"),
+                ("main = (reg, one)", "mine.dw:1:8: refused 6", "^^^^^^^^^^"), ("main = fun x : 1 -o 1. x one", "mine.dw:1:8: refused 6", "^")]:
+            lines = self.lines(text)
+            self.assertTrue(lines[0].startswith(first), (text, lines))
+            self.assertIn(word, lines[2], text)
+
+    def test_a_definition_tells_where_it_was_put_in(self):
+        lines = self.lines("bad = fun x : 1. x x\ntwice = bad\nmain = fun y : 1. twice y")
+        self.assertEqual((lines[0].split(":")[1:3], lines[3]), (["1", "18"], "     | put in at 2:9, itself put in at 3:19"))
+
+    def test_long_types_go_by_their_names(self):
+        word = "type word = 1 * 1 * 1 * 1\nmain = fun x : word -> 1. fun y : 1. x y"
+        self.assertIn("^ wants word, and gets 1", self.lines(word)[2])
+
+    def test_which_half_of_a_pair_is_a_circuit(self):
+        self.assertIn("its second half has type 1 -> 1", self.lines("main = (one, reg)")[2])
+
+    def test_limits_stand_where_they_are_passed(self):
+        self.assertIn("refused 8", self.lines("main = " + "inv (" * 64 + "one" + ")" * 64)[0])
+        wide = "type t0 = 1\n" + "".join("type t%d = t%d * t%d\n" % (n, n - 1, n - 1) for n in range(1, 9))
+        self.assertEqual(self.lines(wide + "main = fun x : t8. x")[0].split(":")[1:3], ["10", "8"])
+
+
+class Commands(unittest.TestCase):
+    def test_make_and_show(self):
+        with tempfile.TemporaryDirectory() as folder:
+            text, sheet, as_hex = (str(Path(folder) / name) for name in ("mine.dw", "mine.sheet", "mine.hex"))
+            Path(text).write_text(STICKY)
+            self.assertEqual(command("make", text, "-o", sheet), (0, "", ""))
+            self.assertEqual(command("make", text, "-o", as_hex), (0, "", ""))
+            self.assertEqual(Path(sheet).read_bytes(), make(STICKY).sheet)
+            self.assertEqual(Path(as_hex).read_text(), command("make", text)[1])
+            shown = {command("show", name)[1] for name in (text, sheet, as_hex)}
+            self.assertEqual(shown, {"edition 2\nmain = fun x y : 1. (fun z : 1. fix u : 1. or (z, reg u)) (xor (x, y))\n"})
+
+    def test_refused_and_wrong(self):
+        self.assertEqual(command("show", str(EXAMPLES / "P8.hex"))[0], 1)
+        status, out, err = command("make", "-", given=b"main = zero zero\n")
+        self.assertEqual((status, out), (1, ""))
+        self.assertTrue(err.startswith("-:1:8: refused 12 at node 0: the types do not fit\n"), err)
+        self.assertEqual(command("make", "-", given=b"main = \n")[0], 2)
+        self.assertEqual(command("make", "-", given=b"")[0], 2)
+        self.assertEqual(command("make", "-", given=bytes(range(256)))[0], 2)
+
+    def test_explain_shows_the_line(self):
+        status, out, _ = command("explain", "-", given=b"main = zero zero\n")
+        self.assertEqual(status, 1)
+        self.assertIn("-:1:8: refused 12", out)
