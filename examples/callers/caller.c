@@ -8,7 +8,7 @@ static uint8_t out[DELTAWOBBLE_ROOM];
 static uint16_t work[DELTAWOBBLE_MEMORY];
 
 static void show(const char *name, bool lean) {
-    uint64_t answer = deltawobble_translate(sheet, sizeof sheet, out, sizeof out, work, DELTAWOBBLE_MEMORY, lean, true);
+    uint64_t answer = deltawobble_translate(sheet, sizeof sheet, out, sizeof out, work, DELTAWOBBLE_MEMORY, lean, true, false);
     uint32_t number = answer >> 32 & 255, value = (uint32_t)answer;
     if (number) {
         printf("%s refused %u %u\n", name, number, value);

@@ -15,7 +15,7 @@ library.deltawobble_translate.argtypes = [
     ctypes.c_char_p, ctypes.c_size_t,
     ctypes.POINTER(ctypes.c_uint8), ctypes.c_size_t,
     ctypes.POINTER(ctypes.c_uint16), ctypes.c_size_t,
-    ctypes.c_bool, ctypes.c_bool,
+    ctypes.c_bool, ctypes.c_bool, ctypes.c_bool,
 ]
 
 
@@ -23,7 +23,7 @@ def translate(sheet, lean):
     """(0, the netlist's bytes), or (the refusal's number, its place)"""
     out = (ctypes.c_uint8 * ROOM)()
     work = (ctypes.c_uint16 * MEMORY)()
-    answer = library.deltawobble_translate(sheet, len(sheet), out, ROOM, work, MEMORY, lean, True)
+    answer = library.deltawobble_translate(sheet, len(sheet), out, ROOM, work, MEMORY, lean, True, False)
     number, value = answer >> 32 & 255, answer & 0xFFFFFFFF
     return (number, value) if number else (0, bytes(out[:value]))
 

@@ -10,6 +10,7 @@ extern "C" {
         work_len: usize,
         lean: bool,
         plain: bool,
+        card: bool,
     ) -> u64;
 }
 
@@ -32,6 +33,7 @@ fn translate(sheet: &[u8], lean: bool) -> Result<Vec<u8>, Refusal> {
             memory,
             lean,
             true,
+            false,
         )
     };
     match ((answer >> 32 & 255) as u32, answer as u32) {

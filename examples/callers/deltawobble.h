@@ -20,9 +20,10 @@ enum {
 };
 
 /* Translates a sheet to its full or lean netlist, in the plain kinds 21 and 22 or with the node that
-   made each element, kinds 25 and 26. */
+   made each element, kinds 25 and 26. With card, the card's profile is checked first: 27 the root's type,
+   28 a kept ring point, 29 a part's output that nobody reads. */
 uint64_t deltawobble_translate(const uint8_t *sheet, size_t sheet_len, uint8_t *out, size_t out_len,
-                               uint16_t *work, size_t work_len, bool lean, bool plain);
+                               uint16_t *work, size_t work_len, bool lean, bool plain, bool card);
 
 /* Sheets laid end to end, each of its length: the netlists stand one behind the other, and each sheet has its
    result, such a word as above. A refused sheet uses nothing of the output and stops nothing. The value is the

@@ -70,7 +70,16 @@ fn fields(number: u8, value: usize, out: &[u8], work: &[u16]) {
 // One call, and what it leaves. The output is filled before, and what the call has written is filled again. The length or the place.
 fn call(sheet: &[u8], out: &mut [u8], work: &mut [u16], lean: bool) -> usize {
     fill_work(work);
-    match translation::translate(sheet, out, work, Wish { lean, plain: true }) {
+    match translation::translate(
+        sheet,
+        out,
+        work,
+        Wish {
+            lean,
+            plain: true,
+            card: false,
+        },
+    ) {
         Answer::Written(n) => {
             fields(0, n, out, work);
             fill_out(&mut out[..n]);

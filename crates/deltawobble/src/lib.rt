@@ -5,9 +5,9 @@ use translator::Answer;
 use typing::Refusal;
 ghost use mathlib.Core.Path.{_≡_};
 ghost use Rattle.calculus.specs.Stretch.{stretchOf};
-ghost use Rattle.calculus.specs.Translate.{call};
 ghost use Rattle.batch.specs.Batch.{batchCall};
 ghost use Rattle.foreign_theorems.specs.Foreign.{checkCall};
+ghost use Rattle.export_calculus.specs.CardCall.{cardCall};
 ghost use Rattle.trace_calculus.specs.Trace.{runCall};
 ghost use Rattle.export_calculus.specs.Verilog.{verilogCall};
 ghost use Rattle.back_theorems.specs.Returned.{backCall};
@@ -22,10 +22,11 @@ pub extern "C" fn deltawobble_translate(
     work: &mut [u16],
     lean: bool,
     plain: bool,
+    card: bool,
 ) -> u64
-    ensures { λ r. ⌜ Packs r (now (out .exit)) (now (work .exit)) (call (record { lean = lean; plain = plain }) (now (sheet .entry)) (now (out .entry)) (now (work .entry))) ⌝ }
+    ensures { λ r. ⌜ Packs r (now (out .exit)) (now (work .exit)) (cardCall card (record { lean = lean; plain = plain }) (now (sheet .entry)) (now (out .entry)) (now (work .entry))) ⌝ }
 {
-    let answer = translation::translate(sheet, out, work, Wish { lean, plain });
+    let answer = translation::translate(sheet, out, work, Wish { lean, plain, card });
     translator::word(answer)
 }
 

@@ -49,7 +49,16 @@ fn refused(number: u8, place: usize) {
 
 // One netlist behind its heading, or the refusal. False where the sheet is refused.
 fn translated(sheet: &[u8], out: &mut [u8], work: &mut [u16], lean: bool, heading: &[u8]) -> bool {
-    match translation::translate(sheet, out, work, Wish { lean, plain: true }) {
+    match translation::translate(
+        sheet,
+        out,
+        work,
+        Wish {
+            lean,
+            plain: true,
+            card: false,
+        },
+    ) {
         Answer::Written(n) => {
             netlist(heading, &out[..n]);
             true

@@ -10,7 +10,9 @@ use Rattle.typing.specs.declared.Refusal.{Refusal}
 use Rattle.typing.specs.Verdicts.{saidWhy}
 use Rattle.calculus.specs.Net.{Net}
 use Rattle.calculus.specs.Makers.{makersOf, written}
-use Rattle.calculus.specs.Translate.{full, Wish, answer, asked, askedMakers, askedBytes, workOf, call}
+use Rattle.calculus.specs.Translate.{full, Wish, asked, askedMakers, askedBytes, workOf}
+use Rattle.export_calculus.specs.Card.{onCard}
+use Rattle.export_calculus.specs.CardCall.{cardAnswer, cardCall}
 use Rattle.translator.specs.Made.{lent, Keeps}
 use Rattle.translator.specs.Said.{inRoom, Says, called}
 use Rattle.translator.specs.declared.Answer as code
@@ -21,9 +23,9 @@ need-first : (t : Bool) (a : Answer Net) (f : Net → Answer (List ℕ)) → (ne
 need-first true a f = refl
 need-first false a f = refl
 
-answer-lent : (memory : ℕ) (b : Wish) (s : List ℕ) (room : ℕ) → answer memory b s room ≡ (lent memory s >>= λ m. inRoom (askedBytes b m (makersOf s)) room)
-unfolding answer lent inRoom
-answer-lent memory b s room = need-first (leb 32768 memory) (full s) (λ m. inRoom (askedBytes b m (makersOf s)) room)
+answer-lent : (card : Bool) (memory : ℕ) (b : Wish) (s : List ℕ) (room : ℕ) → cardAnswer card memory b s room ≡ (lent memory s >>= λ m. onCard card s m >>= λ _. inRoom (askedBytes b m (makersOf s)) room)
+unfolding cardAnswer lent inRoom
+answer-lent card memory b s room = need-first (leb 32768 memory) (full s) (λ m. onCard card s m >>= λ _. inRoom (askedBytes b m (makersOf s)) room)
 
 -- plain bytes name no nodes
 named-bytes : (w : Wish) (m : Net) (ks js : List ℕ) → (w .plain ≡ false → ks ≡ js) → askedBytes w m ks ≡ askedBytes w m js
@@ -33,18 +35,19 @@ named-bytes w m ks js n = by (w .plain) n
     by true n = refl
     by false n = ap (λ (l : List ℕ). written false (asked (w .lean) m) (askedMakers (w .lean) m l)) (n refl)
 
-module _ (b : Wish) (s out : List ℕ) (memory : ℕ) where
+module _ (card : Bool) (b : Wish) (s out : List ℕ) (memory : ℕ) where
   -- a refusal passes through
-  pub refused-says : (why : Refusal) → refused (saidWhy why) ≡ lent memory s → Says (answer.Refused why) out out (answer memory b s (length out))
-  refused-says why e = rw (answer-lent memory b s (length out), ← e) (record { said = refl; wrote = refl })
+  pub refused-says : (why : Refusal) → refused (saidWhy why) ≡ lent memory s → Says (answer.Refused why) out out (cardAnswer card memory b s (length out))
+  refused-says why e = rw (answer-lent card memory b s (length out), ← e) (record { said = refl; wrote = refl })
 
   -- a netlist that was written is the one asked for
-  pub net-says : (r : code.Answer) (after : List ℕ) (m : Net) (ks : List ℕ) → good m ≡ lent memory s → (b .plain ≡ false → ks ≡ makersOf s) → Says r out after (inRoom (askedBytes b m ks) (length out))
-      → Says r out after (answer memory b s (length out))
-  net-says r after m ks e n h = rw (answer-lent memory b s (length out), ← e, ← named-bytes b m ks (makersOf s) n) h
+  pub net-says : (r : code.Answer) (after : List ℕ) (m : Net) (ks : List ℕ) → good m ≡ lent memory s → (b .plain ≡ false → ks ≡ makersOf s) → (a : Answer (Unit {0})) → a ≡ onCard card s m
+      → Says r out after (a >>= λ _. inRoom (askedBytes b m ks) (length out))
+      → Says r out after (cardAnswer card memory b s (length out))
+  net-says r after m ks e n a q h = rw (answer-lent card memory b s (length out), ← e, ← q, ← named-bytes b m ks (makersOf s) n) h
 
 -- after the stages, the working memory is cleared
-pub call-run : (b : Wish) (s out work : List ℕ) (r : code.Answer) (after mid : List ℕ)
-    → Says r out after (answer (length work) b s (length out)) → Keeps work mid → called r after (workOf mid) ≡ call b s out work
-unfolding call
-call-run b s out work r after mid a k = rw (a .said, a .wrote, k)
+pub call-run : (card : Bool) (b : Wish) (s out work : List ℕ) (r : code.Answer) (after mid : List ℕ)
+    → Says r out after (cardAnswer card (length work) b s (length out)) → Keeps work mid → called r after (workOf mid) ≡ cardCall card b s out work
+unfolding cardCall
+call-run card b s out work r after mid a k = rw (a .said, a .wrote, k)

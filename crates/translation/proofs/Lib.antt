@@ -3,5 +3,7 @@ pub mod Demands
 pub mod Determined
 pub mod WriteLaws
 pub mod CallLaws
+pub mod CardLaws
+pub mod CardCall
 pub mod Written
 pub mod Nodes

@@ -1,18 +1,24 @@
 // The netlist that stands in the working memory is written, where it fits.
 use crate::Wish;
+use card::Judged;
 use translator::Answer;
+use typing::Refusal;
 use wiring::Counts;
 ghost use mathlib.Core.Path.{_≡_};
 ghost use lib.ListN.{length};
+ghost use Rattle.calculus.specs.Read.{recordsOf};
 ghost use Rattle.calculus.specs.Lean.{lean};
 ghost use Rattle.calculus.specs.Record.{All};
 ghost use Rattle.calculus.specs.Makers.{leanMakers, written};
 ghost use Rattle.calculus.specs.Translate.{askedBytes};
 ghost use Rattle.memory.specs.Map.{makersAt, region, netIn, Ready};
 ghost use Rattle.calculus.specs.NetRead.{Known};
+ghost use Rattle.lean.specs.Table.{Whole};
+ghost use Rattle.export_calculus.specs.Card.{profiled};
+ghost use Rattle.root_type.specs.Chains.{chainIn};
 ghost use Rattle.translator.specs.Made.{Keeps};
 ghost use Rattle.translator.specs.Said.{Says, inRoom};
-ghost use Rattle.translation.specs.Wished.{saidWish};
+ghost use Rattle.translation.specs.Wished.{saidWish, cardBy, onPass};
 
 // The full netlist; 17 with the length needed where the output is shorter.
 fn write_full(
@@ -34,30 +40,72 @@ fn write_full(
     Answer::Written(length)
 }
 
-// The lean netlist, likewise.
+// The lean netlist, likewise, once its roots are found.
 fn write_lean(
-    work: &mut [u16],
+    work: &[u16],
     out: &mut [u8],
     elements: usize,
     wires: usize,
     pins: usize,
     plain: bool,
 ) -> Answer
-    requires { ⌜ (Ready (now work) elements wires pins) × (All Known (netIn (now work) elements wires pins .elements)) ⌝ }
-    ensures { λ r. ⌜ (Says r (now (out .entry)) (now (out .exit)) (inRoom (written plain (lean (netIn (now (work .entry)) elements wires pins)) (leanMakers (netIn (now (work .entry)) elements wires pins) (region (now (work .entry)) makersAt elements))) (length (now (out .entry)))))
-        × (Keeps (now (work .entry)) (now (work .exit))) ⌝ }
+    requires { ⌜ (Whole (now work) elements wires pins) × (All Known (netIn (now work) elements wires pins .elements)) ⌝ }
+    ensures { λ r. ⌜ Says r (now (out .entry)) (now (out .exit)) (inRoom (written plain (lean (netIn (now (work .entry)) elements wires pins)) (leanMakers (netIn (now (work .entry)) elements wires pins) (region (now (work .entry)) makersAt elements))) (length (now (out .entry)))) ⌝ }
 {
-    lean::roots(work, elements, wires, pins);
-    let n = lean::lean_length(&work[..], elements, wires, pins, plain);
+    let n = lean::lean_length(work, elements, wires, pins, plain);
     if out.len() < n {
         return translator::too_short(n);
     }
-    let written = lean::write_lean(&work[..], out, elements, wires, pins, plain);
+    let written = lean::write_lean(work, out, elements, wires, pins, plain);
     Answer::Written(written)
 }
 
-// The one that is wished.
-pub fn write(work: &mut [u16], out: &mut [u8], counts: Counts, wish: Wish) -> Answer
+// The one that is wished, once the roots are found.
+fn write_rooted(work: &[u16], out: &mut [u8], counts: Counts, wish: Wish) -> Answer
+    requires { ⌜ (Whole (now work) (counts .elements) (counts .wires) (counts .pins)) × (All Known (netIn (now work) (counts .elements) (counts .wires) (counts .pins) .elements)) ⌝ }
+    ensures { λ r. ⌜ Says r (now (out .entry)) (now (out .exit)) (inRoom (askedBytes (saidWish wish) (netIn (now (work .entry)) (counts .elements) (counts .wires) (counts .pins)) (region (now (work .entry)) makersAt (counts .elements))) (length (now (out .entry)))) ⌝ }
+{
+    let elements = counts.elements;
+    let wires = counts.wires;
+    let pins = counts.pins;
+    let plain = wish.plain;
+    if wish.lean {
+        return write_lean(work, out, elements, wires, pins, plain);
+    }
+    write_full(work, out, elements, wires, pins, plain)
+}
+
+// The card's profile is judged, then the netlist that is wished is written.
+fn write_card(
+    records: &[u8],
+    work: &mut [u16],
+    out: &mut [u8],
+    counts: Counts,
+    root: u8,
+    wish: Wish,
+) -> Answer
+    requires { ⌜ (Ready (now work) (counts .elements) (counts .wires) (counts .pins)) × (All Known (netIn (now work) (counts .elements) (counts .wires) (counts .pins) .elements)) ⌝ }
+    ensures { λ r. ⌜ (Says r (now (out .entry)) (now (out .exit)) (onPass (profiled (chainIn (now (records .entry)) 256 root) (lean (netIn (now (work .entry)) (counts .elements) (counts .wires) (counts .pins))))
+        (inRoom (askedBytes (saidWish wish) (netIn (now (work .entry)) (counts .elements) (counts .wires) (counts .pins)) (region (now (work .entry)) makersAt (counts .elements))) (length (now (out .entry))))))
+        × (Keeps (now (work .entry)) (now (work .exit))) ⌝ }
+{
+    let elements = counts.elements;
+    let wires = counts.wires;
+    let pins = counts.pins;
+    lean::roots(work, elements, wires, pins);
+    match card::judge(records, root, work, elements, wires, pins) {
+        Judged::Refused(number, place) => Answer::Refused(Refusal {
+            number,
+            place,
+            wanted: 0,
+            found: 0,
+        }),
+        Judged::Passes => write_rooted(&work[..], out, counts, wish),
+    }
+}
+
+// Without that check, the roots are found only for the lean netlist.
+fn write_plain(work: &mut [u16], out: &mut [u8], counts: Counts, wish: Wish) -> Answer
     requires { ⌜ (Ready (now work) (counts .elements) (counts .wires) (counts .pins)) × (All Known (netIn (now work) (counts .elements) (counts .wires) (counts .pins) .elements)) ⌝ }
     ensures { λ r. ⌜ (Says r (now (out .entry)) (now (out .exit)) (inRoom (askedBytes (saidWish wish) (netIn (now (work .entry)) (counts .elements) (counts .wires) (counts .pins)) (region (now (work .entry)) makersAt (counts .elements))) (length (now (out .entry)))))
         × (Keeps (now (work .entry)) (now (work .exit))) ⌝ }
@@ -67,7 +115,28 @@ pub fn write(work: &mut [u16], out: &mut [u8], counts: Counts, wish: Wish) -> An
     let pins = counts.pins;
     let plain = wish.plain;
     if wish.lean {
-        return write_lean(work, out, elements, wires, pins, plain);
+        lean::roots(work, elements, wires, pins);
+        return write_lean(&work[..], out, elements, wires, pins, plain);
     }
     write_full(&work[..], out, elements, wires, pins, plain)
+}
+
+// What is wished: the check, and the netlist.
+pub fn write(
+    sheet: &[u8],
+    work: &mut [u16],
+    out: &mut [u8],
+    counts: Counts,
+    root: u8,
+    wish: Wish,
+) -> Answer
+    requires { ⌜ (Ready (now work) (counts .elements) (counts .wires) (counts .pins)) × (All Known (netIn (now work) (counts .elements) (counts .wires) (counts .pins) .elements)) ⌝ }
+    ensures { λ r. ⌜ (Says r (now (out .entry)) (now (out .exit)) (onPass (cardBy (wish .card) (chainIn (recordsOf (now (sheet .entry))) 256 root) (netIn (now (work .entry)) (counts .elements) (counts .wires) (counts .pins)))
+        (inRoom (askedBytes (saidWish wish) (netIn (now (work .entry)) (counts .elements) (counts .wires) (counts .pins)) (region (now (work .entry)) makersAt (counts .elements))) (length (now (out .entry))))))
+        × (Keeps (now (work .entry)) (now (work .exit))) ⌝ }
+{
+    if wish.card {
+        return write_card(sheet::records_of(sheet), work, out, counts, root, wish);
+    }
+    write_plain(work, out, counts, wish)
 }

@@ -9,12 +9,12 @@ use Rattle.corpus.proofs.call.Tie as tie
 slice-relend-prefix-fill-out : tie.Need-slice-relend-prefix-fill-out
 slice-relend-prefix-fill-out c =
     let r = c .before .before .before .before .before .before .before .before .before .before .translate in
-    written-within (r .result) _ _ _ _ _ _ _ (r .ensures) (c .before .before .before .before .n .given .1)
+    written-within (r .result) _ _ _ _ _ _ _ _ (r .ensures) (c .before .before .before .before .n .given .1)
 
 slice-aggregate-fill-out : tie.Need-slice-aggregate-fill-out
 slice-aggregate-fill-out c =
     let r = c .before .before .before .before .before .before .before .before .before .before .before .translate in
-    sym (length-take-le _ _ (written-within (r .result) _ _ _ _ _ _ _ (r .ensures) (c .before .before .before .before .before .n .given .1)))
+    sym (length-take-le _ _ (written-within (r .result) _ _ _ _ _ _ _ _ (r .ensures) (c .before .before .before .before .before .n .given .1)))
 
 pub call-spec : {M : Type 1} → statement M
 call-spec =

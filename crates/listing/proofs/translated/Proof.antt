@@ -9,12 +9,12 @@ use Rattle.listing.proofs.translated.Tie as tie
 slice-reshare-prefix-netlist : tie.Need-slice-reshare-prefix-netlist
 slice-reshare-prefix-netlist c =
     let r = c .before .before .before .before .before .before .before .translate in
-    written-within (r .result) _ _ _ _ _ _ _ (r .ensures) (c .before .n .given .1)
+    written-within (r .result) _ _ _ _ _ _ _ _ (r .ensures) (c .before .n .given .1)
 
 slice-aggregate-netlist : tie.Need-slice-aggregate-netlist
 slice-aggregate-netlist c =
     let r = c .before .before .before .before .before .before .before .before .translate in
-    sym (length-take-le _ _ (written-within (r .result) _ _ _ _ _ _ _ (r .ensures) (c .before .before .n .given .1)))
+    sym (length-take-le _ _ (written-within (r .result) _ _ _ _ _ _ _ _ (r .ensures) (c .before .before .n .given .1)))
 
 pub translated-spec : {M : Type 1} → statement M
 translated-spec =

@@ -1,8 +1,9 @@
--- `translation::run` meets its contract: what was made is written, and a refusal passes through. Assumes nothing.
+-- `translation::run` meets its contract: what was made is checked and written, and a refusal passes through. Assumes nothing.
 use mathlib.Core.Path.{_∙_}
-use Rattle.translator.proofs.Lent.{net-stands, net-named, net-lent, refusal-lent}
+use Rattle.translator.proofs.Lent.{net-stands, net-named, net-lent, net-root, refusal-lent}
 use Rattle.translation.specs.Wished.{saidWish}
 use Rattle.translation.proofs.CallLaws.{refused-says, net-says}
+use Rattle.translation.proofs.CardLaws.{check-same}
 use borrow.Author.Needs.{needs}
 use Rattle.translation.proofs.run.Statement.{statement}
 use Rattle.translation.proofs.run.Tie as tie
@@ -19,8 +20,8 @@ enum-known-counts c = search needs
 write-requires : tie.Need-write-requires
 write-requires c κs =
     let v = c .before .before .before in
-    let m = v .before .before .before .before in
-    let a = m .before .before .before .before .before .args in
+    let m = c .before .before .before .before .before .before .before in
+    let a = c .before .before .before .before .before .before .before .before .before .before .before .before .args in
     net-stands (a .wish .plain) (m .make .result) (a .sheet .now) (a .work .now) _ (m .make .ensures) _ (v .counts .given .1)
 
 same-length : tie.Need-same-length
@@ -29,8 +30,8 @@ same-length c = search needs
 returns : tie.Need-returns
 returns c =
     let m = c .before .before .before .before .before in
-    let a = m .before .before .before .before .before .args in (
-      refused-says (saidWish (a .wish)) (a .sheet .now) (a .out .now) _ _ (refusal-lent (a .wish .plain) (m .make .result) (a .sheet .now) (a .work .now) _ (m .make .ensures) _ (c .before .refusal .given .1)),
+    let a = c .before .before .before .before .before .before .before .before .before .before .args in (
+      refused-says (a .wish .card) (saidWish (a .wish)) (a .sheet .now) (a .out .now) _ _ (refusal-lent (a .wish .plain) (m .make .result) (a .sheet .now) (a .work .now) _ (m .make .ensures) _ (c .before .refusal .given .1)),
       m .make .ensures .keeps,
     )
 
@@ -43,10 +44,10 @@ same-length-3 c = search needs
 returns-2 : tie.Need-returns-2
 returns-2 c =
     let w = c .before .before .before .before in
-    let v = w .before .before .before .before in
-    let m = v .before .before .before .before in
-    let a = m .before .before .before .before .before .args in (
-      net-says (saidWish (a .wish)) (a .sheet .now) (a .out .now) _ (w .write .result) _ _ _ (net-lent (a .wish .plain) (m .make .result) (a .sheet .now) (a .work .now) _ (m .make .ensures) _ (v .counts .given .1)) (net-named (a .wish .plain) (m .make .result) (a .sheet .now) (a .work .now) _ (m .make .ensures) _ (v .counts .given .1)) (w .write .ensures .0),
+    let v = c .before .before .before .before .before .before .before .before in
+    let m = c .before .before .before .before .before .before .before .before .before .before .before .before in
+    let a = c .before .before .before .before .before .before .before .before .before .before .before .before .before .before .before .before .before .args in (
+      net-says (a .wish .card) (saidWish (a .wish)) (a .sheet .now) (a .out .now) _ (w .write .result) _ _ _ (net-lent (a .wish .plain) (m .make .result) (a .sheet .now) (a .work .now) _ (m .make .ensures) _ (v .counts .given .1)) (net-named (a .wish .plain) (m .make .result) (a .sheet .now) (a .work .now) _ (m .make .ensures) _ (v .counts .given .1)) _ (check-same (a .wish .card) (a .sheet .now) _ _ (net-root (a .wish .plain) (m .make .result) (a .sheet .now) (a .work .now) _ (m .make .ensures) _ (v .counts .given .1))) (w .write .ensures .0),
       w .write .ensures .1 ∙ m .make .ensures .keeps,
     )
 

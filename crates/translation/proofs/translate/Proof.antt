@@ -25,7 +25,7 @@ returns c =
     let r = k .before .before .before .before .before .before in
     let a = r .before .before .before .before .before .before .args in
     ap (called (r .run .result) (r .run .last .1 .0)) (k .clear .ensures)
-    ∙ call-run (saidWish (a .wish)) (a .sheet .now) (a .out .now) (a .work .now) (r .run .result) (r .run .last .1 .0) _ (r .run .ensures .0) (r .run .ensures .1)
+    ∙ call-run (a .wish .card) (saidWish (a .wish)) (a .sheet .now) (a .out .now) (a .work .now) (r .run .result) (r .run .last .1 .0) _ (r .run .ensures .0) (r .run .ensures .1)
 
 pub translate-spec : {M : Type 1} → statement M
 translate-spec = tie.close (tie.spec run-requires clear-requires same-length same-length-2 returns)

@@ -1,14 +1,14 @@
--- `translation::write::write` meets its contract: the netlist that is wished is written. Assumes nothing.
-use mathlib.Core.Path.{refl}
-use mathlib.Core.Bool.{true, false}
-use Rattle.translation.specs.Wished.{saidWish}
-use Rattle.translation.proofs.WriteLaws.{wished-says}
+-- `translation::write::write` meets its contract: the check is made where it is wished. Assumes nothing.
+use Rattle.translation.proofs.WriteLaws.{check-asked, check-unasked}
 use borrow.Author.Needs.{needs}
 use Rattle.translation.proofs.write.write.Statement.{statement}
 use Rattle.translation.proofs.write.write.Tie as tie
 
-write-lean-requires : tie.Need-write-lean-requires
-write-lean-requires c κs = search needs
+records-of-requires : tie.Need-records-of-requires
+records-of-requires c κs = search needs
+
+write-card-requires : tie.Need-write-card-requires
+write-card-requires c κs = search needs
 
 same-length : tie.Need-same-length
 same-length c = search needs
@@ -18,13 +18,11 @@ same-length-2 c = search needs
 
 returns : tie.Need-returns
 returns c =
-    let w = c .before .before .before .before in
-    let x = w .before .before .before in
-    let a = x .before .before .before .args in
-    (wished-says (saidWish (a .wish)) true (a .out .now) _ (w .write-lean .result) _ _ (x .if1 .taken) (w .write-lean .ensures .0), w .write-lean .ensures .1)
+    let a = c .before .before .before .before .before .before .before .before .before .before .before .before .args in
+    (check-asked (a .wish .card) (a .sheet .now) _ (a .root) _ (c .before .before .before .before .write-card .result) _ _ _ (c .before .before .before .before .before .before .before .before .if1 .taken) (c .before .before .before .before .before .before .before .records-of .ensures) (c .before .before .before .before .write-card .ensures .0), c .before .before .before .before .write-card .ensures .1)
 
-write-full-requires : tie.Need-write-full-requires
-write-full-requires c κs = search needs
+write-plain-requires : tie.Need-write-plain-requires
+write-plain-requires c κs = search needs
 
 same-length-3 : tie.Need-same-length-3
 same-length-3 c = search needs
@@ -34,20 +32,19 @@ same-length-4 c = search needs
 
 returns-2 : tie.Need-returns-2
 returns-2 c =
-    let w = c .before .before in
-    let x = w .before .before .before in
-    let a = x .before .before .before .args in
-    (wished-says (saidWish (a .wish)) false (a .out .now) _ (w .write-full .result) _ _ (x .if1 .left) (w .write-full .ensures), refl)
+    let a = c .before .before .before .before .before .before .before .before .before .before .before .args in
+    (check-unasked (a .wish .card) _ _ (c .before .before .before .before .write-plain .result) _ _ _ (c .before .before .before .before .before .before .before .if1 .left) (c .before .before .before .before .write-plain .ensures .0), c .before .before .before .before .write-plain .ensures .1)
 
 pub write-spec : {M : Type 1} → statement M
 write-spec =
     tie.close
     (tie.spec
-    write-lean-requires
+    records-of-requires
+    write-card-requires
     same-length
     same-length-2
     returns
-    write-full-requires
+    write-plain-requires
     same-length-3
     same-length-4
     returns-2)
