@@ -232,6 +232,15 @@ run-promise s bits starts n output work =
       cleared = refl;
     }
 
+-- the bits written are those of a possible record with these inputs and starts, and of no other
+pub run-exists : (s bits starts : List ℕ) (n : ℕ) (output work : List ℕ) (k : ℕ) → runCall s bits starts n output work .said ≡ good k
+    → OfSheet s work (λ m. Traced m n bits starts output (runCall s bits starts n output work .out))
+run-exists s bits starts n output work = run-promise s bits starts n output work .traced
+
+-- 19 exactly when a ring passes through no register, at the lowest input on any
+pub ring-exact : (s bits starts : List ℕ) (n : ℕ) (output work : List ℕ) (x : ℕ) → (runCall s bits starts n output work .said ≡ refuse 19 x) ↔ OfSheet s work (λ m. LowestOnRing m x)
+ring-exact s bits starts n output work = run-promise s bits starts n output work .ring
+
 -- two calls for C that answer the same number said the same
 pub run-tells : (s s′ bits bits′ starts starts′ : List ℕ) (n n′ : ℕ) (output output′ work work′ : List ℕ) → n ≤ 65535 → n′ ≤ 65535
     → packed (runCall s bits starts n output work .said) ≡ packed (runCall s′ bits′ starts′ n′ output′ work′ .said) → runCall s bits starts n output work .said ≡ runCall s′ bits′ starts′ n′ output′ work′ .said
