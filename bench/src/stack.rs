@@ -42,7 +42,7 @@ fn by_class(fences: &mut Fences, host: &mut Host) -> Result<(), String> {
     for class in classes() {
         let mut most = [0, 0];
         for sheet in &class.sheets {
-            for wish in wishes() {
+            for wish in wishes(Call::Translate) {
                 let lent = [
                     fences.place(0, sheet.len(), 1, true),
                     fences.place(1, class.room, 1, true),
