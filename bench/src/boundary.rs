@@ -47,15 +47,21 @@ impl Call {
         }
     }
 
-    /// Whether the header declares it.
+    /// Its parameters, where the header declares it.
+    fn parameters(self) -> Option<&'static str> {
+        let (_, declared) = HEADER.split_once(&format!("deltawobble_{}(", self.name()))?;
+        declared.split(");").next()
+    }
+
     pub fn declared(self) -> bool {
-        HEADER.contains(&format!("deltawobble_{}(", self.name()))
+        self.parameters().is_some()
     }
 }
 
-/// What a translation can be asked for, as far as the header has it: L6 brings plain, L12 the card.
-pub fn wishes() -> Vec<Wish> {
-    let told = |name: &str| HEADER.contains(&format!("bool {name}"));
+/// What a call can be asked for, as far as the header has it: L6 brings plain, L12 the card.
+pub fn wishes(call: Call) -> Vec<Wish> {
+    let parameters = call.parameters().unwrap_or_default();
+    let told = |name: &str| parameters.contains(&format!("bool {name}"));
     let choices = |there: bool, otherwise: bool| match there {
         true => vec![false, true],
         false => vec![otherwise],

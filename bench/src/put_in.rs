@@ -61,7 +61,7 @@ impl Rewrites {
     /// The circuits that the proved translator makes of a sheet, or its answer where it refuses.
     fn translated(&mut self, sheet: &Rc<Bytes>) -> Result<Result<Both, u64>, String> {
         // with nodes, where netlists can name them
-        let plain = wishes().iter().all(|wish| wish.plain);
+        let plain = wishes(Call::Translate).iter().all(|wish| wish.plain);
         let mut circuits = Vec::new();
         for lean in [false, true] {
             let wish = Wish { lean, plain, card: false };

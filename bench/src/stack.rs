@@ -87,7 +87,7 @@ fn by_class(fences: &mut Fences, host: &mut Host) -> Result<(), String> {
     for class in classes() {
         let mut most = [0, 0];
         for sheet in &class.sheets {
-            for wish in wishes() {
+            for wish in wishes(Call::Translate) {
                 let which = usize::from(wish.lean);
                 most[which] = translate(fences, host, sheet, class.room, wish)?.max(most[which]);
             }

@@ -54,7 +54,7 @@ pub fn generated(random: &mut Random, index: usize) -> Cases {
 /// With the wishes that there are.
 fn tried(mut batch: Batch) -> Box<dyn Case> {
     let wish = &mut batch.wish;
-    wish.plain |= wishes().iter().all(|wish| wish.plain);
-    wish.card &= wishes().iter().any(|wish| wish.card);
+    wish.plain |= wishes(Call::Batch).iter().all(|wish| wish.plain);
+    wish.card &= wishes(Call::Batch).iter().any(|wish| wish.card);
     Box::new(Tried(batch))
 }

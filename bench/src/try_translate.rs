@@ -77,7 +77,7 @@ fn cause_key((kind, form): (u8, bool)) -> Key {
 
 /// Each number in each edition, each cause of 12.
 pub fn due() -> Vec<Key> {
-    let card = wishes().iter().any(|wish| wish.card);
+    let card = wishes(Call::Translate).iter().any(|wish| wish.card);
     let numbers = (0..=17).chain((27..=29).filter(|_| card));
     let of_editions = numbers.flat_map(|number| EDITIONS.map(|edition| Key::new(edition, number)));
     let causes = KINDS.iter().map(|&cause| cause_key(cause));
@@ -123,7 +123,7 @@ fn add(cases: &mut Cases, sheet: &Rc<Vec<u8>>, calls: impl Iterator<Item = (usiz
 /// Small sheets by every wish, others by one for each netlist.
 fn named_wishes(random: &mut Random, sheet: &[u8]) -> Vec<Wish> {
     if sheet.len() <= LARGE {
-        wishes()
+        wishes(Call::Translate)
     } else {
         some_wishes(random)
     }
@@ -131,7 +131,7 @@ fn named_wishes(random: &mut Random, sheet: &[u8]) -> Vec<Wish> {
 
 /// A wish for the full netlist and one for the lean one.
 fn some_wishes(random: &mut Random) -> Vec<Wish> {
-    let of = |lean: bool| wishes().into_iter().filter(move |wish| wish.lean == lean);
+    let of = |lean: bool| wishes(Call::Translate).into_iter().filter(move |wish| wish.lean == lean);
     [false, true].map(|lean| *random.pick(&of(lean).collect::<Vec<_>>())).to_vec()
 }
 
