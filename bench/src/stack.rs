@@ -55,7 +55,7 @@ fn by_depth(fences: &mut Fences, host: &mut Host) -> Result<(), String> {
         let longer = whole.iter().copied().chain([0]).collect();
         let mut most = [0; 3];
         for (most, sheet) in most.iter_mut().zip([longer, functions(depth, depth), whole]) {
-            for wish in wishes() {
+            for wish in wishes(Call::Translate) {
                 *most = translate(fences, host, &sheet, 57728, wish)?.max(*most);
             }
         }
