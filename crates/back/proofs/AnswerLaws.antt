@@ -1,20 +1,18 @@
 -- What a call answers, by what its stages found. Assumes nothing.
-use Prim.Native.Nat.{ℕ, zero, suc, _+_, _<_, _≤_}
+use Prim.Native.Nat.{ℕ, _<_, _≤_}
 use mathlib.Core.Path.{_≡_, refl, sym, ap, subst, _∙_}
-use mathlib.Core.Bool.{Bool, true, false, _&&_}
-use mathlib.Core.List.{List, [], _∷_, _++_}
+use mathlib.Core.Bool.{Bool, true, false}
+use mathlib.Core.List.{List}
 use native.Mathlib.Omega.{arith}
 use lib.Dec.{leb}
-use lib.ListN.{length, drop}
-use lib.Seq.{sets}
+use lib.ListN.{length}
 use borrow.Author.Tests.{le-leb, lt-leb}
 use Rattle.calculus.specs.Answer.{Refusal, Answer, good, refused, refuse, numbered, _>>=_, need}
 use Rattle.calculus.specs.Net.{Element, Net}
 use Rattle.calculus.specs.NetRead.{Known, readNet}
 use Rattle.calculus.specs.Record.{All}
-use Rattle.calculus.specs.Translate.{saidOf, outOf, workOf, Call}
+use Rattle.calculus.specs.Translate.{workOf}
 use Rattle.calculus.proofs.Answers.{refused≢good, good-inj, refused-inj}
-use Rattle.laws.proofs.Regions.{sets-front}
 use Rattle.foreign_theorems.specs.Foreign.{Bytes, check, Checked, checkCall}
 use Rattle.foreign_theorems.proofs.Exact.{check-exact}
 use Rattle.foreign.specs.Walk.{saidVerdict}

@@ -1,27 +1,20 @@
 -- What stands where in the bytes of a netlist that was checked: its parts, four bytes each, then its wires, five bytes each. Assumes nothing.
-use Prim.Native.Nat.{ℕ, zero, suc, _+_, _-_, _*_, _<_, _≤_}
-use mathlib.Core.Path.{_≡_, refl, sym, ap, ap₂, subst, _∙_}
-use mathlib.Core.Bool.{Bool, true, false, cond, _||_}
+use Prim.Native.Nat.{ℕ, zero, suc, _+_, _*_, _<_, _≤_}
+use mathlib.Core.Path.{_≡_, refl, sym, ap, subst, _∙_}
 use mathlib.Core.List.{List, [], _∷_, _++_, map, append-assoc}
 use native.Mathlib.Omega.{arith}
-use lib.Dec.{T, eqb}
-use lib.ListN.{length, getD, drop, length-append, length-drop}
-use lib.Seq.{drop-cons}
+use lib.ListN.{length, getD, drop, length-drop}
 use borrow.Author.Tests.{eq-eqb, ne-eqb}
-use Rattle.calculus.specs.Answer.{Answer, good, refuse, _>>=_}
-use Rattle.calculus.specs.Terms.{partAt}
-use Rattle.calculus.specs.Net.{Interface, number, Element, point, part, Wire, Net, Item, element, wire, pin, itemBytes, elementBytes, wireBytes, pinBytes, netBytes}
+use Rattle.calculus.specs.Answer.{Answer, good, _>>=_}
+use Rattle.calculus.specs.Net.{Interface, number, Element, point, part, Wire, Net, element, wire, pin, itemBytes, elementBytes, wireBytes, pinBytes, netBytes}
 use Rattle.calculus.specs.Lean.{driver}
-use Rattle.calculus.specs.NetRead.{Known, Fits, Front, item, ended, broken, itemAt, readNet}
+use Rattle.calculus.specs.NetRead.{Fits, Front, item, ended, broken, itemAt}
 use Rattle.calculus.specs.Record.{All}
-use Rattle.laws.proofs.Tests.{by-eqb}
 use Rattle.sheet_theorems.proofs.Bytes.{behind, within}
 use Rattle.circuit_theorems.proofs.Lists.{all-left, all-right}
 use Rattle.circuit_theorems.proofs.NetRead.{itemsOf, ends-here, item-here}
 use Rattle.circuit_theorems.proofs.Told.{items-fit}
-use Rattle.foreign_theorems.specs.Foreign.{Accepts}
 use Rattle.foreign_theorems.proofs.Standing.{item-inj}
-use Rattle.back_theorems.specs.Back.{partBefore}
 use Rattle.back_theorems.specs.Returned.{noPoint}
 use Rattle.back_theorems.specs.Promises.{PartOnly}
 use Rattle.back_theorems.proofs.Main.{accepts-read}
@@ -110,9 +103,6 @@ pub record PartsLeft (s : List ℕ) (n : ℕ) : Type 0 where
 
 pub parts-first : (s : List ℕ) → Accepted s → PartsLeft s 0
 parts-first s a = record { left = netHere s .elements; here = laid-out s a; fits = element-fits s a; count = omega arith; same = refl; low = omega arith }
-
-element≢ : {x y : Element} → item (element x) ≡ item (element y) → x ≡ y
-element≢ e = cc
 
 module _ (s : List ℕ) (a : Accepted s) (n : ℕ) where
   -- past a part

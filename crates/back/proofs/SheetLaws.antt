@@ -1,12 +1,12 @@
 -- The whole sheet: its rows in a row, and its length. Assumes nothing.
-use Prim.Native.Nat.{ℕ, zero, suc, _+_, _-_, _*_, _<_, _≤_}
-use mathlib.Core.Path.{_≡_, refl, sym, ap, ap₂, subst, _∙_}
+use Prim.Native.Nat.{ℕ, zero, suc, _+_, _-_, _*_, _≤_}
+use mathlib.Core.Path.{_≡_, refl, sym, ap, ap₂, _∙_}
 use mathlib.Core.List.{List, [], _∷_, _++_, append-assoc}
 use native.Mathlib.Omega.{arith}
 use lib.ListN.{length, length-append}
 use lib.Seq.{sets}
-use borrow.Author.Tests.{lt-ltb, le-ltb}
-use Rattle.calculus.specs.Terms.{first, partAt, fix}
+use borrow.Author.Tests.{le-ltb}
+use Rattle.calculus.specs.Terms.{partAt, fix}
 use Rattle.calculus.specs.Write.{tableBytes, termBytes, recordBytes, sheetBytes}
 use Rattle.calculus.specs.Net.{Element, point, part, Net}
 use Rattle.calculus.specs.Record.{All}
@@ -15,9 +15,9 @@ use Rattle.back_theorems.specs.Promises.{PartOnly}
 use Rattle.back_theorems.proofs.Typing.{few}
 use Rattle.back_theorems.proofs.CameBack.{gates-length}
 use Rattle.back.specs.Gates.{netHere, inputsIn, Limited}
-use Rattle.back.specs.Rows.{rows, functionRow, projectionRow, pairRow, tupleRows, gateRow, gateOf, arrowLength, sheetLength}
+use Rattle.back.specs.Rows.{rows, functionRow, projectionRow, pairRow, tupleRows, gateRow, gateOf, sheetLength}
 use Rattle.back.proofs.RowLaws.{written-more, rows-length}
-use Rattle.back.proofs.TermLaws.{types-length, functions-bytes, projections-bytes}
+use Rattle.back.proofs.TermLaws.{arrows-few, types-length, functions-bytes, projections-bytes}
 use Rattle.back.proofs.WriteLaws.{gate-length, rows-of}
 
 -- ---- its rows
@@ -103,3 +103,11 @@ pub inputs-few : (es : List Element) → All PartOnly es → inputsIn es ≤ 2 *
 inputs-few [] o = omega arith
 inputs-few (point i ∷ es) o = absurd (o .0)
 inputs-few (part p i ∷ es) o = omega (arith, few p, inputs-few es (o .1))
+
+-- 393 bytes always do
+pub sheet-enough : (s : List ℕ) (n k : ℕ) → Limited s n k → length (backSheet (netHere s)) ≤ 393
+sheet-enough s n k l =
+    let c = l .of .count in
+    let m = l .most in
+    let f = l .few in
+    omega (arith, sheet-length s n k (inputsIn (netHere s .elements)) l refl, inputs-few (netHere s .elements) (l .of .parts), arrows-few n k)

@@ -1,5 +1,5 @@
 -- What drives the inputs, counted and named one after the other. Assumes nothing.
-use Prim.Native.Nat.{ℕ, zero, suc, _+_, _*_, _<_, _≤_}
+use Prim.Native.Nat.{ℕ, zero, suc, _+_, _<_, _≤_}
 use mathlib.Core.Path.{_≡_, refl, sym, ap, ap₂, subst, _∙_}
 use mathlib.Core.Bool.{Bool, true, false, cond, _||_}
 use mathlib.Core.List.{List, [], _∷_, _++_}
@@ -17,10 +17,9 @@ use Rattle.calculus.specs.Record.{All}
 use Rattle.laws.proofs.Tests.{by-eqb}
 use Rattle.circuit_theorems.proofs.Lists.{all-map}
 use Rattle.circuit_theorems.proofs.Terminals.{out-high}
-use Rattle.back_theorems.specs.Back.{Source, undriven, output, Gate, fed, partBefore, sources, undrivens, gatesFrom, gates, openIns}
+use Rattle.back_theorems.specs.Back.{Source, undriven, output, fed, partBefore, sources, undrivens, gatesFrom, openIns}
 use Rattle.back_theorems.proofs.Typing.{few}
 use Rattle.back.specs.Gates.{netHere, Accepted, inputsIn}
-use Rattle.back.specs.Rows.{sourceRows}
 use Rattle.back.proofs.GateLaws.{here-is}
 
 -- ---- driven or not

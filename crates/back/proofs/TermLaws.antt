@@ -1,20 +1,20 @@
 -- The bytes of the sheet are its rows, one behind the other. Assumes nothing.
-use Prim.Native.Nat.{ℕ, zero, suc, _+_, _-_, _*_, _<_, _≤_}
-use mathlib.Core.Path.{_≡_, refl, sym, ap, ap₂, subst, _∙_}
-use mathlib.Core.Bool.{true, false}
+use Prim.Native.Nat.{ℕ, zero, suc, _+_, _-_, _*_, _≤_}
+use mathlib.Core.Path.{_≡_, refl, sym, ap, ap₂, _∙_}
+use mathlib.Core.Bool.{Bool, true, false, cond}
 use mathlib.Core.List.{List, [], _∷_, _++_, append-nil, append-assoc}
 use native.Mathlib.Omega.{arith}
+use lib.Dec.{eqb}
 use lib.ListN.{length, length-append}
 use lib.Seq.{sets}
-use borrow.Author.Tests.{eq-eqb, ne-eqb, lt-ltb, le-ltb}
-use Rattle.calculus.specs.Types.{TyRec, rec01, rec02, rec03, rec04, Table}
-use Rattle.calculus.specs.Terms.{first, Term, var, app, con, partAt}
-use Rattle.calculus.specs.Write.{recBytes, tableBytes, termBytes, recordBytes, sheetBytes}
-use Rattle.calculus.specs.Net.{Net}
+use borrow.Author.Tests.{ne-eqb, le-ltb}
+use Rattle.calculus.specs.Types.{rec02, rec03, Table}
+use Rattle.calculus.specs.Terms.{Term, var, app, con, partAt}
+use Rattle.calculus.specs.Write.{tableBytes, termBytes}
 use Rattle.calculus.specs.Record.{All}
 use Rattle.sheet_theorems.proofs.Laying.{table-snoc}
-use Rattle.back_theorems.specs.Back.{Source, Gate, gates, openIns, tuple, base, products, arrows, backTable, binderOf, applied, gateTerm, tupleTerm, projections, functions, gatesSheet, backSheet}
-use Rattle.back.specs.Rows.{rows, productRow, arrowRow, functionRow, projectionRow, applicationRow, pairRow, headRow, sourceRows, gateRow, tupleRows, arrowLength, sheetLength}
+use Rattle.back_theorems.specs.Back.{Source, Gate, tuple, base, products, arrows, backTable, binderOf, applied, gateTerm, tupleTerm, projections, functions}
+use Rattle.back.specs.Rows.{rows, productRow, arrowRow, functionRow, projectionRow, applicationRow, headRow, sourceRows, tupleRows, arrowLength}
 use Rattle.back.proofs.RowLaws.{written-more, rows-length}
 
 -- ---- the types
@@ -39,6 +39,13 @@ types-more (suc (suc q)) k h =
     let e : suc (suc q) - 1 ≡ suc q = omega arith in
     let t : tuple (suc q) ≡ suc (suc q) + 1 = omega arith in
     rw e (arrows-rows (products (suc q)) (tuple (suc q)) k ∙ ap (λ (l : List ℕ). l ++ rows (arrowRow (tuple (suc q))) k) (products-rows (suc q)) ∙ ap (λ (x : ℕ). (tableBytes base ++ rows productRow (suc q)) ++ rows (arrowRow x) k) t)
+
+pub arrows-few : (n k : ℕ) → arrowLength n k ≤ 3 * k
+arrows-few n k = by (eqb n 1)
+  where
+    by : (b : Bool) → cond b 0 (3 * k) ≤ 3 * k
+    by true = omega arith
+    by false = omega arith
 
 pub types-length : (n k : ℕ) → 1 ≤ n → length (tableBytes (backTable (n - 1) k)) ≡ 4 + 3 * n + arrowLength n k
 types-length zero k h = absurd (omega arith)

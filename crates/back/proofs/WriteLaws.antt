@@ -1,11 +1,9 @@
 -- The variables, a part and all parts, as they are written one behind the other. Assumes nothing.
-use Prim.Native.Nat.{ℕ, zero, suc, _+_, _-_, _*_, _<_, _≤_}
+use Prim.Native.Nat.{ℕ, suc, _+_, _-_, _*_, _<_, _≤_}
 use mathlib.Core.Path.{_≡_, refl, sym, ap, ap₂, subst, _∙_}
-use mathlib.Core.Bool.{Bool, true, false, cond}
 use mathlib.Core.List.{List, [], _∷_, _++_, append-nil, append-assoc}
 use native.Mathlib.Omega.{arith}
 use native.Mathlib.Numerals.{add-one}
-use lib.Dec.{ltb}
 use lib.ListN.{length, getD, drop, length-append, length-drop}
 use lib.Seq.{sets, drop-cons}
 use Rattle.calculus.specs.Terms.{partAt}
@@ -13,7 +11,7 @@ use Rattle.calculus.specs.Net.{Element, point, part, Net}
 use Rattle.calculus.specs.Write.{termBytes}
 use Rattle.calculus.specs.Lean.{driver}
 use Rattle.calculus.specs.Record.{All}
-use Rattle.back_theorems.specs.Back.{Source, Gate, partBefore, sources, undrivens, gatesFrom, gates, openIns, tuple, tupleTerm}
+use Rattle.back_theorems.specs.Back.{Source, Gate, partBefore, sources, undrivens, gatesFrom, gates, openIns, tupleTerm}
 use Rattle.back_theorems.specs.Promises.{PartOnly}
 use Rattle.back_theorems.proofs.CameBack.{gates-length}
 use Rattle.circuit_theorems.proofs.Lists.{all-at, all-drop}
@@ -57,13 +55,6 @@ module _ (m : Net) (k q f j : ℕ) where
       ∙ ap (λ (bs : List ℕ). sets out at bs) (sym (rows-append k q (sources m 1 f j) (sources m 1 (f + 1) (j + undrivens (sources m 1 f j)))) ∙ ap (sourceRows k q) (sym (sources-split m 1 f j)))
 
 -- ---- a part
-
-pub pair-few : (left : ℕ) → length (pairRow left) ≤ 2
-pair-few left = by (ltb left 2)
-  where
-    by : (b : Bool) → length (cond b [] (0x17 ∷ tuple (left - 1) ∷ [])) ≤ 2
-    by true = omega arith
-    by false = omega arith
 
 head-length : (p n : ℕ) → length (headRow p n) ≡ n + 3
 head-length p n = length-append (rows applicationRow n) (0x1A ∷ p ∷ n ∷ []) ∙ omega (arith, rows-length applicationRow 1 (λ j. refl) n)

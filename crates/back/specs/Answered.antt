@@ -1,7 +1,7 @@
 -- The answer of a call by its stages: 17 behind 26 behind 25 (document 02, L11). Assumes nothing.
 use Prim.Native.Nat.{ℕ}
 use mathlib.Core.List.{List}
-use Rattle.calculus.specs.Answer.{Answer, _>>=_, need}
+use Rattle.calculus.specs.Answer.{Answer, need, _>>=_}
 use Rattle.calculus.specs.Net.{Net}
 use Rattle.translator.specs.Said.{inRoom}
 use Rattle.back_theorems.specs.Back.{backSheet}

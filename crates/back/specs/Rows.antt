@@ -1,13 +1,12 @@
 -- The bytes of the sheet, row by row as they are written (document 02, L11). Assumes nothing.
-use Prim.Native.Nat.{ℕ, zero, suc, _+_, _-_, _*_, _≤_}
-use mathlib.Core.Path.{_≡_}
+use Prim.Native.Nat.{ℕ, zero, suc, _+_, _-_, _*_}
 use mathlib.Core.Bool.{cond}
 use mathlib.Core.List.{List, [], _∷_, _++_}
 use lib.Dec.{ltb, eqb}
-use lib.ListN.{length, getD}
+use lib.ListN.{length}
 use Rattle.calculus.specs.Terms.{partAt}
 use Rattle.calculus.specs.Net.{Element, point, part, Net}
-use Rattle.back_theorems.specs.Back.{Source, Gate, sources, undrivens, tuple, binderOf}
+use Rattle.back_theorems.specs.Back.{Source, Gate, sources, tuple, binderOf}
 
 -- n rows one behind the other
 abbrev pub rows : (ℕ → List ℕ) → ℕ → List ℕ

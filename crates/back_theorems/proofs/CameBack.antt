@@ -4,7 +4,7 @@ use mathlib.Core.Path.{_≡_, refl, sym, ap, ap₂, subst, _∙_}
 use mathlib.Core.Bool.{Bool, true, false, cond, _||_}
 use mathlib.Core.List.{List, [], _∷_, _++_}
 use native.Mathlib.Omega.{arith}
-use lib.Dec.{T, eqb}
+use lib.Dec.{T}
 use lib.ListN.{length, length-append}
 use borrow.Author.Tests.{le-leb}
 use Rattle.calculus.specs.Answer.{good}
@@ -14,7 +14,7 @@ use Rattle.calculus.specs.Read.{Sheet, readSheet}
 use Rattle.calculus.specs.Write.{sheetBytes}
 use Rattle.calculus.specs.Rules.{Typed}
 use Rattle.calculus.specs.Net.{Element, point, part, Wire, Net, make, netOf}
-use Rattle.calculus.specs.Lean.{driver, lean}
+use Rattle.calculus.specs.Lean.{driver}
 use Rattle.calculus.specs.Inputs.{isOut}
 use Rattle.calculus.specs.Record.{All}
 use Rattle.calculus.specs.Translate.{full}

@@ -1,19 +1,18 @@
 -- The lean netlist of the sheet that is written for a netlist (document 02, L11): the parts, and each part input's driver. Assumes nothing.
-use Prim.Native.Nat.{ℕ, zero, suc, _+_, _-_, _*_, _<_, _≤_}
+use Prim.Native.Nat.{ℕ, zero, suc, _+_, _*_, _<_, _≤_}
 use mathlib.Core.Path.{_≡_, refl, sym, ap, ap₂, subst, _∙_}
-use mathlib.Core.Logic.{_⊎_, inl, inr, ⊎-elim}
-use mathlib.Core.Bool.{Bool, true, false, cond, not, _&&_, _||_}
+use mathlib.Core.Bool.{Bool, true, false, cond, not, _&&_}
 use mathlib.Core.List.{List, [], _∷_, _++_, map}
 use native.Mathlib.Omega.{arith}
-use lib.Dec.{T, eqb, eqb→eq, eqb-refl}
+use lib.Dec.{T, eqb, eqb-refl}
 use lib.ListN.{length}
 use borrow.Author.Tests.{eq-eqb, ne-eqb}
 use Rattle.calculus.specs.Terms.{partAt}
-use Rattle.calculus.specs.Net.{Terminal, inp, out, Interface, Element, point, part, Wire, Net, join, make, netOf}
-use Rattle.calculus.specs.Lean.{driver, isPin, backIn, back, root, kept, keep, toInputs, toElement, leanWires, leanPin, lean}
+use Rattle.calculus.specs.Net.{inp, out, Interface, Element, point, part, Wire, Net, join, make, netOf}
+use Rattle.calculus.specs.Lean.{driver, isPin, backIn, back, root, kept, keep, toInputs, leanWires, leanPin, lean}
 use Rattle.calculus.specs.Record.{All}
 use Rattle.back_theorems.specs.Back.{Source, undriven, output, Gate, backTable, backTerm, pointsFrom, partsFrom, outputAt, sourceAt, gateWires, allWires, inputsFrom, outputsFrom, backNet}
-use Rattle.laws.proofs.Tests.{T-is, or-left, or-right, by-eqb}
+use Rattle.laws.proofs.Tests.{or-left, or-right, by-eqb}
 use Rattle.circuit_theorems.proofs.Lists.{all-left, all-right}
 use Rattle.circuit_theorems.proofs.RootLaws.{root-stays, root-back}
 use Rattle.circuit_theorems.proofs.BackLaws.{back-pin}

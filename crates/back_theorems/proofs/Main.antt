@@ -1,28 +1,27 @@
 -- What comes back from the bytes of a netlist (document 02, L11): accepted exactly within the limits, and translated again the same parts
 -- with the same drivers. Assumes nothing.
-use Prim.Native.Nat.{ℕ, _+_, _*_, _≤_, _<_}
+use Prim.Native.Nat.{ℕ, _+_}
 use mathlib.Core.Path.{_≡_, refl, sym, ap, subst, _∙_}
 use mathlib.Core.Logic.{_↔_}
-use mathlib.Core.Bool.{Bool, true, false, _&&_}
-use mathlib.Core.List.{List, [], _∷_, _++_}
+use mathlib.Core.Bool.{Bool, true}
+use mathlib.Core.List.{List, [], _∷_}
 use native.Mathlib.Omega.{arith}
 use lib.Dec.{T, leb, leb→le}
 use lib.ListN.{length}
 use borrow.Author.Tests.{le-leb}
-use Rattle.calculus.specs.Answer.{Answer, good, refuse, _>>=_}
-use Rattle.calculus.specs.Net.{Element, point, part, Net, netBytes}
+use Rattle.calculus.specs.Answer.{good}
+use Rattle.calculus.specs.Net.{Element, point, part, Net}
 use Rattle.calculus.specs.Lean.{lean}
 use Rattle.calculus.specs.NetRead.{Known, readNet}
 use Rattle.calculus.specs.Record.{All}
 use Rattle.calculus.specs.Translate.{full}
 use Rattle.calculus.proofs.Answers.{refused≢good, good-inj, on-bind, on-need}
-use Rattle.circuit_theorems.specs.Formed.{Formed}
 use Rattle.laws.proofs.Tests.{and-both}
 use Rattle.circuit_theorems.proofs.NetRead.{read-back}
 use Rattle.circuit_theorems.proofs.Told.{items-fit}
 use Rattle.foreign_theorems.specs.Foreign.{Bytes, Accepts, check}
 use Rattle.foreign_theorems.proofs.Exact.{check-exact}
-use Rattle.back_theorems.specs.Back.{gates, openIns, backSheet, inputsFrom, outputsFrom, backNet, gatesSeen}
+use Rattle.back_theorems.specs.Back.{gates, openIns, backSheet, backNet}
 use Rattle.back_theorems.specs.Returned.{noPoint, within, returned}
 use Rattle.back_theorems.specs.Promises.{PartOnly, Returns, Back, LeanOf, Same}
 use Rattle.back_theorems.proofs.CameBack.{net-came-back}

@@ -1,13 +1,13 @@
 -- The full netlist of the sheet that is written for a netlist (document 02, L11), written out. Assumes nothing.
 use Prim.Native.Nat.{ℕ, zero, suc, _+_, _-_, _*_, _<_, _≤_}
 use mathlib.Core.Path.{_≡_, refl, sym, ap, ap₂, subst, _∙_}
-use mathlib.Core.Bool.{Bool, true, false}
+use mathlib.Core.Bool.{Bool, false}
 use mathlib.Core.List.{List, [], _∷_, _++_, append-nil, append-assoc}
 use native.Mathlib.Omega.{arith}
 use lib.ListN.{length, getD}
-use Rattle.calculus.specs.Types.{Ty, bit, prod, arrow, size, Table, tree}
-use Rattle.calculus.specs.Terms.{Term, var, fun, app, pair, proj, fix, con, partAt}
-use Rattle.calculus.specs.Net.{Terminal, inp, out, Interface, turns, Element, point, part, Wire, Net, points, inSide, outSide, join, partSide, Bound, unbound, Made, leftOf, rightOf, binder, madeVar, madeFun, madeApp, madePair, madeProj, madeFix, madeCon, make, netOf}
+use Rattle.calculus.specs.Types.{Ty, bit, size, Table}
+use Rattle.calculus.specs.Terms.{Term, var, app, fix, con, partAt}
+use Rattle.calculus.specs.Net.{inp, out, Interface, turns, Element, point, part, Wire, Net, points, inSide, outSide, join, partSide, Bound, unbound, Made, leftOf, binder, madeVar, madeFun, madeApp, madeFix, make, netOf}
 use Rattle.calculus.specs.Record.{All}
 use Rattle.back_theorems.specs.Back.{Source, undriven, output, Gate, tuple, backTable, binderOf, applied, gateTerm, tupleTerm, projections, functions, backTerm, pointsFrom, partsFrom, gateWires, allWires, inputsFrom, outputsFrom}
 use Rattle.back_theorems.proofs.Typing.{tupleType, towards, HoldsTypes, holds, SourceIn, GateIn, few}

@@ -1,14 +1,13 @@
 -- The lean netlist that comes back has the same parts in the same order, and each part input the same driving part or the matching input pin (document 02, L11). Assumes nothing.
 use Prim.Native.Nat.{ℕ, zero, suc, _+_, _-_, _*_, _<_, _≤_}
-use mathlib.Core.Path.{_≡_, refl, sym, ap, ap₂, subst, _∙_}
-use mathlib.Core.Bool.{Bool, true, false, cond, _||_}
+use mathlib.Core.Path.{_≡_, refl, sym, ap, ap₂, _∙_}
+use mathlib.Core.Bool.{true, false}
 use mathlib.Core.List.{List, [], _∷_, _++_, append-assoc}
 use native.Mathlib.Omega.{arith}
-use lib.Dec.{T, eqb}
 use lib.ListN.{length}
 use borrow.Author.Tests.{eq-eqb, ne-eqb}
 use Rattle.calculus.specs.Terms.{partAt}
-use Rattle.calculus.specs.Net.{Interface, inp, out, Element, point, part, Wire, Net}
+use Rattle.calculus.specs.Net.{Interface, Element, part, Wire, Net}
 use Rattle.calculus.specs.Lean.{driver}
 use Rattle.calculus.specs.Record.{All}
 use Rattle.back_theorems.specs.Back.{Source, undriven, output, Gate, partBefore, gates, openIns, pointsFrom, partsFrom, outputAt, sourceAt, gateWires, allWires, inputsFrom, outputsFrom, backNet, pointOut, pinBefore, sourceSeen, sourcesSeen, gatesSeen}

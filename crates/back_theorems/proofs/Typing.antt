@@ -1,16 +1,15 @@
 -- The sheet that is written for a netlist has a derivation (document 02, L11). Assumes nothing.
 use Prim.Native.Nat.{ℕ, zero, suc, _+_, _-_, _*_, _<_, _≤_}
 use mathlib.Core.Path.{_≡_, refl, sym, ap, ap₂, subst, _∙_}
-use mathlib.Core.Bool.{Bool, true, false, _&&_}
-use mathlib.Core.Logic.{_⊎_, inl, inr, ⊎-elim}
-use mathlib.Core.List.{List, [], _∷_, _++_}
+use mathlib.Core.Logic.{⊎-elim}
+use mathlib.Core.List.{List, [], _∷_}
 use native.Mathlib.Omega.{arith}
-use native.Mathlib.Nat.{eq-or-lt-of-le, add-zero, not-suc-le-zero}
+use native.Mathlib.Nat.{eq-or-lt-of-le, add-zero}
 use lib.Dec.{T}
-use lib.ListN.{length, getD, length-append}
-use Rattle.calculus.specs.Types.{Ty, bit, prod, arrow, lolli, size, sharable, TyRec, rec01, rec02, rec03, Table, tyOf, tysFrom, tree}
-use Rattle.calculus.specs.Terms.{first, Term, var, fun, app, pair, proj, fix, con, parts, partAt}
-use Rattle.calculus.specs.Rules.{Entry, many, once, away, Ctx, NoLinear, none-end, none-many, InΓ, in-here, in-many, Split, split-end, split-many, Typed, Var, →I, →E, ×I, ×E, Fix, Con}
+use lib.ListN.{length, length-append}
+use Rattle.calculus.specs.Types.{Ty, bit, prod, arrow, sharable, rec02, rec03, Table, tree}
+use Rattle.calculus.specs.Terms.{first, Term, var, app, con, partAt}
+use Rattle.calculus.specs.Rules.{many, once, away, Ctx, NoLinear, none-end, none-many, InΓ, in-here, in-many, Split, split-end, split-many, Typed, Var, →I, →E, ×I, ×E, Fix, Con}
 use Rattle.calculus.specs.Record.{All}
 use Rattle.back_theorems.specs.Back.{Source, undriven, output, Gate, tuple, base, products, arrows, backTable, binderOf, applied, gateTerm, tupleTerm, projections, functions, backTerm}
 use Rattle.sheet_theorems.proofs.Tables.{tree-new}

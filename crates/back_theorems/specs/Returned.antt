@@ -5,7 +5,7 @@ use mathlib.Core.Bool.{Bool, _&&_}
 use mathlib.Core.List.{List, [], _∷_}
 use lib.Dec.{leb}
 use lib.ListN.{length}
-use Rattle.calculus.specs.Answer.{Answer, good, _>>=_, refuse, need}
+use Rattle.calculus.specs.Answer.{Answer, good, refuse, need, _>>=_}
 use Rattle.calculus.specs.Net.{Element, point, part, Net, element}
 use Rattle.calculus.specs.NetRead.{itemSize, readNet}
 use Rattle.calculus.specs.Translate.{saidOf, outOf, workOf, Call}

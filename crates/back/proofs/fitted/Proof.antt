@@ -1,7 +1,7 @@
 -- The length first. Assumes nothing.
 use borrow.Author.Needs.{needs}
 use native.Mathlib.Omega.{arith}
-use mathlib.Core.Path.{_≡_, _∙_}
+use mathlib.Core.Path.{_∙_}
 use lib.ListN.{length}
 use Rattle.back_theorems.specs.Back.{backSheet}
 use Rattle.back.specs.Gates.{netHere}

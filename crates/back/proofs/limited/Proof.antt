@@ -1,8 +1,6 @@
 -- The counts, then what fits. Assumes nothing.
 use borrow.Author.Needs.{needs}
 use native.Mathlib.Omega.{arith}
-use mathlib.Core.Path.{_≡_, sym, _∙_}
-use lib.ListN.{length}
 use Rattle.back.specs.Gates.{netHere}
 use Rattle.back.proofs.AnswerLaws.{says-none, says-many, says-open, says-within}
 use Rattle.back.proofs.limited.Statement.{statement}

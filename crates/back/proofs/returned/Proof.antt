@@ -1,6 +1,5 @@
 -- A point, or the parts. Assumes nothing.
 use borrow.Author.Needs.{needs}
-use native.Mathlib.Omega.{arith}
 use Rattle.back.proofs.AnswerLaws.{says-25, parts-here, says-parts}
 use Rattle.back.proofs.returned.Statement.{statement}
 use Rattle.back.proofs.returned.Tie as tie

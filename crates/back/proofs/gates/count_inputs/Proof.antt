@@ -4,7 +4,7 @@ use native.Mathlib.Omega.{arith}
 use mathlib.Core.Path.{_≡_, ap, sym, _∙_}
 use mathlib.Core.List.{List}
 use Prim.Native.Nat.{ℕ, _-_, _+_, _*_, _≤_}
-use lib.ListN.{length, drop}
+use lib.ListN.{drop}
 use Rattle.calculus.specs.Net.{Element}
 use Rattle.back_theorems.specs.Back.{sources, undrivens, gatesFrom, gates, openIns}
 use Rattle.back_theorems.proofs.Typing.{few}

@@ -1,8 +1,8 @@
 -- The invariant: n parts stand first, and what is left says the same as the whole. Assumes nothing.
 use borrow.Author.Needs.{needs}
 use native.Mathlib.Omega.{arith}
-use mathlib.Core.Path.{_≡_, ap, subst, sym, _∙_}
-use Prim.Native.Nat.{ℕ, _-_, _*_}
+use mathlib.Core.Path.{ap, subst, sym, _∙_}
+use Prim.Native.Nat.{_-_, _*_}
 use lib.ListN.{length}
 use Rattle.calculus.specs.NetRead.{Front}
 use Rattle.net_reader.specs.Said.{saidRecord}

@@ -1,10 +1,9 @@
 -- The invariant: the wires that are left say the same as all. Assumes nothing.
 use borrow.Author.Needs.{needs}
 use native.Mathlib.Omega.{arith}
-use mathlib.Core.Path.{_≡_, ap, subst, sym, _∙_}
-use Prim.Native.Nat.{ℕ, _-_, _*_}
+use mathlib.Core.Path.{ap, subst, sym, _∙_}
+use Prim.Native.Nat.{_-_}
 use lib.ListN.{length}
-use Rattle.calculus.specs.NetRead.{Front}
 use Rattle.net_reader.specs.Said.{saidRecord}
 use Rattle.circuit_theorems.proofs.NetRead.{ends-here}
 use Rattle.back.proofs.GateLaws.{NotWire, WiresLeft, wires-first, wires-more, wires-done}

@@ -1,8 +1,7 @@
 -- A part stands at every place below their number. Assumes nothing.
 use borrow.Author.Needs.{needs}
 use native.Mathlib.Omega.{arith}
-use mathlib.Core.Path.{_≡_, ap, subst, sym, _∙_}
-use Rattle.calculus.specs.NetRead.{Front}
+use mathlib.Core.Path.{ap, subst, sym, _∙_}
 use Rattle.net_reader.specs.Said.{saidRecord}
 use Rattle.back.proofs.GateLaws.{NotPart, part-at-place, part-known}
 use Rattle.back.proofs.RecordLaws.{no-part, element-inj}

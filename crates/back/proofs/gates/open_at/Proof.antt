@@ -1,7 +1,7 @@
 -- By the driver. Assumes nothing.
 use borrow.Author.Needs.{needs}
 use native.Mathlib.Omega.{arith}
-use mathlib.Core.Path.{_≡_, ap, sym, _∙_}
+use mathlib.Core.Path.{ap, sym}
 use Rattle.back_theorems.specs.Back.{undrivens}
 use Rattle.back.proofs.SourceLaws.{source-open, source-wired}
 use Rattle.back.proofs.gates.open_at.Statement.{statement}

@@ -1,9 +1,8 @@
 -- One input behind the other. Assumes nothing.
 use borrow.Author.Needs.{needs}
 use native.Mathlib.Omega.{arith}
-use mathlib.Core.Path.{_≡_, ap, sym, _∙_}
-use Prim.Native.Nat.{ℕ, _+_}
-use Rattle.back_theorems.specs.Back.{sources, undrivens}
+use mathlib.Core.Path.{_≡_, sym, _∙_}
+use Prim.Native.Nat.{_+_}
 use Rattle.back.specs.Gates.{netHere}
 use Rattle.back.proofs.SourceLaws.{undrivens-few, undrivens-split}
 use Rattle.back.proofs.gates.open_of.Statement.{statement}

@@ -3,8 +3,8 @@ use borrow.Author.Needs.{needs}
 use native.Mathlib.Omega.{arith}
 use mathlib.Core.Path.{_≡_, ap, sym, _∙_}
 use mathlib.Core.List.{List}
-use Prim.Native.Nat.{ℕ, _-_, _+_, _≤_}
-use lib.ListN.{length, drop}
+use Prim.Native.Nat.{_-_, _+_, _≤_}
+use lib.ListN.{drop}
 use Rattle.calculus.specs.Net.{Element}
 use Rattle.back_theorems.specs.Back.{partBefore}
 use Rattle.back.specs.Gates.{netHere}

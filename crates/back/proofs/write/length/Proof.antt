@@ -1,20 +1,9 @@
 -- A sum. Assumes nothing.
 use borrow.Author.Needs.{needs}
 use native.Mathlib.Omega.{arith}
-use mathlib.Core.Path.{_≡_}
-use Prim.Native.Nat.{ℕ, _≤_, _*_}
-use mathlib.Core.Bool.{Bool, true, false, cond}
-use lib.Dec.{eqb}
-use Rattle.back.specs.Rows.{arrowLength}
+use Rattle.back.proofs.TermLaws.{arrows-few}
 use Rattle.back.proofs.write.length.Statement.{statement}
 use Rattle.back.proofs.write.length.Tie as tie
-
-arrows-few : (n k : ℕ) → arrowLength n k ≤ 3 * k
-arrows-few n k = by (eqb n 1)
-  where
-    by : (b : Bool) → cond b 0 (3 * k) ≤ 3 * k
-    by true = omega arith
-    by false = omega arith
 
 add-result-2 : tie.Need-add-result-2
 add-result-2 c = omega (arith, c .arrow-length .ensures, arrows-few (c .before .args .parts) (c .before .args .undriven))

@@ -1,17 +1,14 @@
 -- The pair, the applications and the constant, the variables. Assumes nothing.
 use borrow.Author.Needs.{needs}
 use native.Mathlib.Omega.{arith}
-use mathlib.Core.Path.{_≡_, refl, sym, ap, _∙_}
-use mathlib.Core.List.{List}
-use Prim.Native.Nat.{ℕ, _+_, _-_, _*_, _≤_}
-use lib.ListN.{length, getD}
-use lib.Seq.{sets}
-use Rattle.calculus.specs.Net.{Element, point, part}
+use mathlib.Core.Path.{ap, _∙_}
+use Prim.Native.Nat.{ℕ, _+_, _-_}
+use lib.ListN.{length}
+use Rattle.calculus.specs.Net.{part}
 use Rattle.back_theorems.specs.Back.{undrivens, sources}
 use Rattle.back_theorems.proofs.Typing.{few}
 use Rattle.back.specs.Gates.{netHere}
-use Rattle.back.specs.Rows.{gateRow, gateOf}
-use Rattle.back.proofs.WriteLaws.{pair-few, gate-length, part-room, part-low, part-written}
+use Rattle.back.proofs.WriteLaws.{gate-length, part-room, part-low, part-written}
 use Rattle.back.proofs.write.put_part.Statement.{statement}
 use Rattle.back.proofs.write.put_part.Tie as tie
 

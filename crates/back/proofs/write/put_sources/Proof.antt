@@ -1,9 +1,8 @@
 -- One behind the other. Assumes nothing.
 use borrow.Author.Needs.{needs}
 use native.Mathlib.Omega.{arith}
-use mathlib.Core.Path.{_≡_, refl, sym, ap, _∙_}
-use Prim.Native.Nat.{ℕ, _+_, _-_, _*_, _≤_}
-use lib.ListN.{length}
+use mathlib.Core.Path.{_≡_, refl, _∙_}
+use Prim.Native.Nat.{_+_, _-_, _≤_}
 use Rattle.back_theorems.specs.Back.{sources, undrivens}
 use Rattle.back.specs.Gates.{netHere}
 use Rattle.back.proofs.WriteLaws.{two-undriven, two-written}

@@ -1,9 +1,7 @@
 -- Each row behind the one before. Assumes nothing.
 use borrow.Author.Needs.{needs}
 use native.Mathlib.Omega.{arith}
-use mathlib.Core.Path.{_≡_, refl, sym, ap, _∙_}
-use Prim.Native.Nat.{ℕ, _+_, _-_, _*_, _≤_}
-use lib.ListN.{length}
+use Prim.Native.Nat.{_-_}
 use Rattle.back_theorems.proofs.Typing.{tuple-low}
 use Rattle.back.proofs.SheetLaws.{sheet-sum, sheet-written}
 use Rattle.back.proofs.write.sheet.Statement.{statement}
