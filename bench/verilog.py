@@ -112,8 +112,9 @@ class Found:
         self.counts, self.wrong, self.warnings = collections.Counter(), 0, collections.Counter()
 
     def check(self, name, what, well, said=""):
-        self.counts[what] += 1
-        if not well:
+        if well:
+            self.counts[what] += 1
+        else:
             self.wrong += 1
             print("%s: %s: NOT SO\n%s" % (name, what, said[:2000]))
 

@@ -15,8 +15,9 @@
 #include <stdint.h>
 
 enum {
-    DELTAWOBBLE_ROOM = 57728,   /* output bytes that always do for a netlist; 41344 in plain kinds */
-    DELTAWOBBLE_MEMORY = 32768  /* numbers of working memory that are needed */
+    DELTAWOBBLE_ROOM = 57728,    /* output bytes that always do for a netlist; 41344 in plain kinds */
+    DELTAWOBBLE_MODULE = 395400, /* .. and for a module of Verilog */
+    DELTAWOBBLE_MEMORY = 32768   /* numbers of working memory that are needed */
 };
 
 /* Translates a sheet to its full or lean netlist, in the plain kinds 21 and 22 or with the node that
