@@ -3,18 +3,13 @@ use borrow.Author.Needs.{needs}
 use Rattle.binders.proofs.Bits.{digit-at}
 use Rattle.binders.proofs.digit.Statement.{statement}
 use Rattle.binders.proofs.digit.Tie as tie
-use Rattle.binders.proofs.digit.Reads as reads
-use Rattle.binders.proofs.digit.Lts as lts
 
--- src/lib.rt:77:7
 shr-result : tie.Need-shr-result
 shr-result c = search needs
 
--- src/lib.rt:77:5
 cast-result : tie.Need-cast-result
 cast-result c = search needs
 
--- src/lib.rt:73:1
 returns : tie.Need-returns
 returns c = digit-at 64 (c .args .j) (c .args .word) (c .pre)
 

@@ -3,30 +3,22 @@ use borrow.Author.Needs.{needs}
 use Rattle.binders.proofs.Bits.{digit-part, digit-put, digit-fits, digit-below, shifted}
 use Rattle.binders.proofs.with_digit.Statement.{statement}
 use Rattle.binders.proofs.with_digit.Tie as tie
-use Rattle.binders.proofs.with_digit.Reads as reads
-use Rattle.binders.proofs.with_digit.Lts as lts
 
--- src/lib.rt:85:16
 shr-old : tie.Need-shr-old
 shr-old c = search needs
 
--- src/lib.rt:86:24
 shl-rest : tie.Need-shl-rest
 shl-rest c = search needs
 
--- src/lib.rt:86:16
 sub-rest : tie.Need-sub-rest
 sub-rest c = rw (shifted (c .args .j) _ (c .pre .0) (digit-below (c .args .j) (c .args .word))) (digit-part (c .args .j) (c .args .word))
 
--- src/lib.rt:87:13
 shl-result : tie.Need-shl-result
 shl-result c = search needs
 
--- src/lib.rt:87:5
 add-result : tie.Need-add-result
 add-result c = record { fits = rw (shifted _ _ (c .pre .0) (digit-below (c .args .j) (c .args .word)), shifted _ _ (c .pre .0) (c .pre .1), digit-put (c .args .j) (c .args .word) (c .args .x)) (digit-fits 64 _ _ _ (c .pre .0) (search needs) (c .pre .1)) }
 
--- src/lib.rt:81:1
 returns : tie.Need-returns
 returns c = rw (shifted _ _ (c .pre .0) (digit-below (c .args .j) (c .args .word)), shifted _ _ (c .pre .0) (c .pre .1)) (digit-put (c .args .j) (c .args .word) (c .args .x))
 

@@ -11,7 +11,7 @@ use Rattle.calculus.specs.Walk.{Stack}
 use Rattle.records.specs.Forms.{recIn}
 use Rattle.records.specs.Editions.{editionBy}
 use Rattle.binders.specs.declared.Binders.{Binders}
-use Rattle.binders.specs.Stacks.{bitsOf, withBit, stackOf, slotOf}
+use Rattle.binders.specs.Stacks.{withBit, stackOf, slotOf}
 use Rattle.binders.proofs.Laws.{length-of, slot-low}
 use Rattle.typing.specs.declared.Verdict.the-variants as verdict
 use Rattle.typing.specs.Verdicts.{reached, withMarks, held, atCount}

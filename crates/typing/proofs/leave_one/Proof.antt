@@ -3,7 +3,6 @@ use mathlib.Core.Path.{sym, ap, ap₂, _∙_}
 use Prim.Native.Nat.{ℕ}
 use mathlib.Core.List.{_∷_}
 use lib.ListN.{getD}
-use Rattle.calculus.specs.Walk.{Stack}
 use Rattle.binders.specs.Stacks.{bitsOf, binderOf, stackFrom}
 use Rattle.binders.proofs.Laws.{nearest}
 use Rattle.typing.specs.Steps.{usedUp}

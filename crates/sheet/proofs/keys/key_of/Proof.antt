@@ -1,6 +1,5 @@
 -- `sheet::key_of` meets its contract, by the form. Assumes nothing.
 use borrow.Author.Needs.{needs}
-use mathlib.Core.Path.{refl}
 use Rattle.sheet.proofs.keys.key_of.Statement.{statement}
 use Rattle.sheet.proofs.keys.key_of.Tie as tie
 

@@ -1,7 +1,6 @@
 -- `sheet::repeats_by` meets its contract: where no key is the same, no record is. Assumes nothing.
 use borrow.Author.Needs.{needs}
 use mathlib.Core.Path.{sym, ap, _∙_}
-use Prim.Native.Nat.{ℕ}
 use Rattle.sheet.specs.Keys.{amongFirst}
 use Rattle.sheet.proofs.KeyLaws.{none-same}
 use Rattle.sheet.proofs.types.repeats_by.Statement.{statement}
