@@ -78,6 +78,17 @@ def comparator(edition):
                  gate("or", old, differ))))))))
 
 
+def unread_comparator(edition):
+    """the comparator with an alarm of its own for the desk, of which nobody reads the output"""
+    gate, let = edition.gate, edition.let
+    return fun("x", bit, lambda x: fun("y", bit, lambda y: fix("s", prod(bit, bit), lambda s: proj(s, "greater", "diverged", lambda g, d:
+        let("old", gate("reg", d), lambda old:
+        let("differ", gate("xor", x, y), lambda differ:
+        let("alarm", gate("or", old, differ), lambda alarm:
+            pair(gate("or", gate("reg", g), gate("and", gate("inv", old), gate("and", differ, x))),
+                 gate("or", old, differ)))))))))
+
+
 def main():
     # the paper's section 3.1
     write("paper-identity", "Section 3.1.1: the identity on bits, one point, pins its two ends.", fun("x", bit, lambda x: app(x)))
@@ -137,6 +148,10 @@ def main():
         The same function, not applied: the card's user plugs the two circuits in.
         Pins: the first circuit's input (an output here) and output (an input here), the second's, then the bit in and the bit out.""",
           fun("f", chain_ty, lambda f: fun("g", chain_ty, lambda g: fun("x", bit, lambda x: app(g, app(f, x))))))
+    write("comparator-unread", """
+        The divergence comparator with an alarm gate whose output nobody reads: the card's profile refuses it with 29.
+        Pins: x, y in, then greater, diverged.""",
+          unread_comparator(first))
     write("comparator-divergence", """
         A bit-serial comparator of two streams, most significant bit first, with a divergence bit that stays once it is set.
         State: (greater, diverged). A stream that differs sets diverged; greater keeps the verdict of the first difference.
