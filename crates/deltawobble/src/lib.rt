@@ -45,7 +45,14 @@ pub extern "C" fn deltawobble_batch(
 ) -> u64
     ensures { λ r. ⌜ PacksBatch r (now (out .exit)) (now (results .exit)) (now (work .exit)) (batchCall (record { card = card; wish = record { lean = lean; plain = plain } }) (now (sheets .entry)) (now (lengths .entry)) (now (out .entry)) (now (results .entry)) (now (work .entry))) ⌝ }
 {
-    let answer = batch::batch(sheets, lengths, out, results, work, Wish { lean, plain, card });
+    let answer = batch::batch(
+        sheets,
+        lengths,
+        out,
+        results,
+        work,
+        Wish { lean, plain, card },
+    );
     translator::word(answer)
 }
 
