@@ -32,7 +32,7 @@ uint64_t deltawobble_translate(const uint8_t *sheet, size_t sheet_len, uint8_t *
    lent, or there are fewer places for results than lengths; then nothing is touched. */
 uint64_t deltawobble_batch(const uint8_t *sheets, size_t sheets_len, const uint32_t *lengths, size_t lengths_len,
                            uint8_t *out, size_t out_len, uint64_t *results, size_t results_len,
-                           uint16_t *work, size_t work_len, bool lean, bool plain);
+                           uint16_t *work, size_t work_len, bool lean, bool plain, bool card);
 
 /* Checks a netlist from outside, in kinds 21 to 24, a full or a lean one. 0 where it is accepted; else bits 32
    to 39 are the refusal's number (1, 21, 22, 23), and bits 0 to 31 its place. A netlist may be longer than

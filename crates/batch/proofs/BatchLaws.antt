@@ -6,10 +6,10 @@ use mathlib.Core.List.{List}
 use lib.ListN.{length}
 use borrow.Author.Tests.{lt-leb, le-leb}
 use Rattle.calculus.specs.Answer.{refuse}
-use Rattle.calculus.specs.Translate.{Wish}
+use Rattle.export_calculus.specs.CardCall.{Wished}
 use Rattle.batch.specs.Batch.{oneByOne, addUp, Batch, ofRow, batchCall}
 
-module _ (w : Wish) (s lengths out results work : List ℕ) where
+module _ (w : Wished) (s lengths out results work : List ℕ) where
   abbrev untouched : Batch
   untouched = record { said = refuse 24 0; out = out; results = results; work = work }
 

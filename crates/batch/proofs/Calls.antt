@@ -10,11 +10,13 @@ use lib.Seq.{length-take-le, take-at, drop-at, drop-append-seam, drop-append-add
 use native.Mathlib.Decide.{decLt}
 use borrow.Author.Tests.{eq-eqb}
 use Rattle.calculus.specs.Answer.{Answer, good, refused}
-use Rattle.calculus.specs.Translate.{Wish, zeroed, workOf, Call, call, answer, saidOf, outOf}
+use Rattle.calculus.specs.Translate.{zeroed, workOf, Call, saidOf, outOf}
+use Rattle.export_calculus.specs.CardCall.{Wished, cardAnswer, cardCall, wishedCall}
 use Rattle.memory.proofs.Zeroed.{zeroed-length, zeroed-same, zeroed-later}
 use Rattle.translator.specs.Word.{packed}
 use Rattle.translator.proofs.Keeping.{work-small, work-large}
 use Rattle.translation.specs.Demands.{Circuit}
+use Rattle.translation.proofs.CardCall.{card-accepted}
 use Rattle.translation.proofs.Demands.{demand-3}
 use Rattle.batch.specs.Batch.{usedBy, Row, oneByOne, sum, Batch, ofRow, batchCall}
 use Rattle.batch.specs.Promise.{sheetAt, callAt, AsCalls, EachCircuit}
@@ -28,13 +30,13 @@ rest-in : (a : Answer (List ℕ)) (out : List ℕ) → drop (usedBy (saidOf a)) 
 rest-in (good bytes) out = drop-append-seam bytes (drop (length bytes) out)
 rest-in (refused why) out = refl
 
-rest-stays : (w : Wish) (s out work : List ℕ) → drop (usedBy (call w s out work .said)) (call w s out work .out) ≡ drop (usedBy (call w s out work .said)) out
-unfolding call
-rest-stays w s out work = rest-in (answer (length work) w s (length out)) out
+rest-stays : (w : Wished) (s out work : List ℕ) → drop (usedBy (wishedCall w s out work .said)) (wishedCall w s out work .out) ≡ drop (usedBy (wishedCall w s out work .said)) out
+unfolding cardCall
+rest-stays w s out work = rest-in (cardAnswer (w .card) (length work) (w .wish) s (length out)) out
 
 -- of the working memory a call looks at its length alone, and cleared memory has the same
-leaves-work : (w : Wish) (s out work : List ℕ) → call w s out work .work ≡ workOf work
-unfolding call
+leaves-work : (w : Wished) (s out work : List ℕ) → wishedCall w s out work .work ≡ workOf work
+unfolding cardCall
 leaves-work w s out work = refl
 
 by-size : (work : List ℕ) (F : List ℕ → Type 0) → (length work < 32768 → F work) → (32768 ≤ length work → F work) → F work
@@ -48,18 +50,18 @@ work-twice work =
     by-size work (λ m. workOf (workOf m) ≡ workOf m) (λ h. ap workOf (work-small work h))
     (λ h. work-large (workOf work) (omega (arith, work-length work)) ∙ ap (zeroed 32768) (work-large work h) ∙ zeroed-same 32768 (zeroed 32768 work) work (zeroed-later 32768 work) ∙ sym (work-large work h))
 
-said-again : (w : Wish) (s out work : List ℕ) → call w s out (workOf work) .said ≡ call w s out work .said
-unfolding call
-said-again w s out work = ap (λ (n : ℕ). saidOf (answer n w s (length out))) (work-length work)
+said-again : (w : Wished) (s out work : List ℕ) → wishedCall w s out (workOf work) .said ≡ wishedCall w s out work .said
+unfolding cardCall
+said-again w s out work = ap (λ (n : ℕ). saidOf (cardAnswer (w .card) n (w .wish) s (length out))) (work-length work)
 
-out-again : (w : Wish) (s out work : List ℕ) → call w s out (workOf work) .out ≡ call w s out work .out
-unfolding call
-out-again w s out work = ap (λ (n : ℕ). outOf (answer n w s (length out)) out) (work-length work)
+out-again : (w : Wished) (s out work : List ℕ) → wishedCall w s out (workOf work) .out ≡ wishedCall w s out work .out
+unfolding cardCall
+out-again w s out work = ap (λ (n : ℕ). outOf (cardAnswer (w .card) n (w .wish) s (length out)) out) (work-length work)
 
 -- ---- a row of them
 
 -- what the promise says of a row
-record RowCalls (w : Wish) (s lengths out work : List ℕ) (r : Row) : Type 0 where
+record RowCalls (w : Wished) (s lengths out work : List ℕ) (r : Row) : Type 0 where
   used : ℕ → ℕ
   none-used : used 0 ≡ 0
   next-used : (i : ℕ) → i < length lengths → used (suc i) ≡ used i + usedBy (callAt w s lengths out work (used i) i .said)
@@ -75,9 +77,9 @@ abbrev usedFrom : ℕ → (ℕ → ℕ) → ℕ → ℕ
 usedFrom j f zero = 0
 usedFrom j f (suc i) = j + f i
 
-module _ (w : Wish) (s : List ℕ) (n : ℕ) (ns out work : List ℕ) where
+module _ (w : Wished) (s : List ℕ) (n : ℕ) (ns out work : List ℕ) where
   abbrev first : Call
-  first = call w (take n s) out work
+  first = wishedCall w (take n s) out work
 
   abbrev j : ℕ
   j = usedBy (first .said)
@@ -94,14 +96,14 @@ module _ (w : Wish) (s : List ℕ) (n : ℕ) (ns out work : List ℕ) where
   -- a later sheet's call, seen from the second sheet on and from the first
   same-said : (i u : ℕ) → callAt w (drop n s) ns (drop j (first .out)) (first .work) u i .said ≡ callAt w s (n ∷ ns) out work (j + u) (suc i) .said
   same-said i u =
-      ap₂ (λ (x y : List ℕ). call w x y (first .work) .said) (same-sheet i) (same-room u)
-      ∙ ap (λ (x : List ℕ). call w (sheetAt s (n ∷ ns) (suc i)) (drop (j + u) out) x .said) (leaves-work w (take n s) out work)
+      ap₂ (λ (x y : List ℕ). wishedCall w x y (first .work) .said) (same-sheet i) (same-room u)
+      ∙ ap (λ (x : List ℕ). wishedCall w (sheetAt s (n ∷ ns) (suc i)) (drop (j + u) out) x .said) (leaves-work w (take n s) out work)
       ∙ said-again w (sheetAt s (n ∷ ns) (suc i)) (drop (j + u) out) work
 
   same-out : (i u : ℕ) → callAt w (drop n s) ns (drop j (first .out)) (first .work) u i .out ≡ callAt w s (n ∷ ns) out work (j + u) (suc i) .out
   same-out i u =
-      ap₂ (λ (x y : List ℕ). call w x y (first .work) .out) (same-sheet i) (same-room u)
-      ∙ ap (λ (x : List ℕ). call w (sheetAt s (n ∷ ns) (suc i)) (drop (j + u) out) x .out) (leaves-work w (take n s) out work)
+      ap₂ (λ (x y : List ℕ). wishedCall w x y (first .work) .out) (same-sheet i) (same-room u)
+      ∙ ap (λ (x : List ℕ). wishedCall w (sheetAt s (n ∷ ns) (suc i)) (drop (j + u) out) x .out) (leaves-work w (take n s) out work)
       ∙ out-again w (sheetAt s (n ∷ ns) (suc i)) (drop (j + u) out) work
 
   front-length : length (take j (first .out)) ≡ j
@@ -143,7 +145,7 @@ module _ (w : Wish) (s : List ℕ) (n : ℕ) (ns out work : List ℕ) where
       later-bytes = past-front (h .used (length ns)) ∙ h .later-bytes ∙ same-room (h .used (length ns));
     }
 
-row-calls : (w : Wish) (s lengths out work : List ℕ) → RowCalls w s lengths out work (oneByOne w s lengths out work)
+row-calls : (w : Wished) (s lengths out work : List ℕ) → RowCalls w s lengths out work (oneByOne w s lengths out work)
 row-calls w s [] out work = record {
   used = λ _. 0;
   none-used = refl;
@@ -158,17 +160,17 @@ row-calls w s (n ∷ ns) out work = row-cons w s n ns out work (row-calls w (dro
 
 -- ---- the working memory
 
-again-work : (w : Wish) (s lengths out m work : List ℕ) → m ≡ workOf work → oneByOne w s lengths out m .work ≡ workOf work
+again-work : (w : Wished) (s lengths out m work : List ℕ) → m ≡ workOf work → oneByOne w s lengths out m .work ≡ workOf work
 again-work w s [] out m work e = e
 again-work w s (n ∷ ns) out m work e = again-work w (drop n s) ns _ _ work (leaves-work w (take n s) out m ∙ ap workOf e ∙ work-twice work)
 
-row-work : (w : Wish) (s lengths out work : List ℕ) → 0 < length lengths → oneByOne w s lengths out work .work ≡ workOf work
+row-work : (w : Wished) (s lengths out work : List ℕ) → 0 < length lengths → oneByOne w s lengths out work .work ≡ workOf work
 row-work w s [] out work h = absurd (omega arith)
 row-work w s (n ∷ ns) out work h = again-work w (drop n s) ns _ _ work (leaves-work w (take n s) out work)
 
 -- ---- the call
 
-module _ (w : Wish) (s lengths out results work : List ℕ) (room : length lengths ≤ length results) (adds : sum lengths ≡ length s) where
+module _ (w : Wished) (s lengths out results work : List ℕ) (room : length lengths ≤ length results) (adds : sum lengths ≡ length s) where
   abbrev r : Row
   r = oneByOne w s lengths out work
 
@@ -204,9 +206,10 @@ module _ (w : Wish) (s lengths out results work : List ℕ) (room : length lengt
     circuit = λ i n h e.
         let u = batch-calls .used i in
         let c = callAt w s lengths out work u i in
-        let d : Circuit w (sheetAt s lengths i) (drop u out) n (c .out) = demand-3 w (sheetAt s lengths i) (drop u out) work .circuit n e in
+        let a = card-accepted (w .card) (w .wish) (sheetAt s lengths i) (drop u out) work n e in
+        let d : Circuit (w .wish) (sheetAt s lengths i) (drop u out) n (c .out) = subst (λ (x : Call). (x .said ≡ good n) → Circuit (w .wish) (sheetAt s lengths i) (drop u out) n (x .out)) (sym a) (demand-3 (w .wish) (sheetAt s lengths i) (drop u out) work .circuit n) e in
         let k : usedBy (c .said) ≡ n = ap usedBy e in
         let b = subst (λ (m : ℕ). take m (drop u (batchCall w s lengths out results work .out)) ≡ take m (c .out)) k (batch-calls .bytes i h) in
         let f = subst (λ (m : ℕ). drop m (c .out) ≡ drop m (drop u out)) k (rest-stays w (sheetAt s lengths i) (drop u out) work) in
-        subst (Circuit w (sheetAt s lengths i) (drop u out) n) (sym (take-append-drop n (c .out)) ∙ ap₂ (λ (x y : List ℕ). x ++ y) (sym b) f) d;
+        subst (Circuit (w .wish) (sheetAt s lengths i) (drop u out) n) (sym (take-append-drop n (c .out)) ∙ ap₂ (λ (x y : List ℕ). x ++ y) (sym b) f) d;
   }

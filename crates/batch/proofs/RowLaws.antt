@@ -1,19 +1,21 @@
 -- Calls made one by one, from some sheet on: what is left of them and what stands already make the whole. Assumes nothing.
 use Prim.Native.Nat.{ℕ, suc, _+_, _-_, _≤_, _<_}
-use mathlib.Core.Path.{_≡_, refl, sym, ap, ap₂, subst⁻¹, _∙_}
+use mathlib.Core.Path.{_≡_, refl, sym, ap, ap₂, subst, subst⁻¹, _∙_}
 use mathlib.Core.List.{List, [], _∷_, _++_, map, append-assoc, append-nil}
 use native.Mathlib.Omega.{arith}
 use native.Mathlib.Numerals.{add-one}
 use lib.ListN.{length, getD, take, drop, set, length-append, length-set, length-drop, take-append-drop}
 use lib.Seq.{take-all, length-take-le, drop-length, take-append-add, drop-append-add, drop-drop, take-suc-set, drop-set-lt}
 use Rattle.calculus.specs.Answer.{Answer, good, refused}
-use Rattle.calculus.specs.Translate.{Wish, Call, call, answer, saidOf, outOf}
+use Rattle.calculus.specs.Translate.{Call, saidOf, outOf}
+use Rattle.export_calculus.specs.CardCall.{Wished, cardAnswer, cardCall, wishedCall}
 use Rattle.translator.specs.Word.{packed}
 use Rattle.translator.specs.declared.Answer.the-variants as variant
 use Rattle.laws.proofs.Regions.{drop-past}
 use Rattle.translator.proofs.SaidLaws.{written-in}
 use Rattle.sheet_theorems.proofs.Judging.{Judged, value, refusal}
 use Rattle.translation.proofs.Places.{CallPlace, CallCount, call-places}
+use Rattle.translation.proofs.CardCall.{card-accepted}
 use Rattle.batch.specs.Batch.{usedBy, Row, oneByOne, sum, Batch, ofRow}
 use Rattle.batch.specs.Left.{OneLeft, left}
 use Rattle.batch.proofs.SumLaws.{drop-at-place, sum-drop}
@@ -23,16 +25,22 @@ used-in : (a : Answer (List ℕ)) (out : List ℕ) → usedBy (saidOf a) ≤ len
 used-in (good bytes) out = written-in (good bytes) (length bytes) out _ refl refl
 used-in (refused why) out = omega arith
 
-pub used-within : (w : Wish) (s out work : List ℕ) → usedBy (call w s out work .said) ≤ length (call w s out work .out)
-unfolding call
-used-within w s out work = used-in (answer (length work) w s (length out)) out
+pub used-within : (w : Wished) (s out work : List ℕ) → usedBy (wishedCall w s out work .said) ≤ length (wishedCall w s out work .out)
+unfolding cardCall
+used-within w s out work = used-in (cardAnswer (w .card) (length work) (w .wish) s (length out)) out
 
 judged-room : (s : List ℕ) (room : ℕ) {a : Answer ℕ} → Judged (CallPlace s room) (CallCount room) a → usedBy a ≤ room
 judged-room s room (value h) = h .1
 judged-room s room (refusal h) = omega arith
 
-pub used-room : (w : Wish) (s out work : List ℕ) → usedBy (call w s out work .said) ≤ length out
-used-room w s out work = judged-room s (length out) (call-places w s out work)
+pub used-room : (w : Wished) (s out work : List ℕ) → usedBy (wishedCall w s out work .said) ≤ length out
+used-room w s out work = by (wishedCall w s out work .said) refl
+  where
+    by : (a : Answer ℕ) → wishedCall w s out work .said ≡ a → usedBy a ≤ length out
+    by (refused why) e = omega arith
+    by (good n) e =
+        let h = card-accepted (w .card) (w .wish) s out work n e in
+        subst (λ (a : Answer ℕ). usedBy a ≤ length out) (sym (ap (λ (c : Call). c .said) h) ∙ e) (judged-room s (length out) (call-places (w .wish) s out work))
 
 same-batch : {a a′ : Answer ℕ} {o o′ r r′ w w′ : List ℕ} → a ≡ a′ → o ≡ o′ → r ≡ r′ → w ≡ w′
     → _≡_ {A = Batch} (record { said = a; out = o; results = r; work = w }) (record { said = a′; out = o′; results = r′; work = w′ })
@@ -76,24 +84,24 @@ module _ (used k : ℕ) (out results o : List ℕ) (a : Answer ℕ) (j : ℕ) (r
       refl
 
 -- the first k sheets are done: they began at `at` together, used so much of the output, and what is left makes the whole
-pub record Going (w : Wish) (s lengths out₀ results₀ work₀ out results work : List ℕ) (at used k : ℕ) : Type 0 where
+pub record Going (w : Wished) (s lengths out₀ results₀ work₀ out results work : List ℕ) (at used k : ℕ) : Type 0 where
   pub here : k ≤ length lengths
   pub bytes : at + sum (drop k lengths) ≡ length s
   pub room : used ≤ length out
   pub places : length lengths ≤ length results
   pub whole : ofRest used k out results (oneByOne w (drop at s) (drop k lengths) (drop used out) work) ≡ ofRow results₀ (oneByOne w s lengths out₀ work₀)
 
-pub going-start : (w : Wish) (s lengths out results work : List ℕ) → sum lengths ≡ length s → length lengths ≤ length results → Going w s lengths out results work out results work 0 0 0
+pub going-start : (w : Wished) (s lengths out results work : List ℕ) → sum lengths ≡ length s → length lengths ≤ length results → Going w s lengths out results work out results work 0 0 0
 going-start w s lengths out results work e h =
     let n : 0 + oneByOne w s lengths out work .used ≡ oneByOne w s lengths out work .used = omega arith in
     record { here = omega arith; bytes = omega (arith, e); room = omega arith; places = h; whole = same-batch (ap good n) refl refl refl }
 
-module _ {w : Wish} {s lengths out₀ results₀ work₀ out results work : List ℕ} {at used k : ℕ} (g : Going w s lengths out₀ results₀ work₀ out results work at used k) (more : k < length lengths) where
+module _ {w : Wished} {s lengths out₀ results₀ work₀ out results work : List ℕ} {at used k : ℕ} (g : Going w s lengths out₀ results₀ work₀ out results work at used k) (more : k < length lengths) where
   abbrev size : ℕ
   size = getD lengths k 0
 
   abbrev c : Call
-  c = call w (take size (drop at s)) (drop used out) work
+  c = wishedCall w (take size (drop at s)) (drop used out) work
 
   abbrev j : ℕ
   j = usedBy (c .said)
@@ -127,11 +135,11 @@ module _ {w : Wish} {s lengths out₀ results₀ work₀ out results work : List
 
   -- as the code has it: a sheet from offset to offset, and the rest of the output, put back
   module _ (n r : ℕ) (o results′ work′ : List ℕ) (is : n ≡ size)
-      (L : OneLeft r k o results results′ work′ (call w (take (at + n - at) (drop at s)) (take (length out - used) (drop used out)) work)) where
-    same-call : call w (take (at + n - at) (drop at s)) (take (length out - used) (drop used out)) work ≡ c
+      (L : OneLeft r k o results results′ work′ (wishedCall w (take (at + n - at) (drop at s)) (take (length out - used) (drop used out)) work)) where
+    same-call : wishedCall w (take (at + n - at) (drop at s)) (take (length out - used) (drop used out)) work ≡ c
     same-call =
         let e : at + n - at ≡ size = omega (arith, is) in
-        ap₂ (λ (x y : List ℕ). call w x y work) (ap (λ (m : ℕ). take m (drop at s)) e) (take-all (length out - used) (drop used out) (omega (arith, length-drop used out)))
+        ap₂ (λ (x y : List ℕ). wishedCall w x y work) (ap (λ (m : ℕ). take m (drop at s)) e) (take-all (length out - used) (drop used out) (omega (arith, length-drop used out)))
 
     pub used-fits : used + r ≤ length out
     used-fits = omega (arith, L .used ∙ ap (λ (x : Call). usedBy (x .said)) same-call, used-room w (take size (drop at s)) (drop used out) work, length-drop used out, g .room)
@@ -150,7 +158,7 @@ module _ {w : Wish} {s lengths out₀ results₀ work₀ out results work : List
         (subst⁻¹ (λ (x : ℕ). Going w s lengths out₀ results₀ work₀ (take used out ++ c .out) (set results k (packed (c .said))) (c .work) (at + size) (used + x) (k + 1)) (L .used ∙ ap (λ (x : Call). usedBy (x .said)) same-call)
         going-more))))
 
-pub going-end : {w : Wish} {s lengths out₀ results₀ work₀ out results work : List ℕ} {at used k : ℕ} → Going w s lengths out₀ results₀ work₀ out results work at used k → k ≡ length lengths
+pub going-end : {w : Wished} {s lengths out₀ results₀ work₀ out results work : List ℕ} {at used k : ℕ} → Going w s lengths out₀ results₀ work₀ out results work at used k → k ≡ length lengths
     → left (variant.Written used) out results work ≡ ofRow results₀ (oneByOne w s lengths out₀ work₀)
 going-end {w} {s} {lengths} {out = out} {results = results} {work = work} {at = at} {used = used} {k = k} g e =
     let n : used ≡ used + 0 = omega arith in

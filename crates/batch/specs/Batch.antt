@@ -5,7 +5,8 @@ use mathlib.Core.List.{List, [], _∷_, _++_, map}
 use lib.Dec.{leb, eqb}
 use lib.ListN.{length, take, drop}
 use Rattle.calculus.specs.Answer.{Answer, good, refused, refuse}
-use Rattle.calculus.specs.Translate.{Wish, Call, call}
+use Rattle.calculus.specs.Translate.{Call}
+use Rattle.export_calculus.specs.CardCall.{Wished, wishedCall}
 use Rattle.translator.specs.Word.{packed}
 
 -- the bytes of its output that a call used: a refused sheet uses none
@@ -21,10 +22,10 @@ pub record Row : Type 0 where
   pub work : List ℕ
 
 -- "the calls made one by one, each with the output that the earlier ones left unused"; the working memory goes from one to the next
-abbrev pub oneByOne : Wish → List ℕ → List ℕ → List ℕ → List ℕ → Row
+abbrev pub oneByOne : Wished → List ℕ → List ℕ → List ℕ → List ℕ → Row
 oneByOne w s [] out work = record { said = []; used = 0; out = out; work = work }
 oneByOne w s (n ∷ ns) out work =
-    let c = call w (take n s) out work in
+    let c = wishedCall w (take n s) out work in
     let k = usedBy (c .said) in
     let r = oneByOne w (drop n s) ns (drop k (c .out)) (c .work) in
     record { said = c .said ∷ r .said; used = k + r .used; out = take k (c .out) ++ r .out; work = r .work }
@@ -52,6 +53,6 @@ abbrev pub ofRow : List ℕ → Row → Batch
 ofRow results r = record { said = good (r .used); out = r .out; results = map packed (r .said) ++ drop (length (r .said)) results; work = r .work }
 
 -- 24 before any sheet is looked at: nothing is written, and the working memory is untouched too
-unfoldable pub batchCall : Wish → List ℕ → List ℕ → List ℕ → List ℕ → List ℕ → Batch
+unfoldable pub batchCall : Wished → List ℕ → List ℕ → List ℕ → List ℕ → List ℕ → Batch
 batchCall w s lengths out results work =
     cond (haveRoom lengths results && addUp s lengths) (ofRow results (oneByOne w s lengths out work)) (record { said = refuse 24 0; out = out; results = results; work = work })

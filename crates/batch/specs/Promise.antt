@@ -4,7 +4,8 @@ use mathlib.Core.Path.{_≡_}
 use mathlib.Core.List.{List, [], _++_}
 use lib.ListN.{length, getD, take, drop}
 use Rattle.calculus.specs.Answer.{Answer, good}
-use Rattle.calculus.specs.Translate.{Wish, workOf, Call, call}
+use Rattle.calculus.specs.Translate.{workOf, Call}
+use Rattle.export_calculus.specs.CardCall.{Wished, wishedCall}
 use Rattle.translator.specs.Word.{packed}
 use Rattle.translation.specs.Demands.{Circuit}
 use Rattle.batch.specs.Batch.{usedBy, sum, Batch}
@@ -14,11 +15,11 @@ abbrev pub sheetAt : List ℕ → List ℕ → ℕ → List ℕ
 sheetAt s lengths i = take (getD lengths i 0) (drop (sum (take i lengths)) s)
 
 -- its own call, where the earlier ones used so many bytes of the output
-abbrev pub callAt : Wish → List ℕ → List ℕ → List ℕ → List ℕ → ℕ → ℕ → Call
-callAt w s lengths out work used i = call w (sheetAt s lengths i) (drop used out) work
+abbrev pub callAt : Wished → List ℕ → List ℕ → List ℕ → List ℕ → ℕ → ℕ → Call
+callAt w s lengths out work used i = wishedCall w (sheetAt s lengths i) (drop used out) work
 
 -- results and output are those of the sheets' own calls; `used i` bytes of the output are used before sheet i
-pub record AsCalls (w : Wish) (s lengths out results work : List ℕ) (b : Batch) : Type 0 where
+pub record AsCalls (w : Wished) (s lengths out results work : List ℕ) (b : Batch) : Type 0 where
   pub used : ℕ → ℕ
   pub none-used : used 0 ≡ 0
   -- a refused sheet uses none
@@ -36,6 +37,6 @@ pub record AsCalls (w : Wish) (s lengths out results work : List ℕ) (b : Batch
   pub no-sheets : lengths ≡ [] → b .work ≡ work
 
 -- demand 3 holds for each accepted sheet alone
-pub record EachCircuit (w : Wish) (s lengths out work : List ℕ) (used : ℕ → ℕ) (b : Batch) : Type 1 where
+pub record EachCircuit (w : Wished) (s lengths out work : List ℕ) (used : ℕ → ℕ) (b : Batch) : Type 1 where
   pub circuit : (i n : ℕ) → i < length lengths → callAt w s lengths out work (used i) i .said ≡ good n
-      → Circuit w (sheetAt s lengths i) (drop (used i) out) n (take n (drop (used i) (b .out)) ++ drop n (drop (used i) out))
+      → Circuit (w .wish) (sheetAt s lengths i) (drop (used i) out) n (take n (drop (used i) (b .out)) ++ drop n (drop (used i) out))

@@ -6,10 +6,10 @@ ghost use mathlib.Core.Path.{_≡_};
 ghost use Prim.Native.Nat.{_<_, _≤_};
 ghost use lib.Dec.{eqb};
 ghost use lib.ListN.{length};
-ghost use Rattle.calculus.specs.Translate.{call};
+ghost use Rattle.export_calculus.specs.CardCall.{wishedCall};
 ghost use Rattle.translator.specs.Said.{saidAnswer};
 ghost use Rattle.translator.specs.declared.Answer.the-variants as answer;
-ghost use Rattle.translation.specs.Wished.{saidWish};
+ghost use Rattle.translation.specs.Wished.{allWish};
 ghost use Rattle.batch.specs.Batch.{usedBy, sum, oneByOne, ofRow, batchCall};
 ghost use Rattle.batch.specs.Left.{OneLeft, left, misfit};
 
@@ -68,7 +68,7 @@ fn one(
     wish: Wish,
 ) -> usize
     requires { ⌜ k < length (now results) ⌝ }
-    ensures { λ r. ⌜ OneLeft r k (now (out .exit)) (now (results .entry)) (now (results .exit)) (now (work .exit)) (call (saidWish wish) (now (sheet .entry)) (now (out .entry)) (now (work .entry))) ⌝ }
+    ensures { λ r. ⌜ OneLeft r k (now (out .exit)) (now (results .entry)) (now (results .exit)) (now (work .exit)) (wishedCall (allWish wish) (now (sheet .entry)) (now (out .entry)) (now (work .entry))) ⌝ }
 {
     let answer = translation::translate(sheet, out, work, wish);
     results[k] = translator::word(answer);
@@ -86,7 +86,7 @@ fn each(
 ) -> usize
     requires { ⌜ (sum (now lengths) ≡ length (now sheets)) × (length (now lengths) ≤ length (now results)) ⌝ }
     ensures { λ r. ⌜ left (answer.Written r) (now (out .exit)) (now (results .exit)) (now (work .exit))
-        ≡ ofRow (now (results .entry)) (oneByOne (saidWish wish) (now (sheets .entry)) (now (lengths .entry)) (now (out .entry)) (now (work .entry))) ⌝ }
+        ≡ ofRow (now (results .entry)) (oneByOne (allWish wish) (now (sheets .entry)) (now (lengths .entry)) (now (out .entry)) (now (work .entry))) ⌝ }
 {
     let mut at: usize = 0;
     let mut used: usize = 0;
@@ -112,7 +112,7 @@ pub fn batch(
     wish: Wish,
 ) -> Answer
     ensures { λ r. ⌜ left r (now (out .exit)) (now (results .exit)) (now (work .exit))
-        ≡ batchCall (saidWish wish) (now (sheets .entry)) (now (lengths .entry)) (now (out .entry)) (now (results .entry)) (now (work .entry)) ⌝ }
+        ≡ batchCall (allWish wish) (now (sheets .entry)) (now (lengths .entry)) (now (out .entry)) (now (results .entry)) (now (work .entry)) ⌝ }
 {
     if results.len() < lengths.len() {
         return misfits();

@@ -41,10 +41,18 @@ pub extern "C" fn deltawobble_batch(
     work: &mut [u16],
     lean: bool,
     plain: bool,
+    card: bool,
 ) -> u64
-    ensures { λ r. ⌜ PacksBatch r (now (out .exit)) (now (results .exit)) (now (work .exit)) (batchCall (record { lean = lean; plain = plain }) (now (sheets .entry)) (now (lengths .entry)) (now (out .entry)) (now (results .entry)) (now (work .entry))) ⌝ }
+    ensures { λ r. ⌜ PacksBatch r (now (out .exit)) (now (results .exit)) (now (work .exit)) (batchCall (record { card = card; wish = record { lean = lean; plain = plain } }) (now (sheets .entry)) (now (lengths .entry)) (now (out .entry)) (now (results .entry)) (now (work .entry))) ⌝ }
 {
-    let answer = batch::batch(sheets, lengths, out, results, work, Wish { lean, plain });
+    let answer = batch::batch(
+        sheets,
+        lengths,
+        out,
+        results,
+        work,
+        Wish { lean, plain, card },
+    );
     translator::word(answer)
 }
 

@@ -24,3 +24,11 @@ unfoldable pub cardCall : Bool → Wish → List ℕ → List ℕ → List ℕ �
 cardCall card w s out work =
     let a = cardAnswer card (length work) w s (length out) in
     record { said = saidOf a; out = outOf a out; work = workOf work }
+
+-- all that a caller wishes: which netlist, and the card's profile checked or not
+pub record Wished : Type 0 where
+  pub card : Bool
+  pub wish : Wish
+
+abbrev pub wishedCall : Wished → List ℕ → List ℕ → List ℕ → Call
+wishedCall w = cardCall (w .card) (w .wish)

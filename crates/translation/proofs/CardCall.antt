@@ -25,6 +25,23 @@ pub card-unasked : (w : Wish) (s out work : List ℕ) → cardCall false w s out
 unfolding cardCall cardAnswer call answer
 card-unasked w s out work = refl
 
+-- .. and a call that is accepted with it is the call as it was, too
+passes : (a : Answer (Unit {0})) (r : Answer (List ℕ)) (n : ℕ) → saidOf (a >>= λ _. r) ≡ good n → (a >>= λ _. r) ≡ r
+passes (good tt) r n h = refl
+passes (refused why) r n h = absurd (refused≢good h)
+
+no-check : (t : Bool) (f : Answer Net) (check : Net → Answer (Unit {0})) (r : Net → Answer (List ℕ)) (n : ℕ)
+    → saidOf (need t 1 0 >>= λ _. f >>= λ m. check m >>= λ _. r m) ≡ good n → (need t 1 0 >>= λ _. f >>= λ m. check m >>= λ _. r m) ≡ (need t 1 0 >>= λ _. f >>= r)
+no-check false f check r n h = absurd (refused≢good h)
+no-check true (refused why) check r n h = absurd (refused≢good h)
+no-check true (good m) check r n h = passes (check m) (r m) n h
+
+pub card-accepted : (card : Bool) (w : Wish) (s out work : List ℕ) (n : ℕ) → cardCall card w s out work .said ≡ good n → cardCall card w s out work ≡ call w s out work
+unfolding cardCall cardAnswer call answer
+card-accepted card w s out work n h =
+    ap (λ (a : Answer (List ℕ)). record { said = saidOf a; out = outOf a out; work = workOf work })
+    (no-check (leb 32768 (length work)) (full s) (onCard card s) (λ m. need (leb (length (askedBytes w m (makersOf s))) (length out)) 17 (length (askedBytes w m (makersOf s))) >>= λ _. good (askedBytes w m (makersOf s))) n h)
+
 -- a rule's number is 27 or more
 rule-number : {m : Net} {why : Refusal} (τ : _) → Broken τ m why → 27 ≤ why .number
 rule-number τ (root-type f) = omega arith

@@ -2,7 +2,7 @@
 use mathlib.Core.Path.{sym, _∙_}
 use lib.ListN.{length}
 use borrow.Author.Tests.{eqb-true}
-use Rattle.translation.specs.Wished.{saidWish}
+use Rattle.translation.specs.Wished.{allWish}
 use Rattle.batch.specs.Batch.{sum}
 use Rattle.batch.proofs.BatchLaws.{no-room, no-sum, fitting}
 use borrow.Author.Needs.{needs}
@@ -15,7 +15,7 @@ misfits-requires c κs = search needs
 returns : tie.Need-returns
 returns c =
     let a = c .before .before .before .before .before .before .before .args in
-    rw (c .misfits .ensures) (sym (no-room (saidWish (a .wish)) (a .sheets .now) (a .lengths .now) (a .out .now) (a .results .now) (a .work .now) (c .before .if1 .taken)))
+    rw (c .misfits .ensures) (sym (no-room (allWish (a .wish)) (a .sheets .now) (a .lengths .now) (a .out .now) (a .results .now) (a .work .now) (c .before .if1 .taken)))
 
 adds-up-requires : tie.Need-adds-up-requires
 adds-up-requires c κs = search needs
@@ -43,7 +43,7 @@ returns-2 c =
     let u = t .before in
     let a = u .before .before .before .before .before .before .before .args in
     e .each .ensures
-    ∙ sym (fitting (saidWish (a .wish)) (a .sheets .now) (a .lengths .now) (a .out .now) (a .results .now) (a .work .now) (u .before .if1 .left) (sym (u .adds-up .ensures) ∙ t .if2 .taken))
+    ∙ sym (fitting (allWish (a .wish)) (a .sheets .now) (a .lengths .now) (a .out .now) (a .results .now) (a .work .now) (u .before .if1 .left) (sym (u .adds-up .ensures) ∙ t .if2 .taken))
 
 misfits-requires-2 : tie.Need-misfits-requires-2
 misfits-requires-2 c κs = search needs
@@ -54,7 +54,7 @@ returns-3 c =
     let u = t .before in
     let a = u .before .before .before .before .before .before .before .args in
     rw (c .misfits2 .ensures)
-    (sym (no-sum (saidWish (a .wish)) (a .sheets .now) (a .lengths .now) (a .out .now) (a .results .now) (a .work .now) (u .before .if1 .left) (sym (u .adds-up .ensures) ∙ t .if2 .left)))
+    (sym (no-sum (allWish (a .wish)) (a .sheets .now) (a .lengths .now) (a .out .now) (a .results .now) (a .work .now) (u .before .if1 .left) (sym (u .adds-up .ensures) ∙ t .if2 .left)))
 
 pub batch-spec : {M : Type 1} → statement M
 batch-spec =

@@ -7,14 +7,14 @@ use native.Mathlib.Omega.{arith}
 use lib.ListN.{length, getD, take, drop, set}
 use borrow.Rule.Slice.PartMut.{same-len-mid}
 use borrow.Author.Needs.{needs}
-use Rattle.translation.specs.Wished.{saidWish}
+use Rattle.translation.specs.Wished.{allWish}
 use Rattle.batch.proofs.RowLaws.{Going, going-start, within, used-fits, going-part, going-end}
 use Rattle.batch.proofs.each.Statement.{statement}
 use Rattle.batch.proofs.each.Tie as tie
 
 abbrev Inv-loop : tie.InvT-loop
 Inv-loop sheets lengths out₀ results₀ work₀ wish at₀ used₀ k₀ out results work at used k =
-    (Going (saidWish wish) sheets lengths out₀ results₀ work₀ out results work at used k) × (length out ≡ length out₀) × (length results ≡ length results₀) × (length work ≡ length work₀)
+    (Going (allWish wish) sheets lengths out₀ results₀ work₀ out results work at used k) × (length out ≡ length out₀) × (length results ≡ length results₀) × (length work ≡ length work₀)
 
 abbrev μ-loop : tie.MeasureT-loop
 μ-loop sheets lengths out₀ results₀ work₀ wish at₀ used₀ k₀ out results work at used k = length lengths - k
