@@ -23,7 +23,7 @@ use Rattle.foreign_theorems.specs.Foreign.{Bytes, Accepts, check}
 use Rattle.foreign_theorems.proofs.Exact.{check-exact}
 use Rattle.back_theorems.specs.Back.{gates, openIns, backSheet, backNet}
 use Rattle.back_theorems.specs.Returned.{noPoint, within, returned}
-use Rattle.back_theorems.specs.Promises.{PartOnly, Returns, Back, LeanOf, Same}
+use Rattle.back_theorems.specs.Promises.{PartOnly, Returns, Back, LeanOf, SameParts}
 use Rattle.back_theorems.proofs.CameBack.{net-came-back}
 use Rattle.back_theorems.proofs.SameParts.{same-gates}
 
@@ -85,10 +85,10 @@ came-back told s sheet b e m r = go (back-exact told s sheet b .0 e)
         (subst (λ (x : Net). LeanOf (backSheet (k .accepts .net)) (backNet (openIns (gates x)) (gates x))) n (net-came-back (k .accepts .net) (k .returns)))
 
 -- the same parts in the same order, with the same drivers
-pub same-parts : (told : Bool) (s sheet : List ℕ) → Bytes s → returned told s ≡ good sheet → (m net : Net) → readNet s ≡ good m → full sheet ≡ good net → Same m (lean net)
+pub same-parts : (told : Bool) (s sheet : List ℕ) → Bytes s → returned told s ≡ good sheet → (m net : Net) → readNet s ≡ good m → full sheet ≡ good net → SameParts m (lean net)
 same-parts told s sheet b e m net r f = go (back-exact told s sheet b .0 e) (came-back told s sheet b e m r)
   where
-    go : Back told s sheet → LeanOf sheet (backNet (openIns (gates m)) (gates m)) → Same m (lean net)
+    go : Back told s sheet → LeanOf sheet (backNet (openIns (gates m)) (gates m)) → SameParts m (lean net)
     go k c =
         let n : k .accepts .net ≡ m = good-inj (sym (accepts-read told s (k .accepts)) ∙ r) in
         let l : lean net ≡ backNet (openIns (gates m)) (gates m) = ap lean (good-inj (sym f ∙ c .accepted)) ∙ c .lean-is in

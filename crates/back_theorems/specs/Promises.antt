@@ -45,6 +45,6 @@ pub record LeanOf (sheet : List ℕ) (m : Net) : Type 0 where
 
 -- b has the parts of m in the same order, and each part input has the same driving part or the matching input pin; b's pins are the open
 -- inputs, then all part outputs
-pub record Same (m b : Net) : Type 0 where
+pub record SameParts (m b : Net) : Type 0 where
   pub gates-same : gatesSeen b (b .elements) ≡ gates m
   pub pins : b .pins ≡ inputsFrom (openIns (gates m)) 0 ++ outputsFrom (gates m) (2 * openIns (gates m) + 2 * length (gates m))

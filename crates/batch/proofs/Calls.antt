@@ -18,7 +18,7 @@ use Rattle.translator.proofs.Keeping.{work-small, work-large}
 use Rattle.translation.specs.Demands.{Circuit}
 use Rattle.translation.proofs.CardCall.{card-accepted}
 use Rattle.translation.proofs.Demands.{demand-3}
-use Rattle.batch.specs.Batch.{usedBy, Row, oneByOne, sum, Batch, ofRow, batchCall}
+use Rattle.batch.specs.Batch.{usedBy, CallsMade, oneByOne, sum, Batch, ofRow, batchCall}
 use Rattle.batch.specs.Promise.{sheetAt, callAt, AsCalls, EachCircuit}
 use Rattle.batch.proofs.RowLaws.{used-within}
 use Rattle.batch.proofs.BatchLaws.{fitting}
@@ -61,7 +61,7 @@ out-again w s out work = ap (λ (n : ℕ). outOf (cardAnswer (w .card) n (w .wis
 -- ---- a row of them
 
 -- what the promise says of a row
-record RowCalls (w : Wished) (s lengths out work : List ℕ) (r : Row) : Type 0 where
+record RowCalls (w : Wished) (s lengths out work : List ℕ) (r : CallsMade) : Type 0 where
   used : ℕ → ℕ
   none-used : used 0 ≡ 0
   next-used : (i : ℕ) → i < length lengths → used (suc i) ≡ used i + usedBy (callAt w s lengths out work (used i) i .said)
@@ -84,7 +84,7 @@ module _ (w : Wished) (s : List ℕ) (n : ℕ) (ns out work : List ℕ) where
   abbrev j : ℕ
   j = usedBy (first .said)
 
-  abbrev rest : Row
+  abbrev rest : CallsMade
   rest = oneByOne w (drop n s) ns (drop j (first .out)) (first .work)
 
   same-sheet : (i : ℕ) → sheetAt (drop n s) ns i ≡ sheetAt s (n ∷ ns) (suc i)
@@ -171,7 +171,7 @@ row-work w s (n ∷ ns) out work h = again-work w (drop n s) ns _ _ work (leaves
 -- ---- the call
 
 module _ (w : Wished) (s lengths out results work : List ℕ) (room : length lengths ≤ length results) (adds : sum lengths ≡ length s) where
-  abbrev r : Row
+  abbrev r : CallsMade
   r = oneByOne w s lengths out work
 
   of-row : batchCall w s lengths out results work ≡ ofRow results r

@@ -16,7 +16,7 @@ use Rattle.translator.proofs.SaidLaws.{written-in}
 use Rattle.sheet_theorems.proofs.Judging.{Judged, value, refusal}
 use Rattle.translation.proofs.Places.{CallPlace, CallCount, call-places}
 use Rattle.translation.proofs.CardCall.{card-accepted}
-use Rattle.batch.specs.Batch.{usedBy, Row, oneByOne, sum, Batch, ofRow}
+use Rattle.batch.specs.Batch.{usedBy, CallsMade, oneByOne, sum, Batch, ofRow}
 use Rattle.batch.specs.Left.{OneLeft, left}
 use Rattle.batch.proofs.SumLaws.{drop-at-place, sum-drop}
 
@@ -49,7 +49,7 @@ same-batch {a′ = a′} {o′ = o′} {r = r} {w = w} e f g h =
     ∙ ap₂ (λ (x y : List ℕ). record { said = a′; out = o′; results = x; work = y }) g h
 
 -- behind `used` bytes of the output and k results, the row of the sheets that are left
-abbrev pub ofRest : ℕ → ℕ → List ℕ → List ℕ → Row → Batch
+abbrev pub ofRest : ℕ → ℕ → List ℕ → List ℕ → CallsMade → Batch
 ofRest used k out results r = record {
   said = good (used + r .used);
   out = take used out ++ r .out;
@@ -58,7 +58,7 @@ ofRest used k out results r = record {
 }
 
 -- one sheet more
-module _ (used k : ℕ) (out results o : List ℕ) (a : Answer ℕ) (j : ℕ) (room : used ≤ length out) (place : k < length results) (r : Row) where
+module _ (used k : ℕ) (out results o : List ℕ) (a : Answer ℕ) (j : ℕ) (room : used ≤ length out) (place : k < length results) (r : CallsMade) where
   more-out : take (used + j) (take used out ++ o) ≡ take used out ++ take j o
   more-out = ap (λ (n : ℕ). take (n + j) (take used out ++ o)) (sym (length-take-le used out room)) ∙ take-append-add (take used out) o j
 

@@ -15,14 +15,14 @@ usedBy (good n) = n
 usedBy (refused why) = 0
 
 -- what calls made one by one say and leave, and how much of the output they used
-pub record Row : Type 0 where
+pub record CallsMade : Type 0 where
   pub said : List (Answer ℕ)
   pub used : ℕ
   pub out : List ℕ
   pub work : List ℕ
 
 -- "the calls made one by one, each with the output that the earlier ones left unused"; the working memory goes from one to the next
-abbrev pub oneByOne : Wished → List ℕ → List ℕ → List ℕ → List ℕ → Row
+abbrev pub oneByOne : Wished → List ℕ → List ℕ → List ℕ → List ℕ → CallsMade
 oneByOne w s [] out work = record { said = []; used = 0; out = out; work = work }
 oneByOne w s (n ∷ ns) out work =
     let c = wishedCall w (take n s) out work in
@@ -49,7 +49,7 @@ pub record Batch : Type 0 where
   pub work : List ℕ
 
 -- result places past the last sheet stay
-abbrev pub ofRow : List ℕ → Row → Batch
+abbrev pub ofRow : List ℕ → CallsMade → Batch
 ofRow results r = record { said = good (r .used); out = r .out; results = map packed (r .said) ++ drop (length (r .said)) results; work = r .work }
 
 -- 24 before any sheet is looked at: nothing is written, and the working memory is untouched too

@@ -5,7 +5,7 @@ use contract.Lifetimes.{Lfts}
 use denote.Triple.Clauses.{AtExit}
 use borrow.Fn.Kinds.{Dens, resT, endedOf}
 use Rattle.laws.proofs.OneResult.{Results}
-use Rattle.translator.proofs.SaidLaws.{Same}
+use Rattle.translator.proofs.SaidLaws.{SameResult}
 use Rattle.deltawobble.proofs.deltawobble_translate.Kinds as c-translate
 use Rattle.deltawobble.proofs.deltawobble_translate.Reads as c-translate-reads
 use Rattle.deltawobble.proofs.deltawobble_batch.Kinds as c-batch
@@ -22,12 +22,12 @@ use Rattle.deltawobble.proofs.deltawobble_stretch.Kinds as c-stretch
 use Rattle.deltawobble.proofs.deltawobble_stretch.Reads as c-stretch-reads
 
 pub determined-deltawobble-translate : (κs : Lfts 3) (a : Dens κs c-translate.ps) (x y : resT c-translate.r κs .Denot) (s t : AtExit (endedOf 3 c-translate.ps c-translate.r) κs)
-    → c-translate-reads.Post κs a x s → c-translate-reads.Post κs a y t → Same x y (s .1 .0 .now) (t .1 .0 .now) (s .1 .1 .0 .now) (t .1 .1 .0 .now)
+    → c-translate-reads.Post κs a x s → c-translate-reads.Post κs a y t → SameResult x y (s .1 .0 .now) (t .1 .0 .now) (s .1 .1 .0 .now) (t .1 .1 .0 .now)
 determined-deltawobble-translate κs a x y s t f g = record { answer = f .said ∙ sym (g .said); out = f .wrote ∙ sym (g .wrote); work = f .kept ∙ sym (g .kept) }
 
 pub determined-deltawobble-batch : (κs : Lfts 5) (a : Dens κs c-batch.ps) (x y : resT c-batch.r κs .Denot) (s t : AtExit (endedOf 5 c-batch.ps c-batch.r) κs)
     → c-batch-reads.Post κs a x s → c-batch-reads.Post κs a y t
-    → Same x y (s .1 .1 .0 .now) (t .1 .1 .0 .now) (s .1 .1 .1 .1 .0 .now) (t .1 .1 .1 .1 .0 .now) × (s .1 .1 .1 .0 .now ≡ t .1 .1 .1 .0 .now)
+    → SameResult x y (s .1 .1 .0 .now) (t .1 .1 .0 .now) (s .1 .1 .1 .1 .0 .now) (t .1 .1 .1 .1 .0 .now) × (s .1 .1 .1 .0 .now ≡ t .1 .1 .1 .0 .now)
 determined-deltawobble-batch κs a x y s t f g =
     (record { answer = f .said ∙ sym (g .said); out = f .wrote ∙ sym (g .wrote); work = f .kept ∙ sym (g .kept) }, f .stored ∙ sym (g .stored))
 
@@ -35,15 +35,15 @@ pub determined-deltawobble-check : Results c-check.ps c-check.r c-check-reads.Po
 determined-deltawobble-check κs a x y s t f g = (f .said ∙ sym (g .said), f .kept ∙ sym (g .kept))
 
 pub determined-deltawobble-run : (κs : Lfts 5) (a : Dens κs c-run.ps) (x y : resT c-run.r κs .Denot) (s t : AtExit (endedOf 5 c-run.ps c-run.r) κs)
-    → c-run-reads.Post κs a x s → c-run-reads.Post κs a y t → Same x y (s .1 .1 .1 .0 .now) (t .1 .1 .1 .0 .now) (s .1 .1 .1 .1 .0 .now) (t .1 .1 .1 .1 .0 .now)
+    → c-run-reads.Post κs a x s → c-run-reads.Post κs a y t → SameResult x y (s .1 .1 .1 .0 .now) (t .1 .1 .1 .0 .now) (s .1 .1 .1 .1 .0 .now) (t .1 .1 .1 .1 .0 .now)
 determined-deltawobble-run κs a x y s t f g = record { answer = f .said ∙ sym (g .said); out = f .wrote ∙ sym (g .wrote); work = f .kept ∙ sym (g .kept) }
 
 pub determined-deltawobble-verilog : (κs : Lfts 3) (a : Dens κs c-verilog.ps) (x y : resT c-verilog.r κs .Denot) (s t : AtExit (endedOf 3 c-verilog.ps c-verilog.r) κs)
-    → c-verilog-reads.Post κs a x s → c-verilog-reads.Post κs a y t → Same x y (s .1 .0 .now) (t .1 .0 .now) (s .1 .1 .0 .now) (t .1 .1 .0 .now)
+    → c-verilog-reads.Post κs a x s → c-verilog-reads.Post κs a y t → SameResult x y (s .1 .0 .now) (t .1 .0 .now) (s .1 .1 .0 .now) (t .1 .1 .0 .now)
 determined-deltawobble-verilog κs a x y s t f g = record { answer = f .said ∙ sym (g .said); out = f .wrote ∙ sym (g .wrote); work = f .kept ∙ sym (g .kept) }
 
 pub determined-deltawobble-back : (κs : Lfts 3) (a : Dens κs c-back.ps) (x y : resT c-back.r κs .Denot) (s t : AtExit (endedOf 3 c-back.ps c-back.r) κs)
-    → c-back-reads.Post κs a x s → c-back-reads.Post κs a y t → Same x y (s .1 .0 .now) (t .1 .0 .now) (s .1 .1 .0 .now) (t .1 .1 .0 .now)
+    → c-back-reads.Post κs a x s → c-back-reads.Post κs a y t → SameResult x y (s .1 .0 .now) (t .1 .0 .now) (s .1 .1 .0 .now) (t .1 .1 .0 .now)
 determined-deltawobble-back κs a x y s t f g = record { answer = f .said ∙ sym (g .said); out = f .wrote ∙ sym (g .wrote); work = f .kept ∙ sym (g .kept) }
 
 pub determined-deltawobble-stretch : (κs : Lfts 1) (a : Dens κs c-stretch.ps) (x y : resT c-stretch.r κs .Denot) (s t : AtExit (endedOf 1 c-stretch.ps c-stretch.r) κs)

@@ -4,10 +4,10 @@ use mathlib.Core.Path.{sym, _∙_}
 use contract.Lifetimes.{Lfts}
 use denote.Triple.Clauses.{AtExit}
 use borrow.Fn.Kinds.{Dens, resT, endedOf}
-use Rattle.translator.proofs.SaidLaws.{Same, same-call}
+use Rattle.translator.proofs.SaidLaws.{SameResult, same-call}
 use Rattle.trace.proofs.run.Kinds as run
 use Rattle.trace.proofs.run.Reads as run-reads
 
 pub determined-run : (κs : Lfts 5) (a : Dens κs run.ps) (x y : resT run.r κs .Denot) (s t : AtExit (endedOf 5 run.ps run.r) κs)
-    → run-reads.Post κs a x s → run-reads.Post κs a y t → Same x y (s .1 .1 .1 .0 .now) (t .1 .1 .1 .0 .now) (s .1 .1 .1 .1 .0 .now) (t .1 .1 .1 .1 .0 .now)
+    → run-reads.Post κs a x s → run-reads.Post κs a y t → SameResult x y (s .1 .1 .1 .0 .now) (t .1 .1 .1 .0 .now) (s .1 .1 .1 .1 .0 .now) (t .1 .1 .1 .1 .0 .now)
 determined-run κs a x y s t f g = same-call x y _ _ _ _ (f ∙ sym g)

@@ -35,7 +35,7 @@ use Rattle.trace_calculus.specs.Trace.{In, here, there, Source, pin, from, made
 use Rattle.trace_theorems.proofs.Sources.{in-all, Decided, is-pin, is-wire, is-point, is-part, decided, at-wire, out-terminal}
 use Rattle.trace_theorems.proofs.Owners.{start, last, keep-in, in-keep, pin-map, FromRoot, lean-root}
 use Rattle.trace_steps.specs.Turns.{turns}
-use Rattle.trace_steps.specs.Names.{named, Named, Namable}
+use Rattle.trace_steps.specs.Names.{named, NamesStand, Namable}
 use Rattle.trace_steps.specs.Links.{linkOf, linkIn, linkOne, Linkable, Linked, rootedIn, pinOne, Rootable, Pinned}
 use Rattle.trace_steps.proofs.LinkLaws.{link-none, link-driver, link-kind}
 use Rattle.trace.specs.Tables.{Entry, of-pin, of-wire, of-point, of-part, Tabled, KeptRoots}
@@ -96,7 +96,7 @@ module _ (u : List ℕ) (e k p : ℕ) (q : Whole u e k p) (known : All Known (ne
 
   -- ---- naming
 
-  module _ (w₁ : List ℕ) (end : ℕ) (n : Named u e w₁ end) where
+  module _ (w₁ : List ℕ) (end : ℕ) (n : NamesStand u e w₁ end) where
     end-is : end ≡ r .end
     end-is = n .end-is ∙ end-low
 

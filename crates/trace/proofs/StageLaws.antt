@@ -32,7 +32,7 @@ use Rattle.trace_calculus.specs.Trace.{terminals, inputs, OnRing, noRing, byte,
 use Rattle.trace_theorems.proofs.TraceRings.{accepted}
 use Rattle.trace_steps.specs.Turns.{turns, Looped}
 use Rattle.trace_steps.specs.Steps.{firstIn, freeIn, markOne, Looks, Ordered, Register}
-use Rattle.trace_steps.specs.Names.{Namable, Named}
+use Rattle.trace_steps.specs.Names.{Namable, NamesStand}
 use Rattle.trace_steps.specs.Links.{Linked, Pinned}
 use Rattle.trace_steps.specs.Sweeps.{sweeping, Sweepable, sweeps, Settled}
 use Rattle.trace_steps.specs.Pins.{Pins, Listable}
@@ -45,7 +45,7 @@ use Rattle.trace.specs.Tables.{Entry, Tabled, KeptRoots, Looking}
 use Rattle.translator.specs.Made.{Keeps}
 use Rattle.translator.proofs.Keeping.{later-keeps}
 use Rattle.translator.specs.Said.{Says}
-use Rattle.trace.specs.Said.{refusedAs, Leaned, Above, Made, freed, Runnable, Safe, Freed}
+use Rattle.trace.specs.Said.{refusedAs, Leaned, Above, TablesMade, freed, Runnable, Safe, Freed}
 use Rattle.translator.specs.declared.Answer as code
 use Rattle.trace.proofs.Turning.{turns-keep}
 use Rattle.trace.proofs.GateLaws.{gate-at, gate-looks, looks-looking, looking-looks, input-low}
@@ -122,7 +122,7 @@ module _ (u : List ℕ) (e k p : ℕ) (q : Leaned u e k p) where
     known = kind-here u e k p (q .whole .ready) (q .known);
   }
 
-  pub made-of : (w₁ : List ℕ) (end : ℕ) → Named u e w₁ end → (w₂ : List ℕ) → Linked w₁ end w₂ → (w₃ : List ℕ) → Pinned w₂ p w₃ → Made u e k p w₃ end
+  pub made-of : (w₁ : List ℕ) (end : ℕ) → NamesStand u e w₁ end → (w₂ : List ℕ) → Linked w₁ end w₂ → (w₃ : List ℕ) → Pinned w₂ p w₃ → TablesMade u e k p w₃ end
   made-of w₁ end n w₂ c w₃ d =
       let f = tables.linkable u e k p (q .whole) (q .known) w₁ end n .few in
       let g = q .whole .ready .few-pins in
@@ -335,7 +335,7 @@ ran-freed m n bits starts room e = go-on (noRing m (inputs (m .elements))) _ e
 
 -- ---- all stages
 
-module _ (u : List ℕ) (e k p : ℕ) (w₃ : List ℕ) (end : ℕ) (md : Made u e k p w₃ end) (w₄ : List ℕ) (total : ℕ) (ch : Chosen w₃ end w₄ total) (w₅ : List ℕ) (mk : Looped markOne end w₄ w₅) where
+module _ (u : List ℕ) (e k p : ℕ) (w₃ : List ℕ) (end : ℕ) (md : TablesMade u e k p w₃ end) (w₄ : List ℕ) (total : ℕ) (ch : Chosen w₃ end w₄ total) (w₅ : List ℕ) (mk : Looped markOne end w₄ w₅) where
   abbrev L : Net
   L = lean (netIn u e k p)
 

@@ -40,7 +40,7 @@ pub record Above (u w : List ℕ) : Type 0 where
   pub above : (j : ℕ) → 27264 ≤ j → getD w j 0 ≡ getD u j 0
 
 -- the table by terminal is made
-pub record Made (u : List ℕ) (elements wires pins : ℕ) (w : List ℕ) (end : ℕ) : Type 0 where
+pub record TablesMade (u : List ℕ) (elements wires pins : ℕ) (w : List ℕ) (end : ℕ) : Type 0 where
   pub tabled : Tabled w (lean (netIn u elements wires pins)) end pins
   pub roots : KeptRoots w (lean (netIn u elements wires pins)) end
   pub kept : Above u w

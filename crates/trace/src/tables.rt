@@ -1,12 +1,12 @@
 // The table by terminal, and the pins by their roots.
 use trace_steps::links;
 use trace_steps::names;
-ghost use Rattle.trace.specs.Said.{Leaned, Made};
+ghost use Rattle.trace.specs.Said.{Leaned, TablesMade};
 
 // They are made of the kinds, the drivers and the roots; the first terminal that no element takes.
 pub fn make(work: &mut [u16], elements: usize, wires: usize, pins: usize) -> usize
     requires { ⌜ Leaned (now work) elements wires pins ⌝ }
-    ensures { λ r. ⌜ Made (now (work .entry)) elements wires pins (now (work .exit)) r ⌝ }
+    ensures { λ r. ⌜ TablesMade (now (work .entry)) elements wires pins (now (work .exit)) r ⌝ }
 {
     let end = names::name(work, elements);
     links::link(work, end);

@@ -14,7 +14,7 @@ use Rattle.netlist.specs.Elements.{after, afterAll}
 use Rattle.netlist.proofs.Elements.{after-rises}
 use Rattle.netlist.specs.Elements.{outputOf}
 use Rattle.lean.proofs.KindLaws.{output-low, region-next, region-end}
-use Rattle.trace_steps.specs.Names.{named, Namable, Named}
+use Rattle.trace_steps.specs.Names.{named, Namable, NamesStand}
 
 -- i elements are done, from terminal `at` on the others are to come
 pub record Naming (u : List ℕ) (elements : ℕ) (w : List ℕ) (at i : ℕ) : Type 0 where
@@ -56,7 +56,7 @@ module _ (u w : List ℕ) (elements at i : ℕ) (p : Namable u elements) (lt : i
     whole = subst (λ (xs : List ℕ). named w xs at ≡ named u ks 0) next (s .whole);
   }
 
-pub naming-end : (u w : List ℕ) (elements at i : ℕ) → Namable u elements → elements ≤ i → Naming u elements w at i → Named u elements w at
+pub naming-end : (u w : List ℕ) (elements at i : ℕ) → Namable u elements → elements ≤ i → Naming u elements w at i → NamesStand u elements w at
 naming-end u w elements at i p h s =
     let f = p .few in
     let z = p .size in

@@ -17,7 +17,7 @@ pub record Namable (w : List ℕ) (elements : ℕ) : Type 0 where
   pub low : afterAll (region w 13824 elements) 0 ≤ 8192
   pub known : (i : ℕ) → i < elements → getD w (13824 + i) 0 < 8
 
-pub record Named (u : List ℕ) (elements : ℕ) (w : List ℕ) (end : ℕ) : Type 0 where
+pub record NamesStand (u : List ℕ) (elements : ℕ) (w : List ℕ) (end : ℕ) : Type 0 where
   pub size : length w ≡ length u
   pub above : (j : ℕ) → 8192 ≤ j → getD w j 0 ≡ getD u j 0
   pub end-is : end ≡ afterAll (region u 13824 elements) 0

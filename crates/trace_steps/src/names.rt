@@ -6,7 +6,7 @@ ghost use Prim.Native.Nat.{_+_, _≤_, _<_};
 ghost use lib.ListN.{length, set};
 ghost use Rattle.netlist.specs.Elements.{after};
 ghost use Rattle.netlist.specs.Elements.{outputOf};
-ghost use Rattle.trace_steps.specs.Names.{Namable, Named};
+ghost use Rattle.trace_steps.specs.Names.{Namable, NamesStand};
 
 // The output of an element of this kind whose first terminal is `at`.
 fn output_of(kind: u16, at: usize) -> usize
@@ -31,7 +31,7 @@ fn name_one(work: &mut [u16], kind: u16, at: usize) -> usize
 // The first terminal that no element takes.
 pub fn name(work: &mut [u16], elements: usize) -> usize
     requires { ⌜ Namable (now work) elements ⌝ }
-    ensures { λ r. ⌜ Named (now (work .entry)) elements (now (work .exit)) r ⌝ }
+    ensures { λ r. ⌜ NamesStand (now (work .entry)) elements (now (work .exit)) r ⌝ }
 {
     let mut at: usize = 0;
     let mut i: usize = 0;

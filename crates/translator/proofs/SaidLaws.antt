@@ -43,7 +43,7 @@ written-in (refused why) n before after e f = let z : _≡_ {A = ℕ} 0 1 = cc i
 -- ---- an answer says what it is
 
 -- an answer, what is left of the output, and what is left of the working memory
-pub record Same {A : Type 0} (r q : A) (o o′ w w′ : List ℕ) : Type 0 where
+pub record SameResult {A : Type 0} (r q : A) (o o′ w w′ : List ℕ) : Type 0 where
   pub answer : r ≡ q
   pub out : o ≡ o′
   pub work : w ≡ w′
@@ -56,7 +56,7 @@ same-answer (answer.Refused p) (answer.Written n) e = absurd (refused≢good e)
 same-answer (answer.Refused p) (answer.Refused q) e =
     ap (λ (why : Refusal). answer.Refused (record { number = why .number; place = why .place; wanted = why .wanted; found = why .found })) (refused-inj e)
 
-pub same-call : (r q : code.Answer) (o o′ w w′ : List ℕ) → called r o w ≡ called q o′ w′ → Same r q o o′ w w′
+pub same-call : (r q : code.Answer) (o o′ w w′ : List ℕ) → called r o w ≡ called q o′ w′ → SameResult r q o o′ w w′
 same-call r q o o′ w w′ e = record {
   answer = same-answer r q (ap (λ (c : Call). c .said) e);
   out = ap (λ (c : Call). c .out) e;

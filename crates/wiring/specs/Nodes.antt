@@ -79,7 +79,7 @@ module _ (E : Edition) (Θ : Table) (s : List ℕ) (at n : ℕ) (env : List Boun
       pub sum : size τ₁ ≡ size (leftOf τ₁) + size (rightOf τ₁)
 
     -- the whole first is bound
-    pub record Whole : Type 0 where
+    pub record Unhalved : Type 0 where
       pub not-proj : isProjection (nodeOf e at .rule) ≡ false
       pub naming : isNaming (nodeOf e at .rule) ≡ true
       pub whole : env₂ ≡ wholeOf x ∷ env
@@ -88,7 +88,7 @@ module _ (E : Edition) (Θ : Table) (s : List ℕ) (at n : ℕ) (env : List Boun
       pub body : ofBody (nodeOf e at .rule) ≡ true
       pub same : τ₂ ≡ τ
       pub makes : make Θ e env n ≡ madeProj x y
-      pub bound : Halved ⊎ Whole
+      pub bound : Halved ⊎ Unhalved
 
   pub record Twofold : Type 0 where
     pub first : Term
