@@ -1,7 +1,7 @@
 /* Calls a translator once on each sheet, for counting instructions; linked with the proved one, with
-   second_once.rs or with limit_once.c: once full|lean|plain|lean-plain|none|lengths ROOM FILE ROOM FILE ..
-   `plain` is the full netlist in plain kinds, `lean-plain` the lean one; `none` does all but the calls;
-   `lengths` prints the bytes of both netlists with nodes, 0 where refused. */
+   second_once.rs or with limit_once.c: once full|lean|plain|lean-plain|lean-card|none|lengths ROOM FILE ROOM FILE ..
+   `plain` is the full netlist in plain kinds, `lean-plain` the lean one, `lean-card` the lean one under the
+   card's profile; `none` does all but the calls; `lengths` prints the bytes of both netlists with nodes, 0 where refused. */
 #include <stdbool.h>
 #include <stdint.h>
 #include <stdio.h>
@@ -34,7 +34,7 @@ int main(int count, char **words) {
             printf("%u %u\n", length_of(length, room, false), length_of(length, room, true));
         else if (strcmp(words[1], "none") != 0)
             deltawobble_translate(sheet, length, out, room, work, 32768, strncmp(words[1], "lean", 4) == 0,
-                                  strstr(words[1], "plain") != 0, false);
+                                  strstr(words[1], "plain") != 0, strstr(words[1], "card") != 0);
     }
     return ground;
 }
