@@ -244,6 +244,19 @@ fn put_elements(work: &[u16], elements: usize, out: &mut [u8], from: usize, plai
     at
 }
 
+// The same, with the wish known: no loop then tests it at each element.
+fn put_wished(work: &[u16], elements: usize, out: &mut [u8], from: usize, plain: bool) -> usize
+    requires { ⌜ ElementsFit plain (now work) elements (length (now out)) from ⌝ }
+    ensures { λ r. ⌜ (r ≡ from + length (recordsOf plain (elementsFrom (region (now (work .entry)) elementsAt elements) 0) (region (now (work .entry)) makersAt elements)))
+        × (now (out .exit) ≡ sets (now (out .entry)) from (recordsOf plain (elementsFrom (region (now (work .entry)) elementsAt elements) 0) (region (now (work .entry)) makersAt elements))) ⌝ }
+{
+    if plain {
+        put_elements(work, elements, out, from, true)
+    } else {
+        put_elements(work, elements, out, from, false)
+    }
+}
+
 // The records of all wires, from an offset on.
 fn put_wires(work: &[u16], wires: usize, out: &mut [u8], from: usize) -> usize
     requires { ⌜ WiresFit (now work) wires (length (now out)) from ⌝ }
@@ -289,7 +302,7 @@ pub fn write_full(
     ensures { λ r. ⌜ (r ≡ length (written plain (netIn (now (work .entry)) elements wires pins) (region (now (work .entry)) makersAt elements)))
         × (now (out .exit) ≡ sets (now (out .entry)) 0 (written plain (netIn (now (work .entry)) elements wires pins) (region (now (work .entry)) makersAt elements))) ⌝ }
 {
-    let first = put_elements(work, elements, out, 0, plain);
+    let first = put_wished(work, elements, out, 0, plain);
     let second = put_wires(work, wires, out, first);
     put_pins(work, pins, out, second)
 }

@@ -163,10 +163,23 @@ fn no_node() -> Node
 pub fn node_at(s: &[u8], at: usize) -> Node
     ensures { λ r. ⌜ r ≡ nodeAt (now (s .entry)) at ⌝ }
 {
-    let Record::Node(n) = record_at(s, at, true) else {
+    if s.len() <= at {
+        return no_node();
+    }
+    let from = at + 1;
+    let Shape::Node(n, subterms, rule) = shape_of(s[at]) else {
         return no_node();
     };
-    n
+    if s.len() - from < n {
+        return no_node();
+    }
+    Node {
+        rule,
+        first: body(s, from, n, 0),
+        second: body(s, from, n, 1),
+        subterms,
+        next: from + n,
+    }
 }
 
 // The record of type t, in a sheet whose types have been read: the first is the single bit, of one byte, and every other has three.
