@@ -15,17 +15,17 @@ use Rattle.calculus.specs.Translate.{workOf}
 use Rattle.calculus.proofs.Answers.{refused≢good, good-inj, refused-inj}
 use Rattle.foreign_theorems.specs.Foreign.{Bytes, check, Checked, checkCall}
 use Rattle.foreign_theorems.proofs.Exact.{check-exact}
-use Rattle.foreign.specs.Walk.{saidVerdict}
+use Rattle.foreign.specs.Walk.{saidCheck}
 use Rattle.foreign.specs.Walk as foreign
 use Rattle.foreign.specs.declared.Verdict.{Verdict}
 use Rattle.foreign.specs.declared.Verdict.the-variants as verdict
 use Rattle.back_theorems.specs.Back.{gates, openIns, backSheet}
 use Rattle.back_theorems.specs.Returned.{noPoint, within, returned, backAnswer, backCall}
 use Rattle.back_theorems.proofs.Main.{accepts-read, parts-of}
-use Rattle.back.specs.Gates.{netHere, Accepted, OfParts, partsOr25}
-use Rattle.translator.specs.Said.{inRoom, Says, called}
+use Rattle.back.specs.Gates.{netHere, AcceptedNet, OfParts, partsOr25}
+use Rattle.translator.specs.Said.{inRoom, AnswerSays, called, refusedAs}
 use Rattle.translator.specs.declared.Answer as code
-use Rattle.back.specs.Said.{saidParts, refusedAs}
+use Rattle.back.specs.Said.{saidParts}
 use Rattle.back.specs.Answered.{limitAnswer, netAnswer}
 use Rattle.back.specs.declared.gates.Parts.{Parts}
 use Rattle.back.specs.declared.gates.Parts.the-variants as parts
@@ -47,34 +47,34 @@ module _ (m : Net) where
   within-all a b h = rw (le-leb 1 (length (m .elements)) a, le-leb (length (m .elements)) 16 b, le-leb (openIns (gates m)) 24 h)
 
   module _ (out : List ℕ) where
-    says-26 : within m ≡ false → Says (refusedAs 26 0) out out (limitAnswer m (length out))
+    says-26 : within m ≡ false → AnswerSays (refusedAs 26 0) out out (limitAnswer m (length out))
     unfolding limitAnswer
     says-26 e = rw e (record { said = refl; wrote = refl })
 
-    pub says-none : length (m .elements) ≡ 0 → Says (refusedAs 26 0) out out (limitAnswer m (length out))
+    pub says-none : length (m .elements) ≡ 0 → AnswerSays (refusedAs 26 0) out out (limitAnswer m (length out))
     says-none e = says-26 (within-none e)
 
-    pub says-many : 16 < length (m .elements) → Says (refusedAs 26 0) out out (limitAnswer m (length out))
+    pub says-many : 16 < length (m .elements) → AnswerSays (refusedAs 26 0) out out (limitAnswer m (length out))
     says-many h = says-26 (within-many (omega arith) h)
 
-    pub says-open : 1 ≤ length (m .elements) → length (m .elements) ≤ 16 → 24 < openIns (gates m) → Says (refusedAs 26 0) out out (limitAnswer m (length out))
+    pub says-open : 1 ≤ length (m .elements) → length (m .elements) ≤ 16 → 24 < openIns (gates m) → AnswerSays (refusedAs 26 0) out out (limitAnswer m (length out))
     says-open a b h = says-26 (within-open a b h)
 
-    pub says-within : (r : code.Answer) (after : List ℕ) → 1 ≤ length (m .elements) → length (m .elements) ≤ 16 → openIns (gates m) ≤ 24 → Says r out after (inRoom (backSheet m) (length out)) → Says r out after (limitAnswer m (length out))
+    pub says-within : (r : code.Answer) (after : List ℕ) → 1 ≤ length (m .elements) → length (m .elements) ≤ 16 → openIns (gates m) ≤ 24 → AnswerSays r out after (inRoom (backSheet m) (length out)) → AnswerSays r out after (limitAnswer m (length out))
     unfolding limitAnswer
     says-within r after a b h w = rw (within-all a b h) w
 
 -- ---- 25
 
-module _ (s : List ℕ) (a : Accepted s) (p : Parts) (e : saidParts p ≡ partsOr25 (netHere s .elements)) where
+module _ (s : List ℕ) (a : AcceptedNet s) (p : Parts) (e : saidParts p ≡ partsOr25 (netHere s .elements)) where
   abbrev es : List Element
   es = netHere s .elements
 
-  pub says-25 : (out : List ℕ) (at : ℕ) → p ≡ parts.Point at → Says (refusedAs 25 at) out out (netAnswer (netHere s) (length out))
+  pub says-25 : (out : List ℕ) (at : ℕ) → p ≡ parts.Point at → AnswerSays (refusedAs 25 at) out out (netAnswer (netHere s) (length out))
   unfolding netAnswer
   says-25 out at q = by (noPoint (netHere s .elements) 0) (sym (ap saidParts q) ∙ e)
     where
-      by : (x : Answer (Unit {0})) → refuse 25 at ≡ (x >>= λ _. good (length (netHere s .elements))) → Says (refusedAs 25 at) out out (x >>= λ _. limitAnswer (netHere s) (length out))
+      by : (x : Answer (Unit {0})) → refuse 25 at ≡ (x >>= λ _. good (length (netHere s .elements))) → AnswerSays (refusedAs 25 at) out out (x >>= λ _. limitAnswer (netHere s) (length out))
       by (good u) z = absurd (refused≢good z)
       by (refused why) z = rw (← refused-inj z) (record { said = refl; wrote = refl })
 
@@ -90,7 +90,7 @@ module _ (s : List ℕ) (a : Accepted s) (p : Parts) (e : saidParts p ≡ partsO
       let k : All Known (netHere s .elements) = subst (λ (m : Net). All Known (m .elements)) (sym (here-is s a)) (a .accepts .known) in
       record { accepted = a; parts = parts-of (netHere s .elements) 0 k (no-point-here n q .0); count = no-point-here n q .1 }
 
-  pub says-parts : (n : ℕ) → p ≡ parts.All n → (r : code.Answer) (out after : List ℕ) → Says r out after (limitAnswer (netHere s) (length out)) → Says r out after (netAnswer (netHere s) (length out))
+  pub says-parts : (n : ℕ) → p ≡ parts.All n → (r : code.Answer) (out after : List ℕ) → AnswerSays r out after (limitAnswer (netHere s) (length out)) → AnswerSays r out after (netAnswer (netHere s) (length out))
   unfolding netAnswer
   says-parts n q r out after w = rw (no-point-here n q .0) w
 
@@ -113,7 +113,7 @@ answer-net (good u) false room b = refl
 answer-net (refused why) t room b = refl
 
 module _ (lean : Bool) (s w w′ : List ℕ) (v : Verdict) (e : foreign.called v w′ ≡ checkCall lean s w) where
-  said-is : saidVerdict v ≡ (need (leb 32768 (length w)) 1 0 >>= λ _. check lean s)
+  said-is : saidCheck v ≡ (need (leb 32768 (length w)) 1 0 >>= λ _. check lean s)
   unfolding checkCall
   said-is = ap (λ (c : Checked). c .said) e
 
@@ -124,14 +124,14 @@ module _ (lean : Bool) (s w w′ : List ℕ) (v : Verdict) (e : foreign.called v
   pub call-refused : (n p : ℕ) → v ≡ verdict.Refused n p → (out : List ℕ) → called (refusedAs n p) out w′ ≡ backCall lean s out w
   unfolding backCall backAnswer returned
   call-refused n p q out =
-      let z : backAnswer (length w) lean s (length out) ≡ refuse n p = off (leb 32768 (length w)) (check lean s) _ _ (numbered n p) (sym (ap saidVerdict q) ∙ said-is) in
+      let z : backAnswer (length w) lean s (length out) ≡ refuse n p = off (leb 32768 (length w)) (check lean s) _ _ (numbered n p) (sym (ap saidCheck q) ∙ said-is) in
       rw (z, work-is)
 
   module _ (q : v ≡ verdict.Accepted) (b : Bytes s) where
     checked : (leb 32768 (length w) ≡ true) × (check lean s ≡ good tt)
-    checked = passed (leb 32768 (length w)) (check lean s) (sym (ap saidVerdict q) ∙ said-is)
+    checked = passed (leb 32768 (length w)) (check lean s) (sym (ap saidCheck q) ∙ said-is)
 
-    pub call-accepted : Accepted s
+    pub call-accepted : AcceptedNet s
     call-accepted = record { told = lean; accepts = check-exact lean s b .0 (checked .1) }
 
     read-is : readNet s ≡ good (netHere s)
@@ -141,6 +141,6 @@ module _ (lean : Bool) (s w w′ : List ℕ) (v : Verdict) (e : foreign.called v
     unfolding backAnswer returned netAnswer limitAnswer inRoom
     answer-is room = rw (checked .0, checked .1, read-is) (answer-net (noPoint (netHere s .elements) 0) (within (netHere s)) room (backSheet (netHere s)))
 
-    pub call-good : (r : code.Answer) (out after : List ℕ) → Says r out after (netAnswer (netHere s) (length out)) → called r after w′ ≡ backCall lean s out w
+    pub call-good : (r : code.Answer) (out after : List ℕ) → AnswerSays r out after (netAnswer (netHere s) (length out)) → called r after w′ ≡ backCall lean s out w
     unfolding backCall
     call-good r out after y = rw (answer-is (length out), work-is, y .said, y .wrote)

@@ -18,21 +18,21 @@ use Rattle.foreign_theorems.proofs.Standing.{item-inj}
 use Rattle.back_theorems.specs.Returned.{noPoint}
 use Rattle.back_theorems.specs.Promises.{PartOnly}
 use Rattle.back_theorems.proofs.Main.{accepts-read}
-use Rattle.back.specs.Gates.{orNone, netHere, Accepted, OfParts, partsOr25, endOf}
+use Rattle.back.specs.Gates.{orNone, netHere, AcceptedNet, OfParts, partsOr25, partsEnd}
 
 -- ---- the netlist that stands in the bytes
 
-pub here-is : (s : List ℕ) (a : Accepted s) → netHere s ≡ a .accepts .net
+pub here-is : (s : List ℕ) (a : AcceptedNet s) → netHere s ≡ a .accepts .net
 unfolding netHere
 here-is s a = ap orNone (accepts-read (a .told) s (a .accepts))
 
-pub here-bytes : (s : List ℕ) → Accepted s → s ≡ netBytes (netHere s)
+pub here-bytes : (s : List ℕ) → AcceptedNet s → s ≡ netBytes (netHere s)
 here-bytes s a = a .accepts .bytes ∙ ap netBytes (sym (here-is s a))
 
-here-fits : (s : List ℕ) → Accepted s → All Fits (itemsOf (netHere s))
+here-fits : (s : List ℕ) → AcceptedNet s → All Fits (itemsOf (netHere s))
 here-fits s a = let b = a .accepts in subst (λ (m : Net). All Fits (itemsOf m)) (sym (here-is s a)) (items-fit (b .net) (b .formed) (omega (arith, b .few)) (b .known))
 
-module _ (s : List ℕ) (a : Accepted s) where
+module _ (s : List ℕ) (a : AcceptedNet s) where
   abbrev es : List Element
   es = netHere s .elements
 
@@ -101,10 +101,10 @@ pub record PartsLeft (s : List ℕ) (n : ℕ) : Type 0 where
   pub same : noPoint left (4 * n) ≡ noPoint (netHere s .elements) 0
   pub low : 4 * n ≤ length s
 
-pub parts-first : (s : List ℕ) → Accepted s → PartsLeft s 0
+pub parts-first : (s : List ℕ) → AcceptedNet s → PartsLeft s 0
 parts-first s a = record { left = netHere s .elements; here = laid-out s a; fits = element-fits s a; count = omega arith; same = refl; low = omega arith }
 
-module _ (s : List ℕ) (a : Accepted s) (n : ℕ) where
+module _ (s : List ℕ) (a : AcceptedNet s) (n : ℕ) where
   -- past a part
   pub parts-more : PartsLeft s n → (p i : ℕ) → itemAt s (4 * n) ≡ item (element (part p i)) → PartsLeft s (n + 1)
   parts-more l p i e = by (l .left) (l .here) (l .fits) (l .count) (l .same)
@@ -126,10 +126,10 @@ module _ (s : List ℕ) (a : Accepted s) (n : ℕ) where
           }
 
   -- no part: a point, or the end of the elements
-  pub parts-done : PartsLeft s n → NotPart (itemAt s (4 * n)) → endOf (itemAt s (4 * n)) n (4 * n) ≡ partsOr25 (netHere s .elements)
+  pub parts-done : PartsLeft s n → NotPart (itemAt s (4 * n)) → partsEnd (itemAt s (4 * n)) n (4 * n) ≡ partsOr25 (netHere s .elements)
   parts-done l v = by (l .left) (l .here) (l .fits) (l .count) (l .same)
     where
-      ends : (f : Front) → NotElement f → n ≡ length (netHere s .elements) → endOf f n (4 * n) ≡ good (length (netHere s .elements))
+      ends : (f : Front) → NotElement f → n ≡ length (netHere s .elements) → partsEnd f n (4 * n) ≡ good (length (netHere s .elements))
       ends (item (element e)) x c = absurd x
       ends (item (wire w)) x c = ap good c
       ends (item (pin t)) x c = ap good c
@@ -137,19 +137,19 @@ module _ (s : List ℕ) (a : Accepted s) (n : ℕ) where
       ends broken x c = ap good c
 
       by : (left : List Element) → drop (4 * n) s ≡ elementBytes left ++ (wireBytes (netHere s .wires) ++ pinBytes (netHere s .pins)) → All Fits (map element left) → n + length left ≡ length (netHere s .elements)
-          → noPoint left (4 * n) ≡ noPoint (netHere s .elements) 0 → endOf (itemAt s (4 * n)) n (4 * n) ≡ partsOr25 (netHere s .elements)
+          → noPoint left (4 * n) ≡ noPoint (netHere s .elements) 0 → partsEnd (itemAt s (4 * n)) n (4 * n) ≡ partsOr25 (netHere s .elements)
       by [] h f c z =
           ends (itemAt s (4 * n)) (tail-front s (4 * n) (netHere s .wires) (netHere s .pins) (wire-fits s a) (pin-fits s a) h) (let d : n + 0 ≡ length (netHere s .elements) = c in omega arith)
           ∙ ap (λ (x : Answer (Unit {0})). x >>= λ _. good (length (netHere s .elements))) z
       by (point j ∷ left) h f c z =
-          ap (λ (x : Front). endOf x n (4 * n)) (item-here s _ (4 * n) (element (point j)) (f .0) (h ∙ append-assoc (itemBytes (element (point j))) (elementBytes left) _))
+          ap (λ (x : Front). partsEnd x n (4 * n)) (item-here s _ (4 * n) (element (point j)) (f .0) (h ∙ append-assoc (itemBytes (element (point j))) (elementBytes left) _))
           ∙ ap (λ (x : Answer (Unit {0})). x >>= λ _. good (length (netHere s .elements))) z
       by (part q j ∷ left) h f c z = absurd (subst NotPart (item-here s _ (4 * n) (element (part q j)) (f .0) (h ∙ append-assoc (itemBytes (element (part q j))) (elementBytes left) _)) v)
 
   pub parts-ended : PartsLeft s n → length s ≤ 4 * n → good n ≡ partsOr25 (netHere s .elements)
   parts-ended l h =
       let e = ends-here s (4 * n) h in
-      sym (ap (λ (x : Front). endOf x n (4 * n)) e) ∙ parts-done l (rw e tt)
+      sym (ap (λ (x : Front). partsEnd x n (4 * n)) e) ∙ parts-done l (rw e tt)
 
 -- ---- the part at a place
 
@@ -208,7 +208,7 @@ wires-first s n i o =
     let z : 0 + 4 * length (netHere s .elements) ≡ 4 * n = let c = o .count in omega arith in
     record { left = netHere s .wires; here = rw z at (p .0); fits = wire-fits s a; same = refl; low = rw z at (p .1) }
 
-module _ (s : List ℕ) (a : Accepted s) (at i : ℕ) where
+module _ (s : List ℕ) (a : AcceptedNet s) (at i : ℕ) where
   -- a wire that stands here, and those behind it
   pub wires-more : WiresLeft s at i → (from to : ℕ) → itemAt s at ≡ item (wire (record { from = from; to = to }))
       → ((to ≡ i → from ≡ driver (netHere s .wires) i 65535) × ((to ≡ i → ⊥) → WiresLeft s (at + 5) i)) × (at + 5 ≤ length s)

@@ -7,17 +7,17 @@ use native.Mathlib.Numerals.{add-one}
 use lib.ListN.{length, length-append}
 use lib.Seq.{sets}
 use Rattle.laws.proofs.Regions.{sets-append}
-use Rattle.back.specs.Rows.{rows}
+use Rattle.back.specs.Rows.{rowsUpTo}
 
 -- what stands, and what is written behind it
 pub written-more : (out bs cs : List ℕ) (from at : ℕ) → at ≡ from + length bs → sets (sets out from bs) at cs ≡ sets out from (bs ++ cs)
 written-more out bs cs from at h = rw h (sets-append bs cs out from)
 
 module _ (f : ℕ → List ℕ) (w : ℕ) (width : (j : ℕ) → length (f j) ≡ w) where
-  pub rows-length : (n : ℕ) → length (rows f n) ≡ w * n
+  pub rows-length : (n : ℕ) → length (rowsUpTo f n) ≡ w * n
   rows-length zero = omega arith
-  rows-length (suc n) = omega (arith, length-append (rows f n) (f n), rows-length n, width n)
+  rows-length (suc n) = omega (arith, length-append (rowsUpTo f n) (f n), rows-length n, width n)
 
   -- one row behind those that stand
-  pub rows-more : (out : List ℕ) (from at j : ℕ) → at ≡ from + w * j → sets (sets out from (rows f j)) at (f j) ≡ sets out from (rows f (j + 1))
-  rows-more out from at j h = rw (add-one j) (written-more out (rows f j) (f j) from at (omega (arith, rows-length j)))
+  pub rows-more : (out : List ℕ) (from at j : ℕ) → at ≡ from + w * j → sets (sets out from (rowsUpTo f j)) at (f j) ≡ sets out from (rowsUpTo f (j + 1))
+  rows-more out from at j h = rw (add-one j) (written-more out (rowsUpTo f j) (f j) from at (omega (arith, rows-length j)))

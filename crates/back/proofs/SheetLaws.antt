@@ -14,8 +14,8 @@ use Rattle.back_theorems.specs.Back.{Gate, sources, undrivens, gatesFrom, gates
 use Rattle.back_theorems.specs.Promises.{PartOnly}
 use Rattle.back_theorems.proofs.Typing.{few}
 use Rattle.back_theorems.proofs.CameBack.{gates-length}
-use Rattle.back.specs.Gates.{netHere, inputsIn, Limited}
-use Rattle.back.specs.Rows.{rows, functionRow, projectionRow, pairRow, tupleRows, gateRow, gateOf, sheetLength}
+use Rattle.back.specs.Gates.{netHere, inputTotal, Limited}
+use Rattle.back.specs.Rows.{rowsUpTo, functionRow, projectionRow, pairRow, tupleRows, gateRow, gateOf, sheetLength}
 use Rattle.back.proofs.RowLaws.{written-more, rows-length}
 use Rattle.back.proofs.TermLaws.{arrows-few, types-length, functions-bytes, projections-bytes}
 use Rattle.back.proofs.WriteLaws.{gate-length, rows-of}
@@ -23,17 +23,17 @@ use Rattle.back.proofs.WriteLaws.{gate-length, rows-of}
 -- ---- its rows
 
 abbrev pub allRows : Net → ℕ → ℕ → List ℕ
-allRows m q k = tableBytes (backTable q k) ++ (rows (functionRow (tuple q + k)) k ++ ((0x19 ∷ tuple q ∷ []) ++ (rows projectionRow q ++ termBytes (tupleTerm k q (gates m)))))
+allRows m q k = tableBytes (backTable q k) ++ (rowsUpTo (functionRow (tuple q + k)) k ++ ((0x19 ∷ tuple q ∷ []) ++ (rowsUpTo projectionRow q ++ termBytes (tupleTerm k q (gates m)))))
 
 gates-rows : (gs : List Gate) (q k : ℕ) → length gs ≡ suc q → openIns gs ≡ k
-    → gatesSheet gs ≡ tableBytes (backTable q k) ++ (rows (functionRow (tuple q + k)) k ++ ((0x19 ∷ tuple q ∷ []) ++ (rows projectionRow q ++ termBytes (tupleTerm k q gs))))
+    → gatesSheet gs ≡ tableBytes (backTable q k) ++ (rowsUpTo (functionRow (tuple q + k)) k ++ ((0x19 ∷ tuple q ∷ []) ++ (rowsUpTo projectionRow q ++ termBytes (tupleTerm k q gs))))
 unfolding sheetBytes recordBytes
 gates-rows [] q k e o = absurd (omega arith)
 gates-rows (g ∷ gs) q k e o =
     let l : length gs ≡ q = omega arith in
     ap₂ (λ (x y : ℕ). tableBytes (backTable x y) ++ termBytes (backTerm x y (g ∷ gs))) l o
     ∙ ap (λ (b : List ℕ). tableBytes (backTable q k) ++ b)
-    (functions-bytes (tuple q) k (fix (tuple q) (projections q (tupleTerm k q (g ∷ gs)))) ∙ ap (λ (b : List ℕ). rows (functionRow (tuple q + k)) k ++ (0x19 ∷ tuple q ∷ b)) (projections-bytes q (tupleTerm k q (g ∷ gs))))
+    (functions-bytes (tuple q) k (fix (tuple q) (projections q (tupleTerm k q (g ∷ gs)))) ∙ ap (λ (b : List ℕ). rowsUpTo (functionRow (tuple q + k)) k ++ (0x19 ∷ tuple q ∷ b)) (projections-bytes q (tupleTerm k q (g ∷ gs))))
 
 module _ (s : List ℕ) (n k : ℕ) (l : Limited s n k) where
   pub sheet-rows : backSheet (netHere s) ≡ allRows (netHere s) (n - 1) k
@@ -49,20 +49,20 @@ module _ (s : List ℕ) (n k : ℕ) (l : Limited s n k) where
   sheet-sum =
       let q = n - 1 in
       let u = termBytes (tupleTerm k q (gates (netHere s))) in
-      let p = rows projectionRow q in
-      let f = rows (functionRow (tuple q + k)) k in
+      let p = rowsUpTo projectionRow q in
+      let f = rowsUpTo (functionRow (tuple q + k)) k in
       ap length sheet-rows ∙ length-append (tableBytes (backTable q k)) (f ++ ((0x19 ∷ tuple q ∷ []) ++ (p ++ u)))
       ∙ omega (arith, length-append f ((0x19 ∷ tuple q ∷ []) ++ (p ++ u)), length-append p u, rows-length (functionRow (tuple q + k)) 2 (λ j. refl) k, rows-length projectionRow 3 (λ j. refl) q)
 
   pub sheet-written : (out o₁ o₂ o₃ o₄ o₅ : List ℕ) (at t : ℕ) → at ≡ length (tableBytes (backTable (n - 1) k)) → t ≡ tuple (n - 1) → o₁ ≡ sets out 0 (tableBytes (backTable (n - 1) k))
-      → o₂ ≡ sets o₁ at (rows (functionRow (t + k)) k) → o₃ ≡ sets o₂ (at + 2 * k) (0x19 ∷ t ∷ []) → o₄ ≡ sets o₃ (at + 2 * k + 2) (rows projectionRow (n - 1))
+      → o₂ ≡ sets o₁ at (rowsUpTo (functionRow (t + k)) k) → o₃ ≡ sets o₂ (at + 2 * k) (0x19 ∷ t ∷ []) → o₄ ≡ sets o₃ (at + 2 * k + 2) (rowsUpTo projectionRow (n - 1))
       → o₅ ≡ sets o₄ (at + 2 * k + 2 + 3 * (n - 1)) (termBytes (tupleTerm k (n - 1) (gates (netHere s)))) → o₅ ≡ sets out 0 (backSheet (netHere s))
   sheet-written out o₁ o₂ o₃ o₄ o₅ at t z y a b c d e =
       let q = n - 1 in
       let T = tableBytes (backTable q k) in
-      let F = rows (functionRow (t + k)) k in
+      let F = rowsUpTo (functionRow (t + k)) k in
       let X : List ℕ = 0x19 ∷ t ∷ [] in
-      let P = rows projectionRow q in
+      let P = rowsUpTo projectionRow q in
       let U = termBytes (tupleTerm k q (gates (netHere s))) in
       let lf = rows-length (functionRow (t + k)) 2 (λ j. refl) k in
       let lp = rows-length projectionRow 3 (λ j. refl) q in
@@ -75,14 +75,14 @@ module _ (s : List ℕ) (n k : ℕ) (l : Limited s n k) where
       let e₅ : o₅ ≡ sets out 0 ((((T ++ F) ++ X) ++ P) ++ U) =
       e ∙ ap (λ (o : List ℕ). sets o (at + 2 * k + 2 + 3 * (n - 1)) U) e₄ ∙ written-more out (((T ++ F) ++ X) ++ P) U 0 (at + 2 * k + 2 + 3 * (n - 1)) (omega arith) in
       let g : (((T ++ F) ++ X) ++ P) ++ U ≡ T ++ (F ++ (X ++ (P ++ U))) = append-assoc ((T ++ F) ++ X) P U ∙ append-assoc (T ++ F) X (P ++ U) ∙ append-assoc T F (X ++ (P ++ U)) in
-      e₅ ∙ ap (λ (bs : List ℕ). sets out 0 bs) (g ∙ ap (λ (x : ℕ). T ++ (rows (functionRow (x + k)) k ++ ((0x19 ∷ x ∷ []) ++ (P ++ U)))) y ∙ sym sheet-rows)
+      e₅ ∙ ap (λ (bs : List ℕ). sets out 0 bs) (g ∙ ap (λ (x : ℕ). T ++ (rowsUpTo (functionRow (x + k)) k ++ ((0x19 ∷ x ∷ []) ++ (P ++ U)))) y ∙ sym sheet-rows)
 
 -- all parts: two bytes a pair, three a constant, three an input
 pair-length : (l : ℕ) → length (pairRow (suc l)) ≡ 2 * l - 2 * (l - 1)
 pair-length zero = refl
 pair-length (suc l) = rw (le-ltb (suc (suc l)) 2 (omega arith)) (omega arith)
 
-parts-length : (m : Net) (k q : ℕ) (es : List Element) (j : ℕ) → All PartOnly es → length (tupleRows k q (gatesFrom m es j)) ≡ 2 * (length es - 1) + 3 * length es + 3 * inputsIn es
+parts-length : (m : Net) (k q : ℕ) (es : List Element) (j : ℕ) → All PartOnly es → length (tupleRows k q (gatesFrom m es j)) ≡ 2 * (length es - 1) + 3 * length es + 3 * inputTotal es
 parts-length m k q [] j o = refl
 parts-length m k q (point i ∷ es) j o = absurd (o .0)
 parts-length m k q (part p i ∷ es) j o =
@@ -92,14 +92,14 @@ parts-length m k q (part p i ∷ es) j o =
     length-append (gateRow k q (suc (length (gatesFrom m es t))) g) (tupleRows k q (gatesFrom m es t))
     ∙ omega (arith, gate-length m k q (suc (length (gatesFrom m es t))) p i j, pair-length (length (gatesFrom m es t)), parts-length m k q es t (o .1))
 
-pub sheet-length : (s : List ℕ) (n k inputs : ℕ) (l : Limited s n k) → inputs ≡ inputsIn (netHere s .elements) → sheetLength n k inputs ≡ length (backSheet (netHere s))
+pub sheet-length : (s : List ℕ) (n k inputs : ℕ) (l : Limited s n k) → inputs ≡ inputTotal (netHere s .elements) → sheetLength n k inputs ≡ length (backSheet (netHere s))
 sheet-length s n k inputs l i =
     let c = l .of .count in
     let o = l .some in
     let e = ap length (rows-of (netHere s) k (n - 1) (l .of .parts) (omega arith)) in
     omega (arith, sheet-sum s n k l, types-length n k (l .some), parts-length (netHere s) k (n - 1) (netHere s .elements) 0 (l .of .parts))
 
-pub inputs-few : (es : List Element) → All PartOnly es → inputsIn es ≤ 2 * length es
+pub inputs-few : (es : List Element) → All PartOnly es → inputTotal es ≤ 2 * length es
 inputs-few [] o = omega arith
 inputs-few (point i ∷ es) o = absurd (o .0)
 inputs-few (part p i ∷ es) o = omega (arith, few p, inputs-few es (o .1))
@@ -110,4 +110,4 @@ sheet-enough s n k l =
     let c = l .of .count in
     let m = l .most in
     let f = l .few in
-    omega (arith, sheet-length s n k (inputsIn (netHere s .elements)) l refl, inputs-few (netHere s .elements) (l .of .parts), arrows-few n k)
+    omega (arith, sheet-length s n k (inputTotal (netHere s .elements)) l refl, inputs-few (netHere s .elements) (l .of .parts), arrows-few n k)

@@ -12,35 +12,35 @@ use borrow.Author.Tests.{eq-eqb, ne-eqb}
 use Rattle.calculus.specs.Terms.{partAt}
 use Rattle.calculus.specs.Net.{Element, point, part, Wire, Net}
 use Rattle.calculus.specs.Lean.{driver}
-use Rattle.calculus.specs.Inputs.{isOut}
+use Rattle.calculus.specs.Inputs.{isOut, hasWire}
 use Rattle.calculus.specs.Record.{All}
 use Rattle.laws.proofs.Tests.{by-eqb}
 use Rattle.circuit_theorems.proofs.Lists.{all-map}
 use Rattle.circuit_theorems.proofs.Terminals.{out-high}
-use Rattle.back_theorems.specs.Back.{Source, undriven, output, fed, partBefore, sources, undrivens, gatesFrom, openIns}
+use Rattle.back_theorems.specs.Back.{DrivenBy, undriven, output, partBefore, sources, undrivens, gatesFrom, openIns}
 use Rattle.back_theorems.proofs.Typing.{few}
-use Rattle.back.specs.Gates.{netHere, Accepted, inputsIn}
+use Rattle.back.specs.Gates.{netHere, AcceptedNet, inputTotal}
 use Rattle.back.proofs.GateLaws.{here-is}
 
 -- ---- driven or not
 
-from-low : (s : List ℕ) → Accepted s → All (λ w. w .from < 65535) (netHere s .wires)
+from-low : (s : List ℕ) → AcceptedNet s → All (λ w. w .from < 65535) (netHere s .wires)
 from-low s a =
     let b = a .accepts in
     subst (λ (m : Net). All (λ w. w .from < 65535) (m .wires)) (sym (here-is s a))
     (all-map (λ w. T (isOut (b .net .elements) (w .from))) (λ w. w .from < 65535) (λ w t. omega (arith, out-high (b .net .elements) 0 (b .formed .end) (w .from) (b .formed .rising) t, b .few)) (b .net .wires) (b .formed .from))
 
-not-fed : (ws : List Wire) (i : ℕ) → All (λ w. w .from < 65535) ws → driver ws i 65535 ≡ 65535 → fed ws i ≡ false
+not-fed : (ws : List Wire) (i : ℕ) → All (λ w. w .from < 65535) ws → driver ws i 65535 ≡ 65535 → hasWire ws i ≡ false
 not-fed [] i l e = refl
-not-fed (w ∷ ws) i l e = by-eqb (λ b. cond b (w .from) (driver ws i 65535) ≡ 65535 → b || fed ws i ≡ false) (w .to) i (λ q h. absurd (let x = l .0 in omega arith)) (λ q h. not-fed ws i (l .1) h) e
+not-fed (w ∷ ws) i l e = by-eqb (λ b. cond b (w .from) (driver ws i 65535) ≡ 65535 → b || hasWire ws i ≡ false) (w .to) i (λ q h. absurd (let x = l .0 in omega arith)) (λ q h. not-fed ws i (l .1) h) e
 
-is-fed : (ws : List Wire) (i : ℕ) → (driver ws i 65535 ≡ 65535 → ⊥) → (fed ws i ≡ true) × (driver ws i 0 ≡ driver ws i 65535)
+is-fed : (ws : List Wire) (i : ℕ) → (driver ws i 65535 ≡ 65535 → ⊥) → (hasWire ws i ≡ true) × (driver ws i 0 ≡ driver ws i 65535)
 is-fed [] i d = absurd (d refl)
 is-fed (w ∷ ws) i d =
-    by-eqb (λ b. (cond b (w .from) (driver ws i 65535) ≡ 65535 → ⊥) → (b || fed ws i ≡ true) × (cond b (w .from) (driver ws i 0) ≡ cond b (w .from) (driver ws i 65535))) (w .to) i
+    by-eqb (λ b. (cond b (w .from) (driver ws i 65535) ≡ 65535 → ⊥) → (b || hasWire ws i ≡ true) × (cond b (w .from) (driver ws i 0) ≡ cond b (w .from) (driver ws i 65535))) (w .to) i
     (λ q h. (refl, refl)) (λ q h. is-fed ws i h) d
 
-module _ (s : List ℕ) (a : Accepted s) (i j : ℕ) where
+module _ (s : List ℕ) (a : AcceptedNet s) (i j : ℕ) where
   -- no wire: the next undriven input
   pub source-open : driver (netHere s .wires) i 65535 ≡ 65535 → sources (netHere s) 1 i j ≡ undriven j ∷ []
   source-open e = rw (not-fed (netHere s .wires) i (from-low s a) e)
@@ -53,7 +53,7 @@ module _ (s : List ℕ) (a : Accepted s) (i j : ℕ) where
 
 module _ (m : Net) where
   pub sources-split : (k i j : ℕ) → sources m (suc k) i j ≡ sources m 1 i j ++ sources m k (i + 1) (j + undrivens (sources m 1 i j))
-  sources-split k i j = by (fed (m .wires) i)
+  sources-split k i j = by (hasWire (m .wires) i)
     where
       by : (b : Bool) → cond b (output (partBefore (m .elements) (driver (m .wires) i 0)) ∷ sources m k (i + 1) j) (undriven j ∷ sources m k (i + 1) (suc j))
           ≡ cond b (output (partBefore (m .elements) (driver (m .wires) i 0)) ∷ []) (undriven j ∷ [])
@@ -61,7 +61,7 @@ module _ (m : Net) where
       by true = let z : j + 0 ≡ j = omega arith in rw z
       by false = let z : j + 1 ≡ suc j = omega arith in rw z
 
-  pub undrivens-append : (ss rs : List Source) → undrivens (ss ++ rs) ≡ undrivens ss + undrivens rs
+  pub undrivens-append : (ss rs : List DrivenBy) → undrivens (ss ++ rs) ≡ undrivens ss + undrivens rs
   undrivens-append [] rs = omega arith
   undrivens-append (undriven j ∷ ss) rs = omega (arith, undrivens-append ss rs)
   undrivens-append (output q ∷ ss) rs = undrivens-append ss rs
@@ -69,7 +69,7 @@ module _ (m : Net) where
   -- their number does not depend on where the count begins
   pub undrivens-any : (k i j l : ℕ) → undrivens (sources m k i j) ≡ undrivens (sources m k i l)
   undrivens-any zero i j l = refl
-  undrivens-any (suc k) i j l = by (fed (m .wires) i) (undrivens-any k (i + 1) j l) (undrivens-any k (i + 1) (suc j) (suc l))
+  undrivens-any (suc k) i j l = by (hasWire (m .wires) i) (undrivens-any k (i + 1) j l) (undrivens-any k (i + 1) (suc j) (suc l))
     where
       by : (b : Bool) → undrivens (sources m k (i + 1) j) ≡ undrivens (sources m k (i + 1) l) → undrivens (sources m k (i + 1) (suc j)) ≡ undrivens (sources m k (i + 1) (suc l))
           → undrivens (cond b (output (partBefore (m .elements) (driver (m .wires) i 0)) ∷ sources m k (i + 1) j) (undriven j ∷ sources m k (i + 1) (suc j)))
@@ -79,7 +79,7 @@ module _ (m : Net) where
 
   pub undrivens-few : (k i j : ℕ) → undrivens (sources m k i j) ≤ k
   undrivens-few zero i j = omega arith
-  undrivens-few (suc k) i j = by (fed (m .wires) i) (undrivens-few k (i + 1) j) (undrivens-few k (i + 1) (suc j))
+  undrivens-few (suc k) i j = by (hasWire (m .wires) i) (undrivens-few k (i + 1) j) (undrivens-few k (i + 1) (suc j))
     where
       by : (b : Bool) → undrivens (sources m k (i + 1) j) ≤ k → undrivens (sources m k (i + 1) (suc j)) ≤ k → undrivens (cond b (output (partBefore (m .elements) (driver (m .wires) i 0)) ∷ sources m k (i + 1) j) (undriven j ∷ sources m k (i + 1) (suc j))) ≤ suc k
       by true e f = omega arith
@@ -114,8 +114,8 @@ module _ (es : List Element) (r : ℕ) (p f : ℕ) (h : r < length es) (g : part
         let x : j + (u + openIns (gatesFrom m (drop (r + 1) es) (j + u))) ≡ T = rw v at w in
         omega arith
 
-  pub inputs-more : (n N : ℕ) → n + inputsIn (drop r es) ≡ N → n + partAt p .inputs + inputsIn (drop (r + 1) es) ≡ N
-  inputs-more n N e = let w : n + (partAt p .inputs + inputsIn (drop (r + 1) es)) ≡ N = ap (λ (l : List Element). n + inputsIn l) (sym part-next) ∙ e in omega arith
+  pub inputs-more : (n N : ℕ) → n + inputTotal (drop r es) ≡ N → n + partAt p .inputs + inputTotal (drop (r + 1) es) ≡ N
+  inputs-more n N e = let w : n + (partAt p .inputs + inputTotal (drop (r + 1) es)) ≡ N = ap (λ (l : List Element). n + inputTotal l) (sym part-next) ∙ e in omega arith
 
 pub none-left : {A : Type 0} (es : List A) (r : ℕ) → length es ≤ r → drop r es ≡ []
 none-left [] zero h = refl
@@ -134,7 +134,7 @@ before-few (part p i ∷ es) o = by (eqb (i + partAt p .inputs) o) (before-few e
 
 pub sources-length : (m : Net) (k i j : ℕ) → length (sources m k i j) ≡ k
 sources-length m zero i j = refl
-sources-length m (suc k) i j = by (fed (m .wires) i) (sources-length m k (i + 1) j) (sources-length m k (i + 1) (suc j))
+sources-length m (suc k) i j = by (hasWire (m .wires) i) (sources-length m k (i + 1) j) (sources-length m k (i + 1) (suc j))
   where
     by : (b : Bool) → length (sources m k (i + 1) j) ≡ k → length (sources m k (i + 1) (suc j)) ≡ k
         → length (cond b (output (partBefore (m .elements) (driver (m .wires) i 0)) ∷ sources m k (i + 1) j) (undriven j ∷ sources m k (i + 1) (suc j))) ≡ suc k

@@ -11,33 +11,33 @@ use Rattle.calculus.specs.Net.{Element, point, part, Net}
 use Rattle.calculus.specs.Write.{termBytes}
 use Rattle.calculus.specs.Lean.{driver}
 use Rattle.calculus.specs.Record.{All}
-use Rattle.back_theorems.specs.Back.{Source, Gate, partBefore, sources, undrivens, gatesFrom, gates, openIns, tupleTerm}
+use Rattle.back_theorems.specs.Back.{DrivenBy, Gate, partBefore, sources, undrivens, gatesFrom, gates, openIns, tupleTerm}
 use Rattle.back_theorems.specs.Promises.{PartOnly}
 use Rattle.back_theorems.proofs.CameBack.{gates-length}
 use Rattle.circuit_theorems.proofs.Lists.{all-at, all-drop}
-use Rattle.back.specs.Gates.{netHere, Accepted}
-use Rattle.back.specs.Rows.{rows, applicationRow, pairRow, headRow, sourceRows, gateRow, tupleRows, gateOf}
+use Rattle.back.specs.Gates.{netHere, AcceptedNet}
+use Rattle.back.specs.Rows.{rowsUpTo, applicationRow, pairRow, headRow, sourceRows, gateRow, tupleRows, gateOf}
 use Rattle.back.proofs.RowLaws.{written-more, rows-length}
-use Rattle.back.proofs.TermLaws.{Whole, tuple-bytes}
+use Rattle.back.proofs.TermLaws.{GateFull, tuple-bytes}
 use Rattle.back.proofs.SourceLaws.{source-open, source-wired, sources-split, undrivens-append, sources-length, none-left}
 
 -- ---- one variable
 
-module _ (s : List ℕ) (a : Accepted s) (k q i j : ℕ) where
+module _ (s : List ℕ) (a : AcceptedNet s) (k q i j : ℕ) where
   pub open-row : driver (netHere s .wires) i 65535 ≡ 65535 → (j + 1 ≡ j + undrivens (sources (netHere s) 1 i j)) × (0x11 ∷ (k + 2 * q - j) ∷ [] ≡ sourceRows k q (sources (netHere s) 1 i j))
-  open-row e = let z = source-open s a i j e in (ap (λ (ss : List Source). j + undrivens ss) (sym z), ap (sourceRows k q) (sym z))
+  open-row e = let z = source-open s a i j e in (ap (λ (ss : List DrivenBy). j + undrivens ss) (sym z), ap (sourceRows k q) (sym z))
 
   pub wired-row : (driver (netHere s .wires) i 65535 ≡ 65535 → ⊥)
       → (j ≡ j + undrivens (sources (netHere s) 1 i j)) × (0x11 ∷ (2 * (q - partBefore (netHere s .elements) (driver (netHere s .wires) i 65535)) - 1) ∷ [] ≡ sourceRows k q (sources (netHere s) 1 i j))
-  wired-row d = let z = source-wired s a i j d in let n : j + 0 ≡ j = omega arith in (sym n ∙ ap (λ (ss : List Source). j + undrivens ss) (sym z), ap (sourceRows k q) (sym z))
+  wired-row d = let z = source-wired s a i j d in let n : j + 0 ≡ j = omega arith in (sym n ∙ ap (λ (ss : List DrivenBy). j + undrivens ss) (sym z), ap (sourceRows k q) (sym z))
 
 -- ---- those of a part
 
-rows-append : (k q : ℕ) (ss rs : List Source) → sourceRows k q (ss ++ rs) ≡ sourceRows k q ss ++ sourceRows k q rs
+rows-append : (k q : ℕ) (ss rs : List DrivenBy) → sourceRows k q (ss ++ rs) ≡ sourceRows k q ss ++ sourceRows k q rs
 rows-append k q [] rs = refl
 rows-append k q (s ∷ ss) rs = rw (rows-append k q ss rs)
 
-source-length : (k q : ℕ) (ss : List Source) → length (sourceRows k q ss) ≡ 2 * length ss
+source-length : (k q : ℕ) (ss : List DrivenBy) → length (sourceRows k q ss) ≡ 2 * length ss
 source-length k q [] = refl
 source-length k q (s ∷ ss) = omega (arith, source-length k q ss)
 
@@ -57,7 +57,7 @@ module _ (m : Net) (k q f j : ℕ) where
 -- ---- a part
 
 head-length : (p n : ℕ) → length (headRow p n) ≡ n + 3
-head-length p n = length-append (rows applicationRow n) (0x1A ∷ p ∷ n ∷ []) ∙ omega (arith, rows-length applicationRow 1 (λ j. refl) n)
+head-length p n = length-append (rowsUpTo applicationRow n) (0x1A ∷ p ∷ n ∷ []) ∙ omega (arith, rows-length applicationRow 1 (λ j. refl) n)
 
 module _ (m : Net) (k q left p f j : ℕ) where
   pub gate-length : length (gateRow k q left (gateOf m (part p f) j)) ≡ length (pairRow left) + 3 + 3 * partAt p .inputs
@@ -149,7 +149,7 @@ all-written m k q from out₀ out at before r h w =
 
 -- ---- the parts' rows are the term's bytes
 
-gates-whole : (m : Net) (es : List Element) (j : ℕ) → All Whole (gatesFrom m es j)
+gates-whole : (m : Net) (es : List Element) (j : ℕ) → All GateFull (gatesFrom m es j)
 gates-whole m [] j = tt
 gates-whole m (point i ∷ es) j = gates-whole m es j
 gates-whole m (part p i ∷ es) j = (sources-length m (partAt p .inputs) i j, gates-whole m es (j + undrivens (sources m (partAt p .inputs) i j)))
@@ -157,6 +157,6 @@ gates-whole m (part p i ∷ es) j = (sources-length m (partAt p .inputs) i j, ga
 pub rows-of : (m : Net) (k q : ℕ) → All PartOnly (m .elements) → 1 ≤ length (m .elements) → termBytes (tupleTerm k q (gates m)) ≡ tupleRows k q (gates m)
 rows-of m k q o h = by (gates m) (gates-whole m (m .elements) 0) (gates-length m (m .elements) 0 o)
   where
-    by : (gs : List Gate) → All Whole gs → length gs ≡ length (m .elements) → termBytes (tupleTerm k q gs) ≡ tupleRows k q gs
+    by : (gs : List Gate) → All GateFull gs → length gs ≡ length (m .elements) → termBytes (tupleTerm k q gs) ≡ tupleRows k q gs
     by [] w e = absurd (omega arith)
     by (g ∷ gs) w e = tuple-bytes k q g gs w

@@ -23,13 +23,13 @@ unfoldable pub netHere : List ℕ → Net
 netHere s = orNone (readNet s)
 
 -- bytes that the check accepts
-pub record Accepted (s : List ℕ) : Type 0 where
+pub record AcceptedNet (s : List ℕ) : Type 0 where
   pub told : Bool
   pub accepts : Accepts told s
 
 -- .. and whose elements are n parts
 pub record OfParts (s : List ℕ) (n : ℕ) : Type 0 where
-  pub accepted : Accepted s
+  pub accepted : AcceptedNet s
   pub parts : All PartOnly (netHere s .elements)
   pub count : n ≡ length (netHere s .elements)
 
@@ -46,24 +46,24 @@ partsOr25 es = do
   good (length es)
 
 -- what stands behind n parts, at an offset, ends them
-abbrev pub endOf : Front → ℕ → ℕ → Answer ℕ
-endOf (item (element (point i))) n at = refuse 25 at
-endOf (item (element (part p i))) n at = good n
-endOf (item (wire w)) n at = good n
-endOf (item (pin t)) n at = good n
-endOf ended n at = good n
-endOf broken n at = good n
+abbrev pub partsEnd : Front → ℕ → ℕ → Answer ℕ
+partsEnd (item (element (point i))) n at = refuse 25 at
+partsEnd (item (element (part p i))) n at = good n
+partsEnd (item (wire w)) n at = good n
+partsEnd (item (pin t)) n at = good n
+partsEnd ended n at = good n
+partsEnd broken n at = good n
 
 -- the inputs of all elements
-abbrev pub inputsIn : List Element → ℕ
-inputsIn [] = 0
-inputsIn (point i ∷ es) = 1 + inputsIn es
-inputsIn (part p i ∷ es) = partAt p .inputs + inputsIn es
+abbrev pub inputTotal : List Element → ℕ
+inputTotal [] = 0
+inputTotal (point i ∷ es) = 1 + inputTotal es
+inputTotal (part p i ∷ es) = partAt p .inputs + inputTotal es
 
 -- what is counted of a netlist
-pub record Counted (s : List ℕ) (k inputs : ℕ) : Type 0 where
+pub record CountedNet (s : List ℕ) (k inputs : ℕ) : Type 0 where
   pub undriven : k ≡ openIns (gates (netHere s))
-  pub all : inputs ≡ inputsIn (netHere s .elements)
+  pub all : inputs ≡ inputTotal (netHere s .elements)
 
 -- a netlist within the limits, with its counts
 pub record Limited (s : List ℕ) (n k : ℕ) : Type 0 where

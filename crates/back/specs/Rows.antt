@@ -6,12 +6,12 @@ use lib.Dec.{ltb, eqb}
 use lib.ListN.{length}
 use Rattle.calculus.specs.Terms.{partAt}
 use Rattle.calculus.specs.Net.{Element, point, part, Net}
-use Rattle.back_theorems.specs.Back.{Source, Gate, sources, tuple, binderOf}
+use Rattle.back_theorems.specs.Back.{DrivenBy, Gate, sources, tuple, binderNumber}
 
 -- n rows one behind the other
-abbrev pub rows : (ℕ → List ℕ) → ℕ → List ℕ
-rows f zero = []
-rows f (suc n) = rows f n ++ f n
+abbrev pub rowsUpTo : (ℕ → List ℕ) → ℕ → List ℕ
+rowsUpTo f zero = []
+rowsUpTo f (suc n) = rowsUpTo f n ++ f n
 
 abbrev pub productRow : ℕ → List ℕ
 productRow j = 0x02 ∷ 0x00 ∷ tuple j ∷ []
@@ -35,12 +35,12 @@ applicationRow j = 0x14 ∷ []
 
 -- as many applications as a part has inputs, and its constant
 abbrev pub headRow : ℕ → ℕ → List ℕ
-headRow p inputs = rows applicationRow inputs ++ (0x1A ∷ p ∷ inputs ∷ [])
+headRow p inputs = rowsUpTo applicationRow inputs ++ (0x1A ∷ p ∷ inputs ∷ [])
 
 -- the variables that drive some inputs
-abbrev pub sourceRows : ℕ → ℕ → List Source → List ℕ
+abbrev pub sourceRows : ℕ → ℕ → List DrivenBy → List ℕ
 sourceRows k q [] = []
-sourceRows k q (s ∷ ss) = 0x11 ∷ binderOf k q s ∷ sourceRows k q ss
+sourceRows k q (s ∷ ss) = 0x11 ∷ binderNumber k q s ∷ sourceRows k q ss
 
 -- a part with `left` parts left, applied to its drivers
 abbrev pub gateRow : ℕ → ℕ → ℕ → Gate → List ℕ

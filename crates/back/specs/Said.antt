@@ -9,7 +9,3 @@ use Rattle.back.specs.declared.gates.Parts.the-variants as parts
 abbrev pub saidParts : Parts → Answer ℕ
 saidParts (parts.All n) = good n
 saidParts (parts.Point at) = refuse 25 at
-
--- a refusal that names no types
-abbrev pub refusedAs : ℕ → ℕ → code.Answer
-refusedAs number place = answer.Refused (record { number = number; place = place; wanted = 0; found = 0 })

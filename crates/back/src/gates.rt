@@ -7,7 +7,7 @@ ghost use Rattle.calculus.specs.Net.{point, part};
 ghost use Rattle.calculus.specs.Lean.{driver as driverOf};
 ghost use Rattle.net_reader.specs.Said.{saidRecord};
 ghost use Rattle.back_theorems.specs.Back.{partBefore, sources, undrivens};
-ghost use Rattle.back.specs.Gates.{netHere, Accepted, OfParts, PartHere, partsOr25, endOf, Counted};
+ghost use Rattle.back.specs.Gates.{netHere, AcceptedNet, OfParts, PartHere, partsOr25, partsEnd, CountedNet};
 ghost use Rattle.back.specs.Said.{saidParts};
 
 // As many parts and no point, or the offset of the first point.
@@ -30,7 +30,7 @@ pub struct Counts {
 
 // The record behind n parts, at an offset: a point, or the elements are at their end.
 fn behind(r: Record, n: usize, at: usize) -> Parts
-    ensures { λ p. ⌜ saidParts p ≡ endOf (saidRecord r) n at ⌝ }
+    ensures { λ p. ⌜ saidParts p ≡ partsEnd (saidRecord r) n at ⌝ }
 {
     match r {
         Record::Point(_) => Parts::Point(at),
@@ -44,7 +44,7 @@ fn behind(r: Record, n: usize, at: usize) -> Parts
 
 // The parts of a netlist.
 pub fn count_parts(net: &[u8]) -> Parts
-    requires { ⌜ Accepted (now net) ⌝ }
+    requires { ⌜ AcceptedNet (now net) ⌝ }
     ensures { λ r. ⌜ saidParts r ≡ partsOr25 (netHere (now (net .entry)) .elements) ⌝ }
 {
     let mut n: usize = 0;
@@ -135,7 +135,7 @@ fn open_of(net: &[u8], parts: usize, first: usize, inputs: usize) -> usize
 // The undriven inputs of all parts, and all inputs.
 pub fn count_inputs(net: &[u8], parts: usize) -> Counts
     requires { ⌜ OfParts (now net) parts × (parts ≤ 16) ⌝ }
-    ensures { λ r. ⌜ Counted (now (net .entry)) (r .undriven) (r .inputs) ⌝ }
+    ensures { λ r. ⌜ CountedNet (now (net .entry)) (r .undriven) (r .inputs) ⌝ }
 {
     let mut undriven: usize = 0;
     let mut inputs: usize = 0;

@@ -12,9 +12,8 @@ ghost use lib.ListN.{length};
 ghost use Prim.Native.Nat.{_≤_};
 ghost use Rattle.back_theorems.specs.Back.{backSheet};
 ghost use Rattle.back_theorems.specs.Returned.{backCall};
-ghost use Rattle.back.specs.Gates.{netHere, Accepted, OfParts, Limited, Counted};
-ghost use Rattle.translator.specs.Said.{inRoom, Says, called};
-ghost use Rattle.back.specs.Said.{refusedAs};
+ghost use Rattle.back.specs.Gates.{netHere, AcceptedNet, OfParts, Limited, CountedNet};
+ghost use Rattle.translator.specs.Said.{inRoom, AnswerSays, called, refusedAs};
 ghost use Rattle.back.specs.Answered.{limitAnswer, netAnswer};
 
 // A refusal that names no types.
@@ -31,8 +30,8 @@ fn refused(number: u8, place: usize) -> Answer
 
 // 17 where the output is shorter than the sheet; else the sheet is written.
 fn fitted(net: &[u8], out: &mut [u8], parts: usize, counts: Counts) -> Answer
-    requires { ⌜ Limited (now net) parts (counts .undriven) × Counted (now net) (counts .undriven) (counts .inputs) ⌝ }
-    ensures { λ r. ⌜ Says r (now (out .entry)) (now (out .exit)) (inRoom (backSheet (netHere (now (net .entry)))) (length (now (out .entry)))) ⌝ }
+    requires { ⌜ Limited (now net) parts (counts .undriven) × CountedNet (now net) (counts .undriven) (counts .inputs) ⌝ }
+    ensures { λ r. ⌜ AnswerSays r (now (out .entry)) (now (out .exit)) (inRoom (backSheet (netHere (now (net .entry)))) (length (now (out .entry)))) ⌝ }
 {
     let undriven = counts.undriven;
     let n = write::length(parts, undriven, counts.inputs);
@@ -46,7 +45,7 @@ fn fitted(net: &[u8], out: &mut [u8], parts: usize, counts: Counts) -> Answer
 // 26 where there are too few or too many parts, or too many undriven inputs.
 fn limited(net: &[u8], out: &mut [u8], parts: usize) -> Answer
     requires { ⌜ OfParts (now net) parts ⌝ }
-    ensures { λ r. ⌜ Says r (now (out .entry)) (now (out .exit)) (limitAnswer (netHere (now (net .entry))) (length (now (out .entry)))) ⌝ }
+    ensures { λ r. ⌜ AnswerSays r (now (out .entry)) (now (out .exit)) (limitAnswer (netHere (now (net .entry))) (length (now (out .entry)))) ⌝ }
 {
     if parts == 0 {
         return refused(26, 0);
@@ -63,8 +62,8 @@ fn limited(net: &[u8], out: &mut [u8], parts: usize) -> Answer
 
 // Of a netlist that has been checked: 25 for a point, then 26, then 17.
 fn returned(net: &[u8], out: &mut [u8]) -> Answer
-    requires { ⌜ Accepted (now net) ⌝ }
-    ensures { λ r. ⌜ Says r (now (out .entry)) (now (out .exit)) (netAnswer (netHere (now (net .entry))) (length (now (out .entry)))) ⌝ }
+    requires { ⌜ AcceptedNet (now net) ⌝ }
+    ensures { λ r. ⌜ AnswerSays r (now (out .entry)) (now (out .exit)) (netAnswer (netHere (now (net .entry))) (length (now (out .entry)))) ⌝ }
 {
     match gates::count_parts(net) {
         Parts::Point(at) => refused(25, at),

@@ -7,9 +7,9 @@ ghost use lib.ListN.{length, getD};
 ghost use lib.Seq.{sets};
 ghost use Rattle.calculus.specs.Net.{point};
 ghost use Rattle.calculus.specs.Write.{tableBytes, termBytes};
-ghost use Rattle.back_theorems.specs.Back.{undriven as undrivenInput, output, sources, undrivens, gates as gatesOf, tuple as tupleOf, base, backTable, binderOf, tupleTerm, backSheet};
+ghost use Rattle.back_theorems.specs.Back.{undriven as undrivenInput, output, sources, undrivens, gates as gatesOf, tuple as tupleOf, base, backTable, binderNumber, tupleTerm, backSheet};
 ghost use Rattle.back.specs.Gates.{netHere, OfParts, Limited};
-ghost use Rattle.back.specs.Rows.{rows, productRow, arrowRow, functionRow, projectionRow, applicationRow, pairRow, headRow, sourceRows, gateRow, gateOf, arrowLength, sheetLength};
+ghost use Rattle.back.specs.Rows.{rowsUpTo, productRow, arrowRow, functionRow, projectionRow, applicationRow, pairRow, headRow, sourceRows, gateRow, gateOf, arrowLength, sheetLength};
 ghost use Rattle.back.specs.Room.{SourceRoom, SourcesRoom, PartRoom, PartsRoom, SheetRoom};
 
 // Past what was written, and the undriven inputs so far.
@@ -72,7 +72,7 @@ fn put_base(out: &mut [u8])
 // The products, smallest first.
 fn put_products(out: &mut [u8], from: usize, q: usize)
     requires { ⌜ (q ≤ 16) × (from + 3 * q ≤ length (now out)) ⌝ }
-    ensures { λ _. ⌜ now (out .exit) ≡ sets (now (out .entry)) from (rows productRow q) ⌝ }
+    ensures { λ _. ⌜ now (out .exit) ≡ sets (now (out .entry)) from (rowsUpTo productRow q) ⌝ }
 {
     let mut j: usize = 0;
     while j < q {
@@ -84,7 +84,7 @@ fn put_products(out: &mut [u8], from: usize, q: usize)
 // Arrows from the bit, the first one to type number t.
 fn put_arrows(out: &mut [u8], from: usize, t: usize, k: usize)
     requires { ⌜ (t + k ≤ 255) × (from + 3 * k ≤ length (now out)) ⌝ }
-    ensures { λ _. ⌜ now (out .exit) ≡ sets (now (out .entry)) from (rows (arrowRow t) k) ⌝ }
+    ensures { λ _. ⌜ now (out .exit) ≡ sets (now (out .entry)) from (rowsUpTo (arrowRow t) k) ⌝ }
 {
     let mut j: usize = 0;
     while j < k {
@@ -112,7 +112,7 @@ fn put_types(out: &mut [u8], parts: usize, undriven: usize) -> usize
 // A function for each undriven input, the lowest outermost; the outermost has the type number `top`.
 fn put_functions(out: &mut [u8], from: usize, top: usize, k: usize)
     requires { ⌜ (k ≤ top) × (top ≤ 255) × (from + 2 * k ≤ length (now out)) ⌝ }
-    ensures { λ _. ⌜ now (out .exit) ≡ sets (now (out .entry)) from (rows (functionRow top) k) ⌝ }
+    ensures { λ _. ⌜ now (out .exit) ≡ sets (now (out .entry)) from (rowsUpTo (functionRow top) k) ⌝ }
 {
     let mut j: usize = 0;
     while j < k {
@@ -124,7 +124,7 @@ fn put_functions(out: &mut [u8], from: usize, top: usize, k: usize)
 // The projections, each of the nearest variable.
 fn put_projections(out: &mut [u8], from: usize, q: usize)
     requires { ⌜ from + 3 * q ≤ length (now out) ⌝ }
-    ensures { λ _. ⌜ now (out .exit) ≡ sets (now (out .entry)) from (rows projectionRow q) ⌝ }
+    ensures { λ _. ⌜ now (out .exit) ≡ sets (now (out .entry)) from (rowsUpTo projectionRow q) ⌝ }
 {
     let mut j: usize = 0;
     while j < q {
@@ -136,7 +136,7 @@ fn put_projections(out: &mut [u8], from: usize, q: usize)
 // The variable of an undriven input with so many before it, or of a part.
 fn open_binder(parts: usize, undriven: usize, before: usize) -> u8
     requires { ⌜ (1 ≤ parts) × (parts ≤ 16) × (undriven ≤ 24) × (before ≤ undriven) ⌝ }
-    ensures { λ r. ⌜ r ≡ binderOf undriven (parts - 1) (undrivenInput before) ⌝ }
+    ensures { λ r. ⌜ r ≡ binderNumber undriven (parts - 1) (undrivenInput before) ⌝ }
 {
     (undriven + 2 * (parts - 1) - before) as u8
 }
@@ -216,7 +216,7 @@ fn put_pair(out: &mut [u8], at: usize, left: usize) -> usize
 // As many applications as a part has inputs.
 fn put_applications(out: &mut [u8], from: usize, n: usize)
     requires { ⌜ from + n ≤ length (now out) ⌝ }
-    ensures { λ _. ⌜ now (out .exit) ≡ sets (now (out .entry)) from (rows applicationRow n) ⌝ }
+    ensures { λ _. ⌜ now (out .exit) ≡ sets (now (out .entry)) from (rowsUpTo applicationRow n) ⌝ }
 {
     let mut j: usize = 0;
     while j < n {

@@ -15,14 +15,14 @@ use Rattle.calculus.specs.Write.{sheetBytes}
 use Rattle.calculus.specs.Rules.{Typed}
 use Rattle.calculus.specs.Net.{Element, point, part, Wire, Net, make, netOf}
 use Rattle.calculus.specs.Lean.{driver}
-use Rattle.calculus.specs.Inputs.{isOut}
+use Rattle.calculus.specs.Inputs.{isOut, hasWire}
 use Rattle.calculus.specs.Record.{All}
 use Rattle.calculus.specs.Translate.{full}
 use Rattle.circuit_theorems.specs.Formed.{Tiled}
 use Rattle.laws.proofs.Tests.{by-eqb}
 use Rattle.sheet_theorems.proofs.Exact.{exact}
 use Rattle.circuit_theorems.proofs.Outputs.{tiled}
-use Rattle.back_theorems.specs.Back.{Source, undriven, output, Gate, fed, partBefore, sources, undrivens, gatesFrom, gates, openIns, backTable, backTerm, gatesSheet, backSheet, pointsFrom, partsFrom, backNet}
+use Rattle.back_theorems.specs.Back.{DrivenBy, undriven, output, Gate, partBefore, sources, undrivens, gatesFrom, gates, openIns, backTable, backTerm, gatesSheet, backSheet, pointsFrom, partsFrom, backNet}
 use Rattle.back_theorems.specs.Promises.{PartOnly, Returns, LeanOf}
 use Rattle.back_theorems.proofs.Typing.{tupleType, towards, few, SourceIn, GateIn, back-typed}
 use Rattle.back_theorems.proofs.Making.{full-made}
@@ -35,9 +35,9 @@ by-bool : (F : Bool → Type 0) (b : Bool) → (T b → F true) → F false → 
 by-bool F true f g = f tt
 by-bool F false f g = g
 
-fed-out : (P : ℕ → Type 0) (ws : List Wire) (i : ℕ) → All (λ w. P (w .from)) ws → T (fed ws i) → P (driver ws i 0)
+fed-out : (P : ℕ → Type 0) (ws : List Wire) (i : ℕ) → All (λ w. P (w .from)) ws → T (hasWire ws i) → P (driver ws i 0)
 fed-out P [] i a t = absurd t
-fed-out P (w ∷ ws) i a t = by-eqb (λ b. T (b || fed ws i) → P (cond b (w .from) (driver ws i 0))) (w .to) i (λ e h. a .0) (λ d h. fed-out P ws i (a .1) h) t
+fed-out P (w ∷ ws) i a t = by-eqb (λ b. T (b || hasWire ws i) → P (cond b (w .from) (driver ws i 0))) (w .to) i (λ e h. a .0) (λ d h. fed-out P ws i (a .1) h) t
 
 part-low : (es : List Element) (o : ℕ) → All PartOnly es → T (isOut es o) → partBefore es o < length es
 part-low [] o a t = absurd t
@@ -49,14 +49,14 @@ module _ (m : Net) (ok : Returns m) (q : ℕ) (len : length (m .elements) ≡ su
   sources-whole : (k i j : ℕ) → length (sources m k i j) ≡ k
   sources-whole zero i j = refl
   sources-whole (suc k) i j =
-      by-bool (λ b. length (cond b (output (partBefore (m .elements) (driver (m .wires) i 0)) ∷ sources m k (i + 1) j) (undriven j ∷ sources m k (i + 1) (suc j))) ≡ suc k) (fed (m .wires) i)
+      by-bool (λ b. length (cond b (output (partBefore (m .elements) (driver (m .wires) i 0)) ∷ sources m k (i + 1) j) (undriven j ∷ sources m k (i + 1) (suc j))) ≡ suc k) (hasWire (m .wires) i)
       (λ t. ap suc (sources-whole k (i + 1) j)) (ap suc (sources-whole k (i + 1) (suc j)))
 
   sources-in : (k i j : ℕ) → j + undrivens (sources m k i j) ≤ K → All (SourceIn K q) (sources m k i j)
   sources-in zero i j h = tt
   sources-in (suc k) i j h =
       by-bool (λ b. j + undrivens (cond b (output (partBefore (m .elements) (driver (m .wires) i 0)) ∷ sources m k (i + 1) j) (undriven j ∷ sources m k (i + 1) (suc j))) ≤ K
-      → All (SourceIn K q) (cond b (output (partBefore (m .elements) (driver (m .wires) i 0)) ∷ sources m k (i + 1) j) (undriven j ∷ sources m k (i + 1) (suc j)))) (fed (m .wires) i)
+      → All (SourceIn K q) (cond b (output (partBefore (m .elements) (driver (m .wires) i 0)) ∷ sources m k (i + 1) j) (undriven j ∷ sources m k (i + 1) (suc j)))) (hasWire (m .wires) i)
       (λ t l. (let p = part-low (m .elements) (driver (m .wires) i 0) (ok .parts) (fed-out (λ o. T (isOut (m .elements) o)) (m .wires) i (ok .from) t) in omega arith, sources-in k (i + 1) j l))
       (λ l. (omega arith, sources-in k (i + 1) (suc j) (omega arith))) h
 
@@ -72,7 +72,7 @@ gates-length m [] j a = refl
 gates-length m (point i ∷ es) j a = absurd (a .0)
 gates-length m (part p i ∷ es) j a = ap suc (gates-length m es _ (a .1))
 
-undrivens-low : (ss : List Source) → undrivens ss ≤ length ss
+undrivens-low : (ss : List DrivenBy) → undrivens ss ≤ length ss
 undrivens-low [] = omega arith
 undrivens-low (undriven j ∷ ss) = omega (arith, undrivens-low ss)
 undrivens-low (output r ∷ ss) = omega (arith, undrivens-low ss)

@@ -11,7 +11,7 @@ use Rattle.calculus.specs.Terms.{partAt}
 use Rattle.calculus.specs.Net.{inp, out, Interface, Element, point, part, Wire, Net, join, make, netOf}
 use Rattle.calculus.specs.Lean.{driver, isPin, backIn, back, root, kept, keep, toInputs, leanWires, leanPin, lean}
 use Rattle.calculus.specs.Record.{All}
-use Rattle.back_theorems.specs.Back.{Source, undriven, output, Gate, backTable, backTerm, pointsFrom, partsFrom, outputAt, sourceAt, gateWires, allWires, inputsFrom, outputsFrom, backNet}
+use Rattle.back_theorems.specs.Back.{DrivenBy, undriven, output, Gate, backTable, backTerm, pointsFrom, partsFrom, outputAt, sourceAt, gateWires, allWires, inputsFrom, outputsFrom, backNet}
 use Rattle.laws.proofs.Tests.{or-left, or-right, by-eqb}
 use Rattle.circuit_theorems.proofs.Lists.{all-left, all-right}
 use Rattle.circuit_theorems.proofs.RootLaws.{root-stays, root-back}
@@ -100,13 +100,13 @@ module _ (m : Net) where
       (wires-lost k (n + 2) es (λ j l e. h (suc j) (omega arith) (let f : n + 2 * suc j ≡ n + 2 + 2 * j = omega arith in rw f e)))
 
   -- the wires to the parts
-  module _ (f g : Source → ℕ) (P : Source → Type 0) (roots : (s : Source) → P s → root m (f s) ≡ g s) (b : ℕ) (free : (i : ℕ) → b ≤ i → isPin (m .pins) i ≡ false) where
-    gate-wires : (ss : List Source) (i : ℕ) → b ≤ i → All P ss → All (λ w. (d : ℕ) → driver (m .wires) (w .to) d ≡ w .from) (gateWires f ss i) → toInputs m (length ss) i ≡ gateWires g ss i
+  module _ (f g : DrivenBy → ℕ) (P : DrivenBy → Type 0) (roots : (s : DrivenBy) → P s → root m (f s) ≡ g s) (b : ℕ) (free : (i : ℕ) → b ≤ i → isPin (m .pins) i ≡ false) where
+    gate-wires : (ss : List DrivenBy) (i : ℕ) → b ≤ i → All P ss → All (λ w. (d : ℕ) → driver (m .wires) (w .to) d ≡ w .from) (gateWires f ss i) → toInputs m (length ss) i ≡ gateWires g ss i
     gate-wires [] i l p a = refl
     gate-wires (s ∷ ss) i l p a =
         rw (free i l) (ap₂ (λ (x : ℕ) (r : List Wire). record { from = x; to = i } ∷ r) (ap (root m) (a .0 0) ∙ roots s (p .0)) (gate-wires ss (i + 1) (omega arith) (p .1) (a .1)))
 
-    all-wires : (k q : ℕ) (gs : List Gate) (n : ℕ) → b ≤ n → All (GateIn k q) gs → ((s : Source) → SourceIn k q s → P s) → All (λ w. (d : ℕ) → driver (m .wires) (w .to) d ≡ w .from) (allWires f gs n)
+    all-wires : (k q : ℕ) (gs : List Gate) (n : ℕ) → b ≤ n → All (GateIn k q) gs → ((s : DrivenBy) → SourceIn k q s → P s) → All (λ w. (d : ℕ) → driver (m .wires) (w .to) d ≡ w .from) (allWires f gs n)
         → leanWires m (partsFrom gs n) ≡ allWires g gs n
     all-wires k q [] n l o p a = refl
     all-wires k q (x ∷ gs) n l o p a =
@@ -114,7 +114,7 @@ module _ (m : Net) where
         (ap (λ (j : ℕ). toInputs m j n) (sym (o .0 .whole)) ∙ gate-wires (x .ins) n l (each (x .ins) (o .0 .from)) (all-left _ (gateWires f (x .ins) n) _ a))
         (all-wires k q gs (n + partAt (x .part) .inputs + 1) (omega arith) (o .1) p (all-right _ (gateWires f (x .ins) n) _ a))
       where
-        each : (ss : List Source) → All (SourceIn k q) ss → All P ss
+        each : (ss : List DrivenBy) → All (SourceIn k q) ss → All P ss
         each [] a = tt
         each (s ∷ ss) a = (p s (a .0), each ss (a .1))
 
@@ -165,7 +165,7 @@ module _ (k q : ℕ) (gs : List Gate) (len : length gs ≡ suc q) (o : All (Gate
   moved : (r : ℕ) → r < length gs → root (fullNet k gs) (2 * k + 2 * r + 1) ≡ 2 * k + 2 * r + 1 → ⊥
   moved r h e = omega (arith, at-part r h, output-high gs (2 * k + 2 * length gs) r h)
 
-  source-root : (s : Source) → SourceIn k q s → root (fullNet k gs) (pointOf k s + 1) ≡ sourceAt gs (2 * k + 2 * length gs) s
+  source-root : (s : DrivenBy) → SourceIn k q s → root (fullNet k gs) (pointOf k s + 1) ≡ sourceAt gs (2 * k + 2 * length gs) s
   source-root (undriven j) h = let e : 0 + 2 * j ≡ 2 * j = omega arith in rw e at (at-pin j h)
   source-root (output r) h = at-part r (omega arith)
 

@@ -9,7 +9,7 @@ use Rattle.calculus.specs.Types.{Ty, bit, size, Table}
 use Rattle.calculus.specs.Terms.{Term, var, app, fix, con, partAt}
 use Rattle.calculus.specs.Net.{inp, out, Interface, turns, Element, point, part, Wire, Net, points, inSide, outSide, join, partSide, Bound, unbound, Made, leftOf, binder, madeVar, madeFun, madeApp, madeFix, make, netOf}
 use Rattle.calculus.specs.Record.{All}
-use Rattle.back_theorems.specs.Back.{Source, undriven, output, Gate, tuple, backTable, binderOf, applied, gateTerm, tupleTerm, projections, functions, backTerm, pointsFrom, partsFrom, gateWires, allWires, inputsFrom, outputsFrom}
+use Rattle.back_theorems.specs.Back.{DrivenBy, undriven, output, Gate, tuple, backTable, binderNumber, applied, gateTerm, tupleTerm, projections, functions, backTerm, pointsFrom, partsFrom, gateWires, allWires, inputsFrom, outputsFrom}
 use Rattle.back_theorems.proofs.Typing.{tupleType, towards, HoldsTypes, holds, SourceIn, GateIn, few}
 
 -- ---- a variable of c tupleType
@@ -91,21 +91,21 @@ projections-made Θ zero n env e t = refl
 projections-made Θ (suc q) n env e t = projections-made Θ q (n + 2) (binder bit n ∷ left (suc q) n ∷ env) e t
 
 -- the point of a source, behind k undriven inputs
-abbrev pub pointOf : ℕ → Source → ℕ
+abbrev pub pointOf : ℕ → DrivenBy → ℕ
 pointOf k (undriven j) = 2 * j
 pointOf k (output r) = 2 * k + 2 * r
 
 module _ (Θ : Table) (q k : ℕ) (h : HoldsTypes Θ q k) where
-  abbrev start : Source → ℕ
+  abbrev start : DrivenBy → ℕ
   start s = pointOf k s
 
-  abbrev pub before : Source → ℕ
+  abbrev pub before : DrivenBy → ℕ
   before s = start s + 1
 
   abbrev inner : List Bound
   inner = scopeEnv q (2 * k) (openedEnv k 0 [])
 
-  source-made : (s : Source) (t : ℕ) → SourceIn k q s → make Θ (var (binderOf k q s)) inner t ≡ madeVar (binder bit (start s)) t
+  source-made : (s : DrivenBy) (t : ℕ) → SourceIn k q s → make Θ (var (binderNumber k q s)) inner t ≡ madeVar (binder bit (start s)) t
   source-made (undriven j) t l =
       ap (λ (b : Bound). madeVar b t)
       (look inner {i = k - 1 - j + 2 * q + 1} (k + 2 * q - j) _ (omega arith) (look-deep q (2 * k) (openedEnv k 0 []) (k - 1 - j) _ (look-open k j 0 [] l))
@@ -120,12 +120,12 @@ module _ (Θ : Table) (q k : ℕ) (h : HoldsTypes Θ q k) where
   app-shape : (p n : ℕ) (ws : List Wire) (j i b : ℕ) → madeApp (shape p n ws (suc j) i) (madeVar (binder bit b) (n + partAt p .inputs + 1)) ≡ shape p n (ws ++ record { from = b + 1; to = i } ∷ []) j (i + 1)
   app-shape p n ws j i b = ap (λ (r : List Wire). shape p n (r ++ record { from = b + 1; to = i } ∷ []) j (i + 1)) (append-nil ws)
 
-  applied-made : (p n : ℕ) (ss : List Source) (f : Term) (ws : List Wire) (i : ℕ) → All (SourceIn k q) ss → make Θ f inner n ≡ shape p n ws (length ss) i
+  applied-made : (p n : ℕ) (ss : List DrivenBy) (f : Term) (ws : List Wire) (i : ℕ) → All (SourceIn k q) ss → make Θ f inner n ≡ shape p n ws (length ss) i
       → make Θ (applied k q f ss) inner n ≡ shape p n (ws ++ gateWires before ss i) 0 (i + length ss)
   applied-made p n [] f ws i a e = let z : i + 0 ≡ i = omega arith in rw (append-nil ws, z) e
   applied-made p n (s ∷ ss) f ws i a e =
-      applied-made p n ss (app f (var (binderOf k q s))) (ws ++ record { from = before s; to = i } ∷ []) (i + 1) (a .1)
-      (ap (λ (x : Made). madeApp x (make Θ (var (binderOf k q s)) inner (x .next))) e ∙ ap (λ (y : Made). madeApp (shape p n ws (suc (length ss)) i) y) (source-made s (n + partAt p .inputs + 1) (a .0)) ∙ app-shape p n ws (length ss) i (start s))
+      applied-made p n ss (app f (var (binderNumber k q s))) (ws ++ record { from = before s; to = i } ∷ []) (i + 1) (a .1)
+      (ap (λ (x : Made). madeApp x (make Θ (var (binderNumber k q s)) inner (x .next))) e ∙ ap (λ (y : Made). madeApp (shape p n ws (suc (length ss)) i) y) (source-made s (n + partAt p .inputs + 1) (a .0)) ∙ app-shape p n ws (length ss) i (start s))
       ∙ ap₂ (λ (r : List Wire) (z : ℕ). shape p n r 0 z) (append-assoc ws (record { from = before s; to = i } ∷ []) (gateWires before ss (i + 1))) (let z : i + 1 + length ss ≡ i + suc (length ss) = omega arith in z)
 
   gate-made : (g : Gate) (n : ℕ) → GateIn k q g → make Θ (gateTerm k q g) inner n ≡ shape (g .part) n (gateWires before (g .ins) n) 0 (n + partAt (g .part) .inputs)

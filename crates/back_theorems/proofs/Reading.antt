@@ -16,7 +16,7 @@ use Rattle.sheet_theorems.specs.Laid.{TableOk, depth, Ranged}
 use Rattle.laws.proofs.Tests.{and-of, false-not}
 use Rattle.sheet_theorems.proofs.Tables.{grown, empty-ok}
 use Rattle.sheet_theorems.proofs.SheetRead.{sheet-read}
-use Rattle.back_theorems.specs.Back.{Source, Gate, tuple, base, products, arrows, backTable, binderOf, applied, gateTerm, tupleTerm, projections, functions, backTerm}
+use Rattle.back_theorems.specs.Back.{DrivenBy, Gate, tuple, base, products, arrows, backTable, binderNumber, applied, gateTerm, tupleTerm, projections, functions, backTerm}
 use Rattle.back_theorems.proofs.Typing.{tupleType, towards, tupleType-sharable, few, GateIn, products-length, arrows-length, products-old, products-top, arrows-old, arrows-new, tuple-low}
 use Rattle.back_theorems.proofs.Making.{size-tupleType}
 
@@ -92,9 +92,9 @@ table-long (suc q) k r j z l m = let a = arrows-length (products (suc q)) (q + 3
 -- ---- the term: its type numbers
 
 module _ (Θ : Table) (k q : ℕ) (three : 3 ≤ length Θ) where
-  applied-ranged : (ss : List Source) (f : Term) → Ranged first Θ f → Ranged first Θ (applied k q f ss)
+  applied-ranged : (ss : List DrivenBy) (f : Term) → Ranged first Θ f → Ranged first Θ (applied k q f ss)
   applied-ranged [] f r = r
-  applied-ranged (s ∷ ss) f r = applied-ranged ss (app f (var (binderOf k q s))) (r, tt)
+  applied-ranged (s ∷ ss) f r = applied-ranged ss (app f (var (binderNumber k q s))) (r, tt)
 
   gate-ranged : (g : Gate) → Ranged first Θ (gateTerm k q g)
   gate-ranged g = applied-ranged (g .ins) (con (g .part) (partAt (g .part) .inputs)) (omega (arith, few (g .part)))
@@ -114,9 +114,9 @@ functions-ranged Θ t (suc k) e h r = (h (suc k) (omega arith), functions-ranged
 
 -- ---- its depth
 
-applied-depth : (k q : ℕ) (ss : List Source) (f : Term) (n : ℕ) → depth f ≤ suc n → depth (applied k q f ss) ≤ suc n + length ss
+applied-depth : (k q : ℕ) (ss : List DrivenBy) (f : Term) (n : ℕ) → depth f ≤ suc n → depth (applied k q f ss) ≤ suc n + length ss
 applied-depth k q [] f n h = omega arith
-applied-depth k q (s ∷ ss) f n h = omega (arith, applied-depth k q ss (app f (var (binderOf k q s))) (suc n) (omega arith))
+applied-depth k q (s ∷ ss) f n h = omega (arith, applied-depth k q ss (app f (var (binderNumber k q s))) (suc n) (omega arith))
 
 gate-depth : (k q : ℕ) (g : Gate) → length (g .ins) ≡ partAt (g .part) .inputs → depth (gateTerm k q g) ≤ 3
 gate-depth k q g e = omega (arith, applied-depth k q (g .ins) (con (g .part) (partAt (g .part) .inputs)) 0 (omega arith), few (g .part))
@@ -136,9 +136,9 @@ functions-depth t (suc k) e = omega (arith, functions-depth t k e)
 
 -- ---- its nodes
 
-nodes-applied : (k q : ℕ) (ss : List Source) (f : Term) → nodes (applied k q f ss) ≡ nodes f + 2 * length ss
+nodes-applied : (k q : ℕ) (ss : List DrivenBy) (f : Term) → nodes (applied k q f ss) ≡ nodes f + 2 * length ss
 nodes-applied k q [] f = omega arith
-nodes-applied k q (s ∷ ss) f = omega (arith, nodes-applied k q ss (app f (var (binderOf k q s))))
+nodes-applied k q (s ∷ ss) f = omega (arith, nodes-applied k q ss (app f (var (binderNumber k q s))))
 
 nodes-tuple : (k q c : ℕ) (gs : List Gate) → All (GateIn k c) gs → nodes (tupleTerm k q gs) ≤ 1 + 6 * length gs
 nodes-tuple k q c [] o = omega arith

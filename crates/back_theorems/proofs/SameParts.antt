@@ -10,7 +10,7 @@ use Rattle.calculus.specs.Terms.{partAt}
 use Rattle.calculus.specs.Net.{Interface, Element, part, Wire, Net}
 use Rattle.calculus.specs.Lean.{driver}
 use Rattle.calculus.specs.Record.{All}
-use Rattle.back_theorems.specs.Back.{Source, undriven, output, Gate, partBefore, gates, openIns, pointsFrom, partsFrom, outputAt, sourceAt, gateWires, allWires, inputsFrom, outputsFrom, backNet, pointOut, pinBefore, sourceSeen, sourcesSeen, gatesSeen}
+use Rattle.back_theorems.specs.Back.{DrivenBy, undriven, output, Gate, partBefore, gates, openIns, pointsFrom, partsFrom, outputAt, sourceAt, gateWires, allWires, inputsFrom, outputsFrom, backNet, pointOut, pinBefore, sourceSeen, sourcesSeen, gatesSeen}
 use Rattle.circuit_theorems.proofs.Lists.{all-append, all-map}
 use Rattle.back_theorems.specs.Promises.{Returns}
 use Rattle.back_theorems.proofs.Typing.{SourceIn, GateIn}
@@ -56,7 +56,7 @@ driver-behind : (A : List Wire) (w : Wire) (B : List Wire) (d : ℕ) → All (λ
 driver-behind [] w B d a = rw (eq-eqb (w .to) (w .to) refl)
 driver-behind (v ∷ A) w B d a = rw (ne-eqb (v .to) (w .to) (λ e. let l = a .0 in omega arith)) (driver-behind A w B d (a .1))
 
-targets-low : (f : Source → ℕ) (ss : List Source) (i b : ℕ) → i + length ss ≤ b → All (λ v. v .to < b) (gateWires f ss i)
+targets-low : (f : DrivenBy → ℕ) (ss : List DrivenBy) (i b : ℕ) → i + length ss ≤ b → All (λ v. v .to < b) (gateWires f ss i)
 targets-low f [] i b h = tt
 targets-low f (s ∷ ss) i b h = let z : i + suc (length ss) ≤ b = h in (omega arith, targets-low f ss (i + 1) b (omega arith))
 
@@ -67,7 +67,7 @@ module _ (k q : ℕ) (gs : List Gate) (len : length gs ≡ suc q) where
   abbrev top : ℕ
   top = 2 * k + 2 * length gs
 
-  source-seen : (s : Source) → SourceIn k q s → sourceSeen (backNet k gs) (sourceAt gs (2 * k + 2 * length gs) s) ≡ s
+  source-seen : (s : DrivenBy) → SourceIn k q s → sourceSeen (backNet k gs) (sourceAt gs (2 * k + 2 * length gs) s) ≡ s
   source-seen (undriven j) h =
       let e : 0 + 2 * j ≡ 2 * j = omega arith in
       let p : pointOut (net .elements) (2 * j + 1) ≡ true = rw e at (point-out k 0 j (partsFrom gs top) h) in
@@ -77,11 +77,11 @@ module _ (k q : ℕ) (gs : List Gate) (len : length gs ≡ suc q) where
   source-seen (output r) h =
       rw (no-point k 0 (outputAt gs top r) gs top (omega (arith, output-high gs top r (omega arith)))) (ap output (partBefore-points k 0 (outputAt gs top r) (partsFrom gs top) ∙ partBefore-parts gs top r (omega arith)))
 
-  sources-seen : (ss : List Source) (i : ℕ) (A B : List Wire) → All (SourceIn k q) ss → All (λ v. v .to < i) A → net .wires ≡ A ++ (gateWires (sourceAt gs (2 * k + 2 * length gs)) ss i ++ B) → sourcesSeen (backNet k gs) (length ss) i ≡ ss
+  sources-seen : (ss : List DrivenBy) (i : ℕ) (A B : List Wire) → All (SourceIn k q) ss → All (λ v. v .to < i) A → net .wires ≡ A ++ (gateWires (sourceAt gs (2 * k + 2 * length gs)) ss i ++ B) → sourcesSeen (backNet k gs) (length ss) i ≡ ss
   sources-seen [] i A B o a e = refl
   sources-seen (s ∷ ss) i A B o a e =
       let w : Wire = record { from = sourceAt gs top s; to = i } in
-      ap₂ (λ (x : Source) (r : List Source). x ∷ r)
+      ap₂ (λ (x : DrivenBy) (r : List DrivenBy). x ∷ r)
       (ap (λ (ws : List Wire). sourceSeen net (driver ws i 0)) e ∙ ap (sourceSeen net) (driver-behind A w (gateWires (sourceAt gs top) ss (i + 1) ++ B) 0 a) ∙ source-seen s (o .0))
       (sources-seen ss (i + 1) (A ++ w ∷ []) B (o .1) (all-append _ A (w ∷ []) (all-map _ _ (λ v l. omega arith) A a) (omega arith, tt)) (e ∙ sym (append-assoc A (w ∷ []) _)))
 
@@ -91,7 +91,7 @@ module _ (k q : ℕ) (gs : List Gate) (len : length gs ≡ suc q) where
       let t = n + partAt (g .part) .inputs + 1 in
       let ws = gateWires (sourceAt gs top) (g .ins) n in
       let c = o .0 .whole in
-      ap₂ (λ (ss : List Source) (r : List Gate). record { part = g .part; ins = ss } ∷ r)
+      ap₂ (λ (ss : List DrivenBy) (r : List Gate). record { part = g .part; ins = ss } ∷ r)
       (ap (λ (j : ℕ). sourcesSeen net j n) (sym c) ∙ sources-seen (g .ins) n A (allWires (sourceAt gs top) fs t) (o .0 .from) a e)
       (gates-seen fs t (A ++ ws) (o .1) (all-append _ A ws (all-map _ _ (λ v l. omega arith) A a) (targets-low (sourceAt gs top) (g .ins) n t (omega arith))) (e ∙ sym (append-assoc A ws _)))
 

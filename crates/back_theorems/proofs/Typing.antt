@@ -11,7 +11,7 @@ use Rattle.calculus.specs.Types.{Ty, bit, prod, arrow, sharable, rec02, rec03, 
 use Rattle.calculus.specs.Terms.{first, Term, var, app, con, partAt}
 use Rattle.calculus.specs.Rules.{many, once, away, Ctx, NoLinear, none-end, none-many, InΓ, in-here, in-many, Split, split-end, split-many, Typed, Var, →I, →E, ×I, ×E, Fix, Con}
 use Rattle.calculus.specs.Record.{All}
-use Rattle.back_theorems.specs.Back.{Source, undriven, output, Gate, tuple, base, products, arrows, backTable, binderOf, applied, gateTerm, tupleTerm, projections, functions, backTerm}
+use Rattle.back_theorems.specs.Back.{DrivenBy, undriven, output, Gate, tuple, base, products, arrows, backTable, binderNumber, applied, gateTerm, tupleTerm, projections, functions, backTerm}
 use Rattle.sheet_theorems.proofs.Tables.{tree-new}
 use Rattle.sheet_theorems.proofs.TableRead.{tree-prefix}
 
@@ -165,7 +165,7 @@ open-at (suc k) (suc j) Γ s h = at (suc k - 1 - suc j) (omega arith) (open-at k
 
 -- ---- the gates of a netlist with q + 1 parts and k undriven inputs
 
-abbrev pub SourceIn : ℕ → ℕ → Source → Type 0
+abbrev pub SourceIn : ℕ → ℕ → DrivenBy → Type 0
 SourceIn k q (undriven j) = j < k
 SourceIn k q (output r) = r ≤ q
 
@@ -201,13 +201,13 @@ module _ (Θ : Table) (q k : ℕ) (h : HoldsTypes Θ q k) where
   inner-shared : Shared (underProjections q (underFunctions k []))
   inner-shared = underProjections-shared q (underFunctions k []) (underFunctions-shared k [] tt)
 
-  source-typed : (s : Source) → SourceIn k q s → Typed first Θ inner (var (binderOf k q s)) bit
+  source-typed : (s : DrivenBy) → SourceIn k q s → Typed first Θ inner (var (binderNumber k q s)) bit
   source-typed (undriven j) l = Var (at (k + 2 * q - j) (omega arith) (deep q (underFunctions k []) (k - 1 - j) bit (open-at k j [] tt l)))
   source-typed (output r) l = Var (named q r (underFunctions k []) (underFunctions-shared k [] tt) l)
 
-  applied-typed : (ss : List Source) (f : Term) → All (SourceIn k q) ss → Typed first Θ inner f (towards (length ss) bit) → Typed first Θ inner (applied k q f ss) bit
+  applied-typed : (ss : List DrivenBy) (f : Term) → All (SourceIn k q) ss → Typed first Θ inner f (towards (length ss) bit) → Typed first Θ inner (applied k q f ss) bit
   applied-typed [] f a d = d
-  applied-typed (s ∷ ss) f a d = applied-typed ss (app f (var (binderOf k q s))) (a .1) (→E (twice inner inner-shared) tt d (source-typed s (a .0)))
+  applied-typed (s ∷ ss) f a d = applied-typed ss (app f (var (binderNumber k q s))) (a .1) (→E (twice inner inner-shared) tt d (source-typed s (a .0)))
 
   gate-typed : (g : Gate) → GateIn k q g → Typed first Θ inner (gateTerm k q g) bit
   gate-typed g o =

@@ -6,8 +6,8 @@ use Rattle.calculus.specs.NetRead.{itemAt, itemsFrom, readNet}
 use Rattle.foreign_theorems.specs.Foreign.{check}
 use Rattle.back_theorems.specs.Back.{backSheet}
 use Rattle.back_theorems.specs.Returned.{returned}
-use Rattle.back_theorems.specs.Worked.{table, answers}
+use Rattle.back_theorems.specs.Worked.{workedBack, backAnswers}
 
-pub worked-backs : map answers table ≡ table
-unfolding table returned check readNet itemsFrom itemAt backSheet sheetBytes recordBytes
+pub worked-backs : map backAnswers workedBack ≡ workedBack
+unfolding workedBack returned check readNet itemsFrom itemAt backSheet sheetBytes recordBytes
 worked-backs = refl

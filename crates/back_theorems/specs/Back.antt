@@ -9,21 +9,17 @@ use Rattle.calculus.specs.Terms.{first, Term, var, fun, app, pair, proj, fix, c
 use Rattle.calculus.specs.Write.{sheetBytes}
 use Rattle.calculus.specs.Net.{inp, out, Interface, Element, point, part, Wire, Net}
 use Rattle.calculus.specs.Lean.{driver}
+use Rattle.calculus.specs.Inputs.{hasWire}
 
 -- ---- what drives a part's input: the j-th undriven input, in rising order, or the output of the q-th part; both count from 0
 
-pub data Source : Type 0 where
-  undriven output : ℕ → Source
+pub data DrivenBy : Type 0 where
+  undriven output : ℕ → DrivenBy
 
 -- a part and what drives its inputs
 pub record Gate : Type 0 where
   pub part : ℕ
-  pub ins : List Source
-
--- a wire runs to input i
-abbrev pub fed : List Wire → ℕ → Bool
-fed [] i = false
-fed (w ∷ ws) i = eqb (w .to) i || fed ws i
+  pub ins : List DrivenBy
 
 -- how many parts stand before the one with output o
 abbrev pub partBefore : List Element → ℕ → ℕ
@@ -32,13 +28,13 @@ partBefore (point i ∷ es) o = partBefore es o
 partBefore (part p i ∷ es) o = cond (eqb (i + partAt p .inputs) o) 0 (suc (partBefore es o))
 
 -- what drives k inputs from terminal i on, with j undriven inputs before them
-abbrev pub sources : Net → ℕ → ℕ → ℕ → List Source
+abbrev pub sources : Net → ℕ → ℕ → ℕ → List DrivenBy
 sources m zero i j = []
 sources m (suc k) i j =
-    cond (fed (m .wires) i) (output (partBefore (m .elements) (driver (m .wires) i 0)) ∷ sources m k (i + 1) j)
+    cond (hasWire (m .wires) i) (output (partBefore (m .elements) (driver (m .wires) i 0)) ∷ sources m k (i + 1) j)
     (undriven j ∷ sources m k (i + 1) (suc j))
 
-abbrev pub undrivens : List Source → ℕ
+abbrev pub undrivens : List DrivenBy → ℕ
 undrivens [] = 0
 undrivens (undriven j ∷ ss) = suc (undrivens ss)
 undrivens (output q ∷ ss) = undrivens ss
@@ -88,13 +84,13 @@ backTable (suc q) k = arrows (products (suc q)) (tuple (suc q)) k
 -- to name them, then the parts applied to their drivers in rising order"
 
 -- the binder number of what drives an input, behind k functions, the fixed point and q projections
-abbrev pub binderOf : ℕ → ℕ → Source → ℕ
-binderOf k q (undriven j) = k + 2 * q - j
-binderOf k q (output r) = 2 * (q - r) - 1
+abbrev pub binderNumber : ℕ → ℕ → DrivenBy → ℕ
+binderNumber k q (undriven j) = k + 2 * q - j
+binderNumber k q (output r) = 2 * (q - r) - 1
 
-abbrev pub applied : ℕ → ℕ → Term → List Source → Term
+abbrev pub applied : ℕ → ℕ → Term → List DrivenBy → Term
 applied k q f [] = f
-applied k q f (s ∷ ss) = applied k q (app f (var (binderOf k q s))) ss
+applied k q f (s ∷ ss) = applied k q (app f (var (binderNumber k q s))) ss
 
 -- a part applied to its drivers; its type has the number of its inputs
 abbrev pub gateTerm : ℕ → ℕ → Gate → Term
@@ -154,15 +150,15 @@ outputAt (g ∷ gs) n zero = n + partAt (g .part) .inputs
 outputAt (g ∷ gs) n (suc r) = outputAt gs (n + partAt (g .part) .inputs + 1) r
 
 -- where a source's bits come from: the point of the undriven input, or the part's output
-abbrev pub sourceAt : List Gate → ℕ → Source → ℕ
+abbrev pub sourceAt : List Gate → ℕ → DrivenBy → ℕ
 sourceAt gs n (undriven j) = 2 * j + 1
 sourceAt gs n (output r) = outputAt gs n r
 
-abbrev pub gateWires : (Source → ℕ) → List Source → ℕ → List Wire
+abbrev pub gateWires : (DrivenBy → ℕ) → List DrivenBy → ℕ → List Wire
 gateWires f [] i = []
 gateWires f (s ∷ ss) i = record { from = f s; to = i } ∷ gateWires f ss (i + 1)
 
-abbrev pub allWires : (Source → ℕ) → List Gate → ℕ → List Wire
+abbrev pub allWires : (DrivenBy → ℕ) → List Gate → ℕ → List Wire
 allWires f [] n = []
 allWires f (g ∷ gs) n = gateWires f (g .ins) n ++ allWires f gs (n + partAt (g .part) .inputs + 1)
 
@@ -189,10 +185,10 @@ pinBefore [] i = 0
 pinBefore (inp j ∷ ts) i = cond (eqb j i) 0 (suc (pinBefore ts i))
 pinBefore (out o ∷ ts) i = pinBefore ts i
 
-abbrev pub sourceSeen : Net → ℕ → Source
+abbrev pub sourceSeen : Net → ℕ → DrivenBy
 sourceSeen m o = cond (pointOut (m .elements) o) (undriven (pinBefore (m .pins) (o - 1))) (output (partBefore (m .elements) o))
 
-abbrev pub sourcesSeen : Net → ℕ → ℕ → List Source
+abbrev pub sourcesSeen : Net → ℕ → ℕ → List DrivenBy
 sourcesSeen m zero i = []
 sourcesSeen m (suc k) i = sourceSeen m (driver (m .wires) i 0) ∷ sourcesSeen m k (i + 1)
 

@@ -8,12 +8,12 @@ use Rattle.calculus.specs.Net.{two}
 use Rattle.back_theorems.specs.Returned.{returned}
 
 -- a netlist's bytes, whether it is called lean, and the answer
-pub record Row : Type 0 where
+pub record BackRow : Type 0 where
   pub net : List ℕ
   pub lean : Bool
   pub sheet : Answer (List ℕ)
 
-abbrev row : List ℕ → Bool → Answer (List ℕ) → Row
+abbrev row : List ℕ → Bool → Answer (List ℕ) → BackRow
 row s lean a = record { net = s; lean = lean; sheet = a }
 
 abbrev part : ℕ → ℕ → List ℕ
@@ -29,7 +29,7 @@ pin t = 0x24 ∷ two t
 abbrev sheet : List ℕ → List ℕ → Answer (List ℕ)
 sheet types term = good (0x01 ∷ 0x03 ∷ 0x00 ∷ 0x00 ∷ 0x03 ∷ 0x00 ∷ 0x01 ∷ (types ++ term))
 
-abbrev came : List Row
+abbrev came : List BackRow
 came =
     row (part 0 0) false (sheet [] (0x19 ∷ 0x00 ∷ 0x1A ∷ 0x00 ∷ 0x00 ∷ []))  -- zero
     ∷ row (part 6 0 ++ pin 0 ++ pin 0) false (sheet [] (0x19 ∷ 0x00 ∷ 0x1A ∷ 0x06 ∷ 0x00 ∷ []))  -- one, shown twice
@@ -47,7 +47,7 @@ came =
     ∷ row (part 0 0 ++ part 6 1 ++ part 6 2 ++ part 0 3) false (sheet (0x02 ∷ 0x00 ∷ 0x00 ∷ 0x02 ∷ 0x00 ∷ 0x03 ∷ 0x02 ∷ 0x00 ∷ 0x04 ∷ []) (0x19 ∷ 0x05 ∷ 0x18 ∷ 0x11 ∷ 0x00 ∷ 0x18 ∷ 0x11 ∷ 0x00 ∷ 0x18 ∷ 0x11 ∷ 0x00 ∷ 0x17 ∷ 0x05 ∷ 0x1A ∷ 0x00 ∷ 0x00 ∷ 0x17 ∷ 0x04 ∷ 0x1A ∷ 0x06 ∷ 0x00 ∷ 0x17 ∷ 0x03 ∷ 0x1A ∷ 0x06 ∷ 0x00 ∷ 0x1A ∷ 0x00 ∷ 0x00 ∷ []))  -- four zeros and ones
     ∷ []
 
-abbrev refusedRows : List Row
+abbrev refusedRows : List BackRow
 refusedRows =
     row [] false (refuse 26 0)  -- nothing
     ∷ row [] true (refuse 26 0)  -- nothing, lean
@@ -66,9 +66,9 @@ refusedRows =
     ∷ row (part 5 7 ++ part 0 8191 ++ wire 8191 7 ++ pin 8191) false (refuse 22 0)  -- .. and not called lean
     ∷ []
 
-unfoldable pub table : List Row
-table = came ++ refusedRows
+unfoldable pub workedBack : List BackRow
+workedBack = came ++ refusedRows
 
 -- what the definition answers
-abbrev pub answers : Row → Row
-answers r = row (r .net) (r .lean) (returned (r .lean) (r .net))
+abbrev pub backAnswers : BackRow → BackRow
+backAnswers r = row (r .net) (r .lean) (returned (r .lean) (r .net))

@@ -22,5 +22,5 @@ abbrev pub left : code.Answer → List ℕ → List ℕ → List ℕ → Batch
 left r out results work = record { said = saidAnswer r; out = out; results = results; work = work }
 
 -- 24
-abbrev pub misfit : code.Answer
-misfit = answer.Refused (record { number = 24; place = 0; wanted = 0; found = 0 })
+abbrev pub lengthsMisfit : code.Answer
+lengthsMisfit = answer.Refused (record { number = 24; place = 0; wanted = 0; found = 0 })

@@ -11,7 +11,7 @@ ghost use Rattle.translator.specs.Said.{saidAnswer};
 ghost use Rattle.translator.specs.declared.Answer.the-variants as answer;
 ghost use Rattle.translation.specs.Wished.{allWish};
 ghost use Rattle.batch.specs.Batch.{usedBy, sum, oneByOne, ofRow, batchCall};
-ghost use Rattle.batch.specs.Left.{OneLeft, left, misfit};
+ghost use Rattle.batch.specs.Left.{OneLeft, left, lengthsMisfit};
 
 fn wide(x: u32) -> usize
     ensures { λ r. ⌜ r ≡ x ⌝ }
@@ -31,7 +31,7 @@ fn used_by(answer: Answer) -> usize
 
 // 24, whatever lengths do not fit.
 fn misfits() -> Answer
-    ensures { λ r. ⌜ r ≡ misfit ⌝ }
+    ensures { λ r. ⌜ r ≡ lengthsMisfit ⌝ }
 {
     Answer::Refused(Refusal {
         number: 24,

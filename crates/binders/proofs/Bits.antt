@@ -10,10 +10,10 @@ use borrow.Author.Tests.{lt-ltb, le-ltb}
 use native.Mathlib.Decide.{decLe}
 use lib.ListN.{length, getD, set, length-append, List·getD-append}
 use lib.Seq.{getD-append-add, set-append-left}
-use Rattle.binders.specs.Stacks.{digits, setDigit, bitsOf, withBit}
+use Rattle.binders.specs.Stacks.{binaryDigits, setDigit, bitsOf, withBit}
 
-pub digits-length : (n w : ℕ) → length (digits n w) ≡ n
-unfolding digits
+pub digits-length : (n w : ℕ) → length (binaryDigits n w) ≡ n
+unfolding binaryDigits
 digits-length zero w = refl
 digits-length (suc n) w = ap suc (digits-length n (w / 2))
 
@@ -24,23 +24,23 @@ double j = pow-suc 2 j ∙ mul-comm (2 ^ j) 2
 half-power : (w j : ℕ) → w / 2 ^ suc j ≡ w / 2 / 2 ^ j
 half-power w j = ap (λ (x : ℕ). w / x) (double j) ∙ sym (div-div-eq-div-mul w 2 (2 ^ j))
 
-pub digit-at : (n j w : ℕ) → j < n → w / 2 ^ j % 2 ≡ getD (digits n w) j 0
-unfolding digits
+pub digit-at : (n j w : ℕ) → j < n → w / 2 ^ j % 2 ≡ getD (binaryDigits n w) j 0
+unfolding binaryDigits
 digit-at zero j w h = absurd (omega arith)
 digit-at (suc n) zero w h = let e : w / 1 ≡ w = omega arith in ap (λ (x : ℕ). x % 2) e
 digit-at (suc n) (suc j) w h = ap (λ (x : ℕ). x % 2) (half-power w j) ∙ digit-at n j (w / 2) (omega arith)
 
-pub digits-set : (n j w x : ℕ) → x < 2 → digits n (setDigit j w x) ≡ set (digits n w) j x
-unfolding digits setDigit
+pub digits-set : (n j w x : ℕ) → x < 2 → binaryDigits n (setDigit j w x) ≡ set (binaryDigits n w) j x
+unfolding binaryDigits setDigit
 digits-set zero j w x h = refl
 digits-set (suc n) zero w x h =
     let e : (w / 2 * 2 + x) % 2 ≡ x = omega arith in
     let f : (w / 2 * 2 + x) / 2 ≡ w / 2 = omega arith in
-    ap₂ (λ (a b : ℕ). a ∷ digits n b) e f
+    ap₂ (λ (a b : ℕ). a ∷ binaryDigits n b) e f
 digits-set (suc n) (suc j) w x h =
     let e : (setDigit j (w / 2) x * 2 + w % 2) % 2 ≡ w % 2 = omega arith in
     let f : (setDigit j (w / 2) x * 2 + w % 2) / 2 ≡ setDigit j (w / 2) x = omega arith in
-    ap₂ (λ (a b : ℕ). a ∷ digits n b) e f ∙ ap (λ (l : List ℕ). w % 2 ∷ l) (digits-set n j (w / 2) x h)
+    ap₂ (λ (a b : ℕ). a ∷ binaryDigits n b) e f ∙ ap (λ (l : List ℕ). w % 2 ∷ l) (digits-set n j (w / 2) x h)
 
 twice : (a p : ℕ) → a * (2 * p) ≡ 2 * (a * p)
 twice a p = sym (mul-assoc a 2 p) ∙ ap (λ (x : ℕ). x * p) (mul-comm a 2) ∙ mul-assoc 2 a p
@@ -82,19 +82,19 @@ set-back [] ys k x = let e : 0 + k ≡ k = omega arith in rw e
 set-back (a ∷ xs) ys k x = let e : suc (length xs) + k ≡ suc (length xs + k) = omega arith in rw e (ap (λ (l : List ℕ). a ∷ l) (set-back xs ys k x))
 
 -- where a high digit stands
-high-place : (v k : ℕ) → 64 ≤ k → length (digits 64 v) + (k - 64) ≡ k
+high-place : (v k : ℕ) → 64 ≤ k → length (binaryDigits 64 v) + (k - 64) ≡ k
 high-place v k h = omega (arith, digits-length 64 v)
 
 module _ (ws : List ℕ) (k : ℕ) where
-  pub bit-low : k < 64 → getD (digits 64 (getD ws 0 0)) k 0 ≡ getD (bitsOf ws) k 0
+  pub bit-low : k < 64 → getD (binaryDigits 64 (getD ws 0 0)) k 0 ≡ getD (bitsOf ws) k 0
   unfolding bitsOf
-  bit-low h = sym (List·getD-append (digits 64 (getD ws 0 0)) (digits 64 (getD ws 1 0)) 0 k (omega (arith, digits-length 64 (getD ws 0 0))))
+  bit-low h = sym (List·getD-append (binaryDigits 64 (getD ws 0 0)) (binaryDigits 64 (getD ws 1 0)) 0 k (omega (arith, digits-length 64 (getD ws 0 0))))
 
-  pub bit-high : 64 ≤ k → getD (digits 64 (getD ws 1 0)) (k - 64) 0 ≡ getD (bitsOf ws) k 0
+  pub bit-high : 64 ≤ k → getD (binaryDigits 64 (getD ws 1 0)) (k - 64) 0 ≡ getD (bitsOf ws) k 0
   unfolding bitsOf
   bit-high h =
-      sym (getD-append-add (digits 64 (getD ws 0 0)) (digits 64 (getD ws 1 0)) (k - 64) 0)
-      ∙ ap (λ (i : ℕ). getD (digits 64 (getD ws 0 0) ++ digits 64 (getD ws 1 0)) i 0) (high-place (getD ws 0 0) k h)
+      sym (getD-append-add (binaryDigits 64 (getD ws 0 0)) (binaryDigits 64 (getD ws 1 0)) (k - 64) 0)
+      ∙ ap (λ (i : ℕ). getD (binaryDigits 64 (getD ws 0 0) ++ binaryDigits 64 (getD ws 1 0)) i 0) (high-place (getD ws 0 0) k h)
 
   pub with-low : (x : ℕ) → k < 64 → setDigit k (getD ws 0 0) x ∷ getD ws 1 0 ∷ [] ≡ withBit ws k x
   unfolding withBit
@@ -109,18 +109,18 @@ module _ (ws : List ℕ) (k : ℕ) where
   unfolding bitsOf
   bits-set x h = elim (decLe 64 k) [ yes l ↦ at-high l | no l ↦ at-low (omega arith) ]
     where
-      at-low : k < 64 → digits 64 (getD (withBit ws k x) 0 0) ++ digits 64 (getD (withBit ws k x) 1 0) ≡ set (digits 64 (getD ws 0 0) ++ digits 64 (getD ws 1 0)) k x
+      at-low : k < 64 → binaryDigits 64 (getD (withBit ws k x) 0 0) ++ binaryDigits 64 (getD (withBit ws k x) 1 0) ≡ set (binaryDigits 64 (getD ws 0 0) ++ binaryDigits 64 (getD ws 1 0)) k x
       at-low l =
           rw (← with-low x l)
-          (ap (λ (ds : List ℕ). ds ++ digits 64 (getD ws 1 0)) (digits-set 64 k (getD ws 0 0) x h)
-          ∙ sym (set-append-left (digits 64 (getD ws 0 0)) (digits 64 (getD ws 1 0)) k x (omega (arith, digits-length 64 (getD ws 0 0)))))
+          (ap (λ (ds : List ℕ). ds ++ binaryDigits 64 (getD ws 1 0)) (digits-set 64 k (getD ws 0 0) x h)
+          ∙ sym (set-append-left (binaryDigits 64 (getD ws 0 0)) (binaryDigits 64 (getD ws 1 0)) k x (omega (arith, digits-length 64 (getD ws 0 0)))))
 
-      at-high : 64 ≤ k → digits 64 (getD (withBit ws k x) 0 0) ++ digits 64 (getD (withBit ws k x) 1 0) ≡ set (digits 64 (getD ws 0 0) ++ digits 64 (getD ws 1 0)) k x
+      at-high : 64 ≤ k → binaryDigits 64 (getD (withBit ws k x) 0 0) ++ binaryDigits 64 (getD (withBit ws k x) 1 0) ≡ set (binaryDigits 64 (getD ws 0 0) ++ binaryDigits 64 (getD ws 1 0)) k x
       at-high l =
           rw (← with-high x l)
-          (ap (λ (ds : List ℕ). digits 64 (getD ws 0 0) ++ ds) (digits-set 64 (k - 64) (getD ws 1 0) x h)
-          ∙ sym (set-back (digits 64 (getD ws 0 0)) (digits 64 (getD ws 1 0)) (k - 64) x)
-          ∙ ap (λ (i : ℕ). set (digits 64 (getD ws 0 0) ++ digits 64 (getD ws 1 0)) i x) (high-place (getD ws 0 0) k l))
+          (ap (λ (ds : List ℕ). binaryDigits 64 (getD ws 0 0) ++ ds) (digits-set 64 (k - 64) (getD ws 1 0) x h)
+          ∙ sym (set-back (binaryDigits 64 (getD ws 0 0)) (binaryDigits 64 (getD ws 1 0)) (k - 64) x)
+          ∙ ap (λ (i : ℕ). set (binaryDigits 64 (getD ws 0 0) ++ binaryDigits 64 (getD ws 1 0)) i x) (high-place (getD ws 0 0) k l))
 
 pub bits-length : (ws : List ℕ) → length (bitsOf ws) ≡ 128
 unfolding bitsOf

@@ -13,9 +13,9 @@ use Rattle.binders.specs.declared.Use.the-variants as use·
 -- ---- numbers of 0 and 1, a bit each
 
 -- the n lowest binary digits of a word, lowest first
-unfoldable pub digits : ℕ → ℕ → List ℕ
-digits zero w = []
-digits (suc n) w = w % 2 ∷ digits n (w / 2)
+unfoldable pub binaryDigits : ℕ → ℕ → List ℕ
+binaryDigits zero w = []
+binaryDigits (suc n) w = w % 2 ∷ binaryDigits n (w / 2)
 
 -- the word whose digit j is x
 unfoldable pub setDigit : ℕ → ℕ → ℕ → ℕ
@@ -24,7 +24,7 @@ setDigit (suc j) w x = setDigit j (w / 2) x * 2 + w % 2
 
 -- the 128 digits of two words
 unfoldable pub bitsOf : List ℕ → List ℕ
-bitsOf ws = digits 64 (getD ws 0 0) ++ digits 64 (getD ws 1 0)
+bitsOf ws = binaryDigits 64 (getD ws 0 0) ++ binaryDigits 64 (getD ws 1 0)
 
 -- the words whose digit k is x
 unfoldable pub withBit : List ℕ → ℕ → ℕ → List ℕ

@@ -3,7 +3,7 @@
 ghost use mathlib.Core.Path.{_≡_};
 ghost use Prim.Native.Nat.{_<_};
 ghost use lib.ListN.{getD};
-ghost use Rattle.binders.specs.Stacks.{digits, setDigit, bitsOf, withBit, binderOf, noBinders, slotOf, sharedUse, linearUse};
+ghost use Rattle.binders.specs.Stacks.{binaryDigits, setDigit, bitsOf, withBit, binderOf, noBinders, slotOf, sharedUse, linearUse};
 
 // For each binder in scope its type number, its sort (0 sharable, 1 linear), and for a linear one if it is used (0 or 1): sorts and
 // marks are a bit each, so that a level of the walk takes little stack.
@@ -72,7 +72,7 @@ pub fn use_linear(count: usize, i: usize, ty: u8, sort: u8, mark: u8) -> Use
 // Bit j of a word.
 fn digit(word: u64, j: usize) -> u8
     requires { ⌜ j < 64 ⌝ }
-    ensures { λ r. ⌜ r ≡ getD (digits 64 word) j 0 ⌝ }
+    ensures { λ r. ⌜ r ≡ getD (binaryDigits 64 word) j 0 ⌝ }
 {
     ((word >> j) % 2) as u8
 }

@@ -12,7 +12,7 @@ use Rattle.calculus.specs.Lean.{root, lean}
 use Rattle.calculus.specs.Makers.{makersOf}
 use Rattle.calculus.specs.Translate.{full, Wish, answer, saidOf, outOf, Call, call}
 use Rattle.calculus.specs.Known.{P1, P2, P3}
-use Rattle.calculus.specs.Useless.{Program, refusesAll, writesP1, writesNothing, longer, inventsLength, leanCopiesFull, Breaks}
+use Rattle.calculus.specs.Useless.{Program, refusesAll, writesP1, writesNothing, longer, inventsLength, leanCopiesFull, BreaksContract}
 use Rattle.calculus.proofs.Answers.{refused≢good, good-inj}
 
 -- a working memory of 32,768 numbers, and outputs of zeros
@@ -68,7 +68,7 @@ out-of e = ap (λ (c : Call). c .out) e
 
 -- ---- the four, and the fifth
 
-pub refuses-all-breaks : (number place : ℕ) → Breaks (refusesAll number place)
+pub refuses-all-breaks : (number place : ℕ) → BreaksContract (refusesAll number place)
 refuses-all-breaks number place = record {
   wish = fullPlain;
   sheet = P1 .sheet;
@@ -77,7 +77,7 @@ refuses-all-breaks number place = record {
   differs = λ e. refused≢good (said-of e ∙ says fullPlain (P1 .sheet) (zeros 7) ∙ said-P1);
 }
 
-pub writes-P1-breaks : Breaks writesP1
+pub writes-P1-breaks : BreaksContract writesP1
 writes-P1-breaks = record {
   wish = fullPlain;
   sheet = P2 .sheet;
@@ -86,7 +86,7 @@ writes-P1-breaks = record {
   differs = λ e. let h : _≡_ {A = ℕ} 7 9 = good-inj (said-of e ∙ says fullPlain (P2 .sheet) (zeros 9) ∙ said-P2) in omega arith;
 }
 
-pub writes-nothing-breaks : (n : ℕ) → Breaks (writesNothing n)
+pub writes-nothing-breaks : (n : ℕ) → BreaksContract (writesNothing n)
 writes-nothing-breaks n = record {
   wish = fullPlain;
   sheet = P1 .sheet;
@@ -97,7 +97,7 @@ writes-nothing-breaks n = record {
       omega arith;
 }
 
-pub invents-length-breaks : (k : ℕ) → Breaks (inventsLength k)
+pub invents-length-breaks : (k : ℕ) → BreaksContract (inventsLength k)
 invents-length-breaks k = record {
   wish = fullPlain;
   sheet = P1 .sheet;
@@ -109,7 +109,7 @@ invents-length-breaks k = record {
       omega arith;
 }
 
-pub lean-copies-full-breaks : Breaks leanCopiesFull
+pub lean-copies-full-breaks : BreaksContract leanCopiesFull
 lean-copies-full-breaks = record {
   wish = leanPlain;
   sheet = P3 .sheet;

@@ -28,6 +28,11 @@ abbrev pub targets : List Wire → ℕ → ℕ
 targets [] i = 0
 targets (w ∷ ws) i = tally i (w .to) + targets ws i
 
+-- a wire runs to input i
+abbrev pub hasWire : List Wire → ℕ → Bool
+hasWire [] i = false
+hasWire (w ∷ ws) i = eqb (w .to) i || hasWire ws i
+
 -- ---- x is an output that an element has
 
 abbrev pub isOut : List Element → ℕ → Bool

@@ -330,8 +330,8 @@ leanNodes = record { lean = true; plain = false }
 abbrev bytesOf : Wish → List ℕ → Answer (List ℕ)
 bytesOf w s = answer 32768 w s 57728
 
-unfoldable pub run : List ℕ → Answer Both
-run s = do
+unfoldable pub netlistsOf : List ℕ → Answer Both
+netlistsOf s = do
   m ← full s
   f ← bytesOf fullPlain s
   fn ← bytesOf fullNodes s
@@ -398,7 +398,7 @@ plains (refused why) = []
 
 -- a row, as the definitions answer and as the documents have it
 abbrev pub answers : Row → Answer Both × Lacking × List (Answer Net) × List (List ℕ) × List Text
-answers r = (run (r .sheet), lacking (r .sheet) (r .result), reads (r .result), dropped (r .result), map (λ _. listing (r .sheet)) (r .texts))
+answers r = (netlistsOf (r .sheet), lacking (r .sheet) (r .result), reads (r .result), dropped (r .result), map (λ _. listing (r .sheet)) (r .texts))
 
 abbrev pub expected : Row → Answer Both × Lacking × List (Answer Net) × List (List ℕ) × List Text
 expected r = (r .result, lacks (r .result), nets (r .result), plains (r .result), r .texts)

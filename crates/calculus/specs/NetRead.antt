@@ -94,11 +94,11 @@ pinsIn (wire w ∷ rs) = pinsIn rs
 pinsIn (pin n ∷ rs) = n ∷ pinsIn rs
 
 -- a pin's bytes do not tell input from output: the elements do
-abbrev pub terminalOf : List Element → ℕ → Terminal
-terminalOf es n = cond (isOut es n) (out n) (inp n)
+abbrev pub pinTerminal : List Element → ℕ → Terminal
+pinTerminal es n = cond (isOut es n) (out n) (inp n)
 
 abbrev pub netFrom : List Item → Net
-netFrom rs = record { elements = elementsIn rs; wires = wiresIn rs; pins = map (terminalOf (elementsIn rs)) (pinsIn rs) }
+netFrom rs = record { elements = elementsIn rs; wires = wiresIn rs; pins = map (pinTerminal (elementsIn rs)) (pinsIn rs) }
 
 unfoldable pub readNet : List ℕ → Answer Net
 readNet s = do

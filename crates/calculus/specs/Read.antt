@@ -162,36 +162,36 @@ headAt E more s types at n = do
   good k
 
 -- the node of a record with bytes x and y behind the kind; `go` reads a subterm at an offset, with so many nodes before it
-abbrev pub nodeAt : NodeKind → ℕ → ℕ → ℕ → ℕ → (ℕ → ℕ → Answer Got) → Answer Got
-nodeAt k11 x y next n go = got (var x) next n
-nodeAt k12 x y next n go = got (lvar x) next n
-nodeAt k13 x y next n go = do
+abbrev pub nodeOfKind : NodeKind → ℕ → ℕ → ℕ → ℕ → (ℕ → ℕ → Answer Got) → Answer Got
+nodeOfKind k11 x y next n go = got (var x) next n
+nodeOfKind k12 x y next n go = got (lvar x) next n
+nodeOfKind k13 x y next n go = do
   e ← go next n
   got (fun x (e .term)) (e .next) (e .count)
-nodeAt k14 x y next n go = do
+nodeOfKind k14 x y next n go = do
   f ← go next n
   a ← go (f .next) (f .count)
   got (app (f .term) (a .term)) (a .next) (a .count)
-nodeAt k15 x y next n go = do
+nodeOfKind k15 x y next n go = do
   e ← go next n
   got (lfun x (e .term)) (e .next) (e .count)
-nodeAt k16 x y next n go = do
+nodeOfKind k16 x y next n go = do
   f ← go next n
   a ← go (f .next) (f .count)
   got (lapp (f .term) (a .term)) (a .next) (a .count)
-nodeAt k17 x y next n go = do
+nodeOfKind k17 x y next n go = do
   a ← go next n
   b ← go (a .next) (a .count)
   got (pair x (a .term) (b .term)) (b .next) (b .count)
-nodeAt k18 x y next n go = do
+nodeOfKind k18 x y next n go = do
   a ← go next n
   e ← go (a .next) (a .count)
   got (proj (a .term) (e .term)) (e .next) (e .count)
-nodeAt k19 x y next n go = do
+nodeOfKind k19 x y next n go = do
   e ← go next n
   got (fix x (e .term)) (e .next) (e .count)
-nodeAt k1A x y next n go = got (con x y) next n
-nodeAt k1B x y next n go = do
+nodeOfKind k1A x y next n go = got (con x y) next n
+nodeOfKind k1B x y next n go = do
   a ← go next n
   e ← go (a .next) (a .count)
   got (name (a .term) (e .term)) (e .next) (e .count)
@@ -203,7 +203,7 @@ readTerm E zero s types at n = do
   refuse 8 at
 readTerm E (suc more) s types at n = do
   k ← headAt E (suc more) s types at n
-  nodeAt k (byte s (at + 1)) (byte s (at + 2)) (at + 1 + nodeBody k) (n + 1) (λ next count. readTerm E more s types next count)
+  nodeOfKind k (byte s (at + 1)) (byte s (at + 2)) (at + 1 + nodeBody k) (n + 1) (λ next count. readTerm E more s types next count)
 
 -- ---- the sheet
 

@@ -19,6 +19,11 @@ abbrev pub All {ℓ} : {A : Type ℓ} → (A → Type 0) → List A → Type 0
 All P [] = Unit {0}
 All P (x ∷ xs) = P x × All P xs
 
+-- x stands in a list
+pub data Among {A : Type 0} (x : A) : List A → Type 0 where
+  here : {xs : List A} → Among x (x ∷ xs)
+  there : {y : A} {xs : List A} → Among x xs → Among x (y ∷ xs)
+
 -- terminals i and o are equal at each of n ticks
 abbrev pub Same : ℕ → Bits → ℕ → ℕ → Type 0
 Same n β i o = (t : ℕ) → t < n → β i t ≡ β o t

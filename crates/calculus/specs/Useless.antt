@@ -37,7 +37,7 @@ abbrev pub leanCopiesFull : Program
 leanCopiesFull w s out work = call (record { lean = false; plain = w .plain }) s out work
 
 -- a program breaks the contract: on some input it leaves something else than a call
-pub record Breaks (program : Program) : Type 0 where
+pub record BreaksContract (program : Program) : Type 0 where
   pub wish : Wish
   pub sheet : List ℕ
   pub out : List ℕ

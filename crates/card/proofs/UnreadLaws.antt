@@ -18,8 +18,8 @@ use Rattle.calculus.specs.Net.{Terminal, inp, out, Interface, Element, point, p
 use Rattle.calculus.specs.Lean.{root, lean}
 use Rattle.calculus.specs.Inputs.{isOut}
 use Rattle.calculus.specs.Record.{All}
+use Rattle.circuit_theorems.specs.Terminals.{has}
 use Rattle.circuit_theorems.specs.Formed.{Shown}
-use Rattle.circuit_theorems.proofs.Rings.{has}
 use Rattle.circuit_theorems.proofs.Lists.{all-append, all-map}
 use Rattle.circuit_theorems.proofs.BackLaws.{backs-out}
 use Rattle.circuit_theorems.proofs.RootLaws.{root-reached}
@@ -30,7 +30,7 @@ use Rattle.memory.specs.Map.{elementsAt, stackAt, memorySize, region, elementsF
 use Rattle.netlist.specs.Elements.{outputOf, after, afterAll}
 use Rattle.netlist.proofs.Elements.{after-rises}
 use Rattle.lean.specs.Table.{entry, Whole}
-use Rattle.lean.specs.InMemory.{undriven, keptIn, keepIn, inputIn, inputsIn, elementIn, wiresIn, pinIn}
+use Rattle.lean.specs.InMemory.{undriven, keptIn, keepIn, inputIn, inputsIn, elementIn, leanWiresIn, pinIn}
 use Rattle.lean.specs.Fitting.{DriversLow}
 use Rattle.lean.proofs.DriverLaws.{rising, output-below, driver-out}
 use Rattle.lean.proofs.KindLaws.{region-next, region-end, output-low, first-low, part-low}
@@ -217,7 +217,7 @@ module _ {w : List ℕ} (d : DriversLow w) where
   inputs-sources (suc c) i l =
       sources-append (inputIn w i) (inputsIn w c (i + 1)) ∙ rw (input-sources i (omega arith), inputs-sources c (i + 1) (omega arith))
 
-  wires-sources : (ks : List ℕ) (n : ℕ) → afterAll ks n ≤ 8192 → 8192 ≤ ringFrom w ks n → map (λ (v : Wire). v .from) (wiresIn w (elementsFrom ks n)) ≡ partSources w ks n
+  wires-sources : (ks : List ℕ) (n : ℕ) → afterAll ks n ≤ 8192 → 8192 ≤ ringFrom w ks n → map (λ (v : Wire). v .from) (leanWiresIn w (elementsFrom ks n)) ≡ partSources w ks n
   wires-sources [] n l r = refl
   wires-sources (k ∷ ks) n l r =
       elim (ℕ-discrete k 7) [
@@ -227,7 +227,7 @@ module _ {w : List ℕ} (d : DriversLow w) where
             let h = part-low k n 8192 y low in
             let e = wires-sources ks (n + partAt k .inputs + 1) (rw (ne-eqb k 7 y) at l) (rw (ne-eqb k 7 y) at r) in
             rw (ne-eqb k 7 y)
-            (sources-append (inputsIn w (partAt k .inputs) n) (wiresIn w (elementsFrom ks (n + partAt k .inputs + 1))) ∙ rw (inputs-sources (partAt k .inputs) n (omega arith), e))
+            (sources-append (inputsIn w (partAt k .inputs) n) (leanWiresIn w (elementsFrom ks (n + partAt k .inputs + 1))) ∙ rw (inputs-sources (partAt k .inputs) n (omega arith), e))
       ]
     where
       none : (u b : Bool) (rest : ℕ) → n < 8192 → 8192 ≤ cond (not u && b) n rest
@@ -237,13 +237,13 @@ module _ {w : List ℕ} (d : DriversLow w) where
       none false true rest h e = absurd (omega arith)
       none false false rest h e = (e, refl)
 
-      at-point : k ≡ 7 → (8192 ≤ ringFrom w ks (after k n) → map (λ (v : Wire). v .from) (wiresIn w (elementsFrom ks (after k n))) ≡ partSources w ks (after k n))
-          → map (λ (v : Wire). v .from) (wiresIn w (elementsFrom (k ∷ ks) n)) ≡ partSources w (k ∷ ks) n
+      at-point : k ≡ 7 → (8192 ≤ ringFrom w ks (after k n) → map (λ (v : Wire). v .from) (leanWiresIn w (elementsFrom ks (after k n))) ≡ partSources w ks (after k n))
+          → map (λ (v : Wire). v .from) (leanWiresIn w (elementsFrom (k ∷ ks) n)) ≡ partSources w (k ∷ ks) n
       at-point y f =
           let h : n < 8192 = first-low k n 8192 (omega (arith, after-rises ks (after k n))) in
           let p = none (undriven w n) (keptIn w (point n)) (ringFrom w ks (n + 2)) h (rw (eq-eqb k 7 y) at r) in
-          let g : 8192 ≤ ringFrom w ks (n + 2) → map (λ (v : Wire). v .from) (wiresIn w (elementsFrom ks (n + 2))) ≡ partSources w ks (n + 2) = rw (eq-eqb k 7 y) at f in
-          rw (eq-eqb k 7 y) (ap (λ (x : List Wire). map (λ (v : Wire). v .from) (x ++ wiresIn w (elementsFrom ks (n + 2)))) (p .1) ∙ g (p .0))
+          let g : 8192 ≤ ringFrom w ks (n + 2) → map (λ (v : Wire). v .from) (leanWiresIn w (elementsFrom ks (n + 2))) ≡ partSources w ks (n + 2) = rw (eq-eqb k 7 y) at f in
+          rw (eq-eqb k 7 y) (ap (λ (x : List Wire). map (λ (v : Wire). v .from) (x ++ leanWiresIn w (elementsFrom ks (n + 2)))) (p .1) ∙ g (p .0))
 
 -- ---- the whole
 
@@ -416,7 +416,7 @@ module _ (w : List ℕ) (e k p : ℕ) (q : Whole w e k p) where
 
   module _ (no-ring : 8192 ≤ ringFrom w kinds 0) where
     abbrev told : Net
-    told = record { elements = keepIn w (elementsFrom kinds 0); wires = wiresIn w (elementsFrom kinds 0); pins = map (λ c. pinIn w (terminalOf c)) codes }
+    told = record { elements = keepIn w (elementsFrom kinds 0); wires = leanWiresIn w (elementsFrom kinds 0); pins = map (λ c. pinIn w (terminalOf c)) codes }
 
     is-seen : (b : Bool) → eqb (cond b seen 65535) seen ≡ b
     is-seen true = eq-eqb seen seen refl

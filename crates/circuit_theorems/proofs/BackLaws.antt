@@ -14,8 +14,9 @@ use Rattle.calculus.specs.Net.{Element, point, part, Net}
 use Rattle.calculus.specs.Lean.{driver, isPin, backIn, back, backs, lowest, root, Says, Sentences}
 use Rattle.calculus.specs.Record.{All}
 use Rattle.calculus.specs.Inputs.{isOut}
+use Rattle.circuit_theorems.specs.Terminals.{has}
 use Rattle.circuit_theorems.specs.Formed.{Rising, Formed}
-use Rattle.circuit_theorems.proofs.Rings.{has, outs, moves-in}
+use Rattle.circuit_theorems.proofs.Rings.{pointOuts, moves-in}
 use Rattle.circuit_theorems.proofs.RootLaws.{root-stays, root-back, root-lowest, only-root}
 use Rattle.circuit_theorems.proofs.Lists.{all-at}
 use Rattle.circuit_theorems.proofs.Terminals.{pointIn, out-low, outs-out, driver-is}
@@ -48,7 +49,7 @@ module _ (m : Net) where
   back-pin i u = pin-in (m .elements) i u
 
   -- an output that is no point's stays
-  pub back-other : (o : ℕ) → (T (has (outs (m .elements)) o) → ⊥) → back m o ≡ o
+  pub back-other : (o : ℕ) → (T (has (pointOuts (m .elements)) o) → ⊥) → back m o ≡ o
   back-other o v = ⊎-elim (λ q. q) (λ t. absurd (v t)) (moves-in m (m .elements) o)
 
   -- an element that is a part: its output stays
@@ -57,11 +58,11 @@ module _ (m : Net) where
   PartStays (part p i) = back m (i + partAt p .inputs) ≡ i + partAt p .inputs
 
   -- from the first terminal of an element on, only it and those behind it count
-  parts-in : (es : List Element) (n e : ℕ) → Rising es n e → ((x : ℕ) → n ≤ x → T (has (outs (m .elements)) x) → T (has (outs es) x)) → All PartStays es
+  parts-in : (es : List Element) (n e : ℕ) → Rising es n e → ((x : ℕ) → n ≤ x → T (has (pointOuts (m .elements)) x) → T (has (pointOuts es) x)) → All PartStays es
   parts-in [] n e a h = tt
   parts-in (point i ∷ es) n e a h =
       let r = a .0 in
-      (tt, parts-in es (i + 2) e (a .1) (λ x l t. or-elim (eqb (i + 1) x) (has (outs es) x) (h x (omega arith) t) (λ u. let q = eqb→eq (i + 1) x u in absurd (omega arith)) (λ u. u)))
+      (tt, parts-in es (i + 2) e (a .1) (λ x l t. or-elim (eqb (i + 1) x) (has (pointOuts es) x) (h x (omega arith) t) (λ u. let q = eqb→eq (i + 1) x u in absurd (omega arith)) (λ u. u)))
   parts-in (part p i ∷ es) n e a h =
       let r = a .0 in (
         back-other (i + partAt p .inputs) (λ t. let q = out-low es (i + partAt p .inputs + 1) e (i + partAt p .inputs) (a .1) (outs-out es _ (h _ (omega arith) t)) in omega arith),

@@ -16,7 +16,7 @@ use Rattle.calculus.specs.Lean.{pointCount, lean}
 use Rattle.calculus.specs.Record.{All}
 use Rattle.circuit_theorems.specs.Formed.{Tiled, Rising}
 use Rattle.calculus.specs.Translate.{full}
-use Rattle.circuit_theorems.specs.Terminals.{terminals}
+use Rattle.circuit_theorems.specs.Terminals.{terminalCount}
 use Rattle.circuit_theorems.proofs.Lists.{all-map}
 use Rattle.circuit_theorems.proofs.Terminals.{tiled-rising, rising-end}
 use Rattle.circuit_theorems.proofs.Drivers.{turns-size, Driven, term-driven, opposite, dirs-left, dirs-in}
@@ -24,7 +24,7 @@ use Rattle.circuit_theorems.specs.Scope.{dirs, Env, env-end}
 use Rattle.circuit_theorems.proofs.Outputs.{tiled, EndHolds, names-below}
 use Rattle.circuit_theorems.proofs.Counts.{part-inputs, elements-few, wires-few, bytes-few, lean-bytes}
 use Rattle.sheet_theorems.proofs.Laying.{laid}
-use Rattle.circuit_theorems.proofs.Main.{Accepts, accepts, formed}
+use Rattle.circuit_theorems.proofs.Main.{AcceptedAs, accepts, formed}
 
 -- ---- elements
 
@@ -113,7 +113,7 @@ elements-made Θ e env n =
 -- ---- terminals
 
 -- the next free terminal, counted without making
-pub next-is : (Θ : Table) (e : Term) (env : List Bound) (n : ℕ) → make Θ e env n .next ≡ n + terminals Θ e
+pub next-is : (Θ : Table) (e : Term) (env : List Bound) (n : ℕ) → make Θ e env n .next ≡ n + terminalCount Θ e
 next-is Θ (var i) env n = omega arith
 next-is Θ (lvar i) env n = omega arith
 next-is Θ (fun t e) env n = let θ = leftOf (tree Θ t) in omega (arith, next-is Θ e (binder θ n ∷ env) (n + 2 * size θ))
@@ -133,7 +133,7 @@ left-size (arrow a b) = omega arith
 left-size (lolli a b) = omega arith
 
 -- with types of at most 128 bits, a node makes at most 256 terminals: for a readable sheet at most 524,288
-pub terminals-few : (Θ : Table) (e : Term) → ((t : ℕ) → size (tree Θ t) ≤ 128) → terminals Θ e ≤ 256 * nodes e
+pub terminals-few : (Θ : Table) (e : Term) → ((t : ℕ) → size (tree Θ t) ≤ 128) → terminalCount Θ e ≤ 256 * nodes e
 terminals-few Θ (var i) h = omega arith
 terminals-few Θ (lvar i) h = omega arith
 terminals-few Θ (fun t e) h = omega (arith, h t, left-size (tree Θ t), terminals-few Θ e h)
@@ -192,18 +192,18 @@ tiled-end (point i ∷ es) n e f a b = tiled-end es (n + 2) e f (a .1) (b .1)
 tiled-end (part p i ∷ es) n e f a b = tiled-end es (n + partAt p .inputs + 1) e f (a .1) (b .1)
 
 -- the last terminal of an element is below N
-abbrev pub Below : ℕ → Element → Type 0
-Below N (point i) = i + 1 < N
-Below N (part p i) = i + partAt p .inputs < N
+abbrev pub ElementBelow : ℕ → Element → Type 0
+ElementBelow N (point i) = i + 1 < N
+ElementBelow N (part p i) = i + partAt p .inputs < N
 
-rising-below : (N : ℕ) (es : List Element) (n e : ℕ) → Rising es n e → e ≤ N → All (Below N) es
+rising-below : (N : ℕ) (es : List Element) (n e : ℕ) → Rising es n e → e ≤ N → All (ElementBelow N) es
 rising-below N [] n e a h = tt
 rising-below N (point i ∷ es) n e a h = (omega (arith, rising-end es (i + 2) e (a .1)), rising-below N es (i + 2) e (a .1) h)
 rising-below N (part p i ∷ es) n e a h = (omega (arith, rising-end es (i + partAt p .inputs + 1) e (a .1)), rising-below N es (i + partAt p .inputs + 1) e (a .1) h)
 
 -- every terminal that is made or named is below 8,192
-pub record Names (m : Net) : Type 0 where
-  pub elements : All (Below 8192) (m .elements)
+pub record NumbersLow (m : Net) : Type 0 where
+  pub elements : All (ElementBelow 8192) (m .elements)
   pub wires : All (λ w. (w .from < 8192) × (w .to < 8192)) (m .wires)
   pub pins : All (λ p. number p < 8192) (m .pins)
 
@@ -211,7 +211,7 @@ pin-below : (p : Terminal) → EndHolds (λ x. x < 8192) (λ x. x < 8192) p → 
 pin-below (inp i) h = h
 pin-below (out o) h = h
 
-names-net : (Θ : Table) (e : Term) → make Θ e [] 0 .next ≤ 8192 → Names (netOf (make Θ e [] 0))
+names-net : (Θ : Table) (e : Term) → make Θ e [] 0 .next ≤ 8192 → NumbersLow (netOf (make Θ e [] 0))
 names-net Θ e h =
     let m = make Θ e [] 0 in
     let r = names-below 8192 Θ e [] 0 tt h in
@@ -233,13 +233,13 @@ module _ (s : List ℕ) (m : Net) (ok : full s ≡ good m) where
   few-wires = let f = formed s m ok in omega (arith, wires-few m (f .net), f .few)
 
   -- pins are the bits of the root's type
-  pub pins-size : (a : Accepts s m) → length (m .pins) ≡ size (tree (a .sheet .table) (a .type))
+  pub pins-size : (a : AcceptedAs s m) → length (m .pins) ≡ size (tree (a .sheet .table) (a .type))
   pins-size a =
       subst (λ (x : Net). length (x .pins) ≡ size (tree (a .sheet .table) (a .type))) (a .is)
       (made-side (a .typed) [] env-end 0 ∙ ap size (made-type (a .typed) [] env-end 0))
 
   -- and a pin is an input exactly at a turned bit
-  pub pins-turned : (a : Accepts s m) → dirs (m .pins) ≡ turns false (tree (a .sheet .table) (a .type))
+  pub pins-turned : (a : AcceptedAs s m) → dirs (m .pins) ≡ turns false (tree (a .sheet .table) (a .type))
   pins-turned a =
       subst (λ (x : Net). dirs (x .pins) ≡ turns false (tree (a .sheet .table) (a .type))) (a .is) (term-driven (a .typed) [] env-end 0 .dirs)
 
@@ -261,5 +261,5 @@ module _ (s : List ℕ) (m : Net) (ok : full s ≡ good m) where
   pub lean-shorter : length (netBytes (lean m)) ≤ length (netBytes m)
   lean-shorter = lean-bytes m (formed s m ok .net)
 
-  pub names : Names m
-  names = let a = accepts s m ok in subst Names (a .is) (names-net (a .sheet .table) (a .sheet .term) (a .few))
+  pub names : NumbersLow m
+  names = let a = accepts s m ok in subst NumbersLow (a .is) (names-net (a .sheet .table) (a .sheet .term) (a .few))

@@ -19,7 +19,7 @@ use Rattle.circuit_theorems.proofs.BackLaws.{backs-out, pin-root}
 use Rattle.circuit_theorems.proofs.Drivers.{drivers, targets-append}
 use Rattle.circuit_theorems.proofs.Outputs.{EndHolds, tiled, outputs}
 use Rattle.circuit_theorems.proofs.Lists.{all-map, all-append, all-cond}
-use Rattle.circuit_theorems.proofs.Terminals.{partIn, within, tiled-rising, made-one, part-made, pin-ins, no-ins, driver-fed}
+use Rattle.circuit_theorems.proofs.Terminals.{partIn, isBetween, tiled-rising, made-one, part-made, pin-ins, no-ins, driver-fed}
 
 -- ---- the full netlist
 
@@ -119,17 +119,17 @@ module _ (m : Net) where
 
     -- ---- where the wires come from
 
-    from-inputs : (k i : ℕ) → ((x : ℕ) → T (within k i x) → T (partIn (m .elements) x)) → All (λ w. InLean (w .from)) (toInputs m k i)
+    from-inputs : (k i : ℕ) → ((x : ℕ) → T (isBetween k i x) → T (partIn (m .elements) x)) → All (λ w. InLean (w .from)) (toInputs m k i)
     from-inputs zero i h = tt
     from-inputs (suc k) i h =
         all-append (λ w. InLean (w .from)) (cond (isPin (m .pins) i) [] (record { from = root m (driver (m .wires) i 0); to = i } ∷ [])) (toInputs m k (i + 1))
         (all-cond (λ w. InLean (w .from)) (isPin (m .pins) i) [] (record { from = root m (driver (m .wires) i 0); to = i } ∷ []) (λ _. tt) (λ u. (fed (not-true _ u), tt)))
-        (from-inputs k (i + 1) (λ x w. h x (or-right (eqb i x) (within k (i + 1) x) w)))
+        (from-inputs k (i + 1) (λ x w. h x (or-right (eqb i x) (isBetween k (i + 1) x) w)))
       where
         fed : isPin (m .pins) i ≡ false → InLean (root m (driver (m .wires) i 0))
         fed u =
             root-kept _ (driver-fed (λ x. T (isOut (m .elements) x)) (m .wires) i 0 (ok .from)
-            (omega (arith, ok .reached i, no-ins (m .pins) i u, part-made (m .elements) i (h i (or-left (eqb i i) (within k (i + 1) i) (eqb-refl i))))))
+            (omega (arith, ok .reached i, no-ins (m .pins) i u, part-made (m .elements) i (h i (or-left (eqb i i) (isBetween k (i + 1) i) (eqb-refl i))))))
 
     from-lean : (es : List Element) → ((x : ℕ) → T (partIn es x) → T (partIn (m .elements) x)) → ((x : ℕ) → T (isOut es x) → T (isOut (m .elements) x))
         → All (λ w. InLean (w .from)) (leanWires m es)
@@ -141,8 +141,8 @@ module _ (m : Net) where
         (from-lean es h (λ x t. g x (or-right (eqb (i + 1) x) (isOut es x) t)))
     from-lean (part p i ∷ es) h g =
         all-append (λ w. InLean (w .from)) (toElement m (part p i)) (leanWires m es)
-        (from-inputs (partAt p .inputs) i (λ x w. h x (or-left (within (partAt p .inputs) i x) (partIn es x) w)))
-        (from-lean es (λ x w. h x (or-right (within (partAt p .inputs) i x) (partIn es x) w)) (λ x t. g x (or-right (eqb (i + partAt p .inputs) x) (isOut es x) t)))
+        (from-inputs (partAt p .inputs) i (λ x w. h x (or-left (isBetween (partAt p .inputs) i x) (partIn es x) w)))
+        (from-lean es (λ x w. h x (or-right (isBetween (partAt p .inputs) i x) (partIn es x) w)) (λ x t. g x (or-right (eqb (i + partAt p .inputs) x) (isOut es x) t)))
 
     lean-shown : (ps : Interface) → All (Shown (m .elements)) ps → All (Shown (keep m (m .elements))) (map (leanPin m) ps)
     lean-shown [] s = tt

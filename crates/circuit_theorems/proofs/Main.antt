@@ -24,7 +24,7 @@ use Rattle.circuit_theorems.proofs.Forming.{Gapless, gapless-net, lean-
 use Rattle.circuit_theorems.proofs.Wiring.{input-once, one-driver, no-driver, wires-run}
 
 -- an accepted sheet: what was read, its derivation, and its netlist
-pub record Accepts (s : List ℕ) (m : Net) : Type 0 where
+pub record AcceptedAs (s : List ℕ) (m : Net) : Type 0 where
   pub sheet : Sheet
   pub reads : readSheet s ≡ good sheet
   pub type : ℕ
@@ -32,7 +32,7 @@ pub record Accepts (s : List ℕ) (m : Net) : Type 0 where
   pub few : make (sheet .table) (sheet .term) [] 0 .next ≤ 8192
   pub is : netOf (make (sheet .table) (sheet .term) [] 0) ≡ m
 
-pub accepts : (s : List ℕ) (m : Net) → full s ≡ good m → Accepts s m
+pub accepts : (s : List ℕ) (m : Net) → full s ≡ good m → AcceptedAs s m
 unfolding full
 accepts s m e =
     on-bind (readSheet s) _ m e λ σ h₁ e₁.

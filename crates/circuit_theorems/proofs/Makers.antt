@@ -18,7 +18,7 @@ use Rattle.calculus.specs.Translate.{full}
 use Rattle.sheet_theorems.specs.Subterms.{subterms}
 use Rattle.sheet_theorems.proofs.StretchHolds.{count-subterms}
 use Rattle.circuit_theorems.specs.Makers.{own, startOf, Makes, MadeAt, Each}
-use Rattle.circuit_theorems.specs.Terminals.{terminals}
+use Rattle.circuit_theorems.specs.Terminals.{terminalCount}
 use Rattle.circuit_theorems.proofs.Drivers.{turns-size}
 use Rattle.circuit_theorems.proofs.Main.{accepts}
 use Rattle.circuit_theorems.proofs.Bounds.{next-is}
@@ -86,7 +86,7 @@ row-makers-append Θ (x ∷ xs) ys k =
 
 -- ---- a term's nodes are its subterms in record order
 
-subterms-own : (Θ : Table) (e : Term) → rowOwn Θ (subterms e) ≡ terminals Θ e
+subterms-own : (Θ : Table) (e : Term) → rowOwn Θ (subterms e) ≡ terminalCount Θ e
 subterms-own Θ (var i) = refl
 subterms-own Θ (lvar i) = refl
 subterms-own Θ (fun t e) = omega (arith, subterms-own Θ e)
@@ -117,7 +117,7 @@ module _ (Θ : Table) where
   row-makers (con p t) k = refl
   row-makers (name a e) k = two-makers a e k (row-makers a (k + 1)) (row-makers e (k + 1 + nodes a))
 
-  two-elements : (f a : Term) (n next : ℕ) (xs ys : List Element) → next ≡ n + terminals Θ f → xs ≡ rowElements Θ (subterms f) n → ys ≡ rowElements Θ (subterms a) next
+  two-elements : (f a : Term) (n next : ℕ) (xs ys : List Element) → next ≡ n + terminalCount Θ f → xs ≡ rowElements Θ (subterms f) n → ys ≡ rowElements Θ (subterms a) next
       → xs ++ ys ≡ rowElements Θ (subterms f ++ subterms a) (n + 0)
   two-elements f a n next xs ys h p q =
       let e : n + 0 ≡ n = omega arith in

@@ -17,7 +17,7 @@ use Rattle.calculus.specs.Net.{Terminal, inp, out, Interface, number, Element, 
 use Rattle.calculus.specs.Record.{All}
 use Rattle.calculus.specs.Inputs.{ins, madeAt, isOut}
 use Rattle.circuit_theorems.specs.Formed.{Rising, Formed}
-use Rattle.calculus.specs.NetRead.{Fits, itemSize, Front, item, ended, twoAt, itemAt, andRest, itemsFrom, elementsIn, wiresIn, pinsIn, terminalOf, netFrom, readNet}
+use Rattle.calculus.specs.NetRead.{Fits, itemSize, Front, item, ended, twoAt, itemAt, andRest, itemsFrom, elementsIn, wiresIn, pinsIn, pinTerminal, netFrom, readNet}
 use Rattle.calculus.proofs.Answers.{good-inj}
 use Rattle.sheet_theorems.proofs.Bytes.{behind}
 use Rattle.circuit_theorems.proofs.Outputs.{EndHolds}
@@ -181,11 +181,11 @@ out-not-made (part p i ∷ es) n e x a t =
 abbrev pub Shows : List Element → Terminal → Type 0
 Shows es t = EndHolds (λ i. madeAt es i ≡ 1) (λ o. T (isOut es o)) t
 
-pub terminal-is : (es : List Element) (e : ℕ) (t : Terminal) → Rising es 0 e → Shows es t → terminalOf es (number t) ≡ t
+pub terminal-is : (es : List Element) (e : ℕ) (t : Terminal) → Rising es 0 e → Shows es t → pinTerminal es (number t) ≡ t
 terminal-is es e (inp i) up a = rw (is-false (isOut es i) (λ u. omega (arith, out-not-made es 0 e i up u)))
 terminal-is es e (out o) up a = rw (T-is (isOut es o) a)
 
-terminals-are : (es : List Element) (e : ℕ) (ts : Interface) → Rising es 0 e → All (Shows es) ts → map (terminalOf es) (map number ts) ≡ ts
+terminals-are : (es : List Element) (e : ℕ) (ts : Interface) → Rising es 0 e → All (Shows es) ts → map (pinTerminal es) (map number ts) ≡ ts
 terminals-are es e [] up a = refl
 terminals-are es e (t ∷ ts) up a = ap₂ (λ (x : Terminal) (xs : Interface). x ∷ xs) (terminal-is es e t up (a .0)) (terminals-are es e ts up (a .1))
 
@@ -197,8 +197,8 @@ net-back m ok =
     let es = m .elements in
     let ws = m .wires in
     let e : elementsIn (itemsOf m) ≡ es = elements-of es ws (m .pins) in
-    ap₂ (λ (x : List Element) (y : List Wire). with x y (map (terminalOf x) (pinsIn (itemsOf m)))) e (wires-of es ws (m .pins))
-    ∙ ap (with es ws) (ap (map (terminalOf es)) (pins-of es ws (m .pins)) ∙ terminals-are es (ok .end) (m .pins) (ok .rising) (pins-show m ok))
+    ap₂ (λ (x : List Element) (y : List Wire). with x y (map (pinTerminal x) (pinsIn (itemsOf m)))) e (wires-of es ws (m .pins))
+    ∙ ap (with es ws) (ap (map (pinTerminal es)) (pins-of es ws (m .pins)) ∙ terminals-are es (ok .end) (m .pins) (ok .rising) (pins-show m ok))
 
 -- ---- the whole
 

@@ -12,12 +12,9 @@ use lib.ListN.{length}
 use Rattle.laws.proofs.Tests.{or-cases, or-left, or-right, by-eqb}
 use Rattle.calculus.specs.Net.{Element, point, part, Net}
 use Rattle.calculus.specs.Lean.{driver, isPin, pointCount, backIn, back, backs}
+use Rattle.circuit_theorems.specs.Terminals.{has}
 
 -- ---- more pigeons than holes
-
-abbrev pub has : List ℕ → ℕ → Bool
-has [] x = false
-has (y ∷ P) x = eqb y x || has P x
 
 abbrev remove : ℕ → List ℕ → List ℕ
 remove q [] = []
@@ -58,22 +55,22 @@ pigeon (suc n) P g h m =
 
 -- ---- steps back
 
-abbrev pub outs : List Element → List ℕ
-outs [] = []
-outs (point i ∷ es) = (i + 1) ∷ outs es
-outs (part p i ∷ es) = outs es
+abbrev pub pointOuts : List Element → List ℕ
+pointOuts [] = []
+pointOuts (point i ∷ es) = (i + 1) ∷ pointOuts es
+pointOuts (part p i ∷ es) = pointOuts es
 
-pub outs-length : (es : List Element) → length (outs es) ≡ pointCount es
+pub outs-length : (es : List Element) → length (pointOuts es) ≡ pointCount es
 outs-length [] = refl
 outs-length (point i ∷ es) = ap suc (outs-length es)
 outs-length (part p i ∷ es) = outs-length es
 
 module _ (m : Net) where
   -- an output stays, or is a point's
-  pub moves-in : (es : List Element) (x : ℕ) → (backIn es m x ≡ x) ⊎ T (has (outs es) x)
+  pub moves-in : (es : List Element) (x : ℕ) → (backIn es m x ≡ x) ⊎ T (has (pointOuts es) x)
   moves-in [] x = inl refl
   moves-in (point i ∷ es) x =
-      by-eqb (λ b. (cond b (cond (isPin (m .pins) i) x (driver (m .wires) i x)) (backIn es m x) ≡ x) ⊎ T (b || has (outs es) x)) (i + 1) x
+      by-eqb (λ b. (cond b (cond (isPin (m .pins) i) x (driver (m .wires) i x)) (backIn es m x) ≡ x) ⊎ T (b || has (pointOuts es) x)) (i + 1) x
       (λ e. inr tt)
       (λ d. moves-in es x)
   moves-in (part p i ∷ es) x = moves-in es x
@@ -93,13 +90,13 @@ module _ (m : Net) where
     pub few : steps ≤ n
     pub same : backs steps m p ≡ p
 
-  stops : (n x : ℕ) → ((k : ℕ) × (k < n) × (back m (backs k m x) ≡ backs k m x)) ⊎ ((k : ℕ) → k < n → T (has (outs (m .elements)) (backs k m x)))
+  stops : (n x : ℕ) → ((k : ℕ) × (k < n) × (back m (backs k m x) ≡ backs k m x)) ⊎ ((k : ℕ) → k < n → T (has (pointOuts (m .elements)) (backs k m x)))
   stops zero x = inr (λ k h. absurd (not-suc-le-zero h))
   stops (suc n) x = go (moves-in (m .elements) (backs n m x)) (stops n x)
     where
-      go : (back m (backs n m x) ≡ backs n m x) ⊎ T (has (outs (m .elements)) (backs n m x))
-          → ((k : ℕ) × (k < n) × (back m (backs k m x) ≡ backs k m x)) ⊎ ((k : ℕ) → k < n → T (has (outs (m .elements)) (backs k m x)))
-          → ((k : ℕ) × (k < suc n) × (back m (backs k m x) ≡ backs k m x)) ⊎ ((k : ℕ) → k < suc n → T (has (outs (m .elements)) (backs k m x)))
+      go : (back m (backs n m x) ≡ backs n m x) ⊎ T (has (pointOuts (m .elements)) (backs n m x))
+          → ((k : ℕ) × (k < n) × (back m (backs k m x) ≡ backs k m x)) ⊎ ((k : ℕ) → k < n → T (has (pointOuts (m .elements)) (backs k m x)))
+          → ((k : ℕ) × (k < suc n) × (back m (backs k m x) ≡ backs k m x)) ⊎ ((k : ℕ) → k < suc n → T (has (pointOuts (m .elements)) (backs k m x)))
       go (inl e) r = inl (n, le-refl (suc n), e)
       go (inr t) (inl (k, h, e)) = inl (k, omega arith, e)
       go (inr t) (inr f) = inr (λ k h. ⊎-elim (λ (e : k ≡ n). rw e t) (λ l. f k l) (eq-or-lt-of-le (le-of-suc-le-suc h)))
@@ -132,6 +129,6 @@ module _ (m : Net) where
           subst (λ (y : ℕ). Round count y) (backs-sub a count x (omega arith))
           (later count (count - a) (backs a m x) (record { steps = b - a; some = omega arith; few = omega arith; same = backs-sub a b x (omega arith) ∙ sym e }))
 
-      ringed : ((k : ℕ) → k < suc count → T (has (outs (m .elements)) (backs k m x))) → Round count (backs count m x)
+      ringed : ((k : ℕ) → k < suc count → T (has (pointOuts (m .elements)) (backs k m x))) → Round count (backs count m x)
       ringed f =
-          comes (pigeon (suc count) (outs (m .elements)) (λ k. backs k m x) (omega (arith, outs-length (m .elements))) f)
+          comes (pigeon (suc count) (pointOuts (m .elements)) (λ k. backs k m x) (omega (arith, outs-length (m .elements))) f)

@@ -10,7 +10,8 @@ use lib.Dec.{T}
 use lib.ListN.{length}
 use Rattle.calculus.specs.Net.{Net}
 use Rattle.calculus.specs.Lean.{back, backs, lowest, root}
-use Rattle.circuit_theorems.proofs.Rings.{has, outs, outs-length, moves-in, backs-add, backs-sub, stay, Round, later, count, rounds}
+use Rattle.circuit_theorems.specs.Terminals.{has}
+use Rattle.circuit_theorems.proofs.Rings.{pointOuts, outs-length, moves-in, backs-add, backs-sub, stay, Round, later, count, rounds}
 
 module _ (m : Net) where
   -- ---- the lowest
@@ -79,7 +80,7 @@ module _ (m : Net) where
 
   -- a netlist without a point: every output stays
   pub still : (o : ℕ) → (back m o ≡ o) ⊎ (1 ≤ count m)
-  still o = ⊎-elim (λ e. inl e) (λ t. inr (omega (arith, some-out (outs (m .elements)) o t, outs-length (m .elements)))) (moves-in m (m .elements) o)
+  still o = ⊎-elim (λ e. inl e) (λ t. inr (omega (arith, some-out (pointOuts (m .elements)) o t, outs-length (m .elements)))) (moves-in m (m .elements) o)
 
   -- the root of the output that drives a point is the root of the point's output
   pub root-back : (o : ℕ) → root m (back m o) ≡ root m o

@@ -14,10 +14,10 @@ use Rattle.circuit_theorems.specs.Formed.{Formed}
 use Rattle.calculus.specs.Record.{Stream, Bits, Law, All, Same, streams, Works, Joined, Possible, PinsShow, PartShows, Outside}
 use Rattle.laws.proofs.Tests.{by-eqb, or-cases, or-left, or-right, T-is, not-true, false-not}
 use Rattle.circuit_theorems.proofs.Lists.{all-map, all-zip, all-append, all-left, all-right, all-cond}
-use Rattle.circuit_theorems.proofs.Terminals.{pointIn, partIn, within}
+use Rattle.circuit_theorems.proofs.Terminals.{pointIn, partIn, isBetween}
 use Rattle.circuit_theorems.proofs.RootLaws.{root-back}
 use Rattle.circuit_theorems.proofs.BackLaws.{back-point, pin-root}
-use Rattle.circuit_theorems.proofs.Wiring.{standIn, Clear, Wired, PinOk, wired-net}
+use Rattle.circuit_theorems.proofs.Wiring.{standIn, StandsApart, Wired, PinOk, wired-net}
 use Rattle.circuit_theorems.proofs.Roots.{root-like}
 
 -- ---- from the full netlist to the lean one
@@ -33,20 +33,20 @@ keep-all : (F : Element → Type 0) (m : Net) (es : List Element) → All F es �
 keep-all F m [] a = tt
 keep-all F m (e ∷ es) a = let r = keep-all F m es (a .1) in all-cond F (kept m e) (e ∷ keep m es) (keep m es) (λ _. (a .0, r)) (λ _. r)
 
-within-here : (k i : ℕ) → T (within (suc k) i i)
-within-here k i = or-left (eqb i i) (within k (i + 1) i) (eqb-refl i)
+within-here : (k i : ℕ) → T (isBetween (suc k) i i)
+within-here k i = or-left (eqb i i) (isBetween k (i + 1) i) (eqb-refl i)
 
 module _ (law : Law) (m : Net) (ok : Wired m) (n : ℕ) (β : Bits) (p : Possible law m n β) where
   fed-like : (i : ℕ) → T (partIn (m .elements) i) → T (not (isPin (m .pins) i)) → Same n β (root m (driver (m .wires) i 0)) i
   fed-like i h u t l =
       root-like n β law m p (driver (m .wires) i 0) t l ∙ driven-like n β (m .wires) (p .wires) i 0 (ok .fed i h (not-true (isPin (m .pins) i) u)) t l
 
-  inputs-like : (k i : ℕ) → ((x : ℕ) → T (within k i x) → T (partIn (m .elements) x)) → All (Joined n β) (toInputs m k i)
+  inputs-like : (k i : ℕ) → ((x : ℕ) → T (isBetween k i x) → T (partIn (m .elements) x)) → All (Joined n β) (toInputs m k i)
   inputs-like zero i h = tt
   inputs-like (suc k) i h =
       all-append (Joined n β) (cond (isPin (m .pins) i) [] (record { from = root m (driver (m .wires) i 0); to = i } ∷ [])) (toInputs m k (i + 1))
       (all-cond (Joined n β) (isPin (m .pins) i) [] (record { from = root m (driver (m .wires) i 0); to = i } ∷ []) (λ _. tt) (λ u. (fed-like i (h i (within-here k i)) u, tt)))
-      (inputs-like k (i + 1) (λ x w. h x (or-right (eqb i x) (within k (i + 1) x) w)))
+      (inputs-like k (i + 1) (λ x w. h x (or-right (eqb i x) (isBetween k (i + 1) x) w)))
 
   lean-wires : (es : List Element) → All (Works law n β) es → ((x : ℕ) → T (partIn es x) → T (partIn (m .elements) x)) → All (Joined n β) (leanWires m es)
   lean-wires [] a h = tt
@@ -56,8 +56,8 @@ module _ (law : Law) (m : Net) (ok : Wired m) (n : ℕ) (β : Bits) (p : Possibl
       (lean-wires es (a .1) h)
   lean-wires (part q i ∷ es) a h =
       all-append (Joined n β) (toElement m (part q i)) (leanWires m es)
-      (inputs-like (partAt q .inputs) i (λ x w. h x (or-left (within (partAt q .inputs) i x) (partIn es x) w)))
-      (lean-wires es (a .1) (λ x w. h x (or-right (within (partAt q .inputs) i x) (partIn es x) w)))
+      (inputs-like (partAt q .inputs) i (λ x w. h x (or-left (isBetween (partAt q .inputs) i x) (partIn es x) w)))
+      (lean-wires es (a .1) (λ x w. h x (or-right (isBetween (partAt q .inputs) i x) (partIn es x) w)))
 
   pub to-lean : Possible law (lean m) n β
   unfolding lean
@@ -75,7 +75,7 @@ module _ (law : Law) (m : Net) (ok : Wired m) (n : ℕ) (α : Bits) (p : Possibl
   streams-same zero i c = refl
   streams-same (suc k) i c = ap₂ _∷_ (ap α (sym (c i (omega arith) (omega arith)))) (streams-same k (i + 1) (λ x lo hi. c x (omega arith) (omega arith)))
 
-  part-works : (q i : ℕ) → Clear m (part q i) → Works law n α (part q i) → Works law n spread (part q i)
+  part-works : (q i : ℕ) → StandsApart m (part q i) → Works law n α (part q i) → Works law n spread (part q i)
   part-works q i c a =
       subst (λ (y : Stream). law q n (streams (partAt q .inputs) i spread) y) (ap α (sym (c (i + partAt q .inputs) (omega arith) (omega arith))))
       (subst (λ (xs : List Stream). law q n xs (α (i + partAt q .inputs))) (streams-same (partAt q .inputs) i (λ x lo hi. c x lo (omega arith))) a)
@@ -84,10 +84,10 @@ module _ (law : Law) (m : Net) (ok : Wired m) (n : ℕ) (α : Bits) (p : Possibl
   rest-of F true e es a = a .1
   rest-of F false e es a = a
 
-  point-joined : (i : ℕ) → Clear m (point i) → (t : ℕ) → spread i t ≡ spread (i + 1) t
+  point-joined : (i : ℕ) → StandsApart m (point i) → (t : ℕ) → spread i t ≡ spread (i + 1) t
   point-joined i c t = rw (c .0, c .1)
 
-  works : (es : List Element) → All (Clear m) es → All (Works law n α) (keep m es) → All (Works law n spread) es
+  works : (es : List Element) → All (StandsApart m) es → All (Works law n α) (keep m es) → All (Works law n spread) es
   works [] c a = tt
   works (point i ∷ es) c a = ((λ t l. point-joined i (c .0) t), works es (c .1) (rest-of (Works law n α) (kept m (point i)) (point i) (keep m es) a))
   works (part q i ∷ es) c a =
@@ -98,13 +98,13 @@ module _ (law : Law) (m : Net) (ok : Wired m) (n : ℕ) (α : Bits) (p : Possibl
   uncond F true w u a = absurd u
   uncond F false w u a = a .0
 
-  wire-within : (k i x : ℕ) → T (within k i x) → T (not (isPin (m .pins) x)) → All (Joined n α) (toInputs m k i) → Same n α (root m (driver (m .wires) x 0)) x
+  wire-within : (k i x : ℕ) → T (isBetween k i x) → T (not (isPin (m .pins) x)) → All (Joined n α) (toInputs m k i) → Same n α (root m (driver (m .wires) x 0)) x
   wire-within zero i x h u a = absurd h
   wire-within (suc k) i x h u a =
       ⊎-elim (λ t. subst (λ (y : ℕ). T (not (isPin (m .pins) y)) → Same n α (root m (driver (m .wires) y 0)) y) (eqb→eq i x t)
       (λ v. uncond (Joined n α) (isPin (m .pins) i) (record { from = root m (driver (m .wires) i 0); to = i }) v (all-left (Joined n α) (cond (isPin (m .pins) i) [] (record { from = root m (driver (m .wires) i 0); to = i } ∷ [])) (toInputs m k (i + 1)) a)) u)
       (λ t. wire-within k (i + 1) x t u (all-right (Joined n α) (cond (isPin (m .pins) i) [] (record { from = root m (driver (m .wires) i 0); to = i } ∷ [])) (toInputs m k (i + 1)) a))
-      (or-cases (eqb i x) (within k (i + 1) x) h)
+      (or-cases (eqb i x) (isBetween k (i + 1) x) h)
 
   wire-to : (es : List Element) (x : ℕ) → T (partIn es x) → T (not (isPin (m .pins) x)) → All (Joined n α) (leanWires m es) → Same n α (root m (driver (m .wires) x 0)) x
   wire-to [] x h u a = absurd h
@@ -112,18 +112,18 @@ module _ (law : Law) (m : Net) (ok : Wired m) (n : ℕ) (α : Bits) (p : Possibl
   wire-to (part q i ∷ es) x h u a =
       ⊎-elim (λ t. wire-within (partAt q .inputs) i x t u (all-left (Joined n α) (toElement m (part q i)) (leanWires m es) a))
       (λ t. wire-to es x t u (all-right (Joined n α) (toElement m (part q i)) (leanWires m es) a))
-      (or-cases (within (partAt q .inputs) i x) (partIn es x) h)
+      (or-cases (isBetween (partAt q .inputs) i x) (partIn es x) h)
 
-  within-le : (k i x : ℕ) → T (within k i x) → (i ≤ x) × (x ≤ i + k)
+  within-le : (k i x : ℕ) → T (isBetween k i x) → (i ≤ x) × (x ≤ i + k)
   within-le zero i x h = absurd h
   within-le (suc k) i x h =
-      ⊎-elim (λ t. let e = eqb→eq i x t in (omega arith, omega arith)) (λ t. let r = within-le k (i + 1) x t in (omega arith, omega arith)) (or-cases (eqb i x) (within k (i + 1) x) h)
+      ⊎-elim (λ t. let e = eqb→eq i x t in (omega arith, omega arith)) (λ t. let r = within-le k (i + 1) x t in (omega arith, omega arith)) (or-cases (eqb i x) (isBetween k (i + 1) x) h)
 
-  part-stands : (es : List Element) → All (Clear m) es → (x : ℕ) → T (partIn es x) → standIn m x ≡ x
+  part-stands : (es : List Element) → All (StandsApart m) es → (x : ℕ) → T (partIn es x) → standIn m x ≡ x
   part-stands [] c x h = absurd h
   part-stands (point i ∷ es) c x h = part-stands es (c .1) x h
   part-stands (part q i ∷ es) c x h =
-      ⊎-elim (λ t. let r = within-le (partAt q .inputs) i x t in c .0 x (r .0) (r .1)) (λ t. part-stands es (c .1) x t) (or-cases (within (partAt q .inputs) i x) (partIn es x) h)
+      ⊎-elim (λ t. let r = within-le (partAt q .inputs) i x t in c .0 x (r .0) (r .1)) (λ t. part-stands es (c .1) x t) (or-cases (isBetween (partAt q .inputs) i x) (partIn es x) h)
 
   abbrev WireOk : Wire → Type 0
   WireOk w = ((pointIn (m .elements) (w .from) ≡ false) × (T (pointIn (m .elements) (w .to)) ⊎ T (partIn (m .elements) (w .to)))) × ((isPin (m .pins) (w .to) ≡ false) × ((d : ℕ) → driver (m .wires) (w .to) d ≡ w .from))
@@ -180,7 +180,7 @@ module _ (law : Law) (m : Net) (ok : Wired m) (n : ℕ) (α : Bits) (p : Possibl
           let e : standIn m i ≡ root m (i + 1) = rw (T-is (pointIn (m .elements) i) h) in
           kept-works (m .elements) i h r w t l ∙ ap (λ (x : ℕ). α x t) (sym (e ∙ r))
 
-  parts-back : (π : Bits) (es : List Element) → All (Clear m) es → All (PartShows n π α) (keep m es) → All (PartShows n π spread) es
+  parts-back : (π : Bits) (es : List Element) → All (StandsApart m) es → All (PartShows n π α) (keep m es) → All (PartShows n π spread) es
   parts-back π [] c a = tt
   parts-back π (point i ∷ es) c a = (tt, parts-back π es (c .1) (rest-of (PartShows n π α) (kept m (point i)) (point i) (keep m es) a))
   parts-back π (part q i ∷ es) c a =

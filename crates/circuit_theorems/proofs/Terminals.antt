@@ -16,8 +16,9 @@ use Rattle.calculus.specs.Net.{Interface, inp, out, Element, point, part, Wire,
 use Rattle.calculus.specs.Lean.{isPin, driver}
 use Rattle.calculus.specs.Record.{All}
 use Rattle.calculus.specs.Inputs.{ins, madeAt, targets, isOut}
+use Rattle.circuit_theorems.specs.Terminals.{has}
 use Rattle.circuit_theorems.specs.Formed.{Tiled, Rising}
-use Rattle.circuit_theorems.proofs.Rings.{has, outs}
+use Rattle.circuit_theorems.proofs.Rings.{pointOuts}
 use Rattle.circuit_theorems.proofs.Lists.{all-map, all-zip}
 
 -- ---- tests
@@ -29,15 +30,15 @@ pointIn (point i ∷ es) x = eqb i x || pointIn es x
 pointIn (part p i ∷ es) x = pointIn es x
 
 -- x is one of k terminals from i on
-abbrev pub within : ℕ → ℕ → ℕ → Bool
-within zero i x = false
-within (suc k) i x = eqb i x || within k (i + 1) x
+abbrev pub isBetween : ℕ → ℕ → ℕ → Bool
+isBetween zero i x = false
+isBetween (suc k) i x = eqb i x || isBetween k (i + 1) x
 
 -- x is an input of a part
 abbrev pub partIn : List Element → ℕ → Bool
 partIn [] x = false
 partIn (point i ∷ es) x = partIn es x
-partIn (part p i ∷ es) x = within (partAt p .inputs) i x || partIn es x
+partIn (part p i ∷ es) x = isBetween (partAt p .inputs) i x || partIn es x
 
 -- the k-th element is this point
 pub point-at : (es : List Element) (k i : ℕ) (d : Element) → k < length es → getD es k d ≡ point i → T (pointIn es i)
@@ -102,9 +103,9 @@ out-not-in (part p i ∷ es) n e x a h k =
     (λ t. out-not-in es (i + partAt p .inputs + 1) e x (a .1) t k)
 
 -- a point's output is an output
-pub outs-out : (es : List Element) (x : ℕ) → T (has (outs es) x) → T (isOut es x)
+pub outs-out : (es : List Element) (x : ℕ) → T (has (pointOuts es) x) → T (isOut es x)
 outs-out [] x h = h
-outs-out (point i ∷ es) x h = or-elim (eqb (i + 1) x) (has (outs es) x) h (λ t. or-left (eqb (i + 1) x) _ t) (λ t. or-right (eqb (i + 1) x) _ (outs-out es x t))
+outs-out (point i ∷ es) x h = or-elim (eqb (i + 1) x) (has (pointOuts es) x) h (λ t. or-left (eqb (i + 1) x) _ t) (λ t. or-right (eqb (i + 1) x) _ (outs-out es x t))
 outs-out (part p i ∷ es) x h = or-right (eqb (i + partAt p .inputs) x) _ (outs-out es x h)
 
 -- ---- no input is made twice
@@ -144,13 +145,13 @@ made-one (part p i ∷ es) n e x a =
       | no h ↦ omega (arith, part-one (partAt p .inputs) i x, made-low es (i + partAt p .inputs + 1) e x (a .1) (omega arith))
     ]
 
-ins-within : (k i x : ℕ) → 1 ≤ ins (partSide k i) x → T (within k i x)
+ins-within : (k i x : ℕ) → 1 ≤ ins (partSide k i) x → T (isBetween k i x)
 ins-within zero i x h = absurd (omega arith)
-ins-within (suc k) i x h = by-eqb (λ b. 1 ≤ cond b 1 0 + ins (partSide k (i + 1)) x → T (b || within k (i + 1) x)) i x (λ q l. tt) (λ q l. ins-within k (i + 1) x (omega arith)) h
+ins-within (suc k) i x h = by-eqb (λ b. 1 ≤ cond b 1 0 + ins (partSide k (i + 1)) x → T (b || isBetween k (i + 1) x)) i x (λ q l. tt) (λ q l. ins-within k (i + 1) x (omega arith)) h
 
-within-ins : (k i x : ℕ) → T (within k i x) → 1 ≤ ins (partSide k i) x
+within-ins : (k i x : ℕ) → T (isBetween k i x) → 1 ≤ ins (partSide k i) x
 within-ins zero i x h = absurd h
-within-ins (suc k) i x h = by-eqb (λ b. T (b || within k (i + 1) x) → 1 ≤ cond b 1 0 + ins (partSide k (i + 1)) x) i x (λ q l. omega arith) (λ q l. omega (arith, within-ins k (i + 1) x l)) h
+within-ins (suc k) i x h = by-eqb (λ b. T (b || isBetween k (i + 1) x) → 1 ≤ cond b 1 0 + ins (partSide k (i + 1)) x) i x (λ q l. omega arith) (λ q l. omega (arith, within-ins k (i + 1) x l)) h
 
 -- an input that is made is a point's or a part's, and the other way round
 pub made-in : (es : List Element) (x : ℕ) → 1 ≤ madeAt es x → T (pointIn es x) ⊎ T (partIn es x)
@@ -158,14 +159,14 @@ made-in [] x h = absurd (omega arith)
 made-in (point i ∷ es) x h = by-eqb (λ b. 1 ≤ cond b 1 0 + madeAt es x → T (b || pointIn es x) ⊎ T (partIn es x)) i x (λ q l. inl tt) (λ q l. made-in es x (omega arith)) h
 made-in (part p i ∷ es) x h =
     elim (decLe 1 (ins (partSide (partAt p .inputs) i) x)) [
-      | yes l ↦ inr (or-left (within (partAt p .inputs) i x) (partIn es x) (ins-within (partAt p .inputs) i x l))
-      | no l ↦ ⊎-elim inl (λ t. inr (or-right (within (partAt p .inputs) i x) (partIn es x) t)) (made-in es x (omega arith))
+      | yes l ↦ inr (or-left (isBetween (partAt p .inputs) i x) (partIn es x) (ins-within (partAt p .inputs) i x l))
+      | no l ↦ ⊎-elim inl (λ t. inr (or-right (isBetween (partAt p .inputs) i x) (partIn es x) t)) (made-in es x (omega arith))
     ]
 
 pub part-made : (es : List Element) (x : ℕ) → T (partIn es x) → 1 ≤ madeAt es x
 part-made [] x h = absurd h
 part-made (point i ∷ es) x h = omega (arith, part-made es x h)
-part-made (part p i ∷ es) x h = or-elim (within (partAt p .inputs) i x) (partIn es x) h (λ t. omega (arith, within-ins (partAt p .inputs) i x t)) (λ t. omega (arith, part-made es x t))
+part-made (part p i ∷ es) x h = or-elim (isBetween (partAt p .inputs) i x) (partIn es x) h (λ t. omega (arith, within-ins (partAt p .inputs) i x t)) (λ t. omega (arith, part-made es x t))
 
 pub point-made : (es : List Element) (x : ℕ) → T (pointIn es x) → 1 ≤ madeAt es x
 point-made [] x h = absurd h

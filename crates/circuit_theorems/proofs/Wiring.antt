@@ -12,8 +12,9 @@ use Rattle.calculus.specs.Net.{Terminal, inp, out, Interface, Element, point, p
 use Rattle.calculus.specs.Lean.{driver, isPin, root}
 use Rattle.calculus.specs.Record.{All}
 use Rattle.calculus.specs.Inputs.{madeAt, targets, ins, isOut}
+use Rattle.circuit_theorems.specs.Terminals.{has}
 use Rattle.circuit_theorems.specs.Formed.{Shown, Rising, Formed}
-use Rattle.circuit_theorems.proofs.Rings.{has, outs}
+use Rattle.circuit_theorems.proofs.Rings.{pointOuts}
 use Rattle.circuit_theorems.proofs.RootLaws.{root-stays}
 use Rattle.circuit_theorems.proofs.BackLaws.{back-other, point-root}
 use Rattle.circuit_theorems.proofs.Lists.{all-map, all-zip}
@@ -25,16 +26,16 @@ abbrev pub standIn : Net → ℕ → ℕ
 standIn m x = cond (pointIn (m .elements) x) (root m (x + 1)) (root m x)
 
 -- a point's output is no point's input, and a part's terminals stand for themselves
-abbrev pub Clear : Net → Element → Type 0
-Clear m (point i) = (pointIn (m .elements) (i + 1) ≡ false) × (pointIn (m .elements) i ≡ true)
-Clear m (part p i) = (x : ℕ) → i ≤ x → x ≤ i + partAt p .inputs → standIn m x ≡ x
+abbrev pub StandsApart : Net → Element → Type 0
+StandsApart m (point i) = (pointIn (m .elements) (i + 1) ≡ false) × (pointIn (m .elements) i ≡ true)
+StandsApart m (part p i) = (x : ℕ) → i ≤ x → x ≤ i + partAt p .inputs → standIn m x ≡ x
 
 abbrev pub PinOk : Net → Terminal → Type 0
 PinOk m (inp i) = T (pointIn (m .elements) i) ⊎ T (partIn (m .elements) i)
 PinOk m (out o) = pointIn (m .elements) o ≡ false
 
 pub record Wired (m : Net) : Type 0 where
-  pub clear : All (Clear m) (m .elements)
+  pub clear : All (StandsApart m) (m .elements)
   pub from-out : All (λ w. pointIn (m .elements) (w .from) ≡ false) (m .wires)
   pub to-in : All (λ w. T (pointIn (m .elements) (w .to)) ⊎ T (partIn (m .elements) (w .to))) (m .wires)
   pub no-pin : All (λ w. isPin (m .pins) (w .to) ≡ false) (m .wires)
@@ -44,14 +45,14 @@ pub record Wired (m : Net) : Type 0 where
 
 module _ (m : Net) (ok : Formed m) where
   -- a terminal that is neither a point's input nor its output stands for itself
-  stands : (x : ℕ) → pointIn (m .elements) x ≡ false → (T (has (outs (m .elements)) x) → ⊥) → standIn m x ≡ x
+  stands : (x : ℕ) → pointIn (m .elements) x ≡ false → (T (has (pointOuts (m .elements)) x) → ⊥) → standIn m x ≡ x
   stands x u v = subst (λ (b : Bool). cond b (root m (x + 1)) (root m x) ≡ x) (sym u) (root-stays m x (back-other m x v))
 
   -- every element, seen from the whole list: from its first terminal on, only it and those behind it count
   clears : (es : List Element) (n e : ℕ) → Rising es n e
       → ((x : ℕ) → T (pointIn es x) → T (pointIn (m .elements) x))
       → ((x : ℕ) → n ≤ x → T (pointIn (m .elements) x) → T (pointIn es x))
-      → ((x : ℕ) → n ≤ x → T (has (outs (m .elements)) x) → T (has (outs es) x)) → All (Clear m) es
+      → ((x : ℕ) → n ≤ x → T (has (pointOuts (m .elements)) x) → T (has (pointOuts es) x)) → All (StandsApart m) es
   clears [] n e a f g h = tt
   clears (point i ∷ es) n e a f g h =
       let r = a .0 in (
@@ -61,7 +62,7 @@ module _ (m : Net) (ok : Formed m) where
         ),
         clears es (i + 2) e (a .1) (λ x t. f x (or-right (eqb i x) (pointIn es x) t))
             (λ x l t. or-elim (eqb i x) (pointIn es x) (g x (omega arith) t) (λ u. let q = eqb→eq i x u in absurd (omega arith)) (λ u. u))
-            (λ x l t. or-elim (eqb (i + 1) x) (has (outs es) x) (h x (omega arith) t) (λ u. let q = eqb→eq (i + 1) x u in absurd (omega arith)) (λ u. u)),
+            (λ x l t. or-elim (eqb (i + 1) x) (has (pointOuts es) x) (h x (omega arith) t) (λ u. let q = eqb→eq (i + 1) x u in absurd (omega arith)) (λ u. u)),
       )
   clears (part p i ∷ es) n e a f g h =
       let r = a .0 in (

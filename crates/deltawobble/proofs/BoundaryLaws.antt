@@ -25,7 +25,7 @@ use Rattle.batch.specs.Batch.{Batch}
 use Rattle.batch.specs.Left.{left}
 use Rattle.translator.specs.declared.Answer.the-variants as answer
 use Rattle.foreign_theorems.specs.Foreign.{Checked}
-use Rattle.foreign.specs.Walk.{saidVerdict, called as checked}
+use Rattle.foreign.specs.Walk.{saidCheck, calledCheck as checked}
 use Rattle.foreign.specs.declared.Verdict.{Verdict}
 use Rattle.foreign.specs.declared.Verdict.the-variants as verdict
 use Rattle.deltawobble.specs.Boundary.{Packs, PacksBatch, checkedValue, PacksCheck}
@@ -49,15 +49,15 @@ batch-packs r o p w b e = record {
 }
 
 -- a verdict, as an answer that every call can give
-abbrev pub answerOf : Verdict → code.Answer
-answerOf verdict.Accepted = answer.Written 0
-answerOf (verdict.Refused number place) = answer.Refused (record { number = number; place = place; wanted = 0; found = 0 })
+abbrev pub verdictAnswer : Verdict → code.Answer
+verdictAnswer verdict.Accepted = answer.Written 0
+verdictAnswer (verdict.Refused number place) = answer.Refused (record { number = number; place = place; wanted = 0; found = 0 })
 
-same-value : (v : Verdict) → saidAnswer (answerOf v) ≡ checkedValue (saidVerdict v)
+same-value : (v : Verdict) → saidAnswer (verdictAnswer v) ≡ checkedValue (saidCheck v)
 same-value verdict.Accepted = refl
 same-value (verdict.Refused number place) = refl
 
-pub check-packs : (v : Verdict) (w : List ℕ) (c : Checked) (a : code.Answer) → checked v w ≡ c → answerOf v ≡ a → PacksCheck (packed (saidAnswer a)) w c
+pub check-packs : (v : Verdict) (w : List ℕ) (c : Checked) (a : code.Answer) → checked v w ≡ c → verdictAnswer v ≡ a → PacksCheck (packed (saidAnswer a)) w c
 check-packs v w c a e f = record {
   said = ap (λ (x : code.Answer). packed (saidAnswer x)) (sym f) ∙ ap packed (same-value v) ∙ ap (λ (x : Checked). packed (checkedValue (x .said))) e;
   kept = ap (λ (x : Checked). x .work) e;

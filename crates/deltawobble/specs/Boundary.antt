@@ -5,13 +5,13 @@ use mathlib.Core.List.{List}
 use Rattle.calculus.specs.Answer.{Answer, good, refused}
 use Rattle.calculus.specs.Stretch.{Stretch}
 use Rattle.calculus.specs.Translate.{Call}
-use Rattle.translator.specs.Word.{halves, packed}
+use Rattle.translator.specs.Word.{upperLower, packed}
 use Rattle.batch.specs.Batch.{Batch}
 use Rattle.foreign_theorems.specs.Foreign.{Checked}
 
 -- where a stretch begins, and its length
 abbrev pub packedStretch : Stretch → ℕ
-packedStretch p = halves (p .start) (p .size)
+packedStretch p = upperLower (p .start) (p .size)
 
 -- a number, and what is left of the output and of the working memory, are those of a call
 pub record Packs (r : ℕ) (out work : List ℕ) (c : Call) : Type 0 where

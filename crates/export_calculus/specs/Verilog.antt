@@ -139,19 +139,19 @@ netMarks k zero = []
 netMarks k (suc zero) = netMark k
 netMarks k (suc (suc n)) = netMark k ++ ascii ", " ++ netMarks (k + 1) (suc n)
 
-abbrev pub closed : List ℕ → List ℕ
-closed words = words ++ ascii ";\n"
+abbrev pub withSemicolon : List ℕ → List ℕ
+withSemicolon words = words ++ ascii ";\n"
 
 -- a part with n inputs has n + 1 nets, the last is its output
 abbrev pub declared : ℕ → List ℕ
-declared n = closed (ascii "wire " ++ netMarks 0 (n + 1))
+declared n = withSemicolon (ascii "wire " ++ netMarks 0 (n + 1))
 
 -- an instance of the standard's primitive: the output, then the inputs
-abbrev pub gate : List ℕ → ℕ → List ℕ
-gate word n = declared n ++ closed (word ++ ascii " (" ++ netMark n ++ ascii ", " ++ netMarks 0 n ++ ascii ")")
+abbrev pub gateText : List ℕ → ℕ → List ℕ
+gateText word n = declared n ++ withSemicolon (word ++ ascii " (" ++ netMark n ++ ascii ", " ++ netMarks 0 n ++ ascii ")")
 
 abbrev pub assigned : List ℕ → List ℕ → List ℕ
-assigned to from = closed (ascii "assign " ++ to ++ ascii " = " ++ from)
+assigned to from = withSemicolon (ascii "assign " ++ to ++ ascii " = " ++ from)
 
 -- the output is assigned a value
 abbrev pub valued : ℕ → List ℕ → List ℕ
@@ -159,17 +159,17 @@ valued n value = declared n ++ assigned (netMark n) value
 
 -- the output is a variable that takes the input's value at the clock's rising edge
 abbrev pub register : List ℕ
-register = declared 0 ++ closed (ascii "reg " ++ netMark 1) ++ closed (ascii "always @(posedge clock) " ++ netMark 1 ++ ascii " <= " ++ netMark 0)
+register = declared 0 ++ withSemicolon (ascii "reg " ++ netMark 1) ++ withSemicolon (ascii "always @(posedge clock) " ++ netMark 1 ++ ascii " <= " ++ netMark 0)
 
 -- by the part's number; 7 for a point
 unfoldable pub elementWords : List (List ℕ)
 elementWords =
     valued (partAt 0 .inputs) (ascii "1'b0")
     ∷ register
-    ∷ gate (ascii "and") (partAt 2 .inputs)
-    ∷ gate (ascii "or") (partAt 3 .inputs)
-    ∷ gate (ascii "xor") (partAt 4 .inputs)
-    ∷ gate (ascii "not") (partAt 5 .inputs)
+    ∷ gateText (ascii "and") (partAt 2 .inputs)
+    ∷ gateText (ascii "or") (partAt 3 .inputs)
+    ∷ gateText (ascii "xor") (partAt 4 .inputs)
+    ∷ gateText (ascii "not") (partAt 5 .inputs)
     ∷ valued (partAt 6 .inputs) (ascii "1'b1")
     ∷ valued 1 (netMark 0)
     ∷ []

@@ -14,9 +14,10 @@ use Rattle.calculus.specs.Types.{Ty, bit, prod, arrow, lolli, sharable}
 use Rattle.calculus.specs.Terms.{partAt}
 use Rattle.calculus.specs.Net.{Terminal, inp, out, Interface, Element, point, part, Wire, Net}
 use Rattle.calculus.specs.Lean.{isPin}
+use Rattle.calculus.specs.Record.{Among, here, there}
 use Rattle.circuit_theorems.specs.Formed.{Rising, Formed}
 use Rattle.export_calculus.specs.Card.{needAll, chain, noRing, drives, isOutPin, isRead, inputPlace, outputPlace, profiled, profile}
-use Rattle.export_theorems.specs.Broken.{Among, here, there, Chain, ends, goes, KeptRing, Unread, Breaks, Broken, root-type, ring, unread}
+use Rattle.export_theorems.specs.Broken.{Chain, ends, goes, KeptRing, Unread, Breaks, Broken, root-type, ring, unread}
 
 -- ---- the first that fails
 

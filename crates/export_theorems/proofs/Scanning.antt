@@ -141,7 +141,7 @@ first-none (f ∷ fs) g t j x y z rest =
 
 -- ---- lines one after the other
 
-pub record Readable (forms : ℕ) (l : Line) : Type 0 where
+pub record LineReadable (forms : ℕ) (l : Line) : Type 0 where
   pub known : l .form < forms
   pub x : l .x < 10000
   pub y : l .y < 10000
@@ -150,7 +150,7 @@ pub record Readable (forms : ℕ) (l : Line) : Type 0 where
 abbrev pub takenOf : List (List ℕ) → Line → Taken
 takenOf fs l = record { form = l .form; numbers = numbersOf (getD fs (l .form) []) (l .x) (l .y) (l .z) }
 
-pub block-read : (fs : List (List ℕ)) → T (apart fs) → (rest : List ℕ) → firstFit fs 0 rest ≡ none → (ls : List Line) → All (Readable (length fs)) ls → (n : ℕ) → length ls ≤ n
+pub block-read : (fs : List (List ℕ)) → T (apart fs) → (rest : List ℕ) → firstFit fs 0 rest ≡ none → (ls : List Line) → All (LineReadable (length fs)) ls → (n : ℕ) → length ls ≤ n
     → block n fs (linesText fs ls ++ rest) ≡ record { lines = map (takenOf fs) ls; rest = rest }
 unfolding block lineText
 block-read fs t rest h [] a zero l = refl
@@ -179,7 +179,7 @@ filled-some (c ∷ cs) x y z h = by (isMark c)
 abbrev pub full-forms : List (List ℕ) → Bool
 full-forms fs = all (length fs) (λ k. leb 1 (length (getD fs k [])))
 
-pub texts-long : (fs : List (List ℕ)) → ((k : ℕ) → k < length fs → 1 ≤ length (getD fs k [])) → (ls : List Line) → All (Readable (length fs)) ls → length ls ≤ length (linesText fs ls)
+pub texts-long : (fs : List (List ℕ)) → ((k : ℕ) → k < length fs → 1 ≤ length (getD fs k [])) → (ls : List Line) → All (LineReadable (length fs)) ls → length ls ≤ length (linesText fs ls)
 unfolding lineText
 texts-long fs h [] a = le-refl 0
 texts-long fs h (l ∷ ls) a =

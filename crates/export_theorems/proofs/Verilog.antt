@@ -18,7 +18,7 @@ use Rattle.calculus.proofs.Answers.{good-inj, refused-inj, refused≢good, on-b
 use Rattle.calculus.specs.Terms.{partAt}
 use Rattle.calculus.specs.Net.{inp, out, number, Interface, Element, point, part, Net}
 use Rattle.calculus.specs.Lean.{lean}
-use Rattle.calculus.specs.Record.{All}
+use Rattle.calculus.specs.Record.{All, Among, here, there}
 use Rattle.calculus.specs.NetRead.{Known}
 use Rattle.calculus.specs.Inputs.{tally, ins, isOut}
 use Rattle.calculus.specs.Translate.{full, saidOf, outOf}
@@ -33,7 +33,7 @@ use Rattle.circuit_theorems.proofs.Bounds.{few-pins}
 use Rattle.circuit_theorems.proofs.Told.{lean-known}
 use Rattle.export_calculus.specs.Card.{needAll, noRing, inputPlace}
 use Rattle.export_calculus.specs.Verilog.{moduleText, readVerilog, exported, export, verilogCall}
-use Rattle.export_theorems.specs.Broken.{Among, here, there, KeptRing, LowestRing}
+use Rattle.export_theorems.specs.Broken.{KeptRing, LowestRing}
 use Rattle.export_theorems.proofs.CardLaws.{Ringed, ring-refused, ring-free}
 use Rattle.export_theorems.proofs.VerilogLength.{verilog-few}
 use Rattle.export_theorems.proofs.VerilogRead.{ElementFour, FitsFour, verilog-read}

@@ -26,35 +26,35 @@ filled-length (c ∷ f) x y z =
     omega (arith, letter-length c x y z, filled-length f x y z, length-append (letter c x y z) (filled f x y z), length-append (letter c 0 0 0) (filled f 0 0 0))
 
 -- the length of a list of lines
-abbrev pub sizes : List (List ℕ) → List Line → ℕ
-sizes fs [] = 0
-sizes fs (l ∷ ls) = length (filled (getD fs (l .form) []) 0 0 0) + sizes fs ls
+abbrev pub linesSize : List (List ℕ) → List Line → ℕ
+linesSize fs [] = 0
+linesSize fs (l ∷ ls) = length (filled (getD fs (l .form) []) 0 0 0) + linesSize fs ls
 
-texts-size : (fs : List (List ℕ)) (ls : List Line) → length (linesText fs ls) ≡ sizes fs ls
+texts-size : (fs : List (List ℕ)) (ls : List Line) → length (linesText fs ls) ≡ linesSize fs ls
 unfolding lineText
 texts-size fs [] = refl
 texts-size fs (l ∷ ls) =
     omega (arith, filled-length (getD fs (l .form) []) (l .x) (l .y) (l .z), texts-size fs ls, length-append (lineText fs l) (linesText fs ls))
 
-wires-size : (ws : List Wire) → sizes assignForms (map lineOfWire ws) ≡ 22 * length ws
+wires-size : (ws : List Wire) → linesSize assignForms (map lineOfWire ws) ≡ 22 * length ws
 unfolding assignForms letter
 wires-size [] = refl
 wires-size (w ∷ ws) = omega (arith, wires-size ws)
 
-pins-size : (k : ℕ) (ts : Interface) → sizes assignForms (linesOfPins k ts) ≡ 22 * length ts
+pins-size : (k : ℕ) (ts : Interface) → linesSize assignForms (linesOfPins k ts) ≡ 22 * length ts
 unfolding assignForms letter
 pins-size k [] = refl
 pins-size k (inp i ∷ ts) = omega (arith, pins-size (k + 1) ts)
 pins-size k (out o ∷ ts) = omega (arith, pins-size (k + 1) ts)
 
-ports-size : (k : ℕ) (ts : Interface) → sizes portForms (linesOfPorts k ts) ≤ 16 * length ts
+ports-size : (k : ℕ) (ts : Interface) → linesSize portForms (linesOfPorts k ts) ≤ 16 * length ts
 unfolding portForms letter
 ports-size k [] = omega arith
 ports-size k (inp i ∷ ts) = omega (arith, ports-size (k + 1) ts)
 ports-size k (out o ∷ ts) = omega (arith, ports-size (k + 1) ts)
 
 -- at most 33 bytes for each terminal
-elements-size : (es : List Element) (n e : ℕ) → Rising es n e → All Known es → sizes elementForms (map lineOfElement es) + 33 * n ≤ 33 * e
+elements-size : (es : List Element) (n e : ℕ) → Rising es n e → All Known es → linesSize elementForms (map lineOfElement es) + 33 * n ≤ 33 * e
 unfolding elementForms letter
 elements-size [] n e a k = omega (arith, a)
 elements-size (point i ∷ es) n e a k = omega (arith, a .0, elements-size es (i + 2) e (a .1) (k .1))
@@ -72,7 +72,7 @@ unfolding header portsEnd moduleEnd
 fixed = refl
 
 pub verilog-length : (m : Net) → length (moduleText m)
-    ≡ 44 + sizes portForms (linesOfPorts 0 (m .pins)) + sizes elementForms (map lineOfElement (m .elements)) + 22 * length (m .wires) + 22 * length (m .pins)
+    ≡ 44 + linesSize portForms (linesOfPorts 0 (m .pins)) + linesSize elementForms (map lineOfElement (m .elements)) + 22 * length (m .wires) + 22 * length (m .pins)
 unfolding moduleText
 verilog-length m =
     let p = linesText portForms (linesOfPorts 0 (m .pins)) in

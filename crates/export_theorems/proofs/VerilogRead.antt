@@ -13,7 +13,7 @@ use Rattle.laws.proofs.Below.{all, below}
 use Rattle.calculus.specs.Net.{Terminal, inp, out, number, Interface, Element, point, part, Wire, Net}
 use Rattle.calculus.specs.Record.{All}
 use Rattle.export_calculus.specs.Verilog.{elementForms, portForms, assignForms, elementWords, portWords, assignWords, header, portsEnd, moduleEnd, filled, letter, Line, lineText, linesText, lineOfElement, lineOfWire, lineOfPin, lineOfPort, linesOfPins, linesOfPorts, moduleText, Taken, firstFit, block, elementOf, wiresOf, pinsOf, sameText, namedNet, readVerilog}
-use Rattle.export_theorems.proofs.Scanning.{numbersOf, earlier, apart, none-fits, full-forms, Readable, takenOf, first-none, block-read, texts-long}
+use Rattle.export_theorems.proofs.Scanning.{numbersOf, earlier, apart, none-fits, full-forms, LineReadable, takenOf, first-none, block-read, texts-long}
 
 -- ---- the reader's words make the writer's forms, by computing
 
@@ -91,7 +91,7 @@ no-element-end : firstFit elementForms 0 moduleEnd ≡ none
 no-element-end = ap (firstFit elementForms 0) ending-filled ∙ first-none elementForms moduleEnd element-ending 0 0 0 0 []
 
 -- no assignment is an element
-no-element : (ls : List Line) → All (Readable 3) ls → firstFit elementForms 0 (linesText assignForms ls ++ moduleEnd) ≡ none
+no-element : (ls : List Line) → All (LineReadable 3) ls → firstFit elementForms 0 (linesText assignForms ls ++ moduleEnd) ≡ none
 unfolding lineText
 no-element [] a = no-element-end
 no-element (l ∷ ls) a =
@@ -110,21 +110,21 @@ pub record FitsFour (m : Net) : Type 0 where
   pub pins : All (λ t. number t < 10000) (m .pins)
   pub count : length (m .pins) ≤ 9999
 
-element-lines : (es : List Element) → All ElementFour es → All (Readable 8) (map lineOfElement es)
+element-lines : (es : List Element) → All ElementFour es → All (LineReadable 8) (map lineOfElement es)
 element-lines [] a = tt
 element-lines (point i ∷ es) a = (record { known = omega arith; x = omega (arith, a .0); y = omega (arith, a .0); z = a .0 }, element-lines es (a .1))
 element-lines (part p i ∷ es) a = (record { known = omega (arith, a .0 .1); x = omega (arith, a .0 .0); y = omega (arith, a .0 .0); z = a .0 .0 }, element-lines es (a .1))
 
-wire-lines : (ws : List Wire) → All (λ w. (w .from < 10000) × (w .to < 10000)) ws → All (Readable 3) (map lineOfWire ws)
+wire-lines : (ws : List Wire) → All (λ w. (w .from < 10000) × (w .to < 10000)) ws → All (LineReadable 3) (map lineOfWire ws)
 wire-lines [] a = tt
 wire-lines (w ∷ ws) a = (record { known = omega arith; x = a .0 .1; y = a .0 .0; z = omega arith }, wire-lines ws (a .1))
 
-pin-lines : (k : ℕ) (ts : Interface) → k + length ts ≤ 9999 → All (λ t. number t < 10000) ts → All (Readable 3) (linesOfPins k ts)
+pin-lines : (k : ℕ) (ts : Interface) → k + length ts ≤ 9999 → All (λ t. number t < 10000) ts → All (LineReadable 3) (linesOfPins k ts)
 pin-lines k [] h a = tt
 pin-lines k (inp i ∷ ts) h a = (record { known = omega arith; x = a .0; y = omega arith; z = omega arith }, pin-lines (k + 1) ts (omega arith) (a .1))
 pin-lines k (out o ∷ ts) h a = (record { known = omega arith; x = a .0; y = omega arith; z = omega arith }, pin-lines (k + 1) ts (omega arith) (a .1))
 
-port-lines : (k : ℕ) (ts : Interface) → k + length ts ≤ 9999 → All (Readable 2) (linesOfPorts k ts)
+port-lines : (k : ℕ) (ts : Interface) → k + length ts ≤ 9999 → All (LineReadable 2) (linesOfPorts k ts)
 port-lines k [] h = tt
 port-lines k (inp i ∷ ts) h = (record { known = omega arith; x = omega arith; y = omega arith; z = omega arith }, port-lines (k + 1) ts (omega arith))
 port-lines k (out o ∷ ts) h = (record { known = omega arith; x = omega arith; y = omega arith; z = omega arith }, port-lines (k + 1) ts (omega arith))
@@ -193,14 +193,14 @@ module _ (m : Net) (f : FitsFour m) where
   abbrev A : List Line
   A = map lineOfWire (m .wires) ++ linesOfPins 0 (m .pins)
 
-  ports-ok : All (Readable 2) P
+  ports-ok : All (LineReadable 2) P
   ports-ok = port-lines 0 (m .pins) (let c = f .count in omega arith)
 
-  elements-ok : All (Readable 8) E
+  elements-ok : All (LineReadable 8) E
   elements-ok = element-lines (m .elements) (f .elements)
 
-  assigns-ok : All (Readable 3) A
-  assigns-ok = all-both (Readable 3) (map lineOfWire (m .wires)) (linesOfPins 0 (m .pins)) (wire-lines (m .wires) (f .wires)) (pin-lines 0 (m .pins) (let c = f .count in omega arith) (f .pins))
+  assigns-ok : All (LineReadable 3) A
+  assigns-ok = all-both (LineReadable 3) (map lineOfWire (m .wires)) (linesOfPins 0 (m .pins)) (wire-lines (m .wires) (f .wires)) (pin-lines 0 (m .pins) (let c = f .count in omega arith) (f .pins))
 
   abbrev third : List ℕ
   third = linesText assignForms A ++ moduleEnd

@@ -10,11 +10,7 @@ use Rattle.calculus.specs.Types.{Ty, arrow, sharable}
 use Rattle.calculus.specs.Terms.{partAt}
 use Rattle.calculus.specs.Net.{out, Element, point, part, Wire, Net}
 use Rattle.calculus.specs.Lean.{isPin}
-
--- x stands in a list
-pub data Among {A : Type 0} (x : A) : List A → Type 0 where
-  here : {xs : List A} → Among x (x ∷ xs)
-  there : {y : A} {xs : List A} → Among x xs → Among x (y ∷ xs)
+use Rattle.calculus.specs.Record.{Among}
 
 -- a chain of zero or more sharable arrows, ending in a sharable type
 pub data Chain : Ty → Type 0 where

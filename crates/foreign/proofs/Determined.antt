@@ -5,13 +5,13 @@ use Rattle.calculus.specs.Answer.{Refusal}
 use Rattle.calculus.proofs.Answers.{refused≢good, refused-inj}
 use Rattle.laws.proofs.OneResult.{Results}
 use Rattle.foreign_theorems.specs.Foreign.{Checked}
-use Rattle.foreign.specs.Walk.{saidVerdict}
+use Rattle.foreign.specs.Walk.{saidCheck}
 use Rattle.foreign.specs.declared.Verdict.{Verdict}
 use Rattle.foreign.specs.declared.Verdict.the-variants as verdict
 use Rattle.foreign.proofs.check.Kinds as check
 use Rattle.foreign.proofs.check.Reads as check-reads
 
-one-verdict : (r q : Verdict) → saidVerdict r ≡ saidVerdict q → r ≡ q
+one-verdict : (r q : Verdict) → saidCheck r ≡ saidCheck q → r ≡ q
 one-verdict verdict.Accepted verdict.Accepted e = refl
 one-verdict verdict.Accepted (verdict.Refused n p) e = absurd (refused≢good (sym e))
 one-verdict (verdict.Refused n p) verdict.Accepted e = absurd (refused≢good e)

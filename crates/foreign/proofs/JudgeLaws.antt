@@ -17,10 +17,10 @@ use Rattle.foreign_theorems.specs.Foreign.{Reading, begin, readOn, oneEach, che
 use Rattle.calculus.specs.Translate.{zeroed, workOf}
 use Rattle.memory.proofs.Zeroed.{zeroed-length, zeroed-zeros, zeroed-same, zeroed-later}
 use Rattle.circuit_theorems.proofs.Terminals.{made-one}
-use Rattle.foreign_theorems.proofs.Sound.{Read, read-none, read-all, numbered-rising, no-targets, no-inputs}
+use Rattle.foreign_theorems.proofs.Sound.{ReadAs, read-none, read-all, numbered-rising, no-targets, no-inputs}
 use Rattle.circuit_theorems.proofs.NetRead.{out-not-made}
-use Rattle.foreign.specs.Table.{Holds, Keeps, Clear}
-use Rattle.foreign.specs.Walk.{Agrees}
+use Rattle.foreign.specs.Table.{TableHolds, LaterKept, TableClear}
+use Rattle.foreign.specs.Walk.{WalkAgrees}
 use Rattle.foreign.specs.declared.Walked.{Walked}
 use Rattle.foreign.specs.declared.Walked.the-variants as walked
 use Rattle.foreign.proofs.SimLaws.{cell-out, cell-in, cell-no}
@@ -49,7 +49,7 @@ odd zero x e f = omega arith
 odd (suc zero) x e f = absurd (f refl)
 odd (suc (suc n)) x e f = let z : min 2 (suc (suc n)) ≡ 2 = omega arith in omega arith
 
-module _ (lean : Bool) (s : List ℕ) (τ : Reading) (r : Read lean s τ) (w : List ℕ) (h : Holds w (τ .net)) (i : ℕ) (l : i < 8192) where
+module _ (lean : Bool) (s : List ℕ) (τ : Reading) (r : ReadAs lean s τ) (w : List ℕ) (h : TableHolds w (τ .net)) (i : ℕ) (l : i < 8192) where
   up : Rising (τ .net .elements) 0 (τ .next)
   up = numbered-rising lean (τ .net .elements) 0 (τ .next) (r .numbering)
 
@@ -83,16 +83,16 @@ module _ (lean : Bool) (s : List ℕ) (τ : Reading) (r : Read lean s τ) (w : L
 
 -- ---- the whole
 
-module _ (lean : Bool) (s : List ℕ) (b : Bytes s) (r : Walked) (w : List ℕ) (a : Agrees r w (readOn (length s) lean s 0 begin)) where
+module _ (lean : Bool) (s : List ℕ) (b : Bytes s) (r : Walked) (w : List ℕ) (a : WalkAgrees r w (readOn (length s) lean s 0 begin)) where
   pub judged-off : (n p : ℕ) → r ≡ walked.Refused n p → refuse n p ≡ check lean s
   unfolding check
-  judged-off n p e = let q = subst (λ (x : Walked). Agrees x w (readOn (length s) lean s 0 begin)) e a in rw q
+  judged-off n p e = let q = subst (λ (x : Walked). WalkAgrees x w (readOn (length s) lean s 0 begin)) e a in rw q
 
   module _ (n : ℕ) (e : r ≡ walked.Done n) where
-    ended : Agrees (walked.Done n) w (readOn (length s) lean s 0 begin)
-    ended = subst (λ (x : Walked). Agrees x w (readOn (length s) lean s 0 begin)) e a
+    ended : WalkAgrees (walked.Done n) w (readOn (length s) lean s 0 begin)
+    ended = subst (λ (x : Walked). WalkAgrees x w (readOn (length s) lean s 0 begin)) e a
 
-    whole : Read lean s (ended .0)
+    whole : ReadAs lean s (ended .0)
     whole = read-all lean s b (length s) 0 begin (ended .0) (omega arith) (omega arith) (read-none lean) (ended .1)
 
     pub judged-low : n ≤ 8192
@@ -118,14 +118,14 @@ pub called-1 : (lean : Bool) (s w : List ℕ) → length w < memorySize → reco
 unfolding checkCall workOf
 called-1 lean s w h = rw (lt-leb memorySize (length w) h)
 
-pub clear-clear : (w : List ℕ) → memorySize ≤ length w → Clear (zeroed 8192 w)
+pub clear-clear : (w : List ℕ) → memorySize ≤ length w → TableClear (zeroed 8192 w)
 clear-clear w h = record { size = omega (arith, zeroed-length 8192 w (omega arith)); zeros = λ i l. zeroed-zeros 8192 w i l }
 
 -- what is cleared of the table is no later number
 later : (w : List ℕ) → drop memorySize (zeroed 8192 w) ≡ drop memorySize w
 later w = sym (drop-drop 24576 8192 (zeroed 8192 w)) ∙ ap (drop 24576) (zeroed-later 8192 w) ∙ drop-drop 24576 8192 w
 
-pub called-2 : (lean : Bool) (s w u v : List ℕ) (a : Answer (Unit {0})) → memorySize ≤ length w → a ≡ check lean s → Keeps (zeroed 8192 w) u → v ≡ zeroed memorySize u → record { said = a; work = v } ≡ checkCall lean s w
+pub called-2 : (lean : Bool) (s w u v : List ℕ) (a : Answer (Unit {0})) → memorySize ≤ length w → a ≡ check lean s → LaterKept (zeroed 8192 w) u → v ≡ zeroed memorySize u → record { said = a; work = v } ≡ checkCall lean s w
 unfolding checkCall workOf
 called-2 lean s w u v a h e k z =
     rw (le-leb memorySize (length w) h) (ap₂ (λ (x : Answer (Unit {0})) (y : List ℕ). mk x y) e (z ∙ zeroed-same memorySize u w (k .later ∙ later w)))

@@ -21,9 +21,9 @@ use Rattle.circuit_theorems.proofs.Drivers.{made-append, targets-append}
 use Rattle.calculus.specs.NetRead.{item}
 use Rattle.memory.specs.Map.{memorySize}
 use Rattle.foreign_theorems.specs.Foreign.{Reading, firstOf, pastOf, starts, isIn, moreElement, moreWire, morePin, judge}
-use Rattle.foreign_theorems.proofs.Sound.{Read, numbered-rising}
+use Rattle.foreign_theorems.proofs.Sound.{ReadAs, numbered-rising}
 use Rattle.circuit_theorems.proofs.NetRead.{out-not-made}
-use Rattle.foreign.specs.Table.{cellsOf, driven, cellAt, cellOf, Holds, Keeps}
+use Rattle.foreign.specs.Table.{cellsOf, driven, cellAt, cellOf, TableHolds, LaterKept}
 use Rattle.foreign.specs.Take.{Took, next, wrong, tookElement, tookWire, tookPin, took}
 
 -- ---- one more
@@ -109,15 +109,15 @@ cell-same m n x o l c = rw (o, l, c)
 
 -- at an offset, what the table gives and what the definition says
 abbrev pub Matches : ℕ → Took → Answer Reading → List ℕ → Type 0
-Matches at (next a b v) (good τ) w = (a ≡ τ .stage) × (b ≡ τ .next) × Holds v (τ .net) × Keeps w v
-Matches at (wrong k v) (refused why) w = (why ≡ numbered k at) × Keeps w v
+Matches at (next a b v) (good τ) w = (a ≡ τ .stage) × (b ≡ τ .next) × TableHolds v (τ .net) × LaterKept w v
+Matches at (wrong k v) (refused why) w = (why ≡ numbered k at) × LaterKept w v
 Matches at (next a b v) (refused why) w = ⊥
 Matches at (wrong k v) (good τ) w = ⊥
 
-pub keeps-same : (w : List ℕ) → Keeps w w
+pub keeps-same : (w : List ℕ) → LaterKept w w
 keeps-same w = record { same = refl; later = refl }
 
-module _ (lean : Bool) (at : ℕ) (p : List ℕ) (σ : Reading) (w : List ℕ) (size : memorySize ≤ length w) (ok : Read lean p σ) (h : Holds w (σ .net)) where
+module _ (lean : Bool) (at : ℕ) (p : List ℕ) (σ : Reading) (w : List ℕ) (size : memorySize ≤ length w) (ok : ReadAs lean p σ) (h : TableHolds w (σ .net)) where
   up : Rising (σ .net .elements) 0 (σ .next)
   up = numbered-rising lean (σ .net .elements) 0 (σ .next) (ok .numbering)
 
@@ -179,7 +179,7 @@ module _ (lean : Bool) (at : ℕ) (p : List ℕ) (σ : Reading) (w : List ℕ) (
         ] in
         g ∙ h x l ∙ sym (cell-same m′ (σ .net) x o c refl)
 
-    holds-element : Holds (sets w i (cellsOf k)) m′
+    holds-element : TableHolds (sets w i (cellsOf k)) m′
     holds-element x l =
         elim (decLt x i) [
           | yes q ↦ outside x (λ a b. omega arith) l
@@ -194,10 +194,10 @@ module _ (lean : Bool) (at : ℕ) (p : List ℕ) (σ : Reading) (w : List ℕ) (
               ]
         ]
 
-    keeps-element : Keeps w (sets w i (cellsOf k))
+    keeps-element : LaterKept w (sets w i (cellsOf k))
     keeps-element = record { same = length-sets w i (cellsOf k); later = sets-drop (cellsOf k) w i memorySize (omega (arith, cells-length k, past-is e)) }
 
-  element-by : (b₁ b₂ b₃ : Bool) (τ : Reading) (v : List ℕ) (n : ℕ) → (T b₁ → T b₂ → T b₃ → (0 ≡ τ .stage) × (n ≡ τ .next) × Holds v (τ .net) × Keeps w v)
+  element-by : (b₁ b₂ b₃ : Bool) (τ : Reading) (v : List ℕ) (n : ℕ) → (T b₁ → T b₂ → T b₃ → (0 ≡ τ .stage) × (n ≡ τ .next) × TableHolds v (τ .net) × LaterKept w v)
       → Matches at (cond b₁ (cond b₂ (cond b₃ (next 0 n v) (wrong 22 w)) (wrong 22 w)) (wrong 21 w)) (need b₁ 21 at >>= λ _. need (b₂ && b₃) 22 at >>= λ _. good τ) w
   element-by true true true τ v n f = f tt tt tt
   element-by true true false τ v n f = (refl, keeps-same w)
@@ -235,15 +235,15 @@ module _ (lean : Bool) (at : ℕ) (p : List ℕ) (σ : Reading) (w : List ℕ) (
       by true = getD-set-other w i x (getD w i 0 + 1) 0 d
       by false = refl
 
-  keeps-driven : (i : ℕ) → i < 8192 → Keeps w (driven w i)
+  keeps-driven : (i : ℕ) → i < 8192 → LaterKept w (driven w i)
   keeps-driven i l = by (ltb (getD w i 0) 3)
     where
-      by : (b : Bool) → Keeps w (cond b (set w i (getD w i 0 + 1)) w)
+      by : (b : Bool) → LaterKept w (cond b (set w i (getD w i 0 + 1)) w)
       by true = record { same = length-set w i (getD w i 0 + 1); later = drop-set-lt memorySize w i (getD w i 0 + 1) (omega arith) }
       by false = keeps-same w
 
   holds-driven : (to : ℕ) (n : Net) → n .elements ≡ σ .net .elements → ((x : ℕ) → targets (n .wires) x + ins (n .pins) x ≡ targets (σ .net .wires) x + ins (σ .net .pins) x + tally x to)
-      → 1 ≤ madeAt (σ .net .elements) to → isOut (σ .net .elements) to ≡ false → to < 8192 → Holds (driven w to) n
+      → 1 ≤ madeAt (σ .net .elements) to → isOut (σ .net .elements) to ≡ false → to < 8192 → TableHolds (driven w to) n
   holds-driven to n e c l o b x x-low =
       let es = σ .net .elements in
       elim (ℕ-discrete x to) [
@@ -291,7 +291,7 @@ module _ (lean : Bool) (at : ℕ) (p : List ℕ) (σ : Reading) (w : List ℕ) (
 
   -- ---- a wire
 
-  wire-by : (b₁ o o′ i′ : Bool) (τ : Reading) (v : List ℕ) (n : ℕ) → (T o′ → T i′ → ⊥) → (T i′ → (1 ≡ τ .stage) × (n ≡ τ .next) × Holds v (τ .net) × Keeps w v)
+  wire-by : (b₁ o o′ i′ : Bool) (τ : Reading) (v : List ℕ) (n : ℕ) → (T o′ → T i′ → ⊥) → (T i′ → (1 ≡ τ .stage) × (n ≡ τ .next) × TableHolds v (τ .net) × LaterKept w v)
       → Matches at (cond b₁ (cond o (cond (not (o′ || i′)) (wrong 22 w) (cond o′ (wrong 22 w) (next 1 n v))) (wrong 22 w)) (wrong 21 w)) (need b₁ 21 at >>= λ _. need (o && i′) 22 at >>= λ _. good τ) w
   wire-by true true true true τ v n x f = absurd (x tt tt)
   wire-by true true true false τ v n x f = (refl, keeps-same w)
@@ -312,14 +312,14 @@ module _ (lean : Bool) (at : ℕ) (p : List ℕ) (σ : Reading) (w : List ℕ) (
 
   -- ---- a pin
 
-  pin-by : (o i : Bool) (τ : Reading) (v : List ℕ) (n : ℕ) → (T (o || i) → (2 ≡ τ .stage) × (n ≡ τ .next) × Holds (cond o w v) (τ .net) × Keeps w (cond o w v))
+  pin-by : (o i : Bool) (τ : Reading) (v : List ℕ) (n : ℕ) → (T (o || i) → (2 ≡ τ .stage) × (n ≡ τ .next) × TableHolds (cond o w v) (τ .net) × LaterKept w (cond o w v))
       → Matches at (cond (not (o || i)) (wrong 22 w) (next 2 n (cond o w v))) (need (o || i) 22 at >>= λ _. good τ) w
   pin-by true i τ v n f = f tt
   pin-by false true τ v n f = f tt
   pin-by false false τ v n f = (refl, keeps-same w)
 
   pin-holds : (t : ℕ) (b : Bool) → isOut (σ .net .elements) t ≡ b → T (b || isIn (σ .net .elements) t)
-      → Holds (cond b w (driven w t)) (record { elements = σ .net .elements; wires = σ .net .wires; pins = σ .net .pins ++ (cond b (out t) (inp t) ∷ []) }) × Keeps w (cond b w (driven w t))
+      → TableHolds (cond b w (driven w t)) (record { elements = σ .net .elements; wires = σ .net .wires; pins = σ .net .pins ++ (cond b (out t) (inp t) ∷ []) }) × LaterKept w (cond b w (driven w t))
   pin-holds t true q u = (
     (λ x l. h x l ∙ sym (cell-same (record { elements = σ .net .elements; wires = σ .net .wires; pins = σ .net .pins ++ (out t ∷ []) }) (σ .net) x refl refl (omega (arith, ins-more (σ .net .pins) (out t) x)))),
     keeps-same w,

@@ -12,10 +12,10 @@ use Rattle.memory.specs.Map.{memorySize}
 use Rattle.foreign_theorems.specs.Foreign.{Reading, begin, judge, onFront, readOn, Bytes}
 use Rattle.foreign_theorems.proofs.Standing.{Stood, item-stood, ended-stood}
 use Rattle.circuit_theorems.proofs.NetRead.{item-some, ends-here}
-use Rattle.foreign_theorems.proofs.Sound.{Read, read-more, read-none, more-taken}
+use Rattle.foreign_theorems.proofs.Sound.{ReadAs, read-more, read-none, more-taken}
 use Rattle.net_reader.specs.Said.{saidRecord, frontSize}
 use Rattle.net_reader.specs.declared.Record.{Record}
-use Rattle.foreign.specs.Table.{cellOf, Holds, Keeps, Clear}
+use Rattle.foreign.specs.Table.{cellOf, TableHolds, LaterKept, TableClear}
 use Rattle.foreign.specs.Take.{Took, next, wrong, saidTaken, took}
 use Rattle.foreign.specs.Walk.{Gone, on, off, saidWent, goneTo}
 use Rattle.foreign.specs.declared.Went.{Went}
@@ -40,16 +40,16 @@ module _ (x : Record) (f : Front) (lean : Bool) (stage n at : ℕ) (t : Taken) (
 pub record Going (lean : Bool) (s w₀ w : List ℕ) (stage n at : ℕ) : Type 0 where
   pub reading : Reading
   pub left : ℕ
-  pub before : Read lean (take at s) reading
+  pub before : ReadAs lean (take at s) reading
   pub stage-is : stage ≡ reading .stage
   pub next-is : n ≡ reading .next
-  pub holds : Holds w (reading .net)
-  pub keeps : Keeps w₀ w
+  pub holds : TableHolds w (reading .net)
+  pub keeps : LaterKept w₀ w
   pub enough : length s ≤ at + left
   pub within : at ≤ length s
   pub rest : readOn left lean s at reading ≡ readOn (length s) lean s 0 begin
 
-pub going-first : (lean : Bool) (s w : List ℕ) → Clear w → Going lean s w w 0 0 0
+pub going-first : (lean : Bool) (s w : List ℕ) → TableClear w → Going lean s w w 0 0 0
 unfolding cellOf
 going-first lean s w c = record {
   reading = begin;
@@ -64,7 +64,7 @@ going-first lean s w c = record {
   rest = refl;
 }
 
-keeps-on : (u v w : List ℕ) → Keeps u v → Keeps v w → Keeps u w
+keeps-on : (u v w : List ℕ) → LaterKept u v → LaterKept v w → LaterKept u w
 keeps-on u v w a b = record { same = b .same ∙ a .same; later = b .later ∙ a .later }
 
 module _ (lean : Bool) (s w₀ w : List ℕ) (b : Bytes s) (size : memorySize ≤ length w₀) (stage n at : ℕ) (g : Going lean s w₀ w stage n at) (l : at < length s) where
@@ -77,7 +77,7 @@ module _ (lean : Bool) (s w₀ w : List ℕ) (b : Bytes s) (size : memorySize �
   -- what a step comes to: the walk goes on, or the definition refuses here
   abbrev Comes : Took → ℕ → Type 0
   Comes (next a c v) m = Going lean s w₀ v a c m × (at < m)
-  Comes (wrong k v) m = (All′ ≡ refuse k at) × Keeps w₀ v
+  Comes (wrong k v) m = (All′ ≡ refuse k at) × LaterKept w₀ v
 
   opened : (left : ℕ) → length s ≤ at + left → readOn left lean s at σ ≡ All′
       → (k : ℕ) × (length s ≤ at + suc k) × (onFront (itemAt s at) at σ (λ r. judge lean r σ at >>= λ τ. readOn k lean s (at + itemSize r) τ) ≡ All′)
@@ -90,7 +90,7 @@ module _ (lean : Bool) (s w₀ w : List ℕ) (b : Bytes s) (size : memorySize �
     record {
       reading = τ;
       left = k;
-      before = subst (λ (u : List ℕ). Read lean u τ) (sym (more-taken s at r st)) (read-more lean at (take at s) σ τ (g .before) r (st .fits) j);
+      before = subst (λ (u : List ℕ). ReadAs lean u τ) (sym (more-taken s at r st)) (read-more lean at (take at s) σ τ (g .before) r (st .fits) j);
       stage-is = m .0;
       next-is = m .1;
       holds = m .2;
@@ -119,7 +119,7 @@ module _ (lean : Bool) (s w₀ w : List ℕ) (b : Bytes s) (size : memorySize �
 
   abbrev pub Leads : Gone → Type 0
   Leads (on a c m v) = Going lean s w₀ v a c m × (at < m)
-  Leads (off k v) = (readOn (length s) lean s 0 begin ≡ refuse k at) × Keeps w₀ v
+  Leads (off k v) = (readOn (length s) lean s 0 begin ≡ refuse k at) × LaterKept w₀ v
 
   leads : (y : Took) (m : ℕ) → Comes y m → Leads (goneTo y m)
   leads (next a c v) m r = r
@@ -132,7 +132,7 @@ module _ (lean : Bool) (s w₀ w : List ℕ) (b : Bytes s) (size : memorySize �
 
 -- at the end of the bytes
 pub going-done : {lean : Bool} {s w₀ w : List ℕ} {stage n at : ℕ} (g : Going lean s w₀ w stage n at) → length s ≤ at
-    → (τ : Reading) × (readOn (length s) lean s 0 begin ≡ good τ) × (n ≡ τ .next) × Holds w (τ .net)
+    → (τ : Reading) × (readOn (length s) lean s 0 begin ≡ good τ) × (n ≡ τ .next) × TableHolds w (τ .net)
 going-done {lean} {s} {at = at} g l = (g .reading, sym (g .rest) ∙ ended-on (g .left), g .next-is, g .holds)
   where
     ended-on : (k : ℕ) → readOn k lean s at (g .reading) ≡ good (g .reading)
@@ -146,5 +146,5 @@ module _ {lean : Bool} {s w₀ w : List ℕ} {stage n at : ℕ} (b : Bytes s) (s
   pub walk-on : {t : State} {m : ℕ} → r ≡ went.On t m → Going lean s w₀ v (t .stage) (t .next) m × (at < m)
   walk-on e = subst (Leads lean s w₀ w b size stage n at g l) (sym h ∙ ap (λ (y : Went). saidWent y v) e) (gone lean s w₀ w b size stage n at g l)
 
-  pub walk-off : {k : ℕ} → r ≡ went.Refused k → (readOn (length s) lean s 0 begin ≡ refuse k at) × Keeps w₀ v
+  pub walk-off : {k : ℕ} → r ≡ went.Refused k → (readOn (length s) lean s 0 begin ≡ refuse k at) × LaterKept w₀ v
   walk-off e = subst (Leads lean s w₀ w b size stage n at g l) (sym h ∙ ap (λ (y : Went). saidWent y v) e) (gone lean s w₀ w b size stage n at g l)

@@ -27,15 +27,15 @@ unfoldable pub cellOf : Net → ℕ → ℕ
 cellOf m i = cond (isOut (m .elements) i) 4 (cond (isIn (m .elements) i) (1 + min 2 (targets (m .wires) i + ins (m .pins) i)) 0)
 
 -- the table says this of a netlist
-abbrev pub Holds : List ℕ → Net → Type 0
-Holds w m = (i : ℕ) → i < 8192 → getD w i 0 ≡ cellOf m i
+abbrev pub TableHolds : List ℕ → Net → Type 0
+TableHolds w m = (i : ℕ) → i < 8192 → getD w i 0 ≡ cellOf m i
 
 -- nothing from number 32,768 on was changed
-pub record Keeps (w after : List ℕ) : Type 0 where
+pub record LaterKept (w after : List ℕ) : Type 0 where
   pub same : length after ≡ length w
   pub later : drop memorySize after ≡ drop memorySize w
 
 -- the table is clear
-pub record Clear (w : List ℕ) : Type 0 where
+pub record TableClear (w : List ℕ) : Type 0 where
   pub size : memorySize ≤ length w
   pub zeros : (i : ℕ) → i < 8192 → getD w i 0 ≡ 0

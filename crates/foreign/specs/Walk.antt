@@ -4,7 +4,7 @@ use mathlib.Core.Path.{_≡_}
 use mathlib.Core.List.{List}
 use Rattle.calculus.specs.Answer.{Answer, good, refuse}
 use Rattle.foreign_theorems.specs.Foreign.{Reading, Checked}
-use Rattle.foreign.specs.Table.{Holds}
+use Rattle.foreign.specs.Table.{TableHolds}
 use Rattle.foreign.specs.Take.{Took, next, wrong}
 use Rattle.foreign.specs.declared.Went.{Went}
 use Rattle.foreign.specs.declared.Went.the-variants as went
@@ -27,14 +27,14 @@ goneTo (next a b w) m = on a b m w
 goneTo (wrong k w) m = off k w
 
 -- the answer of the walk and the table that it leaves are those of the definition's reading
-abbrev pub Agrees : Walked → List ℕ → Answer Reading → Type 0
-Agrees (walked.Done n) w a = (τ : Reading) × (a ≡ good τ) × (n ≡ τ .next) × Holds w (τ .net)
-Agrees (walked.Refused k p) w a = a ≡ refuse k p
+abbrev pub WalkAgrees : Walked → List ℕ → Answer Reading → Type 0
+WalkAgrees (walked.Done n) w a = (τ : Reading) × (a ≡ good τ) × (n ≡ τ .next) × TableHolds w (τ .net)
+WalkAgrees (walked.Refused k p) w a = a ≡ refuse k p
 
-abbrev pub saidVerdict : Verdict → Answer (Unit {0})
-saidVerdict verdict.Accepted = good tt
-saidVerdict (verdict.Refused k p) = refuse k p
+abbrev pub saidCheck : Verdict → Answer (Unit {0})
+saidCheck verdict.Accepted = good tt
+saidCheck (verdict.Refused k p) = refuse k p
 
 -- what a call answers and leaves
-abbrev pub called : Verdict → List ℕ → Checked
-called r w = record { said = saidVerdict r; work = w }
+abbrev pub calledCheck : Verdict → List ℕ → Checked
+calledCheck r w = record { said = saidCheck r; work = w }

@@ -10,9 +10,9 @@ ghost use lib.ListN.{length, getD};
 ghost use Rattle.net_reader.specs.Said.{frontSize};
 ghost use Rattle.calculus.specs.NetRead.{itemAt};
 ghost use Rattle.foreign_theorems.specs.Foreign.{begin, readOn, check as checkOf, checkCall};
-ghost use Rattle.foreign.specs.Table.{Keeps, Clear};
+ghost use Rattle.foreign.specs.Table.{LaterKept, TableClear};
 ghost use Rattle.foreign.specs.Take.{took};
-ghost use Rattle.foreign.specs.Walk.{saidWent, goneTo, Agrees, saidVerdict, called};
+ghost use Rattle.foreign.specs.Walk.{saidWent, goneTo, WalkAgrees, saidCheck, calledCheck};
 
 // Accepted, or a refusal's number and place.
 pub enum Verdict {
@@ -46,8 +46,8 @@ fn one(net: &[u8], work: &mut [u16], lean: bool, st: State, at: usize) -> Went
 
 // All records in byte order, over a table that is clear.
 fn walk(net: &[u8], work: &mut [u16], lean: bool) -> Walked
-    requires { ⌜ Clear (now work) ⌝ }
-    ensures { λ r. ⌜ Agrees r (now (work .exit)) (readOn (length (now (net .entry))) lean (now (net .entry)) 0 begin) × Keeps (now (work .entry)) (now (work .exit)) ⌝ }
+    requires { ⌜ TableClear (now work) ⌝ }
+    ensures { λ r. ⌜ WalkAgrees r (now (work .exit)) (readOn (length (now (net .entry))) lean (now (net .entry)) 0 begin) × LaterKept (now (work .entry)) (now (work .exit)) ⌝ }
 {
     let mut st = State { stage: 0, next: 0 };
     let mut at: usize = 0;
@@ -67,8 +67,8 @@ fn walk(net: &[u8], work: &mut [u16], lean: bool) -> Walked
 
 // 21 and 22 in byte order, then 23, over a table that is clear.
 fn judge(net: &[u8], work: &mut [u16], lean: bool) -> Verdict
-    requires { ⌜ Clear (now work) ⌝ }
-    ensures { λ r. ⌜ (saidVerdict r ≡ checkOf lean (now (net .entry))) × Keeps (now (work .entry)) (now (work .exit)) ⌝ }
+    requires { ⌜ TableClear (now work) ⌝ }
+    ensures { λ r. ⌜ (saidCheck r ≡ checkOf lean (now (net .entry))) × LaterKept (now (work .entry)) (now (work .exit)) ⌝ }
 {
     match walk(net, work, lean) {
         Walked::Refused(n, at) => Verdict::Refused(n, at),
@@ -85,7 +85,7 @@ fn judge(net: &[u8], work: &mut [u16], lean: bool) -> Verdict
 
 // A netlist from outside is accepted, or refused by a number and a place.
 pub fn check(net: &[u8], work: &mut [u16], lean: bool) -> Verdict
-    ensures { λ r. ⌜ called r (now (work .exit)) ≡ checkCall lean (now (net .entry)) (now (work .entry)) ⌝ }
+    ensures { λ r. ⌜ calledCheck r (now (work .exit)) ≡ checkCall lean (now (net .entry)) (now (work .entry)) ⌝ }
 {
     if work.len() < memory::SIZE {
         return Verdict::Refused(1, 0);

@@ -16,7 +16,7 @@ use Rattle.calculus.specs.Inputs.{ins, madeAt, targets, isOut}
 use Rattle.calculus.specs.NetRead.{itemSize, Front, item, ended, broken, itemAt}
 use Rattle.foreign_theorems.specs.Foreign.{Bytes, Accepts, Reading, begin, firstOf, pastOf, starts, isIn, moreElement, moreWire, morePin, judge, onFront, readOn, oneEach, check}
 use Rattle.foreign_theorems.proofs.Standing.{Stood, item-stood}
-use Rattle.foreign_theorems.proofs.Sound.{Read, read-more, read-none, more-taken, read-all, accepted}
+use Rattle.foreign_theorems.proofs.Sound.{ReadAs, read-more, read-none, more-taken, read-all, accepted}
 use Rattle.foreign_theorems.proofs.Complete.{accepts-check}
 
 -- accepted exactly when the bytes are those of a formed netlist of known parts in this order and numbering
@@ -42,9 +42,9 @@ abbrev pub Wrong : Bool → List ℕ → ℕ → Reading → Refusal → Type 0
 Wrong lean s at σ why = ((itemAt s at ≡ broken) × (why ≡ numbered 21 at)) ⊎ ((r : Item) × (itemAt s at ≡ item r) × (judge lean r σ at ≡ refused why))
 
 -- all bytes before the place were read, and what stands there is refused: so it is the first in byte order
-pub record First (lean : Bool) (s : List ℕ) (why : Refusal) : Type 0 where
+pub record FirstRefused (lean : Bool) (s : List ℕ) (why : Refusal) : Type 0 where
   pub reading : Reading
-  pub before : Read lean (take (why .place) s) reading
+  pub before : ReadAs lean (take (why .place) s) reading
   pub wrong : Wrong lean s (why .place) reading why
 
 -- a record is refused at its own offset, by 21 or by 22
@@ -73,26 +73,26 @@ module _ (at : ℕ) (why : Refusal) where
   at-place h = sym (⊎-elim (λ (e : why ≡ numbered 21 at). ap (λ (x : Refusal). x .place) e) (λ (e : why ≡ numbered 22 at). ap (λ (x : Refusal). x .place) e) h)
 
 module _ (lean : Bool) (s : List ℕ) (b : Bytes s) where
-  at-first : (at : ℕ) (σ : Reading) (why : Refusal) → Read lean (take at s) σ → at ≡ why .place → Wrong lean s at σ why → First lean s why
-  at-first at σ why ok e w = record { reading = σ; before = subst (λ (p : ℕ). Read lean (take p s) σ) e ok; wrong = subst (λ (p : ℕ). Wrong lean s p σ why) e w }
+  at-first : (at : ℕ) (σ : Reading) (why : Refusal) → ReadAs lean (take at s) σ → at ≡ why .place → Wrong lean s at σ why → FirstRefused lean s why
+  at-first at σ why ok e w = record { reading = σ; before = subst (λ (p : ℕ). ReadAs lean (take p s) σ) e ok; wrong = subst (λ (p : ℕ). Wrong lean s p σ why) e w }
 
-  first-from : (left at : ℕ) (σ : Reading) (why : Refusal) → Read lean (take at s) σ → readOn left lean s at σ ≡ refused why → First lean s why
+  first-from : (left at : ℕ) (σ : Reading) (why : Refusal) → ReadAs lean (take at s) σ → readOn left lean s at σ ≡ refused why → FirstRefused lean s why
   first-from zero at σ why ok e = absurd (good≢refused e)
   first-from (suc left) at σ why ok e = by (first-from left) (itemAt s at) refl e
     where
-      by : ((at : ℕ) (σ : Reading) (why : Refusal) → Read lean (take at s) σ → readOn left lean s at σ ≡ refused why → First lean s why)
-          → (x : Front) → itemAt s at ≡ x → onFront x at σ (λ r. judge lean r σ at >>= λ υ. readOn left lean s (at + itemSize r) υ) ≡ refused why → First lean s why
+      by : ((at : ℕ) (σ : Reading) (why : Refusal) → ReadAs lean (take at s) σ → readOn left lean s at σ ≡ refused why → FirstRefused lean s why)
+          → (x : Front) → itemAt s at ≡ x → onFront x at σ (λ r. judge lean r σ at >>= λ υ. readOn left lean s (at + itemSize r) υ) ≡ refused why → FirstRefused lean s why
       by rec (item r) q e =
           let st = item-stood s b at r q in
           on-refused (judge lean r σ at) _ why e
           (λ h. at-first at σ why ok (at-place at why (judge-refused at why lean r σ h)) (inr (r, q, h)))
-          (λ υ h₁ h₂. rec (at + itemSize r) υ why (subst (λ (x : List ℕ). Read lean x υ) (sym (more-taken s at r st)) (read-more lean at (take at s) σ υ ok r (st .fits) h₁)) h₂)
+          (λ υ h₁ h₂. rec (at + itemSize r) υ why (subst (λ (x : List ℕ). ReadAs lean x υ) (sym (more-taken s at r st)) (read-more lean at (take at s) σ υ ok r (st .fits) h₁)) h₂)
       by rec ended q e = absurd (good≢refused e)
       by rec broken q e =
           let z : why ≡ numbered 21 at = sym (refused-inj e) in
           at-first at σ why ok (at-place at why (inl z)) (inl (q, z))
 
-pub first-number : (lean : Bool) (s : List ℕ) (why : Refusal) → First lean s why → (why ≡ numbered 21 (why .place)) ⊎ (why ≡ numbered 22 (why .place))
+pub first-number : (lean : Bool) (s : List ℕ) (why : Refusal) → FirstRefused lean s why → (why ≡ numbered 21 (why .place)) ⊎ (why ≡ numbered 22 (why .place))
 first-number lean s why f =
     ⊎-elim (λ (w : (itemAt s (why .place) ≡ broken) × (why ≡ numbered 21 (why .place))). inl (w .1))
     (λ (w : (r : Item) × (itemAt s (why .place) ≡ item r) × (judge lean r (f .reading) (why .place) ≡ refused why)). judge-refused (why .place) why lean (w .0) (f .reading) (w .2)) (f .wrong)
@@ -108,7 +108,7 @@ pub record Lowest (lean : Bool) (s : List ℕ) (why : Refusal) : Type 0 where
   pub place : ℕ
   pub why-is : why ≡ numbered 23 place
   pub reading : Reading
-  pub all : Read lean s reading
+  pub all : ReadAs lean s reading
   pub not-one : One (reading .net) place → ⊥
   pub below : (i : ℕ) → i < place → One (reading .net) i
 
@@ -131,7 +131,7 @@ lowest-from m (suc k) i why e h = by (lowest-from m k (i + 1) why) (eqb (targets
 
 -- ---- a refusal: 21 or 22 at the first record in byte order that is refused; or else, all records read, 23 at the lowest input
 
-pub check-refused : (lean : Bool) (s : List ℕ) → Bytes s → (why : Refusal) → check lean s ≡ refused why → First lean s why ⊎ Lowest lean s why
+pub check-refused : (lean : Bool) (s : List ℕ) → Bytes s → (why : Refusal) → check lean s ≡ refused why → FirstRefused lean s why ⊎ Lowest lean s why
 unfolding check
 check-refused lean s b why e =
     on-refused (readOn (length s) lean s 0 begin) _ why e (λ h. inl (first-from lean s b (length s) 0 begin why (read-none lean) h))

@@ -15,7 +15,7 @@ use Rattle.calculus.specs.Terms.{partAt}
 use Rattle.calculus.specs.Net.{Terminal, inp, out, Interface, number, Element, point, part, Wire, Net, Item, element, wire, pin, itemBytes}
 use Rattle.calculus.specs.Record.{All}
 use Rattle.calculus.specs.Inputs.{ins, madeAt, targets, isOut}
-use Rattle.calculus.specs.NetRead.{Known, Fits, itemSize, Front, item, ended, broken, itemAt, terminalOf}
+use Rattle.calculus.specs.NetRead.{Known, Fits, itemSize, Front, item, ended, broken, itemAt, pinTerminal}
 use Rattle.circuit_theorems.specs.Formed.{Shown, Tiled, Rising, Formed}
 use Rattle.circuit_theorems.proofs.Lists.{all-map, all-append}
 use Rattle.circuit_theorems.proofs.Outputs.{EndHolds}
@@ -25,23 +25,23 @@ use Rattle.foreign_theorems.specs.Foreign.{Bytes, Numbered, Accepts, Rea
 use Rattle.foreign_theorems.proofs.Standing.{Stood, item-stood, ended-stood}
 
 -- a pin names a terminal that is made
-abbrev pub Pins : List Element → Terminal → Type 0
-Pins es t = EndHolds (λ i. 1 ≤ madeAt es i) (λ o. T (isOut es o)) t
+abbrev pub PinStands : List Element → Terminal → Type 0
+PinStands es t = EndHolds (λ i. 1 ≤ madeAt es i) (λ o. T (isOut es o)) t
 
 -- a wire runs from an output to an input that are made
-abbrev pub Runs : List Element → Wire → Type 0
-Runs es w = T (isOut es (w .from)) × (1 ≤ madeAt es (w .to))
+abbrev pub WireRuns : List Element → Wire → Type 0
+WireRuns es w = T (isOut es (w .from)) × (1 ≤ madeAt es (w .to))
 
 -- the bytes p were read as σ
-pub record Read (lean : Bool) (p : List ℕ) (σ : Reading) : Type 0 where
+pub record ReadAs (lean : Bool) (p : List ℕ) (σ : Reading) : Type 0 where
   pub bytes : p ≡ itemsBytes (itemsOf (σ .net))
   pub no-wires : σ .stage ≡ 0 → σ .net .wires ≡ []
   pub no-pins : σ .stage ≤ 1 → σ .net .pins ≡ []
   pub known : All Known (σ .net .elements)
   pub numbering : Numbered lean (σ .net .elements) 0 (σ .next)
   pub few : σ .next ≤ 8192
-  pub runs : All (Runs (σ .net .elements)) (σ .net .wires)
-  pub pins : All (Pins (σ .net .elements)) (σ .net .pins)
+  pub runs : All (WireRuns (σ .net .elements)) (σ .net .wires)
+  pub pins : All (PinStands (σ .net .elements)) (σ .net .pins)
 
 -- ---- the numbering with one more element
 
@@ -81,7 +81,7 @@ pin-last es ws ps t = rw (map-append (λ t. pin (number t)) ps (t ∷ [])) (simp
 more-bytes : (p : List ℕ) (xs ys : List Item) (r : Item) → p ≡ itemsBytes xs → ys ≡ xs ++ (r ∷ []) → p ++ itemBytes r ≡ itemsBytes ys
 more-bytes p xs ys r e h = rw (h, e) (ap (λ (l : List ℕ). itemsBytes xs ++ l) (sym (append-nil (itemBytes r))) ∙ sym (items-append xs (r ∷ [])))
 
-number-of : (es : List Element) (x : ℕ) → number (terminalOf es x) ≡ x
+number-of : (es : List Element) (x : ℕ) → number (pinTerminal es x) ≡ x
 number-of es x = by (isOut es x)
   where
     by : (b : Bool) → number (cond b (out x) (inp x)) ≡ x
@@ -97,8 +97,8 @@ known-of : (e : Element) → Fits (element e) → Known e
 known-of (point i) f = tt
 known-of (part p i) f = f .0
 
-module _ (lean : Bool) (at : ℕ) (p : List ℕ) (σ τ : Reading) (ok : Read lean p σ) where
-  read-element : (e : Element) → Fits (element e) → judge lean (element e) σ at ≡ good τ → Read lean (p ++ itemBytes (element e)) τ
+module _ (lean : Bool) (at : ℕ) (p : List ℕ) (σ τ : Reading) (ok : ReadAs lean p σ) where
+  read-element : (e : Element) → Fits (element e) → judge lean (element e) σ at ≡ good τ → ReadAs lean (p ++ itemBytes (element e)) τ
   read-element e f h =
       on-need (eqb (σ .stage) 0) 21 at _ τ h λ s₀ h₁.
       on-need (starts lean (firstOf e) (σ .next) && leb (pastOf e) 8192) 22 at _ τ h₁ λ s₁ h₂.
@@ -106,7 +106,7 @@ module _ (lean : Bool) (at : ℕ) (p : List ℕ) (σ τ : Reading) (ok : Read le
       let nw = ok .no-wires z in
       let np = ok .no-pins (omega arith) in
       let b = and-both (starts lean (firstOf e) (σ .next)) (leb (pastOf e) 8192) s₁ in
-      subst (Read lean (p ++ itemBytes (element e))) (good-inj h₂) record {
+      subst (ReadAs lean (p ++ itemBytes (element e))) (good-inj h₂) record {
         bytes = more-bytes p (itemsOf (σ .net)) _ (element e) (ok .bytes) (element-last (σ .net .elements) (σ .net .wires) (σ .net .pins) e nw np);
         no-wires = λ _. nw;
         no-pins = λ _. np;
@@ -117,35 +117,35 @@ module _ (lean : Bool) (at : ℕ) (p : List ℕ) (σ τ : Reading) (ok : Read le
         pins = all-of _ (σ .net .pins) np;
       }
 
-  read-wire : (w : Wire) → judge lean (wire w) σ at ≡ good τ → Read lean (p ++ itemBytes (wire w)) τ
+  read-wire : (w : Wire) → judge lean (wire w) σ at ≡ good τ → ReadAs lean (p ++ itemBytes (wire w)) τ
   read-wire w h =
       on-need (leb (σ .stage) 1) 21 at _ τ h λ s₀ h₁.
       on-need (isOut (σ .net .elements) (w .from) && isIn (σ .net .elements) (w .to)) 22 at _ τ h₁ λ s₁ h₂.
       let np = ok .no-pins (leb→le (σ .stage) 1 s₀) in
       let b = and-both (isOut (σ .net .elements) (w .from)) (isIn (σ .net .elements) (w .to)) s₁ in
-      subst (Read lean (p ++ itemBytes (wire w))) (good-inj h₂) record {
+      subst (ReadAs lean (p ++ itemBytes (wire w))) (good-inj h₂) record {
         bytes = more-bytes p (itemsOf (σ .net)) _ (wire w) (ok .bytes) (wire-last (map element (σ .net .elements)) (σ .net .wires) (σ .net .pins) w np);
         no-wires = λ e. absurd (omega arith);
         no-pins = λ _. np;
         known = ok .known;
         numbering = ok .numbering;
         few = ok .few;
-        runs = all-append (Runs (σ .net .elements)) (σ .net .wires) (w ∷ []) (ok .runs) ((b .0, leb→le 1 (madeAt (σ .net .elements) (w .to)) (b .1)), tt);
+        runs = all-append (WireRuns (σ .net .elements)) (σ .net .wires) (w ∷ []) (ok .runs) ((b .0, leb→le 1 (madeAt (σ .net .elements) (w .to)) (b .1)), tt);
         pins = ok .pins;
       }
 
-  pins-of : (x : ℕ) → T (isOut (σ .net .elements) x || isIn (σ .net .elements) x) → Pins (σ .net .elements) (terminalOf (σ .net .elements) x)
+  pins-of : (x : ℕ) → T (isOut (σ .net .elements) x || isIn (σ .net .elements) x) → PinStands (σ .net .elements) (pinTerminal (σ .net .elements) x)
   pins-of x t = by (isOut (σ .net .elements) x) (λ u. u) t
     where
-      by : (b : Bool) → (T b → T (isOut (σ .net .elements) x)) → T (b || isIn (σ .net .elements) x) → Pins (σ .net .elements) (cond b (out x) (inp x))
+      by : (b : Bool) → (T b → T (isOut (σ .net .elements) x)) → T (b || isIn (σ .net .elements) x) → PinStands (σ .net .elements) (cond b (out x) (inp x))
       by true f t = f tt
       by false f t = leb→le 1 (madeAt (σ .net .elements) x) t
 
-  read-pin : (t : ℕ) → judge lean (pin t) σ at ≡ good τ → Read lean (p ++ itemBytes (pin t)) τ
+  read-pin : (t : ℕ) → judge lean (pin t) σ at ≡ good τ → ReadAs lean (p ++ itemBytes (pin t)) τ
   read-pin t h =
       on-need (isOut (σ .net .elements) t || isIn (σ .net .elements) t) 22 at _ τ h λ s₁ h₂.
-      let q = terminalOf (σ .net .elements) t in
-      subst (Read lean (p ++ itemBytes (pin t))) (good-inj h₂) record {
+      let q = pinTerminal (σ .net .elements) t in
+      subst (ReadAs lean (p ++ itemBytes (pin t))) (good-inj h₂) record {
         bytes = more-bytes p (itemsOf (σ .net)) _ (pin t) (ok .bytes) (pin-last (map element (σ .net .elements)) (map wire (σ .net .wires)) (σ .net .pins) q ∙ ap (λ (x : ℕ). itemsOf (σ .net) ++ (pin x ∷ [])) (number-of (σ .net .elements) t));
         no-wires = λ e. absurd (omega arith);
         no-pins = λ e. absurd (omega arith);
@@ -153,15 +153,15 @@ module _ (lean : Bool) (at : ℕ) (p : List ℕ) (σ τ : Reading) (ok : Read le
         numbering = ok .numbering;
         few = ok .few;
         runs = ok .runs;
-        pins = all-append (Pins (σ .net .elements)) (σ .net .pins) (q ∷ []) (ok .pins) (pins-of t s₁, tt);
+        pins = all-append (PinStands (σ .net .elements)) (σ .net .pins) (q ∷ []) (ok .pins) (pins-of t s₁, tt);
       }
 
-  pub read-more : (r : Item) → Fits r → judge lean r σ at ≡ good τ → Read lean (p ++ itemBytes r) τ
+  pub read-more : (r : Item) → Fits r → judge lean r σ at ≡ good τ → ReadAs lean (p ++ itemBytes r) τ
   read-more (element e) f h = read-element e f h
   read-more (wire w) f h = read-wire w h
   read-more (pin t) f h = read-pin t h
 
-pub read-none : (lean : Bool) → Read lean [] begin
+pub read-none : (lean : Bool) → ReadAs lean [] begin
 read-none lean = record {
   bytes = refl;
   no-wires = λ _. refl;
@@ -184,18 +184,18 @@ more-taken s at r st =
     take-add at (itemSize r) s ∙ ap (λ (x : List ℕ). take at s ++ x) (ap (take (itemSize r)) (st .bytes) ∙ take-at (itemBytes r) (drop (at + itemSize r) s) (itemSize r) (item-length r))
 
 module _ (lean : Bool) (s : List ℕ) (b : Bytes s) where
-  pub read-all : (left at : ℕ) (σ τ : Reading) → length s ≤ at + left → at ≤ length s → Read lean (take at s) σ → readOn left lean s at σ ≡ good τ → Read lean s τ
-  read-all zero at σ τ h l ok e = subst (λ (x : List ℕ). Read lean x τ) (take-all at s (omega arith)) (subst (Read lean (take at s)) (good-inj e) ok)
+  pub read-all : (left at : ℕ) (σ τ : Reading) → length s ≤ at + left → at ≤ length s → ReadAs lean (take at s) σ → readOn left lean s at σ ≡ good τ → ReadAs lean s τ
+  read-all zero at σ τ h l ok e = subst (λ (x : List ℕ). ReadAs lean x τ) (take-all at s (omega arith)) (subst (ReadAs lean (take at s)) (good-inj e) ok)
   read-all (suc left) at σ τ h l ok e = by (read-all left) (itemAt s at) refl e
     where
-      by : ((at : ℕ) (σ τ : Reading) → length s ≤ at + left → at ≤ length s → Read lean (take at s) σ → readOn left lean s at σ ≡ good τ → Read lean s τ)
-          → (x : Front) → itemAt s at ≡ x → onFront x at σ (λ r. judge lean r σ at >>= λ υ. readOn left lean s (at + itemSize r) υ) ≡ good τ → Read lean s τ
+      by : ((at : ℕ) (σ τ : Reading) → length s ≤ at + left → at ≤ length s → ReadAs lean (take at s) σ → readOn left lean s at σ ≡ good τ → ReadAs lean s τ)
+          → (x : Front) → itemAt s at ≡ x → onFront x at σ (λ r. judge lean r σ at >>= λ υ. readOn left lean s (at + itemSize r) υ) ≡ good τ → ReadAs lean s τ
       by rec (item r) q e =
           let st = item-stood s b at r q in
           on-bind (judge lean r σ at) _ τ e λ υ h₁ h₂.
           rec (at + itemSize r) υ τ (omega (arith, item-some r)) (st .room)
-          (subst (λ (x : List ℕ). Read lean x υ) (sym (more-taken s at r st)) (read-more lean at (take at s) σ υ ok r (st .fits) h₁)) h₂
-      by rec ended q e = subst (λ (x : List ℕ). Read lean x τ) (take-all at s (ended-stood s at q)) (subst (Read lean (take at s)) (good-inj e) ok)
+          (subst (λ (x : List ℕ). ReadAs lean x υ) (sym (more-taken s at r st)) (read-more lean at (take at s) σ υ ok r (st .fits) h₁)) h₂
+      by rec ended q e = subst (λ (x : List ℕ). ReadAs lean x τ) (take-all at s (ended-stood s at q)) (subst (ReadAs lean (take at s)) (good-inj e) ok)
       by rec broken q e = absurd (refused≢good e)
 
 -- ---- one driver for each
@@ -209,18 +209,18 @@ each-one m (suc k) i j e l h =
       | no q ↦ let z : i ≡ j = omega arith in subst (λ (x : ℕ). targets (m .wires) x + ins (m .pins) x ≡ madeAt (m .elements) x) z (eqb→eq _ _ t)
     ]
 
-pub no-targets : (es : List Element) (ws : List Wire) (i : ℕ) → All (Runs es) ws → madeAt es i ≡ 0 → targets ws i ≡ 0
+pub no-targets : (es : List Element) (ws : List Wire) (i : ℕ) → All (WireRuns es) ws → madeAt es i ≡ 0 → targets ws i ≡ 0
 no-targets es [] i a z = refl
 no-targets es (w ∷ ws) i a z =
     by-eqb (λ b. cond b 1 0 + targets ws i ≡ 0) (w .to) i (λ e. absurd (omega (arith, a .0 .1, ap (madeAt es) e))) (λ _. omega (arith, no-targets es ws i (a .1) z))
 
-pub no-inputs : (es : List Element) (ps : Interface) (i : ℕ) → All (Pins es) ps → madeAt es i ≡ 0 → ins ps i ≡ 0
+pub no-inputs : (es : List Element) (ps : Interface) (i : ℕ) → All (PinStands es) ps → madeAt es i ≡ 0 → ins ps i ≡ 0
 no-inputs es [] i a z = refl
 no-inputs es (inp j ∷ ps) i a z =
     by-eqb (λ b. cond b 1 0 + ins ps i ≡ 0) j i (λ e. absurd (omega (arith, a .0, ap (madeAt es) e))) (λ _. omega (arith, no-inputs es ps i (a .1) z))
 no-inputs es (out o ∷ ps) i a z = no-inputs es ps i (a .1) z
 
-shown : (es : List Element) (t : Terminal) → Pins es t → Shown es t
+shown : (es : List Element) (t : Terminal) → PinStands es t → Shown es t
 shown es (inp i) s = tt
 shown es (out o) s = s
 
@@ -238,8 +238,8 @@ accepted lean s b e =
       formed = record {
         end = τ .next;
         rising = up;
-        from = all-map (Runs es) (λ w. T (isOut es (w .from))) (λ w a. a .0) (τ .net .wires) (r .runs);
-        shown = all-map (Pins es) (Shown es) (shown es) (τ .net .pins) (r .pins);
+        from = all-map (WireRuns es) (λ w. T (isOut es (w .from))) (λ w a. a .0) (τ .net .wires) (r .runs);
+        shown = all-map (PinStands es) (Shown es) (shown es) (τ .net .pins) (r .pins);
         reached = λ i.
             elim (decLe (τ .next) i) [
               | yes q ↦ let z = made-high es 0 (τ .next) i up q in omega (arith, no-targets es (τ .net .wires) i (r .runs) z, no-inputs es (τ .net .pins) i (r .pins) z)

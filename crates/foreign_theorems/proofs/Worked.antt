@@ -3,8 +3,8 @@ use mathlib.Core.Path.{_≡_, refl}
 use mathlib.Core.List.{map}
 use Rattle.calculus.specs.NetRead.{itemAt}
 use Rattle.foreign_theorems.specs.Foreign.{check}
-use Rattle.foreign_theorems.specs.Worked.{table, checks}
+use Rattle.foreign_theorems.specs.Worked.{workedNets, checks}
 
-pub worked-nets : map checks table ≡ table
-unfolding table check itemAt
+pub worked-nets : map checks workedNets ≡ workedNets
+unfolding workedNets check itemAt
 worked-nets = refl

@@ -10,7 +10,7 @@ use Rattle.calculus.specs.Terms.{partAt}
 use Rattle.calculus.specs.Net.{Element, point, part, Wire, Net, Item, element, wire, pin, netBytes}
 use Rattle.calculus.specs.Inputs.{ins, madeAt, targets, isOut}
 use Rattle.calculus.specs.Record.{All}
-use Rattle.calculus.specs.NetRead.{Known, itemSize, Front, item, ended, broken, itemAt, terminalOf}
+use Rattle.calculus.specs.NetRead.{Known, itemSize, Front, item, ended, broken, itemAt, pinTerminal}
 use Rattle.calculus.specs.Translate.{workOf}
 use Rattle.circuit_theorems.specs.Formed.{Tiled, Rising, Formed}
 
@@ -78,7 +78,7 @@ moreWire w σ = record {
 
 abbrev pub morePin : ℕ → Reading → Reading
 morePin t σ = record {
-  net = record { elements = σ .net .elements; wires = σ .net .wires; pins = σ .net .pins ++ (terminalOf (σ .net .elements) t ∷ []) };
+  net = record { elements = σ .net .elements; wires = σ .net .wires; pins = σ .net .pins ++ (pinTerminal (σ .net .elements) t ∷ []) };
   stage = 2;
   next = σ .next;
 }

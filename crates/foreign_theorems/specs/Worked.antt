@@ -62,8 +62,8 @@ undriven =
     both (point 0) (refuse 23 0) ∷ both (point 0 ++ wire 1 0 ++ wire 1 0) (refuse 23 0) ∷ both (point 0 ++ wire 1 0 ++ pin 0) (refuse 23 0) ∷ both (point 0 ++ pin 0 ++ pin 0) (refuse 23 0)
     ∷ both (point 0 ++ point 2) (refuse 23 0) ∷ both (point 0 ++ point 2 ++ pin 0) (refuse 23 2) ∷ []
 
-unfoldable pub table : List WorkedRow
-table = taken ++ (broken ++ (misnumbered ++ undriven))
+unfoldable pub workedNets : List WorkedRow
+workedNets = taken ++ (broken ++ (misnumbered ++ undriven))
 
 -- what the check says
 abbrev pub checks : WorkedRow → WorkedRow

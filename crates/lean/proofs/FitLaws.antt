@@ -11,7 +11,7 @@ use Rattle.calculus.specs.Makers.{leanMakers, written}
 use Rattle.memory.specs.Map.{elementsAt, stackAt, makersAt, region, netIn}
 use Rattle.netlist.proofs.InMemory.{kind-here}
 use Rattle.lean.specs.InMemory.{keptRow, wireRow, pinRow}
-use Rattle.lean.specs.Fitting.{LeanFits, RowFits, PinsFit}
+use Rattle.lean.specs.Fitting.{LeanFits, RowFits, LeanPinsFit}
 use Rattle.lean.proofs.RowLaws.{writing-start, writing-step}
 use Rattle.lean.proofs.LeanLaws.{lean-bytes, driven, kinds-low, pins-low}
 
@@ -45,7 +45,7 @@ module _ (plain : Bool) (w : List ℕ) (e k p room : ℕ) (f : LeanFits plain w 
   pub wires-fit : (from : ℕ) → from ≡ 0 + length first → RowFits w e second room from
   wires-fit from h = row-fits second from (omega (arith, fits))
 
-  pub pins-fit : (from at : ℕ) → from ≡ 0 + length first → at ≡ from + length second → PinsFit w p third room at
+  pub pins-fit : (from at : ℕ) → from ≡ 0 + length first → at ≡ from + length second → LeanPinsFit w p third room at
   pins-fit from at h g = record {
     size = f .whole .ready .size;
     few = f .whole .ready .few-pins;

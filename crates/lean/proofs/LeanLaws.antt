@@ -19,11 +19,11 @@ use Rattle.memory.specs.Map.{elementsAt, stackAt, makersAt, region, elementsFro
 use Rattle.netlist.specs.Said.{wire}
 use Rattle.netlist.specs.Elements.{afterAll}
 use Rattle.laws.proofs.Regions.{region-length, region-at}
-use Rattle.netlist.specs.Elements.{recordsOf}
+use Rattle.netlist.specs.Elements.{elementRecords}
 use Rattle.netlist.proofs.Elements.{records-are}
 use Rattle.netlist.proofs.Records as records
 use Rattle.lean.specs.Table.{entry, Whole}
-use Rattle.lean.specs.InMemory.{undriven, keepIn, keepMakersIn, inputIn, inputsIn, elementIn, wiresIn, pinIn, keptRow, wireRow, pinRow}
+use Rattle.lean.specs.InMemory.{undriven, keepIn, keepMakersIn, inputIn, inputsIn, elementIn, leanWiresIn, pinIn, keptRow, wireRow, pinRow}
 use Rattle.lean.specs.Fitting.{DriversLow, LowPin}
 use Rattle.lean.proofs.KindLaws.{tiled-after}
 use Rattle.lean.proofs.RowLaws.{kept-any}
@@ -101,7 +101,7 @@ module _ (w : List ℕ) (e k p : ℕ) (q : Whole w e k p) where
   made-rest (part r i) es y = omega arith
 
   wires-in : (es : List Element) → ((y : ℕ) → 1 ≤ madeAt es y → 1 ≤ madeAt (m .elements) y) → ((y : ℕ) → T (isOut es y) → T (isOut (m .elements) y))
-      → wiresIn w es ≡ leanWires m es
+      → leanWiresIn w es ≡ leanWires m es
   wires-in [] f g = refl
   wires-in (x ∷ es) f g =
       rw (element-in x (λ y h. f y (omega (arith, made-first x es y))) (λ y t. g y (out-first x es y t)), wires-in es (λ y h. f y (omega (arith, made-rest x es y))) (λ y t. g y (out-rest x es y t)))
@@ -125,13 +125,13 @@ module _ (w : List ℕ) (e k p : ℕ) (q : Whole w e k p) where
   js = region w makersAt e
 
   -- the lean netlist is what the tables tell
-  pub lean-net : lean m ≡ record { elements = keepIn w (elementsFrom ks 0); wires = wiresIn w (elementsFrom ks 0); pins = map (λ c. pinIn w (terminalOf c)) (region w stackAt p) }
+  pub lean-net : lean m ≡ record { elements = keepIn w (elementsFrom ks 0); wires = leanWiresIn w (elementsFrom ks 0); pins = map (λ c. pinIn w (terminalOf c)) (region w stackAt p) }
   unfolding lean netIn
   lean-net =
       rw (← keep-in (m .elements) (λ x t. t), ← wires-in (m .elements) (λ y h. h) (λ y t. t), ← pins-in (region w stackAt p) (q .ready .formed .shown))
 
   -- the rows, over the definition's elements, wires and pins
-  rows-are : (plain : Bool) → written plain (lean m) (leanMakers m js) ≡ recordsOf plain (lean m .elements) (leanMakers m js) ++ (wireBytes (lean m .wires) ++ pinBytes (lean m .pins))
+  rows-are : (plain : Bool) → written plain (lean m) (leanMakers m js) ≡ elementRecords plain (lean m .elements) (leanMakers m js) ++ (wireBytes (lean m .wires) ++ pinBytes (lean m .pins))
   unfolding netBytes netNodeBytes
   rows-are true = ap (λ (x : List ℕ). x ++ (wireBytes (lean m .wires) ++ pinBytes (lean m .pins))) (sym (records-are true (lean m .elements) (leanMakers m js)))
   rows-are false = ap (λ (x : List ℕ). x ++ (wireBytes (lean m .wires) ++ pinBytes (lean m .pins))) (sym (records-are false (lean m .elements) (leanMakers m js)))

@@ -14,11 +14,11 @@ use Rattle.calculus.specs.Terms.{partAt}
 use Rattle.calculus.specs.Net.{Element, point, part, Wire, wireBytes, pinBytes}
 use Rattle.calculus.specs.Makers.{maker}
 use Rattle.memory.specs.Map.{elementsAt, stackAt, makersAt, region, elementsFrom, terminalOf}
-use Rattle.netlist.specs.Elements.{after, afterAll, elementSize, nodeSize, recordOf, recordsOf}
+use Rattle.netlist.specs.Elements.{after, afterAll, elementSize, nodeSize, elementRecord, elementRecords}
 use Rattle.netlist.proofs.Elements.{kinds-append, kinds-length, kind-size, records-length, after-rises}
 use Rattle.netlist.proofs.Records.{wires-append}
 use Rattle.lean.specs.Table.{entry}
-use Rattle.lean.specs.InMemory.{undriven, keptIn, keepIn, keepMakersIn, inputIn, inputsIn, elementIn, wiresIn, pinIn, keptRow, wireRow, pinRow}
+use Rattle.lean.specs.InMemory.{undriven, keptIn, keepIn, keepMakersIn, inputIn, inputsIn, elementIn, leanWiresIn, pinIn, keptRow, wireRow, pinRow}
 use Rattle.lean.specs.Fitting.{ElementFits, RowFits}
 use Rattle.lean.proofs.KindLaws.{region-next, region-end}
 
@@ -58,23 +58,23 @@ sum-step sum all rest one next e h = omega (arith, ap length e ∙ length-append
 
 -- the first element's record, where it is kept, and then those of the others
 kept-one : (plain : Bool) (w : List ℕ) (x : Element) (es : List Element) (js ls : List ℕ) → maker ls ≡ maker js
-    → recordsOf plain (keepIn w (x ∷ es)) (keepMakersIn w (x ∷ es) js)
-    ≡ recordsOf plain (keepIn w (x ∷ [])) (keepMakersIn w (x ∷ []) ls) ++ recordsOf plain (keepIn w es) (keepMakersIn w es (drop 1 js))
+    → elementRecords plain (keepIn w (x ∷ es)) (keepMakersIn w (x ∷ es) js)
+    ≡ elementRecords plain (keepIn w (x ∷ [])) (keepMakersIn w (x ∷ []) ls) ++ elementRecords plain (keepIn w es) (keepMakersIn w es (drop 1 js))
 kept-one plain w x es js ls h = by (keptIn w x)
   where
     by : (b : Bool)
-        → recordsOf plain (cond b (x ∷ keepIn w es) (keepIn w es)) (cond b (maker js ∷ keepMakersIn w es (drop 1 js)) (keepMakersIn w es (drop 1 js)))
-        ≡ recordsOf plain (cond b (x ∷ []) []) (cond b (maker ls ∷ []) []) ++ recordsOf plain (keepIn w es) (keepMakersIn w es (drop 1 js))
-    by true = ap (λ (l : List ℕ). l ++ recordsOf plain (keepIn w es) (keepMakersIn w es (drop 1 js))) (ap (recordOf plain x) (sym h) ∙ sym (append-nil (recordOf plain x (maker ls))))
+        → elementRecords plain (cond b (x ∷ keepIn w es) (keepIn w es)) (cond b (maker js ∷ keepMakersIn w es (drop 1 js)) (keepMakersIn w es (drop 1 js)))
+        ≡ elementRecords plain (cond b (x ∷ []) []) (cond b (maker ls ∷ []) []) ++ elementRecords plain (keepIn w es) (keepMakersIn w es (drop 1 js))
+    by true = ap (λ (l : List ℕ). l ++ elementRecords plain (keepIn w es) (keepMakersIn w es (drop 1 js))) (ap (elementRecord plain x) (sym h) ∙ sym (append-nil (elementRecord plain x (maker ls))))
     by false = refl
 
-wires-in-append : (w : List ℕ) (xs ys : List Element) → wiresIn w (xs ++ ys) ≡ wiresIn w xs ++ wiresIn w ys
+wires-in-append : (w : List ℕ) (xs ys : List Element) → leanWiresIn w (xs ++ ys) ≡ leanWiresIn w xs ++ leanWiresIn w ys
 wires-in-append w [] ys = refl
 wires-in-append w (x ∷ xs) ys =
-    ap (λ (l : List Wire). elementIn w x ++ l) (wires-in-append w xs ys) ∙ sym (append-assoc (elementIn w x) (wiresIn w xs) (wiresIn w ys))
+    ap (λ (l : List Wire). elementIn w x ++ l) (wires-in-append w xs ys) ∙ sym (append-assoc (elementIn w x) (leanWiresIn w xs) (leanWiresIn w ys))
 
 -- the record of one element
-pub record-size : (plain : Bool) (k n : ℕ) (js : List ℕ) → length (recordsOf plain (elementsFrom (k ∷ []) n) js) ≡ elementSize k + nodeSize plain 1
+pub record-size : (plain : Bool) (k n : ℕ) (js : List ℕ) → length (elementRecords plain (elementsFrom (k ∷ []) n) js) ≡ elementSize k + nodeSize plain 1
 record-size plain k n js =
     records-length plain (elementsFrom (k ∷ []) n) js ∙ ap₂ _+_ (kind-size k n) (ap (nodeSize plain) (kinds-length (k ∷ []) n))
 
@@ -89,9 +89,9 @@ module _ (plain : Bool) (w : List ℕ) where
   kept-first k ks js ls n h = by (eqb k 7)
     where
       by : (b : Bool)
-          → recordsOf plain (keepIn w (cond b (point n ∷ elementsFrom ks (n + 2)) (part k n ∷ elementsFrom ks (n + partAt k .inputs + 1)))) (keepMakersIn w (cond b (point n ∷ elementsFrom ks (n + 2)) (part k n ∷ elementsFrom ks (n + partAt k .inputs + 1))) js)
-          ≡ recordsOf plain (keepIn w (cond b (point n ∷ []) (part k n ∷ []))) (keepMakersIn w (cond b (point n ∷ []) (part k n ∷ [])) ls)
-          ++ recordsOf plain (keepIn w (elementsFrom ks (cond b (n + 2) (n + partAt k .inputs + 1)))) (keepMakersIn w (elementsFrom ks (cond b (n + 2) (n + partAt k .inputs + 1))) (drop 1 js))
+          → elementRecords plain (keepIn w (cond b (point n ∷ elementsFrom ks (n + 2)) (part k n ∷ elementsFrom ks (n + partAt k .inputs + 1)))) (keepMakersIn w (cond b (point n ∷ elementsFrom ks (n + 2)) (part k n ∷ elementsFrom ks (n + partAt k .inputs + 1))) js)
+          ≡ elementRecords plain (keepIn w (cond b (point n ∷ []) (part k n ∷ []))) (keepMakersIn w (cond b (point n ∷ []) (part k n ∷ [])) ls)
+          ++ elementRecords plain (keepIn w (elementsFrom ks (cond b (n + 2) (n + partAt k .inputs + 1)))) (keepMakersIn w (elementsFrom ks (cond b (n + 2) (n + partAt k .inputs + 1))) (drop 1 js))
       by true = kept-one plain w (point n) (elementsFrom ks (n + 2)) js ls h
       by false = kept-one plain w (part k n) (elementsFrom ks (n + partAt k .inputs + 1)) js ls h
 
@@ -104,11 +104,11 @@ module _ (plain : Bool) (w : List ℕ) where
 
   -- ---- one element's record
 
-  pub kept-part : (k n : ℕ) (js : List ℕ) → (k ≡ 7 → ⊥) → keptRow plain w (k ∷ []) js n ≡ recordsOf plain (elementsFrom (k ∷ []) n) (maker js ∷ [])
+  pub kept-part : (k n : ℕ) (js : List ℕ) → (k ≡ 7 → ⊥) → keptRow plain w (k ∷ []) js n ≡ elementRecords plain (elementsFrom (k ∷ []) n) (maker js ∷ [])
   unfolding keptRow
   kept-part k n js d = rw (ne-eqb k 7 d)
 
-  pub kept-point : (k n : ℕ) (js : List ℕ) → k ≡ 7 → keptIn w (point n) ≡ true → keptRow plain w (k ∷ []) js n ≡ recordsOf plain (elementsFrom (k ∷ []) n) (maker js ∷ [])
+  pub kept-point : (k n : ℕ) (js : List ℕ) → k ≡ 7 → keptIn w (point n) ≡ true → keptRow plain w (k ∷ []) js n ≡ elementRecords plain (elementsFrom (k ∷ []) n) (maker js ∷ [])
   unfolding keptRow
   kept-point k n js e f = rw (eq-eqb k 7 e, f)
 
@@ -124,9 +124,9 @@ module _ (w : List ℕ) where
   pub wire-first : (k : ℕ) (ks : List ℕ) (n : ℕ) → wireRow w (k ∷ ks) n ≡ wireRow w (k ∷ []) n ++ wireRow w ks (after k n)
   unfolding wireRow
   wire-first k ks n =
-      ap (λ (es : List Element). wireBytes (wiresIn w es)) (kinds-append (k ∷ []) ks n)
+      ap (λ (es : List Element). wireBytes (leanWiresIn w es)) (kinds-append (k ∷ []) ks n)
       ∙ ap wireBytes (wires-in-append w (elementsFrom (k ∷ []) n) (elementsFrom ks (after k n)))
-      ∙ wires-append (wiresIn w (elementsFrom (k ∷ []) n)) (wiresIn w (elementsFrom ks (after k n)))
+      ∙ wires-append (leanWiresIn w (elementsFrom (k ∷ []) n)) (leanWiresIn w (elementsFrom ks (after k n)))
 
   pub pin-none : pinRow w [] ≡ []
   unfolding pinRow

@@ -71,7 +71,7 @@ met-root w e k p o x r m z = z ∙ m .same
 
 -- ---- from o back, each gets the root r; x is next
 
-pub record Settling (w₀ w : List ℕ) (e k p o r x left : ℕ) : Type 0 where
+pub record SettlingOne (w₀ w : List ℕ) (e k p o r x left : ℕ) : Type 0 where
   pub within : Within w₀ w
   pub partly : Partly w e k p
   pub output : T (isOut (netIn w e k p .elements) x)
@@ -80,10 +80,10 @@ pub record Settling (w₀ w : List ℕ) (e k p o r x left : ℕ) : Type 0 where
   pub first : entry w o ≡ 65535 → (x ≡ o) × (left ≡ 8192)
 
 pub settling-start : (w : List ℕ) (e k p o r : ℕ) → Partly w e k p → T (isOut (netIn w e k p .elements) o) → r ≡ root (netIn w e k p) o
-    → Settling w w e k p o r o 8192
+    → SettlingOne w w e k p o r o 8192
 settling-start w e k p o r q t z = record { within = within-none w; partly = q; output = t; same = z; still = λ y d. d; first = λ f. (refl, refl) }
 
-module _ (w₀ w : List ℕ) (e k p o r x left : ℕ) (s : Settling w₀ w e k p o r x left) where
+module _ (w₀ w : List ℕ) (e k p o r x left : ℕ) (s : SettlingOne w₀ w e k p o r x left) where
   -- x is settled already
   pub settled-met : (entry w x ≡ 65535 → ⊥) → Settled w₀ w e k p o
   settled-met d = record {
@@ -128,7 +128,7 @@ module _ (w₀ w : List ℕ) (e k p o r x left : ℕ) (s : Settling w₀ w e k p
         | no f ↦ f (sym (s .first (sym (entry-other w x o r f) ∙ z) .0))
       ]
 
-  pub settling-step : entry w x ≡ 65535 → Settling w₀ w₁ e k p o r (getD w (x - 1) 0) (left - 1)
+  pub settling-step : entry w x ≡ 65535 → SettlingOne w₀ w₁ e k p o r (getD w (x - 1) 0) (left - 1)
   settling-step z =
       let h = within-set w x r x-below in
       let net = net-same w e k p (s .partly .ready) w₁ (h .size) (h .below) in

@@ -17,7 +17,7 @@ use Rattle.circuit_theorems.proofs.RootLaws.{root-stays}
 use Rattle.circuit_theorems.proofs.BackLaws.{PartStays, back-parts}
 use Rattle.memory.specs.Map.{elementsAt, rootsAt, memorySize, region, elementsFrom, netIn, Ready}
 use Rattle.netlist.specs.Elements.{outputOf, after, afterAll}
-use Rattle.lean.specs.Table.{entry, Within, Blank, firstOf, started, Partly}
+use Rattle.lean.specs.Table.{entry, Within, Blank, startRoot, started, Partly}
 use Rattle.netlist.proofs.Elements.{after-rises}
 use Rattle.lean.proofs.KindLaws.{output-low, after-output, output-from, tiled-after}
 use Rattle.lean.proofs.TableLaws.{within-none, within-then, within-set, entry-same, entry-other}
@@ -30,7 +30,7 @@ pub started-within : (ks : List ℕ) (n : ℕ) (w : List ℕ) → afterAll ks n 
 started-within [] n w h = within-none w
 started-within (k ∷ ks) n w h =
     let l : after k n ≤ 8192 = omega (arith, after-rises ks (after k n)) in
-    within-then (within-set w (outputOf k n) (firstOf w k n) (output-low k n 8192 l)) (started-within ks (after k n) (set w (rootsAt + outputOf k n) (firstOf w k n)) h)
+    within-then (within-set w (outputOf k n) (startRoot w k n) (output-low k n 8192 l)) (started-within ks (after k n) (set w (rootsAt + outputOf k n) (startRoot w k n)) h)
 
 -- an entry before the elements
 started-before : (ks : List ℕ) (n : ℕ) (w : List ℕ) (x : ℕ) → x < n → entry (started w ks n) x ≡ entry w x
@@ -38,7 +38,7 @@ started-before [] n w x h = refl
 started-before (k ∷ ks) n w x h =
     let a = output-from k n in
     let b = after-output k n in
-    started-before ks (after k n) (set w (rootsAt + outputOf k n) (firstOf w k n)) x (omega arith) ∙ entry-other w (outputOf k n) x (firstOf w k n) (λ e. absurd (omega arith))
+    started-before ks (after k n) (set w (rootsAt + outputOf k n) (startRoot w k n)) x (omega arith) ∙ entry-other w (outputOf k n) x (startRoot w k n) (λ e. absurd (omega arith))
 
 -- an entry that is no output's
 started-other : (ks : List ℕ) (n : ℕ) (w : List ℕ) (x : ℕ) → isOut (elementsFrom ks n) x ≡ false → entry (started w ks n) x ≡ entry w x

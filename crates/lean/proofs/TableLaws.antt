@@ -10,7 +10,7 @@ use lib.Seq.{getD-set-same, getD-set-other}
 use borrow.Author.Tests.{ne-eqb, eq-eqb}
 use Rattle.memory.specs.Map.{elementsAt, rootsAt, memorySize, region}
 use Rattle.netlist.specs.Elements.{outputOf, after, afterAll}
-use Rattle.lean.specs.Table.{entry, Within, firstOf, started}
+use Rattle.lean.specs.Table.{entry, Within, startRoot, started}
 use Rattle.netlist.proofs.Elements.{after-rises}
 use Rattle.lean.proofs.KindLaws.{output-low, region-next}
 
@@ -48,13 +48,13 @@ blank-more w i l h z x lt =
 
 -- ---- how it starts
 
-pub first-loose : (w : List ℕ) (k n : ℕ) → k ≡ 7 → (getD w n 0 ≡ 65535 → ⊥) → 65535 ≡ firstOf w k n
+pub first-loose : (w : List ℕ) (k n : ℕ) → k ≡ 7 → (getD w n 0 ≡ 65535 → ⊥) → 65535 ≡ startRoot w k n
 first-loose w k n e d = rw (eq-eqb k 7 e, ne-eqb (getD w n 0) 65535 d)
 
-pub first-pin : (w : List ℕ) (k n : ℕ) → k ≡ 7 → getD w n 0 ≡ 65535 → outputOf k n ≡ firstOf w k n
+pub first-pin : (w : List ℕ) (k n : ℕ) → k ≡ 7 → getD w n 0 ≡ 65535 → outputOf k n ≡ startRoot w k n
 first-pin w k n e f = rw (eq-eqb k 7 e, eq-eqb (getD w n 0) 65535 f)
 
-pub first-part : (w : List ℕ) (k n : ℕ) → (k ≡ 7 → ⊥) → outputOf k n ≡ firstOf w k n
+pub first-part : (w : List ℕ) (k n : ℕ) → (k ≡ 7 → ⊥) → outputOf k n ≡ startRoot w k n
 first-part w k n d = rw (ne-eqb k 7 d)
 
 -- i elements are done, from terminal `at` on the others are to come
@@ -79,9 +79,9 @@ module _ (w₀ w : List ℕ) (elements at i : ℕ) (size : memorySize ≤ length
   pub starting-low : after k at ≤ 8192
   starting-low = omega (arith, after-rises (drop (i + 1) ks) (after k at), end-next)
 
-  pub starting-next : Starting w₀ elements (set w (rootsAt + outputOf k at) (firstOf w k at)) (after k at) (i + 1)
+  pub starting-next : Starting w₀ elements (set w (rootsAt + outputOf k at) (startRoot w k at)) (after k at) (i + 1)
   starting-next = record {
-    within = within-then (s .within) (within-set w (outputOf k at) (firstOf w k at) (output-low k at 8192 starting-low));
+    within = within-then (s .within) (within-set w (outputOf k at) (startRoot w k at) (output-low k at 8192 starting-low));
     end = end-next;
     whole = subst (λ (xs : List ℕ). started w xs at ≡ started w₀ ks 0) next (s .whole);
   }

@@ -44,7 +44,7 @@ abbrev pub LowPin : Terminal → Type 0
 LowPin (inp i) = Unit {0}
 LowPin (out o) = o < 8192
 
-pub record PinsFit (w : List ℕ) (pins : ℕ) (bytes : List ℕ) (room from : ℕ) : Type 0 where
+pub record LeanPinsFit (w : List ℕ) (pins : ℕ) (bytes : List ℕ) (room from : ℕ) : Type 0 where
   pub size : memorySize ≤ length w
   pub few : pins ≤ 128
   pub low : (i : ℕ) → i < pins → LowPin (terminalOf (getD w (stackAt + i) 0))

@@ -8,7 +8,7 @@ use Rattle.calculus.specs.Terms.{partAt}
 use Rattle.calculus.specs.Net.{Terminal, inp, out, Element, point, part, Wire, wireBytes, pinBytes}
 use Rattle.calculus.specs.Makers.{maker}
 use Rattle.memory.specs.Map.{elementsFrom, terminalOf}
-use Rattle.netlist.specs.Elements.{recordsOf}
+use Rattle.netlist.specs.Elements.{elementRecords}
 use Rattle.lean.specs.Table.{entry}
 
 -- input i has no driver
@@ -41,9 +41,9 @@ abbrev pub elementIn : List ℕ → Element → List Wire
 elementIn w (part p i) = inputsIn w (partAt p .inputs) i
 elementIn w (point i) = cond (keptIn w (point i) && not (undriven w i)) (record { from = i + 1; to = i } ∷ []) []
 
-abbrev pub wiresIn : List ℕ → List Element → List Wire
-wiresIn w [] = []
-wiresIn w (x ∷ es) = elementIn w x ++ wiresIn w es
+abbrev pub leanWiresIn : List ℕ → List Element → List Wire
+leanWiresIn w [] = []
+leanWiresIn w (x ∷ es) = elementIn w x ++ leanWiresIn w es
 
 abbrev pub pinIn : List ℕ → Terminal → Terminal
 pinIn w (inp i) = inp i
@@ -53,10 +53,10 @@ pinIn w (out o) = out (entry w o)
 
 -- plain, or with their makers
 unfoldable pub keptRow : Bool → List ℕ → List ℕ → List ℕ → ℕ → List ℕ
-keptRow plain w ks js n = recordsOf plain (keepIn w (elementsFrom ks n)) (keepMakersIn w (elementsFrom ks n) js)
+keptRow plain w ks js n = elementRecords plain (keepIn w (elementsFrom ks n)) (keepMakersIn w (elementsFrom ks n) js)
 
 unfoldable pub wireRow : List ℕ → List ℕ → ℕ → List ℕ
-wireRow w ks n = wireBytes (wiresIn w (elementsFrom ks n))
+wireRow w ks n = wireBytes (leanWiresIn w (elementsFrom ks n))
 
 unfoldable pub pinRow : List ℕ → List ℕ → List ℕ
 pinRow w cs = pinBytes (map (λ c. pinIn w (terminalOf c)) cs)

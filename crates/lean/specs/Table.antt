@@ -9,6 +9,8 @@ use Rattle.calculus.specs.Terms.{partAt}
 use Rattle.calculus.specs.Net.{Net}
 use Rattle.calculus.specs.Lean.{back, backs, root}
 use Rattle.calculus.specs.Inputs.{isOut}
+use Rattle.calculus.specs.NetRead.{Known}
+use Rattle.calculus.specs.Record.{All}
 use Rattle.memory.specs.Map.{rootsAt, rootsEnd, netIn, Ready}
 use Rattle.netlist.specs.Elements.{outputOf, after}
 
@@ -28,12 +30,12 @@ pub record Blank (w w′ : List ℕ) : Type 0 where
 
 -- ---- how it starts: an output that stays is its own root; that of a point whose input has a driver is not settled, 65,535
 
-abbrev pub firstOf : List ℕ → ℕ → ℕ → ℕ
-firstOf w k n = cond (eqb k 7) (cond (eqb (getD w n 0) 65535) (n + 1) 65535) (n + partAt k .inputs)
+abbrev pub startRoot : List ℕ → ℕ → ℕ → ℕ
+startRoot w k n = cond (eqb k 7) (cond (eqb (getD w n 0) 65535) (n + 1) 65535) (n + partAt k .inputs)
 
 abbrev pub started : List ℕ → List ℕ → ℕ → List ℕ
 started w [] n = w
-started w (k ∷ ks) n = started (set w (rootsAt + outputOf k n) (firstOf w k n)) ks (after k n)
+started w (k ∷ ks) n = started (set w (rootsAt + outputOf k n) (startRoot w k n)) ks (after k n)
 
 -- ---- until it is whole: each entry is right or not settled
 
@@ -74,6 +76,11 @@ pub record Whole (w : List ℕ) (elements wires pins : ℕ) : Type 0 where
   pub ready : Ready w elements wires pins
   pub table : (x : ℕ) → x < 8192
       → entry w x ≡ cond (isOut (netIn w elements wires pins .elements) x) (root (netIn w elements wires pins) x) 0
+
+-- .. of a netlist of known parts
+pub record Leaned (w : List ℕ) (elements wires pins : ℕ) : Type 0 where
+  pub whole : Whole w elements wires pins
+  pub known : All Known (netIn w elements wires pins .elements)
 
 pub record Rooted (w w′ : List ℕ) (elements wires pins : ℕ) : Type 0 where
   pub within : Within w w′

@@ -13,7 +13,7 @@ ghost use Rattle.calculus.specs.Lean.{root};
 ghost use Rattle.calculus.specs.Net.{point};
 ghost use Rattle.memory.specs.Map.{elementsAt, rootsAt, memorySize, region, netIn};
 ghost use Rattle.netlist.specs.Elements.{outputOf, after, afterAll};
-ghost use Rattle.lean.specs.Table.{entry, Blank, firstOf, started, Partly, Output, Comes, Met, Settled};
+ghost use Rattle.lean.specs.Table.{entry, Blank, startRoot, started, Partly, Output, Comes, Met, Settled};
 ghost use Rattle.lean.specs.InMemory.{keptIn};
 
 // Every entry of the table is 0.
@@ -31,7 +31,7 @@ pub fn blank(work: &mut [u16])
 // An output that stays is its own root; any other is not settled yet.
 fn first_of(work: &[u16], kind: u16, n: u16) -> u16
     requires { ⌜ (memorySize ≤ length (now work)) × (after kind n ≤ 8192) ⌝ }
-    ensures { λ r. ⌜ r ≡ firstOf (now (work .entry)) kind n ⌝ }
+    ensures { λ r. ⌜ r ≡ startRoot (now (work .entry)) kind n ⌝ }
 {
     let o = netlist::output_of(kind, n);
     if kind == POINT {
@@ -46,7 +46,7 @@ fn first_of(work: &[u16], kind: u16, n: u16) -> u16
 fn start_one(work: &mut [u16], kind: u16, n: u16) -> u16
     requires { ⌜ (memorySize ≤ length (now work)) × (after kind n ≤ 8192) ⌝ }
     ensures { λ r. ⌜ (r ≡ after kind n)
-        × (now (work .exit) ≡ set (now (work .entry)) (rootsAt + outputOf kind n) (firstOf (now (work .entry)) kind n)) ⌝ }
+        × (now (work .exit) ≡ set (now (work .entry)) (rootsAt + outputOf kind n) (startRoot (now (work .entry)) kind n)) ⌝ }
 {
     let first = first_of(work, kind, n);
     let o = netlist::output_of(kind, n);

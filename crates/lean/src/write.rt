@@ -17,7 +17,7 @@ ghost use lib.ListN.{length};
 ghost use Rattle.calculus.specs.Net.{wireBytes};
 ghost use Rattle.memory.specs.Map.{elementsAt, stackAt, makersAt, memorySize, region, terminalOf};
 ghost use Rattle.lean.specs.InMemory.{inputIn, inputsIn, pinIn, keptRow, wireRow, pinRow};
-ghost use Rattle.lean.specs.Fitting.{ElementFits, InputFits, InputsFit, RowFits, LowPin, PinsFit};
+ghost use Rattle.lean.specs.Fitting.{ElementFits, InputFits, InputsFit, RowFits, LowPin, LeanPinsFit};
 ghost use Rattle.netlist.specs.Said.{saidTerminal};
 
 // The record of the element of this kind that starts at terminal n, where it is kept; plain, or with the node that made it. As each
@@ -148,7 +148,7 @@ pub fn lean_pin(work: &[u16], coded: u16) -> Terminal
 
 // The records of the pins.
 pub fn put_pins(work: &[u16], pins: usize, out: &mut [u8], from: usize) -> usize
-    requires { ⌜ PinsFit (now work) pins (pinRow (now work) (region (now work) stackAt pins)) (length (now out)) from ⌝ }
+    requires { ⌜ LeanPinsFit (now work) pins (pinRow (now work) (region (now work) stackAt pins)) (length (now out)) from ⌝ }
     ensures { λ r. ⌜ (r ≡ from + length (pinRow (now (work .entry)) (region (now (work .entry)) stackAt pins)))
         × (now (out .exit) ≡ sets (now (out .entry)) from (pinRow (now (work .entry)) (region (now (work .entry)) stackAt pins))) ⌝ }
 {

@@ -16,10 +16,10 @@ use Rattle.circuit_theorems.specs.Formed.{Tiled}
 use Rattle.circuit_theorems.proofs.Lists.{all-map}
 use Rattle.circuit_theorems.proofs.Terminals.{tiled-rising, rising-end}
 use Rattle.circuit_theorems.proofs.Outputs.{EndHolds, Shows, BoundShows, tiled, next-le, names-below}
-use Rattle.circuit_theorems.proofs.Bounds.{Below}
+use Rattle.circuit_theorems.proofs.Bounds.{ElementBelow}
 use Rattle.linear_theorems.specs.Marked.{Seen, PartsSeen}
-use Rattle.linear_theorems.proofs.Meaning.{cut, Cut, lines, Val, build}
-use Rattle.linear_theorems.proofs.Heard.{vals, Runs}
+use Rattle.linear_theorems.proofs.Meaning.{cutStream, Cut, lines, Val, build}
+use Rattle.linear_theorems.proofs.Heard.{vals, HeardRuns}
 
 -- ---- a part moved to another place
 
@@ -31,9 +31,9 @@ streams-moved (suc k) i j β′ β h =
     (streams-moved k (i + 1) (j + 1) β′ β (λ x l. let p : i + 1 + x ≡ i + suc x = omega arith in let q : j + 1 + x ≡ j + suc x = omega arith in ap β′ p ∙ h (suc x) (omega arith) ∙ ap β (sym q)))
 
 pub part-lines : (n k i j : ℕ) (β′ β : Bits) → ((x : ℕ) → x ≤ k → β′ (i + x) ≡ β (j + x)) → lines n β′ (partSide k i) ≡ lines n β (partSide k j)
-part-lines n zero i j β′ β h = ap (λ (w : Stream). cut n w ∷ []) (ap β′ (sym (add-zero i)) ∙ h 0 (omega arith) ∙ ap β (add-zero j))
+part-lines n zero i j β′ β h = ap (λ (w : Stream). cutStream n w ∷ []) (ap β′ (sym (add-zero i)) ∙ h 0 (omega arith) ∙ ap β (add-zero j))
 part-lines n (suc k) i j β′ β h =
-    ap₂ _∷_ (ap (cut n) (ap β′ (sym (add-zero i)) ∙ h 0 (omega arith) ∙ ap β (add-zero j)))
+    ap₂ _∷_ (ap (cutStream n) (ap β′ (sym (add-zero i)) ∙ h 0 (omega arith) ∙ ap β (add-zero j)))
     (part-lines n k (i + 1) (j + 1) β′ β (λ x l. let p : i + 1 + x ≡ i + suc x = omega arith in let q : j + 1 + x ≡ j + suc x = omega arith in ap β′ p ∙ h (suc x) (omega arith) ∙ ap β (sym q)))
 
 pub part-moved : (law : Law) (n p i j : ℕ) (β′ β : Bits) → ((x : ℕ) → x ≤ partAt p .inputs → β′ (i + x) ≡ β (j + x)) → Works law n β (part p j) → Works law n β′ (part p i)
@@ -69,11 +69,11 @@ low-out b (false ∷ ts) i h = (omega arith, low-out b ts (i + 2) (omega arith))
 low-out b (true ∷ ts) i h = (omega arith, low-out b ts (i + 2) (omega arith))
 
 pub record Lows (m : Made) : Type 0 where
-  pub elements : All (Below (m .next)) (m .elements)
+  pub elements : All (ElementBelow (m .next)) (m .elements)
   pub wires : All (λ w. (w .from < m .next) × (w .to < m .next)) (m .wires)
   pub side : LowSide (m .next) (m .side)
 
-tiled-below : (es : List Element) (n e : ℕ) → Tiled es n e → All (Below e) es
+tiled-below : (es : List Element) (n e : ℕ) → Tiled es n e → All (ElementBelow e) es
 tiled-below [] n e a = tt
 tiled-below (point i ∷ es) n e a = (let p = a .0 in omega (arith, rising-end es (n + 2) e (tiled-rising es (n + 2) e (a .1))), tiled-below es (n + 2) e (a .1))
 tiled-below (part p i ∷ es) n e a =
@@ -97,14 +97,14 @@ at-tick e t = ap (λ (w : Stream). w t) e
 module _ (b : ℕ) (β′ β : Bits) (g : Agree b β′ β) (n : ℕ) where
   pub lines-keep : (s : Interface) → LowSide b s → lines n β′ s ≡ lines n β s
   lines-keep [] a = refl
-  lines-keep (inp i ∷ s) a = ap₂ (λ (w : Stream) (r : List Stream). cut n w ∷ r) (g i (a .0)) (lines-keep s (a .1))
-  lines-keep (out o ∷ s) a = ap₂ (λ (w : Stream) (r : List Stream). cut n w ∷ r) (g o (a .0)) (lines-keep s (a .1))
+  lines-keep (inp i ∷ s) a = ap₂ (λ (w : Stream) (r : List Stream). cutStream n w ∷ r) (g i (a .0)) (lines-keep s (a .1))
+  lines-keep (out o ∷ s) a = ap₂ (λ (w : Stream) (r : List Stream). cutStream n w ∷ r) (g o (a .0)) (lines-keep s (a .1))
 
   pub vals-keep : (env : List Bound) → LowEnv b env → vals n β′ env ≡ vals n β env
   vals-keep [] a = refl
   vals-keep (x ∷ env) a = ap₂ (λ (w : List Stream) (r : List Val). build (x .type) w ∷ r) (lines-keep (x .side) (a .0)) (vals-keep env (a .1))
 
-  works-keep : (law : Law) (es : List Element) → All (Below b) es → All (Works law n β) es → All (Works law n β′) es
+  works-keep : (law : Law) (es : List Element) → All (ElementBelow b) es → All (Works law n β) es → All (Works law n β′) es
   works-keep law [] a w = tt
   works-keep law (point i ∷ es) a w =
       ((λ t l. at-tick (g i (let q = a .0 in omega arith)) t ∙ w .0 t l ∙ at-tick (sym (g (i + 1) (a .0))) t), works-keep law es (a .1) (w .1))
@@ -114,7 +114,7 @@ module _ (b : ℕ) (β′ β : Bits) (g : Agree b β′ β) (n : ℕ) where
   joined-keep [] a w = tt
   joined-keep (x ∷ ws) a w = ((λ t l. at-tick (g (x .from) (a .0 .0)) t ∙ w .0 t l ∙ at-tick (sym (g (x .to) (a .0 .1))) t), joined-keep ws (a .1) (w .1))
 
-  seen-keep : (ρ : Seen) (ks : List ℕ) (es : List Element) → All (Below b) es → PartsSeen n ρ β ks es → PartsSeen n ρ β′ ks es
+  seen-keep : (ρ : Seen) (ks : List ℕ) (es : List Element) → All (ElementBelow b) es → PartsSeen n ρ β ks es → PartsSeen n ρ β′ ks es
   seen-keep ρ ks [] a w = w
   seen-keep ρ ks (point i ∷ es) a w = seen-keep ρ ks es (a .1) w
   seen-keep ρ [] (part p i ∷ es) a w = absurd w
@@ -122,7 +122,7 @@ module _ (b : ℕ) (β′ β : Bits) (g : Agree b β′ β) (n : ℕ) where
       ((λ x h t l. w .0 x h t l ∙ at-tick (sym (g (i + x) (let q = a .0 in omega arith))) t), seen-keep ρ ks es (a .1) (w .1))
 
 -- what runs goes on running
-pub runs-keep : (law : Law) (n : ℕ) (ρ : Seen) (ks : List ℕ) (m : Made) (β′ β : Bits) → Agree (m .next) β′ β → Lows m → Runs law n ρ β ks m → Runs law n ρ β′ ks m
+pub runs-keep : (law : Law) (n : ℕ) (ρ : Seen) (ks : List ℕ) (m : Made) (β′ β : Bits) → Agree (m .next) β′ β → Lows m → HeardRuns law n ρ β ks m → HeardRuns law n ρ β′ ks m
 runs-keep law n ρ ks m β′ β g l r = record {
   works = works-keep (m .next) β′ β g n law (m .elements) (l .elements) (r .works);
   joined = joined-keep (m .next) β′ β g n (m .wires) (l .wires) (r .joined);
@@ -153,15 +153,15 @@ module _ (n : ℕ) where
   lay-in [] [] i β e c = refl
   lay-in [] (w ∷ ws) i β e c = absurd (omega arith)
   lay-in (t ∷ ts) [] i β e c = absurd (omega arith)
-  lay-in (false ∷ ts) (w ∷ ws) i β e c = ap₂ _∷_ (ap (cut n) (lay-first ws w i β) ∙ c .0) (lay-in ts ws (i + 2) (onto i w β) (omega arith) (c .1))
-  lay-in (true ∷ ts) (w ∷ ws) i β e c = ap₂ _∷_ (ap (cut n) (lay-second ws w i β) ∙ c .0) (lay-in ts ws (i + 2) (onto i w β) (omega arith) (c .1))
+  lay-in (false ∷ ts) (w ∷ ws) i β e c = ap₂ _∷_ (ap (cutStream n) (lay-first ws w i β) ∙ c .0) (lay-in ts ws (i + 2) (onto i w β) (omega arith) (c .1))
+  lay-in (true ∷ ts) (w ∷ ws) i β e c = ap₂ _∷_ (ap (cutStream n) (lay-second ws w i β) ∙ c .0) (lay-in ts ws (i + 2) (onto i w β) (omega arith) (c .1))
 
   pub lay-out : (ts : List Bool) (ws : List Stream) (i : ℕ) (β : Bits) → length ws ≡ length ts → All (Cut n) ws → lines n (lay ws i β) (outSide ts i) ≡ ws
   lay-out [] [] i β e c = refl
   lay-out [] (w ∷ ws) i β e c = absurd (omega arith)
   lay-out (t ∷ ts) [] i β e c = absurd (omega arith)
-  lay-out (false ∷ ts) (w ∷ ws) i β e c = ap₂ _∷_ (ap (cut n) (lay-second ws w i β) ∙ c .0) (lay-out ts ws (i + 2) (onto i w β) (omega arith) (c .1))
-  lay-out (true ∷ ts) (w ∷ ws) i β e c = ap₂ _∷_ (ap (cut n) (lay-first ws w i β) ∙ c .0) (lay-out ts ws (i + 2) (onto i w β) (omega arith) (c .1))
+  lay-out (false ∷ ts) (w ∷ ws) i β e c = ap₂ _∷_ (ap (cutStream n) (lay-second ws w i β) ∙ c .0) (lay-out ts ws (i + 2) (onto i w β) (omega arith) (c .1))
+  lay-out (true ∷ ts) (w ∷ ws) i β e c = ap₂ _∷_ (ap (cutStream n) (lay-first ws w i β) ∙ c .0) (lay-out ts ws (i + 2) (onto i w β) (omega arith) (c .1))
 
 -- ---- the bits that s has from j on, set from terminal i on
 

@@ -19,23 +19,23 @@ use Rattle.linear_theorems.proofs.Lines.{lines-append, lines-take, line
 
 -- ---- marks: as many as parts
 
-abbrev Counted : List ℕ → List Element → Type 0
-Counted ks [] = ks ≡ []
-Counted ks (point i ∷ es) = Counted ks es
-Counted [] (part p i ∷ es) = ⊥
-Counted (k ∷ ks) (part p i ∷ es) = Counted ks es
+abbrev CountedBelow : List ℕ → List Element → Type 0
+CountedBelow ks [] = ks ≡ []
+CountedBelow ks (point i ∷ es) = CountedBelow ks es
+CountedBelow [] (part p i ∷ es) = ⊥
+CountedBelow (k ∷ ks) (part p i ∷ es) = CountedBelow ks es
 
-counted-append : (ks ls : List ℕ) (es fs : List Element) → Counted ks es → Counted ls fs → Counted (ks ++ ls) (es ++ fs)
-counted-append ks ls [] fs a b = subst (λ (r : List ℕ). Counted (r ++ ls) fs) (sym a) b
+counted-append : (ks ls : List ℕ) (es fs : List Element) → CountedBelow ks es → CountedBelow ls fs → CountedBelow (ks ++ ls) (es ++ fs)
+counted-append ks ls [] fs a b = subst (λ (r : List ℕ). CountedBelow (r ++ ls) fs) (sym a) b
 counted-append ks ls (point i ∷ es) fs a b = counted-append ks ls es fs a b
 counted-append [] ls (part p i ∷ es) fs a b = absurd a
 counted-append (k ∷ ks) ls (part p i ∷ es) fs a b = counted-append ks ls es fs a b
 
-counted-points : (ts : List Bool) (i : ℕ) → Counted [] (points ts i)
+counted-points : (ts : List Bool) (i : ℕ) → CountedBelow [] (points ts i)
 counted-points [] i = refl
 counted-points (t ∷ ts) i = counted-points ts (i + 2)
 
-counted : (Θ : Table) (e : Marked) (env : List Bound) (i : ℕ) → Counted (marks e) (make Θ (plain e) env i .elements)
+counted : (Θ : Table) (e : Marked) (env : List Bound) (i : ℕ) → CountedBelow (marks e) (make Θ (plain e) env i .elements)
 counted Θ (mvar k) env i = refl
 counted Θ (mlvar k) env i = refl
 counted Θ (mfun t e) env i = counted-append [] (marks e) (points (turns false (leftOf (tree Θ t))) i) _ (counted-points (turns false (leftOf (tree Θ t))) i) (counted Θ e _ _)
@@ -48,13 +48,13 @@ counted Θ (mfix t e) env i = counted-append [] (marks e) (points (turns false (
 counted Θ (mcon p t k) env i = refl
 
 module _ (n : ℕ) (ρ : Seen) (β : Bits) where
-  seen-left : (ks ls : List ℕ) (es fs : List Element) → Counted ks es → PartsSeen n ρ β (ks ++ ls) (es ++ fs) → PartsSeen n ρ β ks es
+  seen-left : (ks ls : List ℕ) (es fs : List Element) → CountedBelow ks es → PartsSeen n ρ β (ks ++ ls) (es ++ fs) → PartsSeen n ρ β ks es
   seen-left ks ls [] fs a b = a
   seen-left ks ls (point i ∷ es) fs a b = seen-left ks ls es fs a b
   seen-left [] ls (part p i ∷ es) fs a b = absurd a
   seen-left (k ∷ ks) ls (part p i ∷ es) fs a b = (b .0, seen-left ks ls es fs a (b .1))
 
-  seen-right : (ks ls : List ℕ) (es fs : List Element) → Counted ks es → PartsSeen n ρ β (ks ++ ls) (es ++ fs) → PartsSeen n ρ β ls fs
+  seen-right : (ks ls : List ℕ) (es fs : List Element) → CountedBelow ks es → PartsSeen n ρ β (ks ++ ls) (es ++ fs) → PartsSeen n ρ β ls fs
   seen-right ks ls [] fs a b = subst (λ (r : List ℕ). PartsSeen n ρ β (r ++ ls) fs) a b
   seen-right ks ls (point i ∷ es) fs a b = seen-right ks ls es fs a b
   seen-right [] ls (part p i ∷ es) fs a b = absurd a
@@ -86,7 +86,7 @@ abbrev pub vals : ℕ → Bits → List Bound → List Val
 vals n β env = map (val n β) env
 
 -- the bits run what was made
-pub record Runs (law : Law) (n : ℕ) (ρ : Seen) (β : Bits) (ks : List ℕ) (m : Made) : Type 0 where
+pub record HeardRuns (law : Law) (n : ℕ) (ρ : Seen) (β : Bits) (ks : List ℕ) (m : Made) : Type 0 where
   pub works : All (Works law n β) (m .elements)
   pub joined : All (Joined n β) (m .wires)
   pub seen : PartsSeen n ρ β ks (m .elements)
@@ -97,16 +97,16 @@ module _ (law : Law) (n : ℕ) (ρ : Seen) (β : Bits) where
   in-out α i a = ap (build α) (points-lines law n β (turns false α) i a)
 
   -- the first and the second of two subterms
-  module _ (ks ls : List ℕ) (x y : Made) (k : Counted ks (x .elements)) (a : All (Works law n β) (x .elements ++ y .elements)) (b : All (Joined n β) (x .wires ++ y .wires))
+  module _ (ks ls : List ℕ) (x y : Made) (k : CountedBelow ks (x .elements)) (a : All (Works law n β) (x .elements ++ y .elements)) (b : All (Joined n β) (x .wires ++ y .wires))
       (c : PartsSeen n ρ β (ks ++ ls) (x .elements ++ y .elements)) where
-    runs-first : Runs law n ρ β ks x
+    runs-first : HeardRuns law n ρ β ks x
     runs-first = record {
       works = all-left (Works law n β) (x .elements) (y .elements) a;
       joined = all-left (Joined n β) (x .wires) (y .wires) b;
       seen = seen-left n ρ β ks ls (x .elements) (y .elements) k c;
     }
 
-    runs-second : Runs law n ρ β ls y
+    runs-second : HeardRuns law n ρ β ls y
     runs-second = record {
       works = all-right (Works law n β) (x .elements) (y .elements) a;
       joined = all-right (Joined n β) (x .wires) (y .wires) b;
@@ -115,7 +115,7 @@ module _ (law : Law) (n : ℕ) (ρ : Seen) (β : Bits) where
 
   -- a binder's body
   inner : (ks : List ℕ) (α : Ty) (i : ℕ) (m : Made) → All (Works law n β) (points (turns false α) i ++ m .elements) → All (Joined n β) (m .wires)
-      → PartsSeen n ρ β ks (points (turns false α) i ++ m .elements) → Runs law n ρ β ks m
+      → PartsSeen n ρ β ks (points (turns false α) i ++ m .elements) → HeardRuns law n ρ β ks m
   inner ks α i m a b c = record {
     works = all-right (Works law n β) (points (turns false α) i) (m .elements) a;
     joined = b;
@@ -127,7 +127,7 @@ module _ (law : Law) (n : ℕ) (ρ : Seen) (β : Bits) where
     var-heard env k τ e = ap (λ (σ : Ty). build σ (lines n β (getD env k unbound .side))) (sym e) ∙ sym (List·getD-map (val n β) env k unbound)
 
     -- a function, of either sort
-    fun-heard : (e : Marked) (ε : List Val) (α σ : Ty) (i : ℕ) (m : Made) → (Runs law n ρ β (marks e) m → Means law Θ n ρ e (val n β (binder α i) ∷ ε) (build σ (lines n β (m .side))))
+    fun-heard : (e : Marked) (ε : List Val) (α σ : Ty) (i : ℕ) (m : Made) → (HeardRuns law n ρ β (marks e) m → Means law Θ n ρ e (val n β (binder α i) ∷ ε) (build σ (lines n β (m .side))))
         → All (Works law n β) (points (turns false α) i ++ m .elements) → All (Joined n β) (m .wires) → PartsSeen n ρ β (marks e) (points (turns false α) i ++ m .elements)
         → Shaped n α (build α (take (size α) (lines n β (inSide (turns false α) i ++ m .side))))
         × Means law Θ n ρ e (build α (take (size α) (lines n β (inSide (turns false α) i ++ m .side))) ∷ ε) (build σ (drop (size α) (lines n β (inSide (turns false α) i ++ m .side))))
@@ -142,9 +142,9 @@ module _ (law : Law) (n : ℕ) (ρ : Seen) (β : Bits) where
         )
 
     -- an application, of either sort
-    app-heard : (f a : Marked) (ε : List Val) (α σ : Ty) (x y : Made) → leftOf (x .type) ≡ α → dirs (x .side) ≡ turns true α ++ turns false σ → dirs (y .side) ≡ turns false α → Counted (marks f) (x .elements)
-        → (Runs law n ρ β (marks f) x → Means law Θ n ρ f ε (node (build α (take (size α) (lines n β (x .side)))) (build σ (drop (size α) (lines n β (x .side))))))
-        → (Runs law n ρ β (marks a) y → Means law Θ n ρ a ε (build α (lines n β (y .side)))) → Runs law n ρ β (marks f ++ marks a) (madeApp x y)
+    app-heard : (f a : Marked) (ε : List Val) (α σ : Ty) (x y : Made) → leftOf (x .type) ≡ α → dirs (x .side) ≡ turns true α ++ turns false σ → dirs (y .side) ≡ turns false α → CountedBelow (marks f) (x .elements)
+        → (HeardRuns law n ρ β (marks f) x → Means law Θ n ρ f ε (node (build α (take (size α) (lines n β (x .side)))) (build σ (drop (size α) (lines n β (x .side))))))
+        → (HeardRuns law n ρ β (marks a) y → Means law Θ n ρ a ε (build α (lines n β (y .side)))) → HeardRuns law n ρ β (marks f ++ marks a) (madeApp x y)
         → (u : Val) × Means law Θ n ρ f ε (node u (build σ (lines n β (madeApp x y .side)))) × Means law Θ n ρ a ε u
     app-heard f a ε α σ x y el dx dy k mf ma r =
         let ws = join (y .side) (take (size (leftOf (x .type))) (x .side)) in
@@ -158,8 +158,8 @@ module _ (law : Law) (n : ℕ) (ρ : Seen) (β : Bits) where
           ma (runs-second (marks f) (marks a) x y k (r .works) b (r .seen)),
         )
 
-    pair-heard : (a b : Marked) (ε : List Val) (θ₁ θ₂ : Ty) (x y : Made) → length (x .side) ≡ size θ₁ → Counted (marks a) (x .elements)
-        → (Runs law n ρ β (marks a) x → Means law Θ n ρ a ε (build θ₁ (lines n β (x .side)))) → (Runs law n ρ β (marks b) y → Means law Θ n ρ b ε (build θ₂ (lines n β (y .side))))
+    pair-heard : (a b : Marked) (ε : List Val) (θ₁ θ₂ : Ty) (x y : Made) → length (x .side) ≡ size θ₁ → CountedBelow (marks a) (x .elements)
+        → (HeardRuns law n ρ β (marks a) x → Means law Θ n ρ a ε (build θ₁ (lines n β (x .side)))) → (HeardRuns law n ρ β (marks b) y → Means law Θ n ρ b ε (build θ₂ (lines n β (y .side))))
         → All (Works law n β) (x .elements ++ y .elements) → All (Joined n β) (x .wires ++ y .wires) → PartsSeen n ρ β (marks a ++ marks b) (x .elements ++ y .elements)
         → Means law Θ n ρ a ε (build θ₁ (take (size θ₁) (lines n β (x .side ++ y .side)))) × Means law Θ n ρ b ε (build θ₂ (drop (size θ₁) (lines n β (x .side ++ y .side))))
     pair-heard a b ε θ₁ θ₂ x y l k ma mb w j s = (
@@ -167,9 +167,9 @@ module _ (law : Law) (n : ℕ) (ρ : Seen) (β : Bits) where
       subst (λ (w : Val). Means law Θ n ρ b ε w) (sym (behind n β θ₁ (x .side) (y .side) l θ₂)) (mb (runs-second (marks a) (marks b) x y k w j s)),
     )
 
-    proj-heard : (a e : Marked) (ε : List Val) (θ₁ θ₂ : Ty) (v : Val) (x y : Made) → x .type ≡ prod θ₁ θ₂ → Counted (marks a) (x .elements)
-        → (Runs law n ρ β (marks a) x → Means law Θ n ρ a ε (node (build θ₁ (take (size θ₁) (lines n β (x .side)))) (build θ₂ (drop (size θ₁) (lines n β (x .side))))))
-        → (Runs law n ρ β (marks e) y → Means law Θ n ρ e (val n β (secondHalf x) ∷ val n β (firstHalf x) ∷ ε) v)
+    proj-heard : (a e : Marked) (ε : List Val) (θ₁ θ₂ : Ty) (v : Val) (x y : Made) → x .type ≡ prod θ₁ θ₂ → CountedBelow (marks a) (x .elements)
+        → (HeardRuns law n ρ β (marks a) x → Means law Θ n ρ a ε (node (build θ₁ (take (size θ₁) (lines n β (x .side)))) (build θ₂ (drop (size θ₁) (lines n β (x .side))))))
+        → (HeardRuns law n ρ β (marks e) y → Means law Θ n ρ e (val n β (secondHalf x) ∷ val n β (firstHalf x) ∷ ε) v)
         → All (Works law n β) (x .elements ++ y .elements) → All (Joined n β) (x .wires ++ y .wires) → PartsSeen n ρ β (marks a ++ marks e) (x .elements ++ y .elements)
         → (u w : Val) × Means law Θ n ρ a ε (node u w) × Means law Θ n ρ e (w ∷ u ∷ ε) v
     proj-heard a e ε θ₁ θ₂ v x y t k ma me w j s =
@@ -181,8 +181,8 @@ module _ (law : Law) (n : ℕ) (ρ : Seen) (β : Bits) where
           me (runs-second (marks a) (marks e) x y k w j s),
         )
 
-    fix-heard : (e : Marked) (ε : List Val) (θ : Ty) (i : ℕ) (m : Made) → dirs (m .side) ≡ turns false θ → (Runs law n ρ β (marks e) m → Means law Θ n ρ e (val n β (binder θ i) ∷ ε) (build θ (lines n β (m .side))))
-        → Runs law n ρ β (marks e) (madeFix θ i m)
+    fix-heard : (e : Marked) (ε : List Val) (θ : Ty) (i : ℕ) (m : Made) → dirs (m .side) ≡ turns false θ → (HeardRuns law n ρ β (marks e) m → Means law Θ n ρ e (val n β (binder θ i) ∷ ε) (build θ (lines n β (m .side))))
+        → HeardRuns law n ρ β (marks e) (madeFix θ i m)
         → Shaped n θ (build θ (lines n β (m .side))) × Means law Θ n ρ e (build θ (lines n β (m .side)) ∷ ε) (build θ (lines n β (m .side)))
     fix-heard e ε θ i m d h r =
         let s = inSide (turns false θ) i in
@@ -193,7 +193,7 @@ module _ (law : Law) (n : ℕ) (ρ : Seen) (β : Bits) where
           subst (λ (u : Val). Means law Θ n ρ e (u ∷ ε) (build θ (lines n β (m .side)))) (sym w) (h (inner (marks e) θ i m (r .works) (all-left (Joined n β) (m .wires) (join (m .side) s) (r .joined)) (r .seen))),
         )
 
-    pub hear : {Γ : Ctx} {τ : Ty} (e : Marked) → Typed first Θ Γ (plain e) τ → (env : List Bound) → Env Γ env → (i : ℕ) → Runs law n ρ β (marks e) (make Θ (plain e) env i)
+    pub hear : {Γ : Ctx} {τ : Ty} (e : Marked) → Typed first Θ Γ (plain e) τ → (env : List Bound) → Env Γ env → (i : ℕ) → HeardRuns law n ρ β (marks e) (make Θ (plain e) env i)
         → Means law Θ n ρ e (vals n β env) (build τ (lines n β (make Θ (plain e) env i .side)))
     hear {τ = τ} (mvar k) (Var x) env v i = λ r. var-heard env k τ (term-driven {E = first} {Θ = Θ} (Var x) env v i .type)
     hear {τ = τ} (mlvar k) (LVar x) env v i = λ r. var-heard env k τ (term-driven {E = first} {Θ = Θ} (LVar x) env v i .type)

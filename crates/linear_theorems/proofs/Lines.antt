@@ -15,7 +15,7 @@ use Rattle.calculus.specs.Record.{Stream, Bits, Law, All, Works, Joined}
 use Rattle.circuit_theorems.proofs.Drivers.{turns-size}
 use Rattle.circuit_theorems.specs.Scope.{dir, dirs}
 use Rattle.circuit_theorems.proofs.Lists.{all-take, all-drop, all-append}
-use Rattle.linear_theorems.proofs.Meaning.{cut, Cut, lines, Val, leaf, node, Shaped, build}
+use Rattle.linear_theorems.proofs.Meaning.{cutStream, Cut, lines, Val, leaf, node, Shaped, build}
 
 -- ---- what is seen of a stream
 
@@ -23,17 +23,17 @@ by-tick : (F : Bool → Type 0) (b : Bool) → (b ≡ true → F true) → F fal
 by-tick F true f g = f refl
 by-tick F false f g = g
 
-pub cut-same : (n : ℕ) (f g : Stream) → ((t : ℕ) → t < n → f t ≡ g t) → cut n f ≡ cut n g
+pub cut-same : (n : ℕ) (f g : Stream) → ((t : ℕ) → t < n → f t ≡ g t) → cutStream n f ≡ cutStream n g
 cut-same n f g h = fun-ext (λ t. by-tick (λ b. cond b (f t) false ≡ cond b (g t) false) (ltb t n) (λ e. h t (ltb-true t n e)) refl)
 
-pub cut-at : (n : ℕ) (f : Stream) (t : ℕ) → t < n → cut n f t ≡ f t
+pub cut-at : (n : ℕ) (f : Stream) (t : ℕ) → t < n → cutStream n f t ≡ f t
 cut-at n f t h = rw (lt-ltb t n h)
 
-pub same-cut : (n : ℕ) (f g : Stream) → cut n f ≡ cut n g → (t : ℕ) → t < n → f t ≡ g t
+pub same-cut : (n : ℕ) (f g : Stream) → cutStream n f ≡ cutStream n g → (t : ℕ) → t < n → f t ≡ g t
 same-cut n f g e t h = sym (cut-at n f t h) ∙ ap (λ (w : Stream). w t) e ∙ cut-at n g t h
 
-pub cut-cut : (n : ℕ) (f : Stream) → Cut n (cut n f)
-cut-cut n f = cut-same n (cut n f) f (cut-at n f)
+pub cut-cut : (n : ℕ) (f : Stream) → Cut n (cutStream n f)
+cut-cut n f = cut-same n (cutStream n f) f (cut-at n f)
 
 dark-cut : (n : ℕ) → Cut n (λ t. false)
 dark-cut n = fun-ext (λ t. by-tick (λ b. cond b false false ≡ false) (ltb t n) (λ e. refl) refl)
@@ -42,16 +42,16 @@ dark-cut n = fun-ext (λ t. by-tick (λ b. cond b false false ≡ false) (ltb t 
 
 module _ (n : ℕ) (β : Bits) where
   pub lines-append : (s t : Interface) → lines n β (s ++ t) ≡ lines n β s ++ lines n β t
-  lines-append s t = map-append (λ x. cut n (β (number x))) s t
+  lines-append s t = map-append (λ x. cutStream n (β (number x))) s t
 
   pub lines-take : (k : ℕ) (s : Interface) → lines n β (take k s) ≡ take k (lines n β s)
-  lines-take k s = map-take (λ x. cut n (β (number x))) k s
+  lines-take k s = map-take (λ x. cutStream n (β (number x))) k s
 
   pub lines-drop : (k : ℕ) (s : Interface) → lines n β (drop k s) ≡ drop k (lines n β s)
-  lines-drop k s = map-drop (λ x. cut n (β (number x))) k s
+  lines-drop k s = map-drop (λ x. cutStream n (β (number x))) k s
 
   pub lines-length : (s : Interface) → length (lines n β s) ≡ length s
-  lines-length s = length-map s (λ x. cut n (β (number x)))
+  lines-length s = length-map s (λ x. cutStream n (β (number x)))
 
   pub lines-cut : (s : Interface) → All (Cut n) (lines n β s)
   lines-cut [] = tt

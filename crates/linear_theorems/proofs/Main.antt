@@ -18,7 +18,7 @@ use Rattle.calculus.specs.Net.{Net, leftOf, make, netOf}
 use Rattle.calculus.specs.Lean.{lean}
 use Rattle.calculus.specs.Record.{Bits, Law}
 use Rattle.calculus.specs.Translate.{full}
-use Rattle.sheet_theorems.proofs.SheetRead.{Limits as Within, read-written}
+use Rattle.sheet_theorems.proofs.SheetRead.{TermLimits as Within, read-written}
 use Rattle.sheet_theorems.proofs.Exact.{exact}
 use Rattle.circuit_theorems.proofs.Bounds.{next-is}
 use Rattle.circuit_theorems.proofs.Main.{accepts, formed}
@@ -27,7 +27,7 @@ use Rattle.linear_theorems.specs.Harmless.{Rewritten, Readable, Harmless
 use Rattle.linear_theorems.proofs.PutTyped.{put-in-typed}
 use Rattle.linear_theorems.proofs.PutRanged.{put-in-ranged}
 use Rattle.linear_theorems.proofs.Shown.{same-shown, lean-shown}
-use Rattle.linear_theorems.proofs.Weights.{applied, fewer-nodes, fewer-bytes, fewer-terminals, same-marks}
+use Rattle.linear_theorems.proofs.Weights.{appliedType, fewer-nodes, fewer-bytes, fewer-terminals, same-marks}
 use Rattle.linear_theorems.proofs.Marks.{marked-once}
 use Rattle.linear_theorems.proofs.Bytes.{accepted-bytes}
 use Rattle.linear_theorems.proofs.Depths.{put-in-deep}
@@ -82,7 +82,7 @@ module _ {s s′ : List ℕ} (r : Rewritten s s′) (m : Net) (a : full s ≡ go
   after-read : depth (plain (r .after)) ≤ 64 → readSheet s′ ≡ good (record { edition = first; table = Θ; term = plain (r .after) })
   after-read h = read-written s′ (record { edition = first; table = Θ; term = plain (r .after) }) .1 (r .writes, record { table = before-within .1 .table; ranged = after-ranged; deep = h; few = after-few })
 
-  terminals-lost : make Θ (plain (r .before)) [] 0 .next ≡ make Θ (plain (r .after)) [] 0 .next + 2 * size (leftOf (tree Θ (applied (r .puts))))
+  terminals-lost : make Θ (plain (r .before)) [] 0 .next ≡ make Θ (plain (r .after)) [] 0 .next + 2 * size (leftOf (tree Θ (appliedType (r .puts))))
   terminals-lost = omega (arith, fewer-terminals (r .puts) (start r m a .typed), next-is Θ (plain (r .before)) [] 0, next-is Θ (plain (r .after)) [] 0)
 
   -- the term is smaller; only its depth can grow, and that is the one limit that can break
@@ -90,7 +90,7 @@ module _ {s s′ : List ℕ} (r : Rewritten s s′) (m : Net) (a : full s ≡ go
   limits = record {
     fewer-nodes = fewer-nodes (r .puts) (start r m a .typed);
     fewer-bytes = omega (arith, fewer-bytes (r .puts) (start r m a .typed), ap length (before-within .0), ap length (r .writes), sheet-length Θ (plain (r .before)), sheet-length Θ (plain (r .after)));
-    fewer-terminals = (applied (r .puts), terminals-lost);
+    fewer-terminals = (appliedType (r .puts), terminals-lost);
     deeper = put-in-deep (r .puts);
     readable = (
       (λ x. read-deep s′ (x .0) first Θ (plain (r .after)) (before-within .1 .table) after-ranged after-few (r .writes) (x .1)),

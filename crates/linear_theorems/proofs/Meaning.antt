@@ -13,16 +13,16 @@ use Rattle.calculus.specs.Record.{Stream, Bits, Law, Works}
 use Rattle.linear_theorems.specs.Marked.{Marked, mvar, mlvar, mfun, mapp, mlfun, mlapp, mpair, mproj, mfix, mcon, Seen, PartSeen}
 
 -- what is seen of a stream in n ticks
-abbrev pub cut : ℕ → Stream → Stream
-cut n w t = cond (ltb t n) (w t) false
+abbrev pub cutStream : ℕ → Stream → Stream
+cutStream n w t = cond (ltb t n) (w t) false
 
 -- nothing more than that is there
 abbrev pub Cut : ℕ → Stream → Type 0
-Cut n w = cut n w ≡ w
+Cut n w = cutStream n w ≡ w
 
 -- what is seen at an interface, terminal by terminal
 abbrev pub lines : ℕ → Bits → Interface → List Stream
-lines n β s = map (λ x. cut n (β (number x))) s
+lines n β s = map (λ x. cutStream n (β (number x))) s
 
 -- .. and in the form of its type
 pub data Val : Type 0 where

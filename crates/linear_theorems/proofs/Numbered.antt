@@ -18,19 +18,19 @@ use Rattle.linear_theorems.specs.Harmless.{Rewritten}
 use Rattle.linear_theorems.proofs.Weights.{raise-nodes}
 
 -- the term as node n, its constants marked anew
-abbrev pub numbered : Marked → ℕ → Marked
-numbered (mvar i) n = mvar i
-numbered (mlvar i) n = mlvar i
-numbered (mfun t e) n = mfun t (numbered e (n + 1))
-numbered (mapp f a) n = mapp (numbered f (n + 1)) (numbered a (n + 1 + nodes (plain f)))
-numbered (mlfun t e) n = mlfun t (numbered e (n + 1))
-numbered (mlapp f a) n = mlapp (numbered f (n + 1)) (numbered a (n + 1 + nodes (plain f)))
-numbered (mpair t a b) n = mpair t (numbered a (n + 1)) (numbered b (n + 1 + nodes (plain a)))
-numbered (mproj a e) n = mproj (numbered a (n + 1)) (numbered e (n + 1 + nodes (plain a)))
-numbered (mfix t e) n = mfix t (numbered e (n + 1))
-numbered (mcon p t k) n = mcon p t n
+abbrev pub markedFrom : Marked → ℕ → Marked
+markedFrom (mvar i) n = mvar i
+markedFrom (mlvar i) n = mlvar i
+markedFrom (mfun t e) n = mfun t (markedFrom e (n + 1))
+markedFrom (mapp f a) n = mapp (markedFrom f (n + 1)) (markedFrom a (n + 1 + nodes (plain f)))
+markedFrom (mlfun t e) n = mlfun t (markedFrom e (n + 1))
+markedFrom (mlapp f a) n = mlapp (markedFrom f (n + 1)) (markedFrom a (n + 1 + nodes (plain f)))
+markedFrom (mpair t a b) n = mpair t (markedFrom a (n + 1)) (markedFrom b (n + 1 + nodes (plain a)))
+markedFrom (mproj a e) n = mproj (markedFrom a (n + 1)) (markedFrom e (n + 1 + nodes (plain a)))
+markedFrom (mfix t e) n = mfix t (markedFrom e (n + 1))
+markedFrom (mcon p t k) n = mcon p t n
 
-pub numbered-plain : (e : Marked) (n : ℕ) → plain (numbered e n) ≡ plain e
+pub numbered-plain : (e : Marked) (n : ℕ) → plain (markedFrom e n) ≡ plain e
 numbered-plain (mvar i) n = refl
 numbered-plain (mlvar i) n = refl
 numbered-plain (mfun t e) n = ap (fun t) (numbered-plain e (n + 1))
@@ -43,11 +43,11 @@ numbered-plain (mfix t e) n = ap (fix t) (numbered-plain e (n + 1))
 numbered-plain (mcon p t k) n = refl
 
 -- two subterms
-both-nodes : (a b : Marked) (n : ℕ) → ((k : ℕ) → ByNode (numbered a k) k) → ((k : ℕ) → ByNode (numbered b k) k)
-    → ByNode (numbered a (n + 1)) (n + 1) × ByNode (numbered b (n + 1 + nodes (plain a))) (n + 1 + nodes (plain (numbered a (n + 1))))
-both-nodes a b n p q = (p (n + 1), subst (λ (e : Term). ByNode (numbered b (n + 1 + nodes (plain a))) (n + 1 + nodes e)) (sym (numbered-plain a (n + 1))) (q (n + 1 + nodes (plain a))))
+both-nodes : (a b : Marked) (n : ℕ) → ((k : ℕ) → ByNode (markedFrom a k) k) → ((k : ℕ) → ByNode (markedFrom b k) k)
+    → ByNode (markedFrom a (n + 1)) (n + 1) × ByNode (markedFrom b (n + 1 + nodes (plain a))) (n + 1 + nodes (plain (markedFrom a (n + 1))))
+both-nodes a b n p q = (p (n + 1), subst (λ (e : Term). ByNode (markedFrom b (n + 1 + nodes (plain a))) (n + 1 + nodes e)) (sym (numbered-plain a (n + 1))) (q (n + 1 + nodes (plain a))))
 
-pub numbered-nodes : (e : Marked) (n : ℕ) → ByNode (numbered e n) n
+pub numbered-nodes : (e : Marked) (n : ℕ) → ByNode (markedFrom e n) n
 numbered-nodes (mvar i) n = tt
 numbered-nodes (mlvar i) n = tt
 numbered-nodes (mfun t e) n = numbered-nodes e (n + 1)
@@ -61,12 +61,12 @@ numbered-nodes (mcon p t k) n = refl
 
 -- ---- marking and putting in
 
-module _ (c : ℕ) (f : Marked) (d n : ℕ) (b : Marked) (h : (m : ℕ) → raise d (numbered b m) ≡ numbered (raise d b) m) where
+module _ (c : ℕ) (f : Marked) (d n : ℕ) (b : Marked) (h : (m : ℕ) → raise d (markedFrom b m) ≡ markedFrom (raise d b) m) where
   -- the second of two subterms
-  raise-second : raise d (numbered b (n + 1 + nodes (plain f))) ≡ numbered (raise d b) (n + 1 + nodes (plain (raise c f)))
-  raise-second = h (n + 1 + nodes (plain f)) ∙ ap (λ (k : ℕ). numbered (raise d b) (n + 1 + k)) (sym (raise-nodes c f))
+  raise-second : raise d (markedFrom b (n + 1 + nodes (plain f))) ≡ markedFrom (raise d b) (n + 1 + nodes (plain (raise c f)))
+  raise-second = h (n + 1 + nodes (plain f)) ∙ ap (λ (k : ℕ). markedFrom (raise d b) (n + 1 + k)) (sym (raise-nodes c f))
 
-raise-numbered : (c : ℕ) (e : Marked) (n : ℕ) → raise c (numbered e n) ≡ numbered (raise c e) n
+raise-numbered : (c : ℕ) (e : Marked) (n : ℕ) → raise c (markedFrom e n) ≡ markedFrom (raise c e) n
 raise-numbered c (mvar i) n = refl
 raise-numbered c (mlvar i) n = refl
 raise-numbered c (mfun t e) n = ap (mfun t) (raise-numbered (suc c) e (n + 1))
@@ -78,11 +78,11 @@ raise-numbered c (mproj a e) n = ap₂ mproj (raise-numbered c a (n + 1)) (raise
 raise-numbered c (mfix t e) n = ap (mfix t) (raise-numbered (suc c) e (n + 1))
 raise-numbered c (mcon p t k) n = refl
 
-at-variable : (b : Bool) (a : Marked) (m i : ℕ) → plain (cond b (numbered a m) (mlvar i)) ≡ plain (cond b a (mlvar i))
+at-variable : (b : Bool) (a : Marked) (m i : ℕ) → plain (cond b (markedFrom a m) (mlvar i)) ≡ plain (cond b a (mlvar i))
 at-variable true a m i = numbered-plain a m
 at-variable false a m i = refl
 
-put-numbered : (j : ℕ) (a e : Marked) (m n : ℕ) → plain (put j (numbered a m) (numbered e n)) ≡ plain (put j a e)
+put-numbered : (j : ℕ) (a e : Marked) (m n : ℕ) → plain (put j (markedFrom a m) (markedFrom e n)) ≡ plain (put j a e)
 put-numbered j a (mvar i) m n = refl
 put-numbered j a (mlvar i) m n = at-variable (same j i) a m (without j i)
 put-numbered j a (mfun t e) m n = ap (fun t) (rw (raise-numbered 0 a m) (put-numbered (suc j) (raise 0 a) e m (n + 1)))
@@ -98,7 +98,7 @@ put-numbered j a (mcon p t k) m n = refl
 -- the same step from the term marked anew
 pub record Step (e e′ : Marked) (n : ℕ) : Type 0 where
   pub to : Marked
-  pub puts : PutIn (numbered e n) to
+  pub puts : PutIn (markedFrom e n) to
   pub same : plain to ≡ plain e′
 
 step : {e e′ : Marked} → PutIn e e′ → (n : ℕ) → Step e e′ n
@@ -140,7 +140,7 @@ rewritable s Θ e e′ h r =
     let p = step r 0 in
     record {
       table = Θ;
-      before = numbered e 0;
+      before = markedFrom e 0;
       after = p .to;
       reads = h ∙ ap (λ (x : Term). good (record { edition = first; table = Θ; term = x })) (sym (numbered-plain e 0));
       marked = numbered-nodes e 0;

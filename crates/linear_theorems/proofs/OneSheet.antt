@@ -18,11 +18,11 @@ use Rattle.sheet_theorems.proofs.TableRead.{types-read}
 use Rattle.sheet_theorems.proofs.SheetRead.{term-read, edition-written, records-written, read-written}
 
 -- what the reader's two stages find in the records of a table and a term, with so many levels of depth
-pub record Found (E : Edition) (s : List ℕ) (Θ : Table) (e : Term) (more : ℕ) : Type 0 where
+pub record FoundBoth (E : Edition) (s : List ℕ) (Θ : Table) (e : Term) (more : ℕ) : Type 0 where
   pub types : readTypes 256 s [] 0 ≡ good (Θ, length (tableBytes Θ))
   pub term : readTerm E more s (length Θ) (length (tableBytes Θ)) 0 ≡ got e (length s) (nodes e)
 
-found : (E : Edition) (s : List ℕ) (Θ : Table) (e : Term) (more : ℕ) → TableOk Θ → Ranged E Θ e → nodes e ≤ 2048 → depth e ≤ more → s ≡ recordBytes Θ e → Found E s Θ e more
+found : (E : Edition) (s : List ℕ) (Θ : Table) (e : Term) (more : ℕ) → TableOk Θ → Ranged E Θ e → nodes e ≤ 2048 → depth e ≤ more → s ≡ recordBytes Θ e → FoundBoth E s Θ e more
 unfolding recordBytes
 found E s Θ e more ok ranged few deep b =
     let at = length (tableBytes Θ) in
@@ -33,7 +33,7 @@ found E s Θ e more ok ranged few deep b =
       term = term-read E Θ s more e at 0 (length s) (nodes e) st ranged deep (omega arith) end (omega arith);
     }
 
-same-found : (E : Edition) (s : List ℕ) (Θ Φ : Table) (e f : Term) (more : ℕ) → Found E s Θ e more → Found E s Φ f more → e ≡ f
+same-found : (E : Edition) (s : List ℕ) (Θ Φ : Table) (e f : Term) (more : ℕ) → FoundBoth E s Θ e more → FoundBoth E s Φ f more → e ≡ f
 same-found E s Θ Φ e f more p q =
     let t : _≡_ {A = Table × ℕ} (Θ, length (tableBytes Θ)) (Φ, length (tableBytes Φ)) = good-inj (sym (p .types) ∙ q .types) in
     let r : readTerm E more s (length Θ) (length (tableBytes Θ)) 0 ≡ readTerm E more s (length Φ) (length (tableBytes Φ)) 0 = ap (λ (x : Table × ℕ). readTerm E more s (length (x .0)) (x .1) 0) t in

@@ -18,7 +18,7 @@ use Rattle.circuit_theorems.proofs.Outputs.{next-le}
 use Rattle.linear_theorems.specs.Marked.{Marked, mvar, mlvar, mfun, mapp, mlfun, mlapp, mpair, mproj, mfix, mcon, plain, marks, Seen, PartsSeen}
 use Rattle.linear_theorems.proofs.Meaning.{lines, Val, leaf, node, dark, Shaped, build, Means}
 use Rattle.linear_theorems.proofs.Lines.{lines-take, lines-drop, lines-length, side-length, flat, flat-cut, flat-length, build-flat, build-inj, node-left, node-right, points-work, join-works}
-use Rattle.linear_theorems.proofs.Heard.{val, vals, Runs, front, behind, in-length}
+use Rattle.linear_theorems.proofs.Heard.{val, vals, HeardRuns, front, behind, in-length}
 use Rattle.linear_theorems.proofs.Below.{part-lines, part-moved, LowEnv, env-up, low-in, low-out, Lows, lows, Agree, lines-keep, vals-keep, runs-keep, lay, lay-below, lay-in, lay-out, seat, seat-below, seat-at}
 
 -- ---- marks
@@ -38,7 +38,7 @@ module _ (n : ℕ) (ρ : Seen) (β : Bits) where
 pub record Played (law : Law) (n : ℕ) (ρ : Seen) (i : ℕ) (β : Bits) (ks : List ℕ) (m : Made) (τ : Ty) (v : Val) : Type 0 where
   pub bits : Bits
   pub agree : Agree i bits β
-  pub runs : Runs law n ρ bits ks m
+  pub runs : HeardRuns law n ρ bits ks m
   pub value : v ≡ build τ (lines n bits (m .side))
 
 -- ---- a binder's points carry the value u laid onto them, whatever is set above them
@@ -70,7 +70,7 @@ laid-env α i env a = (low-out (i + 2 * size α) (turns false α) i (let q = tur
 
 module _ (law : Law) (n : ℕ) (ρ : Seen) where
   -- the points of a binder, and its body
-  bound-runs : (ks : List ℕ) (α : Ty) (u : Val) (i : ℕ) (β β′ : Bits) (m : Made) → Shaped n α u → Agree (i + 2 * size α) β′ (lay (flat u) i β) → Runs law n ρ β′ ks m
+  bound-runs : (ks : List ℕ) (α : Ty) (u : Val) (i : ℕ) (β β′ : Bits) (m : Made) → Shaped n α u → Agree (i + 2 * size α) β′ (lay (flat u) i β) → HeardRuns law n ρ β′ ks m
       → All (Works law n β′) (points (turns false α) i ++ m .elements) × PartsSeen n ρ β′ ks (points (turns false α) i ++ m .elements)
   bound-runs ks α u i β β′ m h g r = (
     all-append (Works law n β′) (points (turns false α) i) (m .elements) (laid-points n α u i β β′ h g law) (r .works),
@@ -110,7 +110,7 @@ module _ (law : Law) (n : ℕ) (ρ : Seen) where
 
   -- two subterms: the second's bits run the first as well
   module _ (ks ls : List ℕ) (i : ℕ) (β : Bits) (x y : Made) (on : i ≤ x .next) (l : Lows x) {α σ : Ty} {u v : Val} (p : Played law n ρ i β ks x α u) (q : Played law n ρ (x .next) (p .bits) ls y σ v) where
-    first-runs : Runs law n ρ (q .bits) ks x
+    first-runs : HeardRuns law n ρ (q .bits) ks x
     first-runs = runs-keep law n ρ ks x (q .bits) (p .bits) (q .agree) l (p .runs)
 
     both-agree : Agree i (q .bits) β

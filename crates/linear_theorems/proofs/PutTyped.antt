@@ -153,27 +153,27 @@ split-none (split-second {κ = κ} z) (none-away n) = ap (λ (r : Ctx). once κ 
 split-none (split-away z) (none-away n) = ap (λ (r : Ctx). away ∷ r) (split-none z n)
 
 -- which half of a split has the variable
-pub data Taken (j : ℕ) (κ : Ty) (Γ A B : Ctx) : Type 0 where
-  by-first : {A₀ B₀ : Ctx} → Ins j (once κ) A₀ A → Ins j away B₀ B → Split Γ A₀ B₀ → Taken j κ Γ A B
-  by-second : {A₀ B₀ : Ctx} → Ins j away A₀ A → Ins j (once κ) B₀ B → Split Γ A₀ B₀ → Taken j κ Γ A B
+pub data TakenBy (j : ℕ) (κ : Ty) (Γ A B : Ctx) : Type 0 where
+  by-first : {A₀ B₀ : Ctx} → Ins j (once κ) A₀ A → Ins j away B₀ B → Split Γ A₀ B₀ → TakenBy j κ Γ A B
+  by-second : {A₀ B₀ : Ctx} → Ins j away A₀ A → Ins j (once κ) B₀ B → Split Γ A₀ B₀ → TakenBy j κ Γ A B
 
-under-many : {j : ℕ} {κ θ : Ty} {Γ A B : Ctx} → Taken j κ Γ A B → Taken (suc j) κ (many θ ∷ Γ) (many θ ∷ A) (many θ ∷ B)
+under-many : {j : ℕ} {κ θ : Ty} {Γ A B : Ctx} → TakenBy j κ Γ A B → TakenBy (suc j) κ (many θ ∷ Γ) (many θ ∷ A) (many θ ∷ B)
 under-many (by-first p q z) = by-first (ins-there p) (ins-there q) (split-many z)
 under-many (by-second p q z) = by-second (ins-there p) (ins-there q) (split-many z)
 
-under-first : {j : ℕ} {κ ι : Ty} {Γ A B : Ctx} → Taken j κ Γ A B → Taken (suc j) κ (once ι ∷ Γ) (once ι ∷ A) (away ∷ B)
+under-first : {j : ℕ} {κ ι : Ty} {Γ A B : Ctx} → TakenBy j κ Γ A B → TakenBy (suc j) κ (once ι ∷ Γ) (once ι ∷ A) (away ∷ B)
 under-first (by-first p q z) = by-first (ins-there p) (ins-there q) (split-first z)
 under-first (by-second p q z) = by-second (ins-there p) (ins-there q) (split-first z)
 
-under-second : {j : ℕ} {κ ι : Ty} {Γ A B : Ctx} → Taken j κ Γ A B → Taken (suc j) κ (once ι ∷ Γ) (away ∷ A) (once ι ∷ B)
+under-second : {j : ℕ} {κ ι : Ty} {Γ A B : Ctx} → TakenBy j κ Γ A B → TakenBy (suc j) κ (once ι ∷ Γ) (away ∷ A) (once ι ∷ B)
 under-second (by-first p q z) = by-first (ins-there p) (ins-there q) (split-second z)
 under-second (by-second p q z) = by-second (ins-there p) (ins-there q) (split-second z)
 
-under-away : {j : ℕ} {κ : Ty} {Γ A B : Ctx} → Taken j κ Γ A B → Taken (suc j) κ (away ∷ Γ) (away ∷ A) (away ∷ B)
+under-away : {j : ℕ} {κ : Ty} {Γ A B : Ctx} → TakenBy j κ Γ A B → TakenBy (suc j) κ (away ∷ Γ) (away ∷ A) (away ∷ B)
 under-away (by-first p q z) = by-first (ins-there p) (ins-there q) (split-away z)
 under-away (by-second p q z) = by-second (ins-there p) (ins-there q) (split-away z)
 
-pub split-take : {j : ℕ} {κ : Ty} {Γ Γ⁺ A B : Ctx} → Ins j (once κ) Γ Γ⁺ → Split Γ⁺ A B → Taken j κ Γ A B
+pub split-take : {j : ℕ} {κ : Ty} {Γ Γ⁺ A B : Ctx} → Ins j (once κ) Γ Γ⁺ → Split Γ⁺ A B → TakenBy j κ Γ A B
 split-take ins-here (split-first z) = by-first ins-here ins-here z
 split-take ins-here (split-second z) = by-second ins-here ins-here z
 split-take (ins-there p) (split-many z) = under-many (split-take p z)

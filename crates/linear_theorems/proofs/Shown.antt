@@ -19,7 +19,7 @@ use Rattle.circuit_theorems.specs.Scope.{env-end}
 use Rattle.circuit_theorems.proofs.Same.{same-records}
 use Rattle.linear_theorems.specs.Marked.{Marked, plain, marks, Seen, PartsSeen, ByMarks}
 use Rattle.linear_theorems.specs.PutIn.{PutIn}
-use Rattle.linear_theorems.proofs.Meaning.{cut, lines, Val, build, Means}
+use Rattle.linear_theorems.proofs.Meaning.{cutStream, lines, Val, build, Means}
 use Rattle.linear_theorems.proofs.PutTyped.{put-in-typed}
 use Rattle.linear_theorems.proofs.PutMeans.{fit-end, put-in-means}
 use Rattle.linear_theorems.proofs.Lines.{cut-same, same-cut, lines-length, side-length, build-inj}
@@ -31,7 +31,7 @@ use Rattle.linear_theorems.proofs.Played.{play}
 -- what a record shows at so many pin positions, from position k on
 abbrev pinLines : ℕ → Bits → ℕ → ℕ → List Stream
 pinLines n γ k zero = []
-pinLines n γ k (suc l) = cut n (γ k) ∷ pinLines n γ (suc k) l
+pinLines n γ k (suc l) = cutStream n (γ k) ∷ pinLines n γ (suc k) l
 
 pin-length : (n : ℕ) (γ : Bits) (k l : ℕ) → length (pinLines n γ k l) ≡ l
 pin-length n γ k zero = refl

@@ -10,7 +10,7 @@ use Rattle.calculus.specs.Net.{leftOf}
 use Rattle.calculus.specs.Inputs.{tally}
 use Rattle.calculus.specs.Write.{termBytes}
 use Rattle.calculus.specs.Rules.{Ctx, once, away, Typed, Var, LVar, →I, →E, ⊸I, ⊸E, ×I, ×E, Fix, Con}
-use Rattle.circuit_theorems.specs.Terminals.{terminals}
+use Rattle.circuit_theorems.specs.Terminals.{terminalCount}
 use Rattle.linear_theorems.specs.Marked.{Marked, mvar, mlvar, mfun, mapp, mlfun, mlapp, mpair, mproj, mfix, mcon, plain, marks, times}
 use Rattle.linear_theorems.specs.PutIn.{raise, put, PutIn, put-here, in-fun, in-app-left, in-app-right, in-lfun, in-lapp-left, in-lapp-right, in-pair-left, in-pair-right, in-proj-left, in-proj-right, in-fix}
 use Rattle.linear_theorems.proofs.Marks.{times-append}
@@ -27,19 +27,19 @@ pub record Weight : Type 0 where
   pub con : ℕ → ℕ → ℕ
 
 -- the type number of the linear function that is applied
-abbrev pub applied : {e e′ : Marked} → PutIn e e′ → ℕ
-applied (put-here {t = t}) = t
-applied (in-fun r) = applied r
-applied (in-app-left r) = applied r
-applied (in-app-right r) = applied r
-applied (in-lfun r) = applied r
-applied (in-lapp-left r) = applied r
-applied (in-lapp-right r) = applied r
-applied (in-pair-left r) = applied r
-applied (in-pair-right r) = applied r
-applied (in-proj-left r) = applied r
-applied (in-proj-right r) = applied r
-applied (in-fix r) = applied r
+abbrev pub appliedType : {e e′ : Marked} → PutIn e e′ → ℕ
+appliedType (put-here {t = t}) = t
+appliedType (in-fun r) = appliedType r
+appliedType (in-app-left r) = appliedType r
+appliedType (in-app-right r) = appliedType r
+appliedType (in-lfun r) = appliedType r
+appliedType (in-lapp-left r) = appliedType r
+appliedType (in-lapp-right r) = appliedType r
+appliedType (in-pair-left r) = appliedType r
+appliedType (in-pair-right r) = appliedType r
+appliedType (in-proj-left r) = appliedType r
+appliedType (in-proj-right r) = appliedType r
+appliedType (in-fix r) = appliedType r
 
 module _ (w : Weight) where
   abbrev pub weigh : Marked → ℕ
@@ -107,7 +107,7 @@ module _ (w : Weight) where
     put-weight (mfix t e) a p (Fix q s d) = omega (arith, put-weight e (raise 0 a) (ins-there p) d, raise-weight 0 a)
     put-weight (mcon x t k) a p (Con l q z) = absurd (none-once p z)
 
-    put-in-weight : {Γ : Ctx} {τ : Ty} {e e′ : Marked} (r : PutIn e e′) → Typed first Θ Γ (plain e) τ → weigh e ≡ weigh e′ + (w .two + w .fun (applied r) + w .var)
+    put-in-weight : {Γ : Ctx} {τ : Ty} {e e′ : Marked} (r : PutIn e e′) → Typed first Θ Γ (plain e) τ → weigh e ≡ weigh e′ + (w .two + w .fun (appliedType r) + w .var)
     put-in-weight (put-here {t = t} {e = e} {a = a}) (⊸E z _ (⊸I q s d) c) = omega (arith, put-weight e a ins-here d)
     put-in-weight (in-fun r) (→I q s d) = omega (arith, put-in-weight r d)
     put-in-weight (in-app-left r) (→E z s d c) = omega (arith, put-in-weight r d)
@@ -159,7 +159,7 @@ bytes-weight (mcon p t k) = refl
 abbrev byTerminals : Table → Weight
 byTerminals Θ = record { var = 0; two = 0; pair = 0; fun = λ t. 2 * size (leftOf (tree Θ t)); fix = λ t. 2 * size (tree Θ t); con = λ p k. partAt p .inputs + 1 }
 
-terminals-weight : (Θ : Table) (e : Marked) → terminals Θ (plain e) ≡ weigh (byTerminals Θ) e
+terminals-weight : (Θ : Table) (e : Marked) → terminalCount Θ (plain e) ≡ weigh (byTerminals Θ) e
 terminals-weight Θ (mvar i) = refl
 terminals-weight Θ (mlvar i) = refl
 terminals-weight Θ (mfun t e) = omega (arith, terminals-weight Θ e)
@@ -193,7 +193,7 @@ module _ {Θ : Table} {Γ : Ctx} {τ : Ty} {e e′ : Marked} (r : PutIn e e′) 
   pub fewer-bytes : length (termBytes (plain e)) ≡ length (termBytes (plain e′)) + 5
   fewer-bytes = omega (arith, put-in-weight byBytes r d, bytes-weight e, bytes-weight e′)
 
-  pub fewer-terminals : terminals Θ (plain e) ≡ terminals Θ (plain e′) + 2 * size (leftOf (tree Θ (applied r)))
+  pub fewer-terminals : terminalCount Θ (plain e) ≡ terminalCount Θ (plain e′) + 2 * size (leftOf (tree Θ (appliedType r)))
   fewer-terminals = omega (arith, put-in-weight (byTerminals Θ) r d, terminals-weight Θ e, terminals-weight Θ e′)
 
   pub same-marks : (k : ℕ) → times k (marks e) ≡ times k (marks e′)

@@ -4,7 +4,7 @@ use mathlib.Core.Path.{_≡_, sym, _∙_}
 use mathlib.Core.List.{List}
 use Prim.Native.Nat.{ℕ}
 use Rattle.laws.proofs.OneResult.{Result, Results}
-use Rattle.lines.specs.Wrote.{Wrote}
+use Rattle.lines.specs.Wrote.{WroteText}
 use Rattle.lines.proofs.put_word.Kinds as put-word
 use Rattle.lines.proofs.put_word.Reads as put-word-reads
 use Rattle.lines.proofs.put_decimal.Kinds as put-decimal
@@ -32,7 +32,7 @@ use Rattle.lines.proofs.size_at.Reads as size-at-reads
 use Rattle.lines.proofs.line_of.Kinds as line-of
 use Rattle.lines.proofs.line_of.Reads as line-of-reads
 
-one-text : {before after after′ text : List ℕ} {at end end′ : ℕ} → Wrote before at text after end → Wrote before at text after′ end′
+one-text : {before after after′ text : List ℕ} {at end end′ : ℕ} → WroteText before at text after end → WroteText before at text after′ end′
     → (end ≡ end′) × (after ≡ after′)
 one-text f g = (f .offset ∙ sym (g .offset), f .bytes ∙ sym (g .bytes))
 

@@ -6,7 +6,7 @@ use native.Mathlib.Omega.{arith}
 use native.Mathlib.Numerals.{add-one}
 use lib.ListN.{length, getD, set, take, length-append}
 use lib.Seq.{sets, length-sets, take-suc, length-take-le}
-use Rattle.lines.specs.Wrote.{Wrote}
+use Rattle.lines.specs.Wrote.{WroteText}
 use Rattle.laws.proofs.Regions.{sets-append}
 
 -- one byte behind what stands
@@ -25,12 +25,12 @@ word-more out word at i h =
     rw (add-one i, take-suc word i 0 h) (store-more out (take i word) at (at + i) (getD word i 0) (omega arith))
 
 -- two pieces are one
-pub wrote-two : {a b c xs ys : List ℕ} {at mid end : ℕ} → Wrote a at xs b mid → Wrote b mid ys c end → Wrote a at (xs ++ ys) c end
+pub wrote-two : {a b c xs ys : List ℕ} {at mid end : ℕ} → WroteText a at xs b mid → WroteText b mid ys c end → WroteText a at (xs ++ ys) c end
 wrote-two {a} {b} {c} {xs} {ys} {at} {mid} {end} p q =
     let l = length-append xs ys in
     let o = p .offset in
     let e = q .offset in
     record { offset = omega arith; bytes = q .bytes ∙ rw (p .bytes) (piece-more a xs ys at mid (p .offset)) }
 
-pub wrote-length : {a b xs : List ℕ} {at end : ℕ} → Wrote a at xs b end → length b ≡ length a
+pub wrote-length : {a b xs : List ℕ} {at end : ℕ} → WroteText a at xs b end → length b ≡ length a
 wrote-length {a} {b} {xs} {at} p = ap length (p .bytes) ∙ length-sets a at xs

@@ -8,12 +8,12 @@ ghost use Rattle.parts.specs.Table.{nameAt};
 ghost use Rattle.lines.specs.Figure.{figure, figures};
 ghost use Rattle.lines.specs.OneLine.{pointLine, partLine, wiredLine, pinLine, refusedLine};
 ghost use Rattle.lines.specs.InBytes.{numberAt, recordSize, sizeAt, lineAt};
-ghost use Rattle.lines.specs.Wrote.{Wrote};
+ghost use Rattle.lines.specs.Wrote.{WroteText};
 
 // A word. As each function here, it answers the offset past what it wrote.
 pub fn put_word(text: &mut [u8], at: usize, word: &[u8]) -> usize
     requires { ⌜ at + length (now word) ≤ length (now text) ⌝ }
-    ensures { λ r. ⌜ Wrote (now (text .entry)) at (now (word .entry)) (now (text .exit)) r ⌝ }
+    ensures { λ r. ⌜ WroteText (now (text .entry)) at (now (word .entry)) (now (text .exit)) r ⌝ }
 {
     let mut i: usize = 0;
     while i < word.len() {
@@ -26,7 +26,7 @@ pub fn put_word(text: &mut [u8], at: usize, word: &[u8]) -> usize
 // A number in decimal.
 pub fn put_decimal(text: &mut [u8], at: usize, n: usize) -> usize
     requires { ⌜ at + 20 ≤ length (now text) ⌝ }
-    ensures { λ r. ⌜ Wrote (now (text .entry)) at (figure n) (now (text .exit)) r ⌝ }
+    ensures { λ r. ⌜ WroteText (now (text .entry)) at (figure n) (now (text .exit)) r ⌝ }
 {
     if n < 10 {
         text[at] = 48 + n as u8;
@@ -40,7 +40,7 @@ pub fn put_decimal(text: &mut [u8], at: usize, n: usize) -> usize
 // A number behind a space.
 pub fn put_field(text: &mut [u8], at: usize, n: usize) -> usize
     requires { ⌜ at + 21 ≤ length (now text) ⌝ }
-    ensures { λ r. ⌜ Wrote (now (text .entry)) at (32 ∷ figure n) (now (text .exit)) r ⌝ }
+    ensures { λ r. ⌜ WroteText (now (text .entry)) at (32 ∷ figure n) (now (text .exit)) r ⌝ }
 {
     text[at] = b' ';
     put_decimal(text, at + 1, n)
@@ -49,7 +49,7 @@ pub fn put_field(text: &mut [u8], at: usize, n: usize) -> usize
 // Some numbers from the first on, each behind a space.
 pub fn put_fields(text: &mut [u8], from: usize, count: usize, first: usize) -> usize
     requires { ⌜ (from + 21 * count ≤ length (now text)) × (first + count < 4294967296) ⌝ }
-    ensures { λ r. ⌜ Wrote (now (text .entry)) from (figures count first) (now (text .exit)) r ⌝ }
+    ensures { λ r. ⌜ WroteText (now (text .entry)) from (figures count first) (now (text .exit)) r ⌝ }
 {
     let mut at = from;
     let mut i: usize = 0;
@@ -63,7 +63,7 @@ pub fn put_fields(text: &mut [u8], from: usize, count: usize, first: usize) -> u
 // The rest of a line: some numbers, and the line feed.
 pub fn end_line(text: &mut [u8], at: usize, count: usize, first: usize) -> usize
     requires { ⌜ (at + 21 * count + 1 ≤ length (now text)) × (first + count < 4294967296) ⌝ }
-    ensures { λ r. ⌜ Wrote (now (text .entry)) at (line (figures count first)) (now (text .exit)) r ⌝ }
+    ensures { λ r. ⌜ WroteText (now (text .entry)) at (line (figures count first)) (now (text .exit)) r ⌝ }
 {
     let end = put_fields(text, at, count, first);
     text[end] = b'\n';
@@ -73,7 +73,7 @@ pub fn end_line(text: &mut [u8], at: usize, count: usize, first: usize) -> usize
 // The name of a part; none where there is no such part.
 pub fn put_name(text: &mut [u8], at: usize, p: u8) -> usize
     requires { ⌜ at + 4 ≤ length (now text) ⌝ }
-    ensures { λ r. ⌜ Wrote (now (text .entry)) at (nameAt p) (now (text .exit)) r ⌝ }
+    ensures { λ r. ⌜ WroteText (now (text .entry)) at (nameAt p) (now (text .exit)) r ⌝ }
 {
     let name = parts::name_of(p);
     let letters = name.letters;
@@ -84,7 +84,7 @@ pub fn put_name(text: &mut [u8], at: usize, p: u8) -> usize
 // A point's line: its input and its output.
 pub fn point_line(text: &mut [u8], at: usize, input: usize) -> usize
     requires { ⌜ (at + 80 ≤ length (now text)) × (input < 65536) ⌝ }
-    ensures { λ r. ⌜ Wrote (now (text .entry)) at (pointLine input) (now (text .exit)) r ⌝ }
+    ensures { λ r. ⌜ WroteText (now (text .entry)) at (pointLine input) (now (text .exit)) r ⌝ }
 {
     let end = put_word(text, at, b"point");
     end_line(text, end, 2, input)
@@ -93,7 +93,7 @@ pub fn point_line(text: &mut [u8], at: usize, input: usize) -> usize
 // A part's line: its name and its terminals.
 pub fn part_line(text: &mut [u8], at: usize, p: u8, first: usize) -> usize
     requires { ⌜ (at + 80 ≤ length (now text)) × (first < 65536) ⌝ }
-    ensures { λ r. ⌜ Wrote (now (text .entry)) at (partLine p first) (now (text .exit)) r ⌝ }
+    ensures { λ r. ⌜ WroteText (now (text .entry)) at (partLine p first) (now (text .exit)) r ⌝ }
 {
     let mid = put_word(text, at, b"part ");
     let end = put_name(text, mid, p);
@@ -105,7 +105,7 @@ pub fn part_line(text: &mut [u8], at: usize, p: u8, first: usize) -> usize
 // A wire's line: from and to.
 pub fn wire_line(text: &mut [u8], at: usize, from: usize, to: usize) -> usize
     requires { ⌜ (at + 80 ≤ length (now text)) × (to < 65536) ⌝ }
-    ensures { λ r. ⌜ Wrote (now (text .entry)) at (wiredLine from to) (now (text .exit)) r ⌝ }
+    ensures { λ r. ⌜ WroteText (now (text .entry)) at (wiredLine from to) (now (text .exit)) r ⌝ }
 {
     let mid = put_word(text, at, b"wire");
     let end = put_field(text, mid, from);
@@ -115,7 +115,7 @@ pub fn wire_line(text: &mut [u8], at: usize, from: usize, to: usize) -> usize
 // A pin's line: its terminal.
 pub fn pin_line(text: &mut [u8], at: usize, terminal: usize) -> usize
     requires { ⌜ (at + 80 ≤ length (now text)) × (terminal < 65536) ⌝ }
-    ensures { λ r. ⌜ Wrote (now (text .entry)) at (pinLine terminal) (now (text .exit)) r ⌝ }
+    ensures { λ r. ⌜ WroteText (now (text .entry)) at (pinLine terminal) (now (text .exit)) r ⌝ }
 {
     let end = put_word(text, at, b"pin");
     end_line(text, end, 1, terminal)
@@ -124,7 +124,7 @@ pub fn pin_line(text: &mut [u8], at: usize, terminal: usize) -> usize
 // The line of a refusal: its number and its place.
 pub fn refused_line(text: &mut [u8], at: usize, number: u8, place: usize) -> usize
     requires { ⌜ at + 80 ≤ length (now text) ⌝ }
-    ensures { λ r. ⌜ Wrote (now (text .entry)) at (refusedLine number place) (now (text .exit)) r ⌝ }
+    ensures { λ r. ⌜ WroteText (now (text .entry)) at (refusedLine number place) (now (text .exit)) r ⌝ }
 {
     let first = put_word(text, at, b"refused");
     let second = put_field(text, first, number as usize);
@@ -168,7 +168,7 @@ fn number_at(net: &[u8], at: usize) -> usize
 // The line of the record that stands at an offset of a netlist, written from the start of the text; nothing where none stands whole.
 pub fn line_of(net: &[u8], at: usize, text: &mut [u8]) -> usize
     requires { ⌜ 80 ≤ length (now text) ⌝ }
-    ensures { λ r. ⌜ Wrote (now (text .entry)) 0 (lineAt (now (net .entry)) at) (now (text .exit)) r ⌝ }
+    ensures { λ r. ⌜ WroteText (now (text .entry)) 0 (lineAt (now (net .entry)) at) (now (text .exit)) r ⌝ }
 {
     if size_at(net, at) == 0 {
         return 0;

@@ -26,7 +26,7 @@ use Rattle.sheet.proofs.StretchLaws.{skip-more}
 use Rattle.memory.specs.Map.{makersAt, memorySize}
 use Rattle.records.specs.TypeNumbers.{leftNo}
 use Rattle.records.proofs.SideLaws.{left-of}
-use Rattle.makers.specs.Naming.{elementsIn, Nameable}
+use Rattle.makers.specs.Naming.{elementsMade, Nameable}
 
 -- ---- a run of one number
 
@@ -45,8 +45,8 @@ module _ {s sizes w : List ℕ} {from count : ℕ} (q : Nameable s sizes w from 
   left-size t h =
       ap (λ (x : TyRec). getD sizes (leftNo x) 0) (q .records t h) ∙ left-of Θ sizes t (recAt Θ t) (q .sized) (q .ok) h (q .ok .agrees t) (q .ok .earlier t h)
 
-  own-is : (e : Term) (at : ℕ) → Ranged (q .edition) Θ e → elementsIn s sizes (nodeOf e at) ≡ ownCount Θ e
-  unfolding elementsIn
+  own-is : (e : Term) (at : ℕ) → Ranged (q .edition) Θ e → elementsMade s sizes (nodeOf e at) ≡ ownCount Θ e
+  unfolding elementsMade
   own-is (var i) at r = refl
   own-is (lvar i) at r = refl
   own-is (fun t e) at r = left-size t (r .0)
@@ -86,9 +86,9 @@ module _ {s sizes w : List ℕ} {from count : ℕ} (q : Nameable s sizes w from 
       (record { ranged = q .ranged; deep = omega arith; few = omega arith }) (omega (arith, q .nodes-are)) .ranged
 
   -- what node k's record says
-  pub own-here : (k at : ℕ) (r : Node) → k < count → at ≡ skip s k from → r ≡ nodeAt s at → elementsIn s sizes r ≡ ownCount Θ (node k)
+  pub own-here : (k at : ℕ) (r : Node) → k < count → at ≡ skip s k from → r ≡ nodeAt s at → elementsMade s sizes r ≡ ownCount Θ (node k)
   own-here k at r h e g =
-      ap (elementsIn s sizes) (g ∙ ap (nodeAt s) e ∙ stands-node s (skip s k from) (node k) (node-stands k h)) ∙ own-is (node k) (skip s k from) (node-ranged k h)
+      ap (elementsMade s sizes) (g ∙ ap (nodeAt s) e ∙ stands-node s (skip s k from) (node k) (node-stands k h)) ∙ own-is (node k) (skip s k from) (node-ranged k h)
 
   pub done-more : (k : ℕ) → k < count → done (k + 1) ≡ done k ++ replicate (ownCount Θ (node k)) k
   done-more k h =
@@ -120,19 +120,19 @@ unfolding skip
 named-start q = record { here = refl; next = omega arith; stored = refl }
 
 module _ {s sizes w₀ w : List ℕ} {from count at to k : ℕ} (q : Nameable s sizes w₀ from count) (n : NamedSoFar s sizes w₀ from count q w at to k) (h : k < count) {r : Node} (e : r ≡ nodeAt s at) where
-  own-count : elementsIn s sizes r ≡ ownCount (q .table) (getD (subterms (q .term)) k (q .term))
+  own-count : elementsMade s sizes r ≡ ownCount (q .table) (getD (subterms (q .term)) k (q .term))
   own-count = own-here q k at r h (n .here) e
 
-  length-more : length (done q (k + 1)) ≡ length (done q k) + elementsIn s sizes r
+  length-more : length (done q (k + 1)) ≡ length (done q k) + elementsMade s sizes r
   length-more =
       ap length (done-more q k h) ∙ length-append (done q k) _
       ∙ ap (λ (x : ℕ). length (done q k) + x) (length-replicate (ownCount (q .table) (getD (subterms (q .term)) k (q .term))) k ∙ sym own-count)
 
-  pub named-room : to + elementsIn s sizes r ≤ memorySize
+  pub named-room : to + elementsMade s sizes r ≤ memorySize
   named-room = omega (arith, n .next, length-more, done-few q (k + 1))
 
-  pub named-step : {w₁ : List ℕ} → w₁ ≡ sets w to (replicate (elementsIn s sizes r) k)
-      → NamedSoFar s sizes w₀ from count q w₁ (r .next) (to + elementsIn s sizes r) (k + 1)
+  pub named-step : {w₁ : List ℕ} → w₁ ≡ sets w to (replicate (elementsMade s sizes r) k)
+      → NamedSoFar s sizes w₀ from count q w₁ (r .next) (to + elementsMade s sizes r) (k + 1)
   named-step {w₁} f = record {
     here = skip-more s from count k at (nodes-from q) h (n .here) e;
     next = omega (arith, n .next, length-more);

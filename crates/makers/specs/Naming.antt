@@ -16,8 +16,8 @@ use Rattle.records.specs.declared.Node.{Node}
 use Rattle.memory.specs.Map.{memorySize}
 
 -- how many elements one record makes: a constant its part, a function or a fixed point a point for each single bit of the bound type
-unfoldable pub elementsIn : List ℕ → List ℕ → Node → ℕ
-elementsIn s sizes node = cond (isConstant (node .rule)) 1 (cond (eqb (node .subterms) 1) (getD sizes (boundIn s node) 0) 0)
+unfoldable pub elementsMade : List ℕ → List ℕ → Node → ℕ
+elementsMade s sizes node = cond (isConstant (node .rule)) 1 (cond (eqb (node .subterms) 1) (getD sizes (boundIn s node) 0) 0)
 
 -- a term of so many nodes stands in the records of a sheet, whose table of types and their sizes are at hand; it makes at most 5,120
 -- elements, and there is room for their makers

@@ -8,12 +8,12 @@ ghost use lib.ListN.{length, replicate};
 ghost use lib.Seq.{sets};
 ghost use Rattle.calculus.specs.Makers.{makers};
 ghost use Rattle.memory.specs.Map.{makersAt};
-ghost use Rattle.makers.specs.Naming.{elementsIn, Nameable};
+ghost use Rattle.makers.specs.Naming.{elementsMade, Nameable};
 
 // The elements that one record makes.
 fn own_elements(s: &[u8], sizes: &[u8], node: Node) -> usize
     requires { ⌜ length (now sizes) ≡ 256 ⌝ }
-    ensures { λ r. ⌜ r ≡ elementsIn (now (s .entry)) (now (sizes .entry)) node ⌝ }
+    ensures { λ r. ⌜ r ≡ elementsMade (now (s .entry)) (now (sizes .entry)) node ⌝ }
 {
     let rule = node.rule;
     match rule {

@@ -46,9 +46,9 @@ abbrev pub region : List ℕ → ℕ → ℕ → List ℕ
 region w at n = take n (drop at w)
 
 -- an element's kind
-abbrev pub kindOf : Element → ℕ
-kindOf (point i) = 7
-kindOf (part p i) = p
+abbrev pub kindNumber : Element → ℕ
+kindNumber (point i) = 7
+kindNumber (part p i) = p
 
 -- elements take the next free terminals, so their kinds tell them
 abbrev pub elementsFrom : List ℕ → ℕ → List Element

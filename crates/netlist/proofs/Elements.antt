@@ -16,7 +16,7 @@ use Rattle.calculus.specs.Record.{All}
 use Rattle.laws.proofs.Tests.{by-eqb}
 use Rattle.memory.specs.Map.{elementsFrom}
 use Rattle.calculus.specs.NetRead.{Known}
-use Rattle.netlist.specs.Elements.{after, afterAll, elementSize, nodeSize, recordOf, recordsOf}
+use Rattle.netlist.specs.Elements.{after, afterAll, elementSize, nodeSize, elementRecord, elementRecords}
 use Rattle.netlist.proofs.Records.{elements-append}
 
 -- the element of kind k at n, and what comes behind it
@@ -129,13 +129,13 @@ module _ (ks : List ℕ) (i : ℕ) where
 -- ---- their records, plain or with nodes
 
 -- all of them
-pub records-are : (plain : Bool) (xs : List Element) (ks : List ℕ) → recordsOf plain xs ks ≡ cond plain (elementBytes xs) (elementNodeBytes xs ks)
+pub records-are : (plain : Bool) (xs : List Element) (ks : List ℕ) → elementRecords plain xs ks ≡ cond plain (elementBytes xs) (elementNodeBytes xs ks)
 records-are true [] ks = refl
 records-are true (x ∷ xs) ks = ap (λ (l : List ℕ). itemBytes (element x) ++ l) (records-are true xs (drop 1 ks))
 records-are false [] ks = refl
 records-are false (x ∷ xs) ks = ap (λ (l : List ℕ). nodeBytes x (getD ks 0 0) ++ l) (records-are false xs (drop 1 ks))
 
-pub records-length : (plain : Bool) (xs : List Element) (ks : List ℕ) → length (recordsOf plain xs ks) ≡ length (elementBytes xs) + nodeSize plain (length xs)
+pub records-length : (plain : Bool) (xs : List Element) (ks : List ℕ) → length (elementRecords plain xs ks) ≡ length (elementBytes xs) + nodeSize plain (length xs)
 records-length true [] ks = refl
 records-length true (point i ∷ xs) ks = omega (arith, records-length true xs (drop 1 ks))
 records-length true (part p i ∷ xs) ks = omega (arith, records-length true xs (drop 1 ks))
@@ -143,13 +143,13 @@ records-length false [] ks = refl
 records-length false (point i ∷ xs) ks = omega (arith, records-length false xs (drop 1 ks))
 records-length false (part p i ∷ xs) ks = omega (arith, records-length false xs (drop 1 ks))
 
-pub records-append : (plain : Bool) (xs ys : List Element) (js ks : List ℕ) → length js ≡ length xs → recordsOf plain (xs ++ ys) (js ++ ks) ≡ recordsOf plain xs js ++ recordsOf plain ys ks
+pub records-append : (plain : Bool) (xs ys : List Element) (js ks : List ℕ) → length js ≡ length xs → elementRecords plain (xs ++ ys) (js ++ ks) ≡ elementRecords plain xs js ++ elementRecords plain ys ks
 records-append plain [] ys [] ks h = refl
 records-append plain [] ys (j ∷ js) ks h = absurd (omega arith)
 records-append plain (x ∷ xs) ys [] ks h = absurd (omega arith)
 records-append plain (x ∷ xs) ys (j ∷ js) ks h =
-    ap (λ (l : List ℕ). recordOf plain x j ++ l) (records-append plain xs ys js ks (omega arith))
-    ∙ sym (append-assoc (recordOf plain x j) (recordsOf plain xs js) (recordsOf plain ys ks))
+    ap (λ (l : List ℕ). elementRecord plain x j ++ l) (records-append plain xs ys js ks (omega arith))
+    ∙ sym (append-assoc (elementRecord plain x j) (elementRecords plain xs js) (elementRecords plain ys ks))
 
 pub kinds-length : (ks : List ℕ) (n : ℕ) → length (elementsFrom ks n) ≡ length ks
 kinds-length [] n = refl
@@ -175,7 +175,7 @@ node-small false n = omega arith
 
 -- the records of the first i
 abbrev pub firstRecords : Bool → List ℕ → List ℕ → ℕ → List ℕ
-firstRecords plain ks js i = recordsOf plain (elementsFrom (take i ks) 0) (take i js)
+firstRecords plain ks js i = elementRecords plain (elementsFrom (take i ks) 0) (take i js)
 
 module _ (plain : Bool) (ks js : List ℕ) (i : ℕ) where
   pub records-first : i ≤ length ks → length (firstRecords plain ks js i) ≡ length (firstBytes ks i) + nodeSize plain i
@@ -185,7 +185,7 @@ module _ (plain : Bool) (ks js : List ℕ) (i : ℕ) where
 
   -- one more
   pub records-more : i < length ks → i < length js
-      → firstRecords plain ks js (i + 1) ≡ firstRecords plain ks js i ++ recordsOf plain (elementsFrom (getD ks i 0 ∷ []) (firstAfter ks i)) (getD js i 0 ∷ [])
+      → firstRecords plain ks js (i + 1) ≡ firstRecords plain ks js i ++ elementRecords plain (elementsFrom (getD ks i 0 ∷ []) (firstAfter ks i)) (getD js i 0 ∷ [])
   records-more h g =
       let l : length (take i js) ≡ length (elementsFrom (take i ks) 0) =
       length-take-le i js (omega arith) ∙ sym (kinds-length (take i ks) 0 ∙ length-take-le i ks (omega arith)) in

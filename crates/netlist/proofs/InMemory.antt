@@ -15,7 +15,7 @@ use Rattle.calculus.specs.Inputs.{targets}
 use Rattle.circuit_theorems.proofs.NodeBytes.{node-bytes}
 use Rattle.memory.specs.Map.{targetsAt, elementsAt, stackAt, makersAt, region, elementsFrom, wiresFrom, terminalOf, netIn, Ready}
 use Rattle.calculus.specs.NetRead.{Known}
-use Rattle.netlist.specs.Elements.{after, afterAll, elementSize, nodeSize, recordsOf}
+use Rattle.netlist.specs.Elements.{after, afterAll, elementSize, nodeSize, elementRecords}
 use Rattle.netlist.proofs.Records.{wires-append, pins-append, wires-length, pins-length, net-length}
 use Rattle.netlist.proofs.Elements.{firstBytes, firstAfter, bytes-more, length-more, after-one, bytes-within, after-within, kinds-tiled, tiled-end, kinds-known, kinds-length, records-are, records-length, firstRecords, records-first, records-more}
 use Rattle.netlist.proofs.Targets.{made-past, target-counted}
@@ -52,7 +52,7 @@ module _ (w : List ℕ) (a i : ℕ) (h : a + i < length w) where
 -- the record of one more, from the kinds at a and the makers at b
 pub record-next : (plain : Bool) (w : List ℕ) (a b i : ℕ) → a + i < length w → b + i < length w
     → firstRecords plain (drop a w) (drop b w) (i + 1)
-    ≡ firstRecords plain (drop a w) (drop b w) i ++ recordsOf plain (elementsFrom (getD w (a + i) 0 ∷ []) (firstAfter (drop a w) i)) (getD w (b + i) 0 ∷ [])
+    ≡ firstRecords plain (drop a w) (drop b w) i ++ elementRecords plain (elementsFrom (getD w (a + i) 0 ∷ []) (firstAfter (drop a w) i)) (getD w (b + i) 0 ∷ [])
 record-next plain w a b i h g =
     rw (← getD-drop a w i 0, ← getD-drop b w i 0) (records-more plain (drop a w) (drop b w) i (here w a i h) (here w b i g))
 

@@ -29,9 +29,9 @@ abbrev pub nodeSize : Bool → ℕ → ℕ
 nodeSize plain n = cond plain 0 (2 * n)
 
 -- an element's record, plain or with the node that made it
-abbrev pub recordOf : Bool → Element → ℕ → List ℕ
-recordOf plain x k = cond plain (itemBytes (element x)) (nodeBytes x k)
+abbrev pub elementRecord : Bool → Element → ℕ → List ℕ
+elementRecord plain x k = cond plain (itemBytes (element x)) (nodeBytes x k)
 
-abbrev pub recordsOf : Bool → List Element → List ℕ → List ℕ
-recordsOf plain [] ks = []
-recordsOf plain (x ∷ xs) ks = recordOf plain x (maker ks) ++ recordsOf plain xs (drop 1 ks)
+abbrev pub elementRecords : Bool → List Element → List ℕ → List ℕ
+elementRecords plain [] ks = []
+elementRecords plain (x ∷ xs) ks = elementRecord plain x (maker ks) ++ elementRecords plain xs (drop 1 ks)

@@ -7,7 +7,7 @@ use Rattle.calculus.specs.Makers.{written}
 use Rattle.calculus.specs.Record.{All}
 use Rattle.memory.specs.Map.{targetsAt, elementsAt, stackAt, makersAt, region, elementsFrom, netIn, Ready}
 use Rattle.calculus.specs.NetRead.{Known}
-use Rattle.netlist.specs.Elements.{afterAll, recordsOf}
+use Rattle.netlist.specs.Elements.{afterAll, elementRecords}
 
 -- a whole netlist, its elements' makers beside it
 pub record Writable (plain : Bool) (w : List ℕ) (elements wires pins room : ℕ) : Type 0 where
@@ -18,7 +18,7 @@ pub record Writable (plain : Bool) (w : List ℕ) (elements wires pins room : �
 -- from an offset on, n elements of known kinds, that take no terminal from 8,192 on
 pub record ElementsFit (plain : Bool) (w : List ℕ) (n room from : ℕ) : Type 0 where
   pub source : makersAt + n ≤ length w
-  pub target : from + length (recordsOf plain (elementsFrom (region w elementsAt n) 0) (region w makersAt n)) ≤ room
+  pub target : from + length (elementRecords plain (elementsFrom (region w elementsAt n) 0) (region w makersAt n)) ≤ room
   pub known : (i : ℕ) → i < n → getD w (elementsAt + i) 0 < 8
   pub low : afterAll (region w elementsAt n) 0 ≤ 8192
 

@@ -10,7 +10,7 @@ ghost use Rattle.calculus.specs.Makers.{nodeBytes, written};
 ghost use Rattle.calculus.specs.Terms.{partAt};
 ghost use Rattle.memory.specs.Map.{targetsAt, elementsAt, stackAt, makersAt, code, terminalOf, region, elementsFrom, wiresFrom, netIn, Ready};
 ghost use Rattle.netlist.specs.Said.{saidTerminal, wire};
-ghost use Rattle.netlist.specs.Elements.{outputOf, after, elementSize, nodeSize, recordsOf};
+ghost use Rattle.netlist.specs.Elements.{outputOf, after, elementSize, nodeSize, elementRecords};
 ghost use Rattle.netlist.specs.Fitting.{ElementsFit, WiresFit, PinsFit, Writable};
 
 // An input terminal, and an output terminal, by its number.
@@ -203,7 +203,7 @@ fn put_plain(out: &mut [u8], at: usize, kind: u16, n: u16) -> usize
 fn put_node(out: &mut [u8], at: usize, kind: u16, n: u16, node: u16) -> usize
     requires { ⌜ (kind < 8) × (at + elementSize kind + 2 ≤ length (now out)) ⌝ }
     ensures { λ r. ⌜ (r ≡ at + elementSize kind + 2)
-        × (now (out .exit) ≡ sets (now (out .entry)) at (recordsOf false (elementsFrom (kind ∷ []) n) (node ∷ []))) ⌝ }
+        × (now (out .exit) ≡ sets (now (out .entry)) at (elementRecords false (elementsFrom (kind ∷ []) n) (node ∷ []))) ⌝ }
 {
     if kind == memory::POINT {
         put_node_point(out, at, In(n), node)
@@ -216,7 +216,7 @@ fn put_node(out: &mut [u8], at: usize, kind: u16, n: u16, node: u16) -> usize
 pub fn put_element(out: &mut [u8], at: usize, kind: u16, n: u16, node: u16, plain: bool) -> usize
     requires { ⌜ (kind < 8) × (at + elementSize kind + nodeSize plain 1 ≤ length (now out)) ⌝ }
     ensures { λ r. ⌜ (r ≡ at + elementSize kind + nodeSize plain 1)
-        × (now (out .exit) ≡ sets (now (out .entry)) at (recordsOf plain (elementsFrom (kind ∷ []) n) (node ∷ []))) ⌝ }
+        × (now (out .exit) ≡ sets (now (out .entry)) at (elementRecords plain (elementsFrom (kind ∷ []) n) (node ∷ []))) ⌝ }
 {
     if plain {
         put_plain(out, at, kind, n)
@@ -228,8 +228,8 @@ pub fn put_element(out: &mut [u8], at: usize, kind: u16, n: u16, node: u16, plai
 // The records of all elements, from an offset on.
 fn put_elements(work: &[u16], elements: usize, out: &mut [u8], from: usize, plain: bool) -> usize
     requires { ⌜ ElementsFit plain (now work) elements (length (now out)) from ⌝ }
-    ensures { λ r. ⌜ (r ≡ from + length (recordsOf plain (elementsFrom (region (now (work .entry)) elementsAt elements) 0) (region (now (work .entry)) makersAt elements)))
-        × (now (out .exit) ≡ sets (now (out .entry)) from (recordsOf plain (elementsFrom (region (now (work .entry)) elementsAt elements) 0) (region (now (work .entry)) makersAt elements))) ⌝ }
+    ensures { λ r. ⌜ (r ≡ from + length (elementRecords plain (elementsFrom (region (now (work .entry)) elementsAt elements) 0) (region (now (work .entry)) makersAt elements)))
+        × (now (out .exit) ≡ sets (now (out .entry)) from (elementRecords plain (elementsFrom (region (now (work .entry)) elementsAt elements) 0) (region (now (work .entry)) makersAt elements))) ⌝ }
 {
     let mut at = from;
     let mut n: u16 = 0;
@@ -247,8 +247,8 @@ fn put_elements(work: &[u16], elements: usize, out: &mut [u8], from: usize, plai
 // The same, with the wish known: no loop then tests it at each element.
 fn put_wished(work: &[u16], elements: usize, out: &mut [u8], from: usize, plain: bool) -> usize
     requires { ⌜ ElementsFit plain (now work) elements (length (now out)) from ⌝ }
-    ensures { λ r. ⌜ (r ≡ from + length (recordsOf plain (elementsFrom (region (now (work .entry)) elementsAt elements) 0) (region (now (work .entry)) makersAt elements)))
-        × (now (out .exit) ≡ sets (now (out .entry)) from (recordsOf plain (elementsFrom (region (now (work .entry)) elementsAt elements) 0) (region (now (work .entry)) makersAt elements))) ⌝ }
+    ensures { λ r. ⌜ (r ≡ from + length (elementRecords plain (elementsFrom (region (now (work .entry)) elementsAt elements) 0) (region (now (work .entry)) makersAt elements)))
+        × (now (out .exit) ≡ sets (now (out .entry)) from (elementRecords plain (elementsFrom (region (now (work .entry)) elementsAt elements) 0) (region (now (work .entry)) makersAt elements))) ⌝ }
 {
     if plain {
         put_elements(work, elements, out, from, true)

@@ -9,7 +9,7 @@ use Rattle.parts.specs.declared.Part.{Part}
 use Rattle.parts.specs.declared.Named.{Named}
 use Rattle.parts.specs.declared.Named.the-variants as of
 use Rattle.parts.specs.declared.Name.{Name}
-use Rattle.parts.specs.Table.{Entry, saidPart, saidNamed, shapeTy, laterTy}
+use Rattle.parts.specs.Table.{PartEntry, saidPart, saidNamed, shapeTy, laterTy}
 use Rattle.laws.proofs.OneResult.{Result}
 use Rattle.parts.proofs.Rule.{shape-size}
 use Rattle.parts.proofs.part_at.Kinds as part-at
@@ -44,11 +44,11 @@ same-pair n false true e = let z : 2 ≡ left-size (shapeTy n) = ap left-size (s
 same-part : (x y : Part) → saidPart x ≡ saidPart y → x ≡ y
 unfolding part
 same-part x y h =
-    let a : x .inputs ≡ y .inputs = ap (λ (z : Entry). z .inputs) h in
-    let b : x .outputs ≡ y .outputs = ap (λ (z : Entry). z .outputs) h in
-    let k : size (shapeTy (x .shape)) ≡ size (shapeTy (y .shape)) = ap (λ (z : Entry). size (z .in-first)) h in
+    let a : x .inputs ≡ y .inputs = ap (λ (z : PartEntry). z .inputs) h in
+    let b : x .outputs ≡ y .outputs = ap (λ (z : PartEntry). z .outputs) h in
+    let k : size (shapeTy (x .shape)) ≡ size (shapeTy (y .shape)) = ap (λ (z : PartEntry). size (z .in-first)) h in
     let c : x .shape ≡ y .shape = omega (arith, k, shape-size (x .shape), shape-size (y .shape)) in
-    let d : laterTy (y .shape) (x .paired) ≡ laterTy (y .shape) (y .paired) = ap (λ (n : ℕ). laterTy n (x .paired)) (sym c) ∙ ap (λ (z : Entry). z .in-second) h in
+    let d : laterTy (y .shape) (x .paired) ≡ laterTy (y .shape) (y .paired) = ap (λ (n : ℕ). laterTy n (x .paired)) (sym c) ∙ ap (λ (z : PartEntry). z .in-second) h in
     let e : x .paired ≡ y .paired = same-pair (y .shape) (x .paired) (y .paired) d in
     ap (λ (i : ℕ). part i (x .outputs) (x .shape) (x .paired)) a ∙ ap (λ (o : ℕ). part (y .inputs) o (x .shape) (x .paired)) b
     ∙ ap (λ (n : ℕ). part (y .inputs) (y .outputs) n (x .paired)) c ∙ ap (part (y .inputs) (y .outputs) (y .shape)) e

@@ -14,7 +14,7 @@ use Rattle.laws.proofs.Tests.{and-both}
 use Rattle.laws.proofs.Below.{below}
 use Rattle.parts.specs.declared.Part.{Part}
 use Rattle.parts.specs.declared.Name.{Name}
-use Rattle.parts.specs.Table.{Entry, isPart, noPart, saidPart, entryOf, named, nameAt, padded, shapeTy}
+use Rattle.parts.specs.Table.{PartEntry, isPart, noPart, saidPart, entryOf, named, nameAt, padded, shapeTy}
 
 abbrev entryRow : ℕ → ℕ → ℕ → Bool → Part
 entryRow i o k b = record { inputs = i; outputs = o; shape = k; paired = b }
@@ -23,8 +23,8 @@ abbrev nameRow : List ℕ → ℕ → Name
 nameRow letters n = record { letters = letters; count = n }
 
 -- the tables of the code
-abbrev pub table : List Part
-table =
+abbrev pub codeTable : List Part
+codeTable =
     entryRow 0 1 0 false ∷ entryRow 1 1 1 false ∷ entryRow 2 1 2 true ∷ entryRow 2 1 2 true ∷ entryRow 2 1 2 true ∷ entryRow 1 1 1 false ∷ entryRow 0 1 0 false ∷ []
 
 abbrev pub nameTable : List Name
@@ -33,7 +33,7 @@ nameTable =
     ∷ nameRow (120 ∷ 111 ∷ 114 ∷ 0 ∷ []) 3 ∷ nameRow (105 ∷ 110 ∷ 118 ∷ 0 ∷ []) 3 ∷ nameRow (111 ∷ 110 ∷ 101 ∷ 0 ∷ []) 3 ∷ []
 
 abbrev rowAt : ℕ → Part
-rowAt p = getD table p (entryRow 0 0 0 false)
+rowAt p = getD codeTable p (entryRow 0 0 0 false)
 
 abbrev nameRowAt : ℕ → Name
 nameRowAt p = getD nameTable p (nameRow [] 0)
@@ -57,10 +57,10 @@ same-type (lolli a b) (prod c d) t = absurd t
 same-type (lolli a b) (arrow c d) t = absurd t
 same-type (lolli a b) (lolli c d) t = let h = and-both (tyEq a c) (tyEq b d) t in rw (same-type a c (h .0), same-type b d (h .1))
 
-abbrev entryEq : Entry → Entry → Bool
+abbrev entryEq : PartEntry → PartEntry → Bool
 entryEq x y = eqb (x .inputs) (y .inputs) && (eqb (x .outputs) (y .outputs) && (tyEq (x .in-first) (y .in-first) && tyEq (x .in-second) (y .in-second)))
 
-abbrev entry : ℕ → ℕ → Ty → Ty → Entry
+abbrev entry : ℕ → ℕ → Ty → Ty → PartEntry
 entry i o t u = record { inputs = i; outputs = o; in-first = t; in-second = u }
 
 same-entry : (i j o q : ℕ) (σ τ σ′ τ′ : Ty) → T (entryEq (entry i o σ σ′) (entry j q τ τ′)) → entry i o σ σ′ ≡ entry j q τ τ′

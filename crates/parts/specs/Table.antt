@@ -22,17 +22,17 @@ laterTy n true = arrow (prod bit bit) bit
 laterTy n false = shapeTy n
 
 -- a part's terminals and its type in each edition, or no part
-pub record Entry : Type 0 where
+pub record PartEntry : Type 0 where
   pub inputs : ℕ
   pub outputs : ℕ
   pub in-first : Ty
   pub in-second : Ty
 
 pub data Lookup : Type 0 where
-  isPart : Entry → Lookup
+  isPart : PartEntry → Lookup
   noPart : Lookup
 
-abbrev pub saidPart : Part → Entry
+abbrev pub saidPart : Part → PartEntry
 saidPart q = record { inputs = q .inputs; outputs = q .outputs; in-first = shapeTy (q .shape); in-second = laterTy (q .shape) (q .paired) }
 
 abbrev pub saidNamed : Named → Lookup
@@ -40,7 +40,7 @@ saidNamed (of.Part q) = isPart (saidPart q)
 saidNamed of.Unknown = noPart
 
 -- each part has one output
-abbrev pub entryOf : ℕ → Entry
+abbrev pub entryOf : ℕ → PartEntry
 entryOf p = record { inputs = partAt p .inputs; outputs = 1; in-first = partAt p .type first; in-second = partAt p .type second }
 
 unfoldable pub named : ℕ → Lookup

@@ -5,7 +5,7 @@ use mathlib.Core.List.{List}
 use Rattle.calculus.specs.Answer.{Refusal}
 use Rattle.calculus.proofs.Answers.{refused≢good, good-inj, refused-inj}
 use Rattle.calculus.specs.Stretch.{Stretch}
-use Rattle.sheet.specs.Sheets.{SheetCounts, ReadSaid, saidVerdict, saidReading}
+use Rattle.sheet.specs.Sheets.{SheetCounts, ReadSaid, saidSheet, saidReading}
 use Rattle.sheet.specs.declared.Verdict.{Verdict}
 use Rattle.sheet.specs.declared.Verdict.the-variants as verdict
 use Rattle.sheet.specs.declared.Reading.{Reading}
@@ -25,7 +25,7 @@ use Rattle.sheet.proofs.records_of.Kinds as records-of
 use Rattle.sheet.proofs.records_of.Reads as records-of-reads
 
 -- a verdict says what it is
-same-verdict : (v w : Verdict) → saidVerdict v ≡ saidVerdict w → v ≡ w
+same-verdict : (v w : Verdict) → saidSheet v ≡ saidSheet w → v ≡ w
 same-verdict (verdict.Read a b c) (verdict.Read x y z) e =
     let f = good-inj e in
     let p : a ≡ x = ap (λ (c : SheetCounts). c .types) f in

@@ -24,7 +24,7 @@ use Rattle.records.specs.declared.Record.the-variants as rec
 use Rattle.records.proofs.Rule.{the-type as rule-type}
 use Rattle.records.proofs.Laws.{node-next}
 use Rattle.records.specs.Editions.{knownRule}
-use Rattle.sheet.specs.Said.{nodeSubs, opening, headed, opens, mistyped, limitsOf}
+use Rattle.sheet.specs.Said.{nodeSubs, opensAt, headed, opens, mistyped, limitsOf}
 use Rattle.sheet.proofs.KindLaws.{kindShape, record-kind, record-past, nodeRule, nodeAs, node-here, body-at}
 
 -- ---- no node's record
@@ -124,7 +124,7 @@ known-by E k1A = refl
 known-by E k1B = refl
 
 headed-chain : (z a b c : Bool) (at : ℕ) (k : NodeKind)
-    → (need z 4 at >>= λ _. need a 8 at >>= λ _. need b 8 at >>= λ _. need c 5 at >>= λ _. opening (at + 1 + nodeBody k) (nodeSubs k))
+    → (need z 4 at >>= λ _. need a 8 at >>= λ _. need b 8 at >>= λ _. need c 5 at >>= λ _. opensAt (at + 1 + nodeBody k) (nodeSubs k))
     ≡ headed at (need z 4 at >>= λ _. need a 8 at >>= λ _. need b 8 at >>= λ _. need c 5 at >>= λ _. good k)
 headed-chain false a b c at k = refl
 headed-chain true false b c at k = refl
@@ -167,7 +167,7 @@ module _ (E : Edition) (r : Node) (at n more types : ℕ) where
         unfolding limitsOf
         limit-type t = simp (u, lt-ltb n 2048 c, lt-ltb 0 more (omega arith), t)
 
-        pub limit-none : mistyped (r .rule) (r .first) (r .second) types ≡ false → opening (r .next) (r .subterms) ≡ limitsOf E r at n more types
+        pub limit-none : mistyped (r .rule) (r .first) (r .second) types ≡ false → opensAt (r .next) (r .subterms) ≡ limitsOf E r at n more types
         unfolding limitsOf
         limit-none t = simp (u, lt-ltb n 2048 c, lt-ltb 0 more (omega arith), t)
 

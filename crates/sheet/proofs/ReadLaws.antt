@@ -20,7 +20,7 @@ use Rattle.sheet_theorems.proofs.Judging.{of-refused}
 use Rattle.sheet_theorems.proofs.Places.{records-places}
 use Rattle.records.specs.Told.{sizesOf}
 use Rattle.sheet.specs.Said.{Count, TypesSaid, allTypes, typesOf, dueOf, typesIn, End, end, spanned, endedOf}
-use Rattle.sheet.specs.Sheets.{ReadSaid, saidVerdict, saidReading, wholeSheet, noSheet, readingOf}
+use Rattle.sheet.specs.Sheets.{ReadSaid, saidSheet, saidReading, wholeSheet, noSheet, readingOf}
 use Rattle.sheet.specs.declared.Verdict.the-variants as verdict
 use Rattle.sheet.specs.declared.Reading.{Reading}
 use Rattle.records.specs.Editions.{editionBy}
@@ -154,14 +154,14 @@ module _ (s : List ℕ) where
     offset-good : (m : Answer Sheet) {types n start : ℕ} → readRecords (editionOf s) (recordsOf s) ≡ m → saidReading r ≡ readingOf m → r .verdict ≡ verdict.Read types n start → saidReading r ≡ readingOf (readSheet s)
     unfolding readingOf readSheet
     offset-good (good σ) e h v = simp (le-leb (length s) 16384 short, e) h
-    offset-good (refused why) e h v = absurd (refused≢good (sym (ap saidVerdict (sym v) ∙ ap (λ (x : ReadSaid). x .answer) h)))
+    offset-good (refused why) e h v = absurd (refused≢good (sym (ap saidSheet (sym v) ∙ ap (λ (x : ReadSaid). x .answer) h)))
 
     offset-bad : (m : Answer Sheet) {number place : ℕ} → readRecords (editionOf s) (recordsOf s) ≡ m → saidReading r ≡ readingOf m → r .verdict ≡ verdict.Refused number place
         → (m ≡ refuse number place) × (noSheet (numbered number (length (opening (editionOf s)) + place)) ≡ readingOf (readSheet s))
     unfolding readingOf readSheet
-    offset-bad (good σ) e h v = absurd (refused≢good (ap saidVerdict (sym v) ∙ ap (λ (x : ReadSaid). x .answer) h))
+    offset-bad (good σ) e h v = absurd (refused≢good (ap saidSheet (sym v) ∙ ap (λ (x : ReadSaid). x .answer) h))
     offset-bad (refused why) {number} {place} e h v =
-        let f : numbered number place ≡ why = refused-inj (ap saidVerdict (sym v) ∙ ap (λ (x : ReadSaid). x .answer) h) in
+        let f : numbered number place ≡ why = refused-inj (ap saidSheet (sym v) ∙ ap (λ (x : ReadSaid). x .answer) h) in
         (ap refused (sym f), simp (le-leb (length s) 16384 short, e) (ap (λ (why : Refusal). noSheet (record { number = why .number; place = length (opening (editionOf s)) + why .place; wanted = why .wanted; found = why .found })) f))
 
     -- the records as they were read, of the edition that was told

@@ -9,11 +9,11 @@ use lib.ListN.{length, replicate, length-replicate}
 use Rattle.calculus.specs.Answer.{Answer, good, refused, _>>=_, refuse}
 use Rattle.calculus.proofs.Answers.{refused≢good, good-inj, refused-inj, on-bind, on-need}
 use Rattle.calculus.specs.Terms.{Edition, Term, fun, app, lfun, lapp, pair, proj, fix, name}
-use Rattle.calculus.specs.Read.{kindOf, NodeKind, k11, k12, k13, k14, k15, k16, k17, k18, k19, k1A, k1B, knows, nodeBody, nodeTyped, nodeKind, byte, headAt, Got, got, nodeAt, readTerm}
+use Rattle.calculus.specs.Read.{kindOf, NodeKind, k11, k12, k13, k14, k15, k16, k17, k18, k19, k1A, k1B, knows, nodeBody, nodeTyped, nodeKind, byte, headAt, Got, got, nodeOfKind, readTerm}
 use Rattle.calculus.specs.Types.{rec01}
 use Rattle.sheet_theorems.proofs.Standing.{term-nonempty}
 use Rattle.sheet_theorems.proofs.Laying.{termed}
-use Rattle.sheet.specs.Said.{nodeSubs, headed, HeadSaid, opening, opens, End, end, spanned}
+use Rattle.sheet.specs.Said.{nodeSubs, headed, HeadSaid, opensAt, opens, End, end, spanned}
 
 -- ---- a node with so many subterms
 
@@ -28,7 +28,7 @@ module _ (x y next n : ℕ) (go : ℕ → ℕ → Answer Got) where
   two mk (good g) = one (mk (g .term)) (go (g .next) (g .count))
   two mk (refused why) = refl
 
-  no-subterm : (k : NodeKind) → nodeSubs k ≡ 0 → spanned (nodeAt k x y next n go) ≡ end next n
+  no-subterm : (k : NodeKind) → nodeSubs k ≡ 0 → spanned (nodeOfKind k x y next n go) ≡ end next n
   unfolding spanned
   no-subterm k11 h = refl
   no-subterm k12 h = refl
@@ -42,7 +42,7 @@ module _ (x y next n : ℕ) (go : ℕ → ℕ → Answer Got) where
   no-subterm k1A h = refl
   no-subterm k1B h = absurd (omega arith)
 
-  one-subterm : (k : NodeKind) → nodeSubs k ≡ 1 → spanned (nodeAt k x y next n go) ≡ spanned (go next n)
+  one-subterm : (k : NodeKind) → nodeSubs k ≡ 1 → spanned (nodeOfKind k x y next n go) ≡ spanned (go next n)
   one-subterm k11 h = absurd (omega arith)
   one-subterm k12 h = absurd (omega arith)
   one-subterm k13 h = one (fun x) (go next n)
@@ -55,7 +55,7 @@ module _ (x y next n : ℕ) (go : ℕ → ℕ → Answer Got) where
   one-subterm k1A h = absurd (omega arith)
   one-subterm k1B h = absurd (omega arith)
 
-  two-subterms : (k : NodeKind) → 2 ≤ nodeSubs k → spanned (nodeAt k x y next n go) ≡ (spanned (go next n) >>= λ e. spanned (go (e .at) (e .count)))
+  two-subterms : (k : NodeKind) → 2 ≤ nodeSubs k → spanned (nodeOfKind k x y next n go) ≡ (spanned (go next n) >>= λ e. spanned (go (e .at) (e .count)))
   two-subterms k11 h = absurd (omega arith)
   two-subterms k12 h = absurd (omega arith)
   two-subterms k13 h = absurd (omega arith)
@@ -70,7 +70,7 @@ module _ (x y next n : ℕ) (go : ℕ → ℕ → Answer Got) where
 
 -- ---- what an opened record tells
 
-headed-good : (at : ℕ) (m : Answer NodeKind) (p q : ℕ) → opening p q ≡ headed at m → (k : NodeKind) × (m ≡ good k) × (at + 1 + nodeBody k ≡ p) × (nodeSubs k ≡ q)
+headed-good : (at : ℕ) (m : Answer NodeKind) (p q : ℕ) → opensAt p q ≡ headed at m → (k : NodeKind) × (m ≡ good k) × (at + 1 + nodeBody k ≡ p) × (nodeSubs k ≡ q)
 headed-good at (good k) p q e =
     let f = good-inj (sym e) in
     (k, refl, ap (λ (o : HeadSaid). o .next) f, ap (λ (o : HeadSaid). o .subterms) f)
@@ -102,7 +102,7 @@ head-tells E more s types at n k e =
 
 module _ (E : Edition) (s : List ℕ) (types at n : ℕ) where
   read-step : (k : NodeKind) (m : ℕ) → 0 < m → headAt E m s types at n ≡ good k
-      → readTerm E m s types at n ≡ nodeAt k (byte s (at + 1)) (byte s (at + 2)) (at + 1 + nodeBody k) (n + 1) (λ a c. readTerm E (m - 1) s types a c)
+      → readTerm E m s types at n ≡ nodeOfKind k (byte s (at + 1)) (byte s (at + 2)) (at + 1 + nodeBody k) (n + 1) (λ a c. readTerm E (m - 1) s types a c)
   unfolding readTerm
   read-step k zero h e = absurd (omega arith)
   read-step k (suc m) h e = let p : suc m - 1 ≡ m = omega arith in simp (e, p)
@@ -113,7 +113,7 @@ module _ (E : Edition) (s : List ℕ) (types at n : ℕ) where
   read-bad a b (suc m) h = simp h
 
 module _ (E : Edition) (more : ℕ) (s : List ℕ) (types at n : ℕ) where
-  pub open-tells : {p q : ℕ} → opening p q ≡ opens E more s types at n → InLimits more s at n p
+  pub open-tells : {p q : ℕ} → opensAt p q ≡ opens E more s types at n → InLimits more s at n p
   unfolding opens
   open-tells {p} {q} e =
       let (k, h, i, j) = headed-good at (headAt E more s types at n) p q e in
@@ -124,34 +124,34 @@ module _ (E : Edition) (more : ℕ) (s : List ℕ) (types at n : ℕ) where
   span-bad {a} {b} e = read-bad E s types at n a b more (headed-bad at (headAt E more s types at n) a b e)
 
   -- the node that a record opens
-  opened-node : {p q : ℕ} → opening p q ≡ opens E more s types at n → (k : NodeKind) × (nodeSubs k ≡ q)
-      × (readTerm E more s types at n ≡ nodeAt k (byte s (at + 1)) (byte s (at + 2)) p (n + 1) (λ a c. readTerm E (more - 1) s types a c))
+  opened-node : {p q : ℕ} → opensAt p q ≡ opens E more s types at n → (k : NodeKind) × (nodeSubs k ≡ q)
+      × (readTerm E more s types at n ≡ nodeOfKind k (byte s (at + 1)) (byte s (at + 2)) p (n + 1) (λ a c. readTerm E (more - 1) s types a c))
   unfolding opens
   opened-node {p} {q} e =
       let (k, h, i, j) = headed-good at (headAt E more s types at n) p q e in
       (k, j, read-step E s types at n k more (head-tells E more s types at n k h .deep) h ∙ rw i)
 
-  pub span-none : {p q : ℕ} → opening p q ≡ opens E more s types at n → q ≡ 0 → end p (n + 1) ≡ spanned (readTerm E more s types at n)
+  pub span-none : {p q : ℕ} → opensAt p q ≡ opens E more s types at n → q ≡ 0 → end p (n + 1) ≡ spanned (readTerm E more s types at n)
   span-none e z =
       let (k, j, r) = opened-node e in
       sym (ap spanned r ∙ no-subterm _ _ _ _ _ k (j ∙ z))
 
-  pub span-one : {p q : ℕ} → opening p q ≡ opens E more s types at n → q ≡ 1 → spanned (readTerm E (more - 1) s types p (n + 1)) ≡ spanned (readTerm E more s types at n)
+  pub span-one : {p q : ℕ} → opensAt p q ≡ opens E more s types at n → q ≡ 1 → spanned (readTerm E (more - 1) s types p (n + 1)) ≡ spanned (readTerm E more s types at n)
   span-one e z =
       let (k, j, r) = opened-node e in
       sym (ap spanned r ∙ one-subterm _ _ _ _ _ k (j ∙ z))
 
-  pub span-two : {p q : ℕ} → opening p q ≡ opens E more s types at n → ¬ (q ≡ 0) → ¬ (q ≡ 1)
+  pub span-two : {p q : ℕ} → opensAt p q ≡ opens E more s types at n → ¬ (q ≡ 0) → ¬ (q ≡ 1)
       → (spanned (readTerm E (more - 1) s types p (n + 1)) >>= λ e. spanned (readTerm E (more - 1) s types (e .at) (e .count))) ≡ spanned (readTerm E more s types at n)
   span-two e x y =
       let (k, j, r) = opened-node e in
       sym (ap spanned r ∙ two-subterms _ _ _ _ _ k (omega arith))
 
-  pub span-two-good : {p q b c : ℕ} → opening p q ≡ opens E more s types at n → ¬ (q ≡ 0) → ¬ (q ≡ 1)
+  pub span-two-good : {p q b c : ℕ} → opensAt p q ≡ opens E more s types at n → ¬ (q ≡ 0) → ¬ (q ≡ 1)
       → end b c ≡ spanned (readTerm E (more - 1) s types p (n + 1)) → spanned (readTerm E (more - 1) s types b c) ≡ spanned (readTerm E more s types at n)
   span-two-good e x y h = ap (λ (m : Answer End). m >>= λ e. spanned (readTerm E (more - 1) s types (e .at) (e .count))) h ∙ span-two e x y
 
-  pub span-two-bad : {p q a b : ℕ} → opening p q ≡ opens E more s types at n → ¬ (q ≡ 0) → ¬ (q ≡ 1)
+  pub span-two-bad : {p q a b : ℕ} → opensAt p q ≡ opens E more s types at n → ¬ (q ≡ 0) → ¬ (q ≡ 1)
       → _≡_ {A = Answer End} (refuse a b) (spanned (readTerm E (more - 1) s types p (n + 1))) → _≡_ {A = Answer End} (refuse a b) (spanned (readTerm E more s types at n))
   span-two-bad e x y h = ap (λ (m : Answer End). m >>= λ e. spanned (readTerm E (more - 1) s types (e .at) (e .count))) h ∙ span-two e x y
 

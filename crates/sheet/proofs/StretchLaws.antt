@@ -12,7 +12,7 @@ use Rattle.calculus.proofs.Answers.{refused≢good, good-inj}
 use Rattle.calculus.specs.Terms.{Edition, isSecond, opening, nodes}
 use Rattle.calculus.specs.Read.{Kind, readTerm, Sheet, editionOf, readSheet}
 use Rattle.calculus.specs.Stretch.{termStart, nowhere, stretchOf}
-use Rattle.sheet_theorems.specs.Subterms.{subterms, bodyOf, after, skip}
+use Rattle.sheet_theorems.specs.Subterms.{subterms, bodyOf, afterRecord, skip}
 use Rattle.sheet_theorems.proofs.StretchHolds.{skip-next, stretch-holds, stretch-past, stretch-refused}
 use Rattle.sheet_theorems.proofs.SubtermRead.{stretch-read}
 use Rattle.records.specs.Record.{recordAt, nodeAt}
@@ -30,11 +30,11 @@ use Rattle.sheet.proofs.KindLaws.{NodeHere, node-here}
 
 -- ---- one record further
 
-after-here : (s : List ℕ) (at : ℕ) (r : Node) → NodeHere s at r → r .next ≡ after s at
+after-here : (s : List ℕ) (at : ℕ) (r : Node) → NodeHere s at r → r .next ≡ afterRecord s at
 after-here s at r w = ap (λ (x : Node). x .next) (w .same) ∙ ap (λ (k : Kind). at + 1 + bodyOf k) (sym (w .kind-is))
 
 -- the record of a node ends where the next begins
-after-node : (s : List ℕ) (at : ℕ) (r : Node) → recordAt true s at ≡ rec.Node r → r .next ≡ after s at
+after-node : (s : List ℕ) (at : ℕ) (r : Node) → recordAt true s at ≡ rec.Node r → r .next ≡ afterRecord s at
 after-node s at r e = let l = node-next true s at e in after-here s at r (node-here s at (omega arith) r e)
 
 pub skip-more : (s : List ℕ) (start n k at : ℕ) {r : Node} → NodesFrom s start n → k < n → at ≡ skip s k start → r ≡ nodeAt s at → r .next ≡ skip s (k + 1) start

@@ -30,7 +30,7 @@ use Rattle.records.specs.declared.Record.the-variants as rec
 use Rattle.records.proofs.Record.{the-type}
 use Rattle.records.specs.Told.{sizesOf}
 use Rattle.sheet.specs.Tables.{tableIn, Before, sizeOf}
-use Rattle.sheet.specs.Said.{allTypes, noTypes, typesOf, endOf, dueOf, typesIn}
+use Rattle.sheet.specs.Said.{allTypes, noTypes, typesOf, typesEnd, dueOf, typesIn}
 use Rattle.sheet.proofs.KindLaws.{TypeHere, type-cut, record-kind, record-past}
 use Rattle.sheet.proofs.TableLaws.{table-more, table-count, sizes-more}
 
@@ -161,40 +161,40 @@ module _ (s : List ℕ) (at : ℕ) {f : Form} {next : ℕ} (t : TypeHere s at f 
 
 -- ---- the end of the types
 
-types-refused : (s : List ℕ) (at count : ℕ) (sizes : List ℕ) → readTypes 256 s [] 0 ≡ refuse 3 at → endOf (rec.Refused 3 at) at count sizes ≡ typesOf (typesIn s)
-unfolding endOf typesOf typesIn
+types-refused : (s : List ℕ) (at count : ℕ) (sizes : List ℕ) → readTypes 256 s [] 0 ≡ refuse 3 at → typesEnd (rec.Refused 3 at) at count sizes ≡ typesOf (typesIn s)
+unfolding typesEnd typesOf typesIn
 types-refused s at count sizes e = rw e
 
 module _ (s : List ℕ) (at count : ℕ) (sizes : List ℕ) (i : SoFar s at count sizes) where
   -- the types are read, and this record is due behind them
-  ended : (r : Record) → endOf r at count sizes ≡ typesOf (dueOf r (tableIn s count, at))
-  unfolding endOf typesOf
+  ended : (r : Record) → typesEnd r at count sizes ≡ typesOf (dueOf r (tableIn s count, at))
+  unfolding typesEnd typesOf
   ended (rec.Type f next) = rw (table-count s count, i .before .sizes-are)
   ended (rec.Node n) = rw (table-count s count, i .before .sizes-are)
   ended (rec.Refused number place) = refl
 
-  all-read : {r : Record} → readTypes (256 - count) s (tableIn s count) at ≡ good (tableIn s count, at) → r ≡ recordAt true s at → endOf r at count sizes ≡ typesOf (typesIn s)
+  all-read : {r : Record} → readTypes (256 - count) s (tableIn s count) at ≡ good (tableIn s count, at) → r ≡ recordAt true s at → typesEnd r at count sizes ≡ typesOf (typesIn s)
   unfolding typesIn
   all-read {r} e h = ended r ∙ rw (i .left, e, ← h) refl
 
-  stop : (k : Kind) {r : Record} → kindOf (byte s at) ≡ k → at < length s → r ≡ recordAt false s at → OneOf (1 ∷ 2 ∷ []) (tagOf the-type r) → endOf r at count sizes ≡ typesOf (typesIn s)
+  stop : (k : Kind) {r : Record} → kindOf (byte s at) ≡ k → at < length s → r ≡ recordAt false s at → OneOf (1 ∷ 2 ∷ []) (tagOf the-type r) → typesEnd r at count sizes ≡ typesOf (typesIn s)
   stop unknown e h g o = all-read (types-none s (tableIn s count) at (256 - count) e) (g ∙ record-kind false s at unknown h e ∙ sym (record-kind true s at unknown h e))
   stop (node k) e h g o = all-read (types-node s (tableIn s count) at (256 - count) e) (g ∙ record-kind false s at (node k) h e ∙ sym (record-kind true s at (node k) h e))
   stop (type k) {r} e h g o = let c = type-cut s at k h e g o in rw (c .0) (cut-off (i .left ∙ types-cut s (tableIn s count) at (256 - count) k e (c .1)))
     where
-      cut-off : readTypes 256 s [] 0 ≡ refuse 3 at → endOf (rec.Refused 3 at) at count sizes ≡ typesOf (typesIn s)
+      cut-off : readTypes 256 s [] 0 ≡ refuse 3 at → typesEnd (rec.Refused 3 at) at count sizes ≡ typesOf (typesIn s)
       cut-off e = types-refused s at count sizes e
 
   -- where no type record stands
-  pub types-stop : {r : Record} → r ≡ recordAt false s at → OneOf (1 ∷ 2 ∷ []) (tagOf the-type r) → endOf r at count sizes ≡ typesOf (typesIn s)
+  pub types-stop : {r : Record} → r ≡ recordAt false s at → OneOf (1 ∷ 2 ∷ []) (tagOf the-type r) → typesEnd r at count sizes ≡ typesOf (typesIn s)
   types-stop {r} g o = elim (decLt at (length s)) [
     | yes h ↦ stop (kindOf (byte s at)) refl h g o
     | no h ↦ all-read (types-none s (tableIn s count) at (256 - count) (rw (List·getD-eq-default s 0 {n = at} (omega arith)))) (g ∙ record-past false s at (omega arith) ∙ sym (record-past true s at (omega arith)))
   ]
 
 -- a record that is no refusal
-pub end-none : (r : Record) (at n : ℕ) (sizes : List ℕ) → OneOf (0 ∷ 1 ∷ []) (tagOf the-type r) → endOf r at n sizes ≡ allTypes n at sizes
-unfolding endOf
+pub end-none : (r : Record) (at n : ℕ) (sizes : List ℕ) → OneOf (0 ∷ 1 ∷ []) (tagOf the-type r) → typesEnd r at n sizes ≡ allTypes n at sizes
+unfolding typesEnd
 end-none (rec.Type f next) at n sizes o = refl
 end-none (rec.Node r) at n sizes o = refl
 end-none (rec.Refused number place) at n sizes o = absurd (miss (0 ∷ 1 ∷ []) 2 tt o)

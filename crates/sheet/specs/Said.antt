@@ -56,10 +56,10 @@ typesOf (good r) = allTypes (length (r .0)) (r .1) (sizesOf (r .0))
 typesOf (refused why) = noTypes why
 
 -- where no type's record stands: a node's ends the types, and a refusal is the sheet's
-unfoldable pub endOf : Record → ℕ → ℕ → List ℕ → TypesSaid
-endOf (rec.Type f next) at n sizes = allTypes n at sizes
-endOf (rec.Node r) at n sizes = allTypes n at sizes
-endOf (rec.Refused number place) at n sizes = noTypes (numbered number place)
+unfoldable pub typesEnd : Record → ℕ → ℕ → List ℕ → TypesSaid
+typesEnd (rec.Type f next) at n sizes = allTypes n at sizes
+typesEnd (rec.Node r) at n sizes = allTypes n at sizes
+typesEnd (rec.Refused number place) at n sizes = noTypes (numbered number place)
 
 -- behind the types a node's record is due
 abbrev pub dueOf : Record → Table × ℕ → Answer (Table × ℕ)
@@ -91,15 +91,15 @@ pub record HeadSaid : Type 0 where
   pub next : ℕ
   pub subterms : ℕ
 
-abbrev pub opening : ℕ → ℕ → Answer HeadSaid
-opening next n = good (record { next = next; subterms = n })
+abbrev pub opensAt : ℕ → ℕ → Answer HeadSaid
+opensAt next n = good (record { next = next; subterms = n })
 
 abbrev pub saidHead : Head → Answer HeadSaid
-saidHead (head.Opens next n) = opening next n
+saidHead (head.Opens next n) = opensAt next n
 saidHead (head.Refused number place) = refuse number place
 
 abbrev pub headed : ℕ → Answer NodeKind → Answer HeadSaid
-headed at (good k) = opening (at + 1 + nodeBody k) (nodeSubs k)
+headed at (good k) = opensAt (at + 1 + nodeBody k) (nodeSubs k)
 headed at (refused why) = refused why
 
 unfoldable pub opens : Edition → ℕ → List ℕ → ℕ → ℕ → ℕ → Answer HeadSaid
@@ -126,7 +126,7 @@ limitsOf E r at n more types = do
   _ ← need (ltb n 2048) 8 at
   _ ← need (ltb 0 more) 8 at
   _ ← need (not (mistyped (r .rule) (r .first) (r .second) types)) 5 at
-  opening (r .next) (r .subterms)
+  opensAt (r .next) (r .subterms)
 
 -- ---- a term
 

@@ -26,12 +26,12 @@ pub record ReadSaid : Type 0 where
   pub answer : Answer SheetCounts
   pub sizes : List ℕ
 
-abbrev pub saidVerdict : Verdict → Answer SheetCounts
-saidVerdict (verdict.Read types n start) = good (record { types = types; nodes = n; start = start })
-saidVerdict (verdict.Refused number place) = refuse number place
+abbrev pub saidSheet : Verdict → Answer SheetCounts
+saidSheet (verdict.Read types n start) = good (record { types = types; nodes = n; start = start })
+saidSheet (verdict.Refused number place) = refuse number place
 
 abbrev pub saidReading : Reading → ReadSaid
-saidReading r = record { answer = saidVerdict (r .verdict); sizes = r .sizes }
+saidReading r = record { answer = saidSheet (r .verdict); sizes = r .sizes }
 
 abbrev pub wholeSheet : ℕ → ℕ → ℕ → List ℕ → ReadSaid
 wholeSheet types n start sizes = record { answer = good (record { types = types; nodes = n; start = start }); sizes = sizes }

@@ -16,7 +16,7 @@ ghost use Rattle.records.specs.Told.{sizesOf};
 ghost use Rattle.sheet.specs.Tables.{tableIn, knownBelow, formedIn, sizeIn, Before, sizeOf, saidChecked};
 ghost use Rattle.sheet.specs.Keys.{Keyed};
 ghost use Rattle.sheet_theorems.specs.Records.{sharableRec, arrowRec};
-ghost use Rattle.sheet.specs.Said.{saidTypes, noTypes, typesOf, typesIn, endOf};
+ghost use Rattle.sheet.specs.Said.{saidTypes, noTypes, typesOf, typesIn, typesEnd};
 
 const MOST_TYPES: usize = 256;
 
@@ -233,7 +233,7 @@ fn no_types(number: u8, place: usize) -> Types
 
 // Where no type's record stands: a node's ends the types, and a refusal is the sheet's, since a record is due there in any case.
 fn types_end(r: Record, at: usize, count: usize, sizes: [u8; 256]) -> Types
-    ensures { λ t. ⌜ saidTypes t ≡ endOf r at count sizes ⌝ }
+    ensures { λ t. ⌜ saidTypes t ≡ typesEnd r at count sizes ⌝ }
 {
     let Record::Refused(number, place) = r else {
         return Types {

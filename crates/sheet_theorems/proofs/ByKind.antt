@@ -10,7 +10,7 @@ use Rattle.sheet_theorems.specs.Laid.{Stands}
 use Rattle.sheet_theorems.proofs.Standing.{kindIn, stands-kind, stands-node, var-binder, lvar-binder, fun-type, fun-body, app-function, app-argument, lfun-type, lfun-body, lapp-function, lapp-argument, pair-type, pair-first, pair-second, proj-pair, proj-body, fix-type, fix-body, con-part, con-type, name-first, name-body}
 
 -- a node with one subterm, after a type number
-pub record One (mk : ℕ → Term → Term) (s : List ℕ) (at : ℕ) (e : Term) : Type 0 where
+pub record OneSubterm (mk : ℕ → Term → Term) (s : List ℕ) (at : ℕ) (e : Term) : Type 0 where
   pub body : Term
   pub term-is : e ≡ mk (byte s (at + 1)) body
   pub stands : Stands s (at + 2) body
@@ -24,7 +24,7 @@ pub record Two (mk : Term → Term → Term) (s : List ℕ) (at : ℕ) (e : Term
   pub stands-second : Stands s (at + 1 + length (termBytes first)) second
 
 -- a pair: two subterms, after a type number
-pub record Both (s : List ℕ) (at : ℕ) (e : Term) : Type 0 where
+pub record TwoSubterms (s : List ℕ) (at : ℕ) (e : Term) : Type 0 where
   pub first : Term
   pub second : Term
   pub term-is : e ≡ pair (byte s (at + 1)) first second
@@ -34,13 +34,13 @@ pub record Both (s : List ℕ) (at : ℕ) (e : Term) : Type 0 where
 abbrev pub Form : NodeKind → List ℕ → ℕ → Term → Type 0
 Form k11 s at e = e ≡ var (byte s (at + 1))
 Form k12 s at e = e ≡ lvar (byte s (at + 1))
-Form k13 s at e = One fun s at e
+Form k13 s at e = OneSubterm fun s at e
 Form k14 s at e = Two app s at e
-Form k15 s at e = One lfun s at e
+Form k15 s at e = OneSubterm lfun s at e
 Form k16 s at e = Two lapp s at e
-Form k17 s at e = Both s at e
+Form k17 s at e = TwoSubterms s at e
 Form k18 s at e = Two proj s at e
-Form k19 s at e = One fix s at e
+Form k19 s at e = OneSubterm fix s at e
 Form k1A s at e = e ≡ con (byte s (at + 1)) (byte s (at + 2))
 Form k1B s at e = Two name s at e
 
@@ -71,25 +71,25 @@ module _ {s : List ℕ} {at : ℕ} where
   pub at-12 : {e : Term} → Stands s at e → byte s at ≡ 0x12 → e ≡ lvar (byte s (at + 1))
   at-12 h d = by-kind h k12 (ap kindOf d)
 
-  pub at-13 : {e : Term} → Stands s at e → byte s at ≡ 0x13 → One fun s at e
+  pub at-13 : {e : Term} → Stands s at e → byte s at ≡ 0x13 → OneSubterm fun s at e
   at-13 h d = by-kind h k13 (ap kindOf d)
 
   pub at-14 : {e : Term} → Stands s at e → byte s at ≡ 0x14 → Two app s at e
   at-14 h d = by-kind h k14 (ap kindOf d)
 
-  pub at-15 : {e : Term} → Stands s at e → byte s at ≡ 0x15 → One lfun s at e
+  pub at-15 : {e : Term} → Stands s at e → byte s at ≡ 0x15 → OneSubterm lfun s at e
   at-15 h d = by-kind h k15 (ap kindOf d)
 
   pub at-16 : {e : Term} → Stands s at e → byte s at ≡ 0x16 → Two lapp s at e
   at-16 h d = by-kind h k16 (ap kindOf d)
 
-  pub at-17 : {e : Term} → Stands s at e → byte s at ≡ 0x17 → Both s at e
+  pub at-17 : {e : Term} → Stands s at e → byte s at ≡ 0x17 → TwoSubterms s at e
   at-17 h d = by-kind h k17 (ap kindOf d)
 
   pub at-18 : {e : Term} → Stands s at e → byte s at ≡ 0x18 → Two proj s at e
   at-18 h d = by-kind h k18 (ap kindOf d)
 
-  pub at-19 : {e : Term} → Stands s at e → byte s at ≡ 0x19 → One fix s at e
+  pub at-19 : {e : Term} → Stands s at e → byte s at ≡ 0x19 → OneSubterm fix s at e
   at-19 h d = by-kind h k19 (ap kindOf d)
 
   pub at-1A : {e : Term} → Stands s at e → byte s at ≡ 0x1A → e ≡ con (byte s (at + 1)) (byte s (at + 2))
@@ -101,7 +101,7 @@ module _ {s : List ℕ} {at : ℕ} where
 -- ---- prefix order is unambiguous: one term stands at an offset
 
 module _ (s : List ℕ) where
-  same-one : (mk : ℕ → Term → Term) (t at : ℕ) (e u : Term) → byte s (at + 1) ≡ t → One mk s at u → ((b : Term) → Stands s (at + 2) b → e ≡ b) → mk t e ≡ u
+  same-one : (mk : ℕ → Term → Term) (t at : ℕ) (e u : Term) → byte s (at + 1) ≡ t → OneSubterm mk s at u → ((b : Term) → Stands s (at + 2) b → e ≡ b) → mk t e ≡ u
   same-one mk t at e u p f ih = let h = ih (f .body) (f .stands) in let z = f .term-is in rw (z, p, h)
 
   same-two : (mk : Term → Term → Term) (at : ℕ) (a b u : Term) → Two mk s at u → ((c : Term) → Stands s (at + 1) c → a ≡ c) → ((c : Term) → Stands s (at + 1 + length (termBytes a)) c → b ≡ c) → mk a b ≡ u
@@ -111,7 +111,7 @@ module _ (s : List ℕ) where
       let z = f .term-is in
       rw (z, h, k)
 
-  same-both : (t at : ℕ) (a b u : Term) → byte s (at + 1) ≡ t → Both s at u → ((c : Term) → Stands s (at + 2) c → a ≡ c) → ((c : Term) → Stands s (at + 2 + length (termBytes a)) c → b ≡ c) → pair t a b ≡ u
+  same-both : (t at : ℕ) (a b u : Term) → byte s (at + 1) ≡ t → TwoSubterms s at u → ((c : Term) → Stands s (at + 2) c → a ≡ c) → ((c : Term) → Stands s (at + 2 + length (termBytes a)) c → b ≡ c) → pair t a b ≡ u
   same-both t at a b u p f ia ib =
       let h = ia (f .first) (f .stands-first) in
       let k = ib (f .second) (subst (λ (c : Term). Stands s (at + 2 + length (termBytes c)) (f .second)) (sym h) (f .stands-second)) in

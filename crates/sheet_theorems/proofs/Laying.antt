@@ -12,7 +12,7 @@ use Rattle.calculus.specs.Answer.{Answer, good, refused, _>>=_}
 use Rattle.calculus.proofs.Answers.{refused≢good, good-inj, on-bind, on-need}
 use Rattle.calculus.specs.Types.{TyRec, rec01, rec02, rec03, rec04, Table}
 use Rattle.calculus.specs.Terms.{Edition, first, second, opening, Term, fun, app, lfun, lapp, pair, proj, fix, name, nodes}
-use Rattle.calculus.specs.Read.{Kind, unknown, type, node, TypeKind, k01, k02, k03, k04, NodeKind, k11, k12, k13, k14, k15, k16, k17, k18, k19, k1A, k1B, kindOf, knows, byte, typeBody, typeRec, checkType, typeAt, readTypes, Got, got, nodeBody, nodeTyped, nodeKind, headAt, nodeAt, readTerm, Sheet, readRecords, editionOf, recordsOf, offsetBy, readSheet}
+use Rattle.calculus.specs.Read.{Kind, unknown, type, node, TypeKind, k01, k02, k03, k04, NodeKind, k11, k12, k13, k14, k15, k16, k17, k18, k19, k1A, k1B, kindOf, knows, byte, typeBody, typeRec, checkType, typeAt, readTypes, Got, got, nodeBody, nodeTyped, nodeKind, headAt, nodeOfKind, readTerm, Sheet, readRecords, editionOf, recordsOf, offsetBy, readSheet}
 use Rattle.calculus.specs.Write.{recBytes, tableBytes, termBytes, recordBytes, sheetBytes}
 use Rattle.sheet_theorems.specs.Laid.{TableOk, depth, Ranged, Laid}
 use Rattle.laws.proofs.Tests.{by-eqb}
@@ -23,7 +23,7 @@ use Rattle.sheet_theorems.proofs.Tables.{checked, empty-ok}
 -- ---- the table
 
 -- the records of a table are the first bytes of the sheet, up to an offset
-pub record Listed (s : List ℕ) (Θ : Table) (at : ℕ) : Type 0 where
+pub record TableListed (s : List ℕ) (Θ : Table) (at : ℕ) : Type 0 where
   pub ok : TableOk Θ
   pub end : at ≡ length (tableBytes Θ)
   pub bytes : s ≡ tableBytes Θ ++ drop at s
@@ -49,9 +49,9 @@ type-front s at k02 e h = front-three s at _ (type-byte (byte s at) k02 e) (omeg
 type-front s at k03 e h = front-three s at _ (type-byte (byte s at) k03 e) (omega arith) h
 type-front s at k04 e h = front-three s at _ (type-byte (byte s at) k04 e) (omega arith) h
 
-pub listed-more : (s : List ℕ) (Θ : Table) (at : ℕ) (k : TypeKind) → Listed s Θ at → kindOf (byte s at) ≡ type k → at + 1 + typeBody k ≤ length s
+pub listed-more : (s : List ℕ) (Θ : Table) (at : ℕ) (k : TypeKind) → TableListed s Θ at → kindOf (byte s at) ≡ type k → at + 1 + typeBody k ≤ length s
     → TableOk (Θ ++ typeRec k (byte s (at + 1)) (byte s (at + 2)) ∷ [])
-    → Listed s (Θ ++ typeRec k (byte s (at + 1)) (byte s (at + 2)) ∷ []) (at + 1 + typeBody k)
+    → TableListed s (Θ ++ typeRec k (byte s (at + 1)) (byte s (at + 2)) ∷ []) (at + 1 + typeBody k)
 listed-more s Θ at k l e h ok =
     let q = typeRec k (byte s (at + 1)) (byte s (at + 2)) in
     record {
@@ -61,10 +61,10 @@ listed-more s Θ at k l e h ok =
     }
 
 module _ (s : List ℕ) where
-  types-step : (k : Kind) (more : ℕ) (Θ : Table) (at : ℕ) (go : Table → ℕ → Answer (Table × ℕ)) (r : Table × ℕ) → kindOf (byte s at) ≡ k → length Θ + more ≤ 256 → Listed s Θ at
-      → ((Φ : Table) (next : ℕ) → length Φ ≡ length Θ + 1 → Listed s Φ next → go Φ next ≡ good r → Listed s (r .0) (r .1)) → typeAt k more s Θ at go ≡ good r → Listed s (r .0) (r .1)
-  types-step unknown more Θ at go r ek room l rest e = subst (λ (x : Table × ℕ). Listed s (x .0) (x .1)) (good-inj e) l
-  types-step (node k) more Θ at go r ek room l rest e = subst (λ (x : Table × ℕ). Listed s (x .0) (x .1)) (good-inj e) l
+  types-step : (k : Kind) (more : ℕ) (Θ : Table) (at : ℕ) (go : Table → ℕ → Answer (Table × ℕ)) (r : Table × ℕ) → kindOf (byte s at) ≡ k → length Θ + more ≤ 256 → TableListed s Θ at
+      → ((Φ : Table) (next : ℕ) → length Φ ≡ length Θ + 1 → TableListed s Φ next → go Φ next ≡ good r → TableListed s (r .0) (r .1)) → typeAt k more s Θ at go ≡ good r → TableListed s (r .0) (r .1)
+  types-step unknown more Θ at go r ek room l rest e = subst (λ (x : Table × ℕ). TableListed s (x .0) (x .1)) (good-inj e) l
+  types-step (node k) more Θ at go r ek room l rest e = subst (λ (x : Table × ℕ). TableListed s (x .0) (x .1)) (good-inj e) l
   types-step (type k) more Θ at go r ek room l rest e =
       let q = typeRec k (byte s (at + 1)) (byte s (at + 2)) in
       on-need (leb (at + 1 + typeBody k) (length s)) 3 at _ r e λ h₁ e₁.
@@ -73,7 +73,7 @@ module _ (s : List ℕ) where
       let h : 0 < more = ltb→lt 0 more h₂ in
       rest (Θ ++ q ∷ []) (at + 1 + typeBody k) (length-append Θ (q ∷ [])) (listed-more s Θ at k l ek (leb→le _ _ h₁) (checked Θ q at u (l .ok) (omega arith) h₃)) e₃
 
-  pub types-listed : (more : ℕ) (Θ : Table) (at : ℕ) (r : Table × ℕ) → length Θ + more ≤ 256 → Listed s Θ at → readTypes more s Θ at ≡ good r → Listed s (r .0) (r .1)
+  pub types-listed : (more : ℕ) (Θ : Table) (at : ℕ) (r : Table × ℕ) → length Θ + more ≤ 256 → TableListed s Θ at → readTypes more s Θ at ≡ good r → TableListed s (r .0) (r .1)
   unfolding readTypes
   types-listed zero Θ at r room l e = types-step (kindOf (byte s at)) zero Θ at _ r refl room l (λ Φ next le l z. absurd (refused≢good z)) e
   types-listed (suc n) Θ at r room l e = types-step (kindOf (byte s at)) (suc n) Θ at _ r refl room l (λ Φ next le l z. types-listed n Φ next r (omega arith) l z) e
@@ -168,7 +168,7 @@ module _ (E : Edition) (Θ : Table) (s : List ℕ) (more at n : ℕ) (few : n < 
         ranged = r (x .term) (y .term) (t .ranged) (u .ranged);
       })
 
-  node-termed : (k : NodeKind) (g : Got) → Headed E k (suc more) s (length Θ) at n → nodeAt k (byte s (at + 1)) (byte s (at + 2)) (at + 1 + nodeBody k) (n + 1) go ≡ good g → Termed E Θ s (suc more) at n g
+  node-termed : (k : NodeKind) (g : Got) → Headed E k (suc more) s (length Θ) at n → nodeOfKind k (byte s (at + 1)) (byte s (at + 2)) (at + 1 + nodeBody k) (n + 1) go ≡ good g → Termed E Θ s (suc more) at n g
   node-termed k11 g q h = none _ _ g (front-two s at _ (node-byte (byte s at) k11 (q .kind)) (omega arith) (q .body)) (omega arith) (q .body) refl refl tt h
   node-termed k12 g q h = none _ _ g (front-two s at _ (node-byte (byte s at) k12 (q .kind)) (omega arith) (q .body)) (omega arith) (q .body) refl refl tt h
   node-termed k13 g q h = one (λ e. fun (byte s (at + 1)) e) (0x13 ∷ byte s (at + 1) ∷ []) _ g (front-two s at _ (node-byte (byte s at) k13 (q .kind)) (omega arith) (q .body)) (omega arith) (λ e. refl) (λ e. refl) (λ e. refl) (λ e r. (ltb→lt _ _ (q .typed), r)) h

@@ -10,7 +10,7 @@ use borrow.Author.Tests.{leb-false, eqb-false}
 use Rattle.calculus.specs.Answer.{Refusal, Answer, good, refused, _>>=_, numbered}
 use Rattle.calculus.specs.Types.{size, tyOf, tysFrom, TyRec, Table}
 use Rattle.calculus.specs.Terms.{Edition, opening, Term, fun, app, lfun, lapp, pair, proj, fix, name}
-use Rattle.calculus.specs.Read.{known, formed, repeated, knows, nodeBody, nodeTyped, Kind, unknown, type, node, NodeKind, k11, k12, k13, k14, k15, k16, k17, k18, k19, k1A, k1B, nodeKind, kindOf, byte, typeRec, typeBody, checkType, typeAt, readTypes, Got, headAt, nodeAt, readTerm, Sheet, readRecords, editionOf, recordsOf, offsetBy, readSheet}
+use Rattle.calculus.specs.Read.{known, formed, repeated, knows, nodeBody, nodeTyped, Kind, unknown, type, node, NodeKind, k11, k12, k13, k14, k15, k16, k17, k18, k19, k1A, k1B, nodeKind, kindOf, byte, typeRec, typeBody, checkType, typeAt, readTypes, Got, headAt, nodeOfKind, readTerm, Sheet, readRecords, editionOf, recordsOf, offsetBy, readSheet}
 use Rattle.sheet_theorems.proofs.Judging.{Judged, value, refusal, Any, of-bind, of-require, of-last, weaker}
 use Rattle.sheet_theorems.proofs.Laying.{opens}
 
@@ -88,7 +88,7 @@ module _ (s : List ℕ) where
         → Judged (Offset s) Ends (go next n >>= λ x. go (x .next) (x .count) >>= λ y. good (record { term = f (x .term) (y .term); next = y .next; count = y .count }))
     two-places f = of-bind (go next n) _ (h next n i) λ x _ j. of-bind (go (x .next) (x .count)) _ (h (x .next) (x .count) j) λ y _ l. value l
 
-    node-places : (k : NodeKind) (x y : ℕ) → Judged (Offset s) Ends (nodeAt k x y next n go)
+    node-places : (k : NodeKind) (x y : ℕ) → Judged (Offset s) Ends (nodeOfKind k x y next n go)
     node-places k11 x y = value i
     node-places k12 x y = value i
     node-places k13 x y = one-places (fun x)

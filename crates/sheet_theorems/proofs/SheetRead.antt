@@ -12,7 +12,7 @@ use lib.Seq.{drop-append-seam}
 use Rattle.calculus.specs.Answer.{Answer, good, _>>=_}
 use Rattle.calculus.specs.Types.{TyRec, rec01, rec02, rec03, rec04, Table}
 use Rattle.calculus.specs.Terms.{Edition, first, second, opening, Term, var, lvar, fun, app, lfun, lapp, pair, proj, fix, con, name, nodes}
-use Rattle.calculus.specs.Read.{Kind, node, NodeKind, kindOf, knows, byte, readTypes, Got, got, nodeBody, nodeTyped, nodeKind, headAt, nodeAt, readTerm, Sheet, readRecords, editionOf, recordsOf, readSheet}
+use Rattle.calculus.specs.Read.{Kind, node, NodeKind, kindOf, knows, byte, readTypes, Got, got, nodeBody, nodeTyped, nodeKind, headAt, nodeOfKind, readTerm, Sheet, readRecords, editionOf, recordsOf, readSheet}
 use Rattle.calculus.specs.Write.{recBytes, tableBytes, termBytes, recordBytes, sheetBytes}
 use Rattle.sheet_theorems.specs.Laid.{TableOk, Stands, depth, Ranged}
 use Rattle.sheet_theorems.proofs.Going.{passes, goes}
@@ -136,7 +136,7 @@ module _ (E : Edition) (Θ : Table) (s : List ℕ) where
         (goes (go (at + length (termBytes a)) (n + nodes a)) _ _ (sub b _ _ next count k u (omega (arith, le-max-right (depth a) (depth b))) few en ec) refl)
 
     node-read : (e : Term) (at n next count : ℕ) → Stands s at e → Ranged E Θ e → depth e ≤ suc more → n + nodes e ≤ 2048 → next ≡ at + length (termBytes e) → count ≡ n + nodes e
-        → nodeAt (kindIn e) (byte s (at + 1)) (byte s (at + 2)) (at + 1 + nodeBody (kindIn e)) (n + 1) go ≡ got e next count
+        → nodeOfKind (kindIn e) (byte s (at + 1)) (byte s (at + 2)) (at + 1 + nodeBody (kindIn e)) (n + 1) go ≡ got e next count
     node-read (var i) at n next count h r d few en ec = rw (var-binder h) (same-got (var i) (omega arith) (omega arith))
     node-read (lvar i) at n next count h r d few en ec = rw (lvar-binder h) (same-got (lvar i) (omega arith) (omega arith))
     node-read (fun t e) at n next count h r d few en ec =
@@ -253,13 +253,13 @@ sheet-read E Θ e ok ranged deep few =
     (rw (edition-written E Θ e, records-written E Θ e, records-read E Θ e ok ranged deep few) refl)
 
 -- what is read is what is written out, within the limits
-pub record Limits (E : Edition) (Θ : Table) (e : Term) : Type 0 where
+pub record TermLimits (E : Edition) (Θ : Table) (e : Term) : Type 0 where
   pub table : TableOk Θ
   pub ranged : Ranged E Θ e
   pub deep : depth e ≤ 64
   pub few : nodes e ≤ 2048
 
-pub read-written : (s : List ℕ) (σ : Sheet) → (readSheet s ≡ good σ) ↔ ((s ≡ sheetBytes (σ .edition) (σ .table) (σ .term)) × Limits (σ .edition) (σ .table) (σ .term))
+pub read-written : (s : List ℕ) (σ : Sheet) → (readSheet s ≡ good σ) ↔ ((s ≡ sheetBytes (σ .edition) (σ .table) (σ .term)) × TermLimits (σ .edition) (σ .table) (σ .term))
 read-written s σ = (
   (λ e. let l = laid s σ e in (sheet-bytes s σ e, record { table = l .table; ranged = l .ranged; deep = l .deep; few = l .few })),
   (λ w. rw (w .0) (sheet-read (σ .edition) (σ .table) (σ .term) (w .1 .table) (w .1 .ranged) (w .1 .deep) (w .1 .few))),

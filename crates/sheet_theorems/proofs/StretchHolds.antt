@@ -14,7 +14,7 @@ use Rattle.calculus.specs.Read.{Kind, nodeBody, Sheet, readSheet}
 use Rattle.calculus.specs.Write.{termBytes}
 use Rattle.sheet_theorems.specs.Laid.{Stands}
 use Rattle.calculus.specs.Stretch.{Stretch, nowhere, whole, stretches, termStart, stretchOf, cut}
-use Rattle.sheet_theorems.specs.Subterms.{subterms, bodyOf, after, skip}
+use Rattle.sheet_theorems.specs.Subterms.{subterms, bodyOf, afterRecord, skip}
 use Rattle.sheet_theorems.proofs.Laying.{sheet-bytes}
 use Rattle.sheet_theorems.proofs.Standing.{kindIn, term-nonempty, stands-node, stands-end, fun-body, app-function, app-argument, lfun-body, lapp-function, lapp-argument, pair-first, pair-second, proj-pair, proj-body, fix-body, name-first, name-body, whole-stands}
 
@@ -23,7 +23,7 @@ use Rattle.sheet_theorems.proofs.Standing.{kindIn, term-nonempty, stand
 -- the stretches of some terms, each of which stands a record on from the one before; `end` is behind the last record
 pub data Run (s : List ℕ) : List Stretch → List Term → ℕ → ℕ → Type 0 where
   run-end : {at : ℕ} → Run s [] [] at at
-  run-next : {u : Term} {ps : List Stretch} {us : List Term} {at next end : ℕ} → Stands s at u → after s at ≡ next → Run s ps us next end → Run s (whole u at ∷ ps) (u ∷ us) at end
+  run-next : {u : Term} {ps : List Stretch} {us : List Term} {at next end : ℕ} → Stands s at u → afterRecord s at ≡ next → Run s ps us next end → Run s (whole u at ∷ ps) (u ∷ us) at end
 
 run-append : {s : List ℕ} {ps qs : List Stretch} {us vs : List Term} {a b c : ℕ} → Run s ps us a b → Run s qs vs b c → Run s (ps ++ qs) (us ++ vs) a c
 run-append run-end q = q
@@ -117,10 +117,10 @@ pub skip-term : (s : List ℕ) (e : Term) (at : ℕ) → Stands s at e → skip 
 skip-term s e at h = rw (← count-subterms e) (run-all (runs s e at h))
 
 -- one record more, as a loop goes
-pub skip-next : (s : List ℕ) (k at : ℕ) → skip s (suc k) at ≡ after s (skip s k at)
+pub skip-next : (s : List ℕ) (k at : ℕ) → skip s (suc k) at ≡ afterRecord s (skip s k at)
 unfolding skip
 skip-next s zero at = refl
-skip-next s (suc k) at = skip-next s k (after s at)
+skip-next s (suc k) at = skip-next s k (afterRecord s at)
 
 -- ---- the stretch of a node of a sheet
 

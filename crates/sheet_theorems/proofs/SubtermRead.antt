@@ -16,35 +16,35 @@ use Rattle.sheet_theorems.proofs.Laying.{laid}
 use Rattle.sheet_theorems.proofs.SheetRead.{term-read}
 use Rattle.sheet_theorems.proofs.StretchHolds.{count-subterms, stretch-holds}
 
-pub record Limits (E : Edition) (Θ : Table) (d m : ℕ) (e : Term) : Type 0 where
+pub record SubtermLimits (E : Edition) (Θ : Table) (d m : ℕ) (e : Term) : Type 0 where
   pub ranged : Ranged E Θ e
   pub deep : depth e ≤ d
   pub few : nodes e ≤ m
 
 data Each (E : Edition) (Θ : Table) (d m : ℕ) : List Term → Type 0 where
   each-end : Each E Θ d m []
-  each-next : {e : Term} {es : List Term} → Limits E Θ d m e → Each E Θ d m es → Each E Θ d m (e ∷ es)
+  each-next : {e : Term} {es : List Term} → SubtermLimits E Θ d m e → Each E Θ d m es → Each E Θ d m (e ∷ es)
 
 each-append : {E : Edition} {Θ : Table} {d m : ℕ} {es fs : List Term} → Each E Θ d m es → Each E Θ d m fs → Each E Θ d m (es ++ fs)
 each-append each-end q = q
 each-append (each-next h p) q = each-next h (each-append p q)
 
-each-at : {E : Edition} {Θ : Table} {d m : ℕ} {es : List Term} (x : Term) (k : ℕ) → Each E Θ d m es → k < length es → Limits E Θ d m (getD es k x)
+each-at : {E : Edition} {Θ : Table} {d m : ℕ} {es : List Term} (x : Term) (k : ℕ) → Each E Θ d m es → k < length es → SubtermLimits E Θ d m (getD es k x)
 each-at x k each-end h = absurd (not-suc-le-zero h)
 each-at x zero (each-next l p) h = l
 each-at x (suc k) (each-next l p) h = each-at x k p (le-of-suc-le-suc h)
 
 module _ (E : Edition) (Θ : Table) (d m : ℕ) where
-  inner : (e : Term) → Ranged E Θ e → suc (depth e) ≤ d → suc (nodes e) ≤ m → Limits E Θ d m e
+  inner : (e : Term) → Ranged E Θ e → suc (depth e) ≤ d → suc (nodes e) ≤ m → SubtermLimits E Θ d m e
   inner e r h n = record { ranged = r; deep = omega arith; few = omega arith }
 
-  first : (a b : Term) → Ranged E Θ a → suc (max (depth a) (depth b)) ≤ d → suc (nodes a + nodes b) ≤ m → Limits E Θ d m a
+  first : (a b : Term) → Ranged E Θ a → suc (max (depth a) (depth b)) ≤ d → suc (nodes a + nodes b) ≤ m → SubtermLimits E Θ d m a
   first a b r h n = record { ranged = r; deep = omega (arith, le-max-left (depth a) (depth b)); few = omega arith }
 
-  second : (a b : Term) → Ranged E Θ b → suc (max (depth a) (depth b)) ≤ d → suc (nodes a + nodes b) ≤ m → Limits E Θ d m b
+  second : (a b : Term) → Ranged E Θ b → suc (max (depth a) (depth b)) ≤ d → suc (nodes a + nodes b) ≤ m → SubtermLimits E Θ d m b
   second a b r h n = record { ranged = r; deep = omega (arith, le-max-right (depth a) (depth b)); few = omega arith }
 
-  each : (e : Term) → Limits E Θ d m e → Each E Θ d m (subterms e)
+  each : (e : Term) → SubtermLimits E Θ d m e → Each E Θ d m (subterms e)
   each (var i) l = each-next l each-end
   each (lvar i) l = each-next l each-end
   each (fun t e) l = each-next l (each e (inner e (l .ranged .1) (l .deep) (l .few)))
@@ -57,7 +57,7 @@ module _ (E : Edition) (Θ : Table) (d m : ℕ) where
   each (con p t) l = each-next l each-end
   each (name a e) l = each-next l (each-append (each a (first a e (l .ranged .1) (l .deep) (l .few))) (each e (second a e (l .ranged .2) (l .deep) (l .few))))
 
-pub subterm-limits : (E : Edition) (Θ : Table) (d m k : ℕ) (e : Term) → Limits E Θ d m e → k < nodes e → Limits E Θ d m (getD (subterms e) k e)
+pub subterm-limits : (E : Edition) (Θ : Table) (d m k : ℕ) (e : Term) → SubtermLimits E Θ d m e → k < nodes e → SubtermLimits E Θ d m (getD (subterms e) k e)
 subterm-limits E Θ d m k e l h = each-at e k (each E Θ d m e l) (rw (count-subterms e) h)
 
 -- reading at the start of a node's stretch gives the node's subterm, and ends where the stretch ends
@@ -68,5 +68,5 @@ stretch-read s σ k e h =
     let l = laid s σ e in
     let q = stretch-holds s σ k e h .node in
     let u = getD (subterms (σ .term)) k (σ .term) in
-    let b : Limits (σ .edition) (σ .table) 64 2048 u = subterm-limits (σ .edition) (σ .table) 64 2048 k (σ .term) (record { ranged = l .ranged; deep = l .deep; few = l .few }) h in
+    let b : SubtermLimits (σ .edition) (σ .table) 64 2048 u = subterm-limits (σ .edition) (σ .table) 64 2048 k (σ .term) (record { ranged = l .ranged; deep = l .deep; few = l .few }) h in
     term-read (σ .edition) (σ .table) s 64 u (stretchOf s k .start) 0 _ _ (q .stands) (b .ranged) (b .deep) (omega (arith, b .few)) (omega (arith, q .size)) (omega arith)

@@ -16,43 +16,43 @@ use Rattle.sheet_theorems.proofs.Sound.{product-good, sharable-good, li
 use Rattle.sheet_theorems.specs.Numbers.{Numbers}
 
 -- the same binders, of which some linear ones have been used meanwhile
-pub data Kept : Stack → Stack → Type 0 where
-  kept-end : Kept [] []
-  kept-shared : {t : ℕ} {st st′ : Stack} → Kept st st′ → Kept (shared t ∷ st) (shared t ∷ st′)
-  kept-same : {t : ℕ} {u : Bool} {st st′ : Stack} → Kept st st′ → Kept (linear t u ∷ st) (linear t u ∷ st′)
-  kept-took : {t : ℕ} {st st′ : Stack} → Kept st st′ → Kept (linear t false ∷ st) (linear t true ∷ st′)
+pub data StackKept : Stack → Stack → Type 0 where
+  kept-end : StackKept [] []
+  kept-shared : {t : ℕ} {st st′ : Stack} → StackKept st st′ → StackKept (shared t ∷ st) (shared t ∷ st′)
+  kept-same : {t : ℕ} {u : Bool} {st st′ : Stack} → StackKept st st′ → StackKept (linear t u ∷ st) (linear t u ∷ st′)
+  kept-took : {t : ℕ} {st st′ : Stack} → StackKept st st′ → StackKept (linear t false ∷ st) (linear t true ∷ st′)
 
-pub kept-refl : (st : Stack) → Kept st st
+pub kept-refl : (st : Stack) → StackKept st st
 kept-refl [] = kept-end
 kept-refl (shared t ∷ st) = kept-shared (kept-refl st)
 kept-refl (linear t u ∷ st) = kept-same (kept-refl st)
 
-pub kept-trans : {a b c : Stack} → Kept a b → Kept b c → Kept a c
+pub kept-trans : {a b c : Stack} → StackKept a b → StackKept b c → StackKept a c
 kept-trans kept-end kept-end = kept-end
 kept-trans (kept-shared p) (kept-shared q) = kept-shared (kept-trans p q)
 kept-trans (kept-same p) (kept-same q) = kept-same (kept-trans p q)
 kept-trans (kept-same p) (kept-took q) = kept-took (kept-trans p q)
 kept-trans (kept-took p) (kept-same q) = kept-took (kept-trans p q)
 
-pub kept-length : {st st′ : Stack} → Kept st st′ → length st′ ≡ length st
+pub kept-length : {st st′ : Stack} → StackKept st st′ → length st′ ≡ length st
 kept-length kept-end = refl
 kept-length (kept-shared k) = ap suc (kept-length k)
 kept-length (kept-same k) = ap suc (kept-length k)
 kept-length (kept-took k) = ap suc (kept-length k)
 
-pub kept-numbers : {st st′ : Stack} (l : ℕ) → Kept st st′ → Numbers st l → Numbers st′ l
+pub kept-numbers : {st st′ : Stack} (l : ℕ) → StackKept st st′ → Numbers st l → Numbers st′ l
 kept-numbers l kept-end n = n
 kept-numbers l (kept-shared k) n = (n .0, kept-numbers l k (n .1))
 kept-numbers l (kept-same k) n = (n .0, kept-numbers l k (n .1))
 kept-numbers l (kept-took k) n = (n .0, kept-numbers l k (n .1))
 
 -- leaving a binder's scope
-pub kept-pop : {b : Binder} {st st′ : Stack} → Kept (b ∷ st) st′ → Kept st (pop st′)
+pub kept-pop : {b : Binder} {st st′ : Stack} → StackKept (b ∷ st) st′ → StackKept st (pop st′)
 kept-pop (kept-shared k) = k
 kept-pop (kept-same k) = k
 kept-pop (kept-took k) = k
 
-use-shared-keeps : (st : Stack) (i n : ℕ) (r : Found) → useShared st i n ≡ good r → Kept st (r .stack)
+use-shared-keeps : (st : Stack) (i n : ℕ) (r : Found) → useShared st i n ≡ good r → StackKept st (r .stack)
 use-shared-keeps [] i n r e = absurd (refused≢good e)
 use-shared-keeps (shared t ∷ st) zero n r e = rw (← good-inj e) (kept-refl (shared t ∷ st))
 use-shared-keeps (linear t u ∷ st) zero n r e = absurd (refused≢good e)
@@ -63,7 +63,7 @@ use-shared-keeps (linear t u ∷ st) (suc i) n r e =
     let (q, e₁, e₂) = under-good (linear t u) (useShared st i n) r e in
     rw (← e₂) (kept-same (use-shared-keeps st i n q e₁))
 
-use-linear-keeps : (st : Stack) (i n : ℕ) (r : Found) → useLinear st i n ≡ good r → Kept st (r .stack)
+use-linear-keeps : (st : Stack) (i n : ℕ) (r : Found) → useLinear st i n ≡ good r → StackKept st (r .stack)
 use-linear-keeps [] i n r e = absurd (refused≢good e)
 use-linear-keeps (shared t ∷ st) zero n r e = absurd (refused≢good e)
 use-linear-keeps (linear t true ∷ st) zero n r e = absurd (refused≢good e)
@@ -75,7 +75,7 @@ use-linear-keeps (linear t u ∷ st) (suc i) n r e =
     let (q, e₁, e₂) = under-good (linear t u) (useLinear st i n) r e in
     rw (← e₂) (kept-same (use-linear-keeps st i n q e₁))
 
-pub walk-keeps : (E : Edition) (Θ : Table) (e : Term) (n : ℕ) (st : Stack) (r : Found) → walk E Θ e n st ≡ good r → Kept st (r .stack)
+pub walk-keeps : (E : Edition) (Θ : Table) (e : Term) (n : ℕ) (st : Stack) (r : Found) → walk E Θ e n st ≡ good r → StackKept st (r .stack)
 walk-keeps E Θ (var i) n st r h = use-shared-keeps st i n r h
 walk-keeps E Θ (lvar i) n st r h = use-linear-keeps st i n r h
 walk-keeps E Θ (fun t e) n st r h =

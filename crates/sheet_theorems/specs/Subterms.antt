@@ -25,10 +25,10 @@ bodyOf (type k) = typeBody k
 bodyOf (node k) = nodeBody k
 
 -- the offset behind the record at an offset
-abbrev pub after : List ℕ → ℕ → ℕ
-after s at = at + 1 + bodyOf (kindOf (byte s at))
+abbrev pub afterRecord : List ℕ → ℕ → ℕ
+afterRecord s at = at + 1 + bodyOf (kindOf (byte s at))
 
 -- the offset behind k records
 unfoldable pub skip : List ℕ → ℕ → ℕ → ℕ
 skip s zero at = at
-skip s (suc k) at = skip s k (after s at)
+skip s (suc k) at = skip s k (afterRecord s at)

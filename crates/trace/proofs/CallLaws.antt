@@ -15,16 +15,16 @@ use Rattle.typing.specs.Verdicts.{saidWhy}
 use Rattle.lean.specs.Table.{Rooted}
 use Rattle.translator.specs.Made.{lent, Keeps}
 use Rattle.trace_calculus.specs.Trace.{ran, trace, runCall}
-use Rattle.translator.specs.Said.{Says, called}
+use Rattle.translator.specs.Said.{AnswerSays, called}
 use Rattle.translator.specs.declared.Answer as code
 use Rattle.translator.specs.declared.Answer.the-variants as answer
 use Rattle.trace.proofs.StageLaws.{above-within, above-keeps}
 
 -- the roots change nothing of the netlist
 pub rooted-ran : (u v w : List ℕ) (e k p n : ℕ) (bits starts out after : List ℕ) (r : code.Answer) → 32768 ≤ length u → Rooted u v e k p
-    → Says r out after (ran (lean (netIn v e k p)) n bits starts (length out)) × Keeps v w → Says r out after (ran (lean (netIn u e k p)) n bits starts (length out)) × Keeps u w
+    → AnswerSays r out after (ran (lean (netIn v e k p)) n bits starts (length out)) × Keeps v w → AnswerSays r out after (ran (lean (netIn u e k p)) n bits starts (length out)) × Keeps u w
 rooted-ran u v w e k p n bits starts out after r l q h = (
-  subst (λ (m : Net). Says r out after (ran (lean m) n bits starts (length out))) (q .net) (h .0),
+  subst (λ (m : Net). AnswerSays r out after (ran (lean m) n bits starts (length out))) (q .net) (h .0),
   h .1 ∙ above-keeps u v l (above-within (q .within)),
 )
 
@@ -39,16 +39,16 @@ module _ (s bits starts out : List ℕ) (n memory : ℕ) where
   trace-lent = need-first (leb 32768 memory) (full s) (λ m. ran (lean m) n bits starts (length out))
 
   -- a refusal passes through
-  pub refused-says : (why : Refusal) → refused (saidWhy why) ≡ lent memory s → Says (answer.Refused why) out out (trace memory s n bits starts (length out))
+  pub refused-says : (why : Refusal) → refused (saidWhy why) ≡ lent memory s → AnswerSays (answer.Refused why) out out (trace memory s n bits starts (length out))
   refused-says why e = rw (trace-lent, ← e) (record { said = refl; wrote = refl })
 
   -- a netlist that was run is the sheet's
-  pub net-says : (r : code.Answer) (after : List ℕ) (m : Net) → good m ≡ lent memory s → Says r out after (ran (lean m) n bits starts (length out))
-      → Says r out after (trace memory s n bits starts (length out))
+  pub net-says : (r : code.Answer) (after : List ℕ) (m : Net) → good m ≡ lent memory s → AnswerSays r out after (ran (lean m) n bits starts (length out))
+      → AnswerSays r out after (trace memory s n bits starts (length out))
   net-says r after m e h = rw (trace-lent, ← e) h
 
 -- after the stages, the working memory is cleared
 pub call-run : (s bits starts out work : List ℕ) (n : ℕ) (r : code.Answer) (after mid : List ℕ)
-    → Says r out after (trace (length work) s n bits starts (length out)) → Keeps work mid → called r after (workOf mid) ≡ runCall s bits starts n out work
+    → AnswerSays r out after (trace (length work) s n bits starts (length out)) → Keeps work mid → called r after (workOf mid) ≡ runCall s bits starts n out work
 unfolding runCall
 call-run s bits starts out work n r after mid a k = rw (a .said, a .wrote, k)

@@ -17,8 +17,9 @@ use Rattle.calculus.specs.Terms.{partAt}
 use Rattle.calculus.specs.Net.{Interface, inp, out, Element, point, part, Net}
 use Rattle.calculus.specs.Lean.{kept, keep, leanPin, lean}
 use Rattle.calculus.specs.Translate.{full, saidOf, outOf, workOf, Call}
+use Rattle.calculus.specs.Record.{Among}
+use Rattle.circuit_theorems.specs.Terminals.{has}
 use Rattle.circuit_theorems.specs.Formed.{Rising}
-use Rattle.circuit_theorems.proofs.Rings.{has}
 use Rattle.circuit_theorems.proofs.Terminals.{rising-end}
 use Rattle.circuit_theorems.proofs.Main.{formed, formed-lean}
 use Rattle.circuit_theorems.proofs.Bounds.{few-pins}
@@ -26,7 +27,7 @@ use Rattle.sheet_theorems.proofs.Judging.{of-refused}
 use Rattle.translator.specs.Word.{packed, FitsWord}
 use Rattle.translator.proofs.WordLaws.{word-tells}
 use Rattle.translator.proofs.Places.{names-small, full-places}
-use Rattle.trace_calculus.specs.Trace.{In, upFrom, inputs, outPins, ran, trace, runCall}
+use Rattle.trace_calculus.specs.Trace.{upFrom, inputs, outPins, ran, trace, runCall}
 use Rattle.trace_calculus.specs.Promise.{Traced, Ringless, LowestOnRing, ExactBits, Needs, OfSheet, RunPromise}
 use Rattle.trace_theorems.proofs.Lists.{in-has}
 use Rattle.trace_theorems.proofs.Sources.{has-left, has-right, has-append, has-up}
@@ -60,7 +61,7 @@ outs-length (inp i ∷ ps) = omega (arith, outs-length ps)
 outs-length (out o ∷ ps) = omega (arith, outs-length ps)
 
 module _ (s : List ℕ) (m : Net) (e : full s ≡ good m) where
-  ring-low : (x : ℕ) → In x (inputs (lean m .elements)) → x < 8192
+  ring-low : (x : ℕ) → Among x (inputs (lean m .elements)) → x < 8192
   unfolding lean
   ring-low x h = let f = formed s m e in omega (arith, input-low (m .elements) 0 (f .net .end) x (f .net .rising) (kept-input m (m .elements) x (in-has h)), f .few)
 

@@ -15,27 +15,27 @@ use Rattle.laws.proofs.Tests.{and-both, T-is}
 use Rattle.laws.proofs.Regions.{sets-append, sets-front}
 use Rattle.calculus.specs.Answer.{Answer, good, refuse, _>>=_, need}
 use Rattle.calculus.specs.Net.{Interface, Element, part, Net}
-use Rattle.calculus.specs.Record.{Bits}
+use Rattle.calculus.specs.Record.{Bits, Among}
 use Rattle.calculus.specs.Translate.{saidOf, outOf}
-use Rattle.circuit_theorems.proofs.Rings.{has}
+use Rattle.circuit_theorems.specs.Terminals.{has}
 use Rattle.lean.specs.Table.{Within, entry}
 use Rattle.lean.proofs.TableLaws.{within-none, within-then, within-set, entry-same, entry-other}
-use Rattle.trace_calculus.specs.Trace.{In, terminals, OnRing, run, inPins, outPins, registers, place, givenBits, startBits, byte, row, rows, allBits}
-use Rattle.trace_theorems.proofs.TraceRun.{held}
+use Rattle.trace_calculus.specs.Trace.{terminals, OnRing, run, inPins, outPins, registers, place, givenBits, startBits, bitByte, row, rows, allBits}
+use Rattle.trace_theorems.proofs.TraceRun.{heldAt}
 use Rattle.trace_theorems.proofs.Lending.{row-length, rows-length}
 use Rattle.trace_theorems.proofs.Sources.{out-terminal}
 use Rattle.trace_theorems.proofs.Owners.{last}
-use Rattle.trace_steps.specs.Turns.{turns, Looped}
+use Rattle.trace_steps.specs.Turns.{takeTurns, Looped}
 use Rattle.trace_steps.specs.Steps.{lit, firstIn, Looks, Ordered, Register, Registers, wakeOne, beginOne}
-use Rattle.trace_steps.specs.Pins.{Counted, counted, ins, outs, Pins, Listable, Listed, registerOne}
-use Rattle.trace_steps.specs.Ticks.{Sizes, sizes, lighted, ticked, shown, Runs, Running, running, tickOne, Ran, TraceFits, InOrder}
+use Rattle.trace_steps.specs.Pins.{Counted, counted, inPinCount, outPinCount, Pins, Listable, RegistersListed, registerOne}
+use Rattle.trace_steps.specs.Ticks.{Sizes, sizes, lighted, ticked, shownBits, Runs, Running, running, tickOne, Ran, TraceFits, InOrder}
 use Rattle.trace_steps.proofs.Laws.{first-low}
 use Rattle.trace_steps.proofs.SweepLaws.{looks-table}
 use Rattle.trace_steps.proofs.TickLaws.{ordered-within, registers-within, pins-within, ins-within, outs-within}
 use Rattle.trace_rings.specs.Rings.{met}
 use Rattle.trace.specs.Tables.{Tabled, Looking}
-use Rattle.translator.specs.Said.{saidAnswer, Says}
-use Rattle.trace.specs.Said.{refusedAs, Above, lentIn, freed, Safe, Runnable, Freed}
+use Rattle.translator.specs.Said.{saidAnswer, AnswerSays, refusedAs}
+use Rattle.trace.specs.Said.{Above, lentIn, freed, Safe, Runnable, Freed}
 use Rattle.translator.specs.declared.Answer as code
 use Rattle.translator.specs.declared.Answer.the-variants as answer
 use Rattle.trace.proofs.Turning.{turns-keep}
@@ -117,15 +117,15 @@ module _ (b : List ℕ) (m : Net) (end pins total regs : ℕ) (s : Stood b m end
     pub wrote : r .out ≡ sets out₀ 0 (rows β (outPins (m .pins)) 0 n)
 
   pub all-ticks : (w : List ℕ) (i o N : ℕ) → i ≡ length (inPins (m .pins)) → o ≡ length (outPins (m .pins)) → State b m end pins total regs s free bits starts 0 w
-      → turns (tickOne (sizes total regs pins) bits i o) N 0 (running w out₀) .out ≡ sets out₀ 0 (rows β (outPins (m .pins)) 0 N)
-  unfolding lighted ticked shown
+      → takeTurns (tickOne (sizes total regs pins) bits i o) N 0 (running w out₀) .out ≡ sets out₀ 0 (rows β (outPins (m .pins)) 0 N)
+  unfolding lighted ticked shownBits
   all-ticks w i o N ei eo c = turns-keep (tickOne (sizes total regs pins) bits i o) Going (running w out₀) (record { state = c; wrote = refl }) N step .wrote
     where
       step : (n : ℕ) (r : Running) → n < N → Going n r → Going (suc n) (tickOne (sizes total regs pins) bits i o n r)
       step n r l q = record {
         state = subst (λ (k : ℕ). State b m end pins total regs s free bits starts (suc n) (ticked (sizes total regs pins) bits (n * k) (r .mem))) (sym ei) (state-next b m end pins total regs s free bits starts n (r .mem) (q .state));
         wrote =
-            ap (λ (k : ℕ). shown (sizes total regs pins) bits (n * k) (n * o) (r .mem) (r .out)) ei
+            ap (λ (k : ℕ). shownBits (sizes total regs pins) bits (n * k) (n * o) (r .mem) (r .out)) ei
             ∙ row-stored b m end pins total regs s free bits starts n (r .mem) (q .state) (r .out) (n * o)
             ∙ ap (λ (x : List ℕ). sets x (n * o) (row β n (outPins (m .pins)))) (q .wrote)
             ∙ ap (λ (k : ℕ). sets (sets out₀ 0 (rows β (outPins (m .pins)) 0 n)) k (row β n (outPins (m .pins)))) place-of
@@ -159,20 +159,20 @@ module _ (m : Net) (n : ℕ) (bits starts out : List ℕ) where
   unfolding freed
   freed-is a c e f = ap (λ (x : Bool). answers x (leb needed (length out)) needed bytes) e ∙ ap (λ (x : Bool). answers a x needed bytes) f
 
-  says-of : (r : code.Answer) (after : List ℕ) (a : Answer (List ℕ)) → freed m n bits starts (length out) ≡ a → saidAnswer r ≡ saidOf a → after ≡ outOf a out → Says r out after (freed m n bits starts (length out))
+  says-of : (r : code.Answer) (after : List ℕ) (a : Answer (List ℕ)) → freed m n bits starts (length out) ≡ a → saidAnswer r ≡ saidOf a → after ≡ outOf a out → AnswerSays r out after (freed m n bits starts (length out))
   says-of r after a e f g = record { said = f ∙ sym (ap saidOf e); wrote = g ∙ sym (ap (λ (x : Answer (List ℕ)). outOf x out) e) }
 
   module _ (reads writes regs : ℕ) (er : reads ≡ n * length (inPins (m .pins))) (ew : writes ≡ n * length (outPins (m .pins))) (eg : regs ≡ length (registers (m .elements))) where
     lent-is : (x : Bool) → lentIn bits starts reads regs ≡ x → lentIn bits starts (n * length (inPins (m .pins))) (length (registers (m .elements))) ≡ x
     lent-is x e = ap (λ (k : ℕ). lentIn bits starts k (length (registers (m .elements)))) (sym er) ∙ ap (lentIn bits starts reads) (sym eg) ∙ e
 
-    pub says-20 : lentIn bits starts reads regs ≡ false → Says (refusedAs 20 0) out out (freed m n bits starts (length out))
+    pub says-20 : lentIn bits starts reads regs ≡ false → AnswerSays (refusedAs 20 0) out out (freed m n bits starts (length out))
     says-20 e = says-of (refusedAs 20 0) out (refuse 20 0) (freed-is false (leb needed (length out)) (lent-is false e) refl) refl refl
 
-    pub says-17 : lentIn bits starts reads regs ≡ true → length out < writes → Says (refusedAs 17 writes) out out (freed m n bits starts (length out))
+    pub says-17 : lentIn bits starts reads regs ≡ true → length out < writes → AnswerSays (refusedAs 17 writes) out out (freed m n bits starts (length out))
     says-17 e l = says-of (refusedAs 17 writes) out (refuse 17 needed) (freed-is true false (lent-is true e) (lt-leb needed (length out) (subst (λ (k : ℕ). length out < k) ew l))) (ap (λ (k : ℕ). refuse 17 k) ew) refl
 
-    pub says-written : lentIn bits starts reads regs ≡ true → writes ≤ length out → (after : List ℕ) → after ≡ sets out 0 bytes → Says (answer.Written writes) out after (freed m n bits starts (length out))
+    pub says-written : lentIn bits starts reads regs ≡ true → writes ≤ length out → (after : List ℕ) → after ≡ sets out 0 bytes → AnswerSays (answer.Written writes) out after (freed m n bits starts (length out))
     says-written e l after q =
         let k = rows-length (run m (givenBits (m .pins) bits) (startBits (m .elements) starts)) (outPins (m .pins)) 0 n in
         says-of (answer.Written writes) after (good bytes) (freed-is true true (lent-is true e) (le-leb needed (length out) (subst (λ (k : ℕ). k ≤ length out) ew l)))
@@ -180,7 +180,7 @@ module _ (m : Net) (n : ℕ) (bits starts out : List ℕ) where
 
 -- ---- the start
 
-module _ (u : List ℕ) (m : Net) (end settled pins : ℕ) (rn : Runnable u m end settled pins) (w₁ : List ℕ) (regs : ℕ) (ls : Listed u end w₁ regs) where
+module _ (u : List ℕ) (m : Net) (end settled pins : ℕ) (rn : Runnable u m end settled pins) (w₁ : List ℕ) (regs : ℕ) (ls : RegistersListed u end w₁ regs) where
   abbrev t : Tabled u m end pins
   t = rn .tabled
 
@@ -231,11 +231,11 @@ module _ (u : List ℕ) (m : Net) (end settled pins : ℕ) (rn : Runnable u m en
   shown-pins : upTo w₁ pins ≡ m .pins
   shown-pins = let a = tabled₁ .few-pins in let c = tabled₁ .size in upto-is w₁ pins (omega arith) ∙ tabled₁ .shown
 
-  pub ins-are : ins w₁ pins ≡ length (inPins (m .pins))
+  pub ins-are : inPinCount w₁ pins ≡ length (inPins (m .pins))
   ins-are = sym (ins-length w₁ pins) ∙ ap (λ (ps : Interface). length (inPins ps)) shown-pins
 
-  pub outs-are : pins - ins w₁ pins ≡ length (outPins (m .pins))
-  outs-are = (let a = ins-outs w₁ pins in let z : pins - ins w₁ pins ≡ outs w₁ pins = omega arith in z) ∙ sym (outs-length w₁ pins) ∙ ap (λ (ps : Interface). length (outPins ps)) shown-pins
+  pub outs-are : pins - inPinCount w₁ pins ≡ length (outPins (m .pins))
+  outs-are = (let a = ins-outs w₁ pins in let z : pins - inPinCount w₁ pins ≡ outPinCount w₁ pins = omega arith in z) ∙ sym (outs-length w₁ pins) ∙ ap (λ (ps : Interface). length (outPins ps)) shown-pins
 
   pub regs-are : regs ≡ length (registers (m .elements))
   regs-are = sym (registers-length u m end pins t (counted w₁ regs) col)
@@ -244,9 +244,9 @@ module _ (u : List ℕ) (m : Net) (end settled pins : ℕ) (rn : Runnable u m en
 
   record Begun (j : ℕ) (w : List ℕ) : Type 0 where
     pub within : Within w₁ w
-    pub done : (x : ℕ) → x < j → entry w x ≡ byte (eqb (getD w₁ x 0) 65526)
+    pub done : (x : ℕ) → x < j → entry w x ≡ bitByte (eqb (getD w₁ x 0) 65526)
 
-  begin-all : (n : ℕ) → n ≤ 8192 → Begun n (turns beginOne n 0 w₁)
+  begin-all : (n : ℕ) → n ≤ 8192 → Begun n (takeTurns beginOne n 0 w₁)
   begin-all n few = turns-keep beginOne Begun w₁ (record { within = within-none w₁; done = λ x l. absurd (omega arith) }) n step
     where
       step : (j : ℕ) (w : List ℕ) → j < n → Begun j w → Begun (suc j) (beginOne j w)
@@ -254,11 +254,11 @@ module _ (u : List ℕ) (m : Net) (end settled pins : ℕ) (rn : Runnable u m en
           let e = q .within .below j (omega arith) in
           let z = q .within .size in
           let y = tabled₁ .size in
-          let v = byte (eqb (getD w j 0) 65526) in
+          let v = bitByte (eqb (getD w j 0) 65526) in
           record {
             within = within-then (q .within) (within-set w j v (omega arith));
             done = λ x h. elim (ℕ-discrete x j) [
-              | yes a ↦ ap (entry (beginOne j w)) a ∙ entry-same w j v (omega arith) (omega arith) ∙ ap (λ (k : ℕ). byte (eqb k 65526)) e ∙ ap (λ (k : ℕ). byte (eqb (getD w₁ k 0) 65526)) (sym a)
+              | yes a ↦ ap (entry (beginOne j w)) a ∙ entry-same w j v (omega arith) (omega arith) ∙ ap (λ (k : ℕ). bitByte (eqb k 65526)) e ∙ ap (λ (k : ℕ). bitByte (eqb (getD w₁ k 0) 65526)) (sym a)
               | no d ↦ entry-other w j x v d ∙ q .done x (omega arith)
             ];
           }
@@ -275,7 +275,7 @@ module _ (u : List ℕ) (m : Net) (end settled pins : ℕ) (rn : Runnable u m en
       pub done : (k : ℕ) → k < j → entry w (getD rs k 0 + 1) ≡ getD starts k 0
       pub others : (x : ℕ) → ((k : ℕ) → k < j → getD rs k 0 + 1 ≡ x → ⊥) → entry w x ≡ entry w₂ x
 
-    wake-all : Woken regs (turns (wakeOne starts) regs 0 w₂)
+    wake-all : Woken regs (takeTurns (wakeOne starts) regs 0 w₂)
     wake-all = turns-keep (wakeOne starts) Woken w₂ (record { within = within-none w₂; done = λ k l. absurd (omega arith); others = λ x f. refl }) regs step
       where
         step : (j : ℕ) (w : List ℕ) → j < regs → Woken j w → Woken (suc j) (wakeOne starts j w)
@@ -284,7 +284,7 @@ module _ (u : List ℕ) (m : Net) (end settled pins : ℕ) (rn : Runnable u m en
             i : Within w₁ w
             i = within-then (bg .within) (q .within)
 
-            at-j : In (part 1 (getD rs j 0)) (m .elements) × (getD w₁ (8192 + j) 0 ≡ getD rs j 0 + 1)
+            at-j : Among (part 1 (getD rs j 0)) (m .elements) × (getD w₁ (8192 + j) 0 ≡ getD rs j 0 + 1)
             at-j = stood .register-at j l
 
             shape : wakeOne starts j w ≡ set w (19072 + (getD rs j 0 + 1)) (getD starts j 0)
@@ -310,7 +310,7 @@ module _ (u : List ℕ) (m : Net) (end settled pins : ℕ) (rn : Runnable u m en
     woken = subst (Woken regs) (sym (wk .whole)) wake-all
 
     -- a constant's output
-    still : (a : Element) → In a (m .elements) → (getD w₁ (last a) 0 ≡ 65521 → ⊥) → entry w₃ (last a) ≡ byte (eqb (getD w₁ (last a) 0) 65526)
+    still : (a : Element) → Among a (m .elements) → (getD w₁ (last a) 0 ≡ 65521 → ⊥) → entry w₃ (last a) ≡ bitByte (eqb (getD w₁ (last a) 0) 65526)
     still a h d =
         woken .others (last a) (λ k l e. d (ap (λ (z : ℕ). getD w₁ z 0) (sym e) ∙ element-entry w₁ m end pins tabled₁ (part 1 (getD rs k 0)) (stood .register-at k l .0)))
         ∙ begun .done (last a) (t .low (last a) (out-terminal (m .elements) (last a) (in-out a h)))
@@ -322,11 +322,11 @@ module _ (u : List ℕ) (m : Net) (end settled pins : ℕ) (rn : Runnable u m en
       zeros = λ i h.
           let z : i + 0 ≡ i = omega arith in
           let e = element-entry w₁ m end pins tabled₁ (part 0 i) h in
-          subst (λ (x : ℕ). lit w₃ x ≡ false) z (ap (λ (x : ℕ). eqb x 1) (still (part 0 i) h (λ d. omega arith) ∙ ap (λ (x : ℕ). byte (eqb x 65526)) e));
+          subst (λ (x : ℕ). lit w₃ x ≡ false) z (ap (λ (x : ℕ). eqb x 1) (still (part 0 i) h (λ d. omega arith) ∙ ap (λ (x : ℕ). bitByte (eqb x 65526)) e));
       ones = λ i h.
           let z : i + 0 ≡ i = omega arith in
           let e = element-entry w₁ m end pins tabled₁ (part 6 i) h in
-          subst (λ (x : ℕ). lit w₃ x ≡ true) z (ap (λ (x : ℕ). eqb x 1) (still (part 6 i) h (λ d. omega arith) ∙ ap (λ (x : ℕ). byte (eqb x 65526)) e));
+          subst (λ (x : ℕ). lit w₃ x ≡ true) z (ap (λ (x : ℕ). eqb x 1) (still (part 6 i) h (λ d. omega arith) ∙ ap (λ (x : ℕ). bitByte (eqb x 65526)) e));
     }
 
     -- all ticks
@@ -336,10 +336,10 @@ module _ (u : List ℕ) (m : Net) (end settled pins : ℕ) (rn : Runnable u m en
 
 -- ---- as code has it
 
-listed-above : (u : List ℕ) (end : ℕ) (w₁ : List ℕ) (regs : ℕ) → Listed u end w₁ regs → Above u w₁
+listed-above : (u : List ℕ) (end : ℕ) (w₁ : List ℕ) (regs : ℕ) → RegistersListed u end w₁ regs → Above u w₁
 listed-above u end w₁ regs ls = record { size = ls .size; above = λ j l. ls .above j (omega arith) }
 
-module _ (u : List ℕ) (end settled pins n : ℕ) (bits starts out : List ℕ) (sf : Safe u end settled pins n) (w₁ : List ℕ) (regs : ℕ) (ls : Listed u end w₁ regs) (i : ℕ) (ei : i ≡ ins w₁ pins) where
+module _ (u : List ℕ) (end settled pins n : ℕ) (bits starts out : List ℕ) (sf : Safe u end settled pins n) (w₁ : List ℕ) (regs : ℕ) (ls : RegistersListed u end w₁ regs) (i : ℕ) (ei : i ≡ inPinCount w₁ pins) where
   pub pins₁ : Pins w₁ pins
   pins₁ = record {
     size = let a = ls .size in let c = sf .size in omega arith;

@@ -14,16 +14,17 @@ use Rattle.calculus.specs.Terms.{partAt}
 use Rattle.calculus.specs.Net.{Element, point, part, Net}
 use Rattle.calculus.specs.Lean.{isPin}
 use Rattle.calculus.specs.Inputs.{madeAt, isOut}
+use Rattle.calculus.specs.Record.{Among}
+use Rattle.circuit_theorems.specs.Terminals.{has}
 use Rattle.circuit_theorems.specs.Formed.{Formed}
-use Rattle.circuit_theorems.proofs.Rings.{has}
-use Rattle.trace_calculus.specs.Trace.{In, Source, pin, from, made as made-by, source, looks, before, terminals, gate, bit}
+use Rattle.trace_calculus.specs.Trace.{Source, pin, from, made-part as made-by, source, looks, before, terminals, gate, bit}
 use Rattle.trace_theorems.proofs.Sources.{at-point, at-part, at-pin, out-terminal}
 use Rattle.trace_theorems.proofs.Owners.{start, last}
 use Rattle.trace_steps.specs.Steps.{firstIn, Looks, gateBit, freeIn}
 use Rattle.trace_steps.proofs.Laws.{first-two, first-one}
 use Rattle.trace_rings.specs.Lists.{looksIn}
 use Rattle.trace_rings.specs.Rings.{InputOf}
-use Rattle.trace.specs.Tables.{Entry, of-pin, of-wire, of-point, of-part, Tabled, KeptRoots, Looking}
+use Rattle.trace.specs.Tables.{TableEntry, of-pin, of-wire, of-point, of-part, Tabled, KeptRoots, Looking}
 use Rattle.trace.proofs.ElementLaws.{in-out, within-made, in-terminal, input-not-out, made-within}
 
 one-of : (a y : ℕ) → T (has (a ∷ []) y) → a ≡ y
@@ -60,7 +61,7 @@ module _ (w : List ℕ) (m : Net) (end pins : ℕ) (t : Tabled w m end pins) whe
       never : {X : Type 0} → T (isOut es z) → X
       never u = absurd (subst T (input-not-out es 0 (ok .end) z (ok .rising) h) u)
 
-      go : {v : ℕ} → Entry m z v → v ≡ getD w z 0 → Input z
+      go : {v : ℕ} → TableEntry m z v → v ≡ getD w z 0 → Input z
       go (of-pin a b) e = at-a-pin a (sym e)
       go (of-wire y a b c) e = at-a-wire (a ∙ ap from e) (subst (λ (y : ℕ). T (isOut es y)) e c)
       go (of-point i a b) e = never (subst (λ (y : ℕ). T (isOut es y)) b (in-out (point i) a))
@@ -95,7 +96,7 @@ module _ (w : List ℕ) (m : Net) (end pins : ℕ) (t : Tabled w m end pins) whe
       low-not : getD w o 0 < 8192 → Gate o
       low-not k = absurd (⊎-elim (λ (e : getD w o 0 ≡ 65527). omega arith) (λ r. omega (arith, r .0)) l)
 
-      by-part : (p i : ℕ) → In (part p i) es → i + partAt p .inputs ≡ o → 65520 + p ≡ getD w o 0 → p < 7 → Gate o
+      by-part : (p i : ℕ) → Among (part p i) es → i + partAt p .inputs ≡ o → 65520 + p ≡ getD w o 0 → p < 7 → Gate o
       by-part zero i a b e c = absurd (⊎-elim (λ (q : getD w o 0 ≡ 65527). omega arith) (λ r. omega (arith, r .0)) l)
       by-part (suc zero) i a b e c = absurd (⊎-elim (λ (q : getD w o 0 ≡ 65527). omega arith) (λ r. omega (arith, r .0)) l)
       by-part (suc (suc zero)) i a b e c = two i (ap looks (subst (λ (z : ℕ). source m z ≡ made-by 2 i) b (at-part m ok a))) b (omega arith) (omega arith) (within-made (part 2 i) i a (omega arith) (omega arith)) (within-made (part 2 i) (i + 1) a (omega arith) (omega arith))
@@ -104,7 +105,7 @@ module _ (w : List ℕ) (m : Net) (end pins : ℕ) (t : Tabled w m end pins) whe
       by-part (suc (suc (suc (suc (suc zero))))) i a b e c = one i (ap looks (subst (λ (z : ℕ). source m z ≡ made-by 5 i) b (at-part m ok a))) b (omega arith) (within-made (part 5 i) i a (omega arith) (omega arith))
       by-part (suc (suc (suc (suc (suc (suc p)))))) i a b e c = absurd (⊎-elim (λ (q : getD w o 0 ≡ 65527). omega arith) (λ r. omega (arith, r .1)) l)
 
-      go : {v : ℕ} → Entry m o v → v ≡ getD w o 0 → Gate o
+      go : {v : ℕ} → TableEntry m o v → v ≡ getD w o 0 → Gate o
       go (of-pin a b) e = low-not (let k = low o h in omega arith)
       go (of-wire y a b c) e = low-not (let k = out-low y c in omega arith)
       go (of-point i a b) e = one i (ap looks (subst (λ (z : ℕ). source m z ≡ from i) b (at-point m ok a))) b (omega arith) (within-made (point i) i a (omega arith) (omega arith))
@@ -177,7 +178,7 @@ module _ (w : List ℕ) (m : Net) (end pins : ℕ) (t : Tabled w m end pins) whe
           by (inr (inl q)) = ap (λ (x : Bool). eqb v y || (eqb v 65520 || (x || eqb v 65526))) (eq-eqb v 65521 q) ∙ ap (λ (x : Bool). eqb v y || x) (or-last (eqb v 65520)) ∙ or-last (eqb v y)
           by (inr (inr q)) = ap (λ (x : Bool). eqb v y || (eqb v 65520 || (eqb v 65521 || x))) (eq-eqb v 65526 q) ∙ ap (λ (x : Bool). eqb v y || (eqb v 65520 || x)) (or-last (eqb v 65521)) ∙ ap (λ (x : Bool). eqb v y || x) (or-last (eqb v 65520)) ∙ or-last (eqb v y)
 
-      by-part : (p i : ℕ) → In (part p i) es → i + partAt p .inputs ≡ y → 65520 + p ≡ getD w y 0 → p < 7 → Looking (getD w y 0) ⊎ ((freeIn w y ≡ true) × (looks (source m y) ≡ []))
+      by-part : (p i : ℕ) → Among (part p i) es → i + partAt p .inputs ≡ y → 65520 + p ≡ getD w y 0 → p < 7 → Looking (getD w y 0) ⊎ ((freeIn w y ≡ true) × (looks (source m y) ≡ []))
       by-part zero i a b e c = inr (free 65520 e (inl refl), ap looks (subst (λ (z : ℕ). source m z ≡ made-by 0 i) b (at-part m ok a)))
       by-part (suc zero) i a b e c = inr (free 65521 e (inr (inl refl)), ap looks (subst (λ (z : ℕ). source m z ≡ made-by 1 i) b (at-part m ok a)))
       by-part (suc (suc zero)) i a b e c = inl (inr (omega arith, omega arith))
@@ -187,7 +188,7 @@ module _ (w : List ℕ) (m : Net) (end pins : ℕ) (t : Tabled w m end pins) whe
       by-part (suc (suc (suc (suc (suc (suc zero)))))) i a b e c = inr (free 65526 e (inr (inr refl)), ap looks (subst (λ (z : ℕ). source m z ≡ made-by 6 i) b (at-part m ok a)))
       by-part (suc (suc (suc (suc (suc (suc (suc p))))))) i a b e c = absurd (omega arith)
 
-      go : {v : ℕ} → Entry m y v → v ≡ getD w y 0 → Looking (getD w y 0) ⊎ ((freeIn w y ≡ true) × (looks (source m y) ≡ []))
+      go : {v : ℕ} → TableEntry m y v → v ≡ getD w y 0 → Looking (getD w y 0) ⊎ ((freeIn w y ≡ true) × (looks (source m y) ≡ []))
       go (of-pin a b) e = never b
       go (of-wire z a b c) e = never b
       go (of-point i a b) e = inl (inl (sym e))

@@ -14,31 +14,31 @@ use Rattle.laws.proofs.Regions.{region-length, region-at}
 use Rattle.calculus.specs.Terms.{partAt}
 use Rattle.calculus.specs.Net.{Terminal, inp, out, Interface, Element, point, part, Wire, Net}
 use Rattle.calculus.specs.Lean.{driver, isPin, root, kept, keep, leanPin, lean}
-use Rattle.calculus.specs.Record.{All}
+use Rattle.calculus.specs.Record.{All, Among, here, there}
 use Rattle.calculus.specs.Inputs.{ins, targets, madeAt, isOut}
 use Rattle.circuit_theorems.specs.Formed.{Shown, Formed}
-use Rattle.circuit_theorems.proofs.Rings.{has}
 use Rattle.circuit_theorems.proofs.Terminals.{made-high, out-high, each-target, pin-ins}
 use Rattle.circuit_theorems.proofs.Forming.{lean-formed}
 use Rattle.circuit_theorems.proofs.Outputs.{EndHolds}
 use Rattle.circuit_theorems.proofs.Wiring.{pins-show}
 use Rattle.circuit_theorems.proofs.RootLaws.{root-reached}
 use Rattle.circuit_theorems.proofs.BackLaws.{backs-out}
-use Rattle.memory.specs.Map.{region, kindOf, elementsFrom, terminalOf, netIn, Ready}
+use Rattle.memory.specs.Map.{region, kindNumber, elementsFrom, terminalOf, netIn, Ready}
 use Rattle.calculus.specs.NetRead.{Known}
+use Rattle.circuit_theorems.specs.Terminals.{has}
 use Rattle.netlist.specs.Elements.{after, afterAll}
 use Rattle.lean.specs.Table.{entry, Whole}
 use Rattle.lean.proofs.KindLaws.{tiled-after}
 use Rattle.lean.proofs.DriverLaws.{rising, output-below, input-below, driver-out, pin-none, driver-in}
 use Rattle.lean.proofs.LeanLaws.{entry-root}
-use Rattle.trace_calculus.specs.Trace.{In, here, there, Source, pin, from, made as made-by, source, terminals}
+use Rattle.trace_calculus.specs.Trace.{Source, pin, from, made-part as made-by, source, terminals}
 use Rattle.trace_theorems.proofs.Sources.{in-all, Decided, is-pin, is-wire, is-point, is-part, decided, at-wire, out-terminal}
 use Rattle.trace_theorems.proofs.Owners.{start, last, keep-in, in-keep, pin-map, FromRoot, lean-root}
-use Rattle.trace_steps.specs.Turns.{turns}
-use Rattle.trace_steps.specs.Names.{named, NamesStand, Namable}
+use Rattle.trace_steps.specs.Turns.{takeTurns}
+use Rattle.trace_steps.specs.Names.{namedOutputs, NamesStand, Namable}
 use Rattle.trace_steps.specs.Links.{linkOf, linkIn, linkOne, Linkable, Linked, rootedIn, pinOne, Rootable, Pinned}
 use Rattle.trace_steps.proofs.LinkLaws.{link-none, link-driver, link-kind}
-use Rattle.trace.specs.Tables.{Entry, of-pin, of-wire, of-point, of-part, Tabled, KeptRoots}
+use Rattle.trace.specs.Tables.{TableEntry, of-pin, of-wire, of-point, of-part, Tabled, KeptRoots}
 use Rattle.trace.proofs.ElementLaws.{out-in, in-out, made-within, within-made, in-terminal, terminal-in, input-not-out}
 use Rattle.trace.proofs.TableLaws.{named-other, named-out, LinkedAt, link-all, PinnedAt, pin-all, region-map}
 
@@ -50,11 +50,11 @@ pin-at P (c ∷ cs) (suc j) a l = pin-at P cs j (a .1) (omega arith)
 -- ---- the lean netlist
 
 module _ (m : Net) where
-  pub lean-in : {a : Element} → In a (lean m .elements) → In a (m .elements) × T (kept m a)
+  pub lean-in : {a : Element} → Among a (lean m .elements) → Among a (m .elements) × T (kept m a)
   unfolding lean
   lean-in h = keep-in m (m .elements) h
 
-  pub in-lean : {a : Element} → In a (m .elements) → T (kept m a) → In a (lean m .elements)
+  pub in-lean : {a : Element} → Among a (m .elements) → T (kept m a) → Among a (lean m .elements)
   unfolding lean
   in-lean h t = in-keep m h t
 
@@ -81,7 +81,7 @@ module _ (u : List ℕ) (e k p : ℕ) (q : Whole u e k p) (known : All Known (ne
   abbrev es : List Element
   es = netIn u e k p .elements
 
-  kind-low : (a : Element) → In a es → kindOf a < 8
+  kind-low : (a : Element) → Among a es → kindNumber a < 8
   kind-low (point i) h = omega arith
   kind-low (part x i) h = let l = in-all Known h known in omega arith
 
@@ -109,7 +109,7 @@ module _ (u : List ℕ) (e k p : ℕ) (q : Whole u e k p) (known : All Known (ne
     made-before : (x : ℕ) → 1 ≤ madeAt es x → x < end
     made-before x h = elim (decLe (r .end) x) [ yes l ↦ absurd (let z = made-high es 0 (r .end) x (rising u e k p r) l in omega arith) | no l ↦ let z = end-is in omega arith ]
 
-    out-named : (a : Element) → In a es → getD w₁ (last a) 0 ≡ 65520 + kindOf a
+    out-named : (a : Element) → Among a es → getD w₁ (last a) 0 ≡ 65520 + kindNumber a
     unfolding netIn
     out-named a h = let z = end-few in let y = n .end-is in ap (λ (w : List ℕ). getD w (last a) 0) (n .whole) ∙ named-out (region u 13824 e) 0 u a (r .size) (omega arith) h
 
@@ -139,7 +139,7 @@ module _ (u : List ℕ) (e k p : ℕ) (q : Whole u e k p) (known : All Known (ne
       linked : LinkedAt w₁ end w₂
       linked = subst (LinkedAt w₁ end) (sym (c .whole)) (link-all w₁ end (linkable .size) end-few)
 
-      out-linked : (a : Element) → In a es → getD w₂ (last a) 0 ≡ 65520 + kindOf a
+      out-linked : (a : Element) → Among a es → getD w₂ (last a) 0 ≡ 65520 + kindNumber a
       out-linked a h =
           let g = out-named a h in
           let l = kind-low a h in
@@ -227,16 +227,16 @@ module _ (u : List ℕ) (e k p : ℕ) (q : Whole u e k p) (known : All Known (ne
             let g = terminal-in (L .elements) x t in
             omega (arith, out-before (last (g .0)) (in-out (g .0) (lean-in net (g .1) .0)), g .3)
 
-        pin-entry : (x : ℕ) → T (isPin (L .pins) x) → Entry L x (getD w₃ x 0)
+        pin-entry : (x : ℕ) → T (isPin (L .pins) x) → TableEntry L x (getD w₃ x 0)
         pin-entry x h =
             let t : T (isPin (net .pins) x) = subst T (lean-pin net x) h in
             let m : 1 ≤ madeAt es x = (let l = pin-ins (net .pins) x t in omega (arith, r .formed .reached x)) in
             let l = made-before x m in
             let z = input-out x m in
             let none : getD u x 0 ≡ 65535 = eqb→eq (getD u x 0) 65535 (subst T (pin-none u e k p r x m) t) in
-            subst (Entry L x) (sym (same x l ∙ pin-linked x l z none)) (of-pin h (out-lean net x z))
+            subst (TableEntry L x) (sym (same x l ∙ pin-linked x l z none)) (of-pin h (out-lean net x z))
 
-        wire-entry : (x : ℕ) (v : Wire) → In v (L .wires) → v .to ≡ x → Entry L x (getD w₃ x 0)
+        wire-entry : (x : ℕ) (v : Wire) → Among v (L .wires) → v .to ≡ x → TableEntry L x (getD w₃ x 0)
         wire-entry x v h g =
             let f = lean-root net (r .formed) h in
             let one : 1 ≤ targets (L .wires) (v .to) = in-all (λ v. 1 ≤ targets (L .wires) (v .to)) h (each-target (L .wires)) in
@@ -248,22 +248,22 @@ module _ (u : List ℕ) (e k p : ℕ) (q : Whole u e k p) (known : All Known (ne
             let some : getD u x 0 ≡ 65535 → ⊥ = eqb-false (getD u x 0) 65535 (sym (pin-none u e k p r x m) ∙ free) in
             let a = wire-linked x l z some in
             let same-root : v .from ≡ root net (getD u x 0) = f .root-of ∙ ap (λ (y : ℕ). root net (driver (net .wires) y 0)) g ∙ ap (root net) (driver-in u e k p r x 0 m free) in
-            subst (Entry L x) (sym (same x l ∙ a .1 ∙ sym same-root))
+            subst (TableEntry L x) (sym (same x l ∙ a .1 ∙ sym same-root))
             (of-wire (v .from) (subst (λ (y : ℕ). source L y ≡ from (v .from)) g (at-wire L ok h)) (out-lean net x z) (in-all (λ v. T (isOut (L .elements) (v .from))) h (ok .from)))
 
-        element-entry : (a : Element) (x : ℕ) → In a es → last a ≡ x → getD w₃ x 0 ≡ 65520 + kindOf a
+        element-entry : (a : Element) (x : ℕ) → Among a es → last a ≡ x → getD w₃ x 0 ≡ 65520 + kindNumber a
         element-entry a x h g = let l = out-before (last a) (in-out a h) in ap (λ (z : ℕ). getD w₃ z 0) (sym g) ∙ same (last a) l ∙ out-linked a h
 
-        entry-of : (x : ℕ) → {s : Source} → Decided L ok x s → Entry L x (getD w₃ x 0)
+        entry-of : (x : ℕ) → {s : Source} → Decided L ok x s → TableEntry L x (getD w₃ x 0)
         entry-of x (is-pin h) = pin-entry x h
         entry-of x (is-wire v h g) = wire-entry x v h g
-        entry-of x (is-point i h g) = subst (Entry L x) (sym (element-entry (point i) x (lean-in net h .0) g)) (of-point i h g)
-        entry-of x (is-part a i h g) = subst (Entry L x) (sym (element-entry (part a i) x (lean-in net h .0) g)) (of-part a i h g (in-all Known (lean-in net h .0) known))
+        entry-of x (is-point i h g) = subst (TableEntry L x) (sym (element-entry (point i) x (lean-in net h .0) g)) (of-point i h g)
+        entry-of x (is-part a i h g) = subst (TableEntry L x) (sym (element-entry (part a i) x (lean-in net h .0) g)) (of-part a i h g (in-all Known (lean-in net h .0) known))
 
         other-entry : (x : ℕ) → x < end → T (has (terminals (L .elements)) x) ⊎ ((getD w₃ x 0 < 8192) ⊎ (getD w₃ x 0 ≡ 65527))
         other-entry x l = by (isOut es x) refl
           where
-            of : (a : Element) → In a es → last a ≡ x → T (has (terminals (L .elements)) x) ⊎ ((getD w₃ x 0 < 8192) ⊎ (getD w₃ x 0 ≡ 65527))
+            of : (a : Element) → Among a es → last a ≡ x → T (has (terminals (L .elements)) x) ⊎ ((getD w₃ x 0 < 8192) ⊎ (getD w₃ x 0 ≡ 65527))
             of (point i) h g = inr (inr (element-entry (point i) x h g))
             of (part a i) h g = inl (in-terminal (part a i) x (in-lean net h tt) (omega arith) (omega arith))
 
@@ -329,7 +329,7 @@ module _ (u : List ℕ) (e k p : ℕ) (q : Whole u e k p) (known : All Known (ne
             of-kept : (x : ℕ) → x < end → getD w₃ x 0 ≡ 65527 → getD w₃ (19072 + x) 0 ≡ x → (b : Bool) → isOut es x ≡ b → T (has (terminals (L .elements)) x)
             of-kept x l h g true t = let a = out-in es x (subst T (sym t) tt) in on (a .0) (a .1) (a .2)
               where
-                on : (a : Element) → In a es → last a ≡ x → T (has (terminals (L .elements)) x)
+                on : (a : Element) → Among a es → last a ≡ x → T (has (terminals (L .elements)) x)
                 on (point i) c y =
                     let z = subst (λ (v : ℕ). root net v ≡ v) (sym y) (sym (root-at x (subst T (sym t) tt)) ∙ g) in
                     in-terminal (point i) x (in-lean net c (subst T (sym (eq-eqb (root net (i + 1)) (i + 1) z)) tt)) (omega arith) (omega arith)
@@ -345,7 +345,7 @@ module _ (u : List ℕ) (e k p : ℕ) (q : Whole u e k p) (known : All Known (ne
             of-rooted : (x : ℕ) → T (has (terminals (L .elements)) x) → getD w₃ x 0 ≡ 65527 → getD w₃ (19072 + x) 0 ≡ x
             of-rooted x t h = go (entry-of x (decided L ok x t)) refl
               where
-                go : {v : ℕ} → Entry L x v → v ≡ getD w₃ x 0 → getD w₃ (19072 + x) 0 ≡ x
+                go : {v : ℕ} → TableEntry L x v → v ≡ getD w₃ x 0 → getD w₃ (19072 + x) 0 ≡ x
                 go (of-pin a b) g = absurd (let l = low-lean x t in let f = end-few in omega arith)
                 go (of-wire y a b c) g = absurd (let l = low-lean y (out-terminal (L .elements) y c) in let f = end-few in omega arith)
                 go (of-point i a b) g =

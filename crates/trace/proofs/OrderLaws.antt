@@ -12,8 +12,8 @@ use lib.Seq.{getD-set-same, getD-set-other}
 use lib.Dec.{T, eqb, ltb, eqb→eq}
 use borrow.Author.Tests.{eq-eqb, ne-eqb, eqb-false}
 use Rattle.laws.proofs.Tests.{and-both, T-is}
-use Rattle.trace_steps.specs.Turns.{turns}
-use Rattle.trace_steps.specs.Steps.{lit, firstIn, fed, readyIn, Looks}
+use Rattle.trace_steps.specs.Turns.{takeTurns}
+use Rattle.trace_steps.specs.Steps.{lit, firstIn, inputBit, readyIn, Looks}
 use Rattle.trace_steps.specs.Sweeps.{settleAt, Sweep, sweeping, sweepAt, sweepOne, sweepAll, sweeps}
 use Rattle.trace_steps.proofs.Laws.{first-low}
 use Rattle.trace_rings.specs.Rings.{mark, rest, met, InputOf}
@@ -31,8 +31,8 @@ pub record Start (u : List ℕ) (total : ℕ) : Type 0 where
   pub loose : (k : ℕ) → k < total → mark u (rest u k) ≡ 1 → ⊥
 
 -- place i of the list is in use, where the first j of `left` are looked at and `kept` of them stay
-abbrev pub Held : ℕ → ℕ → ℕ → ℕ → Type 0
-Held kept j left i = (i < kept) ⊎ ((j ≤ i) × (i < left))
+abbrev pub PlaceHeld : ℕ → ℕ → ℕ → ℕ → Type 0
+PlaceHeld kept j left i = (i < kept) ⊎ ((j ≤ i) × (i < left))
 
 pub record Stage (u : List ℕ) (total left j : ℕ) (w : List ℕ) (kept done : ℕ) : Type 0 where
   pub size : length w ≡ length u
@@ -43,15 +43,15 @@ pub record Stage (u : List ℕ) (total left j : ℕ) (w : List ℕ) (kept done :
   pub few : kept ≤ j
   pub some : j ≤ left
   pub bound : left ≤ total
-  pub known : (i : ℕ) → Held kept j left i → (k : ℕ) × (k < total) × (rest u k ≡ rest w i)
-  pub falling : (i k : ℕ) → i < k → Held kept j left i → Held kept j left k → rest w k < rest w i
-  pub loose : (i : ℕ) → Held kept j left i → mark w (rest w i) ≡ 1 → ⊥
+  pub known : (i : ℕ) → PlaceHeld kept j left i → (k : ℕ) × (k < total) × (rest u k ≡ rest w i)
+  pub falling : (i k : ℕ) → i < k → PlaceHeld kept j left i → PlaceHeld kept j left k → rest w k < rest w i
+  pub loose : (i : ℕ) → PlaceHeld kept j left i → mark w (rest w i) ≡ 1 → ⊥
   pub order : (k : ℕ) → k < done → (n : ℕ) × (n < total) × (rest u n ≡ met w k)
   pub marked : (k : ℕ) → k < done → mark w (met w k) ≡ 1
   pub marks : (y : ℕ) → (mark w y ≡ mark u y) ⊎ ((mark w y ≡ 1) × ((k : ℕ) × (k < done) × (met w k ≡ y)))
   pub apart : (i k : ℕ) → i < k → k < done → met w i ≡ met w k → ⊥
   pub sourced : (k z : ℕ) → k < done → InputOf u (met w k) z → (mark u (getD u z 0) ≡ 1) ⊎ ((i : ℕ) × (i < k) × (met w i ≡ getD u z 0))
-  pub cover : (n : ℕ) → n < total → ((i : ℕ) × Held kept j left i × (rest w i ≡ rest u n)) ⊎ ((k : ℕ) × (k < done) × (met w k ≡ rest u n))
+  pub cover : (n : ℕ) → n < total → ((i : ℕ) × PlaceHeld kept j left i × (rest w i ≡ rest u n)) ⊎ ((k : ℕ) × (k < done) × (met w k ≡ rest u n))
   pub stuck : kept ≡ j → (i : ℕ) → i < kept → readyIn w (rest w i) ≡ false
 
 pub stage-start : (u : List ℕ) (total : ℕ) → Start u total → Stage u total total 0 u 0 0
@@ -76,7 +76,7 @@ stage-start u total s = record {
   stuck = λ e i l. absurd (omega arith);
 }
   where
-    held : (i : ℕ) → Held 0 0 total i → i < total
+    held : (i : ℕ) → PlaceHeld 0 0 total i → i < total
     held i (inl l) = absurd (omega arith)
     held i (inr (a, b)) = b
 
@@ -138,15 +138,15 @@ module _ (u : List ℕ) (total : ℕ) (s : Start u total) (left j : ℕ) (w : Li
   rest-same : (i : ℕ) → i < left → rest v i ≡ rest w i
   rest-same i l = let a = s .few in let b = c .bound in same (8192 + i) (omega arith)
 
-  held-old : (i : ℕ) → Held kept (j + 1) left i → Held kept j left i
+  held-old : (i : ℕ) → PlaceHeld kept (j + 1) left i → PlaceHeld kept j left i
   held-old i (inl l) = inl l
   held-old i (inr (a, b)) = inr (omega arith, b)
 
-  held-low : (i : ℕ) → Held kept (j + 1) left i → (i < left) × (i ≡ j → ⊥)
+  held-low : (i : ℕ) → PlaceHeld kept (j + 1) left i → (i < left) × (i ≡ j → ⊥)
   held-low i (inl l) = let a = c .few in (omega arith, λ z. omega arith)
   held-low i (inr (a, b)) = (b, λ z. omega arith)
 
-  not-o : (i : ℕ) → Held kept (j + 1) left i → rest w i ≡ o → ⊥
+  not-o : (i : ℕ) → PlaceHeld kept (j + 1) left i → rest w i ≡ o → ⊥
   not-o i g e = elim (decLe i j) [
     | yes l ↦ (let z = held-low i g .1 in let a = c .falling i j (omega arith) (held-old i g) (inr (omega arith, h)) in omega arith)
     | no l ↦ (let a = c .falling j i (omega arith) (inr (omega arith, h)) (held-old i g) in omega arith)
@@ -208,13 +208,13 @@ module _ (u : List ℕ) (total : ℕ) (s : Start u total) (left j : ℕ) (w : Li
       from-ready : (z : ℕ) → InputOf u o z → (mark u (getD u z 0) ≡ 1) ⊎ ((i : ℕ) × (i < done) × (met w i ≡ getD u z 0))
       from-ready z g = let e = eqb→eq (mark w (getD u z 0)) 1 (source-of z g) in ⊎-elim (λ a. inl (sym a ∙ e)) (λ a. inr (a .1)) (c .marks (getD u z 0))
 
-      at-place : (n i : ℕ) → Held kept j left i → rest w i ≡ rest u n → ((i : ℕ) × Held kept (j + 1) left i × (rest v i ≡ rest u n)) ⊎ ((k : ℕ) × (k < done + 1) × (met v k ≡ rest u n))
+      at-place : (n i : ℕ) → PlaceHeld kept j left i → rest w i ≡ rest u n → ((i : ℕ) × PlaceHeld kept (j + 1) left i × (rest v i ≡ rest u n)) ⊎ ((k : ℕ) × (k < done + 1) × (met v k ≡ rest u n))
       at-place n i g e = elim (ℕ-discrete i j) [
         | yes t ↦ inr (done, omega arith, met-new ∙ ap (rest w) (sym t) ∙ e)
         | no t ↦ inl (i, later i g t, rest-same i (held-low i (later i g t) .0) ∙ e)
       ]
         where
-          later : (i : ℕ) → Held kept j left i → (i ≡ j → ⊥) → Held kept (j + 1) left i
+          later : (i : ℕ) → PlaceHeld kept j left i → (i ≡ j → ⊥) → PlaceHeld kept (j + 1) left i
           later i (inl l) d = inl l
           later i (inr (a, b)) d = inr (omega arith, b)
 
@@ -232,7 +232,7 @@ module _ (u : List ℕ) (total : ℕ) (s : Start u total) (left j : ℕ) (w : Li
   keep-new : rest x kept ≡ o
   keep-new = let a = few-kept in let b = big in getD-set-same w (8192 + kept) o 0 (omega arith)
 
-  held-of : (i : ℕ) → Held (kept + 1) (j + 1) left i → (i ≡ kept → ⊥) → Held kept j left i
+  held-of : (i : ℕ) → PlaceHeld (kept + 1) (j + 1) left i → (i ≡ kept → ⊥) → PlaceHeld kept j left i
   held-of i (inl l) d = inl (omega arith)
   held-of i (inr (a, b)) d = inr (omega arith, b)
 
@@ -245,7 +245,7 @@ module _ (u : List ℕ) (total : ℕ) (s : Start u total) (left j : ℕ) (w : Li
   met-kept : (k : ℕ) → met x k ≡ met w k
   met-kept k = let a = few-kept in keep-other (13824 + k) (λ z. omega arith)
 
-  each : (P : ℕ → Type 0) → ((i : ℕ) → Held kept j left i → P (rest w i)) → (i : ℕ) → Held (kept + 1) (j + 1) left i → P (rest x i)
+  each : (P : ℕ → Type 0) → ((i : ℕ) → PlaceHeld kept j left i → P (rest w i)) → (i : ℕ) → PlaceHeld (kept + 1) (j + 1) left i → P (rest x i)
   each P f i g = elim (ℕ-discrete i kept) [
     | yes t ↦ subst P (sym (ap (rest x) t ∙ keep-new)) (f j (inr (omega arith, h)))
     | no t ↦ subst P (sym (rest-kept i t)) (f i (held-of i g t))
@@ -277,7 +277,7 @@ module _ (u : List ℕ) (total : ℕ) (s : Start u total) (left j : ℕ) (w : Li
     ];
   }
     where
-      falls : (i k : ℕ) → i < k → Held (kept + 1) (j + 1) left i → Held (kept + 1) (j + 1) left k → rest x k < rest x i
+      falls : (i k : ℕ) → i < k → PlaceHeld (kept + 1) (j + 1) left i → PlaceHeld (kept + 1) (j + 1) left k → rest x k < rest x i
       falls i k l g f = elim (ℕ-discrete k kept) [
         | yes t ↦ (let a = rest-kept i (λ z. omega arith) in let b = ap (rest x) t ∙ keep-new in let d = c .few in let e = c .falling i j (omega arith) (inl (omega arith)) (inr (omega arith, h)) in omega arith)
         | no t ↦ (elim (ℕ-discrete i kept) [
@@ -286,21 +286,21 @@ module _ (u : List ℕ) (total : ℕ) (s : Start u total) (left j : ℕ) (w : Li
         ])
       ]
         where
-          past : (k : ℕ) → kept < k → Held (kept + 1) (j + 1) left k → j < k
+          past : (k : ℕ) → kept < k → PlaceHeld (kept + 1) (j + 1) left k → j < k
           past k d (inl a) = absurd (omega arith)
           past k d (inr (a, b)) = omega arith
 
-      at-place : (n i : ℕ) → Held kept j left i → rest w i ≡ rest u n → (i : ℕ) × Held (kept + 1) (j + 1) left i × (rest x i ≡ rest u n)
+      at-place : (n i : ℕ) → PlaceHeld kept j left i → rest w i ≡ rest u n → (i : ℕ) × PlaceHeld (kept + 1) (j + 1) left i × (rest x i ≡ rest u n)
       at-place n i g e = elim (ℕ-discrete i j) [
         | yes t ↦ (kept, inl (omega arith), keep-new ∙ ap (rest w) (sym t) ∙ e)
         | no t ↦ (i, later i g t, rest-kept i (not-kept i g t) ∙ e)
       ]
         where
-          later : (i : ℕ) → Held kept j left i → (i ≡ j → ⊥) → Held (kept + 1) (j + 1) left i
+          later : (i : ℕ) → PlaceHeld kept j left i → (i ≡ j → ⊥) → PlaceHeld (kept + 1) (j + 1) left i
           later i (inl l) d = inl (omega arith)
           later i (inr (a, b)) d = inr (omega arith, b)
 
-          not-kept : (i : ℕ) → Held kept j left i → (i ≡ j → ⊥) → i ≡ kept → ⊥
+          not-kept : (i : ℕ) → PlaceHeld kept j left i → (i ≡ j → ⊥) → i ≡ kept → ⊥
           not-kept i (inl l) d z = omega arith
           not-kept i (inr (a, b)) d z = let f = c .few in omega arith
 
@@ -345,11 +345,11 @@ module _ (u : List ℕ) (total : ℕ) (s : Start u total) where
     stuck = λ e i l. absurd (omega arith);
   }
     where
-      held : (i : ℕ) → Held 0 0 kept i → i < kept
+      held : (i : ℕ) → PlaceHeld 0 0 kept i → i < kept
       held i (inl l) = absurd (omega arith)
       held i (inr (a, b)) = b
 
-      back : (i : ℕ) → Held kept left left i → i < kept
+      back : (i : ℕ) → PlaceHeld kept left left i → i < kept
       back i (inl l) = l
       back i (inr (a, b)) = absurd (omega arith)
 

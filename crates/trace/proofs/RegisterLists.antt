@@ -14,17 +14,18 @@ use Rattle.laws.proofs.Tests.{or-elim, or-left, or-right}
 use Rattle.calculus.specs.Terms.{partAt}
 use Rattle.calculus.specs.Net.{Element, point, part, Net}
 use Rattle.calculus.specs.Inputs.{isOut, madeAt}
+use Rattle.calculus.specs.Record.{Among, here, there}
+use Rattle.circuit_theorems.specs.Terminals.{has}
 use Rattle.circuit_theorems.specs.Formed.{Rising, Formed}
-use Rattle.circuit_theorems.proofs.Rings.{has}
-use Rattle.trace_calculus.specs.Trace.{In, here, there, terminals, registers, place}
+use Rattle.trace_calculus.specs.Trace.{terminals, registers, place}
 use Rattle.trace_theorems.proofs.Sources.{has-append, has-left, has-right, out-terminal}
-use Rattle.memory.specs.Map.{kindOf}
+use Rattle.memory.specs.Map.{kindNumber}
 use Rattle.trace_theorems.proofs.Lists.{has-at, place-at, at-place, Up, up-low, up-weaken, up-once}
 use Rattle.trace_theorems.proofs.Lending.{registers-in, in-registers, registers-up}
 use Rattle.trace_theorems.proofs.Owners.{start, last, same-owner}
-use Rattle.trace_steps.specs.Turns.{turns}
+use Rattle.trace_steps.specs.Turns.{takeTurns}
 use Rattle.trace_steps.specs.Pins.{Counted, counted, registerOne}
-use Rattle.trace.specs.Tables.{Entry, of-pin, of-wire, of-point, of-part, Tabled}
+use Rattle.trace.specs.Tables.{TableEntry, of-pin, of-wire, of-point, of-part, Tabled}
 use Rattle.trace.proofs.Turning.{turns-keep}
 use Rattle.trace.proofs.ElementLaws.{in-out}
 
@@ -97,7 +98,7 @@ pub record Collected (u : List ℕ) (x : ℕ) (c : Counted) : Type 0 where
   pub is-register : (y : ℕ) → T (has (listed (c .mem) (c .count)) y) → getD u y 0 ≡ 65521
   pub all : (y : ℕ) → y < x → getD u y 0 ≡ 65521 → T (has (listed (c .mem) (c .count)) y)
 
-pub collect : (u : List ℕ) (end : ℕ) → 32768 ≤ length u → end ≤ 8192 → Collected u end (turns registerOne end 0 (counted u 0))
+pub collect : (u : List ℕ) (end : ℕ) → 32768 ≤ length u → end ≤ 8192 → Collected u end (takeTurns registerOne end 0 (counted u 0))
 collect u end size few = turns-keep registerOne (Collected u) (counted u 0) start end step
   where
     start : Collected u 0 (counted u 0)
@@ -154,36 +155,36 @@ collect u end size few = turns-keep registerOne (Collected u) (counted u 0) star
 -- ---- both lists
 
 module _ (u : List ℕ) (m : Net) (end pins : ℕ) (t : Tabled u m end pins) where
-  pub register-of : (x : ℕ) → x < end → getD u x 0 ≡ 65521 → (i : ℕ) × In (part 1 i) (m .elements) × (i + 1 ≡ x)
+  pub register-of : (x : ℕ) → x < end → getD u x 0 ≡ 65521 → (i : ℕ) × Among (part 1 i) (m .elements) × (i + 1 ≡ x)
   register-of x l e = go (t .entries x terminal) refl
     where
       terminal : T (has (terminals (m .elements)) x)
       terminal = ⊎-elim (λ h. h) (λ h. absurd (⊎-elim (λ (a : getD u x 0 < 8192). omega arith) (λ (a : getD u x 0 ≡ 65527). omega arith) h)) (t .others x l)
 
-      go : {v : ℕ} → Entry m x v → v ≡ getD u x 0 → (i : ℕ) × In (part 1 i) (m .elements) × (i + 1 ≡ x)
+      go : {v : ℕ} → TableEntry m x v → v ≡ getD u x 0 → (i : ℕ) × Among (part 1 i) (m .elements) × (i + 1 ≡ x)
       go (of-pin a b) q = absurd (let f = t .few in omega arith)
       go (of-wire y a b c) q = absurd (let k = t .low y (out-terminal (m .elements) y c) in let f = t .few in omega arith)
       go (of-point i a b) q = absurd (omega arith)
-      go (of-part p i a b c) q = let k : p ≡ 1 = omega arith in (i, subst (λ (z : ℕ). In (part z i) (m .elements)) k a, subst (λ (z : ℕ). i + partAt z .inputs ≡ x) k b)
+      go (of-part p i a b c) q = let k : p ≡ 1 = omega arith in (i, subst (λ (z : ℕ). Among (part z i) (m .elements)) k a, subst (λ (z : ℕ). i + partAt z .inputs ≡ x) k b)
 
   -- the entry of an element's output
-  pub element-entry : (a : Element) → In a (m .elements) → getD u (last a) 0 ≡ 65520 + kindOf a
+  pub element-entry : (a : Element) → Among a (m .elements) → getD u (last a) 0 ≡ 65520 + kindNumber a
   element-entry a h = go (t .entries (last a) (out-terminal (m .elements) (last a) (in-out a h))) refl
     where
       start-last : (a : Element) → start a ≤ last a
       start-last (point i) = omega arith
       start-last (part p i) = omega arith
 
-      one : (b : Element) → In b (m .elements) → last b ≡ last a → b ≡ a
+      one : (b : Element) → Among b (m .elements) → last b ≡ last a → b ≡ a
       one b k e = same-owner 0 (t .formed .end) (last a) (t .formed .rising) k h (let l = start-last b in omega arith) (omega arith) (start-last a) (omega arith)
 
-      go : {v : ℕ} → Entry m (last a) v → v ≡ getD u (last a) 0 → getD u (last a) 0 ≡ 65520 + kindOf a
+      go : {v : ℕ} → TableEntry m (last a) v → v ≡ getD u (last a) 0 → getD u (last a) 0 ≡ 65520 + kindNumber a
       go (of-pin x y) q = absurd (subst T y (in-out a h))
       go (of-wire y x z c) q = absurd (subst T z (in-out a h))
-      go (of-point i x e) q = sym q ∙ ap (λ (b : Element). 65520 + kindOf b) (one (point i) x e)
-      go (of-part p i x e c) q = sym q ∙ ap (λ (b : Element). 65520 + kindOf b) (one (part p i) x e)
+      go (of-point i x e) q = sym q ∙ ap (λ (b : Element). 65520 + kindNumber b) (one (point i) x e)
+      go (of-part p i x e c) q = sym q ∙ ap (λ (b : Element). 65520 + kindNumber b) (one (part p i) x e)
 
-  of-register : (i : ℕ) → In (part 1 i) (m .elements) → (i + 1 < end) × (getD u (i + 1) 0 ≡ 65521)
+  of-register : (i : ℕ) → Among (part 1 i) (m .elements) → (i + 1 < end) × (getD u (i + 1) 0 ≡ 65521)
   of-register i h = (t .low (i + 1) (out-terminal (m .elements) (i + 1) (in-out (part 1 i) h)), element-entry (part 1 i) h)
 
   pub lists-same : (c : Counted) → Collected u end c → listed (c .mem) (c .count) ≡ map next (registers (m .elements))
@@ -206,13 +207,13 @@ module _ (u : List ℕ) (m : Net) (end pins : ℕ) (t : Tabled u m end pins) whe
     at-map (x ∷ xs) (suc j) l = at-map xs j (omega arith)
 
     -- the j-th of the memory's list is the output of the definition's j-th register
-    pub register-at : (j : ℕ) → j < c .count → In (part 1 (getD rs j 0)) (m .elements) × (getD (c .mem) (8192 + j) 0 ≡ getD rs j 0 + 1)
+    pub register-at : (j : ℕ) → j < c .count → Among (part 1 (getD rs j 0)) (m .elements) × (getD (c .mem) (8192 + j) 0 ≡ getD rs j 0 + 1)
     register-at j l =
         let n = registers-length in
         (registers-in (m .elements) (getD rs j 0) (has-at rs j (omega arith)), sym (listed-at (c .mem) (c .count) j l) ∙ ap (λ (xs : List ℕ). getD xs j 0) (lists-same c q) ∙ at-map rs j (omega arith))
 
     -- and each register is there
-    pub register-number : (i : ℕ) → In (part 1 i) (m .elements) → (place rs i < c .count) × (getD rs (place rs i) 0 ≡ i)
+    pub register-number : (i : ℕ) → Among (part 1 i) (m .elements) → (place rs i < c .count) × (getD rs (place rs i) 0 ≡ i)
     register-number i h = let n = registers-length in let r = at-place rs i (in-registers i h) in (omega (arith, r .0), r .1)
 
     -- no two are one

@@ -15,9 +15,10 @@ use Rattle.calculus.specs.Answer.{Answer, good, refused, refuse}
 use Rattle.calculus.specs.Net.{Element, point, part, Net}
 use Rattle.calculus.specs.Terms.{partAt}
 use Rattle.calculus.specs.Inputs.{madeAt, targets, isOut}
+use Rattle.calculus.specs.Record.{Among}
+use Rattle.circuit_theorems.specs.Terminals.{has}
 use Rattle.circuit_theorems.specs.Formed.{Formed}
-use Rattle.circuit_theorems.proofs.Rings.{has}
-use Rattle.trace_calculus.specs.Trace.{In, here as in-here, there as in-there, Source, from, source, looks, before, terminals, upFrom, inputs, rounds, OnRing, onRing, noRing, byte}
+use Rattle.trace_calculus.specs.Trace.{here as in-here, there as in-there, Source, from, source, looks, before, terminals, upFrom, inputs, rounds, OnRing, onRing, noneOnRing, bitByte}
 use Rattle.trace_theorems.proofs.Graph.{Back, last, step, longer, settled, settled-up, settled-free, allOf, all-at, all-settled, reach-back}
 use Rattle.trace_theorems.proofs.Sources.{closed, terminal-is, out-terminal, at-pin, Decided, is-pin, is-wire, is-point, is-part, decided, in-all, looks-at, has-left, has-right, has-append, up-has, has-up}
 use Rattle.trace_theorems.proofs.TraceRings.{on-ring, back-ring, runs-iff, accepted, Lowest, ring-place}
@@ -26,7 +27,7 @@ use Rattle.circuit_theorems.proofs.Terminals.{each-target}
 use Rattle.trace_steps.specs.Steps.{lit, firstIn, readyIn, freeIn, Looks}
 use Rattle.trace_steps.proofs.Laws.{first-low}
 use Rattle.trace_steps.proofs.SweepLaws.{looks-table}
-use Rattle.trace_rings.specs.Rings.{mark, rest, met, InputOf, Behind, first, further, Rest, Fresh, Clear, First, here, none}
+use Rattle.trace_rings.specs.Rings.{mark, rest, met, InputOf, Behind, first, further, Rest, Fresh, OnNoRing, First, here, none}
 use Rattle.trace.specs.Tables.{Tabled, Looking}
 use Rattle.trace.proofs.ElementLaws.{in-terminal, terminal-in, made-within, within-made, input-not-out}
 use Rattle.trace.proofs.GateLaws.{Input, at-a-pin, at-a-wire, input, input-low, input-before, Gate, one, two, gate-at, input-made, gate-looks, before-input, input-look, out-cases}
@@ -77,24 +78,24 @@ module _ (back : ℕ → List ℕ) where
 
 -- ---- inputs
 
-inputs-within : (es : List Element) (x : ℕ) → T (has (inputs es) x) → (a : Element) × In a es × (owners.start a ≤ x) × (x < owners.last a)
+inputs-within : (es : List Element) (x : ℕ) → T (has (inputs es) x) → (a : Element) × Among a es × (owners.start a ≤ x) × (x < owners.last a)
 inputs-within [] x t = absurd t
 inputs-within (point i ∷ es) x t =
     or-elim (eqb i x) (has (inputs es) x) t (λ v. let e = eqb→eq i x v in (point i, in-here, omega arith, omega arith)) (λ v. let r = inputs-within es x v in (r .0, in-there (r .1), r .2, r .3))
 inputs-within (part p i ∷ es) x t =
     ⊎-elim (λ v. let r = has-up (partAt p .inputs) i x v in (part p i, in-here, r .0, r .1)) (λ v. let r = inputs-within es x v in (r .0, in-there (r .1), r .2, r .3)) (has-append (upFrom (partAt p .inputs) i) (inputs es) x t)
 
-within-inputs : {es : List Element} (a : Element) (x : ℕ) → In a es → owners.start a ≤ x → x < owners.last a → T (has (inputs es) x)
+within-inputs : {es : List Element} (a : Element) (x : ℕ) → Among a es → owners.start a ≤ x → x < owners.last a → T (has (inputs es) x)
 within-inputs (point i) x (in-here {xs = es}) l h = let e : i ≡ x = omega arith in or-left (eqb i x) (has (inputs es) x) (subst (λ (z : ℕ). T (eqb i z)) e (eqb-refl i))
 within-inputs (part p i) x (in-here {xs = es}) l h = has-left (upFrom (partAt p .inputs) i) (inputs es) x (up-has (partAt p .inputs) i x l h)
 within-inputs a x (in-there {y = point j} {xs = es} g) l h = or-right (eqb j x) (has (inputs es) x) (within-inputs a x g l h)
 within-inputs a x (in-there {y = part q j} {xs = es} g) l h = has-right (upFrom (partAt q .inputs) j) (inputs es) x (within-inputs a x g l h)
 
 -- an output that looks at z has it among its own inputs
-owner-of : (m : Net) (ok : Formed m) (o z : ℕ) → T (isOut (m .elements) o) → T (has (before m o) z) → (a : Element) × In a (m .elements) × (owners.last a ≡ o) × (owners.start a ≤ z)
+owner-of : (m : Net) (ok : Formed m) (o z : ℕ) → T (isOut (m .elements) o) → T (has (before m o) z) → (a : Element) × Among a (m .elements) × (owners.last a ≡ o) × (owners.start a ≤ z)
 owner-of m ok o z t h = go (decided m ok o (out-terminal (m .elements) o t)) h
   where
-    go : {s : Source} → Decided m ok o s → T (has (looks s) z) → (a : Element) × In a (m .elements) × (owners.last a ≡ o) × (owners.start a ≤ z)
+    go : {s : Source} → Decided m ok o s → T (has (looks s) z) → (a : Element) × Among a (m .elements) × (owners.last a ≡ o) × (owners.start a ≤ z)
     go (is-pin a) h = absurd h
     go (is-wire v a e) h =
         let l : 1 ≤ targets (m .wires) (v .to) = in-all (λ v. 1 ≤ targets (m .wires) (v .to)) a (each-target (m .wires)) in
@@ -111,7 +112,7 @@ pub record Ground (u : List ℕ) (m : Net) (end pins total : ℕ) : Type 0 where
   pub each : (k : ℕ) → k < total → T (has (terminals (m .elements)) (rest u k)) × Looking (getD u (rest u k) 0)
   pub all : (x : ℕ) → T (has (terminals (m .elements)) x) → Looking (getD u x 0) → (k : ℕ) × (k < total) × (rest u k ≡ x)
   pub falling : (i k : ℕ) → i < k → k < total → rest u k < rest u i
-  pub marks : (x : ℕ) → x < end → mark u x ≡ byte (freeIn u x)
+  pub marks : (x : ℕ) → x < end → mark u x ≡ bitByte (freeIn u x)
   pub past : (x : ℕ) → end ≤ x → x < 8192 → mark u x ≡ 0
 
 module _ (u : List ℕ) (m : Net) (end pins total : ℕ) (g : Ground u m end pins total) where
@@ -140,7 +141,7 @@ module _ (u : List ℕ) (m : Net) (end pins total : ℕ) (g : Ground u m end pin
       ∙ ap (λ (b : Bool). b || eqb v 65526) (ne-eqb v 65521 (λ e. omega arith)) ∙ ne-eqb v 65526 six
 
   loose : (x : ℕ) → T (has (terminals es) x) → Looking (getD u x 0) → mark u x ≡ 1 → ⊥
-  loose x h l e = let z = g .marks x (t .low x h) ∙ ap byte (not-free x (low x h) l) in omega arith
+  loose x h l e = let z = g .marks x (t .low x h) ∙ ap bitByte (not-free x (low x h) l) in omega arith
 
   pub start : Start u total
   start = record {
@@ -162,8 +163,8 @@ module _ (u : List ℕ) (m : Net) (end pins total : ℕ) (g : Ground u m end pin
       z-low = let r = made-within es z h in t .low z (in-terminal (r .0) z (r .1) (r .2) (let k = r .3 in omega arith))
 
       go : Input u m end pins t z → (mark u (getD u z 0) ≡ 1) ⊎ ((i : ℕ) × (i < total) × (rest u i ≡ getD u z 0))
-      go (at-a-pin a e) = inl (ap (mark u) e ∙ g .marks z z-low ∙ ap byte (ap (λ (b : Bool). b || (eqb (getD u z 0) 65520 || (eqb (getD u z 0) 65521 || eqb (getD u z 0) 65526))) (eq-eqb (getD u z 0) z e)))
-      go (at-a-wire a b) = ⊎-elim (λ c. inr (g .all (getD u z 0) (out-terminal es (getD u z 0) b) c)) (λ c. inl (g .marks (getD u z 0) (t .low (getD u z 0) (out-terminal es (getD u z 0) b)) ∙ ap byte (c .0))) (out-cases u m end pins t (getD u z 0) b)
+      go (at-a-pin a e) = inl (ap (mark u) e ∙ g .marks z z-low ∙ ap bitByte (ap (λ (b : Bool). b || (eqb (getD u z 0) 65520 || (eqb (getD u z 0) 65521 || eqb (getD u z 0) 65526))) (eq-eqb (getD u z 0) z e)))
+      go (at-a-wire a b) = ⊎-elim (λ c. inr (g .all (getD u z 0) (out-terminal es (getD u z 0) b) c)) (λ c. inl (g .marks (getD u z 0) (t .low (getD u z 0) (out-terminal es (getD u z 0) b)) ∙ ap bitByte (c .0))) (out-cases u m end pins t (getD u z 0) b)
 
   -- an output that is settled from the start looks at nothing
   free-calm : (y : ℕ) → T (isOut es y) → mark u y ≡ 1 → Calm (before m) y
@@ -245,7 +246,7 @@ module _ (u : List ℕ) (m : Net) (end pins total : ℕ) (g : Ground u m end pin
         ⊎-elim (λ r. absurd (let q = r .1 in omega arith)) (λ r. subst (λ (x : ℕ). Calm (before m) x) (r .2 ∙ k .2) (order-calm (suc (r .0)) (r .0) (omega arith) (r .1))) (listed (k .0) (k .1)))
         (λ a. calm-of (before m) y (λ z k. absurd (subst (λ (l : List ℕ). T (has l z)) (a .1) k))) (out-cases u m end pins t y h)
 
-    pub none-left : left ≡ 0 → noRing m (inputs es) ≡ good tt
+    pub none-left : left ≡ 0 → noneOnRing m (inputs es) ≡ good tt
     none-left e = runs-iff m ok .1 (λ x r. calm-free (before m) x (calm-at x (terminal x r)) (ring-behind x r))
       where
         ring-behind : (x : ℕ) → OnRing m x → Back (before m) x x
@@ -280,7 +281,7 @@ module _ (u : List ℕ) (m : Net) (end pins total : ℕ) (g : Ground u m end pin
     pub left-fresh : Fresh w 2
     left-fresh = (omega arith, λ y l. ⊎-elim (λ q. (let b = bit-low y l in omega arith)) (λ q. (let e = q .0 in omega arith)) (s .marks y))
       where
-        byte-low : (b : Bool) → byte b < 2
+        byte-low : (b : Bool) → bitByte b < 2
         byte-low true = omega arith
         byte-low false = omega arith
 
@@ -305,7 +306,7 @@ module _ (u : List ℕ) (m : Net) (end pins total : ℕ) (g : Ground u m end pin
               pin-marked : mark u (getD u z 0) ≡ 1
               pin-marked =
                   let r = made-within es z a in
-                  ap (mark u) e ∙ g .marks z (t .low z (in-terminal (r .0) z (r .1) (r .2) (let k = r .3 in omega arith))) ∙ ap byte (ap (λ (b : Bool). b || (eqb (getD u z 0) 65520 || (eqb (getD u z 0) 65521 || eqb (getD u z 0) 65526))) (eq-eqb (getD u z 0) z e))
+                  ap (mark u) e ∙ g .marks z (t .low z (in-terminal (r .0) z (r .1) (r .2) (let k = r .3 in omega arith))) ∙ ap bitByte (ap (λ (b : Bool). b || (eqb (getD u z 0) 65520 || (eqb (getD u z 0) 65521 || eqb (getD u z 0) 65526))) (eq-eqb (getD u z 0) z e))
           go (at-a-wire p q) = subst (λ (y : ℕ). T (has (before m z) y)) (sym (source-same z a)) (subst (λ (v : Source). T (has (looks v) (getD u z 0))) (sym p) (or-left (eqb (getD u z 0) (getD u z 0)) false (eqb-refl (getD u z 0))))
 
       behind-gate : (o : ℕ) → Behind w x o → (j : ℕ) × (j < left) × (rest w j ≡ o)
@@ -339,7 +340,7 @@ module _ (u : List ℕ) (m : Net) (end pins total : ℕ) (g : Ground u m end pin
     left-or-marked z h = ⊎-elim
         (λ a. let k = g .all z (out-terminal es z h) a in
         ⊎-elim (λ r. inr (r .0, r .1, r .2 ∙ k .2)) (λ r. inl (ap (mark w) (sym (k .2) ∙ sym (r .2)) ∙ s .marked (r .0) (r .1))) (listed (k .0) (k .1)))
-        (λ a. inl (still z (g .marks z (t .low z (out-terminal es z h)) ∙ ap byte (a .0)))) (out-cases u m end pins t z h)
+        (λ a. inl (still z (g .marks z (t .low z (out-terminal es z h)) ∙ ap bitByte (a .0)))) (out-cases u m end pins t z h)
 
     module _ (x : ℕ) (made-x : 1 ≤ madeAt es x) (b : Back (before m) x x) where
       abbrev P : ℕ → Type 0
@@ -410,10 +411,10 @@ module _ (u : List ℕ) (m : Net) (end pins total : ℕ) (g : Ground u m end pin
 
     -- ---- the refusal
 
-    pub place-is : (x : ℕ) → 1 ≤ left → First w left x → noRing m (inputs es) ≡ refuse 19 x
-    place-is x l (none f) = go (noRing m (inputs es)) refl
+    pub place-is : (x : ℕ) → 1 ≤ left → First w left x → noneOnRing m (inputs es) ≡ refuse 19 x
+    place-is x l (none f) = go (noneOnRing m (inputs es)) refl
       where
-        go : (a : Answer (Unit {0})) → noRing m (inputs es) ≡ a → noRing m (inputs es) ≡ refuse 19 0
+        go : (a : Answer (Unit {0})) → noneOnRing m (inputs es) ≡ a → noneOnRing m (inputs es) ≡ refuse 19 0
         go (good tt) q = absurd (never-settled (rounds m) 0 l (all-settled (before m) (terminals es) (closed m ok) (λ y b. accepted m ok q y (back-ring m ok y b)) (rest w 0)))
         go (refused why) q =
             let r = ring-place m ok why q in
@@ -427,7 +428,7 @@ module _ (u : List ℕ) (m : Net) (end pins total : ℕ) (g : Ground u m end pin
             let r = made-within es x (input-made u m end pins t (rest w j) x (left-gate j lj) k) in
             within-inputs (r .0) x (r .1) (r .2) (r .3)
 
-        owner : (k z : ℕ) → k < left → InputOf w (rest w k) z → (a : Element) × In a es × (owners.last a ≡ rest w k) × (owners.start a ≤ z)
+        owner : (k z : ℕ) → k < left → InputOf w (rest w k) z → (a : Element) × Among a es × (owners.last a ≡ rest w k) × (owners.start a ≤ z)
         owner k z lk h =
             owner-of m ok (rest w k) z (left-out k lk) (input-look u m end pins t (rest w k) z (left-gate k lk) (input-u (rest w k) z (low (rest w k) (left-terminal k lk)) h))
 

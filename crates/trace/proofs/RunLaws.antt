@@ -16,27 +16,27 @@ use Rattle.laws.proofs.Regions.{sets-append}
 use Rattle.calculus.specs.Terms.{partAt}
 use Rattle.calculus.specs.Net.{Interface, Element, point, part, Net}
 use Rattle.calculus.specs.Lean.{isPin}
-use Rattle.calculus.specs.Record.{Bits, All}
+use Rattle.calculus.specs.Record.{Bits, All, Among}
 use Rattle.calculus.specs.Inputs.{madeAt, isOut}
+use Rattle.circuit_theorems.specs.Terminals.{has}
 use Rattle.circuit_theorems.specs.Formed.{Shown, Formed}
-use Rattle.circuit_theorems.proofs.Rings.{has}
 use Rattle.circuit_theorems.proofs.Terminals.{pin-ins}
 use Rattle.lean.specs.Table.{Within, entry}
 use Rattle.lean.proofs.TableLaws.{within-none, within-then, within-set, entry-same, entry-other}
-use Rattle.trace_calculus.specs.Trace.{In, Source, pin, from, made as made-by, source, terminals, bit, gate, run, OnRing, inPins, outPins, registers, place, givenBits, startBits, byte, row, rows}
+use Rattle.trace_calculus.specs.Trace.{Source, pin, from, made-part as made-by, source, terminals, bit, gate, run, OnRing, inPins, outPins, registers, place, givenBits, startBits, bitByte, row, rows}
 use Rattle.trace_theorems.proofs.Sources.{at-pin, at-point, at-part, out-terminal, terminal-is}
-use Rattle.trace_theorems.proofs.TraceRun.{held, tick-is}
+use Rattle.trace_theorems.proofs.TraceRun.{heldAt, tick-is}
 use Rattle.trace_theorems.proofs.Owners.{start, last}
-use Rattle.trace_steps.specs.Turns.{turns}
+use Rattle.trace_steps.specs.Turns.{takeTurns}
 use Rattle.trace_steps.specs.Steps.{lit, firstIn, gateBit, passOne, Register, Registers, holdOne, turnOne}
-use Rattle.trace_steps.specs.Pins.{Counted, counted, isIn, ins, outs, Pins, loadOne, storeOne}
-use Rattle.trace_steps.specs.Ticks.{InOrder, due, Agrees}
+use Rattle.trace_steps.specs.Pins.{Counted, counted, pinIsIn, inPinCount, outPinCount, Pins, loadOne, storeOne}
+use Rattle.trace_steps.specs.Ticks.{InOrder, due, OrderAgrees}
 use Rattle.trace_steps.proofs.Laws.{first-two, first-one}
 use Rattle.trace_steps.proofs.PassLaws.{pass-agrees}
 use Rattle.trace_steps.proofs.TickLaws.{ordered-within}
 use Rattle.trace_steps.proofs.Laws.{first-low, first-same}
 use Rattle.trace_rings.specs.Rings.{met}
-use Rattle.trace.specs.Tables.{Entry, of-pin, of-wire, of-point, of-part, Tabled, Looking}
+use Rattle.trace.specs.Tables.{TableEntry, of-pin, of-wire, of-point, of-part, Tabled, Looking}
 use Rattle.trace.proofs.Turning.{turns-keep}
 use Rattle.trace.proofs.ElementLaws.{in-out, within-made, in-terminal, made-within, input-not-out}
 use Rattle.trace.proofs.GateLaws.{Input, at-a-pin, at-a-wire, input, input-low}
@@ -52,11 +52,11 @@ pub record Stood (b : List ℕ) (m : Net) (end pins total regs : ℕ) : Type 0 w
   pub all : (x : ℕ) → T (has (terminals (m .elements)) x) → Looking (getD b x 0) → (j : ℕ) × (j < total) × (met b j ≡ x)
   pub few-registers : regs ≤ 5120
   pub count : length (registers (m .elements)) ≡ regs
-  pub register-at : (j : ℕ) → j < regs → In (part 1 (getD (registers (m .elements)) j 0)) (m .elements) × (getD b (8192 + j) 0 ≡ getD (registers (m .elements)) j 0 + 1)
-  pub register-number : (i : ℕ) → In (part 1 i) (m .elements) → (place (registers (m .elements)) i < regs) × (getD (registers (m .elements)) (place (registers (m .elements)) i) 0 ≡ i)
+  pub register-at : (j : ℕ) → j < regs → Among (part 1 (getD (registers (m .elements)) j 0)) (m .elements) × (getD b (8192 + j) 0 ≡ getD (registers (m .elements)) j 0 + 1)
+  pub register-number : (i : ℕ) → Among (part 1 i) (m .elements) → (place (registers (m .elements)) i < regs) × (getD (registers (m .elements)) (place (registers (m .elements)) i) 0 ≡ i)
   pub apart : (i j : ℕ) → i < regs → j < regs → getD (registers (m .elements)) i 0 ≡ getD (registers (m .elements)) j 0 → i ≡ j
 
-lit-byte : (c : Bool) → eqb (byte c) 1 ≡ c
+lit-byte : (c : Bool) → eqb (bitByte c) 1 ≡ c
 lit-byte true = refl
 lit-byte false = refl
 
@@ -89,11 +89,11 @@ module _ (b : List ℕ) (m : Net) (end pins total regs : ℕ) (s : Stood b m end
 
   pub record Loaded (bits : List ℕ) (w : List ℕ) (at k : ℕ) (c : Counted) : Type 0 where
     pub within : Within w (c .mem)
-    pub count : c .count ≡ at + ins b k
-    pub done : (j : ℕ) → j < k → isIn b j ≡ true → entry (c .mem) (pinAt b j) ≡ getD bits (at + ins b j) 0
-    pub others : (x : ℕ) → ((j : ℕ) → j < k → isIn b j ≡ true → pinAt b j ≡ x → ⊥) → entry (c .mem) x ≡ entry w x
+    pub count : c .count ≡ at + inPinCount b k
+    pub done : (j : ℕ) → j < k → pinIsIn b j ≡ true → entry (c .mem) (pinAt b j) ≡ getD bits (at + inPinCount b j) 0
+    pub others : (x : ℕ) → ((j : ℕ) → j < k → pinIsIn b j ≡ true → pinAt b j ≡ x → ⊥) → entry (c .mem) x ≡ entry w x
 
-  pin-is : (j : ℕ) → j < pins → isIn b j ≡ true → T (isPin (m .pins) (pinAt b j))
+  pin-is : (j : ℕ) → j < pins → pinIsIn b j ≡ true → T (isPin (m .pins) (pinAt b j))
   pin-is j l e = subst (λ (ps : Interface). T (isPin ps (pinAt b j))) shown (number-pin b pins j l e)
 
   pin-made : (x : ℕ) → T (isPin (m .pins) x) → 1 ≤ madeAt es x
@@ -102,15 +102,15 @@ module _ (b : List ℕ) (m : Net) (end pins total regs : ℕ) (s : Stood b m end
   made-terminal : (z : ℕ) → 1 ≤ madeAt es z → T (has (terminals es) z)
   made-terminal z h = let g = made-within es z h in in-terminal (g .0) z (g .1) (g .2) (let k = g .3 in omega arith)
 
-  pin-low : (j : ℕ) → j < pins → isIn b j ≡ true → pinAt b j < 8192
+  pin-low : (j : ℕ) → j < pins → pinIsIn b j ≡ true → pinAt b j < 8192
   pin-low j l e = low (pinAt b j) (made-terminal (pinAt b j) (pin-made (pinAt b j) (pin-is j l e)))
 
-  load-all : (bits w : List ℕ) (at : ℕ) → Within b w → Loaded bits w at pins (turns (loadOne bits) pins 0 (counted w at))
+  load-all : (bits w : List ℕ) (at : ℕ) → Within b w → Loaded bits w at pins (takeTurns (loadOne bits) pins 0 (counted w at))
   load-all bits w at i = turns-keep (loadOne bits) (Loaded bits w at) (counted w at)
       (record { within = within-none w; count = let z : at ≡ at + 0 = omega arith in z; done = λ j l. absurd (omega arith); others = λ x f. refl }) pins step
     where
       step : (k : ℕ) (c : Counted) → k < pins → Loaded bits w at k c → Loaded bits w at (suc k) (loadOne bits k c)
-      step k c l q = by (isIn b k) refl
+      step k c l q = by (pinIsIn b k) refl
         where
           same : getD (c .mem) (18944 + k) 0 ≡ getD b (18944 + k) 0
           same = let f = t .few-pins in q .within .below (18944 + k) (omega arith) ∙ i .below (18944 + k) (omega arith)
@@ -118,32 +118,32 @@ module _ (b : List ℕ) (m : Net) (end pins total regs : ℕ) (s : Stood b m end
           big : 32768 ≤ length (c .mem)
           big = let x = q .within .size in let y = i .size in let z = t .size in omega arith
 
-          yes-case : isIn b k ≡ true → Loaded bits w at (suc k) (counted (set (c .mem) (19072 + pinAt b k) (getD bits (c .count) 0)) (c .count + 1))
+          yes-case : pinIsIn b k ≡ true → Loaded bits w at (suc k) (counted (set (c .mem) (19072 + pinAt b k) (getD bits (c .count) 0)) (c .count + 1))
           yes-case e =
               let v = getD bits (c .count) 0 in
               let lo = pin-low k l e in
               record {
                 within = within-then (q .within) (within-set (c .mem) (pinAt b k) v lo);
-                count = (let z = q .count in let y : ins b (suc k) ≡ ins b k + 1 = ap (λ (x : Bool). ins b k + cond x 1 0) e in omega arith);
+                count = (let z = q .count in let y : inPinCount b (suc k) ≡ inPinCount b k + 1 = ap (λ (x : Bool). inPinCount b k + cond x 1 0) e in omega arith);
                 done = λ j h f. elim (ℕ-discrete j k) [
-                  | yes p ↦ ap (λ (x : ℕ). entry (set (c .mem) (19072 + pinAt b k) v) (pinAt b x)) p ∙ entry-same (c .mem) (pinAt b k) v big lo ∙ ap (λ (x : ℕ). getD bits x 0) (q .count) ∙ ap (λ (x : ℕ). getD bits (at + ins b x) 0) (sym p)
+                  | yes p ↦ ap (λ (x : ℕ). entry (set (c .mem) (19072 + pinAt b k) v) (pinAt b x)) p ∙ entry-same (c .mem) (pinAt b k) v big lo ∙ ap (λ (x : ℕ). getD bits x 0) (q .count) ∙ ap (λ (x : ℕ). getD bits (at + inPinCount b x) 0) (sym p)
                   | no d ↦ entry-other (c .mem) (pinAt b k) (pinAt b j) v (pins-apart b pins m ok shown j k (omega arith) l f e) ∙ q .done j (omega arith) f
                 ];
                 others = λ x f. entry-other (c .mem) (pinAt b k) x v (λ p. f k (omega arith) e (sym p)) ∙ q .others x (λ j h g. f j (omega arith) g);
               }
 
-          no-case : isIn b k ≡ false → Loaded bits w at (suc k) c
+          no-case : pinIsIn b k ≡ false → Loaded bits w at (suc k) c
           no-case e = record {
             within = q .within;
-            count = (let z = q .count in let y : ins b (suc k) ≡ ins b k + 0 = ap (λ (x : Bool). ins b k + cond x 1 0) e in omega arith);
+            count = (let z = q .count in let y : inPinCount b (suc k) ≡ inPinCount b k + 0 = ap (λ (x : Bool). inPinCount b k + cond x 1 0) e in omega arith);
             done = λ j h f. elim (ℕ-discrete j k) [
-              | yes p ↦ absurd (subst T (sym f ∙ ap (isIn b) p ∙ e) tt)
+              | yes p ↦ absurd (subst T (sym f ∙ ap (pinIsIn b) p ∙ e) tt)
               | no d ↦ q .done j (omega arith) f
             ];
             others = λ x f. q .others x (λ j h g. f j (omega arith) g);
           }
 
-          by : (x : Bool) → isIn b k ≡ x → Loaded bits w at (suc k) (loadOne bits k c)
+          by : (x : Bool) → pinIsIn b k ≡ x → Loaded bits w at (suc k) (loadOne bits k c)
           by true e =
               subst (Loaded bits w at (suc k))
               (sym (ap (λ (n : ℕ). cond (eqb (n % 2) 0) (counted (set (c .mem) (19072 + n / 2) (getD bits (c .count) 0)) (c .count + 1)) c) same
@@ -212,27 +212,27 @@ module _ (b : List ℕ) (m : Net) (end pins total regs : ℕ) (s : Stood b m end
 
     pub record State (n : ℕ) (w : List ℕ) : Type 0 where
       pub within : Within b w
-      pub holds : (i : ℕ) → In (part 1 i) es → lit w (i + 1) ≡ held woken β₀ n i
-      pub zeros : (i : ℕ) → In (part 0 i) es → lit w i ≡ false
-      pub ones : (i : ℕ) → In (part 6 i) es → lit w i ≡ true
+      pub holds : (i : ℕ) → Among (part 1 i) es → lit w (i + 1) ≡ heldAt woken β₀ n i
+      pub zeros : (i : ℕ) → Among (part 0 i) es → lit w i ≡ false
+      pub ones : (i : ℕ) → Among (part 6 i) es → lit w i ≡ true
 
     module _ (n : ℕ) (w : List ℕ) (c : State n w) where
       abbrev at : ℕ
       at = n * length (inPins (m .pins))
 
-      loaded : Loaded bits w at pins (turns (loadOne bits) pins 0 (counted w at))
+      loaded : Loaded bits w at pins (takeTurns (loadOne bits) pins 0 (counted w at))
       loaded = load-all bits w at (c .within)
 
       abbrev w₁ : List ℕ
-      w₁ = turns (loadOne bits) pins 0 (counted w at) .mem
+      w₁ = takeTurns (loadOne bits) pins 0 (counted w at) .mem
 
       abbrev v : List ℕ
-      v = turns passOne total 0 w₁
+      v = takeTurns passOne total 0 w₁
 
       in-w₁ : Within b w₁
       in-w₁ = within-then (c .within) (loaded .within)
 
-      agrees : Agrees w₁ total v
+      agrees : OrderAgrees w₁ total v
       agrees = pass-agrees w₁ total (order-within w₁ in-w₁)
 
       pub in-v : Within b v
@@ -295,7 +295,7 @@ module _ (b : List ℕ) (m : Net) (end pins total regs : ℕ) (s : Stood b m end
       quiet x k e (inr (inl q)) l = ⊎-elim (λ (f : getD b x 0 ≡ 65527). omega arith) (λ r. omega (arith, r .0)) l
       quiet x k e (inr (inr q)) l = ⊎-elim (λ (f : getD b x 0 ≡ 65527). omega arith) (λ r. omega (arith, r .1)) l
 
-      two-bit : (p i : ℕ) → In (part p i) es → partAt p .inputs ≡ 2 → 2 ≤ p → p < 5 → lit v (i + partAt p .inputs) ≡ gateBit p (lit v (getD b i 0)) (lit v (getD b (i + 1) 0))
+      two-bit : (p i : ℕ) → Among (part p i) es → partAt p .inputs ≡ 2 → 2 ≤ p → p < 5 → lit v (i + partAt p .inputs) ≡ gateBit p (lit v (getD b i 0)) (lit v (getD b (i + 1) 0))
       two-bit p i h e l k =
           let q = element-entry b m end pins t (part p i) h in
           due-at (i + partAt p .inputs) (out-terminal es (i + partAt p .inputs) (in-out (part p i) h)) (inr (omega arith, omega arith)) ∙ due-two v (i + partAt p .inputs) i p q k (omega arith)
@@ -303,7 +303,7 @@ module _ (b : List ℕ) (m : Net) (end pins total regs : ℕ) (s : Stood b m end
       both-bits : (f : Bool → Bool → Bool) (i : ℕ) → 1 ≤ madeAt es i → 1 ≤ madeAt es (i + 1) → f (β i) (β (i + 1)) ≡ f (lit v (getD b i 0)) (lit v (getD b (i + 1) 0))
       both-bits f i h k = ap (λ (x : Bool). f x (β (i + 1))) (made-in i h) ∙ ap (λ (x : Bool). f (lit v (getD b i 0)) x) (made-in (i + 1) k)
 
-      part-bit : (p i : ℕ) → In (part p i) es → p < 7 → lit v (i + partAt p .inputs) ≡ gate p i (held woken β₀ n) β
+      part-bit : (p i : ℕ) → Among (part p i) es → p < 7 → lit v (i + partAt p .inputs) ≡ gate p i (heldAt woken β₀ n) β
       part-bit zero i h l = let z : i + 0 ≡ i = omega arith in ap (lit v) z ∙ ap (λ (k : ℕ). eqb k 1) (stays i (subst (λ (x : ℕ). T (isOut es x)) z (in-out (part 0 i) h)) (λ q. quiet i 65520 (subst (λ (x : ℕ). getD b x 0 ≡ 65520) z (element-entry b m end pins t (part 0 i) h)) (inl refl) q)) ∙ c .zeros i h
       part-bit (suc zero) i h l = ap (λ (k : ℕ). eqb k 1) (stays (i + 1) (in-out (part 1 i) h) (λ q. quiet (i + 1) 65521 (element-entry b m end pins t (part 1 i) h) (inr (inl refl)) q)) ∙ c .holds i h
       part-bit (suc (suc zero)) i h l = two-bit 2 i h refl (omega arith) (omega arith) ∙ sym (both-bits _&&_ i (within-made (part 2 i) i h (omega arith) (omega arith)) (within-made (part 2 i) (i + 1) h (omega arith) (omega arith)))
@@ -315,13 +315,13 @@ module _ (b : List ℕ) (m : Net) (end pins total regs : ℕ) (s : Stood b m end
       part-bit (suc (suc (suc (suc (suc (suc zero)))))) i h l = let z : i + 0 ≡ i = omega arith in ap (lit v) z ∙ ap (λ (k : ℕ). eqb k 1) (stays i (subst (λ (x : ℕ). T (isOut es x)) z (in-out (part 6 i) h)) (λ q. quiet i 65526 (subst (λ (x : ℕ). getD b x 0 ≡ 65526) z (element-entry b m end pins t (part 6 i) h)) (inr (inr refl)) q)) ∙ c .ones i h
       part-bit (suc (suc (suc (suc (suc (suc (suc p))))))) i h l = absurd (omega arith)
 
-      agree : (x : ℕ) → T (has (terminals es) x) → β x ≡ bit (source m x) x (λ y. given y n) (held woken β₀ n) β
+      agree : (x : ℕ) → T (has (terminals es) x) → β x ≡ bit (source m x) x (λ y. given y n) (heldAt woken β₀ n) β
       agree x h = go (t .entries x h) refl
         where
-          on : (r : Source) → source m x ≡ r → β x ≡ bit r x (λ y. given y n) (held woken β₀ n) β → β x ≡ bit (source m x) x (λ y. given y n) (held woken β₀ n) β
-          on r e q = q ∙ ap (λ (z : Source). bit z x (λ y. given y n) (held woken β₀ n) β) (sym e)
+          on : (r : Source) → source m x ≡ r → β x ≡ bit r x (λ y. given y n) (heldAt woken β₀ n) β → β x ≡ bit (source m x) x (λ y. given y n) (heldAt woken β₀ n) β
+          on r e q = q ∙ ap (λ (z : Source). bit z x (λ y. given y n) (heldAt woken β₀ n) β) (sym e)
 
-          go : {k : ℕ} → Entry m x k → k ≡ getD b x 0 → β x ≡ bit (source m x) x (λ y. given y n) (held woken β₀ n) β
+          go : {k : ℕ} → TableEntry m x k → k ≡ getD b x 0 → β x ≡ bit (source m x) x (λ y. given y n) (heldAt woken β₀ n) β
           go (of-pin a d) e = on pin (at-pin m ok x a) (β-in x d ∙ ap (lit v) (sym e) ∙ pin-bit x a)
           go (of-wire y a d o) e = on (from y) a (β-in x d ∙ ap (lit v) (sym e) ∙ sym (β-out y o))
           go (of-point i a q) e =
@@ -360,7 +360,7 @@ module _ (b : List ℕ) (m : Net) (end pins total regs : ℕ) (s : Stood b m end
         pub done : (j : ℕ) → j < k → entry x (getD rs j 0) ≡ entry v (getD b (getD rs j 0) 0)
         pub others : (y : ℕ) → ((j : ℕ) → j < k → getD rs j 0 ≡ y → ⊥) → entry x y ≡ entry v y
 
-      hold-all : Holding regs (turns holdOne regs 0 v)
+      hold-all : Holding regs (takeTurns holdOne regs 0 v)
       hold-all = turns-keep holdOne Holding v (record { within = within-none v; done = λ j l. absurd (omega arith); others = λ y f. refl }) regs step
         where
           step : (j : ℕ) (x : List ℕ) → j < regs → Holding j x → Holding (suc j) (holdOne j x)
@@ -405,14 +405,14 @@ module _ (b : List ℕ) (m : Net) (end pins total regs : ℕ) (s : Stood b m end
               }
 
       abbrev v₁ : List ℕ
-      v₁ = turns holdOne regs 0 v
+      v₁ = takeTurns holdOne regs 0 v
 
       record Turned (k : ℕ) (x : List ℕ) : Type 0 where
         pub within : Within v₁ x
         pub done : (j : ℕ) → j < k → entry x (getD rs j 0 + 1) ≡ entry v₁ (getD rs j 0)
         pub others : (y : ℕ) → ((j : ℕ) → j < k → getD rs j 0 + 1 ≡ y → ⊥) → entry x y ≡ entry v₁ y
 
-      turn-all : Turned regs (turns turnOne regs 0 v₁)
+      turn-all : Turned regs (takeTurns turnOne regs 0 v₁)
       turn-all = turns-keep turnOne Turned v₁ (record { within = within-none v₁; done = λ j l. absurd (omega arith); others = λ y f. refl }) regs step
         where
           step : (j : ℕ) (x : List ℕ) → j < regs → Turned j x → Turned (suc j) (turnOne j x)
@@ -443,7 +443,7 @@ module _ (b : List ℕ) (m : Net) (end pins total regs : ℕ) (s : Stood b m end
               }
 
       -- an output that is no register's and no gate's
-      constant : (a : Element) → In a es → (getD b (last a) 0 ≡ 65520) ⊎ (getD b (last a) 0 ≡ 65526) → entry (turns turnOne regs 0 v₁) (last a) ≡ entry w (last a)
+      constant : (a : Element) → Among a es → (getD b (last a) 0 ≡ 65520) ⊎ (getD b (last a) 0 ≡ 65526) → entry (takeTurns turnOne regs 0 v₁) (last a) ≡ entry w (last a)
       constant a h e =
           turn-all .others (last a) (λ j l q. not-register j l q)
           ∙ hold-all .others (last a) (λ j l q. out-not-input (last a) (getD rs j 0) (in-out a h) (reg-made j l) q)
@@ -458,61 +458,61 @@ module _ (b : List ℕ) (m : Net) (end pins total regs : ℕ) (s : Stood b m end
           not-looking : Looking (getD b (last a) 0) → ⊥
           not-looking l = ⊎-elim (λ f. quiet (last a) 65520 f (inl refl) l) (λ f. quiet (last a) 65526 f (inr (inr refl)) l) e
 
-      pub state-next : State (suc n) (turns turnOne regs 0 v₁)
+      pub state-next : State (suc n) (takeTurns turnOne regs 0 v₁)
       state-next = record {
         within = within-then in-v (within-then (hold-all .within) (turn-all .within));
         holds = λ i h.
             let r = s .register-number i h in
             let k = place rs i in
             ap (λ (x : ℕ). eqb x 1)
-            (subst (λ (x : ℕ). entry (turns turnOne regs 0 v₁) (x + 1) ≡ entry v₁ x) (r .1) (turn-all .done k (r .0)) ∙ subst (λ (x : ℕ). entry v₁ x ≡ entry v (getD b x 0)) (r .1) (hold-all .done k (r .0)))
+            (subst (λ (x : ℕ). entry (takeTurns turnOne regs 0 v₁) (x + 1) ≡ entry v₁ x) (r .1) (turn-all .done k (r .0)) ∙ subst (λ (x : ℕ). entry v₁ x ≡ entry v (getD b x 0)) (r .1) (hold-all .done k (r .0)))
             ∙ sym (made-in i (within-made (part 1 i) i h (omega arith) (omega arith))) ∙ run-bit i (in-terminal (part 1 i) i h (omega arith) (omega arith));
         zeros = λ i h.
             let z : i + 0 ≡ i = omega arith in
-            subst (λ (x : ℕ). lit (turns turnOne regs 0 v₁) x ≡ lit w x) z (ap (λ (x : ℕ). eqb x 1) (constant (part 0 i) h (inl (element-entry b m end pins t (part 0 i) h)))) ∙ c .zeros i h;
+            subst (λ (x : ℕ). lit (takeTurns turnOne regs 0 v₁) x ≡ lit w x) z (ap (λ (x : ℕ). eqb x 1) (constant (part 0 i) h (inl (element-entry b m end pins t (part 0 i) h)))) ∙ c .zeros i h;
         ones = λ i h.
             let z : i + 0 ≡ i = omega arith in
-            subst (λ (x : ℕ). lit (turns turnOne regs 0 v₁) x ≡ lit w x) z (ap (λ (x : ℕ). eqb x 1) (constant (part 6 i) h (inr (element-entry b m end pins t (part 6 i) h)))) ∙ c .ones i h;
+            subst (λ (x : ℕ). lit (takeTurns turnOne regs 0 v₁) x ≡ lit w x) z (ap (λ (x : ℕ). eqb x 1) (constant (part 6 i) h (inr (element-entry b m end pins t (part 6 i) h)))) ∙ c .ones i h;
       }
 
       -- ---- the output pins
 
       record Stored (out : List ℕ) (to k : ℕ) (q : Counted) : Type 0 where
-        pub count : q .count ≡ to + outs b k
+        pub count : q .count ≡ to + outPinCount b k
         pub mem : q .mem ≡ sets out to (row β₀ n (outPins (upTo b k)))
 
-      store-all : (out : List ℕ) (to : ℕ) → Stored out to pins (turns (storeOne v) pins 0 (counted out to))
+      store-all : (out : List ℕ) (to : ℕ) → Stored out to pins (takeTurns (storeOne v) pins 0 (counted out to))
       store-all out to = turns-keep (storeOne v) (Stored out to) (counted out to) (record { count = let z : to ≡ to + 0 = omega arith in z; mem = refl }) pins step
         where
           step : (k : ℕ) (q : Counted) → k < pins → Stored out to k q → Stored out to (suc k) (storeOne v k q)
-          step k q l g = subst (Stored out to (suc k)) (sym shape) (by (isIn b k) refl)
+          step k q l g = subst (Stored out to (suc k)) (sym shape) (by (pinIsIn b k) refl)
             where
               same : getD v (18944 + k) 0 ≡ getD b (18944 + k) 0
               same = let f = t .few-pins in in-v .below (18944 + k) (omega arith)
 
-              shape : storeOne v k q ≡ cond (isIn b k) q (counted (set (q .mem) (q .count) (byte (lit v (pinAt b k)))) (q .count + 1))
-              shape = ap (λ (x : ℕ). cond (eqb (x % 2) 0) q (counted (set (q .mem) (q .count) (byte (lit v (x / 2)))) (q .count + 1))) same
+              shape : storeOne v k q ≡ cond (pinIsIn b k) q (counted (set (q .mem) (q .count) (bitByte (lit v (pinAt b k)))) (q .count + 1))
+              shape = ap (λ (x : ℕ). cond (eqb (x % 2) 0) q (counted (set (q .mem) (q .count) (bitByte (lit v (x / 2)))) (q .count + 1))) same
 
-              by : (x : Bool) → isIn b k ≡ x → Stored out to (suc k) (cond x q (counted (set (q .mem) (q .count) (byte (lit v (pinAt b k)))) (q .count + 1)))
+              by : (x : Bool) → pinIsIn b k ≡ x → Stored out to (suc k) (cond x q (counted (set (q .mem) (q .count) (bitByte (lit v (pinAt b k)))) (q .count + 1)))
               by true e = record {
-                count = g .count ∙ (let y : outs b (suc k) ≡ outs b k + 0 = ap (λ (x : Bool). outs b k + cond x 0 1) e in omega arith);
+                count = g .count ∙ (let y : outPinCount b (suc k) ≡ outPinCount b k + 0 = ap (λ (x : Bool). outPinCount b k + cond x 0 1) e in omega arith);
                 mem = g .mem ∙ ap (λ (os : List ℕ). sets out to (row β₀ n os)) (sym (out-same b k e));
               }
               by false e =
                   let o = out-shown es b pins k l e (subst (λ (ps : Interface). All (Shown es) ps) (sym shown) (ok .shown)) in
                   let r = row β₀ n (outPins (upTo b k)) in
-                  let len : length r ≡ outs b k = row-length β₀ n (outPins (upTo b k)) ∙ outs-length b k in
+                  let len : length r ≡ outPinCount b k = row-length β₀ n (outPins (upTo b k)) ∙ outs-length b k in
                   let z = g .count in
                   let at-end : q .count ≡ to + length r = omega arith in
                   record {
-                    count = (let y : outs b (suc k) ≡ outs b k + 1 = ap (λ (x : Bool). outs b k + cond x 0 1) e in omega arith);
+                    count = (let y : outPinCount b (suc k) ≡ outPinCount b k + 1 = ap (λ (x : Bool). outPinCount b k + cond x 0 1) e in omega arith);
                     mem =
-                        ap (λ (x : List ℕ). set x (q .count) (byte (lit v (pinAt b k)))) (g .mem)
-                        ∙ ap (λ (x : ℕ). set (sets out to r) x (byte (lit v (pinAt b k)))) at-end
-                        ∙ sets-append r (byte (lit v (pinAt b k)) ∷ []) out to
-                        ∙ ap (λ (x : Bool). sets out to (r ++ byte x ∷ [])) (out-bit (pinAt b k) o)
+                        ap (λ (x : List ℕ). set x (q .count) (bitByte (lit v (pinAt b k)))) (g .mem)
+                        ∙ ap (λ (x : ℕ). set (sets out to r) x (bitByte (lit v (pinAt b k)))) at-end
+                        ∙ sets-append r (bitByte (lit v (pinAt b k)) ∷ []) out to
+                        ∙ ap (λ (x : Bool). sets out to (r ++ bitByte x ∷ [])) (out-bit (pinAt b k) o)
                         ∙ ap (sets out to) (sym (ap (row β₀ n) (out-last b k e) ∙ row-snoc β₀ n (outPins (upTo b k)) (pinAt b k)));
                   }
 
-      pub row-stored : (out : List ℕ) (to : ℕ) → turns (storeOne v) pins 0 (counted out to) .mem ≡ sets out to (row β₀ n (outPins (m .pins)))
+      pub row-stored : (out : List ℕ) (to : ℕ) → takeTurns (storeOne v) pins 0 (counted out to) .mem ≡ sets out to (row β₀ n (outPins (m .pins)))
       row-stored out to = store-all out to .mem ∙ ap (λ (ps : Interface). sets out to (row β₀ n (outPins ps))) shown

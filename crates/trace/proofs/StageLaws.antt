@@ -14,38 +14,38 @@ use Rattle.calculus.specs.Answer.{Answer, good, refuse, _>>=_}
 use Rattle.calculus.specs.Net.{Interface, Element, Net}
 use Rattle.calculus.specs.Lean.{lean}
 use Rattle.calculus.specs.Translate.{saidOf, outOf}
-use Rattle.circuit_theorems.proofs.Rings.{has}
 use Rattle.circuit_theorems.proofs.Terminals.{pin-ins}
 use Rattle.calculus.specs.Lean.{isPin}
 use Rattle.calculus.specs.Record.{All}
 use Rattle.calculus.specs.Inputs.{madeAt}
 use Rattle.circuit_theorems.specs.Formed.{Shown}
 use Rattle.trace_theorems.proofs.Sources.{out-terminal}
-use Rattle.trace_steps.specs.Pins.{isIn}
+use Rattle.trace_steps.specs.Pins.{pinIsIn}
 use Rattle.memory.specs.Map.{region, terminalOf, netIn}
 use Rattle.calculus.specs.NetRead.{Known}
+use Rattle.circuit_theorems.specs.Terminals.{has}
 use Rattle.netlist.proofs.InMemory.{kind-here}
-use Rattle.lean.specs.Table.{Within, entry, Whole}
+use Rattle.lean.specs.Table.{Within, entry, Whole, Leaned}
 use Rattle.lean.proofs.TableLaws.{within-none, within-then, within-set, entry-same, entry-other}
 use Rattle.lean.proofs.LeanLaws.{kinds-low}
-use Rattle.trace_calculus.specs.Trace.{terminals, inputs, OnRing, noRing, byte, ran}
+use Rattle.trace_calculus.specs.Trace.{terminals, inputs, OnRing, noneOnRing, bitByte, ran}
 use Rattle.trace_theorems.proofs.TraceRings.{accepted}
-use Rattle.trace_steps.specs.Turns.{turns, Looped}
+use Rattle.trace_steps.specs.Turns.{takeTurns, Looped}
 use Rattle.trace_steps.specs.Steps.{firstIn, freeIn, markOne, Looks, Ordered, Register}
 use Rattle.trace_steps.specs.Names.{Namable, NamesStand}
 use Rattle.trace_steps.specs.Links.{Linked, Pinned}
-use Rattle.trace_steps.specs.Sweeps.{sweeping, Sweepable, sweeps, Settled}
+use Rattle.trace_steps.specs.Sweeps.{sweeping, Sweepable, sweeps, AllSwept}
 use Rattle.trace_steps.specs.Pins.{Pins, Listable}
 use Rattle.trace_steps.specs.Ticks.{InOrder}
 use Rattle.trace_steps.proofs.Laws.{first-low}
 use Rattle.trace_steps.proofs.SweepLaws.{looks-table}
 use Rattle.trace_rings.specs.Lists.{looksIn, Choosable, Chosen}
-use Rattle.trace_rings.specs.Rings.{mark, rest, met, InputOf, Rest, Fresh, Found}
-use Rattle.trace.specs.Tables.{Entry, Tabled, KeptRoots, Looking}
+use Rattle.trace_rings.specs.Rings.{mark, rest, met, InputOf, Rest, Fresh, RingFound}
+use Rattle.trace.specs.Tables.{TableEntry, Tabled, KeptRoots, Looking}
 use Rattle.translator.specs.Made.{Keeps}
 use Rattle.translator.proofs.Keeping.{later-keeps}
-use Rattle.translator.specs.Said.{Says}
-use Rattle.trace.specs.Said.{refusedAs, Leaned, Above, TablesMade, freed, Runnable, Safe, Freed}
+use Rattle.translator.specs.Said.{AnswerSays, refusedAs}
+use Rattle.trace.specs.Said.{Above, TablesMade, freed, Runnable, Safe, Freed}
 use Rattle.translator.specs.declared.Answer as code
 use Rattle.trace.proofs.Turning.{turns-keep}
 use Rattle.trace.proofs.GateLaws.{gate-at, gate-looks, looks-looking, looking-looks, input-low}
@@ -87,7 +87,7 @@ tabled-same u w m end pins z f g t =
       formed = t .formed;
       few = t .few;
       low = t .low;
-      entries = λ x h. (let l = t .low x h in subst (λ (v : ℕ). Entry m x v) (sym (f x (omega arith))) (t .entries x h));
+      entries = λ x h. (let l = t .low x h in subst (λ (v : ℕ). TableEntry m x v) (sym (f x (omega arith))) (t .entries x h));
       others = λ x l. ⊎-elim inl (λ h. inr (subst (λ (v : ℕ). (v < 8192) ⊎ (v ≡ 65527)) (sym (f x (omega arith))) h)) (t .others x l);
       few-pins = t .few-pins;
       shown = ap (map terminalOf) (region-ext 18944 pins u w (omega arith) (omega arith) (λ j l h. g j l (omega arith))) ∙ t .shown;
@@ -95,7 +95,7 @@ tabled-same u w m end pins z f g t =
 
 -- a pin's terminal is below 8,192
 pub pin-below : (w : List ℕ) (m : Net) (end pins : ℕ) → Tabled w m end pins → (j : ℕ) → j < pins → pinAt w j < 8192
-pin-below w m end pins t j l = by (isIn w j) refl
+pin-below w m end pins t j l = by (pinIsIn w j) refl
   where
     shown : upTo w pins ≡ m .pins
     shown = let a = t .few-pins in let c = t .size in upto-is w pins (omega arith) ∙ t .shown
@@ -103,7 +103,7 @@ pin-below w m end pins t j l = by (isIn w j) refl
     low : T (has (terminals (m .elements)) (pinAt w j)) → pinAt w j < 8192
     low h = let a = t .low (pinAt w j) h in let c = t .few in omega arith
 
-    by : (b : Bool) → isIn w j ≡ b → pinAt w j < 8192
+    by : (b : Bool) → pinIsIn w j ≡ b → pinAt w j < 8192
     by true e =
         let h : T (isPin (m .pins) (pinAt w j)) = subst (λ (ps : Interface). T (isPin ps (pinAt w j))) shown (number-pin w pins j l e) in
         let k : 1 ≤ madeAt (m .elements) (pinAt w j) = (let a = pin-ins (m .pins) (pinAt w j) h in let c = t .formed .reached (pinAt w j) in omega arith) in
@@ -148,10 +148,10 @@ module _ (w₃ : List ℕ) (m : Net) (end pins : ℕ) (t : Tabled w₃ m end pin
 
     record Marking (j : ℕ) (w : List ℕ) : Type 0 where
       pub within : Within w₄ w
-      pub done : (x : ℕ) → x < j → mark w x ≡ byte (freeIn w₄ x)
+      pub done : (x : ℕ) → x < j → mark w x ≡ bitByte (freeIn w₄ x)
       pub others : (x : ℕ) → j ≤ x → mark w x ≡ mark w₄ x
 
-    mark-all : (n : ℕ) → n ≤ 8192 → Marking n (turns markOne n 0 w₄)
+    mark-all : (n : ℕ) → n ≤ 8192 → Marking n (takeTurns markOne n 0 w₄)
     mark-all n few = turns-keep markOne Marking w₄ (record { within = within-none w₄; done = λ x l. absurd (omega arith); others = λ x l. refl }) n step
       where
         step : (j : ℕ) (w : List ℕ) → j < n → Marking j w → Marking (suc j) (markOne j w)
@@ -161,12 +161,12 @@ module _ (w₃ : List ℕ) (m : Net) (end pins : ℕ) (t : Tabled w₃ m end pin
             let b = marking-size in
             let same : freeIn w j ≡ freeIn w₄ j = ap (λ (v : ℕ). eqb v j || (eqb v 65520 || (eqb v 65521 || eqb v 65526))) e in
             record {
-              within = within-then (q .within) (within-set w j (byte (freeIn w j)) (omega arith));
+              within = within-then (q .within) (within-set w j (bitByte (freeIn w j)) (omega arith));
               done = λ x h. elim (ℕ-discrete x j) [
-                | yes z ↦ ap (mark (markOne j w)) z ∙ entry-same w j (byte (freeIn w j)) (omega arith) (omega arith) ∙ ap byte same ∙ ap (λ (y : ℕ). byte (freeIn w₄ y)) (sym z)
-                | no d ↦ entry-other w j x (byte (freeIn w j)) d ∙ q .done x (omega arith)
+                | yes z ↦ ap (mark (markOne j w)) z ∙ entry-same w j (bitByte (freeIn w j)) (omega arith) (omega arith) ∙ ap bitByte same ∙ ap (λ (y : ℕ). bitByte (freeIn w₄ y)) (sym z)
+                | no d ↦ entry-other w j x (bitByte (freeIn w j)) d ∙ q .done x (omega arith)
               ];
-              others = λ x h. entry-other w j x (byte (freeIn w j)) (λ z. omega arith) ∙ q .others x (omega arith);
+              others = λ x h. entry-other w j x (bitByte (freeIn w j)) (λ z. omega arith) ∙ q .others x (omega arith);
             }
 
     module _ (u : List ℕ) (l : Looped markOne end w₄ u) where
@@ -196,7 +196,7 @@ module _ (w₃ : List ℕ) (m : Net) (end pins : ℕ) (t : Tabled w₃ m end pin
         each = listed-at;
         all = λ x h g. (let lo = t .low x h in let f = t .few in let r = c .all x lo (looking-looks w₃ m end pins t x k h (subst Looking (same x (omega arith)) g)) in (r .0, r .1, list-same (r .0) (r .1) ∙ r .2));
         falling = λ i j a b. (let p = list-same i (omega arith) in let q = list-same j b in let z = c .falling i j a b in omega arith);
-        marks = λ x h. (let f = t .few in marked .done x h ∙ ap byte (ap (λ (v : ℕ). eqb v x || (eqb v 65520 || (eqb v 65521 || eqb v 65526))) (sym (l .within .below x (omega arith)))));
+        marks = λ x h. (let f = t .few in marked .done x h ∙ ap bitByte (ap (λ (v : ℕ). eqb v x || (eqb v 65520 || (eqb v 65521 || eqb v 65526))) (sym (l .within .below x (omega arith)))));
         past = λ x h g. marked .others x h ∙ c .above (19072 + x) (omega arith) ∙ k .past x h g;
       }
 
@@ -208,7 +208,7 @@ module _ (w₃ : List ℕ) (m : Net) (end pins : ℕ) (t : Tabled w₃ m end pin
 
 -- ---- after the sweeps
 
-module _ (u : List ℕ) (m : Net) (end pins total : ℕ) (g : Ground u m end pins total) (w : List ℕ) (left : ℕ) (s : Settled u total w left) where
+module _ (u : List ℕ) (m : Net) (end pins total : ℕ) (g : Ground u m end pins total) (w : List ℕ) (left : ℕ) (s : AllSwept u total w left) where
   abbrev ended : End u total (start u m end pins total g) w left (total - left)
   ended = settled-end u total (start u m end pins total g) w left (s .whole)
 
@@ -303,7 +303,7 @@ module _ (u : List ℕ) (m : Net) (end pins total : ℕ) (g : Ground u m end pin
               source = subst (λ (y : ℕ). getD w y 0 < 8192) i (input-low w m end pins tabled-w (r .0) (within-made _ (r .0) (r .1) (omega arith) (omega arith)));
             }
 
-    pub no-ring : noRing m (inputs (m .elements)) ≡ good tt
+    pub no-ring : noneOnRing m (inputs (m .elements)) ≡ good tt
     no-ring = none-left u m end pins total g w left (total - left) ended z
 
   -- ---- some left
@@ -312,7 +312,7 @@ module _ (u : List ℕ) (m : Net) (end pins total : ℕ) (g : Ground u m end pin
     pub rest-ready : Rest w left × Fresh w 2
     rest-ready = (left-rest u m end pins total g w left (total - left) ended, left-fresh u m end pins total g w left (total - left) ended)
 
-    pub ring-found : (v : List ℕ) (x : ℕ) → Found w left v x → noRing m (inputs (m .elements)) ≡ refuse 19 x
+    pub ring-found : (v : List ℕ) (x : ℕ) → RingFound w left v x → noneOnRing m (inputs (m .elements)) ≡ refuse 19 x
     ring-found v x f = place-is u m end pins total g w left (total - left) ended x some (f .place)
 
 -- ---- what is said
@@ -323,15 +323,15 @@ stop a k n x e = ap (λ (z : Answer (Unit {0})). z >>= k) e
 go-on : {A : Type 0} (a : Answer (Unit {0})) (k : Unit {0} → Answer A) → a ≡ good tt → (a >>= k) ≡ k tt
 go-on a k e = ap (λ (z : Answer (Unit {0})). z >>= k) e
 
-pub ring-says : (m : Net) (n : ℕ) (bits starts out : List ℕ) (x : ℕ) → noRing m (inputs (m .elements)) ≡ refuse 19 x → Says (refusedAs 19 x) out out (ran m n bits starts (length out))
+pub ring-says : (m : Net) (n : ℕ) (bits starts out : List ℕ) (x : ℕ) → noneOnRing m (inputs (m .elements)) ≡ refuse 19 x → AnswerSays (refusedAs 19 x) out out (ran m n bits starts (length out))
 unfolding ran
 ring-says m n bits starts out x e =
-    let f = stop (noRing m (inputs (m .elements))) _ 19 x e in
+    let f = stop (noneOnRing m (inputs (m .elements))) _ 19 x e in
     record { said = sym (ap saidOf f); wrote = sym (ap (λ (a : Answer (List ℕ)). outOf a out) f) }
 
-pub ran-freed : (m : Net) (n : ℕ) (bits starts : List ℕ) (room : ℕ) → noRing m (inputs (m .elements)) ≡ good tt → ran m n bits starts room ≡ freed m n bits starts room
+pub ran-freed : (m : Net) (n : ℕ) (bits starts : List ℕ) (room : ℕ) → noneOnRing m (inputs (m .elements)) ≡ good tt → ran m n bits starts room ≡ freed m n bits starts room
 unfolding ran freed
-ran-freed m n bits starts room e = go-on (noRing m (inputs (m .elements))) _ e
+ran-freed m n bits starts room e = go-on (noneOnRing m (inputs (m .elements))) _ e
 
 -- ---- all stages
 
@@ -351,14 +351,14 @@ module _ (u : List ℕ) (e k p : ℕ) (w₃ : List ℕ) (end : ℕ) (md : Tables
   large : 32768 ≤ length u
   large = let a = md .tabled .size in let b = md .kept .size in omega arith
 
-  module _ (w₆ : List ℕ) (left : ℕ) (st : Settled w₅ total w₆ left) where
+  module _ (w₆ : List ℕ) (left : ℕ) (st : AllSwept w₅ total w₆ left) where
     kept₆ : Above u w₆
     kept₆ = above-then (md .kept) (above-then (above-u w₃ L end p (md .tabled) (md .roots) w₄ total ch w₅ mk) (above-w w₅ L end p total grounded w₆ left st))
 
     pub lowest-ready : 1 ≤ left → Rest w₆ left × Fresh w₆ 2
     lowest-ready l = rest-ready w₅ L end p total grounded w₆ left st l
 
-    pub ring-ran : 1 ≤ left → (w₇ : List ℕ) (x : ℕ) → Found w₆ left w₇ x → (n : ℕ) (bits starts out : List ℕ) → Says (refusedAs 19 x) out out (ran L n bits starts (length out)) × Keeps u w₇
+    pub ring-ran : 1 ≤ left → (w₇ : List ℕ) (x : ℕ) → RingFound w₆ left w₇ x → (n : ℕ) (bits starts out : List ℕ) → AnswerSays (refusedAs 19 x) out out (ran L n bits starts (length out)) × Keeps u w₇
     ring-ran l w₇ x f n bits starts out = (
       ring-says L n bits starts out x (ring-found w₅ L end p total grounded w₆ left st l w₇ x f),
       above-keeps u w₇ large (above-then kept₆ (record { size = f .kept .size; above = f .kept .above })),
@@ -367,8 +367,8 @@ module _ (u : List ℕ) (e k p : ℕ) (w₃ : List ℕ) (end : ℕ) (md : Tables
     pub free-ready : left ≡ 0 → (n : ℕ) → n ≤ 65535 → Safe w₆ end total p n
     free-ready z n h = safe w₅ L end p total grounded w₆ left st z n h
 
-    pub free-ran : left ≡ 0 → (n : ℕ) (bits starts out₀ w₇ out : List ℕ) (r : code.Answer) → Freed w₆ end total p n bits starts out₀ w₇ out r → Says r out₀ out (ran L n bits starts (length out₀)) × Keeps u w₇
+    pub free-ran : left ≡ 0 → (n : ℕ) (bits starts out₀ w₇ out : List ℕ) (r : code.Answer) → Freed w₆ end total p n bits starts out₀ w₇ out r → AnswerSays r out₀ out (ran L n bits starts (length out₀)) × Keeps u w₇
     free-ran z n bits starts out₀ w₇ out r f = (
-      subst (Says r out₀ out) (sym (ran-freed L n bits starts (length out₀) (no-ring w₅ L end p total grounded w₆ left st z))) (f .says L (runnable w₅ L end p total grounded w₆ left st z)),
+      subst (AnswerSays r out₀ out) (sym (ran-freed L n bits starts (length out₀) (no-ring w₅ L end p total grounded w₆ left st z))) (f .says L (runnable w₅ L end p total grounded w₆ left st z)),
       above-keeps u w₇ large (above-then kept₆ (f .kept)),
     )

@@ -15,14 +15,14 @@ use Rattle.laws.proofs.Regions.{region-length, region-at}
 use Rattle.calculus.specs.Terms.{partAt}
 use Rattle.calculus.specs.Net.{Terminal, inp, out, Interface, Element, point, part, Wire, Net}
 use Rattle.calculus.specs.Lean.{driver, isPin, root, kept, keep, leanPin, lean}
-use Rattle.calculus.specs.Record.{All}
+use Rattle.calculus.specs.Record.{All, Among, here, there}
 use Rattle.calculus.specs.Inputs.{madeAt, isOut}
 use Rattle.circuit_theorems.specs.Formed.{Shown, Formed}
-use Rattle.circuit_theorems.proofs.Rings.{has}
 use Rattle.circuit_theorems.proofs.Terminals.{made-high, made-one, out-high}
 use Rattle.circuit_theorems.proofs.Forming.{lean-formed}
-use Rattle.memory.specs.Map.{region, kindOf, elementsFrom, terminalOf, netIn, Ready}
+use Rattle.memory.specs.Map.{region, kindNumber, elementsFrom, terminalOf, netIn, Ready}
 use Rattle.calculus.specs.NetRead.{Known}
+use Rattle.circuit_theorems.specs.Terminals.{has}
 use Rattle.netlist.specs.Elements.{after, afterAll}
 use Rattle.netlist.proofs.Elements.{after-rises}
 use Rattle.netlist.specs.Elements.{outputOf}
@@ -30,13 +30,13 @@ use Rattle.lean.specs.Table.{entry, Whole}
 use Rattle.lean.proofs.KindLaws.{output-low, after-output, output-from, tiled-after}
 use Rattle.lean.proofs.DriverLaws.{rising, output-below, input-below, driver-out, pin-none, driver-in}
 use Rattle.lean.proofs.LeanLaws.{entry-root}
-use Rattle.trace_calculus.specs.Trace.{In, here, there, Source, pin, from, made as made-by, source, terminals}
+use Rattle.trace_calculus.specs.Trace.{Source, pin, from, made-part as made-by, source, terminals}
 use Rattle.trace_theorems.proofs.Sources.{in-all, Decided, is-pin, is-wire, is-point, is-part, decided, at-wire, out-not-made, out-of-point, out-of-part, terminal-is, point-terminal, part-terminal, out-terminal}
 use Rattle.trace_theorems.proofs.Owners.{in-cons, keep-in, in-keep, pin-map, last, FromRoot, lean-root}
-use Rattle.trace_steps.specs.Turns.{turns}
-use Rattle.trace_steps.specs.Names.{named}
+use Rattle.trace_steps.specs.Turns.{takeTurns}
+use Rattle.trace_steps.specs.Names.{namedOutputs}
 use Rattle.trace_steps.specs.Links.{linkOf, linkIn, linkOne, rootedIn, pinOne}
-use Rattle.trace.specs.Tables.{Entry, of-pin, of-wire, of-point, of-part, Tabled}
+use Rattle.trace.specs.Tables.{TableEntry, of-pin, of-wire, of-point, of-part, Tabled}
 use Rattle.trace.proofs.Turning.{turns-keep}
 
 other : (w : List ℕ) (i j v : ℕ) → (j ≡ i → ⊥) → getD (set w i v) j 0 ≡ getD w j 0
@@ -44,7 +44,7 @@ other w i j v d = let ne : j ≢ i = d in getD-set-other w i j v 0 ne
 
 -- ---- naming
 
-named-before : (ks : List ℕ) (n : ℕ) (w : List ℕ) (x : ℕ) → x < n → getD (named w ks n) x 0 ≡ getD w x 0
+named-before : (ks : List ℕ) (n : ℕ) (w : List ℕ) (x : ℕ) → x < n → getD (namedOutputs w ks n) x 0 ≡ getD w x 0
 named-before [] n w x h = refl
 named-before (k ∷ ks) n w x h =
     let a = output-from k n in
@@ -52,7 +52,7 @@ named-before (k ∷ ks) n w x h =
     named-before ks (after k n) (set w (outputOf k n) (65520 + k)) x (omega arith) ∙ other w (outputOf k n) x (65520 + k) (λ e. omega arith)
 
 -- an entry that is no output's
-pub named-other : (ks : List ℕ) (n : ℕ) (w : List ℕ) (x : ℕ) → isOut (elementsFrom ks n) x ≡ false → getD (named w ks n) x 0 ≡ getD w x 0
+pub named-other : (ks : List ℕ) (n : ℕ) (w : List ℕ) (x : ℕ) → isOut (elementsFrom ks n) x ≡ false → getD (namedOutputs w ks n) x 0 ≡ getD w x 0
 named-other [] n w x h = refl
 named-other (k ∷ ks) n w x h = by (eqb k 7) h (λ v n. named-other ks n v x)
   where
@@ -60,29 +60,29 @@ named-other (k ∷ ks) n w x h = by (eqb k 7) h (λ v n. named-other ks n v x)
     apart o c g = by-eqb (λ b. b || c ≡ false → (x ≡ o → ⊥) × (c ≡ false)) o x (λ e f. absurd (subst T f tt)) (λ d f. ((λ z. d (sym z)), f)) g
 
     by : (b : Bool) → isOut (cond b (point n ∷ elementsFrom ks (n + 2)) (part k n ∷ elementsFrom ks (n + partAt k .inputs + 1))) x ≡ false
-        → ((v : List ℕ) (n : ℕ) → isOut (elementsFrom ks n) x ≡ false → getD (named v ks n) x 0 ≡ getD v x 0)
-        → getD (named (set w (cond b (n + 1) (n + partAt k .inputs)) (65520 + k)) ks (cond b (n + 2) (n + partAt k .inputs + 1))) x 0 ≡ getD w x 0
+        → ((v : List ℕ) (n : ℕ) → isOut (elementsFrom ks n) x ≡ false → getD (namedOutputs v ks n) x 0 ≡ getD v x 0)
+        → getD (namedOutputs (set w (cond b (n + 1) (n + partAt k .inputs)) (65520 + k)) ks (cond b (n + 2) (n + partAt k .inputs + 1))) x 0 ≡ getD w x 0
     by true g f = let a = apart (n + 1) (isOut (elementsFrom ks (n + 2)) x) g in f _ (n + 2) (a .1) ∙ other w (n + 1) x (65520 + k) (a .0)
     by false g f = let a = apart (n + partAt k .inputs) (isOut (elementsFrom ks (n + partAt k .inputs + 1)) x) g in f _ (n + partAt k .inputs + 1) (a .1) ∙ other w (n + partAt k .inputs) x (65520 + k) (a .0)
 
 -- an output's entry
-pub named-out : (ks : List ℕ) (n : ℕ) (w : List ℕ) (a : Element) → 32768 ≤ length w → afterAll ks n ≤ 8192 → In a (elementsFrom ks n) → getD (named w ks n) (last a) 0 ≡ 65520 + kindOf a
+pub named-out : (ks : List ℕ) (n : ℕ) (w : List ℕ) (a : Element) → 32768 ≤ length w → afterAll ks n ≤ 8192 → Among a (elementsFrom ks n) → getD (namedOutputs w ks n) (last a) 0 ≡ 65520 + kindNumber a
 named-out [] n w a l h g = elim g [ ]
 named-out (k ∷ ks) n w a l h g = by (eqb k 7) refl h g (λ v n. named-out ks n v a)
   where
-    by : (b : Bool) → eqb k 7 ≡ b → afterAll ks (cond b (n + 2) (n + partAt k .inputs + 1)) ≤ 8192 → In a (cond b (point n ∷ elementsFrom ks (n + 2)) (part k n ∷ elementsFrom ks (n + partAt k .inputs + 1)))
-        → ((v : List ℕ) (n : ℕ) → 32768 ≤ length v → afterAll ks n ≤ 8192 → In a (elementsFrom ks n) → getD (named v ks n) (last a) 0 ≡ 65520 + kindOf a)
-        → getD (named (set w (cond b (n + 1) (n + partAt k .inputs)) (65520 + k)) ks (cond b (n + 2) (n + partAt k .inputs + 1))) (last a) 0 ≡ 65520 + kindOf a
+    by : (b : Bool) → eqb k 7 ≡ b → afterAll ks (cond b (n + 2) (n + partAt k .inputs + 1)) ≤ 8192 → Among a (cond b (point n ∷ elementsFrom ks (n + 2)) (part k n ∷ elementsFrom ks (n + partAt k .inputs + 1)))
+        → ((v : List ℕ) (n : ℕ) → 32768 ≤ length v → afterAll ks n ≤ 8192 → Among a (elementsFrom ks n) → getD (namedOutputs v ks n) (last a) 0 ≡ 65520 + kindNumber a)
+        → getD (namedOutputs (set w (cond b (n + 1) (n + partAt k .inputs)) (65520 + k)) ks (cond b (n + 2) (n + partAt k .inputs + 1))) (last a) 0 ≡ 65520 + kindNumber a
     by true q h g f =
         let low = after-rises ks (n + 2) in
         ⊎-elim
-        (λ (e : a ≡ point n). subst (λ (z : Element). getD (named (set w (n + 1) (65520 + k)) ks (n + 2)) (last z) 0 ≡ 65520 + kindOf z) (sym e)
+        (λ (e : a ≡ point n). subst (λ (z : Element). getD (namedOutputs (set w (n + 1) (65520 + k)) ks (n + 2)) (last z) 0 ≡ 65520 + kindNumber z) (sym e)
         (named-before ks (n + 2) (set w (n + 1) (65520 + k)) (n + 1) (omega arith) ∙ getD-set-same w (n + 1) (65520 + k) 0 (omega arith) ∙ ap (λ (z : ℕ). 65520 + z) (eqb→eq k 7 (subst T (sym q) tt))))
         (λ t. f (set w (n + 1) (65520 + k)) (n + 2) (simp length-set l) h t) (in-cons (point n) (elementsFrom ks (n + 2)) g)
     by false q h g f =
         let low = after-rises ks (n + partAt k .inputs + 1) in
         ⊎-elim
-        (λ (e : a ≡ part k n). subst (λ (z : Element). getD (named (set w (n + partAt k .inputs) (65520 + k)) ks (n + partAt k .inputs + 1)) (last z) 0 ≡ 65520 + kindOf z) (sym e)
+        (λ (e : a ≡ part k n). subst (λ (z : Element). getD (namedOutputs (set w (n + partAt k .inputs) (65520 + k)) ks (n + partAt k .inputs + 1)) (last z) 0 ≡ 65520 + kindNumber z) (sym e)
         (named-before ks (n + partAt k .inputs + 1) (set w (n + partAt k .inputs) (65520 + k)) (n + partAt k .inputs) (omega arith) ∙ getD-set-same w (n + partAt k .inputs) (65520 + k) 0 (omega arith)))
         (λ t. f (set w (n + partAt k .inputs) (65520 + k)) (n + partAt k .inputs + 1) (simp length-set l) h t) (in-cons (part k n) (elementsFrom ks (n + partAt k .inputs + 1)) g)
 
@@ -93,7 +93,7 @@ pub record LinkedAt (u : List ℕ) (n : ℕ) (w : List ℕ) : Type 0 where
   pub done : (x : ℕ) → x < n → getD w x 0 ≡ linkIn u x
   pub rest : (j : ℕ) → n ≤ j → getD w j 0 ≡ getD u j 0
 
-pub link-all : (u : List ℕ) (n : ℕ) → 32768 ≤ length u → n ≤ 8192 → LinkedAt u n (turns linkOne n 0 u)
+pub link-all : (u : List ℕ) (n : ℕ) → 32768 ≤ length u → n ≤ 8192 → LinkedAt u n (takeTurns linkOne n 0 u)
 link-all u n size few = turns-keep linkOne (LinkedAt u) u (record { size = refl; done = λ x l. absurd (omega arith); rest = λ j l. refl }) n step
   where
     step : (j : ℕ) (w : List ℕ) → j < n → LinkedAt u j w → LinkedAt u (suc j) (linkOne j w)
@@ -118,7 +118,7 @@ pub record PinnedAt (u : List ℕ) (n : ℕ) (w : List ℕ) : Type 0 where
   pub before : (j : ℕ) → j < 18944 → getD w j 0 ≡ getD u j 0
   pub rest : (j : ℕ) → 18944 + n ≤ j → getD w j 0 ≡ getD u j 0
 
-pub pin-all : (u : List ℕ) (n : ℕ) → 32768 ≤ length u → n ≤ 128 → PinnedAt u n (turns pinOne n 0 u)
+pub pin-all : (u : List ℕ) (n : ℕ) → 32768 ≤ length u → n ≤ 128 → PinnedAt u n (takeTurns pinOne n 0 u)
 pin-all u n size few = turns-keep pinOne (PinnedAt u) u (record { size = refl; done = λ x l. absurd (omega arith); before = λ j l. refl; rest = λ j l. refl }) n step
   where
     step : (j : ℕ) (w : List ℕ) → j < n → PinnedAt u j w → PinnedAt u (suc j) (pinOne j w)

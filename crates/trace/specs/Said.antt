@@ -9,30 +9,21 @@ use Rattle.calculus.specs.Answer.{Answer, good, _>>=_, need}
 use Rattle.calculus.specs.Net.{Net}
 use Rattle.calculus.specs.Lean.{lean}
 use Rattle.calculus.specs.Record.{All}
-use Rattle.circuit_theorems.proofs.Rings.{has}
 use Rattle.memory.specs.Map.{netIn}
 use Rattle.calculus.specs.NetRead.{Known}
+use Rattle.circuit_theorems.specs.Terminals.{has}
 use Rattle.lean.specs.Table.{Whole}
 use Rattle.trace_calculus.specs.Trace.{OnRing, terminals, inPins, outPins, registers, allBits, run, givenBits, startBits, rows}
 use Rattle.trace_steps.specs.Steps.{Ordered}
 use Rattle.trace_steps.specs.Pins.{Pins, Listable}
 use Rattle.trace_steps.specs.Ticks.{InOrder}
 use Rattle.trace_rings.specs.Rings.{met}
-use Rattle.translator.specs.Said.{Says}
+use Rattle.translator.specs.Said.{AnswerSays}
 use Rattle.trace.specs.Tables.{Tabled, KeptRoots, Looking}
 use Rattle.translator.specs.declared.Answer as code
 use Rattle.translator.specs.declared.Answer.the-variants as answer
 
--- a refusal that names no types
-abbrev pub refusedAs : ℕ → ℕ → code.Answer
-refusedAs number place = answer.Refused (record { number = number; place = place; wanted = 0; found = 0 })
-
 -- ---- the stages
-
--- a whole netlist stands in the memory with its roots, and its parts are of the seven
-pub record Leaned (w : List ℕ) (elements wires pins : ℕ) : Type 0 where
-  pub whole : Whole w elements wires pins
-  pub known : All Known (netIn w elements wires pins .elements)
 
 -- what stays from 27,264 on
 pub record Above (u w : List ℕ) : Type 0 where
@@ -76,4 +67,4 @@ pub record Runnable (w : List ℕ) (m : Net) (end settled pins : ℕ) : Type 0 w
 -- it is run, whatever netlist it is
 pub record Freed (u : List ℕ) (end settled pins ticks : ℕ) (bits starts out₀ w out : List ℕ) (r : code.Answer) : Type 0 where
   pub kept : Above u w
-  pub says : (m : Net) → Runnable u m end settled pins → Says r out₀ out (freed m ticks bits starts (length out₀))
+  pub says : (m : Net) → Runnable u m end settled pins → AnswerSays r out₀ out (freed m ticks bits starts (length out₀))

@@ -10,17 +10,18 @@ use Rattle.calculus.specs.Terms.{partAt}
 use Rattle.calculus.specs.Net.{point, part, Net}
 use Rattle.calculus.specs.Lean.{isPin}
 use Rattle.calculus.specs.Inputs.{isOut}
+use Rattle.calculus.specs.Record.{Among}
+use Rattle.circuit_theorems.specs.Terminals.{has}
 use Rattle.circuit_theorems.specs.Formed.{Formed}
-use Rattle.trace_calculus.specs.Trace.{In, pin, from, made, source, terminals}
-use Rattle.circuit_theorems.proofs.Rings.{has}
+use Rattle.trace_calculus.specs.Trace.{pin, from, made-part, source, terminals}
 use Rattle.memory.specs.Map.{region, terminalOf}
 
 -- the entry of terminal x: a pin has itself, another input the output that its wire comes from, an output 65,520 and its element's kind
-pub data Entry (m : Net) (x : ℕ) : ℕ → Type 0 where
-  of-pin : T (isPin (m .pins) x) → isOut (m .elements) x ≡ false → Entry m x x
-  of-wire : (y : ℕ) → source m x ≡ from y → isOut (m .elements) x ≡ false → T (isOut (m .elements) y) → Entry m x y
-  of-point : (i : ℕ) → In (point i) (m .elements) → i + 1 ≡ x → Entry m x 65527
-  of-part : (p i : ℕ) → In (part p i) (m .elements) → i + partAt p .inputs ≡ x → p < 7 → Entry m x (65520 + p)
+pub data TableEntry (m : Net) (x : ℕ) : ℕ → Type 0 where
+  of-pin : T (isPin (m .pins) x) → isOut (m .elements) x ≡ false → TableEntry m x x
+  of-wire : (y : ℕ) → source m x ≡ from y → isOut (m .elements) x ≡ false → T (isOut (m .elements) y) → TableEntry m x y
+  of-point : (i : ℕ) → Among (point i) (m .elements) → i + 1 ≡ x → TableEntry m x 65527
+  of-part : (p i : ℕ) → Among (part p i) (m .elements) → i + partAt p .inputs ≡ x → p < 7 → TableEntry m x (65520 + p)
 
 -- an entry of an output that looks at something: a point's, or a gate's
 abbrev pub Looking : ℕ → Type 0
@@ -32,7 +33,7 @@ pub record Tabled (w : List ℕ) (m : Net) (end pins : ℕ) : Type 0 where
   pub formed : Formed m
   pub few : end ≤ 8192
   pub low : (x : ℕ) → T (has (terminals (m .elements)) x) → x < end
-  pub entries : (x : ℕ) → T (has (terminals (m .elements)) x) → Entry m x (getD w x 0)
+  pub entries : (x : ℕ) → T (has (terminals (m .elements)) x) → TableEntry m x (getD w x 0)
   -- what belongs to a point that is not kept
   pub others : (x : ℕ) → x < end → T (has (terminals (m .elements)) x) ⊎ ((getD w x 0 < 8192) ⊎ (getD w x 0 ≡ 65527))
   pub few-pins : pins ≤ 128

@@ -9,9 +9,8 @@ use typing::Refusal;
 ghost use mathlib.Core.Path.{_≡_};
 ghost use lib.ListN.{length};
 ghost use Rattle.translator.specs.Made.{Keeps};
-ghost use Rattle.translator.specs.Said.{Says, called};
+ghost use Rattle.translator.specs.Said.{AnswerSays, called, refusedAs};
 ghost use Rattle.trace_calculus.specs.Trace.{trace, runCall};
-ghost use Rattle.trace.specs.Said.{refusedAs};
 
 // A refusal that names no types.
 fn refused(number: u8, place: usize) -> Answer
@@ -34,7 +33,7 @@ fn run_sheet(
     work: &mut [u16],
     ticks: u16,
 ) -> Answer
-    ensures { λ r. ⌜ (Says r (now (out .entry)) (now (out .exit)) (trace (length (now (work .entry))) (now (sheet .entry)) ticks (now (inputs .entry)) (now (starts .entry)) (length (now (out .entry)))))
+    ensures { λ r. ⌜ (AnswerSays r (now (out .entry)) (now (out .exit)) (trace (length (now (work .entry))) (now (sheet .entry)) ticks (now (inputs .entry)) (now (starts .entry)) (length (now (out .entry)))))
         × (Keeps (now (work .entry)) (now (work .exit))) ⌝ }
 {
     match translator::make(sheet, work, true) {

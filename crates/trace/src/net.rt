@@ -17,11 +17,11 @@ ghost use lib.ListN.{length};
 ghost use Rattle.calculus.specs.Lean.{lean};
 ghost use Rattle.calculus.specs.NetRead.{Known};
 ghost use Rattle.calculus.specs.Record.{All};
+ghost use Rattle.lean.specs.Table.{Leaned};
 ghost use Rattle.memory.specs.Map.{netIn, Ready};
 ghost use Rattle.translator.specs.Made.{Keeps};
 ghost use Rattle.trace_calculus.specs.Trace.{ran};
-ghost use Rattle.translator.specs.Said.{Says};
-ghost use Rattle.trace.specs.Said.{Leaned};
+ghost use Rattle.translator.specs.Said.{AnswerSays};
 
 // With its roots, the lean netlist is run for so many ticks: 19, 20, 17.
 fn run_lean(
@@ -35,7 +35,7 @@ fn run_lean(
     ticks: usize,
 ) -> Answer
     requires { ⌜ (Leaned (now work) elements wires pins) × (ticks ≤ 65535) ⌝ }
-    ensures { λ r. ⌜ (Says r (now (out .entry)) (now (out .exit)) (ran (lean (netIn (now (work .entry)) elements wires pins)) ticks (now (inputs .entry)) (now (starts .entry)) (length (now (out .entry)))))
+    ensures { λ r. ⌜ (AnswerSays r (now (out .entry)) (now (out .exit)) (ran (lean (netIn (now (work .entry)) elements wires pins)) ticks (now (inputs .entry)) (now (starts .entry)) (length (now (out .entry)))))
         × (Keeps (now (work .entry)) (now (work .exit))) ⌝ }
 {
     let end = tables::make(work, elements, wires, pins);
@@ -59,7 +59,7 @@ pub fn run_net(
     ticks: usize,
 ) -> Answer
     requires { ⌜ (Ready (now work) (counts .elements) (counts .wires) (counts .pins)) × (All Known (netIn (now work) (counts .elements) (counts .wires) (counts .pins) .elements)) × (ticks ≤ 65535) ⌝ }
-    ensures { λ r. ⌜ (Says r (now (out .entry)) (now (out .exit)) (ran (lean (netIn (now (work .entry)) (counts .elements) (counts .wires) (counts .pins))) ticks (now (inputs .entry)) (now (starts .entry)) (length (now (out .entry)))))
+    ensures { λ r. ⌜ (AnswerSays r (now (out .entry)) (now (out .exit)) (ran (lean (netIn (now (work .entry)) (counts .elements) (counts .wires) (counts .pins))) ticks (now (inputs .entry)) (now (starts .entry)) (length (now (out .entry)))))
         × (Keeps (now (work .entry)) (now (work .exit))) ⌝ }
 {
     let elements = counts.elements;

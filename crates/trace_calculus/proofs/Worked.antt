@@ -2,8 +2,8 @@
 use mathlib.Core.Path.{_≡_, refl}
 use mathlib.Core.List.{map}
 use Rattle.trace_calculus.specs.Trace.{ran, run, onRing, source}
-use Rattle.trace_calculus.specs.Worked.{runs, table}
+use Rattle.trace_calculus.specs.Worked.{runs, workedRuns}
 
-pub worked-runs : map (map runs) table ≡ table
+pub worked-runs : map (map runs) workedRuns ≡ workedRuns
 unfolding ran run onRing source
 worked-runs = refl

@@ -8,9 +8,9 @@ use lib.ListN.{length, drop}
 use Rattle.calculus.specs.Answer.{Refusal, good, refused, _>>=_, refuse, need}
 use Rattle.calculus.specs.Net.{Net}
 use Rattle.calculus.specs.Lean.{lean}
-use Rattle.calculus.specs.Record.{Bits, All, Possible, partLaw}
+use Rattle.calculus.specs.Record.{Bits, All, Possible, partLaw, Among}
 use Rattle.calculus.specs.Translate.{full, workOf, Call}
-use Rattle.trace_calculus.specs.Trace.{In, OnRing, terminals, inputs, inPins, outPins, registers, row, rows}
+use Rattle.trace_calculus.specs.Trace.{OnRing, terminals, inputs, inPins, outPins, registers, row, rows}
 
 -- ---- the record
 
@@ -30,7 +30,7 @@ pub record Recorded (m : Net) (n : ℕ) (bits starts : List ℕ) (β : Bits) : T
 pub record Traced (m : Net) (n : ℕ) (bits starts output after : List ℕ) : Type 0 where
   pub record-of : Bits
   pub recorded : Recorded m n bits starts record-of
-  pub only : (β : Bits) → Recorded m n bits starts β → (x : ℕ) → In x (terminals (m .elements)) → (t : ℕ) → t < n → β x t ≡ record-of x t
+  pub only : (β : Bits) → Recorded m n bits starts β → (x : ℕ) → Among x (terminals (m .elements)) → (t : ℕ) → t < n → β x t ≡ record-of x t
   pub wrote : after ≡ rows record-of (outPins (m .pins)) 0 n ++ drop (n * length (outPins (m .pins))) output
 
 -- ---- what a run asks of the lean netlist m
@@ -41,9 +41,9 @@ Ringless m = (x : ℕ) → OnRing m x → ⊥
 
 -- x is the lowest input terminal on any that does not
 pub record LowestOnRing (m : Net) (x : ℕ) : Type 0 where
-  pub input : In x (inputs (m .elements))
+  pub input : Among x (inputs (m .elements))
   pub ring : OnRing m x
-  pub lowest : (i : ℕ) → In i (inputs (m .elements)) → OnRing m i → x ≤ i
+  pub lowest : (i : ℕ) → Among i (inputs (m .elements)) → OnRing m i → x ≤ i
 
 -- input and start bits of the exact number, no byte above 1
 pub record ExactBits (m : Net) (n : ℕ) (bits starts : List ℕ) : Type 0 where

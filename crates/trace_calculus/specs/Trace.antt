@@ -9,7 +9,8 @@ use Rattle.calculus.specs.Answer.{Answer, good, _>>=_, need}
 use Rattle.calculus.specs.Terms.{partAt}
 use Rattle.calculus.specs.Net.{Terminal, inp, out, Interface, Element, point, part, Wire, Net}
 use Rattle.calculus.specs.Lean.{driver, isPin, lean}
-use Rattle.calculus.specs.Record.{Bits, All}
+use Rattle.calculus.specs.Inputs.{hasWire}
+use Rattle.calculus.specs.Record.{Bits, All, Among}
 use Rattle.calculus.specs.Translate.{full, saidOf, outOf, workOf, Call}
 
 -- ---- the bits and starts given
@@ -25,19 +26,15 @@ pub record Has (m : Net) (n : ℕ) (given : Bits) (starts : ℕ → Bool) (β : 
 
 -- ---- rings of wires, points and gates
 
-pub data In {A : Type 0} (x : A) : List A → Type 0 where
-  here : {xs : List A} → In x (x ∷ xs)
-  there : {y : A} {xs : List A} → In x xs → In x (y ∷ xs)
-
 -- terminal x decides terminal y within the tick: through a wire, a point, or a part that is no register
 pub data Feeds (m : Net) : ℕ → ℕ → Type 0 where
-  by-wire : (w : Wire) → In w (m .wires) → Feeds m (w .from) (w .to)
-  by-point : (i : ℕ) → In (point i) (m .elements) → Feeds m i (i + 1)
-  by-gate : (p i x : ℕ) → In (part p i) (m .elements) → ¬ (p ≡ 1) → i ≤ x → x < i + partAt p .inputs → Feeds m x (i + partAt p .inputs)
+  by-wire : (w : Wire) → Among w (m .wires) → Feeds m (w .from) (w .to)
+  by-point : (i : ℕ) → Among (point i) (m .elements) → Feeds m i (i + 1)
+  by-gate : (p i x : ℕ) → Among (part p i) (m .elements) → ¬ (p ≡ 1) → i ≤ x → x < i + partAt p .inputs → Feeds m x (i + partAt p .inputs)
 
 -- in one step or more
 pub data Leads (m : Net) : ℕ → ℕ → Type 0 where
-  once : {x y : ℕ} → Feeds m x y → Leads m x y
+  one-step : {x y : ℕ} → Feeds m x y → Leads m x y
   then : {x y z : ℕ} → Feeds m x y → Leads m y z → Leads m x z
 
 -- terminal x is on a ring that passes through no register
@@ -49,16 +46,12 @@ OnRing m x = Leads m x x
 pub data Source : Type 0 where
   pin : Source  -- an input without a wire
   from : ℕ → Source  -- an input: the output that its wire comes from. A point's output: the point's input
-  made : ℕ → ℕ → Source  -- a part's output: the part's number, its first terminal
-
-abbrev pub hasWire : List Wire → ℕ → Bool
-hasWire [] i = false
-hasWire (w ∷ ws) i = eqb (w .to) i || hasWire ws i
+  made-part : ℕ → ℕ → Source  -- a part's output: the part's number, its first terminal
 
 abbrev pub sourceIn : List Element → Source → ℕ → Source
 sourceIn [] d x = d
 sourceIn (point i ∷ es) d x = cond (eqb (i + 1) x) (from i) (sourceIn es d x)
-sourceIn (part p i ∷ es) d x = cond (eqb (i + partAt p .inputs) x) (made p i) (sourceIn es d x)
+sourceIn (part p i ∷ es) d x = cond (eqb (i + partAt p .inputs) x) (made-part p i) (sourceIn es d x)
 
 unfoldable pub source : Net → ℕ → Source
 source m x = sourceIn (m .elements) (cond (hasWire (m .wires) x) (from (driver (m .wires) x 0)) pin) x
@@ -67,13 +60,13 @@ source m x = sourceIn (m .elements) (cond (hasWire (m .wires) x) (from (driver (
 abbrev pub looks : Source → List ℕ
 looks pin = []
 looks (from y) = y ∷ []
-looks (made zero i) = []
-looks (made (suc zero) i) = []
-looks (made (suc (suc zero)) i) = i ∷ (i + 1) ∷ []
-looks (made (suc (suc (suc zero))) i) = i ∷ (i + 1) ∷ []
-looks (made (suc (suc (suc (suc zero)))) i) = i ∷ (i + 1) ∷ []
-looks (made (suc (suc (suc (suc (suc zero))))) i) = i ∷ []
-looks (made (suc (suc (suc (suc (suc (suc p)))))) i) = []
+looks (made-part zero i) = []
+looks (made-part (suc zero) i) = []
+looks (made-part (suc (suc zero)) i) = i ∷ (i + 1) ∷ []
+looks (made-part (suc (suc (suc zero))) i) = i ∷ (i + 1) ∷ []
+looks (made-part (suc (suc (suc (suc zero)))) i) = i ∷ (i + 1) ∷ []
+looks (made-part (suc (suc (suc (suc (suc zero))))) i) = i ∷ []
+looks (made-part (suc (suc (suc (suc (suc (suc p)))))) i) = []
 
 abbrev pub before : Net → ℕ → List ℕ
 before m x = looks (source m x)
@@ -112,9 +105,9 @@ unfoldable pub onRing : Net → ℕ → Bool
 onRing m x = reach (before m) (rounds m) x x
 
 -- 19 at the first of these that is on a ring
-abbrev pub noRing : Net → List ℕ → Answer (Unit {0})
-noRing m [] = good tt
-noRing m (i ∷ is) = need (not (onRing m i)) 19 i >>= λ _. noRing m is
+abbrev pub noneOnRing : Net → List ℕ → Answer (Unit {0})
+noneOnRing m [] = good tt
+noneOnRing m (i ∷ is) = need (not (onRing m i)) 19 i >>= λ _. noneOnRing m is
 
 -- ---- the run
 
@@ -131,7 +124,7 @@ gate (suc (suc (suc (suc (suc (suc p)))))) i held β = true
 abbrev pub bit : Source → ℕ → (ℕ → Bool) → (ℕ → Bool) → (ℕ → Bool) → Bool
 bit pin x given held β = given x
 bit (from y) x given held β = β y
-bit (made p i) x given held β = gate p i held β
+bit (made-part p i) x given held β = gate p i held β
 
 -- k rounds: in each, every terminal takes its bit from the bits of the round before
 abbrev pub settle : ℕ → Net → (ℕ → Bool) → (ℕ → Bool) → ℕ → Bool
@@ -174,12 +167,12 @@ givenBits ps bits x t = eqb (getD bits (t * length (inPins ps) + place (inPins p
 abbrev pub startBits : List Element → List ℕ → ℕ → Bool
 startBits es starts i = eqb (getD starts (place (registers es) i) 0) 1
 
-abbrev pub byte : Bool → ℕ
-byte b = cond b 1 0
+abbrev pub bitByte : Bool → ℕ
+bitByte b = cond b 1 0
 
 abbrev pub row : Bits → ℕ → List ℕ → List ℕ
 row β t [] = []
-row β t (o ∷ os) = byte (β o t) ∷ row β t os
+row β t (o ∷ os) = bitByte (β o t) ∷ row β t os
 
 abbrev pub rows : Bits → List ℕ → ℕ → ℕ → List ℕ
 rows β os t zero = []
@@ -192,7 +185,7 @@ allBits (b ∷ bs) = leb b 1 && allBits bs
 -- a lean netlist run for n ticks: 19, then 20, then 17
 unfoldable pub ran : Net → ℕ → List ℕ → List ℕ → ℕ → Answer (List ℕ)
 ran m n bits starts room = do
-  _ ← noRing m (inputs (m .elements))
+  _ ← noneOnRing m (inputs (m .elements))
   _ ← need (eqb (length bits) (n * length (inPins (m .pins))) && eqb (length starts) (length (registers (m .elements))) && (allBits bits && allBits starts)) 20 0
   _ ← need (leb (n * length (outPins (m .pins))) room) 17 (n * length (outPins (m .pins)))
   good (rows (run m (givenBits (m .pins) bits) (startBits (m .elements) starts)) (outPins (m .pins)) 0 n)

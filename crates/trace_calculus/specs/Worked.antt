@@ -6,7 +6,7 @@ use Rattle.calculus.specs.Net.{Interface, inp, out, Element, point, part, Wire,
 use Rattle.trace_calculus.specs.Trace.{ran}
 
 -- a netlist, the ticks, the bits and starts lent, the room, and the answer
-pub record Row : Type 0 where
+pub record TraceRow : Type 0 where
   pub net : Net
   pub ticks : ℕ
   pub bits : List ℕ
@@ -14,7 +14,7 @@ pub record Row : Type 0 where
   pub room : ℕ
   pub answer : Answer (List ℕ)
 
-abbrev row : Net → ℕ → List ℕ → List ℕ → ℕ → Answer (List ℕ) → Row
+abbrev row : Net → ℕ → List ℕ → List ℕ → ℕ → Answer (List ℕ) → TraceRow
 row m n bits starts room a = record { net = m; ticks = n; bits = bits; starts = starts; room = room; answer = a }
 
 abbrev net : List Element → List Wire → Interface → Net
@@ -55,7 +55,7 @@ inverter = net (part 5 2 ∷ []) (wire 3 2 ∷ []) (out 3 ∷ [])
 -- ---- the rows
 
 -- a register delays, from either start; the starts stand by rising terminal, the bits of a tick in pin order
-abbrev written : List Row
+abbrev written : List TraceRow
 written =
     row register 4 (1 ∷ 0 ∷ 1 ∷ 1 ∷ []) (0 ∷ []) 4 (good (0 ∷ 1 ∷ 0 ∷ 1 ∷ [])) ∷ row register 4 (1 ∷ 0 ∷ 1 ∷ 1 ∷ []) (1 ∷ []) 9 (good (1 ∷ 1 ∷ 0 ∷ 1 ∷ []))
     ∷ row two 5 (1 ∷ 0 ∷ 1 ∷ 1 ∷ 0 ∷ []) (1 ∷ 0 ∷ []) 5 (good (1 ∷ 0 ∷ 1 ∷ 0 ∷ 1 ∷ [])) ∷ row two 5 (1 ∷ 0 ∷ 1 ∷ 1 ∷ 0 ∷ []) (0 ∷ 1 ∷ []) 5 (good (0 ∷ 1 ∷ 1 ∷ 0 ∷ 1 ∷ []))
@@ -63,15 +63,15 @@ written =
     ∷ row gates 4 (0 ∷ 0 ∷ 0 ∷ 1 ∷ 1 ∷ 0 ∷ 1 ∷ 1 ∷ []) [] 4 (good (0 ∷ 0 ∷ 0 ∷ 1 ∷ [])) ∷ row register 0 [] (1 ∷ []) 0 (good []) ∷ []
 
 -- 19 at the lowest input of both rings, before 20; 20 for a byte 2, a bit too few and no start, also without ticks, before 17; 17
-abbrev turned : List Row
+abbrev turned : List TraceRow
 turned =
     row rings 1 [] [] 2 (refuse 19 0) ∷ row inverter 1 [] [] 1 (refuse 19 2) ∷ row inverter 1 (2 ∷ []) [] 1 (refuse 19 2) ∷ row register 2 (0 ∷ 2 ∷ []) (0 ∷ []) 2 (refuse 20 0)
     ∷ row register 2 (1 ∷ []) (0 ∷ []) 2 (refuse 20 0) ∷ row register 0 [] [] 0 (refuse 20 0) ∷ row register 2 (1 ∷ 0 ∷ []) [] 1 (refuse 20 0) ∷ row register 2 (1 ∷ 0 ∷ []) (0 ∷ []) 1 (refuse 17 2)
     ∷ []
 
 -- a row with what the definition answers
-abbrev pub runs : Row → Row
+abbrev pub runs : TraceRow → TraceRow
 runs r = row (r .net) (r .ticks) (r .bits) (r .starts) (r .room) (ran (r .net) (r .ticks) (r .bits) (r .starts) (r .room))
 
-abbrev pub table : List (List Row)
-table = written ∷ turned ∷ []
+abbrev pub workedRuns : List (List TraceRow)
+workedRuns = written ∷ turned ∷ []

@@ -10,15 +10,16 @@ use lib.ListN.{length, getD, set, length-set}
 use lib.Seq.{getD-set-same, getD-set-other}
 use lib.Dec.{T, eqb, ltb, eqb→eq}
 use borrow.Author.Tests.{eq-eqb, ne-eqb, eqb-false}
+use Rattle.circuit_theorems.specs.Terminals.{has}
 use Rattle.laws.proofs.Regions.{region-length, region-at}
 use Rattle.memory.specs.Map.{region}
-use Rattle.circuit_theorems.proofs.Rings.{has, pigeon}
+use Rattle.circuit_theorems.proofs.Rings.{pigeon}
 use Rattle.trace_theorems.proofs.Lists.{has-at}
 use Rattle.trace_steps.specs.Steps.{firstIn, Looks}
 use Rattle.trace_steps.specs.Pins.{Counted, counted}
 use Rattle.trace_steps.proofs.Laws.{first-low}
 use Rattle.trace_steps.proofs.SweepLaws.{looks-table}
-use Rattle.trace_rings.specs.Rings.{mark, rest, met, InputOf, Behind, first, further, Rest, Among, meetIn, lookIn, Fresh, Kept, Searched, Told, Clear, First, here, none, Found}
+use Rattle.trace_rings.specs.Rings.{mark, rest, met, InputOf, Behind, first, further, Rest, InputAmong, meetIn, lookIn, Fresh, Kept, Searched, SearchTold, OnNoRing, First, here, none, RingFound}
 
 other : (w : List ℕ) (i j v : ℕ) → (j ≡ i → ⊥) → getD (set w i v) j 0 ≡ getD w j 0
 other w i j v d = let ne : j ≢ i = d in getD-set-other w i j v 0 ne
@@ -313,7 +314,7 @@ module _ (u : List ℕ) (left x s : ℕ) (r : Rest u left) (f : Fresh u s) where
 
 -- ---- as code has it
 
-pub among-low : (u : List ℕ) (left x : ℕ) → Rest u left → Among u left x → x < 8192
+pub among-low : (u : List ℕ) (left x : ℕ) → Rest u left → InputAmong u left x → x < 8192
 among-low u left x r a = by (a .input)
   where
     low : rest u (a .at) < 8192
@@ -323,7 +324,7 @@ among-low u left x r a = by (a .input)
     by (inl e) = let l = low in omega (arith, first-low u (rest u (a .at)) l)
     by (inr e) = let l = low in omega arith
 
-pub among-source : (u : List ℕ) (left x : ℕ) → Rest u left → Among u left x → getD u x 0 < 8192
+pub among-source : (u : List ℕ) (left x : ℕ) → Rest u left → InputAmong u left x → getD u x 0 < 8192
 among-source u left x r a = by (a .input)
   where
     by : InputOf u (rest u (a .at)) x → getD u x 0 < 8192
@@ -333,11 +334,11 @@ among-source u left x r a = by (a .input)
 -- the source of x is met
 pub record Began (u : List ℕ) (left x s : ℕ) (v : List ℕ) (n : ℕ) : Type 0 where
   pub holds : Rest u left
-  pub among : Among u left x
+  pub among : InputAmong u left x
   pub fresh : Fresh u s
   pub whole : counted v n ≡ meetIn u (getD u x 0) s 0
 
-pub began : (u : List ℕ) (left x s y : ℕ) (v : List ℕ) (n : ℕ) → Rest u left → Among u left x → Fresh u s → y ≡ getD u x 0 → counted v n ≡ meetIn u y s 0 → Began u left x s v n
+pub began : (u : List ℕ) (left x s y : ℕ) (v : List ℕ) (n : ℕ) → Rest u left → InputAmong u left x → Fresh u s → y ≡ getD u x 0 → counted v n ≡ meetIn u y s 0 → Began u left x s v n
 began u left x s y v n r a f e q = record { holds = r; among = a; fresh = f; whole = q ∙ ap (λ (z : ℕ). meetIn u z s 0) e }
 
 -- the loop's invariant, whatever memory it began with
@@ -382,7 +383,7 @@ look-is w o s n x a v k b v′ r e f g h i =
 pub meet-after : (w : List ℕ) (y s n : ℕ) (v : List ℕ) (k : ℕ) → y < 8192 → n ≤ 5120 → counted v k ≡ meetIn w y s n → Kept w v × (k ≤ n + 1)
 meet-after w y s n v k l h e = (subst (λ (c : Counted). Kept w (c .mem)) (sym e) (meet-kept w y s n l h), subst (λ (c : Counted). c .count ≤ n + 1) (sym e) (meet-count w y s n))
 
-pub told-yes : (u : List ℕ) (x s o : ℕ) (w : List ℕ) (r : Bool) → o < 8192 → Searched u x s w → r ≡ eqb (mark w o) s → Told u x s o w r
+pub told-yes : (u : List ℕ) (x s o : ℕ) (w : List ℕ) (r : Bool) → o < 8192 → Searched u x s w → r ≡ eqb (mark w o) s → SearchTold u x s o w r
 told-yes u x s o w r l c e = record {
   searched = c;
   yes-behind = λ q. c .behind o l (eqb→eq (mark w o) s (subst (λ (b : Bool). T b) (sym q ∙ e) tt));
@@ -391,12 +392,12 @@ told-yes u x s o w r l c e = record {
 
 -- ---- the same behind, after marks have changed
 
-pub record Same (u w : List ℕ) : Type 0 where
+pub record SameMarks (u w : List ℕ) : Type 0 where
   pub kept : Kept u w
   pub settled : (y : ℕ) → mark w y ≡ 1 → mark u y ≡ 1
   pub still : (y : ℕ) → mark u y ≡ 1 → mark w y ≡ 1
 
-module _ (u w : List ℕ) (left : ℕ) (r : Rest u left) (same : Same u w) where
+module _ (u w : List ℕ) (left : ℕ) (r : Rest u left) (same : SameMarks u w) where
   abbrev k : Kept u w
   k = same .kept
 
@@ -435,10 +436,10 @@ module _ (u w : List ℕ) (left : ℕ) (r : Rest u left) (same : Same u w) where
         ⊎-elim (λ q. inl (ap (mark w) e ∙ still (getD u x 0) q)) (λ g. inr (g .0, g .1, same-rest (g .0) (g .1) ∙ g .2 ∙ sym e)) (r .shut j x l i₁);
   }
 
-  pub among-kept : (x : ℕ) → Among u left x → Among w left x
+  pub among-kept : (x : ℕ) → InputAmong u left x → InputAmong w left x
   among-kept x a = record { at = a .at; low = a .low; input = subst (λ (o : ℕ). InputOf w o x) (sym (same-rest (a .at) (a .low))) (input-same (a .at) x (a .low) (a .input)) }
 
-  module _ (x : ℕ) (a : Among u left x) where
+  module _ (x : ℕ) (a : InputAmong u left x) where
     behind-in : (o : ℕ) → Behind u x o → (i : ℕ) × (i < left) × (rest u i ≡ o)
     behind-in o (first y e d) = ⊎-elim (λ q. absurd (d (ap (mark u) e ∙ q))) (λ g. (g .0, g .1, g .2 ∙ sym e)) (r .shut (a .at) x (a .low) (a .input))
     behind-in o (further p z y b i e d) = go (behind-in p b)
@@ -477,11 +478,11 @@ first-last w o = by (ltb (getD w o 0) 65525)
     by false = omega arith
 
 pub record Seeking (u : List ℕ) (left : ℕ) (w : List ℕ) (j s : ℕ) : Type 0 where
-  pub same : Same u w
+  pub same : SameMarks u w
   pub fresh : Fresh w s
   pub count : s + 2 * j ≡ 2 + 2 * left
   pub low : j ≤ left
-  pub clear : (i : ℕ) → j ≤ i → i < left → Clear u (rest u i)
+  pub clear : (i : ℕ) → j ≤ i → i < left → OnNoRing u (rest u i)
 
 pub seeking-start : (u : List ℕ) (left : ℕ) → Fresh u 2 → Seeking u left u left 2
 seeking-start u left f = record {
@@ -493,8 +494,8 @@ seeking-start u left f = record {
 }
 
 -- a search more
-module _ (u w : List ℕ) (left : ℕ) (r : Rest u left) (same : Same u w) (x s o : ℕ) (v : List ℕ) (b : Bool) (a : Among u left x) (t : Told w x s o v b) where
-  pub same-after : Same u v
+module _ (u w : List ℕ) (left : ℕ) (r : Rest u left) (same : SameMarks u w) (x s o : ℕ) (v : List ℕ) (b : Bool) (a : InputAmong u left x) (t : SearchTold w x s o v b) where
+  pub same-after : SameMarks u v
   same-after = record {
     kept = kept-then (same .kept) (t .searched .kept);
     settled = λ y e. same .settled y (t .searched .settled y e);
@@ -520,13 +521,13 @@ module _ (u : List ℕ) (left : ℕ) (r : Rest u left) (w : List ℕ) (j i s o x
   pub seek-looks : Looks w o
   seek-looks = subst (λ (z : ℕ). Looks w z) (sym eo) (seek-rest .looks i lower)
 
-  pub first-of : Among u left x
+  pub first-of : InputAmong u left x
   first-of = record { at = i; low = lower; input = same-input u w left r (c .same) i x lower (subst (λ (z : ℕ). InputOf w z x) is-rest (inl ex)) }
 
-  pub last-of : Among u left (o - 1)
+  pub last-of : InputAmong u left (o - 1)
   last-of = record { at = i; low = lower; input = inr (ap (λ (z : ℕ). z - 1) is-rest) }
 
-  pub seek-among : Among w left x
+  pub seek-among : InputAmong w left x
   seek-among = among-kept u w left r (c .same) x first-of
 
   x-first : x ≡ firstIn u (rest u i)
@@ -535,7 +536,7 @@ module _ (u : List ℕ) (left : ℕ) (r : Rest u left) (w : List ℕ) (j i s o x
       ex ∙ ap (λ (z : ℕ). firstIn w z) is-rest ∙ ap (λ (a : ℕ). cond (ltb a 65525) (rest u i - 2) (rest u i - 1)) (c .same .kept .below (rest u i) (omega arith))
 
   -- the first input of o is on a ring
-  pub seek-first : (v : List ℕ) (b : Bool) → Told w x s o v b → b ≡ true → Found u left v x
+  pub seek-first : (v : List ℕ) (b : Bool) → SearchTold w x s o v b → b ≡ true → RingFound u left v x
   unfolding first-of
   seek-first v b t q = record {
     kept = same-after u w left r (c .same) x s o v b first-of t .kept;
@@ -547,21 +548,21 @@ module _ (u : List ℕ) (left : ℕ) (r : Rest u left) (w : List ℕ) (j i s o x
       below z l (inr q) g = let k = x-first in omega (arith, first-last u (rest u i))
 
   -- it is not, and the other input is looked at
-  module _ (v : List ℕ) (b : Bool) (t : Told w x s o v b) (q : b ≡ false) where
-    after : Same u v
+  module _ (v : List ℕ) (b : Bool) (t : SearchTold w x s o v b) (q : b ≡ false) where
+    after : SameMarks u v
     after = same-after u w left r (c .same) x s o v b first-of t
 
     pub then-rest : Rest v left
     then-rest = rest-kept u v left r after
 
-    pub then-among : Among v left (o - 1)
+    pub then-among : InputAmong v left (o - 1)
     then-among = among-kept u v left r after (o - 1) last-of
 
     not-first : Behind u x (rest u i) → ⊥
     not-first g = found-none u w left r (c .same) x s o v b first-of t q (subst (λ (z : ℕ). Behind u x z) (sym is-rest) g)
 
-    module _ (v′ : List ℕ) (b′ : Bool) (t′ : Told v (o - 1) (s + 1) o v′ b′) where
-      pub seek-last : b′ ≡ true → Found u left v′ (o - 1)
+    module _ (v′ : List ℕ) (b′ : Bool) (t′ : SearchTold v (o - 1) (s + 1) o v′ b′) where
+      pub seek-last : b′ ≡ true → RingFound u left v′ (o - 1)
       unfolding last-of
       seek-last p = record {
         kept = same-after u v left r after (o - 1) (s + 1) o v′ b′ last-of t′ .kept;
@@ -578,13 +579,13 @@ module _ (u : List ℕ) (left : ℕ) (r : Rest u left) (w : List ℕ) (j i s o x
         fresh = let k : s + 1 + 1 ≡ s + 2 = omega arith in subst (λ (z : ℕ). Fresh v′ z) k (t′ .searched .fresh);
         count = let k = c .count in omega arith;
         low = let l = lower in omega arith;
-        clear = λ k l h. elim (ℕ-discrete k i) [ yes a ↦ subst (λ (z : ℕ). Clear u (rest u z)) (sym a) clear-i | no a ↦ c .clear k (omega arith) h ];
+        clear = λ k l h. elim (ℕ-discrete k i) [ yes a ↦ subst (λ (z : ℕ). OnNoRing u (rest u z)) (sym a) clear-i | no a ↦ c .clear k (omega arith) h ];
       }
         where
-          clear-i : Clear u (rest u i)
+          clear-i : OnNoRing u (rest u i)
           clear-i z (inl a) g = not-first (subst (λ (y : ℕ). Behind u y (rest u i)) (a ∙ sym x-first) g)
           clear-i z (inr a) g =
               found-none u v left r after (o - 1) (s + 1) o v′ b′ last-of t′ p (subst (λ (y : ℕ). Behind u (o - 1) y) (sym is-rest) (subst (λ (y : ℕ). Behind u y (rest u i)) (a ∙ sym (ap (λ (z : ℕ). z - 1) is-rest)) g))
 
-pub seeking-end : (u : List ℕ) (left : ℕ) (w : List ℕ) (j s : ℕ) → j ≡ 0 → Seeking u left w j s → Found u left w 0
+pub seeking-end : (u : List ℕ) (left : ℕ) (w : List ℕ) (j s : ℕ) → j ≡ 0 → Seeking u left w j s → RingFound u left w 0
 seeking-end u left w j s e c = record { kept = c .same .kept; place = none (λ i l. c .clear i (omega arith) l) }

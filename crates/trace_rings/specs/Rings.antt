@@ -37,7 +37,7 @@ pub record Rest (w : List ℕ) (left : ℕ) : Type 0 where
   pub shut : (j x : ℕ) → j < left → InputOf w (rest w j) x → (mark w (getD w x 0) ≡ 1) ⊎ ((i : ℕ) × (i < left) × (rest w i ≡ getD w x 0))
 
 -- x is an input of one of them
-pub record Among (w : List ℕ) (left x : ℕ) : Type 0 where
+pub record InputAmong (w : List ℕ) (left x : ℕ) : Type 0 where
   pub at : ℕ
   pub low : at < left
   pub input : InputOf w (rest w at) x
@@ -74,21 +74,21 @@ pub record Searched (u : List ℕ) (x s : ℕ) (w : List ℕ) : Type 0 where
   pub fresh : Fresh w (s + 1)
 
 -- the answer of a search from x for o
-pub record Told (u : List ℕ) (x s o : ℕ) (w : List ℕ) (r : Bool) : Type 0 where
+pub record SearchTold (u : List ℕ) (x s o : ℕ) (w : List ℕ) (r : Bool) : Type 0 where
   pub searched : Searched u x s w
   pub yes-behind : r ≡ true → Behind u x o
   pub not-behind : r ≡ false → Behind u x o → ⊥
 
 -- no input of output o has o behind it
-abbrev pub Clear : List ℕ → ℕ → Type 0
-Clear w o = (x : ℕ) → InputOf w o x → Behind w x o → ⊥
+abbrev pub OnNoRing : List ℕ → ℕ → Type 0
+OnNoRing w o = (x : ℕ) → InputOf w o x → Behind w x o → ⊥
 
 -- the first input that has its own output behind it; the outputs stand by falling number
 pub data First (w : List ℕ) (left : ℕ) : ℕ → Type 0 where
   here : (j x : ℕ) → j < left → InputOf w (rest w j) x → Behind w x (rest w j)
-      → ((i : ℕ) → j < i → i < left → Clear w (rest w i)) → ((z : ℕ) → z < x → InputOf w (rest w j) z → Behind w z (rest w j) → ⊥) → First w left x
-  none : ((i : ℕ) → i < left → Clear w (rest w i)) → First w left 0
+      → ((i : ℕ) → j < i → i < left → OnNoRing w (rest w i)) → ((z : ℕ) → z < x → InputOf w (rest w j) z → Behind w z (rest w j) → ⊥) → First w left x
+  none : ((i : ℕ) → i < left → OnNoRing w (rest w i)) → First w left 0
 
-pub record Found (u : List ℕ) (left : ℕ) (w : List ℕ) (r : ℕ) : Type 0 where
+pub record RingFound (u : List ℕ) (left : ℕ) (w : List ℕ) (r : ℕ) : Type 0 where
   pub kept : Kept u w
   pub place : First u left r

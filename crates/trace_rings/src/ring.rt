@@ -8,7 +8,7 @@ ghost use Prim.Native.Nat.{_+_, _≤_, _<_};
 ghost use lib.ListN.{length, getD};
 ghost use Rattle.trace_steps.specs.Steps.{Looks};
 ghost use Rattle.trace_steps.specs.Pins.{counted};
-ghost use Rattle.trace_rings.specs.Rings.{Rest, Among, meetIn, lookIn, Fresh, Searched, Told, Found};
+ghost use Rattle.trace_rings.specs.Rings.{Rest, InputAmong, meetIn, lookIn, Fresh, Searched, SearchTold, RingFound};
 
 // Output y gets the stamp and joins the n that are met, where it is not settled and has no such stamp yet; how many are met.
 fn meet(work: &mut [u16], y: usize, stamp: u16, n: usize) -> usize
@@ -41,7 +41,7 @@ fn look(work: &mut [u16], o: usize, stamp: u16, n: usize) -> usize
 
 // All that is behind input x gets the stamp.
 fn search(work: &mut [u16], left: usize, x: usize, stamp: u16)
-    requires { ⌜ (Rest (now work) left) × (Among (now work) left x × Fresh (now work) stamp) ⌝ }
+    requires { ⌜ (Rest (now work) left) × (InputAmong (now work) left x × Fresh (now work) stamp) ⌝ }
     ensures { λ _. ⌜ Searched (now (work .entry)) x stamp (now (work .exit)) ⌝ }
 {
     let first = table::at(&work[..], x);
@@ -56,8 +56,8 @@ fn search(work: &mut [u16], left: usize, x: usize, stamp: u16)
 
 // Output o is behind its input x.
 fn on_ring(work: &mut [u16], left: usize, x: usize, o: usize, stamp: u16) -> bool
-    requires { ⌜ (Rest (now work) left) × (Among (now work) left x × (Fresh (now work) stamp × (o < 8192))) ⌝ }
-    ensures { λ r. ⌜ Told (now (work .entry)) x stamp o (now (work .exit)) r ⌝ }
+    requires { ⌜ (Rest (now work) left) × (InputAmong (now work) left x × (Fresh (now work) stamp × (o < 8192))) ⌝ }
+    ensures { λ r. ⌜ SearchTold (now (work .entry)) x stamp o (now (work .exit)) r ⌝ }
 {
     search(work, left, x, stamp);
     work[ROOTS + o] == stamp
@@ -66,7 +66,7 @@ fn on_ring(work: &mut [u16], left: usize, x: usize, o: usize, stamp: u16) -> boo
 // The lowest input on a ring. Those left stand by falling number.
 pub fn lowest(work: &mut [u16], left: usize) -> usize
     requires { ⌜ Rest (now work) left × Fresh (now work) 2 ⌝ }
-    ensures { λ r. ⌜ Found (now (work .entry)) left (now (work .exit)) r ⌝ }
+    ensures { λ r. ⌜ RingFound (now (work .entry)) left (now (work .exit)) r ⌝ }
 {
     let mut stamp: u16 = 2;
     let mut j = left;

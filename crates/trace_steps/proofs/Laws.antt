@@ -9,24 +9,24 @@ use lib.ListN.{length, getD, set}
 use lib.Dec.{eqb, ltb}
 use borrow.Author.Tests.{lt-ltb, le-ltb, eq-eqb, ne-eqb}
 use Rattle.lean.specs.Table.{Within}
-use Rattle.trace_calculus.specs.Trace.{byte}
-use Rattle.trace_steps.specs.Turns.{turns}
-use Rattle.trace_steps.specs.Steps.{firstIn, fed, readyIn, stepIn, gateBit, freeIn, Looks, Ordered, Register, Registers, holdOne, turnOne, wakeOne, passOne}
+use Rattle.trace_calculus.specs.Trace.{bitByte}
+use Rattle.trace_steps.specs.Turns.{takeTurns}
+use Rattle.trace_steps.specs.Steps.{firstIn, inputBit, readyIn, stepIn, gateBit, freeIn, Looks, Ordered, Register, Registers, holdOne, turnOne, wakeOne, passOne}
 use Rattle.lean.proofs.TableLaws.{within-then, within-set}
 
-turns-snoc : {S : Type 0} (f : ℕ → S → S) (j x : ℕ) (s : S) → turns f (suc j) x s ≡ f (x + j) (turns f j x s)
+turns-snoc : {S : Type 0} (f : ℕ → S → S) (j x : ℕ) (s : S) → takeTurns f (suc j) x s ≡ f (x + j) (takeTurns f j x s)
 turns-snoc f zero x s = let e : x + 0 ≡ x = omega arith in rw e
 turns-snoc f (suc j) x s = let e : x + suc j ≡ x + 1 + j = omega arith in rw e (turns-snoc f j (x + 1) (f x s))
 
 -- one turn more
-pub turns-next : {S : Type 0} (f : ℕ → S → S) (j : ℕ) (s t : S) → t ≡ turns f j 0 s → f j t ≡ turns f (j + 1) 0 s
+pub turns-next : {S : Type 0} (f : ℕ → S → S) (j : ℕ) (s t : S) → t ≡ takeTurns f j 0 s → f j t ≡ takeTurns f (j + 1) 0 s
 turns-next {S} f j s t q =
     let e : 0 + j ≡ j = omega arith in
-    ap (f j) q ∙ sym (ap (λ (k : ℕ). turns f k 0 s) (add-one j) ∙ turns-snoc f j 0 s ∙ ap (λ (k : ℕ). f k (turns f j 0 s)) e)
+    ap (f j) q ∙ sym (ap (λ (k : ℕ). takeTurns f k 0 s) (add-one j) ∙ turns-snoc f j 0 s ∙ ap (λ (k : ℕ). f k (takeTurns f j 0 s)) e)
 
 -- all turns
-pub turns-all : {S : Type 0} (f : ℕ → S → S) (j n : ℕ) (s t : S) → j ≡ n → t ≡ turns f j 0 s → t ≡ turns f n 0 s
-turns-all f j n s t e q = q ∙ ap (λ (k : ℕ). turns f k 0 s) e
+pub turns-all : {S : Type 0} (f : ℕ → S → S) (j n : ℕ) (s t : S) → j ≡ n → t ≡ takeTurns f j 0 s → t ≡ takeTurns f n 0 s
+turns-all f j n s t e q = q ∙ ap (λ (k : ℕ). takeTurns f k 0 s) e
 
 first-le : (w : List ℕ) (o : ℕ) → firstIn w o ≤ o
 first-le w o = by (ltb (getD w o 0) 65525)
@@ -108,11 +108,11 @@ all-yes a b e = rw e
 pub all-no : (a b : Bool) → a ≡ false → a ≡ a && b
 all-no a b e = rw e
 
-pub both-fed : (w : List ℕ) (o x : ℕ) (a b : Bool) → x ≡ firstIn w o → a ≡ fed w x → b ≡ fed w (o - 1) → a && b ≡ readyIn w o
+pub both-fed : (w : List ℕ) (o x : ℕ) (a b : Bool) → x ≡ firstIn w o → a ≡ inputBit w x → b ≡ inputBit w (o - 1) → a && b ≡ readyIn w o
 both-fed w o x a b e f g = rw (f, g, e)
 
 -- the bit that output o gets
-pub step-is : (w : List ℕ) (o x : ℕ) (a b v : Bool) (n : ℕ) → x ≡ firstIn w o → a ≡ fed w x → b ≡ fed w (o - 1) → v ≡ gateBit (getD w o 0 - 65520) a b → n ≡ byte v
+pub step-is : (w : List ℕ) (o x : ℕ) (a b v : Bool) (n : ℕ) → x ≡ firstIn w o → a ≡ inputBit w x → b ≡ inputBit w (o - 1) → v ≡ gateBit (getD w o 0 - 65520) a b → n ≡ bitByte v
     → set w (19072 + o) n ≡ stepIn w o
 step-is w o x a b v n e f g h k = rw (k, h, f, g, e)
 
@@ -139,8 +139,8 @@ differ false false = refl
 
 -- ---- loops over a memory that changes only from 19,072 on
 
-pub loop-step : (f : ℕ → List ℕ → List ℕ) (u w v : List ℕ) (j n : ℕ) → j < n → Within u w → w ≡ turns f j 0 u → v ≡ f j w → Within w (f j w)
-    → (j + 1 ≤ n) × (Within u v × (v ≡ turns f (j + 1) 0 u))
+pub loop-step : (f : ℕ → List ℕ → List ℕ) (u w v : List ℕ) (j n : ℕ) → j < n → Within u w → w ≡ takeTurns f j 0 u → v ≡ f j w → Within w (f j w)
+    → (j + 1 ≤ n) × (Within u v × (v ≡ takeTurns f (j + 1) 0 u))
 loop-step f u w v j n h i q e k = (omega arith, (subst (λ (z : List ℕ). Within u z) (sym e) (within-then i k), e ∙ turns-next f j u w q))
 
 pub hold-within : (w : List ℕ) (j : ℕ) → Register w (getD w (8192 + j) 0) → Within w (holdOne j w)

@@ -14,14 +14,14 @@ use Rattle.netlist.specs.Elements.{after, afterAll}
 use Rattle.netlist.proofs.Elements.{after-rises}
 use Rattle.netlist.specs.Elements.{outputOf}
 use Rattle.lean.proofs.KindLaws.{output-low, region-next, region-end}
-use Rattle.trace_steps.specs.Names.{named, Namable, NamesStand}
+use Rattle.trace_steps.specs.Names.{namedOutputs, Namable, NamesStand}
 
 -- i elements are done, from terminal `at` on the others are to come
 pub record Naming (u : List ℕ) (elements : ℕ) (w : List ℕ) (at i : ℕ) : Type 0 where
   pub size : length w ≡ length u
   pub above : (j : ℕ) → 8192 ≤ j → getD w j 0 ≡ getD u j 0
   pub end : afterAll (drop i (region u 13824 elements)) at ≡ afterAll (region u 13824 elements) 0
-  pub whole : named w (drop i (region u 13824 elements)) at ≡ named u (region u 13824 elements) 0
+  pub whole : namedOutputs w (drop i (region u 13824 elements)) at ≡ namedOutputs u (region u 13824 elements) 0
 
 pub naming-start : (u : List ℕ) (elements : ℕ) → Naming u elements u 0 0
 naming-start u elements = record { size = refl; above = λ j l. refl; end = refl; whole = refl }
@@ -53,7 +53,7 @@ module _ (u w : List ℕ) (elements at i : ℕ) (p : Namable u elements) (lt : i
     size = length-set w (outputOf k at) (65520 + k) ∙ s .size;
     above = λ j l. let ne : j ≢ outputOf k at = λ z. omega arith in getD-set-other w (outputOf k at) j (65520 + k) 0 ne ∙ s .above j l;
     end = end-next;
-    whole = subst (λ (xs : List ℕ). named w xs at ≡ named u ks 0) next (s .whole);
+    whole = subst (λ (xs : List ℕ). namedOutputs w xs at ≡ namedOutputs u ks 0) next (s .whole);
   }
 
 pub naming-end : (u w : List ℕ) (elements at i : ℕ) → Namable u elements → elements ≤ i → Naming u elements w at i → NamesStand u elements w at
@@ -65,7 +65,7 @@ naming-end u w elements at i p h s =
       size = s .size;
       above = s .above;
       end-is = subst (λ (xs : List ℕ). afterAll xs at ≡ afterAll (region u 13824 elements) 0) e (s .end);
-      whole = subst (λ (xs : List ℕ). named w xs at ≡ named u (region u 13824 elements) 0) e (s .whole);
+      whole = subst (λ (xs : List ℕ). namedOutputs w xs at ≡ namedOutputs u (region u 13824 elements) 0) e (s .whole);
     }
 
 -- ---- a choice by the kind

@@ -8,26 +8,26 @@ use native.Mathlib.Omega.{arith}
 use native.Mathlib.Nat.{eq-or-lt-of-le, le-of-suc-le-suc}
 use lib.ListN.{length, getD, set}
 use lib.Dec.{eqb}
-use Rattle.trace_calculus.specs.Trace.{byte}
+use Rattle.trace_calculus.specs.Trace.{bitByte}
 use Rattle.lean.specs.Table.{Within, entry}
 use Rattle.lean.proofs.TableLaws.{within-none, within-then, within-set, entry-same, entry-other}
-use Rattle.trace_steps.specs.Turns.{turns}
-use Rattle.trace_steps.specs.Steps.{lit, firstIn, fed, Looks, gateBit, stepIn, passOne, Ordered}
-use Rattle.trace_steps.specs.Ticks.{InOrder, due, Agrees}
+use Rattle.trace_steps.specs.Turns.{takeTurns}
+use Rattle.trace_steps.specs.Steps.{lit, firstIn, inputBit, Looks, gateBit, stepIn, passOne, Ordered}
+use Rattle.trace_steps.specs.Ticks.{InOrder, due, OrderAgrees}
 use Rattle.trace_steps.proofs.Laws.{first-low, first-same, turns-next}
 
-lit-byte : (b : Bool) → eqb (byte b) 1 ≡ b
+lit-byte : (b : Bool) → eqb (bitByte b) 1 ≡ b
 lit-byte true = refl
 lit-byte false = refl
 
 -- what output o gets, over the bits in v
-step-due : (w v : List ℕ) (o : ℕ) → Within w v → o < 8192 → gateBit (getD v o 0 - 65520) (fed v (firstIn v o)) (fed v (o - 1)) ≡ due w v o
+step-due : (w v : List ℕ) (o : ℕ) → Within w v → o < 8192 → gateBit (getD v o 0 - 65520) (inputBit v (firstIn v o)) (inputBit v (o - 1)) ≡ due w v o
 step-due w v o i h =
     let e = i .below o (omega arith) in
     let f = ap (λ (y : ℕ). getD v y 0) (first-same i o h) ∙ i .below (firstIn w o) (omega (arith, first-low w o h)) in
     let g = i .below (o - 1) (omega arith) in
-    ap (λ (k : ℕ). gateBit (k - 65520) (fed v (firstIn v o)) (fed v (o - 1))) e
-    ∙ ap (λ (x : ℕ). gateBit (getD w o 0 - 65520) (lit v x) (fed v (o - 1))) f ∙ ap (λ (x : ℕ). gateBit (getD w o 0 - 65520) (lit v (getD w (firstIn w o) 0)) (lit v x)) g
+    ap (λ (k : ℕ). gateBit (k - 65520) (inputBit v (firstIn v o)) (inputBit v (o - 1))) e
+    ∙ ap (λ (x : ℕ). gateBit (getD w o 0 - 65520) (lit v x) (inputBit v (o - 1))) f ∙ ap (λ (x : ℕ). gateBit (getD w o 0 - 65520) (lit v (getD w (firstIn w o) 0)) (lit v x)) g
 
 -- bits that agree at what o looks at
 due-same : (w v v′ : List ℕ) (o : ℕ) → lit v′ (getD w (firstIn w o) 0) ≡ lit v (getD w (firstIn w o) 0) → lit v′ (getD w (o - 1) 0) ≡ lit v (getD w (o - 1) 0) → due w v′ o ≡ due w v o
@@ -38,7 +38,7 @@ lit-other : (v : List ℕ) (o x n : ℕ) → (x ≡ o → ⊥) → lit (set v (1
 lit-other v o x n d = ap (λ (k : ℕ). eqb k 1) (entry-other v o x n d)
 
 module _ (w : List ℕ) (n : ℕ) (q : InOrder w n) where
-  agrees-next : (k : ℕ) (v : List ℕ) → k < n → Agrees w k v → Agrees w (suc k) (passOne k v)
+  agrees-next : (k : ℕ) (v : List ℕ) → k < n → OrderAgrees w k v → OrderAgrees w (suc k) (passOne k v)
   agrees-next k v h a = record {
     within = within-then (a .within) (within-set v o′ _ low′);
     bits = λ j l. ⊎-elim (λ (e : j ≡ k). subst (λ (x : ℕ). lit v′ (getD w (13824 + x) 0) ≡ due w v′ (getD w (13824 + x) 0)) (sym e) now) (λ (m : j < k). kept j m) (eq-or-lt-of-le (le-of-suc-le-suc l));
@@ -76,7 +76,7 @@ module _ (w : List ℕ) (n : ℕ) (q : InOrder w n) where
       now =
           ap (lit v′) (sym same)
           ∙ ap (λ (x : ℕ). eqb x 1) (entry-same v o′ _ size low′) ∙ lit-byte _
-          ∙ ap (λ (x : ℕ). gateBit (getD v x 0 - 65520) (fed v (firstIn v x)) (fed v (x - 1))) same
+          ∙ ap (λ (x : ℕ). gateBit (getD v x 0 - 65520) (inputBit v (firstIn v x)) (inputBit v (x - 1))) same
           ∙ step-due w v o (a .within) low
           ∙ sym (due-same w v v′ o (elsewhere (getD w (firstIn w o) 0) (q .first k k (omega arith) h)) (elsewhere (getD w (o - 1) 0) (q .last k k (omega arith) h)))
 
@@ -86,13 +86,13 @@ module _ (w : List ℕ) (n : ℕ) (q : InOrder w n) where
           elsewhere p (λ z. let e = q .apart j k (omega arith) h z in omega arith) ∙ a .bits j m
           ∙ sym (due-same w v v′ p (elsewhere (getD w (firstIn w p) 0) (q .first j k (omega arith) h)) (elsewhere (getD w (p - 1) 0) (q .last j k (omega arith) h)))
 
-  agrees-upto : (k : ℕ) → k ≤ n → Agrees w k (turns passOne k 0 w)
+  agrees-upto : (k : ℕ) → k ≤ n → OrderAgrees w k (takeTurns passOne k 0 w)
   agrees-upto zero h = record { within = within-none w; bits = λ j l. absurd (omega arith); others = λ x f. refl }
   agrees-upto (suc k) h =
       let e : k + 1 ≡ suc k = omega arith in
-      subst (λ (v : List ℕ). Agrees w (suc k) v) (turns-next passOne k w (turns passOne k 0 w) refl ∙ ap (λ (m : ℕ). turns passOne m 0 w) e)
-      (agrees-next k (turns passOne k 0 w) h (agrees-upto k (omega arith)))
+      subst (λ (v : List ℕ). OrderAgrees w (suc k) v) (turns-next passOne k w (takeTurns passOne k 0 w) refl ∙ ap (λ (m : ℕ). takeTurns passOne m 0 w) e)
+      (agrees-next k (takeTurns passOne k 0 w) h (agrees-upto k (omega arith)))
 
   -- after the pass every output of the order agrees
-  pub pass-agrees : Agrees w n (turns passOne n 0 w)
+  pub pass-agrees : OrderAgrees w n (takeTurns passOne n 0 w)
   pass-agrees = agrees-upto n (omega arith)

@@ -12,41 +12,41 @@ use lib.Seq.{drop-cons}
 use lib.Dec.{eqb, leb}
 use borrow.Author.Tests.{eq-eqb, ne-eqb, le-leb, lt-leb}
 use Rattle.laws.proofs.Regions.{drop-past}
-use Rattle.trace_calculus.specs.Trace.{byte, allBits}
+use Rattle.trace_calculus.specs.Trace.{bitByte, allBits}
 use Rattle.lean.specs.Table.{Within}
 use Rattle.lean.proofs.TableLaws.{within-then, within-set}
-use Rattle.trace_steps.specs.Turns.{turns}
+use Rattle.trace_steps.specs.Turns.{takeTurns}
 use Rattle.trace_steps.specs.Steps.{lit}
-use Rattle.trace_steps.specs.Pins.{Counted, Loading, Storing, counted, isIn, ins, outs, Pins, loadOne, storeOne}
+use Rattle.trace_steps.specs.Pins.{Counted, Loading, Storing, counted, pinIsIn, inPinCount, outPinCount, Pins, loadOne, storeOne}
 use Rattle.trace_steps.proofs.Laws.{turns-next}
 
 -- ---- counts
 
-pub ins-next : (w : List ℕ) (k : ℕ) → ins w (k + 1) ≡ ins w k + cond (isIn w k) 1 0
-ins-next w k = ap (ins w) (add-one k)
+pub ins-next : (w : List ℕ) (k : ℕ) → inPinCount w (k + 1) ≡ inPinCount w k + cond (pinIsIn w k) 1 0
+ins-next w k = ap (inPinCount w) (add-one k)
 
-pub outs-next : (w : List ℕ) (k : ℕ) → outs w (k + 1) ≡ outs w k + cond (isIn w k) 0 1
-outs-next w k = ap (outs w) (add-one k)
+pub outs-next : (w : List ℕ) (k : ℕ) → outPinCount w (k + 1) ≡ outPinCount w k + cond (pinIsIn w k) 0 1
+outs-next w k = ap (outPinCount w) (add-one k)
 
-pub ins-up : (w : List ℕ) (k n : ℕ) → k ≤ n → ins w k ≤ ins w n
+pub ins-up : (w : List ℕ) (k n : ℕ) → k ≤ n → inPinCount w k ≤ inPinCount w n
 ins-up w k zero h = let e : k ≡ 0 = omega arith in rw e (omega arith)
 ins-up w k (suc n) h = ⊎-elim (λ (e : k ≡ suc n). rw e (omega arith)) (λ (l : k < suc n). let r = ins-up w k n (le-of-suc-le-suc l) in omega arith) (eq-or-lt-of-le h)
 
-pub outs-up : (w : List ℕ) (k n : ℕ) → k ≤ n → outs w k ≤ outs w n
+pub outs-up : (w : List ℕ) (k n : ℕ) → k ≤ n → outPinCount w k ≤ outPinCount w n
 outs-up w k zero h = let e : k ≡ 0 = omega arith in rw e (omega arith)
 outs-up w k (suc n) h = ⊎-elim (λ (e : k ≡ suc n). rw e (omega arith)) (λ (l : k < suc n). let r = outs-up w k n (le-of-suc-le-suc l) in omega arith) (eq-or-lt-of-le h)
 
-pub ins-yes : (w : List ℕ) (k : ℕ) → getD w (18944 + k) 0 % 2 ≡ 0 → ins w (k + 1) ≡ ins w k + 1
-ins-yes w k e = ins-next w k ∙ ap (λ (b : Bool). ins w k + cond b 1 0) (eq-eqb (getD w (18944 + k) 0 % 2) 0 e)
+pub ins-yes : (w : List ℕ) (k : ℕ) → getD w (18944 + k) 0 % 2 ≡ 0 → inPinCount w (k + 1) ≡ inPinCount w k + 1
+ins-yes w k e = ins-next w k ∙ ap (λ (b : Bool). inPinCount w k + cond b 1 0) (eq-eqb (getD w (18944 + k) 0 % 2) 0 e)
 
-pub ins-no : (w : List ℕ) (k : ℕ) → (getD w (18944 + k) 0 % 2 ≡ 0 → ⊥) → ins w (k + 1) ≡ ins w k
-ins-no w k d = ins-next w k ∙ ap (λ (b : Bool). ins w k + cond b 1 0) (ne-eqb (getD w (18944 + k) 0 % 2) 0 d) ∙ (let z : ins w k + 0 ≡ ins w k = omega arith in z)
+pub ins-no : (w : List ℕ) (k : ℕ) → (getD w (18944 + k) 0 % 2 ≡ 0 → ⊥) → inPinCount w (k + 1) ≡ inPinCount w k
+ins-no w k d = ins-next w k ∙ ap (λ (b : Bool). inPinCount w k + cond b 1 0) (ne-eqb (getD w (18944 + k) 0 % 2) 0 d) ∙ (let z : inPinCount w k + 0 ≡ inPinCount w k = omega arith in z)
 
-pub outs-yes : (w : List ℕ) (k : ℕ) → (getD w (18944 + k) 0 % 2 ≡ 0 → ⊥) → outs w (k + 1) ≡ outs w k + 1
-outs-yes w k d = outs-next w k ∙ ap (λ (b : Bool). outs w k + cond b 0 1) (ne-eqb (getD w (18944 + k) 0 % 2) 0 d)
+pub outs-yes : (w : List ℕ) (k : ℕ) → (getD w (18944 + k) 0 % 2 ≡ 0 → ⊥) → outPinCount w (k + 1) ≡ outPinCount w k + 1
+outs-yes w k d = outs-next w k ∙ ap (λ (b : Bool). outPinCount w k + cond b 0 1) (ne-eqb (getD w (18944 + k) 0 % 2) 0 d)
 
-pub outs-no : (w : List ℕ) (k : ℕ) → getD w (18944 + k) 0 % 2 ≡ 0 → outs w (k + 1) ≡ outs w k
-outs-no w k e = outs-next w k ∙ ap (λ (b : Bool). outs w k + cond b 0 1) (eq-eqb (getD w (18944 + k) 0 % 2) 0 e) ∙ (let z : outs w k + 0 ≡ outs w k = omega arith in z)
+pub outs-no : (w : List ℕ) (k : ℕ) → getD w (18944 + k) 0 % 2 ≡ 0 → outPinCount w (k + 1) ≡ outPinCount w k
+outs-no w k e = outs-next w k ∙ ap (λ (b : Bool). outPinCount w k + cond b 0 1) (eq-eqb (getD w (18944 + k) 0 % 2) 0 e) ∙ (let z : outPinCount w k + 0 ≡ outPinCount w k = omega arith in z)
 
 -- ---- the input pins, one after the other
 
@@ -79,7 +79,7 @@ load-no bits u w from at k c h l q e =
     }
 
 -- there is a byte for it
-pub load-room : (bits u w : List ℕ) (from at k n c : ℕ) → n ≤ 128 → k < n → from + ins u n ≤ length bits → Loading bits u from k w at → c ≡ getD w (18944 + k) 0 → c % 2 ≡ 0 → at < length bits
+pub load-room : (bits u w : List ℕ) (from at k n c : ℕ) → n ≤ 128 → k < n → from + inPinCount u n ≤ length bits → Loading bits u from k w at → c ≡ getD w (18944 + k) 0 → c % 2 ≡ 0 → at < length bits
 load-room bits u w from at k n c few h room l q e =
     let same = l .within .below (18944 + k) (omega arith) in
     let even₀ : getD u (18944 + k) 0 % 2 ≡ 0 = rw (q ∙ same) at e in
@@ -88,15 +88,15 @@ load-room bits u w from at k n c few h room l q e =
 
 -- ---- the output pins, one after the other
 
-pub store-yes : (w out₀ out : List ℕ) (from at k c b : ℕ) → Storing w out₀ from k out at → c ≡ getD w (18944 + k) 0 → (c % 2 ≡ 0 → ⊥) → b ≡ byte (lit w (c / 2))
+pub store-yes : (w out₀ out : List ℕ) (from at k c b : ℕ) → Storing w out₀ from k out at → c ≡ getD w (18944 + k) 0 → (c % 2 ≡ 0 → ⊥) → b ≡ bitByte (lit w (c / 2))
     → Storing w out₀ from (k + 1) (set out at b) (at + 1)
 store-yes w out₀ out from at k c b l q e f =
     let odd : getD w (18944 + k) 0 % 2 ≡ 0 → ⊥ = λ z. e (ap (λ (x : ℕ). x % 2) q ∙ z) in
     record {
       size = length-set out at b ∙ l .size;
       whole =
-          ap (λ (x : ℕ). counted (set out at x) (at + 1)) (f ∙ ap (λ (x : ℕ). byte (lit w (x / 2))) q)
-          ∙ sym (ap (λ (t : Bool). cond t (counted out at) (counted (set out at (byte (lit w (getD w (18944 + k) 0 / 2)))) (at + 1))) (ne-eqb (getD w (18944 + k) 0 % 2) 0 odd))
+          ap (λ (x : ℕ). counted (set out at x) (at + 1)) (f ∙ ap (λ (x : ℕ). bitByte (lit w (x / 2))) q)
+          ∙ sym (ap (λ (t : Bool). cond t (counted out at) (counted (set out at (bitByte (lit w (getD w (18944 + k) 0 / 2)))) (at + 1))) (ne-eqb (getD w (18944 + k) 0 % 2) 0 odd))
           ∙ turns-next (storeOne w) k (counted out₀ from) (counted out at) (l .whole);
       written = let r = l .written in let i = outs-yes w k odd in omega arith;
     }
@@ -107,12 +107,12 @@ store-no w out₀ out from at k c l q e =
     record {
       size = l .size;
       whole =
-          sym (ap (λ (t : Bool). cond t (counted out at) (counted (set out at (byte (lit w (getD w (18944 + k) 0 / 2)))) (at + 1))) (eq-eqb (getD w (18944 + k) 0 % 2) 0 even))
+          sym (ap (λ (t : Bool). cond t (counted out at) (counted (set out at (bitByte (lit w (getD w (18944 + k) 0 / 2)))) (at + 1))) (eq-eqb (getD w (18944 + k) 0 % 2) 0 even))
           ∙ turns-next (storeOne w) k (counted out₀ from) (counted out at) (l .whole);
       written = let r = l .written in let i = outs-no w k even in omega arith;
     }
 
-pub store-room : (w out₀ out : List ℕ) (from at k n c : ℕ) → k < n → from + outs w n ≤ length out₀ → Storing w out₀ from k out at → c ≡ getD w (18944 + k) 0 → (c % 2 ≡ 0 → ⊥) → at < length out
+pub store-room : (w out₀ out : List ℕ) (from at k n c : ℕ) → k < n → from + outPinCount w n ≤ length out₀ → Storing w out₀ from k out at → c ≡ getD w (18944 + k) 0 → (c % 2 ≡ 0 → ⊥) → at < length out
 store-room w out₀ out from at k n c h room l q e =
     let odd : getD w (18944 + k) 0 % 2 ≡ 0 → ⊥ = λ z. e (ap (λ (x : ℕ). x % 2) q ∙ z) in
     let r = l .written in
@@ -138,22 +138,22 @@ load-low bits u w from at k n c p h l q =
 pub pin-low : (w : List ℕ) (k n c : ℕ) → Pins w n → k < n → c ≡ getD w (18944 + k) 0 → c / 2 < 8192
 pin-low w k n c p h q = subst (λ (x : ℕ). x / 2 < 8192) (sym q) (p .low k h)
 
-pub ins-few : (w : List ℕ) (n : ℕ) → ins w n ≤ n
+pub ins-few : (w : List ℕ) (n : ℕ) → inPinCount w n ≤ n
 ins-few w zero = omega arith
-ins-few w (suc n) = by (isIn w n) (ins-few w n)
+ins-few w (suc n) = by (pinIsIn w n) (ins-few w n)
   where
-    by : (b : Bool) → ins w n ≤ n → ins w n + cond b 1 0 ≤ suc n
+    by : (b : Bool) → inPinCount w n ≤ n → inPinCount w n + cond b 1 0 ≤ suc n
     by true r = omega arith
     by false r = omega arith
 
-pub lit-yes : (w : List ℕ) (x : ℕ) → getD w (19072 + x) 0 ≡ 1 → 1 ≡ byte (lit w x)
+pub lit-yes : (w : List ℕ) (x : ℕ) → getD w (19072 + x) 0 ≡ 1 → 1 ≡ bitByte (lit w x)
 lit-yes w x e = rw (eq-eqb (getD w (19072 + x) 0) 1 e)
 
-pub lit-no : (w : List ℕ) (x : ℕ) → (getD w (19072 + x) 0 ≡ 1 → ⊥) → 0 ≡ byte (lit w x)
+pub lit-no : (w : List ℕ) (x : ℕ) → (getD w (19072 + x) 0 ≡ 1 → ⊥) → 0 ≡ bitByte (lit w x)
 lit-no w x d = rw (ne-eqb (getD w (19072 + x) 0) 1 d)
 
-pub ins-step : (w : List ℕ) (k c n : ℕ) → c ≡ getD w (18944 + k) 0 → c % 2 ≡ 0 → n ≡ ins w k → n + 1 ≡ ins w (k + 1)
+pub ins-step : (w : List ℕ) (k c n : ℕ) → c ≡ getD w (18944 + k) 0 → c % 2 ≡ 0 → n ≡ inPinCount w k → n + 1 ≡ inPinCount w (k + 1)
 ins-step w k c n q e i = let r = ins-yes w k (rw q at e) in omega arith
 
-pub ins-skip : (w : List ℕ) (k c n : ℕ) → c ≡ getD w (18944 + k) 0 → (c % 2 ≡ 0 → ⊥) → n ≡ ins w k → n ≡ ins w (k + 1)
+pub ins-skip : (w : List ℕ) (k c n : ℕ) → c ≡ getD w (18944 + k) 0 → (c % 2 ≡ 0 → ⊥) → n ≡ inPinCount w k → n ≡ inPinCount w (k + 1)
 ins-skip w k c n q d i = let r = ins-no w k (λ z. d (ap (λ (x : ℕ). x % 2) q ∙ z)) in omega arith

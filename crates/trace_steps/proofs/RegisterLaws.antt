@@ -9,9 +9,9 @@ use native.Mathlib.Decide.{ℕ-discrete}
 use lib.ListN.{length, getD, set, length-set}
 use lib.Seq.{getD-set-same, getD-set-other}
 use borrow.Author.Tests.{eq-eqb, ne-eqb}
-use Rattle.trace_steps.specs.Turns.{turns}
+use Rattle.trace_steps.specs.Turns.{takeTurns}
 use Rattle.trace_steps.specs.Steps.{Register, Registers}
-use Rattle.trace_steps.specs.Pins.{counted, registerOne, Listable, Listed}
+use Rattle.trace_steps.specs.Pins.{counted, registerOne, Listable, RegistersListed}
 use Rattle.trace_steps.proofs.Laws.{turns-next}
 
 pub record Listing (u : List ℕ) (x : ℕ) (w : List ℕ) (n : ℕ) : Type 0 where
@@ -21,7 +21,7 @@ pub record Listing (u : List ℕ) (x : ℕ) (w : List ℕ) (n : ℕ) : Type 0 wh
   pub each : (j : ℕ) → j < n → Register u (getD w (8192 + j) 0)
   pub half : 2 * n ≤ x + 1
   pub free : (getD u (x - 1) 0 ≡ 65521 → ⊥) → 2 * n ≤ x
-  pub whole : counted w n ≡ turns registerOne x 0 (counted u 0)
+  pub whole : counted w n ≡ takeTurns registerOne x 0 (counted u 0)
 
 pub listing-start : (u : List ℕ) → Listing u 0 u 0
 listing-start u = record { size = refl; table = λ y l. refl; above = λ j l. refl; each = λ j l. absurd (omega arith); half = omega arith; free = λ d. omega arith; whole = refl }
@@ -65,7 +65,7 @@ module _ (u : List ℕ) (end x : ℕ) (w : List ℕ) (n : ℕ) (p : Listable u e
     whole = sym (ap (λ (b : Bool). cond b (counted (set w (8192 + n) x) (n + 1)) (counted w n)) (ne-eqb (getD w x 0) 65521 d)) ∙ turns-next registerOne x (counted u 0) (counted w n) (l .whole);
   }
 
-pub listing-end : (u : List ℕ) (end x : ℕ) (w : List ℕ) (n : ℕ) → Listable u end → x ≡ end → Listing u x w n → Listed u end w n
+pub listing-end : (u : List ℕ) (end x : ℕ) (w : List ℕ) (n : ℕ) → Listable u end → x ≡ end → Listing u x w n → RegistersListed u end w n
 listing-end u end x w n p e l =
     let f = p .few in
     let z = p .size in
@@ -80,5 +80,5 @@ listing-end u end x w n p e l =
         few = omega arith;
         each = λ j m. let r = l .each j m in let b = r .low in let t = l .table (getD w (8192 + j) 0 - 1) (omega arith) in let c = r .source in record { low = b; some = r .some; source = omega arith };
       };
-      whole = l .whole ∙ ap (λ (y : ℕ). turns registerOne y 0 (counted u 0)) e;
+      whole = l .whole ∙ ap (λ (y : ℕ). takeTurns registerOne y 0 (counted u 0)) e;
     }

@@ -10,9 +10,9 @@ use lib.ListN.{length, getD, set, length-set}
 use lib.Seq.{getD-set-same, getD-set-other}
 use lib.Dec.{eqb, ltb}
 use borrow.Author.Tests.{eq-eqb, ne-eqb}
-use Rattle.trace_steps.specs.Turns.{turns}
+use Rattle.trace_steps.specs.Turns.{takeTurns}
 use Rattle.trace_steps.specs.Steps.{Looks, firstIn, readyIn}
-use Rattle.trace_steps.specs.Sweeps.{settleAt, Sweep, sweeping, sweepAt, sweepOne, Sweepable, Sweeping, Swept, sweepAll, sweeps, Settling, Settled}
+use Rattle.trace_steps.specs.Sweeps.{settleAt, Sweep, sweeping, sweepAt, sweepOne, Sweepable, Sweeping, Swept, sweepAll, sweeps, Settling, AllSwept}
 use Rattle.trace_steps.proofs.Laws.{first-low, turns-next}
 
 -- what an output looks at is told by the first 8,192 numbers
@@ -116,7 +116,7 @@ sweep-end u total left j w kept done p e s =
       };
       less = omega arith;
       table = s .table;
-      whole = ap (λ (x : ℕ). sweeping w kept x) d ∙ s .whole ∙ ap (λ (k : ℕ). turns sweepOne k 0 (sweeping u 0 (total - left))) e;
+      whole = ap (λ (x : ℕ). sweeping w kept x) d ∙ s .whole ∙ ap (λ (k : ℕ). takeTurns sweepOne k 0 (sweeping u 0 (total - left))) e;
     }
 
 pub swap : (u : List ℕ) (total left j : ℕ) {w v : List ℕ} {k k′ d d′ : ℕ} → w ≡ v → k ≡ k′ → d ≡ d′ → Sweeping u total left j v k′ d′ → Sweeping u total left j w k d
@@ -132,7 +132,7 @@ module _ (u : List ℕ) (total : ℕ) (w : List ℕ) (left : ℕ) (s : Settling 
   last-kept : sweepAll total w left .kept ≡ kept
   last-kept = sym (ap (λ (x : Sweep). x .kept) (q .whole))
 
-  pub settle-stuck : kept ≡ left → Settled u total v left
+  pub settle-stuck : kept ≡ left → AllSwept u total v left
   settle-stuck e = record {
     size = q .size ∙ s .size;
     next = subst (λ (k : ℕ). Sweepable v total k) e (q .next);
@@ -160,5 +160,5 @@ module _ (u : List ℕ) (total : ℕ) (w : List ℕ) (left : ℕ) (s : Settling 
         whole = on (eqb (sweepAll total w left .kept) left) (suc k) (ne-eqb (sweepAll total w left .kept) left (λ z. d (sym last-kept ∙ z))) ∙ e;
       }
 
-pub settle-none : (u : List ℕ) (total : ℕ) (w : List ℕ) (left : ℕ) → left ≡ 0 → Settling u total w left → Settled u total w 0
+pub settle-none : (u : List ℕ) (total : ℕ) (w : List ℕ) (left : ℕ) → left ≡ 0 → Settling u total w left → AllSwept u total w 0
 settle-none u total w left e s = let r = subst (λ (k : ℕ). Settling u total w k) e s in record { size = r .size; next = r .next; table = r .table; whole = r .whole }

@@ -10,10 +10,10 @@ use lib.ListN.{length, getD}
 use lib.Dec.{eqb}
 use Rattle.lean.specs.Table.{Within}
 use Rattle.lean.proofs.TableLaws.{within-then}
-use Rattle.trace_steps.specs.Turns.{turns, Looped}
+use Rattle.trace_steps.specs.Turns.{takeTurns, Looped}
 use Rattle.trace_steps.specs.Steps.{Ordered, Registers, passOne, holdOne, turnOne}
-use Rattle.trace_steps.specs.Pins.{Counted, counted, isIn, ins, outs, Pins, loadOne, storeOne, Loading, Storing}
-use Rattle.trace_steps.specs.Ticks.{Sizes, sizes, lighted, ticked, shown, Runs, Ticked, Running, running, tickOne, Ran}
+use Rattle.trace_steps.specs.Pins.{Counted, counted, pinIsIn, inPinCount, outPinCount, Pins, loadOne, storeOne, Loading, Storing}
+use Rattle.trace_steps.specs.Ticks.{Sizes, sizes, lighted, ticked, shownBits, Runs, Ticked, Running, running, tickOne, Ran}
 use Rattle.trace_steps.proofs.Laws.{looks-within, register-within, ordered-at, register-at, turns-next}
 
 -- ---- what stays where nothing below 19,072 changes
@@ -34,14 +34,14 @@ pins-within i p = record {
 pub runs-within : {u w : List ℕ} {s r p : ℕ} → Within u w → Runs u s r p → Runs w s r p
 runs-within i q = record { order = ordered-within i (q .order); registers = registers-within i (q .registers); pins = pins-within i (q .pins) }
 
-pub ins-within : (u w : List ℕ) → Within u w → (n : ℕ) → n ≤ 128 → ins w n ≡ ins u n
+pub ins-within : (u w : List ℕ) → Within u w → (n : ℕ) → n ≤ 128 → inPinCount w n ≡ inPinCount u n
 ins-within u w i zero h = refl
 ins-within u w i (suc n) h =
     let r = ins-within u w i n (omega arith) in
     let e = ap {B = ℕ} (λ (x : ℕ). cond (eqb (x % 2) 0) 1 0) (i .below (18944 + n) (omega arith)) in
     omega arith
 
-pub outs-within : (u w : List ℕ) → Within u w → (n : ℕ) → n ≤ 128 → outs w n ≡ outs u n
+pub outs-within : (u w : List ℕ) → Within u w → (n : ℕ) → n ≤ 128 → outPinCount w n ≡ outPinCount u n
 outs-within u w i zero h = refl
 outs-within u w i (suc n) h =
     let r = outs-within u w i n (omega arith) in
@@ -53,14 +53,14 @@ outs-within u w i (suc n) h =
 pub tick-is : (s r p : ℕ) (bits : List ℕ) (from to : ℕ) (u out₀ a b c d out : List ℕ) (i o : ℕ)
     → Loading bits u from p a i → Looped passOne s a b → Storing b out₀ to p out o → Looped holdOne r b c → Looped turnOne r c d
     → Ticked (sizes s r p) bits from to u out₀ d out
-unfolding lighted ticked shown
+unfolding lighted ticked shownBits
 tick-is s r p bits from to u out₀ a b c d out i o l m q h t =
-    let e : b ≡ turns passOne s 0 (turns (loadOne bits) p 0 (counted u from) .mem) = m .whole ∙ ap (λ (x : Counted). turns passOne s 0 (x .mem)) (l .whole) in
+    let e : b ≡ takeTurns passOne s 0 (takeTurns (loadOne bits) p 0 (counted u from) .mem) = m .whole ∙ ap (λ (x : Counted). takeTurns passOne s 0 (x .mem)) (l .whole) in
     record {
       within = within-then (within-then (within-then (l .within) (m .within)) (h .within)) (t .within);
-      memory = t .whole ∙ ap (turns turnOne r 0) (h .whole ∙ ap (turns holdOne r 0) e);
+      memory = t .whole ∙ ap (takeTurns turnOne r 0) (h .whole ∙ ap (takeTurns holdOne r 0) e);
       size = q .size;
-      bytes = ap (λ (x : Counted). x .mem) (q .whole) ∙ ap (λ (x : List ℕ). turns (storeOne x) p 0 (counted out₀ to) .mem) e;
+      bytes = ap (λ (x : Counted). x .mem) (q .whole) ∙ ap (λ (x : List ℕ). takeTurns (storeOne x) p 0 (counted out₀ to) .mem) e;
     }
 
 -- ---- ticks one after the other
@@ -71,7 +71,7 @@ ran-next z bits i o t from to u out₀ w out v w′ e f r k = record {
   within = within-then (r .within) (k .within);
   size = k .size ∙ r .size;
   whole =
-      both (k .memory ∙ ap (λ (x : ℕ). ticked z bits x w) e) (k .bytes ∙ ap (λ (x : ℕ). shown z bits x to w out) e ∙ ap (λ (y : ℕ). shown z bits (t * i) y w out) f)
+      both (k .memory ∙ ap (λ (x : ℕ). ticked z bits x w) e) (k .bytes ∙ ap (λ (x : ℕ). shownBits z bits x to w out) e ∙ ap (λ (y : ℕ). shownBits z bits (t * i) y w out) f)
       ∙ turns-next (tickOne z bits i o) t (running u out₀) (running w out) (r .whole);
 }
   where

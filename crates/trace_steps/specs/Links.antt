@@ -5,7 +5,7 @@ use mathlib.Core.Bool.{cond}
 use mathlib.Core.List.{List}
 use lib.ListN.{length, getD, set}
 use lib.Dec.{eqb, ltb}
-use Rattle.trace_steps.specs.Turns.{turns}
+use Rattle.trace_steps.specs.Turns.{takeTurns}
 
 -- an input has the root of the output that drives it, or itself where there is none; an output's entry, 65,520 and its kind, stays
 abbrev pub linkOf : ℕ → ℕ → ℕ → ℕ
@@ -27,7 +27,7 @@ pub record Linkable (w : List ℕ) (end : ℕ) : Type 0 where
 pub record Linked (u : List ℕ) (n : ℕ) (w : List ℕ) : Type 0 where
   pub size : length w ≡ length u
   pub above : (j : ℕ) → n ≤ j → getD w j 0 ≡ getD u j 0
-  pub whole : w ≡ turns linkOne n 0 u
+  pub whole : w ≡ takeTurns linkOne n 0 u
 
 -- ---- pins
 
@@ -49,4 +49,4 @@ pub record Pinned (u : List ℕ) (n : ℕ) (w : List ℕ) : Type 0 where
   pub size : length w ≡ length u
   pub below : (j : ℕ) → j < 18944 → getD w j 0 ≡ getD u j 0
   pub above : (j : ℕ) → 18944 + n ≤ j → getD w j 0 ≡ getD u j 0
-  pub whole : w ≡ turns pinOne n 0 u
+  pub whole : w ≡ takeTurns pinOne n 0 u

@@ -7,9 +7,9 @@ use Rattle.memory.specs.Map.{region}
 use Rattle.netlist.specs.Elements.{after, afterAll}
 use Rattle.netlist.specs.Elements.{outputOf}
 
-abbrev pub named : List ℕ → List ℕ → ℕ → List ℕ
-named w [] n = w
-named w (k ∷ ks) n = named (set w (outputOf k n) (65520 + k)) ks (after k n)
+abbrev pub namedOutputs : List ℕ → List ℕ → ℕ → List ℕ
+namedOutputs w [] n = w
+namedOutputs w (k ∷ ks) n = namedOutputs (set w (outputOf k n) (65520 + k)) ks (after k n)
 
 pub record Namable (w : List ℕ) (elements : ℕ) : Type 0 where
   pub size : 32768 ≤ length w
@@ -21,4 +21,4 @@ pub record NamesStand (u : List ℕ) (elements : ℕ) (w : List ℕ) (end : ℕ)
   pub size : length w ≡ length u
   pub above : (j : ℕ) → 8192 ≤ j → getD w j 0 ≡ getD u j 0
   pub end-is : end ≡ afterAll (region u 13824 elements) 0
-  pub whole : w ≡ named u (region u 13824 elements) 0
+  pub whole : w ≡ namedOutputs u (region u 13824 elements) 0

@@ -6,7 +6,7 @@ use mathlib.Core.Bool.{Bool, true, false, cond, not, _&&_, _||_, xor}
 use mathlib.Core.List.{List, [], _∷_}
 use lib.ListN.{length, getD, set}
 use lib.Dec.{eqb, ltb}
-use Rattle.trace_calculus.specs.Trace.{byte}
+use Rattle.trace_calculus.specs.Trace.{bitByte}
 
 -- the bit, or mark, of terminal x
 abbrev pub lit : List ℕ → ℕ → Bool
@@ -17,8 +17,8 @@ abbrev pub firstIn : List ℕ → ℕ → ℕ
 firstIn w o = cond (ltb (getD w o 0) 65525) (o - 2) (o - 1)
 
 -- the bit of the source of input x
-abbrev pub fed : List ℕ → ℕ → Bool
-fed w x = lit w (getD w x 0)
+abbrev pub inputBit : List ℕ → ℕ → Bool
+inputBit w x = lit w (getD w x 0)
 
 -- output o has inputs, with sources below 8,192
 pub record Looks (w : List ℕ) (o : ℕ) : Type 0 where
@@ -32,7 +32,7 @@ pub record Looks (w : List ℕ) (o : ℕ) : Type 0 where
 
 -- all that output o looks at is marked
 abbrev pub readyIn : List ℕ → ℕ → Bool
-readyIn w o = fed w (firstIn w o) && fed w (o - 1)
+readyIn w o = inputBit w (firstIn w o) && inputBit w (o - 1)
 
 -- 2 and, 3 or, 4 xor, 5 inv, 7 a point; the last two have their one input twice
 abbrev pub gateBit : ℕ → Bool → Bool → Bool
@@ -40,7 +40,7 @@ gateBit k a b = cond (eqb k 2) (a && b) (cond (eqb k 3) (a || b) (cond (eqb k 4)
 
 -- output o gets its bit
 abbrev pub stepIn : List ℕ → ℕ → List ℕ
-stepIn w o = set w (19072 + o) (byte (gateBit (getD w o 0 - 65520) (fed w (firstIn w o)) (fed w (o - 1))))
+stepIn w o = set w (19072 + o) (bitByte (gateBit (getD w o 0 - 65520) (inputBit w (firstIn w o)) (inputBit w (o - 1))))
 
 -- the outputs of the order, one after the other
 pub record Ordered (w : List ℕ) (n : ℕ) : Type 0 where
@@ -86,8 +86,8 @@ abbrev pub freeIn : List ℕ → ℕ → Bool
 freeIn w x = eqb (getD w x 0) x || (eqb (getD w x 0) 65520 || (eqb (getD w x 0) 65521 || eqb (getD w x 0) 65526))
 
 abbrev pub markOne : ℕ → List ℕ → List ℕ
-markOne x w = set w (19072 + x) (byte (freeIn w x))
+markOne x w = set w (19072 + x) (bitByte (freeIn w x))
 
 -- every bit is 0, but that of a part one
 abbrev pub beginOne : ℕ → List ℕ → List ℕ
-beginOne x w = set w (19072 + x) (byte (eqb (getD w x 0) 65526))
+beginOne x w = set w (19072 + x) (bitByte (eqb (getD w x 0) 65526))

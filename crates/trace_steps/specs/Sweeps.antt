@@ -6,7 +6,7 @@ use mathlib.Core.Bool.{cond}
 use mathlib.Core.List.{List}
 use lib.ListN.{length, getD, set}
 use lib.Dec.{eqb}
-use Rattle.trace_steps.specs.Turns.{turns}
+use Rattle.trace_steps.specs.Turns.{takeTurns}
 use Rattle.trace_steps.specs.Steps.{Looks, readyIn}
 
 -- output o is settled, the next of the order
@@ -42,7 +42,7 @@ pub record Sweeping (u : List ℕ) (total left j : ℕ) (w : List ℕ) (kept don
   pub looks : (i : ℕ) → i < kept → Looks u (getD w (8192 + i) 0)
   pub sum : kept + done + left ≡ total + j
   pub few : kept ≤ j
-  pub whole : sweeping w kept done ≡ turns sweepOne j 0 (sweeping u 0 (total - left))
+  pub whole : sweeping w kept done ≡ takeTurns sweepOne j 0 (sweeping u 0 (total - left))
 
 -- all of them
 pub record Swept (u : List ℕ) (total left : ℕ) (w : List ℕ) (kept : ℕ) : Type 0 where
@@ -50,12 +50,12 @@ pub record Swept (u : List ℕ) (total left : ℕ) (w : List ℕ) (kept : ℕ) :
   pub next : Sweepable w total kept
   pub less : kept ≤ left
   pub table : (x : ℕ) → x < 8192 → getD w x 0 ≡ getD u x 0
-  pub whole : sweeping w kept (total - kept) ≡ turns sweepOne left 0 (sweeping u 0 (total - left))
+  pub whole : sweeping w kept (total - kept) ≡ takeTurns sweepOne left 0 (sweeping u 0 (total - left))
 
 -- ---- sweeps, until one settles none
 
 abbrev pub sweepAll : ℕ → List ℕ → ℕ → Sweep
-sweepAll total w left = turns sweepOne left 0 (sweeping w 0 (total - left))
+sweepAll total w left = takeTurns sweepOne left 0 (sweeping w 0 (total - left))
 
 abbrev pub sweeps : ℕ → ℕ → List ℕ → ℕ → Sweep
 sweeps zero total w left = sweeping w left (total - left)
@@ -71,7 +71,7 @@ pub record Settling (u : List ℕ) (total : ℕ) (w : List ℕ) (left : ℕ) : T
   pub whole : sweeps (suc rounds) total w left ≡ sweeps (suc total) total u total
 
 -- no more can be
-pub record Settled (u : List ℕ) (total : ℕ) (w : List ℕ) (left : ℕ) : Type 0 where
+pub record AllSwept (u : List ℕ) (total : ℕ) (w : List ℕ) (left : ℕ) : Type 0 where
   pub size : length w ≡ length u
   pub next : Sweepable w total left
   pub table : (x : ℕ) → x < 8192 → getD w x 0 ≡ getD u x 0

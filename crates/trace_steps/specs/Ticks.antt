@@ -5,9 +5,9 @@ use mathlib.Core.List.{List}
 use mathlib.Core.Bool.{Bool}
 use lib.ListN.{length, getD}
 use Rattle.lean.specs.Table.{Within}
-use Rattle.trace_steps.specs.Turns.{turns}
+use Rattle.trace_steps.specs.Turns.{takeTurns}
 use Rattle.trace_steps.specs.Steps.{lit, firstIn, gateBit, Ordered, Registers, passOne, holdOne, turnOne}
-use Rattle.trace_steps.specs.Pins.{Counted, counted, Pins, ins, outs, loadOne, storeOne}
+use Rattle.trace_steps.specs.Pins.{Counted, counted, Pins, inPinCount, outPinCount, loadOne, storeOne}
 
 -- how many outputs the order has, how many registers and pins there are
 pub record Sizes : Type 0 where
@@ -20,15 +20,15 @@ sizes s r p = record { settled = s; registers = r; pins = p }
 
 -- the input pins' bits are loaded, from a byte on, and every output gets its bit
 unfoldable pub lighted : Sizes → List ℕ → ℕ → List ℕ → List ℕ
-lighted z bits from w = turns passOne (z .settled) 0 (turns (loadOne bits) (z .pins) 0 (counted w from) .mem)
+lighted z bits from w = takeTurns passOne (z .settled) 0 (takeTurns (loadOne bits) (z .pins) 0 (counted w from) .mem)
 
 -- then the registers go on
 unfoldable pub ticked : Sizes → List ℕ → ℕ → List ℕ → List ℕ
-ticked z bits from w = turns turnOne (z .registers) 0 (turns holdOne (z .registers) 0 (lighted z bits from w))
+ticked z bits from w = takeTurns turnOne (z .registers) 0 (takeTurns holdOne (z .registers) 0 (lighted z bits from w))
 
 -- the output pins' bits, written from a byte on
-unfoldable pub shown : Sizes → List ℕ → ℕ → ℕ → List ℕ → List ℕ → List ℕ
-shown z bits from to w out = turns (storeOne (lighted z bits from w)) (z .pins) 0 (counted out to) .mem
+unfoldable pub shownBits : Sizes → List ℕ → ℕ → ℕ → List ℕ → List ℕ → List ℕ
+shownBits z bits from to w out = takeTurns (storeOne (lighted z bits from w)) (z .pins) 0 (counted out to) .mem
 
 -- what a run asks of the memory
 pub record Runs (w : List ℕ) (s r p : ℕ) : Type 0 where
@@ -41,7 +41,7 @@ pub record Ticked (z : Sizes) (bits : List ℕ) (from to : ℕ) (u out₀ w out 
   pub within : Within u w
   pub memory : w ≡ ticked z bits from u
   pub size : length out ≡ length out₀
-  pub bytes : out ≡ shown z bits from to u out₀
+  pub bytes : out ≡ shownBits z bits from to u out₀
 
 -- ---- ticks one after the other, each with so many bytes read and written
 
@@ -53,17 +53,17 @@ abbrev pub running : List ℕ → List ℕ → Running
 running w out = record { mem = w; out = out }
 
 abbrev pub tickOne : Sizes → List ℕ → ℕ → ℕ → ℕ → Running → Running
-tickOne z bits i o t s = running (ticked z bits (t * i) (s .mem)) (shown z bits (t * i) (t * o) (s .mem) (s .out))
+tickOne z bits i o t s = running (ticked z bits (t * i) (s .mem)) (shownBits z bits (t * i) (t * o) (s .mem) (s .out))
 
 pub record Ran (z : Sizes) (bits : List ℕ) (i o n : ℕ) (u out₀ w out : List ℕ) : Type 0 where
   pub within : Within u w
   pub size : length out ≡ length out₀
-  pub whole : running w out ≡ turns (tickOne z bits i o) n 0 (running u out₀)
+  pub whole : running w out ≡ takeTurns (tickOne z bits i o) n 0 (running u out₀)
 
 -- there are bytes for so many ticks
 pub record TraceFits (w : List ℕ) (a b p i o n : ℕ) : Type 0 where
-  pub reads : i ≡ ins w p
-  pub writes : o ≡ outs w p
+  pub reads : i ≡ inPinCount w p
+  pub writes : o ≡ outPinCount w p
   pub few : n ≤ 65535
   pub lent : n * i ≤ a
   pub room : n * o ≤ b
@@ -81,7 +81,7 @@ abbrev pub due : List ℕ → List ℕ → ℕ → Bool
 due w v o = gateBit (getD w o 0 - 65520) (lit v (getD w (firstIn w o) 0)) (lit v (getD w (o - 1) 0))
 
 -- every output of the order agrees with what it looks at; all other bits are as they were
-pub record Agrees (w : List ℕ) (n : ℕ) (v : List ℕ) : Type 0 where
+pub record OrderAgrees (w : List ℕ) (n : ℕ) (v : List ℕ) : Type 0 where
   pub within : Within w v
   pub bits : (j : ℕ) → j < n → lit v (getD w (13824 + j) 0) ≡ due w v (getD w (13824 + j) 0)
   pub others : (x : ℕ) → ((j : ℕ) → j < n → getD w (13824 + j) 0 ≡ x → ⊥) → getD v (19072 + x) 0 ≡ getD w (19072 + x) 0

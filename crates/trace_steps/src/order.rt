@@ -8,7 +8,7 @@ ghost use Prim.Native.Nat.{_+_, _≤_, _<_};
 ghost use lib.ListN.{length, getD, set};
 ghost use Rattle.trace_steps.specs.Steps.{Looks, readyIn, freeIn, markOne};
 ghost use Rattle.trace_steps.specs.Turns.{Looped};
-ghost use Rattle.trace_steps.specs.Sweeps.{settleAt, Sweepable, Swept, Settled};
+ghost use Rattle.trace_steps.specs.Sweeps.{settleAt, Sweepable, Swept, AllSwept};
 
 // What looks at nothing is settled from the start: pins, registers, zero and one.
 fn free(work: &[u16], x: usize) -> bool
@@ -84,7 +84,7 @@ fn sweep(work: &mut [u16], total: usize, left: usize) -> usize
 // Sweeps, until none is left or one settles none; how many are left.
 pub fn settle(work: &mut [u16], total: usize) -> usize
     requires { ⌜ Sweepable (now work) total total ⌝ }
-    ensures { λ r. ⌜ Settled (now (work .entry)) total (now (work .exit)) r ⌝ }
+    ensures { λ r. ⌜ AllSwept (now (work .entry)) total (now (work .exit)) r ⌝ }
 {
     let mut left = total;
     while left > 0 {

@@ -5,14 +5,14 @@ use memory::STACK;
 ghost use mathlib.Core.Path.{_≡_};
 ghost use Prim.Native.Nat.{_+_, _≤_, _<_};
 ghost use lib.ListN.{length, getD, set};
-ghost use Rattle.trace_calculus.specs.Trace.{byte as bit, allBits};
+ghost use Rattle.trace_calculus.specs.Trace.{bitByte as bit, allBits};
 ghost use Rattle.trace_steps.specs.Steps.{lit};
-ghost use Rattle.trace_steps.specs.Pins.{ins, outs, Pins, Loading, Storing};
+ghost use Rattle.trace_steps.specs.Pins.{inPinCount, outPinCount, Pins, Loading, Storing};
 
 // How many pins are inputs.
 pub fn input_pins(work: &[u16], pins: usize) -> usize
     requires { ⌜ Pins (now work) pins ⌝ }
-    ensures { λ r. ⌜ r ≡ ins (now (work .entry)) pins ⌝ }
+    ensures { λ r. ⌜ r ≡ inPinCount (now (work .entry)) pins ⌝ }
 {
     let mut n: usize = 0;
     let mut k: usize = 0;
@@ -49,7 +49,7 @@ fn put(work: &mut [u16], x: usize, b: u8)
 
 // The input pins' bits of a tick, from byte `from` on; the next byte.
 pub fn load(work: &mut [u16], inputs: &[u8], pins: usize, from: usize) -> usize
-    requires { ⌜ (Pins (now work) pins) × (from + ins (now work) pins ≤ length (now inputs)) ⌝ }
+    requires { ⌜ (Pins (now work) pins) × (from + inPinCount (now work) pins ≤ length (now inputs)) ⌝ }
     ensures { λ r. ⌜ Loading (now (inputs .entry)) (now (work .entry)) from pins (now (work .exit)) r ⌝ }
 {
     let mut at = from;
@@ -75,7 +75,7 @@ fn bit_of(work: &[u16], x: usize) -> u8
 
 // The output pins' bits of a tick, from byte `from` on; the next byte.
 pub fn store(work: &[u16], out: &mut [u8], pins: usize, from: usize) -> usize
-    requires { ⌜ (Pins (now work) pins) × (from + outs (now work) pins ≤ length (now out)) ⌝ }
+    requires { ⌜ (Pins (now work) pins) × (from + outPinCount (now work) pins ≤ length (now out)) ⌝ }
     ensures { λ r. ⌜ Storing (now (work .entry)) (now (out .entry)) from pins (now (out .exit)) r ⌝ }
 {
     let mut at = from;

@@ -3,8 +3,8 @@ use memory::ROOTS;
 ghost use mathlib.Core.Path.{_≡_};
 ghost use Prim.Native.Nat.{_+_, _≤_, _<_};
 ghost use lib.ListN.{length, getD};
-ghost use Rattle.trace_calculus.specs.Trace.{byte as bit};
-ghost use Rattle.trace_steps.specs.Steps.{Looks, firstIn, fed};
+ghost use Rattle.trace_calculus.specs.Trace.{bitByte as bit};
+ghost use Rattle.trace_steps.specs.Steps.{Looks, firstIn, inputBit};
 
 // An output's entry is KIND and its element's kind.
 pub const KIND: u16 = 65520;
@@ -31,7 +31,7 @@ pub fn first_of(work: &[u16], o: usize) -> usize
 // The bit, or mark, of the source of input x.
 pub fn is_fed(work: &[u16], x: usize) -> bool
     requires { ⌜ (32768 ≤ length (now work)) × ((x < 8192) × (getD (now work) x 0 < 8192)) ⌝ }
-    ensures { λ r. ⌜ r ≡ fed (now (work .entry)) x ⌝ }
+    ensures { λ r. ⌜ r ≡ inputBit (now (work .entry)) x ⌝ }
 {
     work[ROOTS + work[x] as usize] == 1
 }

@@ -10,7 +10,7 @@ ghost use Prim.Native.Nat.{_+_, _≤_, _<_};
 ghost use lib.ListN.{length, getD};
 ghost use Rattle.trace_steps.specs.Steps.{Looks, gateBit, stepIn, Ordered, passOne, Register, Registers, holdAt, turnAt, wakeOne, holdOne, turnOne, beginOne};
 ghost use Rattle.trace_steps.specs.Turns.{Looped};
-ghost use Rattle.trace_steps.specs.Pins.{ins, outs, Listable, Listed};
+ghost use Rattle.trace_steps.specs.Pins.{inPinCount, outPinCount, Listable, RegistersListed};
 ghost use Rattle.trace_steps.specs.Ticks.{sizes, Runs, Ticked, TraceFits, Ran};
 
 // Every bit is 0, but that of a part one.
@@ -135,7 +135,7 @@ fn tick(
     from: usize,
     to: usize,
 )
-    requires { ⌜ (Runs (now work) settled regs pins) × ((from + ins (now work) pins ≤ length (now inputs)) × (to + outs (now work) pins ≤ length (now out))) ⌝ }
+    requires { ⌜ (Runs (now work) settled regs pins) × ((from + inPinCount (now work) pins ≤ length (now inputs)) × (to + outPinCount (now work) pins ≤ length (now out))) ⌝ }
     ensures { λ _. ⌜ Ticked (sizes settled regs pins) (now (inputs .entry)) from to (now (work .entry)) (now (out .entry)) (now (work .exit)) (now (out .exit)) ⌝ }
 {
     let read = pins::load(work, inputs, pins, from);
@@ -174,7 +174,7 @@ pub fn run(
 // The registers' outputs, by rising number; how many.
 pub fn registers(work: &mut [u16], end: usize) -> usize
     requires { ⌜ Listable (now work) end ⌝ }
-    ensures { λ r. ⌜ Listed (now (work .entry)) end (now (work .exit)) r ⌝ }
+    ensures { λ r. ⌜ RegistersListed (now (work .entry)) end (now (work .exit)) r ⌝ }
 {
     let mut n: usize = 0;
     let mut x: usize = 0;

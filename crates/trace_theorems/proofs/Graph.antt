@@ -10,9 +10,10 @@ use native.Mathlib.Decide.{decLe}
 use native.Mathlib.Omega.{arith}
 use lib.Dec.{T, eqb, eqb→eq, eqb-refl}
 use lib.ListN.{length}
+use Rattle.circuit_theorems.specs.Terminals.{has}
 use Rattle.trace_calculus.specs.Trace.{any, reach}
 use Rattle.laws.proofs.Tests.{and-both, and-of, or-cases, or-left, or-right}
-use Rattle.circuit_theorems.proofs.Rings.{has, pigeon}
+use Rattle.circuit_theorems.proofs.Rings.{pigeon}
 
 -- ---- any and all
 

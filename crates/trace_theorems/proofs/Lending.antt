@@ -14,12 +14,12 @@ use Rattle.laws.proofs.Tests.{by-eqb, or-elim, or-left, or-right}
 use Rattle.calculus.specs.Terms.{partAt}
 use Rattle.calculus.specs.Net.{Interface, inp, out, Element, point, part, Net}
 use Rattle.calculus.specs.Lean.{isPin}
-use Rattle.calculus.specs.Record.{Bits, All, Possible, partLaw}
+use Rattle.calculus.specs.Record.{Bits, All, Possible, partLaw, Among, here, there}
 use Rattle.calculus.specs.Inputs.{tally, ins}
+use Rattle.circuit_theorems.specs.Terminals.{has}
 use Rattle.circuit_theorems.specs.Formed.{Rising, Formed}
-use Rattle.circuit_theorems.proofs.Rings.{has}
 use Rattle.circuit_theorems.proofs.Wiring.{input-once}
-use Rattle.trace_calculus.specs.Trace.{In, here, there, StartsWith, Has, inPins, registers, place, givenBits, startBits, byte, row, rows}
+use Rattle.trace_calculus.specs.Trace.{StartsWith, Has, inPins, registers, place, givenBits, startBits, bitByte, row, rows}
 use Rattle.trace_calculus.specs.Promise.{registerOutputs, Recorded, ExactBits}
 use Rattle.trace_theorems.proofs.Lists.{has-at, Once, place-at, at-place, Up, up-weaken, up-once}
 use Rattle.trace_theorems.proofs.Sources.{all-in, in-all}
@@ -34,33 +34,33 @@ pub rows-length : (β : Bits) (os : List ℕ) (t n : ℕ) → length (rows β os
 rows-length β os t zero = let z : 0 ≡ 0 * length os = omega arith in z
 rows-length β os t (suc n) = length-append (row β t os) (rows β os (t + 1) n) ∙ (let a = row-length β t os in let b = rows-length β os (t + 1) n in let c = suc-mul n (length os) in omega arith)
 
-row-at : (β : Bits) (t : ℕ) (os : List ℕ) (k : ℕ) → k < length os → getD (row β t os) k 0 ≡ byte (β (getD os k 0) t)
+row-at : (β : Bits) (t : ℕ) (os : List ℕ) (k : ℕ) → k < length os → getD (row β t os) k 0 ≡ bitByte (β (getD os k 0) t)
 row-at β t [] k l = absurd (omega arith)
 row-at β t (o ∷ os) zero l = refl
 row-at β t (o ∷ os) (suc k) l = row-at β t os k (omega arith)
 
 -- tick by tick, each as many as there are terminals
-rows-from : (β : Bits) (os : List ℕ) (a n t k : ℕ) → t < n → k < length os → getD (rows β os a n) (t * length os + k) 0 ≡ byte (β (getD os k 0) (a + t))
+rows-from : (β : Bits) (os : List ℕ) (a n t k : ℕ) → t < n → k < length os → getD (rows β os a n) (t * length os + k) 0 ≡ bitByte (β (getD os k 0) (a + t))
 rows-from β os a zero t k l h = absurd (omega arith)
 rows-from β os a (suc n) zero k l h =
     let e : 0 * length os + k ≡ k = omega arith in
     let z : a ≡ a + 0 = omega arith in
     ap (λ (j : ℕ). getD (row β a os ++ rows β os (a + 1) n) j 0) e ∙ List·getD-append (row β a os) (rows β os (a + 1) n) 0 k (let r = row-length β a os in omega arith)
-    ∙ row-at β a os k h ∙ ap (λ (j : ℕ). byte (β (getD os k 0) j)) z
+    ∙ row-at β a os k h ∙ ap (λ (j : ℕ). bitByte (β (getD os k 0) j)) z
 rows-from β os a (suc n) (suc t) k l h =
     let e : suc t * length os + k ≡ length (row β a os) + (t * length os + k) = (let r = row-length β a os in let c = suc-mul t (length os) in omega arith) in
     let z : a + 1 + t ≡ a + suc t = omega arith in
     ap (λ (j : ℕ). getD (row β a os ++ rows β os (a + 1) n) j 0) e ∙ getD-append-add (row β a os) (rows β os (a + 1) n) (t * length os + k) 0
-    ∙ rows-from β os (a + 1) n t k (omega arith) h ∙ ap (λ (j : ℕ). byte (β (getD os k 0) j)) z
+    ∙ rows-from β os (a + 1) n t k (omega arith) h ∙ ap (λ (j : ℕ). bitByte (β (getD os k 0) j)) z
 
-pub rows-at : (β : Bits) (os : List ℕ) (n t k : ℕ) → t < n → k < length os → getD (rows β os 0 n) (t * length os + k) 0 ≡ byte (β (getD os k 0) t)
-rows-at β os n t k l h = let z : 0 + t ≡ t = omega arith in rows-from β os 0 n t k l h ∙ ap (λ (j : ℕ). byte (β (getD os k 0) j)) z
+pub rows-at : (β : Bits) (os : List ℕ) (n t k : ℕ) → t < n → k < length os → getD (rows β os 0 n) (t * length os + k) 0 ≡ bitByte (β (getD os k 0) t)
+rows-at β os n t k l h = let z : 0 + t ≡ t = omega arith in rows-from β os 0 n t k l h ∙ ap (λ (j : ℕ). bitByte (β (getD os k 0) j)) z
 
-byte-bit : (b : Bool) → eqb (byte b) 1 ≡ b
+byte-bit : (b : Bool) → eqb (bitByte b) 1 ≡ b
 byte-bit true = refl
 byte-bit false = refl
 
-bit-byte : (v : ℕ) → v ≤ 1 → byte (eqb v 1) ≡ v
+bit-byte : (v : ℕ) → v ≤ 1 → bitByte (eqb v 1) ≡ v
 bit-byte zero h = refl
 bit-byte (suc zero) h = refl
 bit-byte (suc (suc v)) h = absurd (omega arith)
@@ -72,16 +72,16 @@ all-low (x ∷ xs) a (suc j) = all-low xs (a .1) j
 
 -- ---- the registers by rising terminal
 
-pub registers-in : (es : List Element) (i : ℕ) → T (has (registers es) i) → In (part 1 i) es
+pub registers-in : (es : List Element) (i : ℕ) → T (has (registers es) i) → Among (part 1 i) es
 registers-in [] i t = absurd t
 registers-in (point j ∷ es) i t = there (registers-in es i t)
 registers-in (part p j ∷ es) i t = by (eqb p 1) refl t (registers-in es i)
   where
-    by : (b : Bool) → eqb p 1 ≡ b → T (has (cond b (j ∷ registers es) (registers es)) i) → (T (has (registers es) i) → In (part 1 i) es) → In (part 1 i) (part p j ∷ es)
-    by true q t f = or-elim (eqb j i) (has (registers es) i) t (λ v. subst (λ (a : ℕ). In (part 1 i) (part a j ∷ es)) (sym (eqb→eq p 1 (subst T (sym q) tt))) (subst (λ (a : ℕ). In (part 1 i) (part 1 a ∷ es)) (sym (eqb→eq j i v)) here)) (λ v. there (f v))
+    by : (b : Bool) → eqb p 1 ≡ b → T (has (cond b (j ∷ registers es) (registers es)) i) → (T (has (registers es) i) → Among (part 1 i) es) → Among (part 1 i) (part p j ∷ es)
+    by true q t f = or-elim (eqb j i) (has (registers es) i) t (λ v. subst (λ (a : ℕ). Among (part 1 i) (part a j ∷ es)) (sym (eqb→eq p 1 (subst T (sym q) tt))) (subst (λ (a : ℕ). Among (part 1 i) (part 1 a ∷ es)) (sym (eqb→eq j i v)) here)) (λ v. there (f v))
     by false q t f = there (f t)
 
-pub in-registers : {es : List Element} (i : ℕ) → In (part 1 i) es → T (has (registers es) i)
+pub in-registers : {es : List Element} (i : ℕ) → Among (part 1 i) es → T (has (registers es) i)
 in-registers i (here {xs = es}) = or-left (eqb i i) (has (registers es) i) (eqb-refl i)
 in-registers i (there {y = point j} h) = in-registers i h
 in-registers i (there {y = part p j} {xs = es} h) = by (eqb p 1) (in-registers i h)
@@ -100,7 +100,7 @@ registers-up (part p j ∷ es) n e r = by (eqb p 1) (registers-up es (j + partAt
     by false u = up-weaken (registers es) (j + partAt p .inputs + 1) n (let l = r .0 in omega arith) u
 
 -- the outputs of those at xs
-outputs-at : (β : Bits) (t : ℕ) (xs : List ℕ) (k : ℕ) → k < length xs → getD (row β t (map (λ i. i + 1) xs)) k 0 ≡ byte (β (getD xs k 0 + 1) t)
+outputs-at : (β : Bits) (t : ℕ) (xs : List ℕ) (k : ℕ) → k < length xs → getD (row β t (map (λ i. i + 1) xs)) k 0 ≡ bitByte (β (getD xs k 0 + 1) t)
 outputs-at β t [] k l = absurd (omega arith)
 outputs-at β t (x ∷ xs) zero l = refl
 outputs-at β t (x ∷ xs) (suc k) l = outputs-at β t xs k (omega arith)
@@ -159,20 +159,20 @@ module _ (m : Net) (ok : Formed m) (n : ℕ) (bits starts : List ℕ) (β : Bits
       at-pin : (i : ℕ) → T (isPin (m .pins) i) → (t : ℕ) → t < n → β i t ≡ givenBits (m .pins) bits i t
       at-pin i h t l =
           let a = at-place is i (pin-has (m .pins) i h) in
-          let e : getD bits (t * length is + place is i) 0 ≡ byte (β i t) =
-          ap (λ (xs : List ℕ). getD xs (t * length is + place is i) 0) (sym (r .given)) ∙ rows-at β is n t (place is i) l (a .0) ∙ ap (λ (z : ℕ). byte (β z t)) (a .1) in
+          let e : getD bits (t * length is + place is i) 0 ≡ bitByte (β i t) =
+          ap (λ (xs : List ℕ). getD xs (t * length is + place is i) 0) (sym (r .given)) ∙ rows-at β is n t (place is i) l (a .0) ∙ ap (λ (z : ℕ). bitByte (β z t)) (a .1) in
           sym (ap (λ (v : ℕ). eqb v 1) e ∙ byte-bit (β i t))
 
-      register : (i : ℕ) → 0 < n → In (part 1 i) (m .elements) → β (i + 1) 0 ≡ startBits (m .elements) starts i
+      register : (i : ℕ) → 0 < n → Among (part 1 i) (m .elements) → β (i + 1) 0 ≡ startBits (m .elements) starts i
       register i l h =
           let a = at-place rs i (in-registers i h) in
-          let e : getD starts (place rs i) 0 ≡ byte (β (i + 1) 0) =
-          ap (λ (xs : List ℕ). getD xs (place rs i) 0) (sym (r .woken l)) ∙ outputs-at β 0 rs (place rs i) (a .0) ∙ ap (λ (z : ℕ). byte (β (z + 1) 0)) (a .1) in
+          let e : getD starts (place rs i) 0 ≡ bitByte (β (i + 1) 0) =
+          ap (λ (xs : List ℕ). getD xs (place rs i) 0) (sym (r .woken l)) ∙ outputs-at β 0 rs (place rs i) (a .0) ∙ ap (λ (z : ℕ). bitByte (β (z + 1) 0)) (a .1) in
           sym (ap (λ (v : ℕ). eqb v 1) e ∙ byte-bit (β (i + 1) 0))
 
-      starting : 0 < n → (a : Element) → In a (m .elements) → StartsWith (startBits (m .elements) starts) β a
+      starting : 0 < n → (a : Element) → Among a (m .elements) → StartsWith (startBits (m .elements) starts) β a
       starting l (point i) h = tt
-      starting l (part p i) h = λ t. subst (λ (q : ℕ). In (part q i) (m .elements) → β (i + partAt q .inputs) 0 ≡ startBits (m .elements) starts i) (sym (eqb→eq p 1 t)) (register i l) h
+      starting l (part p i) h = λ t. subst (λ (q : ℕ). Among (part q i) (m .elements) → β (i + partAt q .inputs) 0 ≡ startBits (m .elements) starts i) (sym (eqb→eq p 1 t)) (register i l) h
 
   pub has-recorded : ExactBits m n bits starts → Possible partLaw m n β → Given → Recorded m n bits starts β
   has-recorded x p h = record {
@@ -183,8 +183,8 @@ module _ (m : Net) (ok : Formed m) (n : ℕ) (bits starts : List ℕ) (β : Bits
     where
       at : (t k : ℕ) → t < n → k < length is → getD (rows β is 0 n) (t * length is + k) 0 ≡ getD bits (t * length is + k) 0
       at t k l q =
-          rows-at β is n t k l q ∙ ap byte (h .pins (getD is k 0) (has-pin (m .pins) (getD is k 0) (has-at is k q)) t l)
-          ∙ ap (λ (z : ℕ). byte (eqb (getD bits (t * length is + z) 0) 1)) (place-at is is-once k q) ∙ bit-byte (getD bits (t * length is + k) 0) (all-low bits (x .input-bits) (t * length is + k))
+          rows-at β is n t k l q ∙ ap bitByte (h .pins (getD is k 0) (has-pin (m .pins) (getD is k 0) (has-at is k q)) t l)
+          ∙ ap (λ (z : ℕ). bitByte (eqb (getD bits (t * length is + z) 0) 1)) (place-at is is-once k q) ∙ bit-byte (getD bits (t * length is + k) 0) (all-low bits (x .input-bits) (t * length is + k))
 
       some : (j : ℕ) → j < n * length is → 0 < length is
       some j l = elim (decLe 1 (length is)) [
@@ -201,5 +201,5 @@ module _ (m : Net) (ok : Formed m) (n : ℕ) (bits starts : List ℕ) (β : Bits
       start-at : 0 < n → (k : ℕ) → k < length (row β 0 (registerOutputs m)) → getD (row β 0 (registerOutputs m)) k 0 ≡ getD starts k 0
       start-at l k q =
           let z : k < length rs = subst (λ (j : ℕ). k < j) (row-length β 0 (registerOutputs m) ∙ length-map rs _) q in
-          outputs-at β 0 rs k z ∙ ap byte (in-all (StartsWith (startBits (m .elements) starts) β) (registers-in (m .elements) (getD rs k 0) (has-at rs k z)) (h .registers l) tt)
-          ∙ ap (λ (j : ℕ). byte (eqb (getD starts j 0) 1)) (place-at rs rs-once k z) ∙ bit-byte (getD starts k 0) (all-low starts (x .start-bits) k)
+          outputs-at β 0 rs k z ∙ ap bitByte (in-all (StartsWith (startBits (m .elements) starts) β) (registers-in (m .elements) (getD rs k 0) (has-at rs k z)) (h .registers l) tt)
+          ∙ ap (λ (j : ℕ). bitByte (eqb (getD starts j 0) 1)) (place-at rs rs-once k z) ∙ bit-byte (getD starts k 0) (all-low starts (x .start-bits) k)

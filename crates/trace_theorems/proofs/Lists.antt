@@ -7,17 +7,18 @@ use native.Mathlib.Omega.{arith}
 use native.Mathlib.Nat.{not-suc-le-zero, le-of-suc-le-suc}
 use lib.Dec.{T, eqb, eqb→eq, eqb-refl}
 use lib.ListN.{length, getD}
+use Rattle.calculus.specs.Record.{Among, here, there}
+use Rattle.circuit_theorems.specs.Terminals.{has}
 use Rattle.laws.proofs.Tests.{by-eqb, or-left, or-right, or-elim}
-use Rattle.circuit_theorems.proofs.Rings.{has}
-use Rattle.trace_calculus.specs.Trace.{In, here, there, place}
+use Rattle.trace_calculus.specs.Trace.{place}
 
 -- ---- members
 
-pub has-in : (xs : List ℕ) (x : ℕ) → T (has xs x) → In x xs
+pub has-in : (xs : List ℕ) (x : ℕ) → T (has xs x) → Among x xs
 has-in [] x t = absurd t
-has-in (y ∷ xs) x t = or-elim (eqb y x) (has xs x) t (λ u. subst (λ (z : ℕ). In x (z ∷ xs)) (sym (eqb→eq y x u)) here) (λ u. there (has-in xs x u))
+has-in (y ∷ xs) x t = or-elim (eqb y x) (has xs x) t (λ u. subst (λ (z : ℕ). Among x (z ∷ xs)) (sym (eqb→eq y x u)) here) (λ u. there (has-in xs x u))
 
-pub in-has : {xs : List ℕ} {x : ℕ} → In x xs → T (has xs x)
+pub in-has : {xs : List ℕ} {x : ℕ} → Among x xs → T (has xs x)
 in-has {x = x} (here {xs = xs}) = or-left (eqb x x) (has xs x) (eqb-refl x)
 in-has {x = x} (there {y = y} {xs = xs} h) = or-right (eqb y x) (has xs x) (in-has h)
 

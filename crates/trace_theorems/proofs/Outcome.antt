@@ -12,7 +12,7 @@ use Rattle.calculus.specs.Answer.{Refusal, Answer, good, refused, _>>=_, number
 use Rattle.calculus.specs.Net.{Net}
 use Rattle.calculus.specs.Record.{Bits, All}
 use Rattle.circuit_theorems.specs.Formed.{Formed}
-use Rattle.trace_calculus.specs.Trace.{noRing, inputs, run, inPins, outPins, registers, givenBits, startBits, rows, allBits, ran}
+use Rattle.trace_calculus.specs.Trace.{noneOnRing, inputs, run, inPins, outPins, registers, givenBits, startBits, rows, allBits, ran}
 use Rattle.trace_calculus.specs.Promise.{Recorded, Traced, Ringless, LowestOnRing, ExactBits, Needs}
 use Rattle.trace_theorems.proofs.Lists.{has-in, in-has}
 use Rattle.trace_theorems.proofs.Lending.{rows-length, recorded-has, has-recorded}
@@ -81,28 +81,28 @@ module _ (m : Net) (n : ℕ) (bits starts : List ℕ) where
         }
 
     module _ (room : ℕ) where
-      ran-is : (a : Answer (Unit {0})) (b c : Bool) → noRing m (inputs (m .elements)) ≡ a → test ≡ b → leb needed room ≡ c
+      ran-is : (a : Answer (Unit {0})) (b c : Bool) → noneOnRing m (inputs (m .elements)) ≡ a → test ≡ b → leb needed room ≡ c
           → ran m n bits starts room ≡ (a >>= λ _. need b 20 0 >>= λ _. need c 17 needed >>= λ _. good bytes)
       unfolding ran
       ran-is a b c e f g = rw (e, f, g)
 
       pub came : Came m n bits starts room (ran m n bits starts room)
-      came = go (noRing m (inputs (m .elements))) refl
+      came = go (noneOnRing m (inputs (m .elements))) refl
         where
           came-as : {a : Answer (List ℕ)} → ran m n bits starts room ≡ a → Came m n bits starts room a → Came m n bits starts room (ran m n bits starts room)
           came-as e h = subst (Came m n bits starts room) (sym e) h
 
-          last : Ringless m → ExactBits m n bits starts → noRing m (inputs (m .elements)) ≡ good tt → test ≡ true → (c : Bool) → leb needed room ≡ c → Came m n bits starts room (ran m n bits starts room)
+          last : Ringless m → ExactBits m n bits starts → noneOnRing m (inputs (m .elements)) ≡ good tt → test ≡ true → (c : Bool) → leb needed room ≡ c → Came m n bits starts room (ran m n bits starts room)
           last free x q f true g =
               came-as (ran-is (good tt) true true q f g)
               (to-end (record { ringless = free; exact = x; count = refl }) (leb→le needed room (subst T (sym g) tt)) (rows-length (run m (givenBits (m .pins) bits) (startBits (m .elements) starts)) (outPins (m .pins)) 0 n) (traced free x))
           last free x q f false g = came-as (ran-is (good tt) true false q f g) (by-room (record { ringless = free; exact = x; count = refl }) (leb-false needed room g))
 
-          next : Ringless m → noRing m (inputs (m .elements)) ≡ good tt → (b : Bool) → test ≡ b → Came m n bits starts room (ran m n bits starts room)
+          next : Ringless m → noneOnRing m (inputs (m .elements)) ≡ good tt → (b : Bool) → test ≡ b → Came m n bits starts room (ran m n bits starts room)
           next free q true f = last free (exact-of (subst T (sym f) tt)) q f (leb needed room) refl
           next free q false f = came-as (ran-is (good tt) false (leb needed room) q f refl) (by-bits free (λ x. subst T f (of-exact x)))
 
-          go : (a : Answer (Unit {0})) → noRing m (inputs (m .elements)) ≡ a → Came m n bits starts room (ran m n bits starts room)
+          go : (a : Answer (Unit {0})) → noneOnRing m (inputs (m .elements)) ≡ a → Came m n bits starts room (ran m n bits starts room)
           go (good tt) q = next (accepted m ok q) q test refl
           go (refused why) q =
               let l = ring-place m ok why q in

@@ -13,22 +13,22 @@ use lib.ListN.{length}
 use Rattle.calculus.specs.Terms.{partAt}
 use Rattle.calculus.specs.Net.{Terminal, inp, out, Interface, Element, point, part, Wire, Net, partSide}
 use Rattle.calculus.specs.Lean.{driver, isPin}
-use Rattle.calculus.specs.Record.{All}
-use Rattle.trace_calculus.specs.Trace.{In, here, there, Source, pin, from, made as made-by, hasWire, sourceIn, source, looks, before, upFrom, terminals, inputs}
-use Rattle.calculus.specs.Inputs.{tally, ins, madeAt, targets, isOut}
+use Rattle.calculus.specs.Record.{All, Among, here, there}
+use Rattle.trace_calculus.specs.Trace.{Source, pin, from, made-part as made-by, sourceIn, source, looks, before, upFrom, terminals, inputs}
+use Rattle.calculus.specs.Inputs.{tally, ins, madeAt, targets, isOut, hasWire}
+use Rattle.circuit_theorems.specs.Terminals.{has}
 use Rattle.circuit_theorems.specs.Formed.{Rising, Formed}
 use Rattle.laws.proofs.Tests.{by-eqb, or-elim, or-left, or-right, is-false, T-is}
-use Rattle.circuit_theorems.proofs.Rings.{has}
 use Rattle.circuit_theorems.proofs.Terminals.{out-low, made-low, each-target, unique, pin-ins, ins-pin}
 use Rattle.circuit_theorems.proofs.Wiring.{input-once, target-one, pin-undriven}
 
 -- ---- members
 
-pub all-in : {A : Type 0} (F : A → Type 0) (xs : List A) → ((x : A) → In x xs → F x) → All F xs
+pub all-in : {A : Type 0} (F : A → Type 0) (xs : List A) → ((x : A) → Among x xs → F x) → All F xs
 all-in F [] f = tt
 all-in F (x ∷ xs) f = (f x here, all-in F xs (λ y h. f y (there h)))
 
-pub in-all : {A : Type 0} (F : A → Type 0) {x : A} {xs : List A} → In x xs → All F xs → F x
+pub in-all : {A : Type 0} (F : A → Type 0) {x : A} {xs : List A} → Among x xs → All F xs → F x
 in-all F here a = a .0
 in-all F (there h) a = in-all F h (a .1)
 
@@ -36,8 +36,8 @@ in-all F (there h) a = in-all F h (a .1)
 
 pub data View (es : List Element) (d : Source) (x : ℕ) : Source → Type 0 where
   other : (T (isOut es x) → ⊥) → View es d x d
-  of-point : (i : ℕ) → In (point i) es → i + 1 ≡ x → View es d x (from i)
-  of-part : (p i : ℕ) → In (part p i) es → i + partAt p .inputs ≡ x → View es d x (made-by p i)
+  of-point : (i : ℕ) → Among (point i) es → i + 1 ≡ x → View es d x (from i)
+  of-part : (p i : ℕ) → Among (part p i) es → i + partAt p .inputs ≡ x → View es d x (made-by p i)
 
 behind : {es : List Element} {d : Source} {x : ℕ} {s : Source} (e : Element) → (T (isOut (e ∷ es) x) → T (isOut es x)) → View es d x s → View (e ∷ es) d x s
 behind e f (other h) = other (λ t. h (f t))
@@ -55,25 +55,25 @@ view (part p i ∷ es) d x =
     (λ e _. of-part p i here e)
     (λ n q. behind (part p i) (λ t. subst (λ (b : Bool). T (b || isOut es x)) (sym q) t) (view es d x)) refl
 
-pub point-low : {es : List Element} {i : ℕ} (n e : ℕ) → In (point i) es → Rising es n e → n ≤ i
+pub point-low : {es : List Element} {i : ℕ} (n e : ℕ) → Among (point i) es → Rising es n e → n ≤ i
 point-low n e here r = r .0
 point-low {es} n e (there {y = point j} h) r = let l = point-low (j + 2) e h (r .1) in omega (arith, r .0)
 point-low {es} n e (there {y = part p j} h) r = let l = point-low (j + partAt p .inputs + 1) e h (r .1) in omega (arith, r .0)
 
-pub part-from : {es : List Element} {p i : ℕ} (n e : ℕ) → In (part p i) es → Rising es n e → n ≤ i
+pub part-from : {es : List Element} {p i : ℕ} (n e : ℕ) → Among (part p i) es → Rising es n e → n ≤ i
 part-from n e here r = r .0
 part-from {es} n e (there {y = point j} h) r = let l = part-from (j + 2) e h (r .1) in omega (arith, r .0)
 part-from {es} n e (there {y = part p j} h) r = let l = part-from (j + partAt p .inputs + 1) e h (r .1) in omega (arith, r .0)
 
 -- in a rising list each output is found at its own element
-pub point-source : {es : List Element} {i : ℕ} (n e : ℕ) (d : Source) → In (point i) es → Rising es n e → sourceIn es d (i + 1) ≡ from i
+pub point-source : {es : List Element} {i : ℕ} (n e : ℕ) (d : Source) → Among (point i) es → Rising es n e → sourceIn es d (i + 1) ≡ from i
 point-source {i = i} n e d (here {xs = es}) r = by-eqb (λ b. cond b (from i) (sourceIn es d (i + 1)) ≡ from i) (i + 1) (i + 1) (λ e. refl) (λ f. absurd (f refl))
 point-source {i = i} n e d (there {y = point j} {xs = es} h) r =
     by-eqb (λ b. cond b (from j) (sourceIn es d (i + 1)) ≡ from i) (j + 1) (i + 1) (λ f. absurd (let l = point-low (j + 2) e h (r .1) in omega arith)) (λ f. point-source (j + 2) e d h (r .1))
 point-source {i = i} n e d (there {y = part p j} {xs = es} h) r =
     by-eqb (λ b. cond b (made-by p j) (sourceIn es d (i + 1)) ≡ from i) (j + partAt p .inputs) (i + 1) (λ f. absurd (let l = point-low (j + partAt p .inputs + 1) e h (r .1) in omega arith)) (λ f. point-source (j + partAt p .inputs + 1) e d h (r .1))
 
-pub part-source : {es : List Element} {p i : ℕ} (n e : ℕ) (d : Source) → In (part p i) es → Rising es n e → sourceIn es d (i + partAt p .inputs) ≡ made-by p i
+pub part-source : {es : List Element} {p i : ℕ} (n e : ℕ) (d : Source) → Among (part p i) es → Rising es n e → sourceIn es d (i + partAt p .inputs) ≡ made-by p i
 part-source {p = p} {i = i} n e d (here {xs = es}) r = by-eqb (λ b. cond b (made-by p i) (sourceIn es d (i + partAt p .inputs)) ≡ made-by p i) (i + partAt p .inputs) (i + partAt p .inputs) (λ e. refl) (λ f. absurd (f refl))
 part-source {p = p} {i = i} n e d (there {y = point j} {xs = es} h) r =
     by-eqb (λ b. cond b (from j) (sourceIn es d (i + partAt p .inputs)) ≡ made-by p i) (j + 1) (i + partAt p .inputs) (λ f. absurd (let l = part-from (j + 2) e h (r .1) in omega arith)) (λ f. part-source (j + 2) e d h (r .1))
@@ -111,10 +111,10 @@ has-wire [] x h = absurd h
 has-wire (w ∷ ws) x h = by-eqb (λ b. T (b || hasWire ws x) → 1 ≤ cond b 1 0 + targets ws x) (w .to) x (λ q l. omega arith) (λ q l. omega (arith, has-wire ws x l)) h
 
 -- the wire that the driver's number comes from
-pub the-wire : (ws : List Wire) (x d : ℕ) → T (hasWire ws x) → (w : Wire) × In w ws × (w .to ≡ x) × (driver ws x d ≡ w .from)
+pub the-wire : (ws : List Wire) (x d : ℕ) → T (hasWire ws x) → (w : Wire) × Among w ws × (w .to ≡ x) × (driver ws x d ≡ w .from)
 the-wire [] x d h = absurd h
 the-wire (w ∷ ws) x d h =
-    by-eqb (λ b. T (b || hasWire ws x) → (v : Wire) × In v (w ∷ ws) × (v .to ≡ x) × (cond b (w .from) (driver ws x d) ≡ v .from)) (w .to) x
+    by-eqb (λ b. T (b || hasWire ws x) → (v : Wire) × Among v (w ∷ ws) × (v .to ≡ x) × (cond b (w .from) (driver ws x d) ≡ v .from)) (w .to) x
     (λ e _. (w, here, e, refl))
     (λ _ t. let r = the-wire ws x d t in (r .0, there (r .1), r .2, r .3)) h
 
@@ -140,22 +140,22 @@ pub has-up : (k i x : ℕ) → T (has (upFrom k i) x) → (i ≤ x) × (x < i + 
 has-up zero i x t = absurd t
 has-up (suc k) i x t = or-elim (eqb i x) (has (upFrom k (i + 1)) x) t (λ u. let e = eqb→eq i x u in (omega arith, omega arith)) (λ u. let r = has-up k (i + 1) x u in (omega arith, omega arith))
 
-pub out-of-point : {es : List Element} {i : ℕ} → In (point i) es → T (isOut es (i + 1))
+pub out-of-point : {es : List Element} {i : ℕ} → Among (point i) es → T (isOut es (i + 1))
 out-of-point {i = i} (here {xs = es}) = or-left (eqb (i + 1) (i + 1)) (isOut es (i + 1)) (eqb-refl (i + 1))
 out-of-point {i = i} (there {y = point j} {xs = es} h) = or-right (eqb (j + 1) (i + 1)) (isOut es (i + 1)) (out-of-point h)
 out-of-point {i = i} (there {y = part p j} {xs = es} h) = or-right (eqb (j + partAt p .inputs) (i + 1)) (isOut es (i + 1)) (out-of-point h)
 
-pub out-of-part : {es : List Element} {p i : ℕ} → In (part p i) es → T (isOut es (i + partAt p .inputs))
+pub out-of-part : {es : List Element} {p i : ℕ} → Among (part p i) es → T (isOut es (i + partAt p .inputs))
 out-of-part {p = p} {i = i} (here {xs = es}) = or-left (eqb (i + partAt p .inputs) (i + partAt p .inputs)) (isOut es (i + partAt p .inputs)) (eqb-refl (i + partAt p .inputs))
 out-of-part {p = p} {i = i} (there {y = point j} {xs = es} h) = or-right (eqb (j + 1) (i + partAt p .inputs)) (isOut es (i + partAt p .inputs)) (out-of-part h)
 out-of-part {p = p} {i = i} (there {y = part q j} {xs = es} h) = or-right (eqb (j + partAt q .inputs) (i + partAt p .inputs)) (isOut es (i + partAt p .inputs)) (out-of-part h)
 
-pub point-terminal : {es : List Element} {i : ℕ} → In (point i) es → T (has (terminals es) i)
+pub point-terminal : {es : List Element} {i : ℕ} → Among (point i) es → T (has (terminals es) i)
 point-terminal {i = i} (here {xs = es}) = has-left (upFrom 2 i) (terminals es) i (up-has 2 i i (le-refl i) (omega arith))
 point-terminal {i = i} (there {y = point j} {xs = es} h) = has-right (upFrom 2 j) (terminals es) i (point-terminal h)
 point-terminal {i = i} (there {y = part p j} {xs = es} h) = has-right (upFrom (suc (partAt p .inputs)) j) (terminals es) i (point-terminal h)
 
-pub part-terminal : {es : List Element} {p i : ℕ} (x : ℕ) → In (part p i) es → i ≤ x → x ≤ i + partAt p .inputs → T (has (terminals es) x)
+pub part-terminal : {es : List Element} {p i : ℕ} (x : ℕ) → Among (part p i) es → i ≤ x → x ≤ i + partAt p .inputs → T (has (terminals es) x)
 part-terminal {p = p} {i = i} x (here {xs = es}) l h = has-left (upFrom (suc (partAt p .inputs)) i) (terminals es) x (up-has (suc (partAt p .inputs)) i x l (omega arith))
 part-terminal x (there {y = point j} {xs = es} k) l h = has-right (upFrom 2 j) (terminals es) x (part-terminal x k l h)
 part-terminal x (there {y = part q j} {xs = es} k) l h = has-right (upFrom (suc (partAt q .inputs)) j) (terminals es) x (part-terminal x k l h)
@@ -222,15 +222,15 @@ module _ (m : Net) (ok : Formed m) where
       go (of-point i k q) = absurd (not-out x h (subst (λ (z : ℕ). T (isOut (m .elements) z)) q (out-of-point k)))
       go (of-part p i k q) = absurd (not-out x h (subst (λ (z : ℕ). T (isOut (m .elements) z)) q (out-of-part k)))
 
-  pub at-point : {i : ℕ} → In (point i) (m .elements) → source m (i + 1) ≡ from i
+  pub at-point : {i : ℕ} → Among (point i) (m .elements) → source m (i + 1) ≡ from i
   unfolding source
   at-point {i} h = point-source 0 (ok .end) (rest (i + 1)) h (ok .rising)
 
-  pub at-part : {p i : ℕ} → In (part p i) (m .elements) → source m (i + partAt p .inputs) ≡ made-by p i
+  pub at-part : {p i : ℕ} → Among (part p i) (m .elements) → source m (i + partAt p .inputs) ≡ made-by p i
   unfolding source
   at-part {p} {i} h = part-source 0 (ok .end) (rest (i + partAt p .inputs)) h (ok .rising)
 
-  pub at-wire : {w : Wire} → In w (m .wires) → source m (w .to) ≡ from (w .from)
+  pub at-wire : {w : Wire} → Among w (m .wires) → source m (w .to) ≡ from (w .from)
   at-wire {w} h =
       let l : 1 ≤ targets (m .wires) (w .to) = in-all (λ v. 1 ≤ targets (m .wires) (v .to)) h (each-target (m .wires)) in
       at-input (w .to) (omega (arith, ok .reached (w .to)))
@@ -246,9 +246,9 @@ module _ (m : Net) (ok : Formed m) where
   -- a terminal, by what decides it
   pub data Decided (x : ℕ) : Source → Type 0 where
     is-pin : T (isPin (m .pins) x) → Decided x pin
-    is-wire : (w : Wire) → In w (m .wires) → w .to ≡ x → Decided x (from (w .from))
-    is-point : (i : ℕ) → In (point i) (m .elements) → i + 1 ≡ x → Decided x (from i)
-    is-part : (p i : ℕ) → In (part p i) (m .elements) → i + partAt p .inputs ≡ x → Decided x (made-by p i)
+    is-wire : (w : Wire) → Among w (m .wires) → w .to ≡ x → Decided x (from (w .from))
+    is-point : (i : ℕ) → Among (point i) (m .elements) → i + 1 ≡ x → Decided x (from i)
+    is-part : (p i : ℕ) → Among (part p i) (m .elements) → i + partAt p .inputs ≡ x → Decided x (made-by p i)
 
   pub decided : (x : ℕ) → T (has (terminals (m .elements)) x) → Decided x (source m x)
   unfolding source

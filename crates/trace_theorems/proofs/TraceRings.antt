@@ -14,12 +14,12 @@ use Rattle.calculus.proofs.Answers.{refused≢good, refused-inj}
 use Rattle.calculus.specs.Terms.{partAt}
 use Rattle.calculus.specs.Net.{partSide, Element, point, part, Wire, Net}
 use Rattle.calculus.specs.Lean.{driver, isPin}
-use Rattle.calculus.specs.Record.{All}
-use Rattle.trace_calculus.specs.Trace.{In, here, there, Feeds, by-wire, by-point, by-gate, Leads, once, then, OnRing, Source, pin, from, made as made-by, source, looks, before, upFrom, terminals, inputs, rounds, reach, onRing, noRing}
+use Rattle.calculus.specs.Record.{All, Among, here, there}
+use Rattle.trace_calculus.specs.Trace.{Feeds, by-wire, by-point, by-gate, Leads, one-step, then, OnRing, Source, pin, from, made-part as made-by, source, looks, before, upFrom, terminals, inputs, rounds, reach, onRing, noneOnRing}
 use Rattle.calculus.specs.Inputs.{ins, madeAt, targets}
+use Rattle.circuit_theorems.specs.Terminals.{has}
 use Rattle.circuit_theorems.specs.Formed.{Rising, Formed}
 use Rattle.laws.proofs.Tests.{by-eqb, or-left, or-right, or-elim}
-use Rattle.circuit_theorems.proofs.Rings.{has}
 use Rattle.circuit_theorems.proofs.Terminals.{each-target}
 use Rattle.trace_theorems.proofs.Lists.{Up, up-low, up-weaken}
 use Rattle.trace_theorems.proofs.Graph.{Back, last, step, longer, reach-back, back-reach}
@@ -46,16 +46,16 @@ module _ (m : Net) (ok : Formed m) where
       go (is-part p i k e) h = let r = looks-at p i x h in subst (λ (b : ℕ). Feeds m x b) e (by-gate p i x k (r .0) (r .1) (r .2))
 
   joined : {x y z : ℕ} → Leads m x y → Leads m y z → Leads m x z
-  joined (once f) q = then f q
+  joined (one-step f) q = then f q
   joined (then f p) q = then f (joined p q)
 
   leads-back : {x y : ℕ} → Leads m x y → Back (before m) y x
-  leads-back (once f) = last (feeds-before f)
+  leads-back (one-step f) = last (feeds-before f)
   leads-back (then f p) = longer (before m) (leads-back p) (last (feeds-before f))
 
   back-leads : {y x : ℕ} → T (has (terminals (m .elements)) y) → Back (before m) y x → Leads m x y
-  back-leads {y} {x} t (last h) = once (before-feeds x y t h)
-  back-leads {y} t (step {y = z} h p) = joined (back-leads (closed m ok y z h) p) (once (before-feeds z y t h))
+  back-leads {y} {x} t (last h) = one-step (before-feeds x y t h)
+  back-leads {y} t (step {y = z} h p) = joined (back-leads (closed m ok y z h) p) (one-step (before-feeds z y t h))
 
   ring-back : (x : ℕ) → OnRing m x → Back (before m) x x
   ring-back x r = leads-back r
@@ -79,12 +79,12 @@ module _ (m : Net) (ok : Formed m) where
 
   -- ---- every ring passes through an input terminal
 
-  input-has : {es : List Element} {i : ℕ} → In (point i) es → T (has (inputs es) i)
+  input-has : {es : List Element} {i : ℕ} → Among (point i) es → T (has (inputs es) i)
   input-has {i = i} (here {xs = es}) = or-left (eqb i i) (has (inputs es) i) (eqb-refl i)
   input-has {i = i} (there {y = point j} {xs = es} h) = or-right (eqb j i) (has (inputs es) i) (input-has h)
   input-has {i = i} (there {y = part p j} {xs = es} h) = has-right (upFrom (partAt p .inputs) j) (inputs es) i (input-has h)
 
-  part-has : {es : List Element} {p i : ℕ} (x : ℕ) → In (part p i) es → i ≤ x → x < i + partAt p .inputs → T (has (inputs es) x)
+  part-has : {es : List Element} {p i : ℕ} (x : ℕ) → Among (part p i) es → i ≤ x → x < i + partAt p .inputs → T (has (inputs es) x)
   part-has {p = p} {i = i} x (here {xs = es}) l k = has-left (upFrom (partAt p .inputs) i) (inputs es) x (up-has (partAt p .inputs) i x l k)
   part-has x (there {y = point j} {xs = es} h) l k = or-right (eqb j x) (has (inputs es) x) (part-has x h l k)
   part-has x (there {y = part q j} {xs = es} h) l k = has-right (upFrom (partAt q .inputs) j) (inputs es) x (part-has x h l k)
@@ -104,32 +104,32 @@ module _ (m : Net) (ok : Formed m) where
   feeds-input (by-gate p i x h n l k) = inl (part-has x h l k)
 
   ring-input : {x : ℕ} → OnRing m x → (i : ℕ) × T (has (inputs (m .elements)) i) × OnRing m i
-  ring-input {x} (once f) = ⊎-elim (λ t. (x, t, once f)) (λ t. (x, t, once f)) (feeds-input f)
-  ring-input {x} (then {y = y} f p) = ⊎-elim (λ t. (x, t, then f p)) (λ t. (y, t, joined p (once f))) (feeds-input f)
+  ring-input {x} (one-step f) = ⊎-elim (λ t. (x, t, one-step f)) (λ t. (x, t, one-step f)) (feeds-input f)
+  ring-input {x} (then {y = y} f p) = ⊎-elim (λ t. (x, t, then f p)) (λ t. (y, t, joined p (one-step f))) (feeds-input f)
 
   -- ---- the refusal
 
-  no-ring-good : (is : List ℕ) → noRing m is ≡ good tt → (i : ℕ) → T (has is i) → OnRing m i → ⊥
+  no-ring-good : (is : List ℕ) → noneOnRing m is ≡ good tt → (i : ℕ) → T (has is i) → OnRing m i → ⊥
   no-ring-good [] e i t r = t
   no-ring-good (j ∷ is) e i t r = go (onRing m j) refl e (λ q. no-ring-good is q i)
     where
-      go : (b : Bool) → onRing m j ≡ b → (need (not b) 19 j >>= λ _. noRing m is) ≡ good tt → (noRing m is ≡ good tt → T (has is i) → OnRing m i → ⊥) → ⊥
+      go : (b : Bool) → onRing m j ≡ b → (need (not b) 19 j >>= λ _. noneOnRing m is) ≡ good tt → (noneOnRing m is ≡ good tt → T (has is i) → OnRing m i → ⊥) → ⊥
       go true q e ih = refused≢good e
       go false q e ih = or-elim (eqb j i) (has is i) t (λ u. subst (λ (b : Bool). T b) q (on-ring j .1 (subst (λ (z : ℕ). OnRing m z) (sym (eqb→eq j i u)) r))) (λ u. ih e u r)
 
-  pub accepted : noRing m (inputs (m .elements)) ≡ good tt → (x : ℕ) → OnRing m x → ⊥
+  pub accepted : noneOnRing m (inputs (m .elements)) ≡ good tt → (x : ℕ) → OnRing m x → ⊥
   accepted e x r = let (i, t, s) = ring-input r in no-ring-good (inputs (m .elements)) e i t s
 
-  free-good : (is : List ℕ) → ((i : ℕ) → T (has is i) → OnRing m i → ⊥) → noRing m is ≡ good tt
+  free-good : (is : List ℕ) → ((i : ℕ) → T (has is i) → OnRing m i → ⊥) → noneOnRing m is ≡ good tt
   free-good [] f = refl
   free-good (j ∷ is) f = go (onRing m j) refl (free-good is (λ i t. f i (or-right (eqb j i) (has is i) t)))
     where
-      go : (b : Bool) → onRing m j ≡ b → noRing m is ≡ good tt → (need (not b) 19 j >>= λ _. noRing m is) ≡ good tt
+      go : (b : Bool) → onRing m j ≡ b → noneOnRing m is ≡ good tt → (need (not b) 19 j >>= λ _. noneOnRing m is) ≡ good tt
       go true q ih = absurd (f j (or-left (eqb j j) (has is j) (eqb-refl j)) (on-ring j .0 (subst (λ (b : Bool). T b) (sym q) tt)))
       go false q ih = ih
 
   -- it may be run exactly when there is no ring
-  pub runs-iff : (noRing m (inputs (m .elements)) ≡ good tt) ↔ ((x : ℕ) → OnRing m x → ⊥)
+  pub runs-iff : (noneOnRing m (inputs (m .elements)) ≡ good tt) ↔ ((x : ℕ) → OnRing m x → ⊥)
   runs-iff = (accepted, (λ f. free-good (inputs (m .elements)) (λ i _. f i)))
 
   -- a refusal is 19, at an input terminal on a ring, and no lower input terminal is on one
@@ -139,11 +139,11 @@ module _ (m : Net) (ok : Formed m) where
     pub ring : OnRing m (why .place)
     pub lowest : (i : ℕ) → T (has is i) → OnRing m i → why .place ≤ i
 
-  refused-lowest : (is : List ℕ) (n : ℕ) → Up is n → (why : Refusal) → noRing m is ≡ refused why → Lowest is why
+  refused-lowest : (is : List ℕ) (n : ℕ) → Up is n → (why : Refusal) → noneOnRing m is ≡ refused why → Lowest is why
   refused-lowest [] n u why e = absurd (refused≢good (sym e))
   refused-lowest (j ∷ is) n u why e = go (onRing m j) refl e (λ q. refused-lowest is (j + 1) (u .1) why q)
     where
-      go : (c : Bool) → onRing m j ≡ c → (need (not c) 19 j >>= λ _. noRing m is) ≡ refused why → (noRing m is ≡ refused why → Lowest is why) → Lowest (j ∷ is) why
+      go : (c : Bool) → onRing m j ≡ c → (need (not c) 19 j >>= λ _. noneOnRing m is) ≡ refused why → (noneOnRing m is ≡ refused why → Lowest is why) → Lowest (j ∷ is) why
       go true q e ih =
           let e₀ : numbered 19 j ≡ why = refused-inj e in
           let e₁ : why .place ≡ j = sym (ap (λ (r : Refusal). r .place) e₀) in record {
@@ -169,5 +169,5 @@ module _ (m : Net) (ok : Formed m) where
   rising-up (point i ∷ es) n e r = (r .0, up-weaken (inputs es) (i + 2) (i + 1) (omega arith) (rising-up es (i + 2) e (r .1)))
   rising-up (part p i ∷ es) n e r = up-append (partAt p .inputs) i n (inputs es) (r .0) (up-weaken (inputs es) (i + partAt p .inputs + 1) (i + partAt p .inputs) (omega arith) (rising-up es (i + partAt p .inputs + 1) e (r .1)))
 
-  pub ring-place : (why : Refusal) → noRing m (inputs (m .elements)) ≡ refused why → Lowest (inputs (m .elements)) why
+  pub ring-place : (why : Refusal) → noneOnRing m (inputs (m .elements)) ≡ refused why → Lowest (inputs (m .elements)) why
   ring-place why e = refused-lowest (inputs (m .elements)) 0 (rising-up (m .elements) 0 (ok .end) (ok .rising)) why e

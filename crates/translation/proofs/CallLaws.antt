@@ -14,7 +14,7 @@ use Rattle.calculus.specs.Translate.{full, Wish, asked, askedMakers, askedBytes
 use Rattle.export_calculus.specs.Card.{onCard}
 use Rattle.export_calculus.specs.CardCall.{cardAnswer, cardCall}
 use Rattle.translator.specs.Made.{lent, Keeps}
-use Rattle.translator.specs.Said.{inRoom, Says, called}
+use Rattle.translator.specs.Said.{inRoom, AnswerSays, called}
 use Rattle.translator.specs.declared.Answer as code
 use Rattle.translator.specs.declared.Answer.the-variants as answer
 
@@ -37,17 +37,17 @@ named-bytes w m ks js n = by (w .plain) n
 
 module _ (card : Bool) (b : Wish) (s out : List ℕ) (memory : ℕ) where
   -- a refusal passes through
-  pub refused-says : (why : Refusal) → refused (saidWhy why) ≡ lent memory s → Says (answer.Refused why) out out (cardAnswer card memory b s (length out))
+  pub refused-says : (why : Refusal) → refused (saidWhy why) ≡ lent memory s → AnswerSays (answer.Refused why) out out (cardAnswer card memory b s (length out))
   refused-says why e = rw (answer-lent card memory b s (length out), ← e) (record { said = refl; wrote = refl })
 
   -- a netlist that was written is the one asked for
   pub net-says : (r : code.Answer) (after : List ℕ) (m : Net) (ks : List ℕ) → good m ≡ lent memory s → (b .plain ≡ false → ks ≡ makersOf s) → (a : Answer (Unit {0})) → a ≡ onCard card s m
-      → Says r out after (a >>= λ _. inRoom (askedBytes b m ks) (length out))
-      → Says r out after (cardAnswer card memory b s (length out))
+      → AnswerSays r out after (a >>= λ _. inRoom (askedBytes b m ks) (length out))
+      → AnswerSays r out after (cardAnswer card memory b s (length out))
   net-says r after m ks e n a q h = rw (answer-lent card memory b s (length out), ← e, ← q, ← named-bytes b m ks (makersOf s) n) h
 
 -- after the stages, the working memory is cleared
 pub call-run : (card : Bool) (b : Wish) (s out work : List ℕ) (r : code.Answer) (after mid : List ℕ)
-    → Says r out after (cardAnswer card (length work) b s (length out)) → Keeps work mid → called r after (workOf mid) ≡ cardCall card b s out work
+    → AnswerSays r out after (cardAnswer card (length work) b s (length out)) → Keeps work mid → called r after (workOf mid) ≡ cardCall card b s out work
 unfolding cardCall
 call-run card b s out work r after mid a k = rw (a .said, a .wrote, k)

@@ -16,7 +16,7 @@ use Rattle.calculus.specs.Makers.{makersOf, leanMakers}
 use Rattle.circuit_theorems.proofs.Bounds.{length-enough, lean-shorter}
 use Rattle.circuit_theorems.proofs.NodeBytes.{length-enough-nodes, lean-shorter-nodes}
 use Rattle.sheet_theorems.proofs.Judging.{Judged, value, refusal, of-bind, of-require, weaker, of-refused}
-use Rattle.translator.proofs.Places.{Names, no-names, names-small, full-places}
+use Rattle.translator.proofs.Places.{TypesNamed, no-names, names-small, full-places}
 
 -- a refusal of a call with an output of so many bytes
 pub record CallPlace (s : List ℕ) (room : ℕ) (why : Refusal) : Type 0 where
@@ -25,7 +25,7 @@ pub record CallPlace (s : List ℕ) (room : ℕ) (why : Refusal) : Type 0 where
   pub few : why .place ≤ 57728
   -- the length needed
   pub more : why .number ≡ 17 → room < why .place
-  pub names : Names s why
+  pub names : TypesNamed s why
 
 -- what is written
 abbrev pub CallBytes : ℕ → List ℕ → Type 0
@@ -62,7 +62,7 @@ call-places b s out work = said-places s (length out) (answer-places (length wor
 -- ---- which two types clash
 
 module _ (b : Wish) (s out work : List ℕ) (why : Refusal) (said : call b s out work .said ≡ refused why) where
-  call-names : Names s why
+  call-names : TypesNamed s why
   call-names = of-refused _ why (call-places b s out work) said .names
 
   pub call-small : (why .wanted ≤ 256) × (why .found ≤ 256)

@@ -21,14 +21,14 @@ use Rattle.export_calculus.specs.Card.{profiled}
 use Rattle.root_type.specs.Chains.{chainIn}
 use Rattle.translator.specs.Made.{Keeps}
 use Rattle.translator.proofs.Keeping.{later-keeps}
-use Rattle.translator.specs.Said.{inRoom, Says}
+use Rattle.translator.specs.Said.{inRoom, AnswerSays}
 use Rattle.translator.specs.declared.Answer as code
 use Rattle.translator.specs.declared.Answer.the-variants as answer
 use Rattle.translation.specs.Wished.{cardBy, onPass}
 
 -- the netlist that is wished
-pub wished-says : (w : Wish) (lean : Bool) (out after : List ℕ) (r : code.Answer) (m : Net) (ks : List ℕ) → w .lean ≡ lean → Says r out after (inRoom (written (w .plain) (asked lean m) (askedMakers lean m ks)) (length out))
-    → Says r out after (inRoom (askedBytes w m ks) (length out))
+pub wished-says : (w : Wish) (lean : Bool) (out after : List ℕ) (r : code.Answer) (m : Net) (ks : List ℕ) → w .lean ≡ lean → AnswerSays r out after (inRoom (written (w .plain) (asked lean m) (askedMakers lean m ks)) (length out))
+    → AnswerSays r out after (inRoom (askedBytes w m ks) (length out))
 wished-says w lean out after r m ks e h = rw e h
 
 -- the makers stand above the table of roots
@@ -67,17 +67,17 @@ module _ {u v x : List ℕ} {e k p : ℕ} (z : 32768 ≤ length u) (l : e ≤ 51
 -- ---- the card's check
 
 pub check-refused : (a : Answer (Unit {0})) (n p : ℕ) (out : List ℕ) (bytes : Answer (List ℕ)) → refuse n p ≡ a
-    → Says (answer.Refused (record { number = n; place = p; wanted = 0; found = 0 })) out out (onPass a bytes)
+    → AnswerSays (answer.Refused (record { number = n; place = p; wanted = 0; found = 0 })) out out (onPass a bytes)
 check-refused a n p out bytes e = rw (← e) (record { said = refl; wrote = refl })
 
 pub check-passed : (a : Answer (Unit {0})) (r : code.Answer) (out after : List ℕ) (bytes bytes′ : Answer (List ℕ)) → good tt ≡ a → bytes ≡ bytes′
-    → Says r out after bytes → Says r out after (onPass a bytes′)
+    → AnswerSays r out after bytes → AnswerSays r out after (onPass a bytes′)
 check-passed a r out after bytes bytes′ e f h = rw (← e, ← f) h
 
 pub check-asked : (card : Bool) (s b : List ℕ) (t : ℕ) (m : Net) (r : code.Answer) (out after : List ℕ) (bytes : Answer (List ℕ)) → card ≡ true → b ≡ recordsOf s
-    → Says r out after (onPass (profiled (chainIn b 256 t) (lean m)) bytes) → Says r out after (onPass (cardBy card (chainIn (recordsOf s) 256 t) m) bytes)
+    → AnswerSays r out after (onPass (profiled (chainIn b 256 t) (lean m)) bytes) → AnswerSays r out after (onPass (cardBy card (chainIn (recordsOf s) 256 t) m) bytes)
 check-asked card s b t m r out after bytes e f h = rw (e, ← f) h
 
 pub check-unasked : (card chained : Bool) (m : Net) (r : code.Answer) (out after : List ℕ) (bytes : Answer (List ℕ)) → card ≡ false
-    → Says r out after bytes → Says r out after (onPass (cardBy card chained m) bytes)
+    → AnswerSays r out after bytes → AnswerSays r out after (onPass (cardBy card chained m) bytes)
 check-unasked card chained m r out after bytes e h = rw e h

@@ -7,7 +7,7 @@ ghost use mathlib.Core.Path.{_≡_};
 ghost use lib.ListN.{length};
 ghost use Rattle.export_calculus.specs.CardCall.{cardAnswer, cardCall};
 ghost use Rattle.translator.specs.Made.{Keeps};
-ghost use Rattle.translator.specs.Said.{Says, called};
+ghost use Rattle.translator.specs.Said.{AnswerSays, called};
 ghost use Rattle.translation.specs.Wished.{saidWish};
 
 // What a caller wishes: the lean netlist or the full one; the plain kinds 21 and 22, or every element with the node that made it; the
@@ -20,7 +20,7 @@ pub struct Wish {
 
 // The netlist is made and written. The working memory is not yet cleared.
 fn run(sheet: &[u8], out: &mut [u8], work: &mut [u16], wish: Wish) -> Answer
-    ensures { λ r. ⌜ (Says r (now (out .entry)) (now (out .exit)) (cardAnswer (wish .card) (length (now (work .entry))) (saidWish wish) (now (sheet .entry)) (length (now (out .entry)))))
+    ensures { λ r. ⌜ (AnswerSays r (now (out .entry)) (now (out .exit)) (cardAnswer (wish .card) (length (now (work .entry))) (saidWish wish) (now (sheet .entry)) (length (now (out .entry)))))
         × (Keeps (now (work .entry)) (now (work .exit))) ⌝ }
 {
     let plain = wish.plain;

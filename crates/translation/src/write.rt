@@ -17,7 +17,7 @@ ghost use Rattle.lean.specs.Table.{Whole};
 ghost use Rattle.export_calculus.specs.Card.{profiled};
 ghost use Rattle.root_type.specs.Chains.{chainIn};
 ghost use Rattle.translator.specs.Made.{Keeps};
-ghost use Rattle.translator.specs.Said.{Says, inRoom};
+ghost use Rattle.translator.specs.Said.{AnswerSays, inRoom};
 ghost use Rattle.translation.specs.Wished.{saidWish, cardBy, onPass};
 
 // The full netlist; 17 with the length needed where the output is shorter.
@@ -30,7 +30,7 @@ fn write_full(
     plain: bool,
 ) -> Answer
     requires { ⌜ (Ready (now work) elements wires pins) × (All Known (netIn (now work) elements wires pins .elements)) ⌝ }
-    ensures { λ r. ⌜ Says r (now (out .entry)) (now (out .exit)) (inRoom (written plain (netIn (now (work .entry)) elements wires pins) (region (now (work .entry)) makersAt elements)) (length (now (out .entry)))) ⌝ }
+    ensures { λ r. ⌜ AnswerSays r (now (out .entry)) (now (out .exit)) (inRoom (written plain (netIn (now (work .entry)) elements wires pins) (region (now (work .entry)) makersAt elements)) (length (now (out .entry)))) ⌝ }
 {
     let n = netlist::full_length(work, elements, wires, pins, plain);
     if out.len() < n {
@@ -50,7 +50,7 @@ fn write_lean(
     plain: bool,
 ) -> Answer
     requires { ⌜ (Whole (now work) elements wires pins) × (All Known (netIn (now work) elements wires pins .elements)) ⌝ }
-    ensures { λ r. ⌜ Says r (now (out .entry)) (now (out .exit)) (inRoom (written plain (lean (netIn (now (work .entry)) elements wires pins)) (leanMakers (netIn (now (work .entry)) elements wires pins) (region (now (work .entry)) makersAt elements))) (length (now (out .entry)))) ⌝ }
+    ensures { λ r. ⌜ AnswerSays r (now (out .entry)) (now (out .exit)) (inRoom (written plain (lean (netIn (now (work .entry)) elements wires pins)) (leanMakers (netIn (now (work .entry)) elements wires pins) (region (now (work .entry)) makersAt elements))) (length (now (out .entry)))) ⌝ }
 {
     let n = lean::lean_length(work, elements, wires, pins, plain);
     if out.len() < n {
@@ -63,7 +63,7 @@ fn write_lean(
 // The one that is wished, once the roots are found.
 fn write_rooted(work: &[u16], out: &mut [u8], counts: Counts, wish: Wish) -> Answer
     requires { ⌜ (Whole (now work) (counts .elements) (counts .wires) (counts .pins)) × (All Known (netIn (now work) (counts .elements) (counts .wires) (counts .pins) .elements)) ⌝ }
-    ensures { λ r. ⌜ Says r (now (out .entry)) (now (out .exit)) (inRoom (askedBytes (saidWish wish) (netIn (now (work .entry)) (counts .elements) (counts .wires) (counts .pins)) (region (now (work .entry)) makersAt (counts .elements))) (length (now (out .entry)))) ⌝ }
+    ensures { λ r. ⌜ AnswerSays r (now (out .entry)) (now (out .exit)) (inRoom (askedBytes (saidWish wish) (netIn (now (work .entry)) (counts .elements) (counts .wires) (counts .pins)) (region (now (work .entry)) makersAt (counts .elements))) (length (now (out .entry)))) ⌝ }
 {
     let elements = counts.elements;
     let wires = counts.wires;
@@ -85,7 +85,7 @@ fn write_card(
     wish: Wish,
 ) -> Answer
     requires { ⌜ (Ready (now work) (counts .elements) (counts .wires) (counts .pins)) × (All Known (netIn (now work) (counts .elements) (counts .wires) (counts .pins) .elements)) ⌝ }
-    ensures { λ r. ⌜ (Says r (now (out .entry)) (now (out .exit)) (onPass (profiled (chainIn (now (records .entry)) 256 root) (lean (netIn (now (work .entry)) (counts .elements) (counts .wires) (counts .pins))))
+    ensures { λ r. ⌜ (AnswerSays r (now (out .entry)) (now (out .exit)) (onPass (profiled (chainIn (now (records .entry)) 256 root) (lean (netIn (now (work .entry)) (counts .elements) (counts .wires) (counts .pins))))
         (inRoom (askedBytes (saidWish wish) (netIn (now (work .entry)) (counts .elements) (counts .wires) (counts .pins)) (region (now (work .entry)) makersAt (counts .elements))) (length (now (out .entry))))))
         × (Keeps (now (work .entry)) (now (work .exit))) ⌝ }
 {
@@ -107,7 +107,7 @@ fn write_card(
 // Without that check, the roots are found only for the lean netlist.
 fn write_plain(work: &mut [u16], out: &mut [u8], counts: Counts, wish: Wish) -> Answer
     requires { ⌜ (Ready (now work) (counts .elements) (counts .wires) (counts .pins)) × (All Known (netIn (now work) (counts .elements) (counts .wires) (counts .pins) .elements)) ⌝ }
-    ensures { λ r. ⌜ (Says r (now (out .entry)) (now (out .exit)) (inRoom (askedBytes (saidWish wish) (netIn (now (work .entry)) (counts .elements) (counts .wires) (counts .pins)) (region (now (work .entry)) makersAt (counts .elements))) (length (now (out .entry)))))
+    ensures { λ r. ⌜ (AnswerSays r (now (out .entry)) (now (out .exit)) (inRoom (askedBytes (saidWish wish) (netIn (now (work .entry)) (counts .elements) (counts .wires) (counts .pins)) (region (now (work .entry)) makersAt (counts .elements))) (length (now (out .entry)))))
         × (Keeps (now (work .entry)) (now (work .exit))) ⌝ }
 {
     let elements = counts.elements;
@@ -131,7 +131,7 @@ pub fn write(
     wish: Wish,
 ) -> Answer
     requires { ⌜ (Ready (now work) (counts .elements) (counts .wires) (counts .pins)) × (All Known (netIn (now work) (counts .elements) (counts .wires) (counts .pins) .elements)) ⌝ }
-    ensures { λ r. ⌜ (Says r (now (out .entry)) (now (out .exit)) (onPass (cardBy (wish .card) (chainIn (recordsOf (now (sheet .entry))) 256 root) (netIn (now (work .entry)) (counts .elements) (counts .wires) (counts .pins)))
+    ensures { λ r. ⌜ (AnswerSays r (now (out .entry)) (now (out .exit)) (onPass (cardBy (wish .card) (chainIn (recordsOf (now (sheet .entry))) 256 root) (netIn (now (work .entry)) (counts .elements) (counts .wires) (counts .pins)))
         (inRoom (askedBytes (saidWish wish) (netIn (now (work .entry)) (counts .elements) (counts .wires) (counts .pins)) (region (now (work .entry)) makersAt (counts .elements))) (length (now (out .entry))))))
         × (Keeps (now (work .entry)) (now (work .exit))) ⌝ }
 {

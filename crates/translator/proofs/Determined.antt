@@ -15,7 +15,7 @@ use Rattle.memory.specs.Map.{netIn}
 use Rattle.memory.proofs.Zeroed.{zeroed-later}
 use Rattle.wiring.specs.Whole.{NetStands}
 use Rattle.wiring.proofs.Determined.{one-netlist}
-use Rattle.translator.specs.Made.{Makes}
+use Rattle.translator.specs.Made.{MakeLeaves}
 use Rattle.translator.specs.declared.Made as code
 use Rattle.translator.specs.declared.Made.the-variants as made
 use Rattle.translator.proofs.Keeping.{work-large}
@@ -26,7 +26,7 @@ use Rattle.translator.proofs.make.Reads as make-reads
 same-later : (u v : List ℕ) → 32768 ≤ length u → 32768 ≤ length v → workOf u ≡ workOf v → drop 32768 v ≡ drop 32768 u
 same-later u v h k e = sym (zeroed-later 32768 v) ∙ ap (drop 32768) (sym (work-large v k) ∙ sym e ∙ work-large u h) ∙ zeroed-later 32768 u
 
-one-made : (plain : Bool) (s w u v : List ℕ) (x y : code.Made) → Makes plain x s w u → Makes plain y s w v → x ≡ y
+one-made : (plain : Bool) (s w u v : List ℕ) (x y : code.Made) → MakeLeaves plain x s w u → MakeLeaves plain y s w v → x ≡ y
 one-made plain s w u v (made.Net c a₀) (made.Net d b₀) f g =
     let n : netIn v (d .elements) (d .wires) (d .pins) ≡ netIn u (c .elements) (c .wires) (c .pins) = good-inj (g .said ∙ sym (f .said)) in
     let a : NetStands (netIn u (c .elements) (c .wires) (c .pins)) c u u = record { net = refl; ready = f .standing .0; known = f .standing .1; later = refl } in

@@ -10,11 +10,11 @@ use Rattle.typing.specs.Verdicts.{saidWhy}
 use Rattle.calculus.specs.Makers.{makersOf}
 use Rattle.memory.specs.Map.{makersAt, region, netIn}
 use Rattle.wiring.specs.declared.Counts.{Counts}
-use Rattle.translator.specs.Made.{lent, saidMade, Standing, Named, rootNumber, RootTold, Makes}
+use Rattle.translator.specs.Made.{lent, saidMade, Standing, Named, rootNumber, RootTold, MakeLeaves}
 use Rattle.translator.specs.declared.Made as code
 use Rattle.translator.specs.declared.Made.the-variants as made
 
-module _ (plain : Bool) (r : code.Made) (s work after : List ℕ) (M : Makes plain r s work after) where
+module _ (plain : Bool) (r : code.Made) (s work after : List ℕ) (M : MakeLeaves plain r s work after) where
   pub net-stands : (c : Counts) {t : ℕ} → r ≡ made.Net c t → Standing (made.Net c t) after
   net-stands c e = subst (λ (x : code.Made). Standing x after) e (M .standing)
 

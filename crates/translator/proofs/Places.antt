@@ -130,15 +130,15 @@ walk-places E Θ e n st = node-in n (n + nodes e) E Θ e n st (le-refl n) (le-re
 -- ---- the types that a refusal names
 
 -- 12: the type wanted and the one found differ; found is a type of the sheet's table, and wanted is one, or 256; every other names none
-pub record Names (s : List ℕ) (why : Refusal) : Type 0 where
+pub record TypesNamed (s : List ℕ) (why : Refusal) : Type 0 where
   pub clash : why .number ≡ 12 → (σ : Sheet) × (readSheet s ≡ good σ) × Clash (σ .table) why
   pub other : ¬ (why .number ≡ 12) → (why .wanted ≡ 0) × (why .found ≡ 0)
 
-pub no-names : (s : List ℕ) (why : Refusal) → ¬ (why .number ≡ 12) → (why .wanted ≡ 0) × (why .found ≡ 0) → Names s why
+pub no-names : (s : List ℕ) (why : Refusal) → ¬ (why .number ≡ 12) → (why .wanted ≡ 0) × (why .found ≡ 0) → TypesNamed s why
 no-names s why d h = record { clash = λ e. absurd (d e); other = λ _. h }
 
 -- both fit twelve bits
-pub names-small : (s : List ℕ) (why : Refusal) → Names s why → (why .wanted ≤ 256) × (why .found ≤ 256)
+pub names-small : (s : List ℕ) (why : Refusal) → TypesNamed s why → (why .wanted ≤ 256) × (why .found ≤ 256)
 names-small s why N = elim (ℕ-discrete (why .number) 12) [
   | yes e ↦
       let (σ, r, c) = N .clash e in
@@ -154,7 +154,7 @@ pub record EarlyPlace (s : List ℕ) (why : Refusal) : Type 0 where
   pub from : 2 ≤ why .number
   pub to : why .number ≤ 16
   pub few : why .place ≤ 16384
-  pub names : Names s why
+  pub names : TypesNamed s why
 
 both : {P P′ : Refusal → Type 0} {A : Type 0} {Q R : A → Type 0} {a : Answer A} → Judged P Q a → Judged P′ R a → Judged (λ why. P why × P′ why) Q a
 both (value h) (value k) = value h

@@ -11,7 +11,7 @@ use Rattle.calculus.specs.Answer.{Refusal, Answer, good, refused, refuse}
 use Rattle.calculus.proofs.Answers.{refused≢good, good-inj, refused-inj}
 use Rattle.calculus.specs.Translate.{saidOf, outOf, Call}
 use Rattle.laws.proofs.Regions.{sets-front}
-use Rattle.translator.specs.Said.{saidAnswer, tooShort, inRoom, Says, called}
+use Rattle.translator.specs.Said.{saidAnswer, tooShort, inRoom, AnswerSays, called}
 use Rattle.translator.specs.declared.Answer as code
 use Rattle.translator.specs.declared.Answer.the-variants as answer
 
@@ -24,13 +24,13 @@ module _ (bytes out : List ℕ) where
   unfolding inRoom
   in-fits h = rw (le-leb (length bytes) (length out) h)
 
-  pub says-short : (n : ℕ) → n ≡ length bytes → length out < n → Says (tooShort n) out out (inRoom bytes (length out))
+  pub says-short : (n : ℕ) → n ≡ length bytes → length out < n → AnswerSays (tooShort n) out out (inRoom bytes (length out))
   says-short n e h =
       let f = in-short (subst (λ (x : ℕ). length out < x) e h) in
       record { said = ap (λ (x : ℕ). refuse 17 x) e ∙ sym (ap saidOf f); wrote = sym (ap (λ (a : Answer (List ℕ)). outOf a out) f) }
 
   pub says-fits : (n : ℕ) (after : List ℕ) → length bytes ≤ length out → n ≡ length bytes → after ≡ sets out 0 bytes
-      → Says (answer.Written n) out after (inRoom bytes (length out))
+      → AnswerSays (answer.Written n) out after (inRoom bytes (length out))
   says-fits n after h e w =
       let f = in-fits h in
       record { said = ap (λ (x : ℕ). good x) e ∙ sym (ap saidOf f); wrote = w ∙ sets-front bytes out h ∙ sym (ap (λ (a : Answer (List ℕ)). outOf a out) f) }

@@ -20,7 +20,7 @@ use Rattle.typing.specs.Answers.{TermAt, typeOf, checkOf}
 use Rattle.wiring.specs.declared.Counts.{Counts}
 use Rattle.wiring.specs.Whole.{NetStands}
 use Rattle.translator.specs.Stages.{ReadStage}
-use Rattle.translator.specs.Made.{lent, refusedOf, Named, rootNumber, Makes}
+use Rattle.translator.specs.Made.{lent, madeRefused, Named, rootNumber, MakeLeaves}
 use Rattle.translator.specs.declared.Made.the-variants as made
 use Rattle.translator.proofs.Keeping.{later-keeps}
 
@@ -35,15 +35,15 @@ lent-enough : (memory : ℕ) (s : List ℕ) → 32768 ≤ memory → lent memory
 unfolding lent
 lent-enough memory s h = rw (le-leb 32768 memory h)
 
-pub small-makes : (plain : Bool) (s work : List ℕ) → length work < 32768 → Makes plain (refusedOf 1 0) s work work
+pub small-makes : (plain : Bool) (s work : List ℕ) → length work < 32768 → MakeLeaves plain (madeRefused 1 0) s work work
 small-makes plain s work h = record { said = sym (lent-small (length work) s h); standing = tt; named = tt; root = tt; keeps = refl }
 
 -- a refusal leaves the working memory
-refused-makes : (plain : Bool) (s work : List ℕ) (why : Why) → 32768 ≤ length work → full s ≡ refused (saidWhy why) → Makes plain (made.Refused why) s work work
+refused-makes : (plain : Bool) (s work : List ℕ) (why : Why) → 32768 ≤ length work → full s ≡ refused (saidWhy why) → MakeLeaves plain (made.Refused why) s work work
 refused-makes plain s work why h e = record { said = sym (lent-enough (length work) s h ∙ e); standing = tt; named = tt; root = tt; keeps = refl }
 
 -- a netlist that stands in it
-pub net-makes : (plain : Bool) (s work after : List ℕ) (c : Counts) (t : ℕ) (m : Net) → 32768 ≤ length work → full s ≡ good m → rootNumber s ≡ good t → NetStands m c work after → Named plain (made.Net c t) s after → Makes plain (made.Net c t) s work after
+pub net-makes : (plain : Bool) (s work after : List ℕ) (c : Counts) (t : ℕ) (m : Net) → 32768 ≤ length work → full s ≡ good m → rootNumber s ≡ good t → NetStands m c work after → Named plain (made.Net c t) s after → MakeLeaves plain (made.Net c t) s work after
 net-makes plain s work after c t m h e f S n = record {
   said = rw (S .net) (sym (lent-enough (length work) s h ∙ e));
   standing = (S .ready, S .known);
@@ -59,7 +59,7 @@ module _ (s work : List ℕ) (enough : 32768 ≤ length work) where
   unfolding full
   full-unread number place e = rw e
 
-  pub unread-makes : (plain : Bool) (number place : ℕ) → readSheet s ≡ refuse number place → Makes plain (refusedOf number place) s work work
+  pub unread-makes : (plain : Bool) (number place : ℕ) → readSheet s ≡ refuse number place → MakeLeaves plain (madeRefused number place) s work work
   unread-makes plain number place e = refused-makes plain s work _ enough (full-unread number place e)
 
   module _ (σ : Sheet) (read : readSheet s ≡ good σ) {E : Edition} {b : List ℕ} (edition : E ≡ editionOf s) (behind : b ≡ recordsOf s) where
@@ -78,7 +78,7 @@ module _ (s work : List ℕ) (enough : 32768 ≤ length work) where
         let w = untyped (walk (σ .edition) (σ .table) (σ .term) 0 []) why refl (sym check-is ∙ e) in
         rw (read, w)
 
-    pub untyped-makes : (plain : Bool) (why : Why) → checkOf E b ≡ refused (saidWhy why) → Makes plain (made.Refused why) s work work
+    pub untyped-makes : (plain : Bool) (why : Why) → checkOf E b ≡ refused (saidWhy why) → MakeLeaves plain (made.Refused why) s work work
     untyped-makes plain why e = refused-makes plain s work why enough (full-untyped (saidWhy why) e)
 
     pub typed-found : (t : ℕ) → checkOf E b ≡ good t → (r : Found) × (walk (σ .edition) (σ .table) (σ .term) 0 [] ≡ good r) × (r .type ≡ t)
@@ -89,7 +89,7 @@ module _ (s work : List ℕ) (enough : 32768 ≤ length work) where
     unfolding full
     full-many h = rw (read, walked, lt-leb (make (σ .table) (σ .term) [] 0 .next) 8192 h)
 
-    pub many-makes : (plain : Bool) → 8192 < make (σ .table) (σ .term) [] 0 .next → Makes plain (refusedOf 16 0) s work work
+    pub many-makes : (plain : Bool) → 8192 < make (σ .table) (σ .term) [] 0 .next → MakeLeaves plain (madeRefused 16 0) s work work
     many-makes plain h = refused-makes plain s work _ enough (full-many h)
 
     pub root-found : (t : ℕ) → r .type ≡ t → rootNumber s ≡ good t

@@ -3,12 +3,12 @@ use Prim.Native.Nat.{ℕ, _+_, _*_, _≤_, _<_, min}
 use mathlib.Core.Path.{_≡_, sym, ap, ap₂, _∙_}
 use native.Mathlib.Omega.{arith}
 use Rattle.calculus.specs.Answer.{Refusal, Answer, good, refused}
-use Rattle.translator.specs.Word.{halves, packed, FitsWord}
+use Rattle.translator.specs.Word.{upperLower, packed, FitsWord}
 
 shows : (n m : ℕ) → n ≤ m → min n m ≡ n
 shows n m h = omega arith
 
-unshown : (why : Refusal) → FitsWord (refused why) → packed (refused why) ≡ halves (why .number) (why .place) + (why .wanted * 1099511627776 + why .found * 4503599627370496)
+unshown : (why : Refusal) → FitsWord (refused why) → packed (refused why) ≡ upperLower (why .number) (why .place) + (why .wanted * 1099511627776 + why .found * 4503599627370496)
 unshown why (f, n, p, w, d) = rw (shows (why .place) 4294967295 (omega arith), shows (why .wanted) 4095 (omega arith), shows (why .found) 4095 (omega arith))
 
 same-refusal : (i j : Refusal) → i .number ≡ j .number → i .place ≡ j .place → i .wanted ≡ j .wanted → i .found ≡ j .found → i ≡ j
@@ -18,7 +18,7 @@ same-refusal i j n p w f =
 
 -- a number of the parts of two refusals is a number of each part
 parts-tell : (i j : Refusal) → FitsWord (refused i) → FitsWord (refused j)
-    → halves (i .number) (i .place) + (i .wanted * 1099511627776 + i .found * 4503599627370496) ≡ halves (j .number) (j .place) + (j .wanted * 1099511627776 + j .found * 4503599627370496) → i ≡ j
+    → upperLower (i .number) (i .place) + (i .wanted * 1099511627776 + i .found * 4503599627370496) ≡ upperLower (j .number) (j .place) + (j .wanted * 1099511627776 + j .found * 4503599627370496) → i ≡ j
 parts-tell i j h k e =
     let f : i .found ≡ j .found = omega (arith, e, h .1, h .2, h .3, h .4, k .1, k .2, k .3, k .4) in
     let w : i .wanted ≡ j .wanted = omega (arith, e, f, h .1, h .2, h .3, k .1, k .2, k .3) in

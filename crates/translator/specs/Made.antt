@@ -26,8 +26,8 @@ lent memory s = do
   full s
 
 -- a refusal that names no types
-abbrev pub refusedOf : ℕ → ℕ → code.Made
-refusedOf number place = made.Refused (record { number = number; place = place; wanted = 0; found = 0 })
+abbrev pub madeRefused : ℕ → ℕ → code.Made
+madeRefused number place = made.Refused (record { number = number; place = place; wanted = 0; found = 0 })
 
 -- the netlist that stands in the working memory, or the refusal
 abbrev pub saidMade : code.Made → List ℕ → Answer Net
@@ -60,7 +60,7 @@ RootTold (made.Refused why) s = Unit {0}
 abbrev pub Keeps : List ℕ → List ℕ → Type 0
 Keeps work after = workOf after ≡ workOf work
 
-pub record Makes (plain : Bool) (r : code.Made) (s work after : List ℕ) : Type 0 where
+pub record MakeLeaves (plain : Bool) (r : code.Made) (s work after : List ℕ) : Type 0 where
   pub said : saidMade r after ≡ lent (length work) s
   pub standing : Standing r after
   pub named : Named plain r s after

@@ -15,9 +15,13 @@ abbrev pub saidAnswer : code.Answer → Answer ℕ
 saidAnswer (answer.Written n) = good n
 saidAnswer (answer.Refused why) = refused (saidWhy why)
 
+-- a refusal that names no types
+abbrev pub refusedAs : ℕ → ℕ → code.Answer
+refusedAs number place = answer.Refused (record { number = number; place = place; wanted = 0; found = 0 })
+
 -- 17, with the length needed
 abbrev pub tooShort : ℕ → code.Answer
-tooShort n = answer.Refused (record { number = 17; place = n; wanted = 0; found = 0 })
+tooShort n = refusedAs 17 n
 
 -- bytes for an output of so many, or 17
 unfoldable pub inRoom : List ℕ → ℕ → Answer (List ℕ)
@@ -26,7 +30,7 @@ inRoom bytes room = do
   good bytes
 
 -- an answer and what it leaves of the output are those of `a`
-pub record Says (r : code.Answer) (before after : List ℕ) (a : Answer (List ℕ)) : Type 0 where
+pub record AnswerSays (r : code.Answer) (before after : List ℕ) (a : Answer (List ℕ)) : Type 0 where
   pub said : saidAnswer r ≡ saidOf a
   pub wrote : after ≡ outOf a before
 

@@ -9,7 +9,7 @@ ghost use Prim.Native.Nat.{_≤_, min};
 ghost use lib.ListN.{length};
 ghost use Rattle.calculus.specs.Translate.{workOf};
 ghost use Rattle.translator.specs.Stages.{ReadStage, WellTyped};
-ghost use Rattle.translator.specs.Made.{refusedOf, Makes};
+ghost use Rattle.translator.specs.Made.{madeRefused, MakeLeaves};
 ghost use Rattle.translator.specs.Said.{saidAnswer, tooShort};
 ghost use Rattle.translator.specs.Word.{packed};
 
@@ -28,7 +28,7 @@ pub enum Made {
 
 // A refusal that names no types.
 fn refused(number: u8, place: usize) -> Made
-    ensures { λ r. ⌜ r ≡ refusedOf number place ⌝ }
+    ensures { λ r. ⌜ r ≡ madeRefused number place ⌝ }
 {
     Made::Refused(Refusal {
         number,
@@ -49,7 +49,7 @@ fn counted(
     plain: bool,
 ) -> Made
     requires { ⌜ (32768 ≤ length (now work)) × (WellTyped (now records) (now sizes) start nodes root) ⌝ }
-    ensures { λ r. ⌜ ((q : WellTyped (now (records .entry)) (now (sizes .entry)) start nodes root) → Makes plain r (q .read .whole) (now (work .entry)) (now (work .exit))) ⌝ }
+    ensures { λ r. ⌜ ((q : WellTyped (now (records .entry)) (now (sizes .entry)) start nodes root) → MakeLeaves plain r (q .read .whole) (now (work .entry)) (now (work .exit))) ⌝ }
 {
     if 8192 < wiring::count(records, sizes, start, nodes) {
         return refused(16, 0);
@@ -74,7 +74,7 @@ fn checked(
     plain: bool,
 ) -> Made
     requires { ⌜ (32768 ≤ length (now work)) × (ReadStage (now records) (now sizes) types second start nodes) ⌝ }
-    ensures { λ r. ⌜ ((q : ReadStage (now (records .entry)) (now (sizes .entry)) types second start nodes) → Makes plain r (q .read .whole) (now (work .entry)) (now (work .exit))) ⌝ }
+    ensures { λ r. ⌜ ((q : ReadStage (now (records .entry)) (now (sizes .entry)) types second start nodes) → MakeLeaves plain r (q .read .whole) (now (work .entry)) (now (work .exit))) ⌝ }
 {
     match typing::check(records, start, types, second) {
         Typing::Refused(refusal) => Made::Refused(refusal),
@@ -85,7 +85,7 @@ fn checked(
 // The full netlist of a sheet in the working memory, with the nodes that made its elements where plain kinds are not wished, or refusal
 // 1 to 16: here the memory, 1, and the reader, 2 to 9.
 pub fn make(sheet: &[u8], work: &mut [u16], plain: bool) -> Made
-    ensures { λ r. ⌜ Makes plain r (now (sheet .entry)) (now (work .entry)) (now (work .exit)) ⌝ }
+    ensures { λ r. ⌜ MakeLeaves plain r (now (sheet .entry)) (now (work .entry)) (now (work .exit)) ⌝ }
 {
     if work.len() < 32768 {
         return refused(1, 0);

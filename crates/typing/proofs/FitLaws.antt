@@ -25,10 +25,10 @@ use Rattle.sheet_theorems.specs.Numbers.{Numbers}
 use Rattle.typing.specs.declared.rules.Opening.{Opening}
 use Rattle.typing.specs.declared.rules.Opening.the-variants as opening
 use Rattle.records.specs.TypeNumbers.{kindNo, leftNo, rightNo}
-use Rattle.typing.specs.Steps.{openingOf, opened, enterOf, entersOf, halvesOf, betweenOf}
+use Rattle.typing.specs.Steps.{openingOf, openedStack, enterOf, entersOf, halvesOf, betweenOf}
 use Rattle.typing.specs.Walkable.{Walkable}
 use Rattle.typing.proofs.Ranges.{left-in, right-in, StaysIn, kept}
-use Rattle.typing.proofs.WalkLaws.{firstOf, secondOf}
+use Rattle.typing.proofs.WalkLaws.{firstSubterm, secondOf}
 
 -- ---- the binders that entering adds
 
@@ -58,7 +58,7 @@ module _ (l : ℕ) where
   opening-in rule.Constant t q h g = tt
   opening-in rule.Naming t q h g = tt
 
-  opened-in : (x : Opening) (t n : ℕ) (st : Stack) (o : Found) → OpensIn l x → Numbers st l → opened x t n st ≡ good o → InRange l (suc (length st)) (o .stack)
+  opened-in : (x : Opening) (t n : ℕ) (st : Stack) (o : Found) → OpensIn l x → Numbers st l → openedStack x t n st ≡ good o → InRange l (suc (length st)) (o .stack)
   opened-in opening.Nothing t n st o h k e = subst (λ (o : Found). InRange l (suc (length st)) (o .stack)) (good-inj e) (record { numbers = k; few = omega arith })
   opened-in (opening.Shared u) t n st o h k e = subst (λ (o : Found). InRange l (suc (length st)) (o .stack)) (good-inj e) (record { numbers = (h, k); few = omega arith })
   opened-in (opening.Linear u) t n st o h k e = subst (λ (o : Found). InRange l (suc (length st)) (o .stack)) (good-inj e) (record { numbers = (h, k); few = omega arith })
@@ -77,7 +77,7 @@ module _ (at : ℕ) where
     moved : {a : ℕ} (b : ℕ) {e : Term} → a ≡ b → Stands s a e → Stands s b e
     moved b {e} h w = subst (λ (x : ℕ). Stands s x e) h w
 
-    first-stands : (e : Term) → ¬ (subterms e ≡ 0) → Stands s at e → Stands s (next e) (firstOf e)
+    first-stands : (e : Term) → ¬ (subterms e ≡ 0) → Stands s at e → Stands s (next e) (firstSubterm e)
     first-stands (var i) d h = absurd (d refl)
     first-stands (lvar i) d h = absurd (d refl)
     first-stands (fun t e) d h = moved _ (omega arith) (fun-body h)
@@ -90,7 +90,7 @@ module _ (at : ℕ) where
     first-stands (con p t) d h = absurd (d refl)
     first-stands (name a e) d h = moved _ (omega arith) (name-first h)
 
-    second-stands : (e : Term) → ¬ (subterms e ≡ 0) → ¬ (subterms e ≡ 1) → Stands s at e → Stands s (next e + length (termBytes (firstOf e))) (secondOf e)
+    second-stands : (e : Term) → ¬ (subterms e ≡ 0) → ¬ (subterms e ≡ 1) → Stands s at e → Stands s (next e + length (termBytes (firstSubterm e))) (secondOf e)
     second-stands (var i) d f h = absurd (d refl)
     second-stands (lvar i) d f h = absurd (d refl)
     second-stands (fun t e) d f h = absurd (f refl)
@@ -118,7 +118,7 @@ module _ (at : ℕ) where
   end-none (con p t) z = (omega arith, refl)
   end-none (name a e) z = absurd (omega arith)
 
-  pub end-one : (e : Term) → subterms e ≡ 1 → (next e + length (termBytes (firstOf e)) ≡ at + length (termBytes e)) × (suc (nodes (firstOf e)) ≡ nodes e)
+  pub end-one : (e : Term) → subterms e ≡ 1 → (next e + length (termBytes (firstSubterm e)) ≡ at + length (termBytes e)) × (suc (nodes (firstSubterm e)) ≡ nodes e)
   end-one (var i) z = absurd (omega arith)
   end-one (lvar i) z = absurd (omega arith)
   end-one (fun t e) z = (omega arith, refl)
@@ -135,7 +135,7 @@ module _ (at : ℕ) where
   both-bytes a b = length-append (termBytes a) (termBytes b)
 
   pub end-two : (e : Term) → ¬ (subterms e ≡ 0) → ¬ (subterms e ≡ 1)
-      → (next e + length (termBytes (firstOf e)) + length (termBytes (secondOf e)) ≡ at + length (termBytes e)) × (suc (nodes (firstOf e) + nodes (secondOf e)) ≡ nodes e)
+      → (next e + length (termBytes (firstSubterm e)) + length (termBytes (secondOf e)) ≡ at + length (termBytes e)) × (suc (nodes (firstSubterm e) + nodes (secondOf e)) ≡ nodes e)
   end-two (var i) d f = absurd (d refl)
   end-two (lvar i) d f = absurd (d refl)
   end-two (fun t e) d f = absurd (f refl)
@@ -150,7 +150,7 @@ module _ (at : ℕ) where
 
   -- depth and nodes
 
-  first-depth : (e : Term) → ¬ (subterms e ≡ 0) → suc (depth (firstOf e)) ≤ depth e
+  first-depth : (e : Term) → ¬ (subterms e ≡ 0) → suc (depth (firstSubterm e)) ≤ depth e
   first-depth (var i) d = absurd (d refl)
   first-depth (lvar i) d = absurd (d refl)
   first-depth (fun t e) d = omega arith
@@ -176,7 +176,7 @@ module _ (at : ℕ) where
   second-depth (con p t) d = absurd (d refl)
   second-depth (name a e) d = omega (arith, le-max-right (depth a) (depth e))
 
-  first-nodes : (e : Term) → ¬ (subterms e ≡ 0) → suc (nodes (firstOf e)) ≤ nodes e
+  first-nodes : (e : Term) → ¬ (subterms e ≡ 0) → suc (nodes (firstSubterm e)) ≤ nodes e
   first-nodes (var i) d = absurd (d refl)
   first-nodes (lvar i) d = absurd (d refl)
   first-nodes (fun t e) d = omega arith
@@ -216,7 +216,7 @@ nodes-some (con p t) = omega arith
 nodes-some (name a e) = omega arith
 
 module _ (E : Edition) (Θ : Table) where
-  first-ranged : (e : Term) → Ranged E Θ e → Ranged E Θ (firstOf e)
+  first-ranged : (e : Term) → Ranged E Θ e → Ranged E Θ (firstSubterm e)
   first-ranged (var i) r = r
   first-ranged (lvar i) r = r
   first-ranged (fun t e) r = r .1
@@ -270,15 +270,15 @@ module _ (s : List ℕ) (l : ℕ) (E : Edition) (at node : ℕ) (Θ : Table) (st
   enter-in (name a e) F d o g = opened-in (length Θ) opening.Nothing 0 node st o tt (F .numbers) g
 
   -- a node with one subterm binds a variable on entering
-  bound-one : (b : Bool) (x : Opening) (t : ℕ) (o : Found) → ((q : Found) → opened x t node st ≡ good q → length (q .stack) ≡ length st + 1)
-      → opened (cond b x opening.Misfit) t node st ≡ good o → length (o .stack) ≡ length st + 1
+  bound-one : (b : Bool) (x : Opening) (t : ℕ) (o : Found) → ((q : Found) → openedStack x t node st ≡ good q → length (q .stack) ≡ length st + 1)
+      → openedStack (cond b x opening.Misfit) t node st ≡ good o → length (o .stack) ≡ length st + 1
   bound-one true x t o f g = f o g
   bound-one false x t o f g = absurd (refused≢good g)
 
-  bound-shared : (u t : ℕ) (o : Found) → opened (opening.Shared u) t node st ≡ good o → length (o .stack) ≡ length st + 1
+  bound-shared : (u t : ℕ) (o : Found) → openedStack (opening.Shared u) t node st ≡ good o → length (o .stack) ≡ length st + 1
   bound-shared u t o g = omega (arith, ap (λ (x : Found). length (x .stack)) (good-inj g))
 
-  bound-linear : (u t : ℕ) (o : Found) → opened (opening.Linear u) t node st ≡ good o → length (o .stack) ≡ length st + 1
+  bound-linear : (u t : ℕ) (o : Found) → openedStack (opening.Linear u) t node st ≡ good o → length (o .stack) ≡ length st + 1
   bound-linear u t o g = omega (arith, ap (λ (x : Found). length (x .stack)) (good-inj g))
 
   pub enter-one : (e : Term) → nodeOf e at .subterms ≡ 1 → (o : Found)
@@ -297,7 +297,7 @@ module _ (s : List ℕ) (l : ℕ) (E : Edition) (at node : ℕ) (Θ : Table) (st
   enter-one (name a e) z o g = absurd (omega arith)
 
   -- a node with two subterms binds nothing on entering
-  tested : (b : Bool) (t : ℕ) (o : Found) → opened (cond b opening.Nothing opening.Misfit) t node st ≡ good o → o .stack ≡ st
+  tested : (b : Bool) (t : ℕ) (o : Found) → openedStack (cond b opening.Nothing opening.Misfit) t node st ≡ good o → o .stack ≡ st
   tested true t o g = ap (λ (x : Found). x .stack) (sym (good-inj g))
   tested false t o g = absurd (refused≢good g)
 
@@ -318,7 +318,7 @@ module _ (s : List ℕ) (l : ℕ) (E : Edition) (at node : ℕ) (Θ : Table) (st
 
   module _ (e : Term) (F : Walkable s l E at node Θ e st) (d : ¬ (nodeOf e at .subterms ≡ 0)) (o : Found)
       (g : enterOf (recIn s) (nodeOf e at .rule) (nodeOf e at .first) node st ≡ good o) where
-    pub fits-first : Walkable s l E (nodeOf e at .next) (node + 1) Θ (firstOf e) (o .stack)
+    pub fits-first : Walkable s l E (nodeOf e at .next) (node + 1) Θ (firstSubterm e) (o .stack)
     fits-first =
         let w = enter-in e F d o g in
         record {
@@ -332,9 +332,9 @@ module _ (s : List ℕ) (l : ℕ) (E : Edition) (at node : ℕ) (Θ : Table) (st
           few = omega (arith, F .few, first-nodes at e d);
         }
 
-    module _ (d₁ : ¬ (nodeOf e at .subterms ≡ 1)) (x : Found) (h : walk E Θ (firstOf e) (node + 1) (o .stack) ≡ good x) where
+    module _ (d₁ : ¬ (nodeOf e at .subterms ≡ 1)) (x : Found) (h : walk E Θ (firstSubterm e) (node + 1) (o .stack) ≡ good x) where
       pub first-kept : StaysIn Θ (o .stack) x
-      first-kept = kept E Θ (F .table) (firstOf e) (first-ranged E Θ e (F .ranged)) (node + 1) (o .stack) (enter-in e F d o g .numbers) x h
+      first-kept = kept E Θ (F .table) (firstSubterm e) (first-ranged E Θ e (F .ranged)) (node + 1) (o .stack) (enter-in e F d o g .numbers) x h
 
       -- what is bound between the two
       halves-in : (u : Rule) → InRange (length Θ) (length (o .stack) + 2) (halvesOf (recIn s) u (x .type) (x .stack))
@@ -352,7 +352,7 @@ module _ (s : List ℕ) (l : ℕ) (E : Edition) (at node : ℕ) (Θ : Table) (st
           subst (λ (m : Found). InRange (length Θ) (length (o .stack) + 2) (m .stack)) (good-inj y) (halves-in u)
 
       pub fits-second : (m : Found) → betweenOf (recIn s) (nodeOf e at .rule) node x ≡ good m
-          → Walkable s l E (nodeOf e at .next + length (termBytes (firstOf e))) (node + 1 + nodes (firstOf e)) Θ (secondOf e) (m .stack)
+          → Walkable s l E (nodeOf e at .next + length (termBytes (firstSubterm e))) (node + 1 + nodes (firstSubterm e)) Θ (secondOf e) (m .stack)
       fits-second m z =
           let w = between-in (nodeOf e at .rule) m z in
           let l : length (o .stack) ≡ length st = ap length (enter-two e d d₁ o g) in

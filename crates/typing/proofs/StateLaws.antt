@@ -32,8 +32,8 @@ use Rattle.typing.specs.declared.Verdict.{Verdict}
 use Rattle.typing.specs.declared.Verdict.the-variants as verdict
 use Rattle.typing.specs.declared.Refusal.{Refusal}
 use Rattle.records.specs.TypeNumbers.{leftNo, rightNo}
-use Rattle.typing.specs.Steps.{Types, constantOf, leafOf, openingOf, bindingOf, opened, enterOf, wantedOf, usedUp, leaveOne, entersOf, halvesIn, halvesOf, betweenOf, joinedOf, closesOf, leaveTwo}
-use Rattle.typing.specs.Verdicts.{Held, reached, halves, FollowsOn, Follows}
+use Rattle.typing.specs.Steps.{Types, constantOf, leafOf, openingOf, bindingOf, openedStack, enterOf, wantedOf, usedUp, leaveOne, entersOf, halvesIn, halvesOf, betweenOf, joinedOf, closesOf, leaveTwo}
+use Rattle.typing.specs.Verdicts.{Held, reached, halves, FollowsOn, FollowsHeld}
 use Rattle.typing.specs.Walkable.{CountsOf, Names}
 use Rattle.typing.proofs.VerdictLaws.{foundAt, follows-on, follows-at}
 
@@ -85,7 +85,7 @@ module _ (b : Binders) (L : length (b .types) ≡ 128) (r : b .count < 128) wher
       → stackFrom ts (bitsOf (withBit (b .sorts) (b .count) s)) (bitsOf (withBit (b .used) (b .count) 0)) n ≡ stackFrom ts (set (bitsOf (b .sorts)) (b .count) s) (set (bitsOf (b .used)) (b .count) 0) n
   bound-bits s h n ts = rw (bits-set (b .sorts) (b .count) s h, bits-set (b .used) (b .count) 0 (omega arith))
 
-  opens-is : (o : Opening) (t n : ℕ) → bindingOf o .fits ≡ true → found t (stackOf (boundTo b (bindingOf o) (withBit (b .sorts) (b .count) (bindingOf o .sort)) (withBit (b .used) (b .count) 0))) ≡ opened o t n (stackOf b)
+  opens-is : (o : Opening) (t n : ℕ) → bindingOf o .fits ≡ true → found t (stackOf (boundTo b (bindingOf o) (withBit (b .sorts) (b .count) (bindingOf o .sort)) (withBit (b .used) (b .count) 0))) ≡ openedStack o t n (stackOf b)
   opens-is opening.Nothing t n h = rw (add-zero (b .count), bound-bits 0 (omega arith), past (b .types) (bitsOf (b .sorts)) (bitsOf (b .used)) (b .count) 0 0 0 (b .count) (omega arith))
   opens-is (opening.Shared u) t n h = rw (bound-bits 0 (omega arith), pushed (b .types) (bitsOf (b .sorts)) (bitsOf (b .used)) u 0 0 (b .count) (omega arith) (omega (arith, bits-length (b .sorts))) (omega (arith, bits-length (b .used))))
   opens-is (opening.Linear u) t n h = rw (bound-bits 1 (omega arith), pushed (b .types) (bitsOf (b .sorts)) (bitsOf (b .used)) u 1 0 (b .count) (omega arith) (omega (arith, bits-length (b .sorts))) (omega (arith, bits-length (b .used))))
@@ -215,13 +215,13 @@ closes-few w = on-cond (λ (m : ℕ). m ≤ 2) (isProjection w) 2 _ (λ _. omega
 
 -- the second subterm, after a first one that has c binders
 module _ (R : Types) (w : Rule) (x : Held) {f : Found → Answer Found} {v : Verdict} where
-  pub follows-refused : {r : Refusal} → v ≡ verdict.Refused r → FollowsOn (x .verdict) (stackOf (x .binders)) v (halves R w v (stackOf (x .binders))) f → Follows x (reached v (x .binders)) f
+  pub follows-refused : {r : Refusal} → v ≡ verdict.Refused r → FollowsOn (x .verdict) (stackOf (x .binders)) v (halves R w v (stackOf (x .binders))) f → FollowsHeld x (reached v (x .binders)) f
   follows-refused e F = follows-on x (x .binders) (subst (λ (st : Stack). FollowsOn (x .verdict) (stackOf (x .binders)) v st f) (rw e refl) F)
 
   pub follows-halves : length (x .binders .types) ≡ 128 → (c : ℕ) → c + 1 < 128 → CountsOf c x → {u i j : ℕ} → v ≡ verdict.Fine u i j
       → FollowsOn (x .verdict) (inScope (x .binders) c) v (halves R w v (inScope (x .binders) c)) f
       → {q : Halves} {m : ℕ} {s′ u′ : List ℕ} → q ≡ halvesIn w u (R u) → m ≡ closesOf w → s′ ≡ clearedAt (x .binders .sorts) c → u′ ≡ clearedAt (x .binders .used) c
-      → Follows x (reached (verdict.Fine u i j) (halvedTo (x .binders) c q m s′ u′)) f
+      → FollowsHeld x (reached (verdict.Fine u i j) (halvedTo (x .binders) c q m s′ u′)) f
   follows-halves L c r n {u} e F {q} {m} {s′} {u′} g h es eu =
       follows-at x (halvedTo (x .binders) c q m s′ u′) c n (rw (halves-are (x .binders) L c r R w u g h es eu) (rw e at F))
 

@@ -18,7 +18,7 @@ use Rattle.records.specs.Rules.{isLinearFunction, isProjection, isFixedPoint, i
 use Rattle.records.specs.declared.Rule.{Rule}
 use Rattle.records.specs.declared.Rule.the-variants as rule
 use Rattle.records.proofs.Rule.{the-type}
-use Rattle.parts.specs.Table.{Entry, isPart, noPart, saidPart, entryOf, named, shapeTy}
+use Rattle.parts.specs.Table.{PartEntry, isPart, noPart, saidPart, entryOf, named, shapeTy}
 use Rattle.parts.specs.declared.Part.{Part}
 use Rattle.records.specs.declared.Sided.{Sided}
 use Rattle.typing.specs.declared.rules.Opening.the-variants as opening
@@ -246,11 +246,11 @@ halves-one w t r d = rw d
 
 -- ---- constants
 
-looked-none : (x : Entry) (b : Bool) → noPart ≡ cond b (isPart x) noPart → b ≡ false
+looked-none : (x : PartEntry) (b : Bool) → noPart ≡ cond b (isPart x) noPart → b ≡ false
 looked-none x true e = absurd (let z : _≡_ {A = ℕ} 0 1 = cc in omega arith)
 looked-none x false e = refl
 
-looked-is : (x y : Entry) (b : Bool) → isPart y ≡ cond b (isPart x) noPart → (b ≡ true) × (y ≡ x)
+looked-is : (x y : PartEntry) (b : Bool) → isPart y ≡ cond b (isPart x) noPart → (b ≡ true) × (y ≡ x)
 looked-is x y true e = (refl, cc)
 looked-is x y false e = absurd (let z : _≡_ {A = ℕ} 0 1 = cc in omega arith)
 
@@ -265,11 +265,11 @@ module _ (p : ℕ) where
     known-part = looked-is (entryOf p) (saidPart q) (ltb p (length parts)) e
 
     pub shape-is : shapeTy (q .shape) ≡ partAt p .type first
-    shape-is = ap (λ (x : Entry). x .in-first) (known-part .1)
+    shape-is = ap (λ (x : PartEntry). x .in-first) (known-part .1)
 
     type-of : (E : Edition) → tyIn (saidPart q) E ≡ partAt p .type E
-    type-of first = ap (λ (x : Entry). x .in-first) (known-part .1)
-    type-of second = ap (λ (x : Entry). x .in-second) (known-part .1)
+    type-of first = ap (λ (x : PartEntry). x .in-first) (known-part .1)
+    type-of second = ap (λ (x : PartEntry). x .in-second) (known-part .1)
 
 module _ (R : Types) (l : ℕ) (E : Edition) (p t n : ℕ) (st : Stack) where
   pub constant-unknown : noPart ≡ named p → refuse 15 n ≡ constantOf R l E p t n st

@@ -22,11 +22,11 @@ use Rattle.typing.specs.declared.Verdict.{Verdict}
 use Rattle.typing.specs.declared.Verdict.the-variants as verdict
 use Rattle.typing.specs.declared.Refusal.{Refusal}
 use Rattle.typing.specs.Steps.{leafOf, enterOf, leaveOne, betweenOf, leaveTwo}
-use Rattle.typing.specs.Verdicts.{Held, said, EndsAt, Says, Follows}
+use Rattle.typing.specs.Verdicts.{Held, said, EndsAt, HeldSays, FollowsHeld}
 use Rattle.typing.specs.Walkable.{Walkable, CountsOf, CountsIn}
 use Rattle.typing.proofs.VerdictLaws.{foundAt, said-fine, stops, refused-ends}
 use Rattle.typing.proofs.Ranges.{StaysIn, kept}
-use Rattle.typing.proofs.WalkLaws.{bind-same, bind-assoc, firstOf, secondOf, after, walk-leaf, walk-steps, after-one, after-two}
+use Rattle.typing.proofs.WalkLaws.{bind-same, bind-assoc, firstSubterm, secondOf, walkAfter, walk-leaf, walk-steps, after-one, after-two}
 use Rattle.typing.proofs.FitLaws.{depth-some, nodes-some, end-none, end-one, end-two, enter-one, enter-two, fits-first, fits-second}
 
 -- ---- what fits
@@ -48,7 +48,7 @@ module _ {s : List ℕ} {l : ℕ} {E : Edition} {at node : ℕ} {Θ : Table} {e 
   fits-kept F r h = kept E Θ (F .table) e (F .ranged) node st (F .numbers) r h
 
   -- after a walk there are as many binders as before
-  pub as-many : Walkable s l E at node Θ e st → (x : Held) {i j : ℕ} → Says x (walk E Θ e node st) i j → {m : ℕ} → length st ≡ m → CountsOf m x
+  pub as-many : Walkable s l E at node Θ e st → (x : Held) {i j : ℕ} → HeldSays x (walk E Θ e node st) i j → {m : ℕ} → length st ≡ m → CountsOf m x
   as-many F x X {m} l = by-verdict (x .verdict) refl
     where
       by-verdict : (v : Verdict) → x .verdict ≡ v → CountsIn m v (x .binders .count)
@@ -69,7 +69,7 @@ module _ (s : List ℕ) (l : ℕ) (E : Edition) (at node : ℕ) (st : Stack) (Θ
     pub place : Here
     pub i : Held
     pub some : ¬ (place .n .subterms ≡ 0)
-    pub says : Says i (enterOf (recIn s) (place .n .rule) (place .n .first) node st) (place .n .next) (node + 1)
+    pub says : HeldSays i (enterOf (recIn s) (place .n .rule) (place .n .first) node st) (place .n .next) (node + 1)
 
   -- .. and not refused
   pub record InsideFine : Type 0 where
@@ -84,14 +84,14 @@ module _ (s : List ℕ) (l : ℕ) (E : Edition) (at node : ℕ) (st : Stack) (Θ
     pub opened : InsideFine
     pub x : Held
     pub says :
-        Says x (walk E Θ (firstOf e) (opened .count) (stackOf (opened .inside .i .binders))) (opened .start + length (termBytes (firstOf e))) (opened .count + nodes (firstOf e))
+        HeldSays x (walk E Θ (firstSubterm e) (opened .count) (stackOf (opened .inside .i .binders))) (opened .start + length (termBytes (firstSubterm e))) (opened .count + nodes (firstSubterm e))
 
   -- there is a second one, and it has been entered
   pub record Middle : Type 0 where
     pub first : First
     pub m : Held
     pub two : ¬ (first .opened .inside .place .n .subterms ≡ 1)
-    pub follows : Follows (first .x) m (betweenOf (recIn s) (first .opened .inside .place .n .rule) node)
+    pub follows : FollowsHeld (first .x) m (betweenOf (recIn s) (first .opened .inside .place .n .rule) node)
 
   -- .. and not refused
   pub record Second : Type 0 where
@@ -103,7 +103,7 @@ module _ (s : List ℕ) (l : ℕ) (E : Edition) (at node : ℕ) (st : Stack) (Θ
 
   -- the verdict on the whole term
   abbrev pub Done : Held → Type 0
-  Done c = Says c (walk E Θ e node st) (at + length (termBytes e)) (node + nodes e)
+  Done c = HeldSays c (walk E Θ e node st) (at + length (termBytes e)) (node + nodes e)
 
 -- ---- .. and what follows there
 
@@ -119,7 +119,7 @@ module _ {s : List ℕ} {l : ℕ} {E : Edition} {at node : ℕ} {st : Stack} {Θ
     subterms-are : h .n .subterms ≡ nodeOf e at .subterms
     subterms-are = ap (λ (n : Node). n .subterms) node-is
 
-    pub turn-leaf : h .n .subterms ≡ 0 → {c : Held} → Says c (leafOf (recIn s) l E (h .n .rule) (h .n .first) (h .n .second) node st) (h .n .next) (node + 1) → Done s l E at node st Θ e c
+    pub turn-leaf : h .n .subterms ≡ 0 → {c : Held} → HeldSays c (leafOf (recIn s) l E (h .n .rule) (h .n .first) (h .n .second) node st) (h .n .next) (node + 1) → Done s l E at node st Θ e c
     turn-leaf z {c} w =
         let F = h .fits in
         let z₁ : nodeOf e at .subterms ≡ 0 = sym subterms-are ∙ z in
@@ -135,7 +135,7 @@ module _ {s : List ℕ} {l : ℕ} {E : Edition} {at node : ℕ} {st : Stack} {Θ
     entered : said (h .i) ≡ enterOf (recIn s) (nodeOf e at .rule) (nodeOf e at .first) node st
     entered = h .says .answer ∙ ap (λ (n : Node). enterOf (recIn s) (n .rule) (n .first) node st) (node-is (h .place))
 
-    steps : walk E Θ e node st ≡ (said (h .i) >>= λ o. walk E Θ (firstOf e) (node + 1) (o .stack) >>= after (recIn s) E Θ e node)
+    steps : walk E Θ e node st ≡ (said (h .i) >>= λ o. walk E Θ (firstSubterm e) (node + 1) (o .stack) >>= walkAfter (recIn s) E Θ e node)
     steps = let F = h .place .fits in walk-steps (recIn s) E Θ (F .table) (F .types) at node st (F .numbers) e (F .ranged) some-is ∙ rw entered refl
 
     -- refused on entering
@@ -155,15 +155,15 @@ module _ {s : List ℕ} {l : ℕ} {E : Edition} {at node : ℕ} {st : Stack} {Θ
     pub turn-falls : length s - h .start < length s - at
     turn-falls = omega (arith, node-ends (h .inside .place), start-is .0)
 
-    pub turn-first : Walkable s l E (h .start) (h .count) Θ (firstOf e) (stackOf (h .inside .i .binders))
+    pub turn-first : Walkable s l E (h .start) (h .count) Θ (firstSubterm e) (stackOf (h .inside .i .binders))
     turn-first = fits-at (sym next-is) (sym (start-is .1)) (fits-first s l E at node Θ st e (h .inside .place .fits) (some-is (h .inside)) _ inside-is)
 
   module _ (h : First s l E at node st Θ e) where
-    first-said : said (h .x) ≡ walk E Θ (firstOf e) (node + 1) (stackOf (h .opened .inside .i .binders))
-    first-said = h .says .answer ∙ ap (λ (z : ℕ). walk E Θ (firstOf e) z (stackOf (h .opened .inside .i .binders))) (start-is (h .opened) .1)
+    first-said : said (h .x) ≡ walk E Θ (firstSubterm e) (node + 1) (stackOf (h .opened .inside .i .binders))
+    first-said = h .says .answer ∙ ap (λ (z : ℕ). walk E Θ (firstSubterm e) z (stackOf (h .opened .inside .i .binders))) (start-is (h .opened) .1)
 
     -- the rest of the walk
-    rest : walk E Θ e node st ≡ (said (h .x) >>= after (recIn s) E Θ e node)
+    rest : walk E Θ e node st ≡ (said (h .x) >>= walkAfter (recIn s) E Θ e node)
     rest = steps (h .opened .inside) ∙ rw (said-fine (h .opened .inside .i) (h .opened .fine), first-said) refl
 
     -- a node with one subterm binds a variable, one with two binds none on entering
@@ -178,13 +178,13 @@ module _ {s : List ℕ} {l : ℕ} {E : Edition} {at node : ℕ} {st : Stack} {Θ
         (ap length (enter-two s l E at node Θ st e (some-is (h .opened .inside)) (λ z. d (subterms-are (h .opened .inside .place) ∙ z)) _ (inside-is (h .opened))) ∙ q)
 
     pub turn-one : h .opened .inside .place .n .subterms ≡ 1 → {c : Held}
-        → Follows (h .x) c (leaveOne (recIn s) (h .opened .inside .place .n .rule) (h .opened .inside .place .n .first) node) → Done s l E at node st Θ e c
+        → FollowsHeld (h .x) c (leaveOne (recIn s) (h .opened .inside .place .n .rule) (h .opened .inside .place .n .first) node) → Done s l E at node st Θ e c
     turn-one z {c} w =
         let N = node-is (h .opened .inside .place) in
         let z₁ : nodeOf e at .subterms ≡ 1 = sym (subterms-are (h .opened .inside .place)) ∙ z in
         record {
           answer = w .answer ∙ bind-same (said (h .x)) (λ a _. ap (λ (n : Node). leaveOne (recIn s) (n .rule) (n .first) node a) N ∙ after-one (recIn s) E Θ at node a e z₁) ∙ sym rest;
-          ends = ends-as (c .verdict) (ap (λ (k : ℕ). k + length (termBytes (firstOf e))) (next-is (h .opened)) ∙ end-one at e z₁ .0) (omega (arith, start-is (h .opened) .1, end-one at e z₁ .1)) (w .ends _ _ (h .says .ends));
+          ends = ends-as (c .verdict) (ap (λ (k : ℕ). k + length (termBytes (firstSubterm e))) (next-is (h .opened)) ∙ end-one at e z₁ .0) (omega (arith, start-is (h .opened) .1, end-one at e z₁ .1)) (w .ends _ _ (h .says .ends));
         }
 
   module _ (h : Middle s l E at node st Θ e) where
@@ -192,7 +192,7 @@ module _ {s : List ℕ} {l : ℕ} {E : Edition} {at node : ℕ} {st : Stack} {Θ
     two-is z = h .two (subterms-are (h .first .opened .inside .place) ∙ z)
 
     abbrev second : Found → Answer Found
-    second y = walk E Θ (secondOf e) (node + 1 + nodes (firstOf e)) (y .stack) >>= leaveTwo (recIn s) (nodeOf e at .rule) (nodeOf e at .first) node (y .type)
+    second y = walk E Θ (secondOf e) (node + 1 + nodes (firstSubterm e)) (y .stack) >>= leaveTwo (recIn s) (nodeOf e at .rule) (nodeOf e at .first) node (y .type)
 
     middle-said : said (h .m) ≡ (said (h .first .x) >>= betweenOf (recIn s) (nodeOf e at .rule) node)
     middle-said = h .follows .answer ∙ ap (λ (n : Node). said (h .first .x) >>= betweenOf (recIn s) (n .rule) node) (node-is (h .first .opened .inside .place))
@@ -210,11 +210,11 @@ module _ {s : List ℕ} {l : ℕ} {E : Edition} {at node : ℕ} {st : Stack} {Θ
     abbrev o : InsideFine s l E at node st Θ e
     o = h .middle .first .opened
 
-    mid-is : (h .start ≡ o .start + length (termBytes (firstOf e))) × (h .count ≡ o .count + nodes (firstOf e))
+    mid-is : (h .start ≡ o .start + length (termBytes (firstSubterm e))) × (h .count ≡ o .count + nodes (firstSubterm e))
     mid-is = rw (h .fine) at (h .middle .follows .ends _ _ (h .middle .first .says .ends))
 
-    count-is : h .count ≡ node + 1 + nodes (firstOf e)
-    count-is = mid-is .1 ∙ ap (λ (z : ℕ). z + nodes (firstOf e)) (start-is o .1)
+    count-is : h .count ≡ node + 1 + nodes (firstSubterm e)
+    count-is = mid-is .1 ∙ ap (λ (z : ℕ). z + nodes (firstSubterm e)) (start-is o .1)
 
     pub turn-falls-again : length s - h .start < length s - at
     turn-falls-again = omega (arith, node-ends (o .inside .place), start-is o .0, mid-is .0)
@@ -222,11 +222,11 @@ module _ {s : List ℕ} {l : ℕ} {E : Edition} {at node : ℕ} {st : Stack} {Θ
     pub turn-second : Walkable s l E (h .start) (h .count) Θ (secondOf e) (stackOf (h .middle .m .binders))
     turn-second =
         on-bind (said (h .middle .first .x)) (betweenOf (recIn s) (nodeOf e at .rule) node) (foundAt (h .u) (stackOf (h .middle .m .binders))) (sym (middle-said (h .middle)) ∙ said-fine (h .middle .m) (h .fine)) λ a g k.
-        fits-at (ap (λ (z : ℕ). z + length (termBytes (firstOf e))) (sym (next-is o)) ∙ sym (mid-is .0)) (sym count-is)
+        fits-at (ap (λ (z : ℕ). z + length (termBytes (firstSubterm e))) (sym (next-is o)) ∙ sym (mid-is .0)) (sym count-is)
         (fits-second s l E at node Θ st e (o .inside .place .fits) (some-is (o .inside)) _ (inside-is o) (two-is (h .middle)) a (sym (first-said (h .middle .first)) ∙ g) _ k)
 
-    pub turn-two : (y c : Held) → Says y (walk E Θ (secondOf e) (h .count) (stackOf (h .middle .m .binders))) (h .start + length (termBytes (secondOf e))) (h .count + nodes (secondOf e))
-        → Follows y c (leaveTwo (recIn s) (o .inside .place .n .rule) (o .inside .place .n .first) node (h .u)) → Done s l E at node st Θ e c
+    pub turn-two : (y c : Held) → HeldSays y (walk E Θ (secondOf e) (h .count) (stackOf (h .middle .m .binders))) (h .start + length (termBytes (secondOf e))) (h .count + nodes (secondOf e))
+        → FollowsHeld y c (leaveTwo (recIn s) (o .inside .place .n .rule) (o .inside .place .n .first) node (h .u)) → Done s l E at node st Θ e c
     turn-two y c Y w =
         let N = end-two at e (some-is (o .inside)) (two-is (h .middle)) in
         record {

@@ -15,7 +15,7 @@ use Rattle.typing.specs.declared.Verdict.{Verdict}
 use Rattle.typing.specs.declared.Verdict.the-variants as verdict
 use Rattle.typing.specs.declared.Refusal.{Refusal}
 use Rattle.typing.specs.declared.Checked.{Checked}
-use Rattle.typing.specs.Verdicts.{saidWhy, saidVerdict, checked, Held, reached, withMarks, held, atCount, said, settledOf, EndsAt, Says, FollowsOn, Follows}
+use Rattle.typing.specs.Verdicts.{saidWhy, saidVerdict, checked, Held, reached, withMarks, held, atCount, said, settledOf, EndsAt, HeldSays, FollowsOn, FollowsHeld}
 use Rattle.typing.specs.Walkable.{CountsOf, CountsIn}
 
 -- a type and a stack
@@ -25,21 +25,21 @@ foundAt t st = record { type = t; stack = st }
 -- ---- one step
 
 module _ (b : Binders) {a : Answer Found} (next count : ℕ) where
-  pub says-fine : (t : ℕ) → found t (stackOf b) ≡ a → Says (reached (verdict.Fine t next count) b) a next count
+  pub says-fine : (t : ℕ) → found t (stackOf b) ≡ a → HeldSays (reached (verdict.Fine t next count) b) a next count
   unfolding said
   says-fine t h = record { answer = h; ends = (refl, refl) }
 
-  pub says-refused : {v : Verdict} (why : Refusal) → v ≡ verdict.Refused why → refused (saidWhy why) ≡ a → Says (reached v b) a next count
+  pub says-refused : {v : Verdict} (why : Refusal) → v ≡ verdict.Refused why → refused (saidWhy why) ≡ a → HeldSays (reached v b) a next count
   unfolding said
-  says-refused why e h = subst⁻¹ (λ (v : Verdict). Says (reached v b) a next count) e (record { answer = h; ends = tt })
+  says-refused why e h = subst⁻¹ (λ (v : Verdict). HeldSays (reached v b) a next count) e (record { answer = h; ends = tt })
 
 -- a leaf, by what its use gives
-pub says-settled : (u : Use) (b : Binders) {a : Answer Found} (next node : ℕ) {v : Verdict} → v ≡ settledOf u next node → saidUse u (stackOf b) node ≡ a → Says (reached v b) a next (node + 1)
-says-settled (use·.Type t) b {a} next node e h = subst⁻¹ (λ (v : Verdict). Says (reached v b) a next (node + 1)) e (says-fine b next (node + 1) t h)
+pub says-settled : (u : Use) (b : Binders) {a : Answer Found} (next node : ℕ) {v : Verdict} → v ≡ settledOf u next node → saidUse u (stackOf b) node ≡ a → HeldSays (reached v b) a next (node + 1)
+says-settled (use·.Type t) b {a} next node e h = subst⁻¹ (λ (v : Verdict). HeldSays (reached v b) a next (node + 1)) e (says-fine b next (node + 1) t h)
 says-settled (use·.Refused number) b next node e h = says-refused b next (node + 1) _ e h
 
 -- a verdict on its own, with the binders as they are
-pub says-told : (v : Verdict) (b : Binders) {a : Answer Found} (next count : ℕ) → saidVerdict v (stackOf b) ≡ a → EndsAt v next count → Says (reached v b) a next count
+pub says-told : (v : Verdict) (b : Binders) {a : Answer Found} (next count : ℕ) → saidVerdict v (stackOf b) ≡ a → EndsAt v next count → HeldSays (reached v b) a next count
 unfolding said
 says-told v b next count h k = record { answer = h; ends = k }
 
@@ -66,16 +66,16 @@ module _ (c : Held) where
 -- the same stack
 pub says-under : (b b′ : Binders) (c : Checked) {a : Answer Found} {next count : ℕ}
     → stackFrom (b .types) (bitsOf (b .sorts)) (bitsOf (c .used)) (b .count) ≡ stackFrom (b′ .types) (bitsOf (b′ .sorts)) (bitsOf (c .used)) (b′ .count)
-    → Says (held b c) a next count → Says (held b′ c) a next count
+    → HeldSays (held b c) a next count → HeldSays (held b′ c) a next count
 unfolding said
 says-under b b′ c e S = record { answer = ap (saidVerdict (c .verdict)) (sym e) ∙ S .answer; ends = S .ends }
 
 -- the code's answer by its verdict and marks
-pub says-as : (b : Binders) {c : Checked} {v : Verdict} {marks : List ℕ} {a : Answer Found} {next count : ℕ} → c ≡ checked v marks → Says (reached v (withMarks b marks)) a next count → Says (held b c) a next count
-says-as b {a = a} {next = next} {count = count} e S = subst⁻¹ (λ (x : Checked). Says (held b x) a next count) e S
+pub says-as : (b : Binders) {c : Checked} {v : Verdict} {marks : List ℕ} {a : Answer Found} {next count : ℕ} → c ≡ checked v marks → HeldSays (reached v (withMarks b marks)) a next count → HeldSays (held b c) a next count
+says-as b {a = a} {next = next} {count = count} e S = subst⁻¹ (λ (x : Checked). HeldSays (held b x) a next count) e S
 
 -- a refusal has no stack
-pub says-anyhow : (b b′ : Binders) {v : Verdict} {r : Refusal} {a : Answer Found} {next count : ℕ} → v ≡ verdict.Refused r → Says (reached v b) a next count → Says (reached v b′) a next count
+pub says-anyhow : (b b′ : Binders) {v : Verdict} {r : Refusal} {a : Answer Found} {next count : ℕ} → v ≡ verdict.Refused r → HeldSays (reached v b) a next count → HeldSays (reached v b′) a next count
 unfolding said
 says-anyhow b b′ e S = record { answer = rw e (rw e at (S .answer)); ends = S .ends }
 
@@ -95,22 +95,22 @@ module _ (v : Verdict) (st out : Stack) (f : Found → Answer Found) where
 -- ---- .. with the binders of both
 
 module _ (x : Held) {f : Found → Answer Found} {w : Verdict} (b : Binders) where
-  pub follows-on : FollowsOn (x .verdict) (stackOf (x .binders)) w (stackOf b) f → Follows x (reached w b) f
+  pub follows-on : FollowsOn (x .verdict) (stackOf (x .binders)) w (stackOf b) f → FollowsHeld x (reached w b) f
   unfolding said
   follows-on F = record { answer = F .answer; ends = F .ends }
 
   -- .. by the number of binders that a fine verdict has
-  pub follows-at : (m : ℕ) → CountsOf m x → FollowsOn (x .verdict) (stackFrom (x .binders .types) (bitsOf (x .binders .sorts)) (bitsOf (x .binders .used)) m) w (stackOf b) f → Follows x (reached w b) f
+  pub follows-at : (m : ℕ) → CountsOf m x → FollowsOn (x .verdict) (stackFrom (x .binders .types) (bitsOf (x .binders .sorts)) (bitsOf (x .binders .used)) m) w (stackOf b) f → FollowsHeld x (reached w b) f
   follows-at m n F = by-verdict (x .verdict) refl n F
     where
-      by-verdict : (v : Verdict) → x .verdict ≡ v → CountsIn m v (x .binders .count) → FollowsOn v (stackFrom (x .binders .types) (bitsOf (x .binders .sorts)) (bitsOf (x .binders .used)) m) w (stackOf b) f → Follows x (reached w b) f
+      by-verdict : (v : Verdict) → x .verdict ≡ v → CountsIn m v (x .binders .count) → FollowsOn v (stackFrom (x .binders .types) (bitsOf (x .binders .sorts)) (bitsOf (x .binders .used)) m) w (stackOf b) f → FollowsHeld x (reached w b) f
       by-verdict (verdict.Fine t i j) e h F = follows-on (rw (e, h) F)
       by-verdict (verdict.Refused r) e h F = follows-on (rw e (record { answer = F .answer; ends = F .ends }))
 
 -- .. where the k nearest binders go out of scope
 pub follows-left : (x : Held) {f : Found → Answer Found} {w : Verdict} (k c : ℕ) → CountsOf (c + k) x
     → FollowsOn (x .verdict) (stackFrom (x .binders .types) (bitsOf (x .binders .sorts)) (bitsOf (x .binders .used)) (c + k)) w (drop k (stackFrom (x .binders .types) (bitsOf (x .binders .sorts)) (bitsOf (x .binders .used)) (c + k))) f
-    → Follows x (reached w (atCount (x .binders) c)) f
+    → FollowsHeld x (reached w (atCount (x .binders) c)) f
 follows-left x k c n F =
     let e : c + k - k ≡ c = omega arith in
     follows-at x _ (c + k) n (rw (← left (x .binders .types) (bitsOf (x .binders .sorts)) (bitsOf (x .binders .used)) k (c + k) (omega arith), e) at F)

@@ -16,7 +16,7 @@ use Rattle.records.specs.declared.Rule.the-variants as rule
 use Rattle.sheet_theorems.specs.Numbers.{Numbers}
 use Rattle.typing.specs.declared.rules.Fit.the-variants as how
 use Rattle.records.specs.TypeNumbers.{kindNo}
-use Rattle.typing.specs.Steps.{Types, constantOf, leafOf, openingOf, opened, enterOf, wantedOf, usedUp, leaveOne, betweenOf, appliedOf, pairedOf, joinedOf, closesOf, fitted, leaveTwo, entersOf}
+use Rattle.typing.specs.Steps.{Types, constantOf, leafOf, openingOf, openedStack, enterOf, wantedOf, usedUp, leaveOne, betweenOf, appliedOf, pairedOf, joinedOf, closesOf, fitted, leaveTwo, entersOf}
 use Rattle.typing.proofs.Ranges.{sharable-is, stands-for, number-is, kept}
 
 -- ---- answers
@@ -32,18 +32,18 @@ bind-assoc (refused why) f g = refl
 
 -- ---- the subterms
 
-abbrev pub firstOf : Term → Term
-firstOf (var i) = var i
-firstOf (lvar i) = lvar i
-firstOf (fun t e) = e
-firstOf (app f a) = f
-firstOf (lfun t e) = e
-firstOf (lapp f a) = f
-firstOf (pair t a b) = a
-firstOf (proj a e) = a
-firstOf (fix t e) = e
-firstOf (con p t) = con p t
-firstOf (name a e) = a
+abbrev pub firstSubterm : Term → Term
+firstSubterm (var i) = var i
+firstSubterm (lvar i) = lvar i
+firstSubterm (fun t e) = e
+firstSubterm (app f a) = f
+firstSubterm (lfun t e) = e
+firstSubterm (lapp f a) = f
+firstSubterm (pair t a b) = a
+firstSubterm (proj a e) = a
+firstSubterm (fix t e) = e
+firstSubterm (con p t) = con p t
+firstSubterm (name a e) = a
 
 abbrev pub secondOf : Term → Term
 secondOf (var i) = var i
@@ -93,18 +93,18 @@ pair-tests false y t i a j b n st = refl
 
 -- ---- the walk after a node's first subterm, in the code's steps
 
-abbrev pub after : Types → Edition → Table → Term → ℕ → Found → Answer Found
-after R E Θ (var i) n x = good x
-after R E Θ (lvar i) n x = good x
-after R E Θ (fun t e) n x = leaveOne R rule.Function t n x
-after R E Θ (app f a) n x = betweenOf R rule.Application n x >>= λ m. walk E Θ a (n + 1 + nodes f) (m .stack) >>= leaveTwo R rule.Application 0 n (m .type)
-after R E Θ (lfun t e) n x = leaveOne R rule.LinearFunction t n x
-after R E Θ (lapp f a) n x = betweenOf R rule.LinearApplication n x >>= λ m. walk E Θ a (n + 1 + nodes f) (m .stack) >>= leaveTwo R rule.LinearApplication 0 n (m .type)
-after R E Θ (pair t a b) n x = betweenOf R rule.Pair n x >>= λ m. walk E Θ b (n + 1 + nodes a) (m .stack) >>= leaveTwo R rule.Pair t n (m .type)
-after R E Θ (proj a e) n x = betweenOf R rule.Projection n x >>= λ m. walk E Θ e (n + 1 + nodes a) (m .stack) >>= leaveTwo R rule.Projection 0 n (m .type)
-after R E Θ (fix t e) n x = leaveOne R rule.FixedPoint t n x
-after R E Θ (con p t) n x = good x
-after R E Θ (name a e) n x = betweenOf R rule.Naming n x >>= λ m. walk E Θ e (n + 1 + nodes a) (m .stack) >>= leaveTwo R rule.Naming 0 n (m .type)
+abbrev pub walkAfter : Types → Edition → Table → Term → ℕ → Found → Answer Found
+walkAfter R E Θ (var i) n x = good x
+walkAfter R E Θ (lvar i) n x = good x
+walkAfter R E Θ (fun t e) n x = leaveOne R rule.Function t n x
+walkAfter R E Θ (app f a) n x = betweenOf R rule.Application n x >>= λ m. walk E Θ a (n + 1 + nodes f) (m .stack) >>= leaveTwo R rule.Application 0 n (m .type)
+walkAfter R E Θ (lfun t e) n x = leaveOne R rule.LinearFunction t n x
+walkAfter R E Θ (lapp f a) n x = betweenOf R rule.LinearApplication n x >>= λ m. walk E Θ a (n + 1 + nodes f) (m .stack) >>= leaveTwo R rule.LinearApplication 0 n (m .type)
+walkAfter R E Θ (pair t a b) n x = betweenOf R rule.Pair n x >>= λ m. walk E Θ b (n + 1 + nodes a) (m .stack) >>= leaveTwo R rule.Pair t n (m .type)
+walkAfter R E Θ (proj a e) n x = betweenOf R rule.Projection n x >>= λ m. walk E Θ e (n + 1 + nodes a) (m .stack) >>= leaveTwo R rule.Projection 0 n (m .type)
+walkAfter R E Θ (fix t e) n x = leaveOne R rule.FixedPoint t n x
+walkAfter R E Θ (con p t) n x = good x
+walkAfter R E Θ (name a e) n x = betweenOf R rule.Naming n x >>= λ m. walk E Θ e (n + 1 + nodes a) (m .stack) >>= leaveTwo R rule.Naming 0 n (m .type)
 
 -- ---- each kind of node
 
@@ -116,7 +116,7 @@ module _ (R : Types) (E : Edition) (Θ : Table) (ok : TableOk Θ) (same : (t : �
   module _ (go : ℕ → Stack → Answer Found) where
     fun-steps : (q : TyRec) (t : ℕ) (st : Stack) → R t ≡ q
         → (sharableArrow q t n >>= λ τ. go (n + 1) (shared (τ .left) ∷ st) >>= λ r. fit (eqb (r .type) (τ .right)) n (τ .right) (r .type) >>= λ _. found t (pop (r .stack)))
-        ≡ (opened (openingOf rule.Function t q) t n st >>= λ o. go (n + 1) (o .stack) >>= leaveOne R rule.Function t n)
+        ≡ (openedStack (openingOf rule.Function t q) t n st >>= λ o. go (n + 1) (o .stack) >>= leaveOne R rule.Function t n)
     unfolding openingOf leaveOne usedUp wantedOf
     fun-steps rec01 t st e = refl
     fun-steps (rec02 a b) t st e = refl
@@ -125,7 +125,7 @@ module _ (R : Types) (E : Edition) (Θ : Table) (ok : TableOk Θ) (same : (t : �
 
     lfun-steps : (q : TyRec) (t : ℕ) (st : Stack) → R t ≡ q
         → (linearArrow q t n >>= λ τ. go (n + 1) (linear (τ .left) false ∷ st) >>= λ r. need (topUsed (r .stack)) 14 n >>= λ _. fit (eqb (r .type) (τ .right)) n (τ .right) (r .type) >>= λ _. found t (pop (r .stack)))
-        ≡ (opened (openingOf rule.LinearFunction t q) t n st >>= λ o. go (n + 1) (o .stack) >>= leaveOne R rule.LinearFunction t n)
+        ≡ (openedStack (openingOf rule.LinearFunction t q) t n st >>= λ o. go (n + 1) (o .stack) >>= leaveOne R rule.LinearFunction t n)
     unfolding openingOf leaveOne usedUp wantedOf
     lfun-steps rec01 t st e = refl
     lfun-steps (rec02 a b) t st e = refl
@@ -134,7 +134,7 @@ module _ (R : Types) (E : Edition) (Θ : Table) (ok : TableOk Θ) (same : (t : �
 
     fix-steps : (q : TyRec) (t : ℕ) (st : Stack)
         → (fit (leb (kindNo q) 2) n aForm t >>= λ _. go (n + 1) (shared t ∷ st) >>= λ r. fit (eqb (r .type) t) n t (r .type) >>= λ _. found t (pop (r .stack)))
-        ≡ (opened (openingOf rule.FixedPoint t q) t n st >>= λ o. go (n + 1) (o .stack) >>= leaveOne R rule.FixedPoint t n)
+        ≡ (openedStack (openingOf rule.FixedPoint t q) t n st >>= λ o. go (n + 1) (o .stack) >>= leaveOne R rule.FixedPoint t n)
     unfolding openingOf leaveOne usedUp wantedOf
     fix-steps rec01 t st = bind-same (go (n + 1) (shared t ∷ st)) (λ r h. rw (pop-is (r .stack)))
     fix-steps (rec02 a b) t st = bind-same (go (n + 1) (shared t ∷ st)) (λ r h. rw (pop-is (r .stack)))
@@ -142,7 +142,7 @@ module _ (R : Types) (E : Edition) (Θ : Table) (ok : TableOk Θ) (same : (t : �
     fix-steps (rec04 a b) t st = refl
 
   app-steps : (f a : Term) (st : Stack) → Ranged E Θ f → Numbers st (length Θ)
-      → walk E Θ (app f a) n st ≡ (enterOf R rule.Application 0 n st >>= λ o. walk E Θ f (n + 1) (o .stack) >>= after R E Θ (app f a) n)
+      → walk E Θ (app f a) n st ≡ (enterOf R rule.Application 0 n st >>= λ o. walk E Θ f (n + 1) (o .stack) >>= walkAfter R E Θ (app f a) n)
   unfolding openingOf betweenOf entersOf joinedOf closesOf
   app-steps f a st r k =
       bind-same (walk E Θ f (n + 1) st) λ x h.
@@ -150,7 +150,7 @@ module _ (R : Types) (E : Edition) (Θ : Table) (ok : TableOk Θ) (same : (t : �
       rw (same (x .type) (kept E Θ ok f r (n + 1) st k x h .type-in)) (sym (app-end (recAt Θ (x .type)) (x .type) (y .type) n (y .stack)))
 
   lapp-steps : (f a : Term) (st : Stack) → Ranged E Θ f → Numbers st (length Θ)
-      → walk E Θ (lapp f a) n st ≡ (enterOf R rule.LinearApplication 0 n st >>= λ o. walk E Θ f (n + 1) (o .stack) >>= after R E Θ (lapp f a) n)
+      → walk E Θ (lapp f a) n st ≡ (enterOf R rule.LinearApplication 0 n st >>= λ o. walk E Θ f (n + 1) (o .stack) >>= walkAfter R E Θ (lapp f a) n)
   unfolding openingOf betweenOf entersOf joinedOf closesOf
   lapp-steps f a st r k =
       bind-same (walk E Θ f (n + 1) st) λ x h.
@@ -159,7 +159,7 @@ module _ (R : Types) (E : Edition) (Θ : Table) (ok : TableOk Θ) (same : (t : �
 
   pair-rest : (q : TyRec) (t : ℕ) (a b : Term) (st : Stack) → R t ≡ q
       → (product q t n >>= λ τ. walk E Θ a (n + 1) st >>= λ x. walk E Θ b (n + 1 + nodes a) (x .stack) >>= λ y. fit (eqb (x .type) (τ .left)) n (τ .left) (x .type) >>= λ _. fit (eqb (y .type) (τ .right)) n (τ .right) (y .type) >>= λ _. found t (y .stack))
-      ≡ (opened (openingOf rule.Pair t q) t n st >>= λ o. walk E Θ a (n + 1) (o .stack) >>= after R E Θ (pair t a b) n)
+      ≡ (openedStack (openingOf rule.Pair t q) t n st >>= λ o. walk E Θ a (n + 1) (o .stack) >>= walkAfter R E Θ (pair t a b) n)
   unfolding openingOf betweenOf entersOf joinedOf closesOf pairedOf
   pair-rest rec01 t a b st e = refl
   pair-rest (rec02 u v) t a b st e =
@@ -170,7 +170,7 @@ module _ (R : Types) (E : Edition) (Θ : Table) (ok : TableOk Θ) (same : (t : �
   pair-rest (rec04 u v) t a b st e = refl
 
   proj-rest : (q : TyRec) (a e : Term) (x : Found) → R (x .type) ≡ q
-      → (product q (x .type) n >>= λ τ. walk E Θ e (n + 1 + nodes a) (shared (τ .right) ∷ shared (τ .left) ∷ x .stack) >>= λ y. found (y .type) (pop (pop (y .stack)))) ≡ after R E Θ (proj a e) n x
+      → (product q (x .type) n >>= λ τ. walk E Θ e (n + 1 + nodes a) (shared (τ .right) ∷ shared (τ .left) ∷ x .stack) >>= λ y. found (y .type) (pop (pop (y .stack)))) ≡ walkAfter R E Θ (proj a e) n x
   unfolding betweenOf entersOf joinedOf closesOf
   proj-rest rec01 a e x h = rw h
   proj-rest (rec02 u v) a e x h = rw h (bind-same (walk E Θ e (n + 1 + nodes a) (shared v ∷ shared u ∷ x .stack)) (λ y g. rw (pop-two (y .stack))))
@@ -178,14 +178,14 @@ module _ (R : Types) (E : Edition) (Θ : Table) (ok : TableOk Θ) (same : (t : �
   proj-rest (rec04 u v) a e x h = rw h
 
   proj-steps : (a e : Term) (st : Stack) → Ranged E Θ a → Numbers st (length Θ)
-      → walk E Θ (proj a e) n st ≡ (enterOf R rule.Projection 0 n st >>= λ o. walk E Θ a (n + 1) (o .stack) >>= after R E Θ (proj a e) n)
+      → walk E Θ (proj a e) n st ≡ (enterOf R rule.Projection 0 n st >>= λ o. walk E Θ a (n + 1) (o .stack) >>= walkAfter R E Θ (proj a e) n)
   unfolding openingOf
   proj-steps a e st r k =
       bind-same (walk E Θ a (n + 1) st) λ x h.
       proj-rest (recAt Θ (x .type)) a e x (same (x .type) (kept E Θ ok a r (n + 1) st k x h .type-in))
 
   name-rest : (q : TyRec) (a e : Term) (x : Found) → R (x .type) ≡ q
-      → (fit (leb (kindNo q) 2) n aForm (x .type) >>= λ _. walk E Θ e (n + 1 + nodes a) (shared (x .type) ∷ x .stack) >>= λ y. found (y .type) (pop (y .stack))) ≡ after R E Θ (name a e) n x
+      → (fit (leb (kindNo q) 2) n aForm (x .type) >>= λ _. walk E Θ e (n + 1 + nodes a) (shared (x .type) ∷ x .stack) >>= λ y. found (y .type) (pop (y .stack))) ≡ walkAfter R E Θ (name a e) n x
   unfolding betweenOf entersOf joinedOf closesOf
   name-rest rec01 a e x h = rw h (bind-same (walk E Θ e (n + 1 + nodes a) (shared (x .type) ∷ x .stack)) (λ y g. rw (pop-is (y .stack))))
   name-rest (rec02 u v) a e x h = rw h (bind-same (walk E Θ e (n + 1 + nodes a) (shared (x .type) ∷ x .stack)) (λ y g. rw (pop-is (y .stack))))
@@ -193,7 +193,7 @@ module _ (R : Types) (E : Edition) (Θ : Table) (ok : TableOk Θ) (same : (t : �
   name-rest (rec04 u v) a e x h = rw h
 
   name-steps : (a e : Term) (st : Stack) → Ranged E Θ a → Numbers st (length Θ)
-      → walk E Θ (name a e) n st ≡ (enterOf R rule.Naming 0 n st >>= λ o. walk E Θ a (n + 1) (o .stack) >>= after R E Θ (name a e) n)
+      → walk E Θ (name a e) n st ≡ (enterOf R rule.Naming 0 n st >>= λ o. walk E Θ a (n + 1) (o .stack) >>= walkAfter R E Θ (name a e) n)
   unfolding openingOf
   name-steps a e st r k =
       bind-same (walk E Θ a (n + 1) st) λ x h.
@@ -219,7 +219,7 @@ module _ (R : Types) (E : Edition) (Θ : Table) (ok : TableOk Θ) (same : (t : �
 
   -- with subterms: entering, the first subterm, and what comes after it
   pub walk-steps : (e : Term) → Ranged E Θ e → ¬ (nodeOf e at .subterms ≡ 0)
-      → walk E Θ e n st ≡ (enterOf R (nodeOf e at .rule) (nodeOf e at .first) n st >>= λ o. walk E Θ (firstOf e) (n + 1) (o .stack) >>= after R E Θ e n)
+      → walk E Θ e n st ≡ (enterOf R (nodeOf e at .rule) (nodeOf e at .first) n st >>= λ o. walk E Θ (firstSubterm e) (n + 1) (o .stack) >>= walkAfter R E Θ e n)
   walk-steps (var i) r d = absurd (d refl)
   walk-steps (lvar i) r d = absurd (d refl)
   walk-steps (fun t e) r d = rw (← same t (r .0)) (fun-steps R E Θ ok same n (walk E Θ e) (R t) t st refl)
@@ -233,7 +233,7 @@ module _ (R : Types) (E : Edition) (Θ : Table) (ok : TableOk Θ) (same : (t : �
   walk-steps (name a e) r d = name-steps R E Θ ok same n a e st (r .1) k
 
 module _ (R : Types) (E : Edition) (Θ : Table) (at n : ℕ) (x : Found) where
-  pub after-one : (e : Term) → nodeOf e at .subterms ≡ 1 → leaveOne R (nodeOf e at .rule) (nodeOf e at .first) n x ≡ after R E Θ e n x
+  pub after-one : (e : Term) → nodeOf e at .subterms ≡ 1 → leaveOne R (nodeOf e at .rule) (nodeOf e at .first) n x ≡ walkAfter R E Θ e n x
   after-one (var i) z = absurd (omega arith)
   after-one (lvar i) z = absurd (omega arith)
   after-one (fun t e) z = refl
@@ -247,8 +247,8 @@ module _ (R : Types) (E : Edition) (Θ : Table) (at n : ℕ) (x : Found) where
   after-one (name a e) z = absurd (omega arith)
 
   pub after-two : (e : Term) → ¬ (nodeOf e at .subterms ≡ 0) → ¬ (nodeOf e at .subterms ≡ 1)
-      → (betweenOf R (nodeOf e at .rule) n x >>= λ m. walk E Θ (secondOf e) (n + 1 + nodes (firstOf e)) (m .stack) >>= leaveTwo R (nodeOf e at .rule) (nodeOf e at .first) n (m .type))
-      ≡ after R E Θ e n x
+      → (betweenOf R (nodeOf e at .rule) n x >>= λ m. walk E Θ (secondOf e) (n + 1 + nodes (firstSubterm e)) (m .stack) >>= leaveTwo R (nodeOf e at .rule) (nodeOf e at .first) n (m .type))
+      ≡ walkAfter R E Θ e n x
   after-two (var i) d f = absurd (d refl)
   after-two (lvar i) d f = absurd (d refl)
   after-two (fun t e) d f = absurd (f refl)

@@ -16,7 +16,7 @@ use Rattle.records.specs.declared.Rule.the-variants as rule
 use Rattle.typing.specs.declared.rules.Opening.{Opening}
 use Rattle.typing.specs.declared.rules.Opening.the-variants as opening
 use Rattle.typing.specs.declared.rules.Binding.{Binding}
-use Rattle.parts.specs.Table.{Entry}
+use Rattle.parts.specs.Table.{PartEntry}
 use Rattle.typing.specs.declared.rules.Halves.{Halves}
 use Rattle.typing.specs.declared.rules.Fit.{Fit}
 use Rattle.typing.specs.declared.rules.Fit.the-variants as how
@@ -44,7 +44,7 @@ numberBelow f zero k = aForm
 numberBelow f (suc m) k = cond (f k) k (numberBelow f m (suc k))
 
 -- the type of a part in an edition
-abbrev pub tyIn : Entry → Edition → Ty
+abbrev pub tyIn : PartEntry → Edition → Ty
 tyIn x first = x .in-first
 tyIn x second = x .in-second
 
@@ -95,14 +95,14 @@ bindingOf (opening.Shared t) = record { fits = true; count = 1; ty = t; sort = 0
 bindingOf (opening.Linear t) = record { fits = true; count = 1; ty = t; sort = 1 }
 bindingOf opening.Misfit = record { fits = false; count = 0; ty = 0; sort = 0 }
 
-abbrev pub opened : Opening → ℕ → ℕ → Stack → Answer Found
-opened opening.Nothing t n st = found t st
-opened (opening.Shared x) t n st = found t (shared x ∷ st)
-opened (opening.Linear x) t n st = found t (linear x false ∷ st)
-opened opening.Misfit t n st = refused (clash n aForm t)
+abbrev pub openedStack : Opening → ℕ → ℕ → Stack → Answer Found
+openedStack opening.Nothing t n st = found t st
+openedStack (opening.Shared x) t n st = found t (shared x ∷ st)
+openedStack (opening.Linear x) t n st = found t (linear x false ∷ st)
+openedStack opening.Misfit t n st = refused (clash n aForm t)
 
 abbrev pub enterOf : Types → Rule → ℕ → ℕ → Stack → Answer Found
-enterOf R u t n st = opened (openingOf u t (R t)) t n st
+enterOf R u t n st = openedStack (openingOf u t (R t)) t n st
 
 -- ---- leaving a node with one subterm
 

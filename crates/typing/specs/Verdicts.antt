@@ -72,7 +72,7 @@ EndsAt (verdict.Fine t x y) next count = (x ≡ next) × (y ≡ count)
 EndsAt (verdict.Refused r) next count = Unit {0}
 
 -- a verdict with its binders, and where its term ends
-pub record Says (c : Held) (a : Answer Found) (next count : ℕ) : Type 0 where
+pub record HeldSays (c : Held) (a : Answer Found) (next count : ℕ) : Type 0 where
   pub answer : said c ≡ a
   pub ends : EndsAt (c .verdict) next count
 
@@ -82,6 +82,6 @@ pub record FollowsOn (v : Verdict) (st : Stack) (w : Verdict) (out : Stack) (f :
   pub ends : (next count : ℕ) → EndsAt v next count → EndsAt w next count
 
 -- the same of verdicts that have their binders
-pub record Follows (x c : Held) (f : Found → Answer Found) : Type 0 where
+pub record FollowsHeld (x c : Held) (f : Found → Answer Found) : Type 0 where
   pub answer : said c ≡ (said x >>= f)
   pub ends : (next count : ℕ) → EndsAt (x .verdict) next count → EndsAt (c .verdict) next count

@@ -15,7 +15,7 @@ use Rattle.typing.specs.declared.Verdict.{Verdict}
 use Rattle.typing.specs.declared.Verdict.the-variants as verdict
 use Rattle.binders.specs.declared.Binders.{Binders}
 use Rattle.binders.specs.Stacks.{stackOf, slotOf}
-use Rattle.typing.specs.Verdicts.{Held, held, Says}
+use Rattle.typing.specs.Verdicts.{Held, held, HeldSays}
 
 -- a term stands at an offset, of a sheet that is its own table of l types; a level of the term binds two variables at most
 pub record Walkable (s : List ℕ) (l : ℕ) (E : Edition) (at node : ℕ) (Θ : Table) (e : Term) (st : Stack) : Type 0 where
@@ -36,7 +36,7 @@ pub record Placed (s : List ℕ) (l : ℕ) (E : Edition) (at node : ℕ) (st : S
 
 -- the walk's verdict on whichever term stands there
 abbrev pub Walked : List ℕ → ℕ → Edition → ℕ → ℕ → Binders → Checked → Type 0
-Walked s l E at node b c = (Θ : Table) (e : Term) → Walkable s l E at node Θ e (stackOf b) → Says (held b c) (walk E Θ e node (stackOf b)) (at + length (termBytes e)) (node + nodes e)
+Walked s l E at node b c = (Θ : Table) (e : Term) → Walkable s l E at node Θ e (stackOf b) → HeldSays (held b c) (walk E Θ e node (stackOf b)) (at + length (termBytes e)) (node + nodes e)
 
 -- a verdict that is fine has so many binders
 abbrev pub CountsIn : ℕ → Verdict → ℕ → Type 0

@@ -15,7 +15,7 @@ ghost use Rattle.records.specs.Editions.{editionBy};
 ghost use Rattle.binders.specs.Stacks.{bitsOf, binderOf, stackOf};
 ghost use Rattle.binders.specs.declared.Binders.{Binders};
 ghost use Rattle.typing.specs.Steps.{constantOf, leafOf, usedUp, leaveOne, betweenOf, closesOf, leaveTwo};
-ghost use Rattle.typing.specs.Verdicts.{saidVerdict, refusedOf, clashOf, checked, held, atCount, settledOf, halves, EndsAt, Says, FollowsOn, Follows};
+ghost use Rattle.typing.specs.Verdicts.{saidVerdict, refusedOf, clashOf, checked, held, atCount, settledOf, halves, EndsAt, HeldSays, FollowsOn, FollowsHeld};
 ghost use Rattle.typing.specs.Answers.{saidTyping, checkOf, TermAt};
 ghost use Rattle.typing.specs.Walkable.{Placed, Walked, CountsOf, Names};
 
@@ -124,7 +124,7 @@ fn leaf(
     second: bool,
 ) -> Checked
     requires { ⌜ (scope ≤ 128) × (node < 2048) × (types ≤ 256) ⌝ }
-    ensures { λ r. ⌜ ((b : Binders) → Names b (n .first) scope ty sorts marks → Says (held b r) (leafOf (recIn (now (s .entry))) types (editionBy second) (n .rule) (n .first) (n .second) node (stackOf b)) (n .next) (node + 1)) ⌝ }
+    ensures { λ r. ⌜ ((b : Binders) → Names b (n .first) scope ty sorts marks → HeldSays (held b r) (leafOf (recIn (now (s .entry))) types (editionBy second) (n .rule) (n .first) (n .second) node (stackOf b)) (n .next) (node + 1)) ⌝ }
 {
     let i = records::wide(n.first);
     let k = binders::slot(scope, i);
@@ -184,7 +184,7 @@ fn after_one(s: &[u8], n: Node, node: usize, v: Verdict, used: bool) -> Verdict
 // The variable, at c and of a sort, goes out of scope.
 fn leave_one(s: &[u8], n: Node, node: usize, c: usize, sort: u8, x: Checked) -> Checked
     requires { ⌜ c < 128 ⌝ }
-    ensures { λ r. ⌜ ((b : Binders) → sort ≡ getD (bitsOf (b .sorts)) c 0 → CountsOf (c + 1) (held b x) → Follows (held b x) (held (atCount b c) r) (leaveOne (recIn (now (s .entry))) (n .rule) (n .first) node)) ⌝ }
+    ensures { λ r. ⌜ ((b : Binders) → sort ≡ getD (bitsOf (b .sorts)) c 0 → CountsOf (c + 1) (held b x) → FollowsHeld (held b x) (held (atCount b c) r) (leaveOne (recIn (now (s .entry))) (n .rule) (n .first) node)) ⌝ }
 {
     let v = x.verdict;
     let used = x.used;
@@ -234,7 +234,7 @@ fn after_two(s: &[u8], n: Node, node: usize, a: u8, v: Verdict) -> Verdict
 
 // The variables that were bound between the two go out of scope.
 fn leave_two(s: &[u8], n: Node, node: usize, a: u8, y: Checked) -> Checked
-    ensures { λ r. ⌜ ((b : Binders) (c : ℕ) → CountsOf (c + closesOf (n .rule)) (held b y) → Follows (held b y) (held (atCount b c) r) (leaveTwo (recIn (now (s .entry))) (n .rule) (n .first) node a)) ⌝ }
+    ensures { λ r. ⌜ ((b : Binders) (c : ℕ) → CountsOf (c + closesOf (n .rule)) (held b y) → FollowsHeld (held b y) (held (atCount b c) r) (leaveTwo (recIn (now (s .entry))) (n .rule) (n .first) node a)) ⌝ }
 {
     let v = y.verdict;
     let used = y.used;

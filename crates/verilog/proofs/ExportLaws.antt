@@ -13,10 +13,10 @@ use Rattle.export_calculus.specs.Verilog.{moduleText, exported}
 use Rattle.memory.specs.Map.{elementsAt, netIn, region}
 use Rattle.lean.specs.Table.{Whole}
 use Rattle.lean.proofs.LeanLaws.{kinds-low}
-use Rattle.lines.specs.Wrote.{Wrote}
+use Rattle.lines.specs.Wrote.{WroteText}
 use Rattle.ring_points.specs.Rings.{ringFrom}
 use Rattle.ring_points.proofs.RingLaws.{ring-answer}
-use Rattle.translator.specs.Said.{tooShort, inRoom, Says}
+use Rattle.translator.specs.Said.{tooShort, inRoom, AnswerSays}
 use Rattle.translator.specs.declared.Answer as code
 use Rattle.translator.specs.declared.Answer.the-variants as answer
 use Rattle.translator.proofs.SaidLaws.{says-short, says-fits}
@@ -37,13 +37,13 @@ module _ (w : List ℕ) (e k p : ℕ) (q : Whole w e k p) (place : ℕ) (is : pl
   unfolding exported inRoom
   free h = rw (ring-answer w e k p q 18 (kinds-low w e k p q), ← is, le-ltb place 8192 h)
 
-  pub ring-says : place < 8192 → Says (ringKept place) o o (exported m (length o))
+  pub ring-says : place < 8192 → AnswerSays (ringKept place) o o (exported m (length o))
   ring-says h = let f = ringed h in record { said = sym (ap saidOf f); wrote = sym (ap (λ (a : Answer (List ℕ)). outOf a o) f) }
 
   module _ (none : 8192 ≤ place) where
-    pub short-says : (n : ℕ) → n ≡ 0 + length text → length o < n → Says (tooShort n) o o (exported m (length o))
-    short-says n g h = subst (Says (tooShort n) o o) (sym (free none)) (says-short text o n (omega arith) h)
+    pub short-says : (n : ℕ) → n ≡ 0 + length text → length o < n → AnswerSays (tooShort n) o o (exported m (length o))
+    short-says n g h = subst (AnswerSays (tooShort n) o o) (sym (free none)) (says-short text o n (omega arith) h)
 
-    pub module-says : {n : ℕ} {after : List ℕ} → length text ≤ length o → Wrote o 0 text after n → Says (answer.Written n) o after (exported m (length o))
+    pub module-says : {n : ℕ} {after : List ℕ} → length text ≤ length o → WroteText o 0 text after n → AnswerSays (answer.Written n) o after (exported m (length o))
     module-says {n} {after} h g =
-        let a = g .offset in subst (Says (answer.Written n) o after) (sym (free none)) (says-fits text o n after h (omega arith) (g .bytes))
+        let a = g .offset in subst (AnswerSays (answer.Written n) o after) (sym (free none)) (says-fits text o n after h (omega arith) (g .bytes))

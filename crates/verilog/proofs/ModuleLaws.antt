@@ -20,13 +20,13 @@ use Rattle.calculus.specs.NetRead.{Known}
 use Rattle.netlist.proofs.Elements.{kinds-length}
 use Rattle.netlist.proofs.PartInputs.{inputs-few}
 use Rattle.netlist.proofs.InMemory.{kind-here}
-use Rattle.lean.specs.Table.{entry, Whole}
-use Rattle.lean.specs.InMemory.{undriven, keptIn, keepIn, inputIn, inputsIn, elementIn, wiresIn, pinIn}
-use Rattle.lean.specs.Fitting.{RowFits, PinsFit}
+use Rattle.lean.specs.Table.{entry, Whole, Leaned}
+use Rattle.lean.specs.InMemory.{undriven, keptIn, keepIn, inputIn, inputsIn, elementIn, leanWiresIn, pinIn}
+use Rattle.lean.specs.Fitting.{RowFits, LeanPinsFit}
 use Rattle.lean.proofs.LeanLaws.{lean-net, driven, kinds-low, pins-low}
-use Rattle.lines.specs.Wrote.{Wrote}
+use Rattle.lines.specs.Wrote.{WroteText}
 use Rattle.lines.proofs.Stores.{wrote-two}
-use Rattle.verilog.specs.InMemory.{elementText, wireText, keptText, wiresText, leanPins, pinsText, portsText, Leaned}
+use Rattle.verilog.specs.InMemory.{elementText, wireText, keptText, wiresText, leanPins, pinsText, portsText}
 use Rattle.verilog.proofs.Filling.{filled-few}
 
 -- ---- how long
@@ -95,9 +95,9 @@ module _ (w : List ℕ) where
       by true = omega arith
       by false = omega arith
 
-  wires-few : (es : List Element) → length (wiresIn w es) ≤ 2 * length es
+  wires-few : (es : List Element) → length (leanWiresIn w es) ≤ 2 * length es
   wires-few [] = le-refl 0
-  wires-few (x ∷ es) = omega (arith, element-few x, wires-few es, length-append (elementIn w x) (wiresIn w es))
+  wires-few (x ∷ es) = omega (arith, element-few x, wires-few es, length-append (elementIn w x) (leanWiresIn w es))
 
   kept-most : (ks : List ℕ) → length (keptText w ks 0) ≤ 256 * length ks
   unfolding keptText elementText
@@ -109,7 +109,7 @@ module _ (w : List ℕ) where
   unfolding wiresText wireText
   wires-most ks =
       let es = elementsFrom ks 0 in
-      omega (arith, texts-few assignForms assigns-short (map lineOfWire (wiresIn w es)), length-map (wiresIn w es) lineOfWire, wires-few es, kinds-length ks 0)
+      omega (arith, texts-few assignForms assigns-short (map lineOfWire (leanWiresIn w es)), length-map (leanWiresIn w es) lineOfWire, wires-few es, kinds-length ks 0)
 
   pins-most : (cs : List ℕ) → length (pinsText w 0 cs) ≤ 256 * length cs
   unfolding pinsText
@@ -169,7 +169,7 @@ module _ (w : List ℕ) (e k p : ℕ) (f : Leaned w e k p) where
     target = h;
   }
 
-  pins-fit : (bytes : List ℕ) (from : ℕ) → from + length bytes ≤ 4294967296 → PinsFit w p bytes 4294967296 from
+  pins-fit : (bytes : List ℕ) (from : ℕ) → from + length bytes ≤ 4294967296 → LeanPinsFit w p bytes 4294967296 from
   pins-fit bytes from h = record {
     size = f .whole .ready .size;
     few = f .whole .ready .few-pins;
@@ -177,7 +177,7 @@ module _ (w : List ℕ) (e k p : ℕ) (f : Leaned w e k p) where
     target = h;
   }
 
-  pub ports-fit : (a : ℕ) → a ≡ 0 + length (filled header 0 0 0) → PinsFit w p (portsText w 0 cs) 4294967296 a
+  pub ports-fit : (a : ℕ) → a ≡ 0 + length (filled header 0 0 0) → LeanPinsFit w p (portsText w 0 cs) 4294967296 a
   ports-fit a h = pins-fit (portsText w 0 cs) a (omega (arith, opening-length, ports-most w cs, few-codes))
 
   pub closing-low : (a b : ℕ) → a ≡ 0 + length (filled header 0 0 0) → b ≡ a + length (portsText w 0 cs) → b ≤ 100000
@@ -192,14 +192,14 @@ module _ (w : List ℕ) (e k p : ℕ) (f : Leaned w e k p) where
   pub third-low : (b c d t : ℕ) → b ≤ 100000 → c ≡ b + length (filled portsEnd 0 0 0) → d ≡ c + length (keptText w ks 0) → t ≡ d + length (wiresText w ks 0) → t ≤ 10000000
   third-low b c d t h g i j = omega (arith, closing-length, kept-most w ks, wires-most w ks, few-kinds)
 
-  pub assigns-fit : (t : ℕ) → t ≤ 10000000 → PinsFit w p (pinsText w 0 cs) 4294967296 t
+  pub assigns-fit : (t : ℕ) → t ≤ 10000000 → LeanPinsFit w p (pinsText w 0 cs) 4294967296 t
   assigns-fit t h = pins-fit (pinsText w 0 cs) t (omega (arith, pins-most w cs, few-codes))
 
   pub last-low : (t l : ℕ) → t ≤ 10000000 → l ≡ t + length (pinsText w 0 cs) → l ≤ 4294967296
   last-low t l h g = omega (arith, pins-most w cs, few-codes)
 
-  pub module-wrote : {o o₁ o₂ o₃ o₄ o₅ o₆ o₇ : List ℕ} {a b c d t l r : ℕ} → Wrote o 0 (filled header 0 0 0) o₁ a → Wrote o₁ a (portsText w 0 cs) o₂ b → Wrote o₂ b (filled portsEnd 0 0 0) o₃ c
-      → Wrote o₃ c (keptText w ks 0) o₄ d → Wrote o₄ d (wiresText w ks 0) o₅ t → Wrote o₅ t (pinsText w 0 cs) o₆ l → Wrote o₆ l (filled moduleEnd 0 0 0) o₇ r
-      → Wrote o 0 (moduleText (lean (netIn w e k p))) o₇ r
+  pub module-wrote : {o o₁ o₂ o₃ o₄ o₅ o₆ o₇ : List ℕ} {a b c d t l r : ℕ} → WroteText o 0 (filled header 0 0 0) o₁ a → WroteText o₁ a (portsText w 0 cs) o₂ b → WroteText o₂ b (filled portsEnd 0 0 0) o₃ c
+      → WroteText o₃ c (keptText w ks 0) o₄ d → WroteText o₄ d (wiresText w ks 0) o₅ t → WroteText o₅ t (pinsText w 0 cs) o₆ l → WroteText o₆ l (filled moduleEnd 0 0 0) o₇ r
+      → WroteText o 0 (moduleText (lean (netIn w e k p))) o₇ r
   module-wrote p₁ p₂ p₃ p₄ p₅ p₆ p₇ =
       rw (module-is, ← opening-is, ← closing-is, ← ending-is) (wrote-two p₁ (wrote-two p₂ (wrote-two p₃ (wrote-two p₄ (wrote-two p₅ (wrote-two p₆ p₇))))))

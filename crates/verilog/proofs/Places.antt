@@ -17,7 +17,7 @@ use Rattle.export_theorems.proofs.CardLaws.{ring-refused}
 use Rattle.export_theorems.proofs.Verilog.{ring-low, verilog-enough}
 use Rattle.sheet_theorems.proofs.Judging.{Judged, value, refusal, Any, of-bind, of-require, weaker}
 use Rattle.translator.specs.Word.{FitsWord}
-use Rattle.translator.proofs.Places.{Names, no-names, names-small, full-places}
+use Rattle.translator.proofs.Places.{TypesNamed, no-names, names-small, full-places}
 
 -- a refusal of a call with an output of so many bytes
 pub record VerilogPlace (s : List ℕ) (room : ℕ) (why : Refusal) : Type 0 where
@@ -26,7 +26,7 @@ pub record VerilogPlace (s : List ℕ) (room : ℕ) (why : Refusal) : Type 0 whe
   pub few : why .place ≤ 395400
   -- the length needed
   pub more : why .number ≡ 17 → room < why .place
-  pub names : Names s why
+  pub names : TypesNamed s why
 
 -- what is written
 abbrev pub ModuleCount : ℕ → ℕ → Type 0

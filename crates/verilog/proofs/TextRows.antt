@@ -15,9 +15,9 @@ use Rattle.memory.specs.Map.{elementsAt, stackAt, region, elementsFrom, termina
 use Rattle.netlist.specs.Elements.{after, afterAll}
 use Rattle.netlist.specs.Said.{wire}
 use Rattle.netlist.proofs.Elements.{after-rises}
-use Rattle.lines.specs.Wrote.{Wrote}
+use Rattle.lines.specs.Wrote.{WroteText}
 use Rattle.lean.specs.Table.{entry}
-use Rattle.lean.specs.InMemory.{undriven, keptIn, keepIn, inputIn, inputsIn, elementIn, wiresIn, pinIn}
+use Rattle.lean.specs.InMemory.{undriven, keptIn, keepIn, inputIn, inputsIn, elementIn, leanWiresIn, pinIn}
 use Rattle.lean.specs.Fitting.{ElementFits, RowFits}
 use Rattle.lean.proofs.KindLaws.{region-next, region-end}
 use Rattle.lean.proofs.RowLaws.{Writing, writing-start, writing-fits, writing-step, writing-end}
@@ -51,8 +51,8 @@ keep-first w x es = by (keptIn w x)
     by true = refl
     by false = refl
 
-wires-first : (w : List ℕ) (x : Element) (es : List Element) → wiresIn w (x ∷ es) ≡ wiresIn w (x ∷ []) ++ wiresIn w es
-wires-first w x es = ap (λ (l : List Wire). l ++ wiresIn w es) (sym (append-nil (elementIn w x)))
+wires-first : (w : List ℕ) (x : Element) (es : List Element) → leanWiresIn w (x ∷ es) ≡ leanWiresIn w (x ∷ []) ++ leanWiresIn w es
+wires-first w x es = ap (λ (l : List Wire). l ++ leanWiresIn w es) (sym (append-nil (elementIn w x)))
 
 -- a map over elements that goes one by one, over elements by their kinds
 kinds-first : {A : Type 0} (G : List Element → List A) → ((x : Element) (es : List Element) → G (x ∷ es) ≡ G (x ∷ []) ++ G es)
@@ -79,8 +79,8 @@ unfolding wiresText wireText
 wire-rows w = record {
   none = λ n. refl;
   first = λ k ks n.
-      ap wireText (kinds-first (wiresIn w) (wires-first w) k ks n)
-      ∙ wires-append (wiresIn w (elementsFrom (k ∷ []) n)) (wiresIn w (elementsFrom ks (after k n)));
+      ap wireText (kinds-first (leanWiresIn w) (wires-first w) k ks n)
+      ∙ wires-append (leanWiresIn w (elementsFrom (k ∷ []) n)) (leanWiresIn w (elementsFrom ks (after k n)));
 }
 
 module _ (w : List ℕ) where
@@ -163,7 +163,7 @@ module _ {F : List ℕ → ℕ → List ℕ} (rows : Rows F) (out₀ : List ℕ)
   row-start = record { low = f .low; writing = writing-start out₀ from (F ks 0) }
 
   module _ {o : List ℕ} {at n i : ℕ} (r : TextDone F w elements out₀ from o at n i) where
-    pub row-end : elements ≤ i → Wrote out₀ from (F ks 0) o at
+    pub row-end : elements ≤ i → WroteText out₀ from (F ks 0) o at
     row-end h =
         let e = writing-end out₀ from (F ks 0) o at (F (drop i ks) n) (r .writing) (ap (λ (x : List ℕ). F x n) (region-end w elementsAt elements i row-size h) ∙ rows .none n) in
         record { offset = e .0; bytes = e .1 }
@@ -189,7 +189,7 @@ module _ {F : List ℕ → ℕ → List ℕ} (rows : Rows F) (out₀ : List ℕ)
         target = writing-fits out₀ from (F ks 0) o at (F (drop i ks) n) (F (k ∷ []) n) (F (drop (i + 1) ks) (after k n)) (r .writing) parts 4294967296 (f .target);
       }
 
-      pub row-step : {o₁ : List ℕ} {at₁ n₁ : ℕ} → Wrote o at (F (k ∷ []) n) o₁ at₁ → n₁ ≡ after k n → TextDone F w elements out₀ from o₁ at₁ n₁ (i + 1)
+      pub row-step : {o₁ : List ℕ} {at₁ n₁ : ℕ} → WroteText o at (F (k ∷ []) n) o₁ at₁ → n₁ ≡ after k n → TextDone F w elements out₀ from o₁ at₁ n₁ (i + 1)
       row-step {o₁} {at₁} {n₁} g h = record {
         low = rw h low-next;
         writing = rw h

@@ -7,7 +7,7 @@ use Rattle.calculus.specs.Record.{All}
 use Rattle.export_calculus.specs.Verilog.{elementForms, portForms, assignForms, linesText, lineOfElement, lineOfWire, linesOfPins, linesOfPorts}
 use Rattle.memory.specs.Map.{elementsFrom, terminalOf, netIn}
 use Rattle.lean.specs.Table.{Whole}
-use Rattle.lean.specs.InMemory.{keepIn, wiresIn, pinIn}
+use Rattle.lean.specs.InMemory.{keepIn, leanWiresIn, pinIn}
 use Rattle.translator.specs.declared.Answer as code
 use Rattle.translator.specs.declared.Answer.the-variants as answer
 
@@ -22,7 +22,7 @@ unfoldable pub keptText : List ℕ → List ℕ → ℕ → List ℕ
 keptText w ks n = elementText (keepIn w (elementsFrom ks n))
 
 unfoldable pub wiresText : List ℕ → List ℕ → ℕ → List ℕ
-wiresText w ks n = wireText (wiresIn w (elementsFrom ks n))
+wiresText w ks n = wireText (leanWiresIn w (elementsFrom ks n))
 
 -- of pins by their codes, from position i on
 abbrev pub leanPins : List ℕ → List ℕ → Interface
@@ -33,11 +33,6 @@ pinsText w i cs = linesText assignForms (linesOfPins i (leanPins w cs))
 
 unfoldable pub portsText : List ℕ → ℕ → List ℕ → List ℕ
 portsText w i cs = linesText portForms (linesOfPorts i (leanPins w cs))
-
--- a whole netlist of known parts, with its roots
-pub record Leaned (w : List ℕ) (elements wires pins : ℕ) : Type 0 where
-  pub whole : Whole w elements wires pins
-  pub known : All Known (netIn w elements wires pins .elements)
 
 -- 18, at a kept ring point's input
 abbrev pub ringKept : ℕ → code.Answer

@@ -4,7 +4,7 @@ ghost use Prim.Native.Nat.{_+_, _≤_, _%_};
 ghost use lib.ListN.{length, set};
 ghost use lib.Seq.{sets};
 ghost use Rattle.export_calculus.specs.Verilog.{fourDigits, isMark, pick, letter, filled};
-ghost use Rattle.lines.specs.Wrote.{Wrote};
+ghost use Rattle.lines.specs.Wrote.{WroteText};
 
 // A character.
 fn put_byte(out: &mut [u8], at: usize, c: u8)
@@ -58,7 +58,7 @@ fn is_mark(c: u8) -> bool
 // A character of a form. As each function that follows, it answers the offset past what it wrote.
 fn put_letter(out: &mut [u8], at: usize, c: u8, x: usize, y: usize, z: usize) -> usize
     requires { ⌜ at ≤ 8589934592 ⌝ }
-    ensures { λ r. ⌜ Wrote (now (out .entry)) at (letter c x y z) (now (out .exit)) r ⌝ }
+    ensures { λ r. ⌜ WroteText (now (out .entry)) at (letter c x y z) (now (out .exit)) r ⌝ }
 {
     if is_mark(c) {
         put_four(out, at, number_of(c, x, y, z));
@@ -71,7 +71,7 @@ fn put_letter(out: &mut [u8], at: usize, c: u8, x: usize, y: usize, z: usize) ->
 // A form with its numbers.
 pub fn put_form(out: &mut [u8], from: usize, form: &[u8], x: usize, y: usize, z: usize) -> usize
     requires { ⌜ (from ≤ 4294967296) × (length (now form) ≤ 128) ⌝ }
-    ensures { λ r. ⌜ Wrote (now (out .entry)) from (filled (now (form .entry)) x y z) (now (out .exit)) r ⌝ }
+    ensures { λ r. ⌜ WroteText (now (out .entry)) from (filled (now (form .entry)) x y z) (now (out .exit)) r ⌝ }
 {
     let mut at = from;
     let mut i: usize = 0;

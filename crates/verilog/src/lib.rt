@@ -12,12 +12,13 @@ ghost use lib.ListN.{length};
 ghost use Rattle.calculus.specs.Lean.{lean};
 ghost use Rattle.calculus.specs.NetRead.{Known};
 ghost use Rattle.calculus.specs.Record.{All};
+ghost use Rattle.lean.specs.Table.{Leaned};
 ghost use Rattle.export_calculus.specs.Verilog.{moduleText, exported, export, verilogCall};
 ghost use Rattle.memory.specs.Map.{netIn, Ready};
-ghost use Rattle.lines.specs.Wrote.{Wrote};
+ghost use Rattle.lines.specs.Wrote.{WroteText};
 ghost use Rattle.translator.specs.Made.{Keeps};
-ghost use Rattle.translator.specs.Said.{Says, called};
-ghost use Rattle.verilog.specs.InMemory.{Leaned, ringKept};
+ghost use Rattle.translator.specs.Said.{AnswerSays, called};
+ghost use Rattle.verilog.specs.InMemory.{ringKept};
 
 // 18, at a kept ring point's input.
 fn ring_kept(input: usize) -> Answer
@@ -35,7 +36,7 @@ fn ring_kept(input: usize) -> Answer
 // long enough has the whole text.
 fn put_module(work: &[u16], out: &mut [u8], elements: usize, wires: usize, pins: usize) -> usize
     requires { ⌜ Leaned (now work) elements wires pins ⌝ }
-    ensures { λ r. ⌜ Wrote (now (out .entry)) 0 (moduleText (lean (netIn (now (work .entry)) elements wires pins))) (now (out .exit)) r ⌝ }
+    ensures { λ r. ⌜ WroteText (now (out .entry)) 0 (moduleText (lean (netIn (now (work .entry)) elements wires pins))) (now (out .exit)) r ⌝ }
 {
     let ports = form::put_form(out, 0, b"module circuit (\n  input clock", 0, 0, 0);
     let closing = walk::put_ports(work, pins, out, ports);
@@ -50,7 +51,7 @@ fn put_module(work: &[u16], out: &mut [u8], elements: usize, wires: usize, pins:
 // output is shorter, or the module at the start of the output. The first pass only tells the length.
 fn export_lean(work: &[u16], out: &mut [u8], elements: usize, wires: usize, pins: usize) -> Answer
     requires { ⌜ Leaned (now work) elements wires pins ⌝ }
-    ensures { λ r. ⌜ Says r (now (out .entry)) (now (out .exit)) (exported (netIn (now (work .entry)) elements wires pins) (length (now (out .entry)))) ⌝ }
+    ensures { λ r. ⌜ AnswerSays r (now (out .entry)) (now (out .exit)) (exported (netIn (now (work .entry)) elements wires pins) (length (now (out .entry)))) ⌝ }
 {
     let place = ring_points::lowest(work, elements, wires, pins);
     if place < 8192 {
@@ -68,7 +69,7 @@ fn export_lean(work: &[u16], out: &mut [u8], elements: usize, wires: usize, pins
 // .. with its roots still to be found.
 fn export_net(work: &mut [u16], out: &mut [u8], counts: Counts) -> Answer
     requires { ⌜ (Ready (now work) (counts .elements) (counts .wires) (counts .pins)) × (All Known (netIn (now work) (counts .elements) (counts .wires) (counts .pins) .elements)) ⌝ }
-    ensures { λ r. ⌜ (Says r (now (out .entry)) (now (out .exit)) (exported (netIn (now (work .entry)) (counts .elements) (counts .wires) (counts .pins)) (length (now (out .entry)))))
+    ensures { λ r. ⌜ (AnswerSays r (now (out .entry)) (now (out .exit)) (exported (netIn (now (work .entry)) (counts .elements) (counts .wires) (counts .pins)) (length (now (out .entry)))))
         × (Keeps (now (work .entry)) (now (work .exit))) ⌝ }
 {
     let elements = counts.elements;
@@ -80,7 +81,7 @@ fn export_net(work: &mut [u16], out: &mut [u8], counts: Counts) -> Answer
 
 // The netlist is made and exported. The working memory is not yet cleared.
 fn export_sheet(sheet: &[u8], out: &mut [u8], work: &mut [u16]) -> Answer
-    ensures { λ r. ⌜ (Says r (now (out .entry)) (now (out .exit)) (export (length (now (work .entry))) (now (sheet .entry)) (length (now (out .entry)))))
+    ensures { λ r. ⌜ (AnswerSays r (now (out .entry)) (now (out .exit)) (export (length (now (work .entry))) (now (sheet .entry)) (length (now (out .entry)))))
         × (Keeps (now (work .entry)) (now (work .exit))) ⌝ }
 {
     match translator::make(sheet, work, true) {

@@ -7,12 +7,12 @@ ghost use mathlib.Core.Path.{_≡_};
 ghost use Prim.Native.Nat.{_≤_, _<_};
 ghost use Rattle.export_calculus.specs.Verilog.{elementForms, portForms, assignForms, lineText, kindLine, lineOfWire, lineOfPin, lineOfPort};
 ghost use Rattle.netlist.specs.Said.{saidTerminal, wire};
-ghost use Rattle.lines.specs.Wrote.{Wrote};
+ghost use Rattle.lines.specs.Wrote.{WroteText};
 
 // An element of a kind whose first terminal is given: its nets, and what drives its output.
 pub fn put_element(out: &mut [u8], at: usize, kind: u16, first: u16) -> usize
     requires { ⌜ (kind < 8) × (first ≤ 8192) × (at ≤ 4294967296) ⌝ }
-    ensures { λ r. ⌜ Wrote (now (out .entry)) at (lineText elementForms (kindLine kind first)) (now (out .exit)) r ⌝ }
+    ensures { λ r. ⌜ WroteText (now (out .entry)) at (lineText elementForms (kindLine kind first)) (now (out .exit)) r ⌝ }
 {
     let n = first as usize;
     let y = n + 1;
@@ -39,7 +39,7 @@ pub fn put_element(out: &mut [u8], at: usize, kind: u16, first: u16) -> usize
 // A wire.
 pub fn put_wire(out: &mut [u8], at: usize, from: Out, to: In) -> usize
     requires { ⌜ at ≤ 4294967296 ⌝ }
-    ensures { λ r. ⌜ Wrote (now (out .entry)) at (lineText assignForms (lineOfWire (wire (from .0) (to .0)))) (now (out .exit)) r ⌝ }
+    ensures { λ r. ⌜ WroteText (now (out .entry)) at (lineText assignForms (lineOfWire (wire (from .0) (to .0)))) (now (out .exit)) r ⌝ }
 {
     form::put_form(
         out,
@@ -54,7 +54,7 @@ pub fn put_wire(out: &mut [u8], at: usize, from: Out, to: In) -> usize
 // The pin at position k.
 pub fn put_pin(out: &mut [u8], at: usize, k: usize, t: Terminal) -> usize
     requires { ⌜ at ≤ 4294967296 ⌝ }
-    ensures { λ r. ⌜ Wrote (now (out .entry)) at (lineText assignForms (lineOfPin k (saidTerminal t))) (now (out .exit)) r ⌝ }
+    ensures { λ r. ⌜ WroteText (now (out .entry)) at (lineText assignForms (lineOfPin k (saidTerminal t))) (now (out .exit)) r ⌝ }
 {
     match t {
         Terminal::Input(i) => form::put_form(out, at, b"assign tX = pY;\n", i.0 as usize, k, 0),
@@ -65,7 +65,7 @@ pub fn put_pin(out: &mut [u8], at: usize, k: usize, t: Terminal) -> usize
 // Its port.
 pub fn put_port(out: &mut [u8], at: usize, k: usize, t: Terminal) -> usize
     requires { ⌜ at ≤ 4294967296 ⌝ }
-    ensures { λ r. ⌜ Wrote (now (out .entry)) at (lineText portForms (lineOfPort k (saidTerminal t))) (now (out .exit)) r ⌝ }
+    ensures { λ r. ⌜ WroteText (now (out .entry)) at (lineText portForms (lineOfPort k (saidTerminal t))) (now (out .exit)) r ⌝ }
 {
     match t {
         Terminal::Input(_) => form::put_form(out, at, b",\n  input pX", k, 0, 0),

@@ -13,14 +13,14 @@ ghost use Prim.Native.Nat.{_≤_};
 ghost use mathlib.Core.List.{_∷_, []};
 ghost use Rattle.memory.specs.Map.{elementsAt, stackAt, region};
 ghost use Rattle.lean.specs.InMemory.{inputIn, inputsIn};
-ghost use Rattle.lean.specs.Fitting.{ElementFits, InputFits, InputsFit, RowFits, PinsFit};
-ghost use Rattle.lines.specs.Wrote.{Wrote};
+ghost use Rattle.lean.specs.Fitting.{ElementFits, InputFits, InputsFit, RowFits, LeanPinsFit};
+ghost use Rattle.lines.specs.Wrote.{WroteText};
 ghost use Rattle.verilog.specs.InMemory.{wireText, keptText, wiresText, pinsText, portsText};
 
 // The lines of an element, where it is kept. As each function that follows, it answers the offset past what it wrote.
 fn put_kept(work: &[u16], kind: u16, n: u16, out: &mut [u8], at: usize) -> usize
     requires { ⌜ ElementFits (now work) kind n (keptText (now work) (kind ∷ []) n) 4294967296 at ⌝ }
-    ensures { λ r. ⌜ Wrote (now (out .entry)) at (keptText (now (work .entry)) (kind ∷ []) n) (now (out .exit)) r ⌝ }
+    ensures { λ r. ⌜ WroteText (now (out .entry)) at (keptText (now (work .entry)) (kind ∷ []) n) (now (out .exit)) r ⌝ }
 {
     if kind != POINT {
         return line::put_element(out, at, kind, n);
@@ -34,7 +34,7 @@ fn put_kept(work: &[u16], kind: u16, n: u16, out: &mut [u8], at: usize) -> usize
 // The wire to input i, from its driver's root, where it has a driver.
 fn put_input(work: &[u16], i: In, out: &mut [u8], at: usize) -> usize
     requires { ⌜ InputFits (now work) (i .0) (wireText (inputIn (now work) (i .0))) 4294967296 at ⌝ }
-    ensures { λ r. ⌜ Wrote (now (out .entry)) at (wireText (inputIn (now (work .entry)) (i .0))) (now (out .exit)) r ⌝ }
+    ensures { λ r. ⌜ WroteText (now (out .entry)) at (wireText (inputIn (now (work .entry)) (i .0))) (now (out .exit)) r ⌝ }
 {
     let driver = work[i.0 as usize];
     if driver == NONE {
@@ -46,7 +46,7 @@ fn put_input(work: &[u16], i: In, out: &mut [u8], at: usize) -> usize
 // The wires to `count` inputs from `first` on.
 fn put_inputs(work: &[u16], count: u16, first: u16, out: &mut [u8], from: usize) -> usize
     requires { ⌜ InputsFit (now work) count first (wireText (inputsIn (now work) count first)) 4294967296 from ⌝ }
-    ensures { λ r. ⌜ Wrote (now (out .entry)) from (wireText (inputsIn (now (work .entry)) count first)) (now (out .exit)) r ⌝ }
+    ensures { λ r. ⌜ WroteText (now (out .entry)) from (wireText (inputsIn (now (work .entry)) count first)) (now (out .exit)) r ⌝ }
 {
     let mut at = from;
     let mut i: u16 = 0;
@@ -61,7 +61,7 @@ fn put_inputs(work: &[u16], count: u16, first: u16, out: &mut [u8], from: usize)
 // the input is no pin.
 fn put_to(work: &[u16], kind: u16, n: u16, out: &mut [u8], at: usize) -> usize
     requires { ⌜ ElementFits (now work) kind n (wiresText (now work) (kind ∷ []) n) 4294967296 at ⌝ }
-    ensures { λ r. ⌜ Wrote (now (out .entry)) at (wiresText (now (work .entry)) (kind ∷ []) n) (now (out .exit)) r ⌝ }
+    ensures { λ r. ⌜ WroteText (now (out .entry)) at (wiresText (now (work .entry)) (kind ∷ []) n) (now (out .exit)) r ⌝ }
 {
     if kind != POINT {
         let part = parts::part_of(kind);
@@ -79,7 +79,7 @@ fn put_to(work: &[u16], kind: u16, n: u16, out: &mut [u8], at: usize) -> usize
 // The lines of all elements that are kept.
 pub fn put_elements(work: &[u16], elements: usize, out: &mut [u8], from: usize) -> usize
     requires { ⌜ RowFits (now work) elements (keptText (now work) (region (now work) elementsAt elements) 0) 4294967296 from ⌝ }
-    ensures { λ r. ⌜ Wrote (now (out .entry)) from (keptText (now (work .entry)) (region (now (work .entry)) elementsAt elements) 0) (now (out .exit)) r ⌝ }
+    ensures { λ r. ⌜ WroteText (now (out .entry)) from (keptText (now (work .entry)) (region (now (work .entry)) elementsAt elements) 0) (now (out .exit)) r ⌝ }
 {
     let mut at = from;
     let mut n: u16 = 0;
@@ -96,7 +96,7 @@ pub fn put_elements(work: &[u16], elements: usize, out: &mut [u8], from: usize) 
 // The lines of all wires, by rising target.
 pub fn put_wires(work: &[u16], elements: usize, out: &mut [u8], from: usize) -> usize
     requires { ⌜ RowFits (now work) elements (wiresText (now work) (region (now work) elementsAt elements) 0) 4294967296 from ⌝ }
-    ensures { λ r. ⌜ Wrote (now (out .entry)) from (wiresText (now (work .entry)) (region (now (work .entry)) elementsAt elements) 0) (now (out .exit)) r ⌝ }
+    ensures { λ r. ⌜ WroteText (now (out .entry)) from (wiresText (now (work .entry)) (region (now (work .entry)) elementsAt elements) 0) (now (out .exit)) r ⌝ }
 {
     let mut at = from;
     let mut n: u16 = 0;
@@ -112,8 +112,8 @@ pub fn put_wires(work: &[u16], elements: usize, out: &mut [u8], from: usize) -> 
 
 // The ports of all pins.
 pub fn put_ports(work: &[u16], pins: usize, out: &mut [u8], from: usize) -> usize
-    requires { ⌜ PinsFit (now work) pins (portsText (now work) 0 (region (now work) stackAt pins)) 4294967296 from ⌝ }
-    ensures { λ r. ⌜ Wrote (now (out .entry)) from (portsText (now (work .entry)) 0 (region (now (work .entry)) stackAt pins)) (now (out .exit)) r ⌝ }
+    requires { ⌜ LeanPinsFit (now work) pins (portsText (now work) 0 (region (now work) stackAt pins)) 4294967296 from ⌝ }
+    ensures { λ r. ⌜ WroteText (now (out .entry)) from (portsText (now (work .entry)) 0 (region (now (work .entry)) stackAt pins)) (now (out .exit)) r ⌝ }
 {
     let mut at = from;
     let mut i: usize = 0;
@@ -126,8 +126,8 @@ pub fn put_ports(work: &[u16], pins: usize, out: &mut [u8], from: usize) -> usiz
 
 // The assignments of all pins.
 pub fn put_pins(work: &[u16], pins: usize, out: &mut [u8], from: usize) -> usize
-    requires { ⌜ PinsFit (now work) pins (pinsText (now work) 0 (region (now work) stackAt pins)) 4294967296 from ⌝ }
-    ensures { λ r. ⌜ Wrote (now (out .entry)) from (pinsText (now (work .entry)) 0 (region (now (work .entry)) stackAt pins)) (now (out .exit)) r ⌝ }
+    requires { ⌜ LeanPinsFit (now work) pins (pinsText (now work) 0 (region (now work) stackAt pins)) 4294967296 from ⌝ }
+    ensures { λ r. ⌜ WroteText (now (out .entry)) from (pinsText (now (work .entry)) 0 (region (now (work .entry)) stackAt pins)) (now (out .exit)) r ⌝ }
 {
     let mut at = from;
     let mut i: usize = 0;

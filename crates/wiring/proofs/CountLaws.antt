@@ -15,7 +15,8 @@ use Rattle.records.specs.Heads.{nodeOf}
 use Rattle.records.specs.Forms.{recIn}
 use Rattle.records.specs.declared.Node.{Node}
 use Rattle.sheet_theorems.proofs.Bytes.{behind}
-use Rattle.circuit_theorems.specs.Terminals.{terminals}
+use Rattle.circuit_theorems.specs.Terminals.{terminalCount}
+use Rattle.circuit_theorems.specs.Makers.{own}
 use Rattle.circuit_theorems.proofs.Bounds.{next-is, terminals-few}
 use Rattle.circuit_theorems.proofs.Lists.{all-append}
 use Rattle.records.specs.TypeNumbers.{leftNo}
@@ -51,20 +52,6 @@ headBytes (proj a e) = 0x18 ∷ []
 headBytes (fix t e) = 0x19 ∷ t ∷ []
 headBytes (con p t) = 0x1A ∷ p ∷ t ∷ []
 headBytes (name a e) = 0x1B ∷ []
-
--- its own terminals
-abbrev pub own : Table → Term → ℕ
-own Θ (var i) = 0
-own Θ (lvar i) = 0
-own Θ (fun t e) = 2 * size (leftOf (tree Θ t))
-own Θ (app f a) = 0
-own Θ (lfun t e) = 2 * size (leftOf (tree Θ t))
-own Θ (lapp f a) = 0
-own Θ (pair t a b) = 0
-own Θ (proj a e) = 0
-own Θ (fix t e) = 2 * size (tree Θ t)
-own Θ (con p t) = partAt p .inputs + 1
-own Θ (name a e) = 0
 
 last-one : (p xs : List ℕ) → p ++ xs ≡ p ++ (xs ++ [])
 last-one p xs = ap (λ (l : List ℕ). p ++ l) (sym (append-nil xs))
@@ -111,7 +98,7 @@ node-count (fix t e) = omega arith
 node-count (con p t) = refl
 node-count (name a e) = omega arith
 
-own-split : (Θ : Table) (e : Term) → terminals Θ e ≡ own Θ e + rowTerminals Θ (subs e)
+own-split : (Θ : Table) (e : Term) → terminalCount Θ e ≡ own Θ e + rowTerminals Θ (subs e)
 own-split Θ (var i) = refl
 own-split Θ (lvar i) = refl
 own-split Θ (fun t e) = omega arith
@@ -176,11 +163,11 @@ pub record Next (E : Edition) (Θ : Table) (s : List ℕ) (whole : Term) (at lef
   pub term : Term
   pub stands : Stands s at term
   pub ranged : Ranged E Θ term
-  pub few : total + own Θ term ≤ terminals Θ whole
+  pub few : total + own Θ term ≤ terminalCount Θ whole
   pub then : RowLeft E Θ s whole (nodeOf term at .next) (left - 1) (total + own Θ term)
 
 next-of : (E : Edition) (Θ : Table) (s : List ℕ) (whole : Term) (at left total : ℕ) (row : List Term) (rest : List ℕ) → drop at s ≡ rowBytes row ++ rest → All (Ranged E Θ) row → left ≡ rowNodes row
-    → total + rowTerminals Θ row ≡ terminals Θ whole → 0 < left → Next E Θ s whole at left total
+    → total + rowTerminals Θ row ≡ terminalCount Θ whole → 0 < left → Next E Θ s whole at left total
 next-of E Θ s whole at left total [] rest h r c u p = absurd (omega arith)
 next-of E Θ s whole at left total (e ∷ es) rest h r c u p =
     let h₁ : drop at s ≡ termBytes e ++ (rowBytes es ++ rest) = h ∙ append-assoc (termBytes e) (rowBytes es) rest in
@@ -204,7 +191,7 @@ next-of E Θ s whole at left total (e ∷ es) rest h r c u p =
       };
     }
 
-end-of : (Θ : Table) (whole : Term) (row : List Term) (total : ℕ) → 0 ≡ rowNodes row → total + rowTerminals Θ row ≡ terminals Θ whole → total ≡ terminals Θ whole
+end-of : (Θ : Table) (whole : Term) (row : List Term) (total : ℕ) → 0 ≡ rowNodes row → total + rowTerminals Θ row ≡ terminalCount Θ whole → total ≡ terminalCount Θ whole
 end-of Θ whole [] total c u = omega arith
 end-of Θ whole (e ∷ es) total c u = absurd (omega (arith, node-count e))
 
@@ -219,7 +206,7 @@ module _ {s sizes : List ℕ} {from count : ℕ} (q : Counting s sizes from coun
     sum = omega arith;
   }
 
-  pub row-few : terminals (q .table) (q .term) ≤ 524288
+  pub row-few : terminalCount (q .table) (q .term) ≤ 524288
   row-few = omega (arith, terminals-few (q .table) (q .term) (q .knows .ok .small), q .nodes-are, q .few)
 
   module _ {at left total : ℕ} (R : RowLeft (q .edition) (q .table) s (q .term) at left total) where

@@ -19,7 +19,7 @@ use Rattle.records.proofs.Rule.{the-type}
 use denote.Enum.Declared.{tagOf}
 use types.Run.{OneOf, miss}
 use Rattle.records.specs.declared.Node.{Node}
-use Rattle.memory.specs.Map.{stackAt, region, code, kindOf}
+use Rattle.memory.specs.Map.{stackAt, region, code, kindNumber}
 use Rattle.circuit_theorems.specs.Drive.{driveAll}
 use Rattle.circuit_theorems.proofs.Bounds.{join-length}
 use Rattle.circuit_theorems.proofs.Drive.{drive-append}
@@ -29,12 +29,12 @@ use Rattle.wiring.specs.declared.walk.State.{State}
 use Rattle.wiring.specs.declared.walk.Built.{Built}
 use Rattle.records.specs.TypeNumbers.{rightNo}
 use Rattle.wiring.specs.Links.{links, Apart}
-use Rattle.wiring.specs.Store.{Store, Holds, atStack, atBinders, target, moreWires, after}
+use Rattle.wiring.specs.Store.{Store, Holds, atStack, atBinders, target, moreWires, withMade}
 use Rattle.wiring.specs.Asks.{Asks, madeOf, Leaves, Here, betweenIn, middle, ofBody, appliedIn, finishedIn, finished, Finishable}
 use Rattle.wiring.specs.Nodes.{Applied, Paired, Projected, Twofold}
 use Rattle.wiring.proofs.StoreLaws.{cut-binders}
 use Rattle.wiring.proofs.NodeLaws.{sided-at}
-use Rattle.wiring.proofs.JoinLaws.{Part, wired-apart, wired-holds, moved-holds}
+use Rattle.wiring.proofs.JoinLaws.{StackPart, wired-apart, wired-holds, moved-holds}
 use Rattle.wiring.proofs.TwoLaws as two
 
 -- the tags that are left where a match names a projection, 1B and a pair, and those of the first two
@@ -93,17 +93,17 @@ more g l a b = append-assoc l (map g a) (map g b) ∙ ap (λ (r : List ℕ). l +
 
 -- two terms made one after the other, with one interface of both
 both-made : {w : List ℕ} (m : Store) (x y : Made) (ws : List Wire) (τ : Ty) (side : Interface) (stack : List ℕ) (next : ℕ) → stack ≡ m .stack ++ map code side
-    → Holds w (record { drivers = driveAll ws (driveAll (y .wires) (driveAll (x .wires) (m .drivers))); targets = ((m .targets ++ map target (x .wires)) ++ map target (y .wires)) ++ map target ws; kinds = (m .kinds ++ map kindOf (x .elements)) ++ map kindOf (y .elements); stack = stack; binders = m .binders; rest = m .rest })
-    → Holds w (after m (record { elements = x .elements ++ y .elements; wires = (x .wires ++ y .wires) ++ ws; type = τ; side = side; next = next }))
+    → Holds w (record { drivers = driveAll ws (driveAll (y .wires) (driveAll (x .wires) (m .drivers))); targets = ((m .targets ++ map target (x .wires)) ++ map target (y .wires)) ++ map target ws; kinds = (m .kinds ++ map kindNumber (x .elements)) ++ map kindNumber (y .elements); stack = stack; binders = m .binders; rest = m .rest })
+    → Holds w (withMade m (record { elements = x .elements ++ y .elements; wires = (x .wires ++ y .wires) ++ ws; type = τ; side = side; next = next }))
 both-made {w} m x y ws τ side stack next es H =
     let ed : driveAll ws (driveAll (y .wires) (driveAll (x .wires) (m .drivers))) ≡ driveAll ((x .wires ++ y .wires) ++ ws) (m .drivers) =
     sym (drive-append (x .wires ++ y .wires) ws (m .drivers) ∙ ap (driveAll ws) (drive-append (x .wires) (y .wires) (m .drivers))) in
     let et : ((m .targets ++ map target (x .wires)) ++ map target (y .wires)) ++ map target ws ≡ m .targets ++ map target ((x .wires ++ y .wires) ++ ws) =
     ap (λ (l : List ℕ). l ++ map target ws) (more target (m .targets) (x .wires) (y .wires)) ∙ more target (m .targets) (x .wires ++ y .wires) ws in
     subst (λ (z : Store). Holds w z)
-    (ap₂ (λ (ds ts : List ℕ). record { drivers = ds; targets = ts; kinds = m .kinds ++ map kindOf (x .elements ++ y .elements); stack = m .stack ++ map code side; binders = m .binders; rest = m .rest }) ed et)
+    (ap₂ (λ (ds ts : List ℕ). record { drivers = ds; targets = ts; kinds = m .kinds ++ map kindNumber (x .elements ++ y .elements); stack = m .stack ++ map code side; binders = m .binders; rest = m .rest }) ed et)
     (subst (λ (z : Store). Holds w z)
-    (ap₂ (λ (ks ss : List ℕ). record { drivers = driveAll ws (driveAll (y .wires) (driveAll (x .wires) (m .drivers))); targets = ((m .targets ++ map target (x .wires)) ++ map target (y .wires)) ++ map target ws; kinds = ks; stack = ss; binders = m .binders; rest = m .rest }) (more kindOf (m .kinds) (x .elements) (y .elements)) es)
+    (ap₂ (λ (ks ss : List ℕ). record { drivers = driveAll ws (driveAll (y .wires) (driveAll (x .wires) (m .drivers))); targets = ((m .targets ++ map target (x .wires)) ++ map target (y .wires)) ++ map target ws; kinds = ks; stack = ss; binders = m .binders; rest = m .rest }) (more kindNumber (m .kinds) (x .elements) (y .elements)) es)
     H)
 
 no-wires : {w : List ℕ} (m : Store) → Holds w m → Holds w (moreWires m [])
@@ -131,7 +131,7 @@ module _ {s sizes w : List ℕ} {node : Node} {st : State} (q : Here s sizes w n
     y = two.y q h2
 
     abbrev full : Store
-    full = after (two.store₂ q h2 L) y
+    full = withMade (two.store₂ q h2 L) y
 
     abbrev T : Twofold (Q .edition) (Q .table) s (q .at) (st .next) (Q .env) (Q .term) (Q .type)
     T = two.both q h2
@@ -161,10 +161,10 @@ module _ {s sizes w : List ℕ} {node : Node} {st : State} (q : Here s sizes w n
     whole-length : length ((m .stack ++ map code (x .side)) ++ map code (y .side)) ≡ st .top + f .len + b .len
     whole-length = omega (arith, length-append (m .stack ++ map code (x .side)) (map code (y .side)), length-map (y .side) code, low-length, len-b)
 
-    abbrev second-part : Part full (m .stack ++ map code (x .side)) (map code (y .side))
+    abbrev second-part : StackPart full (m .stack ++ map code (x .side)) (map code (y .side))
     second-part = record { above = []; stack-is = ap (λ (l : List ℕ). (m .stack ++ map code (x .side)) ++ l) (sym (append-nil (map code (y .side)))) }
 
-    abbrev below-part : Part full (m .stack) []
+    abbrev below-part : StackPart full (m .stack) []
     below-part = record { above = map code (x .side) ++ map code (y .side); stack-is = append-assoc (m .stack) (map code (x .side)) (map code (y .side)) }
 
     -- binders of the halves are forgotten
@@ -173,10 +173,10 @@ module _ {s sizes w : List ℕ} {node : Node} {st : State} (q : Here s sizes w n
 
     -- ---- a pair
 
-    pair-holds : Pair → Holds w₃ (after m (madeOf Q))
+    pair-holds : Pair → Holds w₃ (withMade m (madeOf Q))
     pair-holds z =
-        subst (λ (k : Made). Holds w₃ (after m k)) (sym (z .makes))
-        (subst (λ (ws : List Wire). Holds w₃ (after m (record { elements = x .elements ++ y .elements; wires = ws; type = Q .type; side = x .side ++ y .side; next = y .next }))) (append-nil (x .wires ++ y .wires))
+        subst (λ (k : Made). Holds w₃ (withMade m k)) (sym (z .makes))
+        (subst (λ (ws : List Wire). Holds w₃ (withMade m (record { elements = x .elements ++ y .elements; wires = ws; type = Q .type; side = x .side ++ y .side; next = y .next }))) (append-nil (x .wires ++ y .wires))
         (both-made m x y [] (Q .type) (x .side ++ y .side) ((m .stack ++ map code (x .side)) ++ map code (y .side)) (y .next) (more code (m .stack) (x .side) (y .side))
         (no-wires (atBinders full (m .binders)) (forget full refl H))))
 
@@ -185,11 +185,11 @@ module _ {s sizes w : List ℕ} {node : Node} {st : State} (q : Here s sizes w n
     abbrev moved : List ℕ
     moved = sets w₃ (stackAt + st .top) (region w₃ (stackAt + st .top + f .len) (b .len))
 
-    proj-holds : Proj → Holds moved (after m (madeOf Q))
+    proj-holds : Proj → Holds moved (withMade m (madeOf Q))
     proj-holds z =
         let M : Holds moved (atStack full (m .stack ++ map code (y .side))) = moved-holds H second-part below-part (stackAt + st .top + f .len) (stackAt + st .top) (b .len) (omega (arith, low-length)) (omega (arith, Q .top)) (omega arith) (length-map (y .side) code ∙ sym len-b) in
-        subst (λ (k : Made). Holds moved (after m k)) (sym (z .makes))
-        (subst (λ (ws : List Wire). Holds moved (after m (record { elements = x .elements ++ y .elements; wires = ws; type = y .type; side = y .side; next = y .next }))) (append-nil (x .wires ++ y .wires))
+        subst (λ (k : Made). Holds moved (withMade m k)) (sym (z .makes))
+        (subst (λ (ws : List Wire). Holds moved (withMade m (record { elements = x .elements ++ y .elements; wires = ws; type = y .type; side = y .side; next = y .next }))) (append-nil (x .wires ++ y .wires))
         (both-made m x y [] (y .type) (y .side) (m .stack ++ map code (y .side)) (y .next) refl
         (no-wires (atStack (atBinders full (m .binders)) (m .stack ++ map code (y .side))) (forget (atStack full (m .stack ++ map code (y .side))) refl M))))
 
@@ -249,7 +249,7 @@ module _ {s sizes w : List ℕ} {node : Node} {st : State} (q : Here s sizes w n
       whole = append-assoc (m .stack) (map code (x .side)) (map code (y .side))
           ∙ ap (λ (l : List ℕ). m .stack ++ l) (ap (λ (l : List ℕ). l ++ map code (y .side)) halves ∙ append-assoc (map code start) (map code end) (map code (y .side)))
 
-      abbrev start-part : Part full (m .stack) (map code start)
+      abbrev start-part : StackPart full (m .stack) (map code start)
       start-part = record { above = map code end ++ map code (y .side); stack-is = whole }
 
       pub app-apart : Apart w₃ (stackAt + st .top + f .len) (stackAt + st .top) (b .len) (b .wires)
@@ -267,15 +267,15 @@ module _ {s sizes w : List ℕ} {node : Node} {st : State} (q : Here s sizes w n
       app-moved : Holds (appliedIn w₃ (stackAt + st .top) (f .len) (b .len) (b .wires)) (atStack (moreWires full js) (m .stack ++ map code end))
       unfolding appliedIn
       app-moved =
-          let ep : Part (moreWires full js) (m .stack ++ map code start) (map code end) = record { above = map code (y .side); stack-is = whole ∙ sym (append-assoc (m .stack) (map code start) (map code end ++ map code (y .side))) } in
-          let bp : Part (moreWires full js) (m .stack) [] = record { above = map code start ++ (map code end ++ map code (y .side)); stack-is = whole } in
+          let ep : StackPart (moreWires full js) (m .stack ++ map code start) (map code end) = record { above = map code (y .side); stack-is = whole ∙ sym (append-assoc (m .stack) (map code start) (map code end ++ map code (y .side))) } in
+          let bp : StackPart (moreWires full js) (m .stack) [] = record { above = map code start ++ (map code end ++ map code (y .side)); stack-is = whole } in
           moved-holds app-wired ep bp (stackAt + st .top + b .len) (stackAt + st .top) (f .len - b .len)
           (omega (arith, length-append (m .stack) (map code start), length-map start code, start-length, Q .top)) (omega (arith, Q .top)) (omega arith) (length-map end code ∙ end-length)
 
-      app-holds : Holds (appliedIn w₃ (stackAt + st .top) (f .len) (b .len) (b .wires)) (after m (madeOf Q))
+      app-holds : Holds (appliedIn w₃ (stackAt + st .top) (f .len) (b .len) (b .wires)) (withMade m (madeOf Q))
       app-holds =
           let u = appliedIn w₃ (stackAt + st .top) (f .len) (b .len) (b .wires) in
-          subst (λ (k : Made). Holds u (after m k)) (sym (z .makes))
+          subst (λ (k : Made). Holds u (withMade m k)) (sym (z .makes))
           (both-made m x y js (rightOf (x .type)) end (m .stack ++ map code end) (y .next) refl (forget (atStack (moreWires full js) (m .stack ++ map code end)) refl app-moved))
 
     -- ---- all three
@@ -313,8 +313,8 @@ module _ {s sizes w : List ℕ} {node : Node} {st : State} (q : Here s sizes w n
             let tn : t < length (Q .table) = omega (arith, S .right-below, two.first-left q h2 L .1) in
             let tt′ : tree (Q .table) t ≡ Q .type = sym (S .right) ∙ ap rightOf (two.first-left q h2 L .2) ∙ z .right in
             record {
-              holds = subst (λ (c : Bool). Holds (cond c moved (cond (isPair (node .rule)) w₃ (appliedIn w₃ (stackAt + st .top) (f .len) (b .len) (b .wires)))) (after m (madeOf Q))) (sym e₁)
-                  (subst (λ (c : Bool). Holds (cond c w₃ (appliedIn w₃ (stackAt + st .top) (f .len) (b .len) (b .wires))) (after m (madeOf Q))) (sym e₂) (app-holds z));
+              holds = subst (λ (c : Bool). Holds (cond c moved (cond (isPair (node .rule)) w₃ (appliedIn w₃ (stackAt + st .top) (f .len) (b .len) (b .wires)))) (withMade m (madeOf Q))) (sym e₁)
+                  (subst (λ (c : Bool). Holds (cond c w₃ (appliedIn w₃ (stackAt + st .top) (f .len) (b .len) (b .wires))) (withMade m (madeOf Q))) (sym e₂) (app-holds z));
               past = past-is;
               named = subst (λ (c : Bool). cond c (b .ty) (cond (isPair (node .rule)) (node .first) t) < length (Q .table)) (sym e₁) (subst (λ (c : Bool). cond c (node .first) t < length (Q .table)) (sym e₂) tn);
               type = subst (λ (c : Bool). tree (Q .table) (cond c (b .ty) (cond (isPair (node .rule)) (node .first) t)) ≡ Q .type) (sym e₁) (subst (λ (c : Bool). tree (Q .table) (cond c (node .first) t) ≡ Q .type) (sym e₂) tt′);
@@ -333,8 +333,8 @@ module _ {s sizes w : List ℕ} {node : Node} {st : State} (q : Here s sizes w n
             let tn : node .first < length (Q .table) = subst (λ (k : ℕ). k < length (Q .table)) (sym en) (z .first) in
             let tt′ : tree (Q .table) (node .first) ≡ Q .type = ap (tree (Q .table)) en ∙ z .is-type in
             record {
-              holds = subst (λ (c : Bool). Holds (cond c moved (cond (isPair (node .rule)) w₃ (appliedIn w₃ (stackAt + st .top) (f .len) (b .len) (b .wires)))) (after m (madeOf Q))) (sym e₁)
-                  (subst (λ (c : Bool). Holds (cond c w₃ (appliedIn w₃ (stackAt + st .top) (f .len) (b .len) (b .wires))) (after m (madeOf Q))) (sym e₂) (pair-holds z));
+              holds = subst (λ (c : Bool). Holds (cond c moved (cond (isPair (node .rule)) w₃ (appliedIn w₃ (stackAt + st .top) (f .len) (b .len) (b .wires)))) (withMade m (madeOf Q))) (sym e₁)
+                  (subst (λ (c : Bool). Holds (cond c w₃ (appliedIn w₃ (stackAt + st .top) (f .len) (b .len) (b .wires))) (withMade m (madeOf Q))) (sym e₂) (pair-holds z));
               past = past-is;
               named = subst (λ (c : Bool). cond c (b .ty) (cond (isPair (node .rule)) (node .first) t) < length (Q .table)) (sym e₁) (subst (λ (c : Bool). cond c (node .first) t < length (Q .table)) (sym e₂) tn);
               type = subst (λ (c : Bool). tree (Q .table) (cond c (b .ty) (cond (isPair (node .rule)) (node .first) t)) ≡ Q .type) (sym e₁) (subst (λ (c : Bool). tree (Q .table) (cond c (node .first) t) ≡ Q .type) (sym e₂) tt′);
@@ -349,7 +349,7 @@ module _ {s sizes w : List ℕ} {node : Node} {st : State} (q : Here s sizes w n
             let e₁ = rule-is ofBody ∙ z .body in
             let t = rightNo (recIn s (f .ty)) in
             record {
-              holds = subst (λ (c : Bool). Holds (cond c moved (cond (isPair (node .rule)) w₃ (appliedIn w₃ (stackAt + st .top) (f .len) (b .len) (b .wires)))) (after m (madeOf Q))) (sym e₁) (proj-holds z);
+              holds = subst (λ (c : Bool). Holds (cond c moved (cond (isPair (node .rule)) w₃ (appliedIn w₃ (stackAt + st .top) (f .len) (b .len) (b .wires)))) (withMade m (madeOf Q))) (sym e₁) (proj-holds z);
               past = past-is;
               named = subst (λ (c : Bool). cond c (b .ty) (cond (isPair (node .rule)) (node .first) t) < length (Q .table)) (sym e₁) (two.second-left q h2 L er ew K .1);
               type = subst (λ (c : Bool). tree (Q .table) (cond c (b .ty) (cond (isPair (node .rule)) (node .first) t)) ≡ Q .type) (sym e₁) (two.second-left q h2 L er ew K .2 ∙ z .same);

@@ -21,7 +21,7 @@ use Rattle.calculus.specs.Record.{All}
 use Rattle.calculus.specs.Inputs.{targets}
 use Rattle.circuit_theorems.specs.Formed.{Tiled, Formed}
 use Rattle.calculus.specs.Translate.{full}
-use Rattle.memory.specs.Map.{targetsAt, elementsAt, stackAt, bindersAt, memorySize, region, kindOf, elementsFrom, wiresFrom, code, terminalOf, netIn}
+use Rattle.memory.specs.Map.{targetsAt, elementsAt, stackAt, bindersAt, memorySize, region, kindNumber, elementsFrom, wiresFrom, code, terminalOf, netIn}
 use Rattle.calculus.specs.NetRead.{Known}
 use Rattle.circuit_theorems.proofs.KnownParts.{made-known}
 use Rattle.sheet_theorems.proofs.Laying.{laid}
@@ -33,14 +33,14 @@ use Rattle.circuit_theorems.specs.Scope.{env-end}
 use Rattle.circuit_theorems.proofs.Lists.{all-map}
 use Rattle.circuit_theorems.proofs.Wiring.{target-one}
 use Rattle.circuit_theorems.proofs.Forming.{Gapless}
-use Rattle.circuit_theorems.proofs.Main.{Accepts, accepts, formed}
+use Rattle.circuit_theorems.proofs.Main.{AcceptedAs, accepts, formed}
 use Rattle.circuit_theorems.proofs.Drive.{mem-driver, table-list}
 use Rattle.circuit_theorems.proofs.Bounds.{few-elements, few-wires, few-pins, names}
 use Rattle.wiring.specs.declared.walk.State.{State}
 use Rattle.wiring.specs.declared.walk.Built.{Built}
 use Rattle.wiring.specs.declared.Counts.{Counts}
 use Rattle.wiring.specs.Sides.{Knows}
-use Rattle.wiring.specs.Store.{Store, Lies, Holds, target, after}
+use Rattle.wiring.specs.Store.{Store, Lies, Holds, target, withMade}
 use Rattle.wiring.specs.Asks.{Asks, Leaves}
 use Rattle.wiring.specs.Count.{Counting}
 use Rattle.wiring.specs.Whole.{Read, Accepted, NetStands}
@@ -90,12 +90,12 @@ module _ {s sizes : List ℕ} {at n : ℕ} (r : Read s sizes at n) (σ : Sheet) 
 
 -- ---- a netlist is read back
 
-elements-back : (es : List Element) (n e : ℕ) → Tiled es n e → All Known es → elementsFrom (map kindOf es) n ≡ es
+elements-back : (es : List Element) (n e : ℕ) → Tiled es n e → All Known es → elementsFrom (map kindNumber es) n ≡ es
 elements-back [] n e t k = refl
 elements-back (point i ∷ es) n e t k = ap₂ (λ (x : Element) (l : List Element). x ∷ l) (ap point (sym (t .0))) (elements-back es (n + 2) e (t .1) (k .1))
 elements-back (part p i ∷ es) n e t k =
     let f = ne-eqb p 7 (λ z. omega (arith, k .0)) in
-    ap (λ (b : Bool). cond b (point n ∷ elementsFrom (map kindOf es) (n + 2)) (part p n ∷ elementsFrom (map kindOf es) (n + partAt p .inputs + 1))) f
+    ap (λ (b : Bool). cond b (point n ∷ elementsFrom (map kindNumber es) (n + 2)) (part p n ∷ elementsFrom (map kindNumber es) (n + partAt p .inputs + 1))) f
     ∙ ap₂ (λ (x : Element) (l : List Element). x ∷ l) (ap (part p) (sym (t .0))) (elements-back es (n + partAt p .inputs + 1) e (t .1) (k .1))
 
 pins-back : (side : Interface) → map terminalOf (map code side) ≡ side
@@ -124,7 +124,7 @@ none-lies : (w : List ℕ) (from room : ℕ) → Lies w from room []
 none-lies w from room = record { fits = omega arith; here = λ j h. absurd (omega arith) }
 
 module _ {s sizes w : List ℕ} {at : ℕ} (q : Accepted s sizes w at) (m : Net) (ok : full (q .read .whole) ≡ good m) {w₁ : List ℕ} (ew : w₁ ≡ sets w 0 (replicate 8192 65535)) where
-  abbrev A : Accepts (q .read .whole) m
+  abbrev A : AcceptedAs (q .read .whole) m
   A = accepts (q .read .whole) m ok
 
   root-holds : Holds w₁ (empty (drop memorySize w))
@@ -177,7 +177,7 @@ module _ {s sizes w : List ℕ} {at : ℕ} (q : Accepted s sizes w at) (m : Net)
     abbrev mk : Made
     mk = make (A .sheet .table) (A .sheet .term) [] 0
 
-    made-holds : Holds w′ (after (empty (drop memorySize w)) mk)
+    made-holds : Holds w′ (withMade (empty (drop memorySize w)) mk)
     unfolding root-asks
     made-holds = L .holds
 
@@ -209,7 +209,7 @@ module _ {s sizes w : List ℕ} {at : ℕ} (q : Accepted s sizes w at) (m : Net)
 
     elements-here : elementsFrom (region w′ elementsAt (r .elements)) 0 ≡ mk .elements
     elements-here =
-        ap (λ (l : List ℕ). elementsFrom l 0) (list-region elementsAt 5120 (r .elements) (map kindOf (mk .elements)) (made-holds .kinds) (omega (arith, made-holds .size)) (omega (arith, counts .0, length-map (mk .elements) kindOf)))
+        ap (λ (l : List ℕ). elementsFrom l 0) (list-region elementsAt 5120 (r .elements) (map kindNumber (mk .elements)) (made-holds .kinds) (omega (arith, made-holds .size)) (omega (arith, counts .0, length-map (mk .elements) kindNumber)))
         ∙ elements-back (mk .elements) 0 (whole .net .end) (whole .tiled) (made-known (A .typed) [] 0)
 
     wires-here : wiresFrom w′ (region w′ targetsAt (r .wires)) ≡ mk .wires

@@ -14,7 +14,7 @@ use Rattle.calculus.specs.Net.{turns, points, inSide, binder, Made, make, madeF
 use Rattle.records.specs.Heads.{nodeOf}
 use Rattle.records.specs.Rules.{isFixedPoint}
 use Rattle.records.specs.declared.Node.{Node}
-use Rattle.memory.specs.Map.{elementsAt, stackAt, bindersAt, code, kindOf}
+use Rattle.memory.specs.Map.{elementsAt, stackAt, bindersAt, code, kindNumber}
 use Rattle.circuit_theorems.specs.Drive.{driveAll}
 use Rattle.circuit_theorems.proofs.Bounds.{next-is, made-side, made-type, join-length}
 use Rattle.circuit_theorems.proofs.Drive.{drive-append}
@@ -24,38 +24,38 @@ use Rattle.records.specs.TypeNumbers.{boundIn}
 use Rattle.wiring.specs.declared.walk.State.{State}
 use Rattle.wiring.specs.declared.walk.Built.{Built}
 use Rattle.wiring.specs.Sides.{KnownType, face}
-use Rattle.wiring.specs.Store.{Store, Holds, atStack, target, moreWires, after}
+use Rattle.wiring.specs.Store.{Store, Holds, atStack, target, moreWires, withMade}
 use Rattle.wiring.specs.Asks.{BoundAt, Binds, Asks, madeOf, Leaves, Here, opened, inner, Opened, looped, closedIn, closed, Closable}
 use Rattle.wiring.specs.Nodes.{funOf, Binding}
 use Rattle.wiring.proofs.RunLaws.{face-length}
 use Rattle.wiring.proofs.StoreLaws.{push-kinds, push-stack, push-binders, cut-binders}
 use Rattle.wiring.proofs.LeafLaws.{face-in, face-low}
 use Rattle.wiring.proofs.NodeLaws.{binding}
-use Rattle.wiring.proofs.JoinLaws.{Part, wired-apart, wired-holds, moved-holds}
+use Rattle.wiring.proofs.JoinLaws.{StackPart, wired-apart, wired-holds, moved-holds}
 use Rattle.wiring.proofs.BindLaws.{binds-grow, binds-push}
 
 points-length : (ts : List Bool) (n : ℕ) → length (points ts n) ≡ length ts
 points-length [] n = refl
 points-length (t ∷ ts) n = ap suc (points-length ts (n + 2))
 
-points-kinds : (ts : List Bool) (n : ℕ) → map kindOf (points ts n) ≡ replicate (length ts) 7
+points-kinds : (ts : List Bool) (n : ℕ) → map kindNumber (points ts n) ≡ replicate (length ts) 7
 points-kinds [] n = refl
 points-kinds (t ∷ ts) n = ap (λ (l : List ℕ). 7 ∷ l) (points-kinds ts (n + 2))
 
 -- ---- stores
 
-kinds-of : (α : Ty) (n : ℕ) (ks : List ℕ) (es : List Element) → (ks ++ replicate (size α) 7) ++ map kindOf es ≡ ks ++ map kindOf (points (turns false α) n ++ es)
+kinds-of : (α : Ty) (n : ℕ) (ks : List ℕ) (es : List Element) → (ks ++ replicate (size α) 7) ++ map kindNumber es ≡ ks ++ map kindNumber (points (turns false α) n ++ es)
 kinds-of α n ks es =
-    let e : map kindOf (points (turns false α) n) ≡ replicate (size α) 7 = points-kinds (turns false α) n ∙ ap (λ (k : ℕ). replicate k 7) (turns-size false α) in
-    append-assoc ks (replicate (size α) 7) (map kindOf es)
-    ∙ ap (λ (l : List ℕ). ks ++ l) (ap (λ (l : List ℕ). l ++ map kindOf es) (sym e) ∙ sym (map-append kindOf (points (turns false α) n) es))
+    let e : map kindNumber (points (turns false α) n) ≡ replicate (size α) 7 = points-kinds (turns false α) n ∙ ap (λ (k : ℕ). replicate k 7) (turns-size false α) in
+    append-assoc ks (replicate (size α) 7) (map kindNumber es)
+    ∙ ap (λ (l : List ℕ). ks ++ l) (ap (λ (l : List ℕ). l ++ map kindNumber es) (sym e) ∙ sym (map-append kindNumber (points (turns false α) n) es))
 
 stack-of : (bs : List Bool) (n : ℕ) (xs : List ℕ) (side : Interface) → (xs ++ face false bs n) ++ map code side ≡ xs ++ map code (inSide bs n ++ side)
 stack-of bs n xs side =
     append-assoc xs (face false bs n) (map code side)
     ∙ ap (λ (l : List ℕ). xs ++ l) (ap (λ (l : List ℕ). l ++ map code side) (face-in bs n) ∙ sym (map-append code (inSide bs n) side))
 
-fun-holds : {w : List ℕ} (m : Store) (Θ : Table) (t n : ℕ) (τ : Ty) (x : Made) → Holds w (after (opened m Θ t n) x) → Holds w (after m (funOf (tree Θ t) τ n x))
+fun-holds : {w : List ℕ} (m : Store) (Θ : Table) (t n : ℕ) (τ : Ty) (x : Made) → Holds w (withMade (opened m Θ t n) x) → Holds w (withMade m (funOf (tree Θ t) τ n x))
 fun-holds {w} m Θ t n τ x H =
     subst (λ (z : Store). Holds w z)
     (ap₂ (λ (ks ss : List ℕ). record { drivers = driveAll (x .wires) (m .drivers); targets = m .targets ++ map target (x .wires); kinds = ks; stack = ss; binders = m .binders; rest = m .rest })
@@ -63,7 +63,7 @@ fun-holds {w} m Θ t n τ x H =
     (cut-binders H (m .binders) (t ∷ (2 * n + 1) ∷ []) refl)
 
 fix-holds : {w : List ℕ} (m : Store) (Θ : Table) (t n : ℕ) (x : Made)
-    → Holds w (atStack (moreWires (after (opened m Θ t n) x) (join (x .side) (inSide (turns false (tree Θ t)) n))) (m .stack ++ map code (x .side))) → Holds w (after m (madeFix (tree Θ t) n x))
+    → Holds w (atStack (moreWires (withMade (opened m Θ t n) x) (join (x .side) (inSide (turns false (tree Θ t)) n))) (m .stack ++ map code (x .side))) → Holds w (withMade m (madeFix (tree Θ t) n x))
 fix-holds {w} m Θ t n x H =
     let js = join (x .side) (inSide (turns false (tree Θ t)) n) in
     let et : (m .targets ++ map target (x .wires)) ++ map target js ≡ m .targets ++ map target (x .wires ++ js) = append-assoc (m .targets) (map target (x .wires)) (map target js) ∙ ap (λ (l : List ℕ). m .targets ++ l) (sym (map-append target (x .wires) js)) in
@@ -71,7 +71,7 @@ fix-holds {w} m Θ t n x H =
     subst (λ (ks : List ℕ). Holds w (record { drivers = driveAll (x .wires ++ js) (m .drivers); targets = m .targets ++ map target (x .wires ++ js); kinds = ks; stack = m .stack ++ map code (x .side); binders = m .binders; rest = m .rest }))
     (kinds-of (tree Θ t) n (m .kinds) (x .elements))
     (subst (λ (z : Store). Holds w z)
-    (ap₂ (λ (ds ts : List ℕ). record { drivers = ds; targets = ts; kinds = (m .kinds ++ replicate (size (tree Θ t)) 7) ++ map kindOf (x .elements); stack = m .stack ++ map code (x .side); binders = m .binders; rest = m .rest }) ed et)
+    (ap₂ (λ (ds ts : List ℕ). record { drivers = ds; targets = ts; kinds = (m .kinds ++ replicate (size (tree Θ t)) 7) ++ map kindNumber (x .elements); stack = m .stack ++ map code (x .side); binders = m .binders; rest = m .rest }) ed et)
     (cut-binders H (m .binders) (t ∷ (2 * n + 1) ∷ []) refl))
 
 module _ {s sizes w : List ℕ} {node : Node} {st : State} (q : Here s sizes w node st) (one : node .subterms ≡ 1) where
@@ -254,7 +254,7 @@ module _ {s sizes w : List ℕ} {node : Node} {st : State} (q : Here s sizes w n
     body-dirs = term-driven (one-binding .typed) (binder α n ∷ Q .env) one-fits (n + 2 * size α) .dirs
 
     module _ {b : Built} {w₂ : List ℕ} (L : Leaves body-asks b w₂) where
-      body-holds : Holds w₂ (after (opened (Q .store) Θ t n) body)
+      body-holds : Holds w₂ (withMade (opened (Q .store) Θ t n) body)
       unfolding body-asks
       body-holds = rw body-is at (L .holds)
 
@@ -274,10 +274,10 @@ module _ {s sizes w : List ℕ} {node : Node} {st : State} (q : Here s sizes w n
       )
 
       -- where the two interfaces of a fixed point stand
-      low-part : Part (after (opened (Q .store) Θ t n) body) (Q .store .stack) (map code (inSide bs n))
+      low-part : StackPart (withMade (opened (Q .store) Θ t n) body) (Q .store .stack) (map code (inSide bs n))
       low-part = record { above = map code (body .side); stack-is = append-assoc (Q .store .stack) (face false bs n) (map code (body .side)) ∙ ap (λ (l : List ℕ). Q .store .stack ++ (l ++ map code (body .side))) (face-in bs n) }
 
-      high-part : Part (after (opened (Q .store) Θ t n) body) (Q .store .stack ++ face false bs n) (map code (body .side))
+      high-part : StackPart (withMade (opened (Q .store) Θ t n) body) (Q .store .stack ++ face false bs n) (map code (body .side))
       high-part = record { above = []; stack-is = ap (λ (l : List ℕ). (Q .store .stack ++ face false bs n) ++ l) (sym (append-nil (map code (body .side)))) }
 
       high-at : length (Q .store .stack ++ face false bs n) ≡ st .top + size α
@@ -302,7 +302,7 @@ module _ {s sizes w : List ℕ} {node : Node} {st : State} (q : Here s sizes w n
       fix-room e z =
           omega (arith, Q .few-wires, ap (λ (m : Made). length (m .wires)) z, length-append (body .wires) (join (body .side) (inSide bs n)), join-length (body .side) (inSide bs n) (opposite e), same-length e, body-counts .3)
 
-      wires-at : b .wires ≡ length (after (opened (Q .store) Θ t n) body .targets)
+      wires-at : b .wires ≡ length (withMade (opened (Q .store) Θ t n) body .targets)
       wires-at = omega (arith, body-counts .3, length-append (Q .store .targets) (map target (body .wires)), length-map (body .wires) target, Q .wires)
 
       pub close-closable : Closable w₂ node (st .top) (r .top - st .top) b
@@ -316,12 +316,12 @@ module _ {s sizes w : List ℕ} {node : Node} {st : State} (q : Here s sizes w n
           }
 
       -- a fixed point: the wires, and the body's interface moved down
-      loop-holds : one-binding .type ≡ α → madeOf Q ≡ madeFix α n body → Holds (looped w₂ (stackAt + st .top) l (b .wires)) (after (Q .store) (madeFix α n body))
+      loop-holds : one-binding .type ≡ α → madeOf Q ≡ madeFix α n body → Holds (looped w₂ (stackAt + st .top) l (b .wires)) (withMade (Q .store) (madeFix α n body))
       unfolding looped high-part low-part
       loop-holds e z =
           let W = wired-holds body-holds (body .side) (inSide bs n) high-part low-part (stackAt + st .top + l) (stackAt + st .top) l (b .wires) (omega (arith, high-at, el)) (omega (arith, Q .top)) (same-length e) (in-length ∙ sym el) wires-at (fix-room e z) (opposite e) in
-          let hp : Part (moreWires (after (opened (Q .store) Θ t n) body) (join (body .side) (inSide bs n))) (Q .store .stack ++ face false bs n) (map code (body .side)) = record { above = []; stack-is = high-part .stack-is } in
-          let lp : Part (moreWires (after (opened (Q .store) Θ t n) body) (join (body .side) (inSide bs n))) (Q .store .stack) [] = record { above = map code (inSide bs n) ++ map code (body .side); stack-is = low-part .stack-is } in
+          let hp : StackPart (moreWires (withMade (opened (Q .store) Θ t n) body) (join (body .side) (inSide bs n))) (Q .store .stack ++ face false bs n) (map code (body .side)) = record { above = []; stack-is = high-part .stack-is } in
+          let lp : StackPart (moreWires (withMade (opened (Q .store) Θ t n) body) (join (body .side) (inSide bs n))) (Q .store .stack) [] = record { above = map code (inSide bs n) ++ map code (body .side); stack-is = low-part .stack-is } in
           fix-holds (Q .store) Θ t n body (moved-holds W hp lp (stackAt + st .top + l) (stackAt + st .top) l (omega (arith, high-at, el)) (omega (arith, Q .top)) (omega arith) (length-map (body .side) code ∙ same-length e))
 
       one-first : (node .first < length Θ) × (tree Θ (node .first) ≡ Q .type)
@@ -338,8 +338,8 @@ module _ {s sizes w : List ℕ} {node : Node} {st : State} (q : Here s sizes w n
           fixed z =
               let k = z .0 in
               record {
-                holds = subst (λ (m : Made). Holds (cond (isFixedPoint (node .rule)) (looped w₂ (stackAt + st .top) l (b .wires)) w₂) (after (Q .store) m)) (sym (z .2))
-                    (subst (λ (c : Bool). Holds (cond c (looped w₂ (stackAt + st .top) l (b .wires)) w₂) (after (Q .store) (madeFix α n body))) (sym k) (loop-holds (z .1) (z .2)));
+                holds = subst (λ (m : Made). Holds (cond (isFixedPoint (node .rule)) (looped w₂ (stackAt + st .top) l (b .wires)) w₂) (withMade (Q .store) m)) (sym (z .2))
+                    (subst (λ (c : Bool). Holds (cond c (looped w₂ (stackAt + st .top) l (b .wires)) w₂) (withMade (Q .store) (madeFix α n body))) (sym k) (loop-holds (z .1) (z .2)));
                 past = one-past;
                 named = one-first .0;
                 type = one-first .1;
@@ -353,8 +353,8 @@ module _ {s sizes w : List ℕ} {node : Node} {st : State} (q : Here s sizes w n
           function z =
               let k = z .0 in
               record {
-                holds = subst (λ (m : Made). Holds (cond (isFixedPoint (node .rule)) (looped w₂ (stackAt + st .top) l (b .wires)) w₂) (after (Q .store) m)) (sym (z .1))
-                    (subst (λ (c : Bool). Holds (cond c (looped w₂ (stackAt + st .top) l (b .wires)) w₂) (after (Q .store) (funOf α (Q .type) n body))) (sym k) (fun-holds (Q .store) Θ t n (Q .type) body body-holds));
+                holds = subst (λ (m : Made). Holds (cond (isFixedPoint (node .rule)) (looped w₂ (stackAt + st .top) l (b .wires)) w₂) (withMade (Q .store) m)) (sym (z .1))
+                    (subst (λ (c : Bool). Holds (cond c (looped w₂ (stackAt + st .top) l (b .wires)) w₂) (withMade (Q .store) (funOf α (Q .type) n body))) (sym k) (fun-holds (Q .store) Θ t n (Q .type) body body-holds));
                 past = one-past;
                 named = one-first .0;
                 type = one-first .1;

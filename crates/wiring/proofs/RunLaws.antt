@@ -12,7 +12,7 @@ use lib.Seq.{sets, drop-cons, getD-set-other}
 use Rattle.laws.proofs.Regions.{drop-past}
 use Rattle.calculus.specs.Net.{partSide}
 use Rattle.memory.specs.Map.{code}
-use Rattle.wiring.specs.Sides.{endOf, face}
+use Rattle.wiring.specs.Sides.{pointEnd, face}
 
 pub run-start : (vs w : List ℕ) (to : ℕ) → sets w (to + 0) (drop 0 vs) ≡ sets w to vs
 run-start vs w to = rw add-zero
@@ -36,9 +36,9 @@ face-length output (b ∷ bs) n = ap suc (face-length output bs (n + 2))
 pub unturned-length : (output : Bool) (l n : ℕ) → length (face output (replicate l false) n) ≡ l
 unturned-length output l n = face-length output (replicate l false) n ∙ length-replicate l false
 
-pub unturned-at : (output : Bool) (l n j : ℕ) → j < l → getD (face output (replicate l false) n) j 0 ≡ endOf (n + 2 * j) (not output)
+pub unturned-at : (output : Bool) (l n j : ℕ) → j < l → getD (face output (replicate l false) n) j 0 ≡ pointEnd (n + 2 * j) (not output)
 unturned-at output zero n j h = absurd (omega arith)
-unturned-at output (suc l) n zero h = let e : n + 2 * 0 ≡ n = omega arith in rw e (ap (endOf n) (other output))
+unturned-at output (suc l) n zero h = let e : n + 2 * 0 ≡ n = omega arith in rw e (ap (pointEnd n) (other output))
   where
     other : (b : Bool) → Bool·beq false b ≡ not b
     other true = refl
@@ -51,7 +51,7 @@ pub face-append : (output : Bool) (bs cs : List Bool) (n : ℕ) → face output 
 face-append output [] cs n = let e : n + 2 * 0 ≡ n = omega arith in rw e
 face-append output (b ∷ bs) cs n =
     let e : n + 2 * suc (length bs) ≡ n + 2 + 2 * length bs = omega arith in
-    rw e (ap (λ (l : List ℕ). endOf n (Bool·beq b output) ∷ l) (face-append output bs cs (n + 2)))
+    rw e (ap (λ (l : List ℕ). pointEnd n (Bool·beq b output) ∷ l) (face-append output bs cs (n + 2)))
 
 other-end : (b output : Bool) → Bool·beq (not b) output ≡ Bool·beq b (not output)
 other-end true true = refl
@@ -62,7 +62,7 @@ other-end false false = refl
 -- an interface of which each bit is turned is the other one
 pub face-turned : (output : Bool) (bs : List Bool) (n : ℕ) → face output (map not bs) n ≡ face (not output) bs n
 face-turned output [] n = refl
-face-turned output (b ∷ bs) n = ap₂ _∷_ (ap (endOf n) (other-end b output)) (face-turned output bs (n + 2))
+face-turned output (b ∷ bs) n = ap₂ _∷_ (ap (pointEnd n) (other-end b output)) (face-turned output bs (n + 2))
 
 pub part-length : (k n : ℕ) → length (map code (partSide k n)) ≡ k + 1
 part-length zero n = refl

@@ -18,7 +18,7 @@ use Rattle.records.specs.Forms.{recIn}
 use Rattle.records.specs.Rules.{isProjection, isNaming}
 use Rattle.records.specs.declared.Rule.{Rule}
 use Rattle.records.specs.declared.Node.{Node}
-use Rattle.memory.specs.Map.{bindersAt, region, code, kindOf}
+use Rattle.memory.specs.Map.{bindersAt, region, code, kindNumber}
 use Rattle.sheet_theorems.proofs.Standing.{stands-in}
 use Rattle.circuit_theorems.proofs.Bounds.{next-is, made-side, made-type}
 use Rattle.circuit_theorems.proofs.Drivers.{term-driven}
@@ -26,7 +26,7 @@ use Rattle.circuit_theorems.specs.Scope.{dirs}
 use Rattle.wiring.specs.declared.walk.State.{State}
 use Rattle.wiring.specs.declared.walk.Built.{Built}
 use Rattle.records.specs.TypeNumbers.{leftNo, rightNo}
-use Rattle.wiring.specs.Store.{Store, Holds, atBinders, target, after}
+use Rattle.wiring.specs.Store.{Store, Holds, atBinders, target, withMade}
 use Rattle.wiring.specs.Asks.{BoundAt, Binds, Asks, madeOf, Leaves, Here, halved, namedIn, byBinding, betweenIn, middle, Between}
 use Rattle.wiring.specs.Nodes.{Applied, Paired, Halved, Projected, Twofold}
 use Rattle.wiring.proofs.StoreLaws.{push-binders}
@@ -140,7 +140,7 @@ module _ {s sizes w : List ℕ} {node : Node} {st : State} (q : Here s sizes w n
   first-length = made-side (both .typed) (Q .env) (both .fits) n ∙ ap size first-type
 
   module _ {f : Built} {w₁ : List ℕ} (L : Leaves first-asks f w₁) where
-    pub first-holds : Holds w₁ (after (Q .store) x)
+    pub first-holds : Holds w₁ (withMade (Q .store) x)
     unfolding first-asks
     first-holds = L .holds
 
@@ -187,12 +187,12 @@ module _ {s sizes w : List ℕ} {node : Node} {st : State} (q : Here s sizes w n
     binders₂ = byBinding (node .rule) both-bound one-bound (Q .store .binders)
 
     abbrev pub store₂ : Store
-    store₂ = atBinders (after (Q .store) x) binders₂
+    store₂ = atBinders (withMade (Q .store) x) binders₂
 
     scope-few : st .scope + 2 ≤ 128
     scope-few = omega (arith, Q .scoped, both .deep-first, depth-some (both .first))
 
-    halved-holds : Holds (halved s sizes w₁ (f .ty) (st .scope) (st .top)) (atBinders (after (Q .store) x) both-bound)
+    halved-holds : Holds (halved s sizes w₁ (f .ty) (st .scope) (st .top)) (atBinders (withMade (Q .store) x) both-bound)
     unfolding halved
     halved-holds =
         let c = Q .binds .count in
@@ -200,7 +200,7 @@ module _ {s sizes w : List ℕ} {node : Node} {st : State} (q : Here s sizes w n
         push-binders P (right ∷ (2 * (st .top + getD sizes left 0)) ∷ []) (bindersAt + 2 * (st .scope + 1))
         (omega (arith, length-append (Q .store .binders) (left ∷ (2 * st .top) ∷ []))) (omega (arith, scope-few, length-append (Q .store .binders) (left ∷ (2 * st .top) ∷ [])))
 
-    named-holds : Holds (namedIn w₁ (f .ty) (st .scope) (st .top)) (atBinders (after (Q .store) x) one-bound)
+    named-holds : Holds (namedIn w₁ (f .ty) (st .scope) (st .top)) (atBinders (withMade (Q .store) x) one-bound)
     named-holds =
         let c = Q .binds .count in
         push-binders first-holds (f .ty ∷ (2 * st .top) ∷ []) (bindersAt + 2 * st .scope) (omega arith) (omega (arith, scope-few))
@@ -209,7 +209,7 @@ module _ {s sizes w : List ℕ} {node : Node} {st : State} (q : Here s sizes w n
     unfolding betweenIn
     between-holds w₂ e = rw e (by (isProjection (node .rule)) (isNaming (node .rule)))
       where
-        by : (c d : Bool) → Holds (cond c (halved s sizes w₁ (f .ty) (st .scope) (st .top)) (cond d (namedIn w₁ (f .ty) (st .scope) (st .top)) w₁)) (atBinders (after (Q .store) x) (cond c both-bound (cond d one-bound (Q .store .binders))))
+        by : (c d : Bool) → Holds (cond c (halved s sizes w₁ (f .ty) (st .scope) (st .top)) (cond d (namedIn w₁ (f .ty) (st .scope) (st .top)) w₁)) (atBinders (withMade (Q .store) x) (cond c both-bound (cond d one-bound (Q .store .binders))))
         by true d = halved-holds
         by false true = named-holds
         by false false = first-holds
@@ -357,8 +357,8 @@ module _ {s sizes w : List ℕ} {node : Node} {st : State} (q : Here s sizes w n
         scoped = omega (arith, Q .scoped, both .deep-second, scope-most);
       }
         where
-          second-elements : length (Q .store .kinds ++ map kindOf (x .elements)) ≡ r .elements
-          second-elements = omega (arith, length-append (Q .store .kinds) (map kindOf (x .elements)), length-map (x .elements) kindOf, Q .elements, middle-is .1)
+          second-elements : length (Q .store .kinds ++ map kindNumber (x .elements)) ≡ r .elements
+          second-elements = omega (arith, length-append (Q .store .kinds) (map kindNumber (x .elements)), length-map (x .elements) kindNumber, Q .elements, middle-is .1)
 
           second-wires : length (Q .store .targets ++ map target (x .wires)) ≡ r .wires
           second-wires = omega (arith, length-append (Q .store .targets) (map target (x .wires)), length-map (x .wires) target, Q .wires, middle-is .2)
@@ -367,7 +367,7 @@ module _ {s sizes w : List ℕ} {node : Node} {st : State} (q : Here s sizes w n
           second-top = omega (arith, length-append (Q .store .stack) (map code (x .side)), length-map (x .side) code, Q .top, middle-is .3)
 
       module _ {b : Built} {w₃ : List ℕ} (K : Leaves second-asks b w₃) where
-        pub second-holds : Holds w₃ (after store₂ y)
+        pub second-holds : Holds w₃ (withMade store₂ y)
         unfolding second-asks
         second-holds = rw second-is at (K .holds)
 

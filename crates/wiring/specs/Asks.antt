@@ -25,7 +25,7 @@ use Rattle.wiring.specs.declared.walk.State.{State}
 use Rattle.wiring.specs.declared.walk.Built.{Built}
 use Rattle.wiring.specs.Sides.{Knows, KnownType, face}
 use Rattle.wiring.specs.Links.{links, Apart}
-use Rattle.wiring.specs.Store.{Store, Holds, after}
+use Rattle.wiring.specs.Store.{Store, Holds, withMade}
 
 -- ---- binders: for each, the outermost first, its type number, and where its output interface is
 
@@ -97,7 +97,7 @@ abbrev pub madeOf : {s sizes w : List ℕ} {at : ℕ} {st : State} → Asks s si
 madeOf {st = st} q = make (q .table) (q .term) (q .env) (st .next)
 
 pub record Leaves {s sizes w : List ℕ} {at : ℕ} {st : State} (q : Asks s sizes w at st) (r : Built) (w′ : List ℕ) : Type 0 where
-  pub holds : Holds w′ (after (q .store) (madeOf q))
+  pub holds : Holds w′ (withMade (q .store) (madeOf q))
   pub past : r .past ≡ at + length (termBytes (q .term))
   pub named : r .ty < length (q .table)
   pub type : tree (q .table) (r .ty) ≡ q .type

@@ -10,7 +10,7 @@ use Rattle.calculus.specs.Terms.{Edition, Term, nodes, partAt}
 use Rattle.calculus.specs.Write.{termBytes}
 use Rattle.sheet_theorems.specs.Laid.{Stands, Ranged}
 use Rattle.calculus.specs.Record.{All}
-use Rattle.circuit_theorems.specs.Terminals.{terminals}
+use Rattle.circuit_theorems.specs.Terminals.{terminalCount}
 use Rattle.records.specs.declared.Node.{Node}
 use Rattle.records.specs.Rules.{isConstant}
 use Rattle.records.specs.TypeNumbers.{boundIn}
@@ -44,7 +44,7 @@ rowNodes (e ∷ es) = nodes e + rowNodes es
 
 abbrev pub rowTerminals : Table → List Term → ℕ
 rowTerminals Θ [] = 0
-rowTerminals Θ (e ∷ es) = terminals Θ e + rowTerminals Θ es
+rowTerminals Θ (e ∷ es) = terminalCount Θ e + rowTerminals Θ es
 
 -- what is left to count: a row of terms stands at the offset
 pub record RowLeft (E : Edition) (Θ : Table) (s : List ℕ) (whole : Term) (at left total : ℕ) : Type 0 where
@@ -53,4 +53,4 @@ pub record RowLeft (E : Edition) (Θ : Table) (s : List ℕ) (whole : Term) (at 
   pub here : drop at s ≡ rowBytes row ++ rest
   pub ranged : All (Ranged E Θ) row
   pub count : left ≡ rowNodes row
-  pub sum : total + rowTerminals Θ row ≡ terminals Θ whole
+  pub sum : total + rowTerminals Θ row ≡ terminalCount Θ whole

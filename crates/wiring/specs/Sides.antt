@@ -37,14 +37,14 @@ pub record Arrow (s sizes : List ℕ) (x : Sided) (size to n : ℕ) : Type 0 whe
   pub few : n + 2 * getD sizes type 0 ≤ 8192
 
 -- the code of one terminal of the point whose input is n: its input, or its output
-abbrev pub endOf : ℕ → Bool → ℕ
-endOf n input = cond input (2 * n) (2 * (n + 1) + 1)
+abbrev pub pointEnd : ℕ → Bool → ℕ
+pointEnd n input = cond input (2 * n) (2 * (n + 1) + 1)
 
 -- the codes of the interface of points from terminal n on, by which bits are turned: the variable's output interface, or its input
 -- interface
 abbrev pub face : Bool → List Bool → ℕ → List ℕ
 face output [] n = []
-face output (b ∷ bs) n = endOf n (Bool·beq b output) ∷ face output bs (n + 2)
+face output (b ∷ bs) n = pointEnd n (Bool·beq b output) ∷ face output bs (n + 2)
 
 -- ---- an interface, side by side
 

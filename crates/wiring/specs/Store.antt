@@ -5,7 +5,7 @@ use mathlib.Core.List.{List, _++_, map}
 use lib.ListN.{length, getD, drop}
 use Rattle.calculus.specs.Net.{Wire, Made}
 use Rattle.calculus.specs.Record.{All}
-use Rattle.memory.specs.Map.{targetsAt, elementsAt, stackAt, bindersAt, memorySize, kindOf, code}
+use Rattle.memory.specs.Map.{targetsAt, elementsAt, stackAt, bindersAt, memorySize, kindNumber, code}
 use Rattle.circuit_theorems.specs.Drive.{driveAll}
 
 pub record Store : Type 0 where
@@ -83,11 +83,11 @@ moreWires m ws = record {
 }
 
 -- a term made, its interface on the stack
-abbrev pub after : Store → Made → Store
-after m x = record {
+abbrev pub withMade : Store → Made → Store
+withMade m x = record {
   drivers = driveAll (x .wires) (m .drivers);
   targets = m .targets ++ map target (x .wires);
-  kinds = m .kinds ++ map kindOf (x .elements);
+  kinds = m .kinds ++ map kindNumber (x .elements);
   stack = m .stack ++ map code (x .side);
   binders = m .binders;
   rest = m .rest;

@@ -13,7 +13,7 @@ ghost use Rattle.calculus.specs.Types.{tree};
 ghost use Rattle.calculus.specs.Terms.{partAt};
 ghost use Rattle.calculus.specs.Net.{turns, partSide};
 ghost use Rattle.memory.specs.Map.{code};
-ghost use Rattle.wiring.specs.Sides.{KnownType, Arrow, StillDue, endOf, face};
+ghost use Rattle.wiring.specs.Sides.{KnownType, Arrow, StillDue, pointEnd, face};
 
 pub fn size_of(sizes: &[u8], t: u8) -> usize
     requires { ⌜ length (now sizes) ≡ 256 ⌝ }
@@ -27,7 +27,7 @@ pub fn size_of(sizes: &[u8], t: u8) -> usize
 // One terminal of the point whose input is n: its input, or its output.
 fn end_of(n: usize, input: bool) -> u16
     requires { ⌜ n + 1 < 8192 ⌝ }
-    ensures { λ r. ⌜ r ≡ endOf n input ⌝ }
+    ensures { λ r. ⌜ r ≡ pointEnd n input ⌝ }
 {
     let first = n as u16;
     let second = (n + 1) as u16;

@@ -1,6 +1,6 @@
 -- `deltawobble::deltawobble_check` meets its contract: the verdict, as an answer, packed. Assumes nothing.
 use mathlib.Core.Path.{ap}
-use Rattle.deltawobble.proofs.BoundaryLaws.{answerOf, check-packs}
+use Rattle.deltawobble.proofs.BoundaryLaws.{verdictAnswer, check-packs}
 use borrow.Author.Needs.{needs}
 use Rattle.deltawobble.proofs.deltawobble_check.Statement.{statement}
 use Rattle.deltawobble.proofs.deltawobble_check.Tie as tie
@@ -26,7 +26,7 @@ same-length c = search needs
 returns : tie.Need-returns
 returns c =
     let t = c .before .before .before .before .before in
-    rw (c .word .ensures) (check-packs (t .check .result) _ _ _ (t .check .ensures) (ap answerOf (c .before .enum-told .given .1)))
+    rw (c .word .ensures) (check-packs (t .check .result) _ _ _ (t .check .ensures) (ap verdictAnswer (c .before .enum-told .given .1)))
 
 same-length-2 : tie.Need-same-length-2
 same-length-2 c = search needs
@@ -34,7 +34,7 @@ same-length-2 c = search needs
 returns-2 : tie.Need-returns-2
 returns-2 c =
     let t = c .before .before .before .before .before .before in
-    rw (c .word2 .ensures) (check-packs (t .check .result) _ _ _ (t .check .ensures) (ap answerOf (c .before .before .number .given .1)))
+    rw (c .word2 .ensures) (check-packs (t .check .result) _ _ _ (t .check .ensures) (ap verdictAnswer (c .before .before .number .given .1)))
 
 pub deltawobble-check-spec : {M : Type 1} → statement M
 deltawobble-check-spec =

@@ -4,7 +4,7 @@ use mathlib.Core.Path.{_≡_, refl, _∙_}
 use Prim.Native.Nat.{_≤_, _-_, _+_, _*_}
 use lib.ListN.{length}
 use Rattle.lines.specs.Figure.{figures}
-use Rattle.lines.specs.Wrote.{Wrote}
+use Rattle.lines.specs.Wrote.{WroteText}
 use Rattle.lines.proofs.Decimal.{figure-few, figures-more}
 use Rattle.lines.proofs.Stores.{wrote-two}
 use Rattle.lines.proofs.put_fields.Statement.{statement}
@@ -12,7 +12,7 @@ use Rattle.lines.proofs.put_fields.Tie as tie
 
 abbrev Inv-loop : tie.InvT-loop
 Inv-loop text₀ from count first at₀ i₀ text at i =
-    (i ≤ count) × ((at ≤ from + 21 * i) × ((length text ≡ length text₀) × Wrote text₀ from (figures i first) text at))
+    (i ≤ count) × ((at ≤ from + 21 * i) × ((length text ≡ length text₀) × WroteText text₀ from (figures i first) text at))
 
 abbrev μ-loop : tie.MeasureT-loop
 μ-loop text₀ from count first at₀ i₀ text at i = count - i

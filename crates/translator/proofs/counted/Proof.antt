@@ -6,7 +6,7 @@ use mathlib.Core.List.{List, []}
 use Prim.Native.Nat.{ℕ}
 use Rattle.calculus.specs.Net.{make, netOf}
 use Rattle.translator.specs.declared.Made.the-variants as made
-use Rattle.translator.specs.Made.{Makes}
+use Rattle.translator.specs.Made.{MakeLeaves}
 use Rattle.translator.proofs.StageLaws.{many-makes, full-few, root-found, net-makes}
 use Rattle.translator.proofs.NameLaws.{nameable, named-stands, named-nodes}
 use borrow.Author.Needs.{needs}
@@ -80,7 +80,7 @@ returns-3 c =
     let e = full-few (t .read .whole) (a .work .now) (q .pre .0) (t .read .told .sheet) (t .read .told .is) (t .found) (t .walked) (rw (n .count .ensures (t .read)) at (x .if1 .left)) in
     let S = k .make-net .ensures (record { nodes = _; read = t .read; net = _; is = e; memory = q .pre .0 }) in
     let f = c .before .before .name .ensures (nameable (t .read .whole) _ e (t .read .told .sheet) (t .read .told .is) (t .read) (t .read .told .is) (S .ready .size)) in
-    subst (λ (w : List ℕ). Makes (a .plain) (made.Net (k .make-net .result) (a .root)) (t .read .whole) (a .work .now) w) (sym f)
+    subst (λ (w : List ℕ). MakeLeaves (a .plain) (made.Net (k .make-net .result) (a .root)) (t .read .whole) (a .work .now) w) (sym f)
     (net-makes (a .plain) (t .read .whole) (a .work .now) _ (k .make-net .result) (a .root) _ (q .pre .0) e (root-found (t .read .whole) (a .work .now) (q .pre .0) (t .read .told .sheet) (t .read .told .is) (t .found) (t .walked) (a .root) (t .root-is)) (named-stands (t .read .whole) _ e (t .read .told .sheet) (t .read .told .is) (k .make-net .result) (a .work .now) _ S)
     (λ _. named-nodes (t .read .whole) _ e (t .read .told .sheet) (t .read .told .is) (k .make-net .result) (a .work .now) _ S))
 

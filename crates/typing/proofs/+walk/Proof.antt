@@ -19,7 +19,7 @@ use Rattle.typing.specs.Walkable.{Walkable}
 use Rattle.typing.proofs.StepLaws.{not-so, so}
 use Rattle.typing.proofs.VerdictLaws.{says-fine, says-refused, says-under, says-as, says-anyhow}
 use Rattle.typing.proofs.StateLaws.{boundTo, enter-misfit, enter-opened, binds-few, binds-sort, halvedTo, clearedAt, closes-few, follows-refused, follows-halves, bound-kept, halved-kept}
-use Rattle.typing.proofs.WalkLaws.{firstOf, secondOf}
+use Rattle.typing.proofs.WalkLaws.{firstSubterm, secondOf}
 use Rattle.typing.proofs.Turns.{few-binders, few-nodes, as-many, Here, Inside, InsideFine, First, Middle, Second, turn-leaf, turn-refused, turn-falls, turn-first, turn-held-one, turn-held-two, turn-one, turn-halfway, turn-falls-again, turn-second, turn-two}
 use Prim.Native.Nat.{ℕ, _+_, _-_, _≤_, _<_}
 use borrow.Fn.Kinds.{In}
@@ -162,7 +162,7 @@ module _ (t : ℕ) where
     opened c F = record { inside = inside c F; t = _; start = _; count = _; fine = refl }
 
     abbrev first : (c : walk-lts.After-walk (calls t) (walk-at t) walk.Post) → Fitting (from-first c) Θ e → On First (from-first c) Θ e
-    first c F = record { opened = opened (c .before) F; x = held (own (c .before)) (c .walk .result); says = c .walk .ensures Θ (firstOf e) (turn-first (opened (c .before) F)) }
+    first c F = record { opened = opened (c .before) F; x = held (own (c .before)) (c .walk .result); says = c .walk .ensures Θ (firstSubterm e) (turn-first (opened (c .before) F)) }
 
   -- the words of the second subterm's binders
   sorts-are : (c : walk-lts.After-closes (calls t) (walk-at t) walk.Post) → c .before .before .before .with-bit4 .result ≡ clearedAt (own (walked (halved c) .before) .sorts) (from-first (walked (halved c)) .args .b .count)
@@ -239,7 +239,7 @@ pub +walk-spec : {M : Type 1} → statement M
     (λ c κs.
     let p = from-opened t (opening t c) .pre in
     let o = opened t c (p .1 .fits) in
-    (omega (arith, p .0, turn-falls o), record { table = p .1 .table; term = firstOf (p .1 .term); fits = turn-first o }))
+    (omega (arith, p .0, turn-falls o), record { table = p .1 .table; term = firstSubterm (p .1 .term); fits = turn-first o }))
     (λ c κs. first-slot t (c .before .before .before .before .before .before .before .before .before .before .before .before .before .before .before .before .before))
     (λ c κs. first-slot t (c .before .before .before .before .before .before .before .before .before .before .before .before .before .before .before .before .before .before))
     (λ c Θ e F.

@@ -5,7 +5,7 @@ use Rattle.calculus.specs.Net.{Net}
 use Rattle.calculus.specs.NetRead.{Known}
 use Rattle.calculus.specs.Record.{All}
 use Rattle.export_calculus.specs.Verilog.{exported}
-use Rattle.translator.specs.Said.{Says}
+use Rattle.translator.specs.Said.{AnswerSays}
 use Rattle.translation.proofs.WriteLaws.{within-keeps}
 use borrow.Author.Needs.{needs}
 use Rattle.verilog.proofs.export_net.Statement.{statement}
@@ -33,7 +33,7 @@ returns c =
     let r = k .before .before .before .before .before in
     let q = r .before .before .before .before in
     let w = r .roots .ensures in (
-      subst (λ (m : Net). Says (k .export-lean .result) (q .args .out .now) (k .export-lean .last .1 .0) (exported m (length (q .args .out .now)))) (w .net) (k .export-lean .ensures),
+      subst (λ (m : Net). AnswerSays (k .export-lean .result) (q .args .out .now) (k .export-lean .last .1 .0) (exported m (length (q .args .out .now)))) (w .net) (k .export-lean .ensures),
       within-keeps _ _ (q .pre .0 .size) (w .within),
     )
 

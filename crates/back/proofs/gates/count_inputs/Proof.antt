@@ -8,7 +8,7 @@ use lib.ListN.{drop}
 use Rattle.calculus.specs.Net.{Element}
 use Rattle.back_theorems.specs.Back.{sources, undrivens, gatesFrom, gates, openIns}
 use Rattle.back_theorems.proofs.Typing.{few}
-use Rattle.back.specs.Gates.{netHere, inputsIn}
+use Rattle.back.specs.Gates.{netHere, inputTotal}
 use Rattle.back.proofs.SourceLaws.{undrivens-few, opens-more, inputs-more, none-left}
 use Rattle.back.proofs.gates.count_inputs.Statement.{statement}
 use Rattle.back.proofs.gates.count_inputs.Tie as tie
@@ -16,7 +16,7 @@ use Rattle.back.proofs.gates.count_inputs.Tie as tie
 abbrev Inv-loop : tie.InvT-loop
 Inv-loop net parts undriven₀ inputs₀ r₀ undriven inputs r =
     (r ≤ parts) × ((undriven ≤ 2 * r) × ((inputs ≤ 2 * r) × ((undriven + openIns (gatesFrom (netHere net) (drop r (netHere net .elements)) undriven) ≡ openIns (gates (netHere net)))
-    × (inputs + inputsIn (drop r (netHere net .elements)) ≡ inputsIn (netHere net .elements)))))
+    × (inputs + inputTotal (drop r (netHere net .elements)) ≡ inputTotal (netHere net .elements)))))
 
 abbrev μ-loop : tie.MeasureT-loop
 μ-loop net parts undriven₀ inputs₀ r₀ undriven inputs r = parts - r
@@ -65,7 +65,7 @@ loop-again c =
           omega arith,
           (
             opens-more (m .elements) (l .r) (p .part) (p .first) (omega arith) (g .gate-at .ensures) m (l .undriven) (c .open-of .result) _ (e ∙ ap (λ (k : ℕ). undrivens (sources m k (p .first) 0)) i) (l .inv .1 .1 .1 .0),
-            ap (λ (k : ℕ). l .inputs + k + inputsIn (drop (l .r + 1) (m .elements))) i
+            ap (λ (k : ℕ). l .inputs + k + inputTotal (drop (l .r + 1) (m .elements))) i
                 ∙ inputs-more (m .elements) (l .r) (p .part) (p .first) (omega arith) (g .gate-at .ensures) (l .inputs) _ (l .inv .1 .1 .1 .1),
           ),
         ),
@@ -83,7 +83,7 @@ returns c =
     let v : l .inputs + 0 ≡ l .inputs = omega arith in
     record {
       undriven = sym u ∙ ap (λ (x : List Element). l .undriven + openIns (gatesFrom m x (l .undriven))) (sym z) ∙ l .inv .1 .1 .1 .0;
-      all = sym v ∙ ap (λ (x : List Element). l .inputs + inputsIn x) (sym z) ∙ l .inv .1 .1 .1 .1;
+      all = sym v ∙ ap (λ (x : List Element). l .inputs + inputTotal x) (sym z) ∙ l .inv .1 .1 .1 .1;
     }
 
 pub count-inputs-spec : {M : Type 1} → statement M

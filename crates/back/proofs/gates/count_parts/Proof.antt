@@ -6,7 +6,7 @@ use Prim.Native.Nat.{_-_, _*_}
 use lib.ListN.{length}
 use Rattle.calculus.specs.NetRead.{Front}
 use Rattle.net_reader.specs.Said.{saidRecord}
-use Rattle.back.specs.Gates.{endOf}
+use Rattle.back.specs.Gates.{partsEnd}
 use Rattle.back.proofs.GateLaws.{NotPart, PartsLeft, parts-first, parts-more, parts-done, parts-ended}
 use Rattle.back.proofs.RecordLaws.{no-part}
 use Rattle.back.proofs.gates.count_parts.Statement.{statement}
@@ -30,7 +30,7 @@ returns c =
     let l = x .before .before .loop in
     let a = x .before .before .before .before in
     let e = x .read .ensures in
-    c .behind .ensures ∙ ap (λ (f : Front). endOf f (l .n) (4 * l .n)) e
+    c .behind .ensures ∙ ap (λ (f : Front). partsEnd f (l .n) (4 * l .n)) e
     ∙ parts-done (a .args .net .now) (a .pre) (l .n) (l .inv) (subst NotPart e (no-part (x .read .result) (c .before .match .keys2)))
 
 loop-again : tie.Need-loop-again Inv-loop μ-loop

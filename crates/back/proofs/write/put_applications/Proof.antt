@@ -5,13 +5,13 @@ use mathlib.Core.List.{List}
 use Prim.Native.Nat.{ℕ, _≤_, _-_, _+_}
 use lib.ListN.{length, length-set, set}
 use lib.Seq.{sets}
-use Rattle.back.specs.Rows.{rows, applicationRow}
+use Rattle.back.specs.Rows.{rowsUpTo, applicationRow}
 use Rattle.back.proofs.RowLaws.{rows-more}
 use Rattle.back.proofs.write.put_applications.Statement.{statement}
 use Rattle.back.proofs.write.put_applications.Tie as tie
 
 abbrev Inv-loop : tie.InvT-loop
-Inv-loop out₀ from n j₀ out j = (j ≤ n) × ((length out ≡ length out₀) × (out ≡ sets out₀ from (rows applicationRow j)))
+Inv-loop out₀ from n j₀ out j = (j ≤ n) × ((length out ≡ length out₀) × (out ≡ sets out₀ from (rowsUpTo applicationRow j)))
 
 abbrev μ-loop : tie.MeasureT-loop
 μ-loop out₀ from n j₀ out j = n - j

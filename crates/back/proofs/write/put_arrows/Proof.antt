@@ -4,13 +4,13 @@ use mathlib.Core.Path.{_≡_, refl, _∙_}
 use Prim.Native.Nat.{_≤_, _-_}
 use lib.ListN.{length}
 use lib.Seq.{sets}
-use Rattle.back.specs.Rows.{rows, arrowRow}
+use Rattle.back.specs.Rows.{rowsUpTo, arrowRow}
 use Rattle.back.proofs.RowLaws.{rows-more}
 use Rattle.back.proofs.write.put_arrows.Statement.{statement}
 use Rattle.back.proofs.write.put_arrows.Tie as tie
 
 abbrev Inv-loop : tie.InvT-loop
-Inv-loop out₀ from t k j₀ out j = (j ≤ k) × ((length out ≡ length out₀) × (out ≡ sets out₀ from (rows (arrowRow t) j)))
+Inv-loop out₀ from t k j₀ out j = (j ≤ k) × ((length out ≡ length out₀) × (out ≡ sets out₀ from (rowsUpTo (arrowRow t) j)))
 
 abbrev μ-loop : tie.MeasureT-loop
 μ-loop out₀ from t k j₀ out j = k - j

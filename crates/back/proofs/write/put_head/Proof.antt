@@ -5,7 +5,7 @@ use mathlib.Core.Path.{refl, ap, _∙_}
 use mathlib.Core.List.{List, [], _∷_}
 use Prim.Native.Nat.{ℕ, _+_}
 use lib.Seq.{sets}
-use Rattle.back.specs.Rows.{rows, applicationRow}
+use Rattle.back.specs.Rows.{rowsUpTo, applicationRow}
 use Rattle.back.proofs.RowLaws.{written-more, rows-length}
 use Rattle.back.proofs.write.put_head.Statement.{statement}
 use Rattle.back.proofs.write.put_head.Tie as tie
@@ -17,7 +17,7 @@ returns c =
     let first = c .before .before .before .before .before .before .put-applications in (
       refl,
       put .ensures ∙ ap (λ (o : List ℕ). sets o (a .at + a .inputs) (0x1A ∷ a .part ∷ a .inputs ∷ [])) (first .ensures)
-          ∙ written-more (a .out .now) (rows applicationRow (a .inputs)) (0x1A ∷ a .part ∷ a .inputs ∷ []) (a .at) (a .at + a .inputs) (omega (arith, rows-length applicationRow 1 (λ j. refl) (a .inputs))),
+          ∙ written-more (a .out .now) (rowsUpTo applicationRow (a .inputs)) (0x1A ∷ a .part ∷ a .inputs ∷ []) (a .at) (a .at + a .inputs) (omega (arith, rows-length applicationRow 1 (λ j. refl) (a .inputs))),
     )
 
 pub put-head-spec : {M : Type 1} → statement M

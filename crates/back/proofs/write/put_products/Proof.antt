@@ -4,14 +4,14 @@ use mathlib.Core.Path.{_≡_, refl, _∙_}
 use Prim.Native.Nat.{_≤_, _-_}
 use lib.ListN.{length}
 use lib.Seq.{sets}
-use Rattle.back.specs.Rows.{rows, productRow}
+use Rattle.back.specs.Rows.{rowsUpTo, productRow}
 use Rattle.back_theorems.proofs.Typing.{tuple-low}
 use Rattle.back.proofs.RowLaws.{rows-more}
 use Rattle.back.proofs.write.put_products.Statement.{statement}
 use Rattle.back.proofs.write.put_products.Tie as tie
 
 abbrev Inv-loop : tie.InvT-loop
-Inv-loop out₀ from q j₀ out j = (j ≤ q) × ((length out ≡ length out₀) × (out ≡ sets out₀ from (rows productRow j)))
+Inv-loop out₀ from q j₀ out j = (j ≤ q) × ((length out ≡ length out₀) × (out ≡ sets out₀ from (rowsUpTo productRow j)))
 
 abbrev μ-loop : tie.MeasureT-loop
 μ-loop out₀ from q j₀ out j = q - j

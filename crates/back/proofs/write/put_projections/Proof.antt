@@ -4,13 +4,13 @@ use mathlib.Core.Path.{_≡_, refl, _∙_}
 use Prim.Native.Nat.{_≤_, _-_}
 use lib.ListN.{length}
 use lib.Seq.{sets}
-use Rattle.back.specs.Rows.{rows, projectionRow}
+use Rattle.back.specs.Rows.{rowsUpTo, projectionRow}
 use Rattle.back.proofs.RowLaws.{rows-more}
 use Rattle.back.proofs.write.put_projections.Statement.{statement}
 use Rattle.back.proofs.write.put_projections.Tie as tie
 
 abbrev Inv-loop : tie.InvT-loop
-Inv-loop out₀ from q j₀ out j = (j ≤ q) × ((length out ≡ length out₀) × (out ≡ sets out₀ from (rows projectionRow j)))
+Inv-loop out₀ from q j₀ out j = (j ≤ q) × ((length out ≡ length out₀) × (out ≡ sets out₀ from (rowsUpTo projectionRow j)))
 
 abbrev μ-loop : tie.MeasureT-loop
 μ-loop out₀ from q j₀ out j = q - j

@@ -5,13 +5,13 @@ use mathlib.Core.Path.{sym, subst}
 use lib.ListN.{length, set}
 use Rattle.memory.specs.Map.{rootsAt, memorySize}
 use Rattle.lean.proofs.DriverLaws.{output-below}
-use Rattle.lean.proofs.SettleLaws.{Settling, settling-start, settling-step, settled-met, settled-end}
+use Rattle.lean.proofs.SettleLaws.{SettlingOne, settling-start, settling-step, settled-met, settled-end}
 use Rattle.lean.proofs.table.settle.Statement.{statement}
 use Rattle.lean.proofs.table.settle.Tie as tie
 
 abbrev Inv-loop : tie.InvT-loop
 Inv-loop work₀ elements wires pins r o left₀ work x left =
-    ((x .0 < 8192) × (memorySize ≤ length work)) × Settling work₀ work elements wires pins (o .0) (r .0) (x .0) left
+    ((x .0 < 8192) × (memorySize ≤ length work)) × SettlingOne work₀ work elements wires pins (o .0) (r .0) (x .0) left
 
 abbrev μ-loop : tie.MeasureT-loop
 μ-loop work₀ elements wires pins r o left₀ work x left = left
@@ -60,7 +60,7 @@ loop-again c =
     let l = b .before .before .before .before .loop in
     let a = b .before .before .before .before .before .before .args in
     let n = settling-step (a .work .now) (l .work) (a .elements) (a .wires) (a .pins) (a .o .0) (a .r .0) (l .x .0) (l .left) (l .inv .1) (b .if1 .left) in
-    let t = subst (λ (y : ℕ). Settling (a .work .now) (set (l .work) (rootsAt + l .x .0) (a .r .0)) (a .elements) (a .wires) (a .pins) (a .o .0) (a .r .0) y (l .left - 1)) (sym (g .back-of .ensures)) n in
+    let t = subst (λ (y : ℕ). SettlingOne (a .work .now) (set (l .work) (rootsAt + l .x .0) (a .r .0)) (a .elements) (a .wires) (a .pins) (a .o .0) (a .r .0) y (l .left - 1)) (sym (g .back-of .ensures)) n in
     ((output-below _ (a .elements) (a .wires) (a .pins) (t .partly .ready) (g .back-of .result .0) (t .output), t .partly .ready .size), t)
 
 same-length-2 : tie.Need-same-length-2 Inv-loop μ-loop

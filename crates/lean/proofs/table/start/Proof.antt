@@ -6,7 +6,7 @@ use mathlib.Core.List.{List}
 use lib.ListN.{getD, set}
 use Rattle.memory.specs.Map.{elementsAt, rootsAt}
 use Rattle.netlist.specs.Elements.{outputOf}
-use Rattle.lean.specs.Table.{firstOf}
+use Rattle.lean.specs.Table.{startRoot}
 use Rattle.lean.proofs.KindLaws.{region-end}
 use Rattle.lean.proofs.TableLaws.{within-none, Starting, starting-low, starting-next}
 use Rattle.lean.proofs.table.start.Statement.{statement}
@@ -40,7 +40,7 @@ loop-again c =
     let n = starting-next (s .args .work .now) (l .work) (s .args .elements) (l .n) (l .i) (s .pre .0) (s .pre .1 .0) (s .pre .1 .1) (r .before .before .before .loop-test .taken) (l .inv .1) in (
       omega arith,
       subst (λ (x : List ℕ). Starting (s .args .work .now) (s .args .elements) x (r .start-one .result) (l .i + 1)) (sym (r .start-one .ensures .1))
-          (subst (λ (x : ℕ). Starting (s .args .work .now) (s .args .elements) (set (l .work) (rootsAt + outputOf k (l .n)) (firstOf (l .work) k (l .n))) x (l .i + 1)) (sym (r .start-one .ensures .0)) n),
+          (subst (λ (x : ℕ). Starting (s .args .work .now) (s .args .elements) (set (l .work) (rootsAt + outputOf k (l .n)) (startRoot (l .work) k (l .n))) x (l .i + 1)) (sym (r .start-one .ensures .0)) n),
     )
 
 same-length : tie.Need-same-length Inv-loop μ-loop

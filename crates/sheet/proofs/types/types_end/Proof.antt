@@ -1,6 +1,6 @@
 -- `sheet::types_end` meets its contract, by the record. Assumes nothing.
 use mathlib.Core.Path.{sym, _∙_}
-use Rattle.sheet.specs.Said.{endOf}
+use Rattle.sheet.specs.Said.{typesEnd}
 use Rattle.sheet.proofs.TypesLaws.{end-none}
 use borrow.Author.Needs.{needs}
 use Rattle.sheet.proofs.types.types_end.Statement.{statement}
@@ -16,7 +16,7 @@ no-types-requires : tie.Need-no-types-requires
 no-types-requires c κs = search needs
 
 returns-2 : tie.Need-returns-2
-unfolding endOf
+unfolding typesEnd
 returns-2 c = c .no-types .ensures ∙ rw (c .before .before .r .given .1)
 
 pub types-end-spec : {M : Type 1} → statement M

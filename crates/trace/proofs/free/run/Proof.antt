@@ -3,7 +3,7 @@ use native.Mathlib.Omega.{arith}
 use mathlib.Core.Path.{_≡_, refl}
 use Prim.Native.Nat.{ℕ, _-_, _*_, _≤_}
 use borrow.Author.Needs.{needs}
-use Rattle.trace_steps.specs.Pins.{ins}
+use Rattle.trace_steps.specs.Pins.{inPinCount}
 use Rattle.trace.proofs.FreeLaws.{said-no, said-yes, mul-few, pins₁, ins-few₁, freed-20, freed-17, wake-ready, run-ready, freed-written}
 use Rattle.trace.proofs.free.run.Statement.{statement}
 use Rattle.trace.proofs.free.run.Tie as tie
@@ -13,7 +13,7 @@ input-pins-requires c κs =
     let s = c .before .before .before .before .before .before .before .before .before in
     let a = s .args in
     let g = c .before .before .before .registers in
-    pins₁ (a .work .now) (a .end) (a .settled) (a .pins) (a .ticks) (a .inputs .now) (a .starts .now) (a .out .now) (s .pre) (g .last .0) (g .result) (g .ensures) (ins (g .last .0) (a .pins)) refl
+    pins₁ (a .work .now) (a .end) (a .settled) (a .pins) (a .ticks) (a .inputs .now) (a .starts .now) (a .out .now) (s .pre) (g .last .0) (g .result) (g .ensures) (inPinCount (g .last .0) (a .pins)) refl
 
 sub-outs : tie.Need-sub-outs
 sub-outs c =

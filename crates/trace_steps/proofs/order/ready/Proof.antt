@@ -4,7 +4,7 @@ use mathlib.Core.Path.{ap, sym, subst, _∙_}
 use Prim.Native.Nat.{ℕ, _≤_, _<_}
 use mathlib.Core.Bool.{Bool, true, false, _&&_}
 use lib.ListN.{length, getD}
-use Rattle.trace_steps.specs.Steps.{fed, firstIn}
+use Rattle.trace_steps.specs.Steps.{inputBit, firstIn}
 use Rattle.trace_steps.proofs.Laws.{first-low, all-yes, all-no, both-fed}
 use Rattle.trace_steps.proofs.order.ready.Statement.{statement}
 use Rattle.trace_steps.proofs.order.ready.Tie as tie

@@ -7,9 +7,9 @@ use Prim.Native.Nat.{ℕ, _≤_, _<_, _-_, _+_, _*_}
 use mathlib.Core.List.{List}
 use lib.ListN.{length, getD, set, drop}
 use Rattle.lean.proofs.TableLaws.{within-none}
-use Rattle.trace_calculus.specs.Trace.{allBits, byte}
-use Rattle.trace_steps.specs.Turns.{turns}
-use Rattle.trace_steps.specs.Pins.{ins, outs}
+use Rattle.trace_calculus.specs.Trace.{allBits, bitByte}
+use Rattle.trace_steps.specs.Turns.{takeTurns}
+use Rattle.trace_steps.specs.Pins.{inPinCount, outPinCount}
 use Rattle.trace_steps.proofs.PinLaws.{load-yes, load-no, load-room, store-yes, store-no, store-room, ins-yes, ins-no, bits-more, bits-not, bits-all, load-low, pin-low, ins-few, lit-yes, lit-no, ins-step, ins-skip}
 use Rattle.trace_steps.proofs.pins.all_bits.Statement.{statement}
 use Rattle.trace_steps.proofs.pins.all_bits.Tie as tie

@@ -7,15 +7,15 @@ use Prim.Native.Nat.{ℕ, _≤_, _<_, _-_, _+_, _*_}
 use mathlib.Core.List.{List}
 use lib.ListN.{length, getD, set, drop}
 use Rattle.lean.proofs.TableLaws.{within-none}
-use Rattle.trace_calculus.specs.Trace.{allBits, byte}
-use Rattle.trace_steps.specs.Turns.{turns}
-use Rattle.trace_steps.specs.Pins.{ins, outs}
+use Rattle.trace_calculus.specs.Trace.{allBits, bitByte}
+use Rattle.trace_steps.specs.Turns.{takeTurns}
+use Rattle.trace_steps.specs.Pins.{inPinCount, outPinCount}
 use Rattle.trace_steps.proofs.PinLaws.{load-yes, load-no, load-room, store-yes, store-no, store-room, ins-yes, ins-no, bits-more, bits-not, bits-all, load-low, pin-low, ins-few, lit-yes, lit-no, ins-step, ins-skip}
 use Rattle.trace_steps.proofs.pins.input_pins.Statement.{statement}
 use Rattle.trace_steps.proofs.pins.input_pins.Tie as tie
 
 abbrev Inv-loop : tie.InvT-loop
-Inv-loop work pins n₀ k₀ n k = (k ≤ pins) × (n ≡ ins work k)
+Inv-loop work pins n₀ k₀ n k = (k ≤ pins) × (n ≡ inPinCount work k)
 
 abbrev μ-loop : tie.MeasureT-loop
 μ-loop work pins n₀ k₀ n k = pins - k
@@ -52,7 +52,7 @@ returns c =
     let l = c .before .loop in
     let s = c .before .before .before in
     let e : l .k ≡ s .args .pins = omega arith in
-    l .inv .1 ∙ ap (ins (s .args .work .now)) e
+    l .inv .1 ∙ ap (inPinCount (s .args .work .now)) e
 
 pub input-pins-spec : {M : Type 1} → statement M
 input-pins-spec =

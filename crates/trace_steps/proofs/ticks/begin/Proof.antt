@@ -8,15 +8,15 @@ use mathlib.Core.List.{List}
 use lib.ListN.{length, getD, set}
 use Rattle.lean.specs.Table.{Within}
 use Rattle.lean.proofs.TableLaws.{within-none, within-then, within-set}
-use Rattle.trace_calculus.specs.Trace.{byte}
-use Rattle.trace_steps.specs.Turns.{turns}
+use Rattle.trace_calculus.specs.Trace.{bitByte}
+use Rattle.trace_steps.specs.Turns.{takeTurns}
 use Rattle.trace_steps.specs.Steps.{beginOne}
 use Rattle.trace_steps.proofs.Laws.{turns-next, turns-all, looks-within, ordered-at, register-at}
 use Rattle.trace_steps.proofs.ticks.begin.Statement.{statement}
 use Rattle.trace_steps.proofs.ticks.begin.Tie as tie
 
 abbrev Inv-loop : tie.InvT-loop
-Inv-loop work₀ end x₀ work x = (x ≤ end) × (Within work₀ work × (work ≡ turns beginOne x 0 work₀))
+Inv-loop work₀ end x₀ work x = (x ≤ end) × (Within work₀ work × (work ≡ takeTurns beginOne x 0 work₀))
 
 abbrev μ-loop : tie.MeasureT-loop
 μ-loop work₀ end x₀ work x = end - x
@@ -53,7 +53,7 @@ loop-again c =
       omega arith,
       (
         within-then (l .inv .1 .0) (within-set (l .work) (l .x) (c .byte .result) (omega arith)),
-        ap (λ (v : ℕ). set (l .work) (19072 + l .x) v) (c .byte .ensures ∙ ap (λ (k : ℕ). byte (eqb k 65526)) (c .before .at .ensures)) ∙ turns-next beginOne (l .x) (a .work .now) (l .work) (l .inv .1 .1),
+        ap (λ (v : ℕ). set (l .work) (19072 + l .x) v) (c .byte .ensures ∙ ap (λ (k : ℕ). bitByte (eqb k 65526)) (c .before .at .ensures)) ∙ turns-next beginOne (l .x) (a .work .now) (l .work) (l .inv .1 .1),
       ),
     )
 

@@ -7,15 +7,15 @@ use mathlib.Core.List.{List}
 use lib.ListN.{length, getD, set}
 use Rattle.lean.specs.Table.{Within}
 use Rattle.lean.proofs.TableLaws.{within-none, within-then, within-set}
-use Rattle.trace_calculus.specs.Trace.{byte}
-use Rattle.trace_steps.specs.Turns.{turns}
+use Rattle.trace_calculus.specs.Trace.{bitByte}
+use Rattle.trace_steps.specs.Turns.{takeTurns}
 use Rattle.trace_steps.specs.Steps.{turnOne, turnAt, Register}
 use Rattle.trace_steps.proofs.Laws.{loop-step, turn-within, turns-all, looks-within, ordered-at, register-at}
 use Rattle.trace_steps.proofs.ticks.turn.Statement.{statement}
 use Rattle.trace_steps.proofs.ticks.turn.Tie as tie
 
 abbrev Inv-loop : tie.InvT-loop
-Inv-loop work₀ regs j₀ work j = (j ≤ regs) × (Within work₀ work × (work ≡ turns turnOne j 0 work₀))
+Inv-loop work₀ regs j₀ work j = (j ≤ regs) × (Within work₀ work × (work ≡ takeTurns turnOne j 0 work₀))
 
 abbrev μ-loop : tie.MeasureT-loop
 μ-loop work₀ regs j₀ work j = regs - j

@@ -5,14 +5,14 @@ use Prim.Native.Nat.{_≤_, _-_, _+_, _*_}
 use lib.ListN.{length, take, getD}
 use lib.Seq.{take-all}
 use Rattle.export_calculus.specs.Verilog.{filled}
-use Rattle.lines.specs.Wrote.{Wrote}
+use Rattle.lines.specs.Wrote.{WroteText}
 use Rattle.lines.proofs.Stores.{wrote-two, wrote-length}
 use Rattle.verilog.proofs.Filling.{letter-few, filled-more}
 use Rattle.verilog.proofs.form.put_form.Statement.{statement}
 use Rattle.verilog.proofs.form.put_form.Tie as tie
 
 abbrev Inv-loop : tie.InvT-loop
-Inv-loop out₀ from form x y z at₀ i₀ out at i = (i ≤ length form) × ((at ≤ from + 4 * i) × Wrote out₀ from (filled (take i form) x y z) out at)
+Inv-loop out₀ from form x y z at₀ i₀ out at i = (i ≤ length form) × ((at ≤ from + 4 * i) × WroteText out₀ from (filled (take i form) x y z) out at)
 
 abbrev μ-loop : tie.MeasureT-loop
 μ-loop out₀ from form x y z at₀ i₀ out at i = length form - i
