@@ -31,7 +31,7 @@ use Rattle.trace_rings.specs.Rings.{mark, rest, met, InputOf, Behind, first, fu
 use Rattle.trace.specs.Tables.{Tabled, Looking}
 use Rattle.trace.proofs.ElementLaws.{in-terminal, terminal-in, made-within, within-made, input-not-out}
 use Rattle.trace.proofs.GateLaws.{Input, at-a-pin, at-a-wire, input, input-low, input-before, Gate, one, two, gate-at, input-made, gate-looks, before-input, input-look, out-cases}
-use Rattle.trace.proofs.OrderLaws.{Start, Stage, End}
+use Rattle.trace.proofs.OrderLaws.{OrderStart, Stage, End}
 
 ring-back : (m : Net) (ok : Formed m) (x : ℕ) → OnRing m x → Back (before m) x x
 unfolding onRing
@@ -143,7 +143,7 @@ module _ (u : List ℕ) (m : Net) (end pins total : ℕ) (g : Ground u m end pin
   loose : (x : ℕ) → T (has (terminals es) x) → Looking (getD u x 0) → mark u x ≡ 1 → ⊥
   loose x h l e = let z = g .marks x (t .low x h) ∙ ap bitByte (not-free x (low x h) l) in omega arith
 
-  pub start : Start u total
+  pub start : OrderStart u total
   start = record {
     size = t .size;
     few = g .few;
