@@ -15,10 +15,10 @@ use Rattle.calculus.specs.Answer.{Answer, good, refused, refuse}
 use Rattle.calculus.specs.Net.{Element, point, part, Net}
 use Rattle.calculus.specs.Terms.{partAt}
 use Rattle.calculus.specs.Inputs.{madeAt, targets, isOut}
-use Rattle.calculus.specs.Record.{Among}
+use Rattle.calculus.specs.Record.{Among, here as in-here, there as in-there}
 use Rattle.circuit_theorems.specs.Terminals.{has}
 use Rattle.circuit_theorems.specs.Formed.{Formed}
-use Rattle.trace_calculus.specs.Trace.{here as in-here, there as in-there, Source, from, source, looks, before, terminals, upFrom, inputs, rounds, OnRing, onRing, noneOnRing, bitByte}
+use Rattle.trace_calculus.specs.Trace.{Source, from, source, looks, before, terminals, upFrom, inputs, rounds, OnRing, onRing, noneOnRing, bitByte}
 use Rattle.trace_theorems.proofs.Graph.{Back, last, step, longer, settled, settled-up, settled-free, allOf, all-at, all-settled, reach-back}
 use Rattle.trace_theorems.proofs.Sources.{closed, terminal-is, out-terminal, at-pin, Decided, is-pin, is-wire, is-point, is-part, decided, in-all, looks-at, has-left, has-right, has-append, up-has, has-up}
 use Rattle.trace_theorems.proofs.TraceRings.{on-ring, back-ring, runs-iff, accepted, Lowest, ring-place}
