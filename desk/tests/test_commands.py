@@ -374,6 +374,10 @@ class Everywhere(unittest.TestCase):
             said = run.stderr.read()
             self.assertEqual((run.wait(), said), (141, b""))
 
+    def test_json_is_alone_on_standard_output(self):
+        for words in (["translate", P3, "-o", "-"], ["verilog", P3, "-o", "-"], ["run", P3, "--ticks", "1", "--vcd", "-"]):
+            self.assertEqual(command(*words, "--json")[:2], (2, ""), words)
+
     def test_output_that_nobody_takes(self):
         with open("/dev/full", "wb") as full:
             run = subprocess.run([DESK, "listing", P3], stdout=full, stderr=subprocess.PIPE)

@@ -45,6 +45,8 @@ def main(words: Optional[Sequence[str]] = None) -> int:
     if isinstance(sys.stdout, io.TextIOWrapper):
         sys.stdout.reconfigure(errors="backslashreplace")
     try:
+        if given.json and "-" in (getattr(given, "output", None), getattr(given, "vcd", None)):
+            raise WrongUse("--json and the file - would both go to standard output")
         status = given.run(given)
         sys.stdout.flush()
         return status
