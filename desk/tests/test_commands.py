@@ -10,7 +10,7 @@ from pathlib import Path
 from unittest import mock
 
 import deltawobble
-from deltawobble import Netlist, calls, cli, make
+from deltawobble import Netlist, calls, cli, files, make
 from deltawobble.words import RULES
 
 from .support import EXAMPLES, ROOT, command, example, examples, needs, needs_card, needs_nodes
@@ -86,17 +86,58 @@ class Translate(Folder):
         self.assertEqual(command("translate", "-", given=bytes(20000))[0], 1)
         self.assertEqual(command("translate", self.path("none"))[0], 2)
         self.assertEqual(command("translate", self.made.name)[0], 2)
-        for text in (b"hello world\n", b"01 0G 00\n", b"01 1A 0\n"):
+        for text in (b"hello be nice\n", b"01 0G 00\n", b"01 1A 0\n"):
             status, _, err = command("translate", "-", given=text)
             self.assertEqual(status, 2, text)
             self.assertIn("is no hex byte", err)
 
     def test_empty_is_refused_3(self):
+        self.assertIn("refused 3", command("translate", "-", given=b"")[2])
         for data in (b"", b"\n", b"# nothing\n"):
-            self.assertIn("refused 3", command("translate", "-", given=data)[2])
+            self.assertIn("refused 3", command("translate", self.path("none.hex", data))[2])
 
     def test_output_that_cannot_be_written(self):
         self.assertEqual(command("translate", P3, "-o", self.path("no") + "/net")[0], 2)
+
+
+class Forms(Folder):
+    """Which files are raw bytes, commented hex and notation (docs/DESK.md)."""
+
+    def test_raw_bytes_that_are_signs_of_a_text_have_their_own_answer(self):
+        for data, out in (("20 20 20", "refused 4 0\n"), ("31", "refused 3 1\n"), ("3D", "refused 4 0\n"), ("31 3D", "refused 4 1\n"),
+                          ("0A", "refused 4 0\n")):
+            for name in ("given", "given.sheet", "given.bin"):
+                self.assertEqual(command("listing", self.path(name, bytes.fromhex(data)))[:2], (1, out), (name, data))
+            self.assertEqual(command("listing", "-", given=bytes.fromhex(data))[:2], (1, out), data)
+        for data in ("23 20 20 20 20", "24 20 20", "24 31 31 24 31 31", "24 20 20 24 31 31"):
+            for name in ("given", "given.net", "given.bin"):
+                for word in ("check", "back"):
+                    self.assertIn("refused 22 at offset 0", command(word, self.path(name, bytes.fromhex(data)))[2], (word, name, data))
+
+    def test_the_name_says_which(self):
+        text = b"01 1A 00 00 # zero\n"
+        for name in ("x", "x.txt", "x.hex"):
+            self.assertEqual(command("listing", self.path(name, text))[1].splitlines()[0], "full", name)
+        for name in ("x.sheet", "x.bin", "x.net"):
+            self.assertEqual(command("listing", self.path(name, text))[1].splitlines()[0], "refused 4 0", name)
+        self.assertIn("no word of the notation", command("listing", self.path("x.dw", text))[2])
+        for name in ("y", "y.txt", "y.dw"):
+            self.assertEqual(command("listing", self.path(name, b"main\n  = zero\n"))[0], 0, name)
+        self.assertIn("is no hex byte", command("listing", self.path("y.hex", b"main = zero\n"))[2])
+        self.assertIn("no notation", command("check", self.path("y.dw"))[2])
+
+    def test_a_text_by_its_name_that_is_none(self):
+        for name in ("x.hex", "x.dw"):
+            status, _, err = command("listing", self.path(name, example("P3")))
+            self.assertEqual(status, 2)
+            self.assertIn("this is no text", err)
+        self.assertIn("no definition of main", command("listing", self.path("x.dw", b""))[2])
+
+    def test_a_text_that_is_neither_says_so(self):
+        for text in (b"hello world\n", b"fun x : 1. x\n"):
+            status, _, err = command("translate", "-", given=text)
+            self.assertEqual(status, 1)
+            self.assertIn("look at: all its bytes are signs of a text", err)
 
 
 class Where(unittest.TestCase):
@@ -142,6 +183,22 @@ class Batch(Folder):
         status, out, _ = command("batch", "--json", P3, wrong, P8)
         self.assertEqual((status, [d["accepted"] for d in json.loads(out)]), (2, [True, None, False]))
         self.assertEqual(command("batch", self.made.name.replace("tmp", "tmp", 1))[0], 2)
+
+    def test_two_sheets_with_one_netlist_are_wrong_use(self):
+        os.mkdir(self.path("a"))
+        os.mkdir(self.path("b"))
+        names, out = [self.path(name, b"01 1A 00 00\n") for name in ("a/x.hex", "b/x.hex", "b/y.hex")], self.path("out")
+        status, said, err = command("batch", *names, "-o", out)
+        self.assertEqual((status, said, Path(out).exists()), (2, "", False))
+        self.assertIn("%s and %s would both be written to" % tuple(names[:2]), err)
+        self.assertEqual(command("batch", *names)[0], 0)
+        self.assertEqual(command("batch", *names[1:], "-o", out)[0], 0)
+        self.assertEqual(sorted(path.name for path in Path(out).iterdir()), ["x.net", "y.net"])
+
+    def test_a_folder_that_is_none(self):
+        self.assertEqual(command("batch", P3, "-o", self.path("x", b"kept"))[0], 2)
+        self.assertEqual(Path(self.path("x")).read_bytes(), b"kept")
+        self.assertIn("only one sheet", command("batch", "-", "-")[2])
 
     def test_an_empty_folder(self):
         os.mkdir(self.path("empty"))
@@ -203,6 +260,20 @@ class Check(Folder):
         self.assertEqual(json.loads(command("check", "--json", "-", given=bytes.fromhex("2100"))[1])["number"], 21)
 
 
+    def test_a_long_netlist(self):
+        net = bytes.fromhex("210000 240000") + bytes.fromhex("240100") * 1398200
+        self.assertGreater(len(net), 1 << 22)
+        status, out, _ = command("check", self.path("long.net", net))
+        self.assertEqual((status, out), (0, "accepted: 1 points, 0 parts, 0 wires, 1398201 pins\n"))
+
+    def test_no_more_is_read_than_the_words_say(self):
+        with mock.patch.object(files, "MOST", 5):
+            status, _, err = command("check", self.path("x.net", bytes(6)))
+        self.assertEqual(status, 2)
+        self.assertIn("x.net: the desk reads no more than 5 bytes of a file", err)
+        self.assertNotIn("no netlist", err)
+
+
 @needs("back")
 class Back(Folder):
     def test_there_and_back(self):
@@ -243,6 +314,37 @@ class Inline(Folder):
         for start in (b"\0", b"\1"):
             self.assertEqual(calls.run(sheet, b"\0\1\1\0", start, 4), calls.run(put_in(sheet, 1), b"\0\1\1\0", start, 4))
 
+    def test_a_sheet_on_the_way_beyond_the_limits(self):
+        # f's argument put in first stands 66 deep, and 64 in the end, when g's has been put in too; in the other order no sheet is too deep
+        inverters = "inv (" * 30 + "%s" + ")" * 30
+        text = "main = (fun f : 1 -> 1. %s) (fun y : 1. (fun g : 1 -> 1. %s) reg)" % (inverters % "f zero", inverters % "g y")
+        status, out, err = command("inline", "--all", "-", given=text.encode())
+        self.assertEqual((status, out), (1, ""))
+        self.assertIn("-, step 1, node 0 put in: refused 8 at offset ", err)
+        said = json.loads(command("inline", "--all", "--json", "-", given=text.encode())[1])
+        self.assertEqual((said["accepted"], said["number"], said["put_in"]), (False, 8, [0]))
+        said = json.loads(command("inline", "--all", "--node", "66", "--json", "-", given=text.encode())[1])
+        self.assertEqual((said["accepted"], said["put_in"]), (True, [66, 0]))
+
+    def test_the_help_says_what_is_proved_and_what_is_tested(self):
+        said = " ".join(command("inline", "--help")[1].split())
+        self.assertIn("that this is harmless is proved, for first-edition sheets; the rewriting done here is tested", said)
+
+    def test_each_sheet_on_the_way_is_asked_for(self):
+        asked, one = [], calls.translate
+
+        def noted(sheet, **wishes):
+            asked.append(sheet)
+            return one(sheet, **wishes)
+        with mock.patch.object(calls, "translate", noted):
+            said = json.loads(command("inline", "--all", "--json", str(EXAMPLES / "chain-two.hex"))[1])
+        self.assertEqual(len(said["put_in"]), 2)
+        self.assertEqual((len(set(asked)), asked[-1].hex()), (3, said["sheet"]))
+
+    def test_json_and_a_file(self):
+        said = json.loads(command("inline", "--json", P3, "-o", self.path("p3.sheet"))[1])
+        self.assertEqual(said["sheet"], Path(self.path("p3.sheet")).read_bytes().hex())
+
     def test_wrong(self):
         self.assertEqual(command("inline", P6)[0], 2)
         self.assertEqual(command("inline", "--node", "4", P3)[0], 2)
@@ -271,6 +373,21 @@ class Everywhere(unittest.TestCase):
             run.stdout.close()
             said = run.stderr.read()
             self.assertEqual((run.wait(), said), (141, b""))
+
+    def test_json_is_alone_on_standard_output(self):
+        for words in (["translate", P3, "-o", "-"], ["verilog", P3, "-o", "-"], ["run", P3, "--ticks", "1", "--vcd", "-"]):
+            self.assertEqual(command(*words, "--json")[:2], (2, ""), words)
+
+    def test_output_that_nobody_takes(self):
+        with open("/dev/full", "wb") as full:
+            run = subprocess.run([DESK, "listing", P3], stdout=full, stderr=subprocess.PIPE)
+        self.assertEqual(run.returncode, 2)
+        self.assertNotIn(b"Traceback", run.stderr)
+
+    def test_signs_that_a_terminal_has_not(self):
+        for words, given, status in ((["explain", "-"], "main = fun f : 1 → 1. one", 1), (["batch", b"none-\xff.hex"], "", 2)):
+            run = subprocess.run([DESK, *words], input=given.encode(), env=dict(os.environ, PYTHONIOENCODING="ascii"), capture_output=True)
+            self.assertEqual((run.returncode, b"Traceback" in run.stderr, run.stdout[-1:]), (status, False, b"\n"), run.stderr)
 
     def test_every_number_has_a_sentence(self):
         self.assertEqual(sorted(RULES), list(range(1, 30)))

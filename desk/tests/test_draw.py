@@ -1,6 +1,7 @@
 """draw: pictures are made and well formed; without Graphviz the command says what is missing."""
 from __future__ import annotations
 
+import json
 import shutil
 import struct
 import tempfile
@@ -70,3 +71,19 @@ class Drawing(unittest.TestCase):
         self.assertIn("refused 13", err)
         self.assertEqual(command("draw", str(EXAMPLES / "fault-cut.hex"))[:2], (1, ""))
         self.assertEqual(command("draw", str(EXAMPLES / "fault-terminals.hex"))[0], 1)
+
+    def test_json_of_a_refused_drawing_has_number_and_place(self):
+        for name, number, place in (("fault-cut", 3, 16), ("P8", 13, 4), ("fault-terminals", 16, 0)):
+            for words in ([], ["-o", self.path("x.dot")]):
+                status, out, _ = command("draw", "--json", str(EXAMPLES / (name + ".hex")), *words)
+                said = json.loads(out)
+                self.assertEqual((status, said["accepted"], said["number"], said["place"]), (1, False, number, place), name)
+        status, out, _ = command("draw", "--json", "-", given=b"\x01")
+        self.assertEqual((status, json.loads(out)["number"]), (1, 3))
+
+    def test_json_of_a_drawing(self):
+        name = str(EXAMPLES / "P3.hex")
+        said = json.loads(command("draw", "--json", name)[1])
+        self.assertEqual((said["accepted"], said["file"], said["output"], said["dot"]), (True, name, None, command("draw", name)[1]))
+        said = json.loads(command("draw", "--json", name, "-o", self.path("x.dot"))[1])
+        self.assertEqual((said["output"], said["bytes"]), (self.path("x.dot"), Path(self.path("x.dot")).stat().st_size))

@@ -136,6 +136,10 @@ class Explain(unittest.TestCase):
             if refused:
                 self.assertTrue(any(line.startswith("look at: ") for line in lines), name)
 
+    def test_no_record_before_it_may_be_too_short_where_there_is_none(self):
+        for data, hint in (("00", False), ("31 00", False), ("01 00", True)):
+            self.assertEqual("the record before it may be too short" in deltawobble.explain(bytes.fromhex(data)), hint, data)
+
     def test_which_limit(self):
         edges = fault_reports.edges()
         for name, words in (("nodes-2049", "the 2049th node"), ("depth-65", "depth 65"), ("size-129", "129 single bits"),
@@ -157,7 +161,12 @@ class Command(unittest.TestCase):
         status, out, _ = command("explain", "--json", str(EXAMPLES / "fault-misfit.hex"))
         said = json.loads(out)
         self.assertEqual((status, said["number"], said["place"], said["wanted"], said["found"]), (1, 12, 2, 0, 1))
-        self.assertEqual((said["wanted_words"], said["found_words"]), ("type 0: 1", "type 1: 1 -> 1"))
+        self.assertEqual((said["wanted_words"], said["found_words"], said["form"]), ("type 0: 1", "type 1: 1 -> 1", False))
+
+    def test_json_of_a_form(self):
+        for word in ("explain", "translate", "listing"):
+            said = json.loads(command(word, "--json", str(EXAMPLES / "P11.hex"))[1])
+            self.assertEqual((said["number"], said["wanted"], said["form"], said["found"]), (12, 256, True, 0))
 
 
 class Exception_(unittest.TestCase):

@@ -137,6 +137,52 @@ class Running(unittest.TestCase):
         self.assertIn("period 1:", command("run", lfsr, "--period")[1])
         self.assertIn("period 255:", command("run", str(EXAMPLES / "shift-register-8.hex"), "--ticks", "600", "--starts", "10000000", "--period")[1])
 
+    def test_period_says_the_starts_and_the_ticks_looked_through(self):
+        lfsr = str(EXAMPLES / "lfsr-16.dw")
+        note = "registers start with 0"
+        self.assertIn(note, command("run", lfsr, "--period")[2])
+        self.assertNotIn(note, command("run", lfsr, "--period", "--starts", "0" * 16)[2])
+        self.assertNotIn(note, command("run", ADDER, "--period")[2])
+        said = json.loads(command("run", lfsr, "--period", "--json", "--starts", "0000000000000001")[1])
+        self.assertEqual((said["accepted"], said["period"], said["looked"], said["starts"]), (True, 65535, 65535, [0] * 15 + [1]))
+        status, out, _ = command("run", "-", "--period", given=b"main = reg one")
+        self.assertEqual((status, out), (0, "no period found: in the 1114078 ticks looked through the registers do not show their starts again\n"))
+        said = json.loads(command("run", "-", "--ticks", "7", "--period", "--json", "--starts", "1", given=b"main = fix x : 1. reg (inv x)")[1])
+        self.assertEqual((said["period"], said["looked"], len(said["ticks"])), (2, 7, 7))
+        self.assertIn("in the 7 ticks looked through", said["words"])
+
+    def test_period_alone_draws_nothing(self):
+        for more in (["--waves"], ["--vcd", "none.vcd"]):
+            self.assertEqual(command("run", str(EXAMPLES / "lfsr-16.dw"), "--period", *more)[0], 2)
+        self.assertIn("\ntick", command("run", str(EXAMPLES / "sticky.dw"), "--ticks", "3", "--period", "--waves")[1])
+
+    def test_the_period_is_the_smallest(self):
+        rng = random.Random(4)
+        for _ in range(300):
+            bits = bytes(rng.randrange(2) for _ in range(rng.randrange(1, 9))) * rng.randrange(1, 4)
+            bits = bits[:rng.randrange(1, len(bits) + 1)]
+            wanted = next((p for p in range(1, len(bits)) if all(bits[t] == bits[t % p] for t in range(len(bits)))), None)
+            self.assertEqual(Run([], ["out"], [(b"", bytes([b])) for b in bits]).period().ticks, wanted, bits)
+
+    def test_ticks_and_a_trace(self):
+        self.assertEqual(len(json.loads(self.given("110\n111\n000\n", "--ticks", "2", "--json")[1])["ticks"]), 2)
+        status, _, err = self.given("110\n111\n", "--ticks", "3")
+        self.assertEqual(status, 2)
+        self.assertIn("-: the trace has 2 ticks, and --ticks asks for 3", err)
+        self.assertEqual(self.given("110\n", "--ticks", "-1")[0], 2)
+        self.assertEqual(command("run", ADDER, "--ticks", str(10 ** 12))[0], 2)
+        self.assertEqual(self.given("000\n" * 65536)[0], 2)
+        self.assertEqual(self.given("000\n" * 65536, "--ticks", "1")[0], 0)
+        self.assertIn("the first N of the trace", " ".join(command("run", "--help")[1].split()))
+
+    def test_a_long_trace(self):
+        wide = "fun x : t. x".join(["type t = " + " * ".join("1" * 64) + "\nmain = ", ""])
+        with tempfile.TemporaryDirectory() as folder:
+            path = Path(folder) / "long.trace"
+            path.write_text(("0" * 64 + "\n") * 65535)
+            self.assertGreater(path.stat().st_size, 1 << 22)
+            self.assertEqual(command("run", "-", str(path), "--period", given=wide.encode())[0], 0)
+
     def test_no_period_of_what_may_not_run(self):
         for sheet, more, number in (("P4.hex", [], 19), ("sticky.dw", ["--starts", "2"], 20)):
             status, _, err = command("run", str(EXAMPLES / sheet), *more, "--period")

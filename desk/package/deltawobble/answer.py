@@ -21,7 +21,7 @@ class Refused(Exception):
     def as_json(self) -> dict:
         said = {"accepted": False, "number": self.number, "place": self.place, "sentence": self.sentence}
         if self.number == 12:
-            said.update(wanted=None if self.wanted == FORM else self.wanted, found=self.found)
+            said.update(wanted=self.wanted, form=self.wanted == FORM, found=self.found)
         return said
 
 

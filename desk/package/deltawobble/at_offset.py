@@ -2,6 +2,7 @@
 from __future__ import annotations
 
 from .answer import Refused
+from .files import text_of
 from .sheet import BODY, SECOND, SUBTERMS, read_types
 from .types import Type
 
@@ -43,7 +44,7 @@ def _term_record(data: bytes, place: int, number: int, types: int) -> str:
     if number == 3:
         return "no term follows the types" if not nodes else "node %d still wants a subterm" % _waiting(nodes)
     if number == 4:
-        return _unknown_kind(data[place])
+        return _unknown_kind(data, place)
     if number == 5:
         return "the sheet has %d types, 0 to %d" % (types, types - 1) if types else "the sheet has no types"
     if number == 8:
@@ -53,13 +54,18 @@ def _term_record(data: bytes, place: int, number: int, types: int) -> str:
     return ""
 
 
-def _unknown_kind(kind: int) -> str:
+def _unknown_kind(data: bytes, place: int) -> str:
+    kind = data[place]
     if kind == 0x1B:
         return "1B is of the second edition: its sheets begin with 31"
     if kind == SECOND:
         return "31 opens a second-edition sheet, and stands nowhere but first"
     if 1 <= kind <= 4:
         return "type records stand before the term, and node 0 has begun it"
+    if text_of(data) is not None:
+        return "all its bytes are signs of a text: commented hex has a word such as 01, a notation has 'main = ..'"
+    if place <= int(data[0] == SECOND):
+        return ""
     return "the record before it may be too short or too long by a byte"
 
 

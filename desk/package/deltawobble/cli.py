@@ -5,7 +5,9 @@ Exit status: 0 accepted, 1 refused, 2 wrong use (130 after Ctrl-C, 141 where the
 from __future__ import annotations
 
 import argparse
+import functools
 import importlib
+import io
 import os
 import sys
 from typing import Optional, Sequence
@@ -19,6 +21,7 @@ from .terminal import paint
 COMMANDS = ("listing", "translate", "explain", "where", "batch", "verilog", "run", "check", "back", "inline", "draw", "show", "make")
 
 
+@functools.cache
 def parser() -> argparse.ArgumentParser:
     """The command's parser: each subcommand's help ends with an example."""
     top = argparse.ArgumentParser(
@@ -38,7 +41,12 @@ def parser() -> argparse.ArgumentParser:
 def main(words: Optional[Sequence[str]] = None) -> int:
     """Runs the command and gives its exit status."""
     given = parser().parse_args(words)
+    # a name of a file, or a line of a notation, may have signs that the terminal has not
+    if isinstance(sys.stdout, io.TextIOWrapper):
+        sys.stdout.reconfigure(errors="backslashreplace")
     try:
+        if given.json and "-" in (getattr(given, "output", None), getattr(given, "vcd", None)):
+            raise WrongUse("--json and the file - would both go to standard output")
         status = given.run(given)
         sys.stdout.flush()
         return status
@@ -55,6 +63,14 @@ def main(words: Optional[Sequence[str]] = None) -> int:
         print("deltawobble: stopped", file=sys.stderr)
         return 130
     except BrokenPipeError:
-        # the reader has gone; what is left in the buffer goes nowhere
-        os.dup2(os.open(os.devnull, os.O_WRONLY), sys.stdout.fileno())
+        drop_output()
         return 141
+    except OSError as error:
+        print("deltawobble: %s" % error, file=sys.stderr)
+        drop_output()
+        return 2
+
+
+def drop_output() -> None:
+    """Nobody takes standard output any more: what is left in the buffer goes nowhere."""
+    os.dup2(os.open(os.devnull, os.O_WRONLY), sys.stdout.fileno())

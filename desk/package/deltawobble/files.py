@@ -1,6 +1,7 @@
 """Files that people give: raw bytes, commented hex, or notation; `-` is standard input."""
 from __future__ import annotations
 
+import re
 import sys
 from dataclasses import dataclass
 from pathlib import Path
@@ -11,8 +12,19 @@ from .sheet import Own
 if TYPE_CHECKING:
     from .notation import Made
 
-#: more is read of no file: the proved call tells that a sheet is too long
-MOST = 1 << 22
+#: more is read of no file; a trace of 65,535 ticks and 128 pins has a quarter of it
+MOST = 1 << 26
+
+RAW, HEX, NOTATION = "raw bytes", "commented hex", "notation"
+#: names that say what a file is; elsewhere its content does
+BY_NAME = {".sheet": RAW, ".net": RAW, ".bin": RAW, ".hex": HEX, ".dw": NOTATION}
+#: what stands before the `=` of a definition
+DEFINES = re.compile(r"(?<![A-Za-z0-9_'])[A-Za-z_][A-Za-z0-9_']*+\s*+=")
+HEX_WORD = re.compile(r"(?:[0-9A-Fa-f]{2})+")
+#: bytes of a text below the blank
+BLANKS = b"\t\n\f\r"
+#: the kinds of a netlist's records, as signs, that no commented hex begins with: 23 is `#`
+KINDS = ("!", '"', "$", "%", "&")
 
 
 class WrongUse(Exception):
@@ -34,7 +46,8 @@ class Source:
 
     @property
     def stem(self) -> str:
-        return "sheet" if self.name == "-" else Path(self.name).stem
+        """What a picture calls it; bytes of a name that are no text are spelt out."""
+        return "sheet" if self.name == "-" else Path(self.name).stem.encode(errors="backslashreplace").decode()
 
 
 def raw(name: str) -> bytes:
@@ -48,18 +61,26 @@ def raw(name: str) -> bytes:
     except OSError as error:
         raise WrongUse("%s: %s" % (name, error.strerror)) from error
     if len(data) > MOST:
-        raise WrongUse("%s: more than %d bytes: this is no sheet, no netlist and no trace" % (name, MOST))
+        raise WrongUse("%s: the desk reads no more than %d bytes of a file, and here are more" % (name, MOST))
     return data
 
 
 def text_of(data: bytes) -> Optional[str]:
-    """The text, if these bytes are one: no sheet is, as the record 01 stands in its first two bytes."""
-    if any(b < 32 and b not in (9, 10, 12, 13) for b in data) or not data:
+    """The text, if these bytes are one. No accepted sheet is, as the record 01 stands in its first two bytes."""
+    if any(b < 32 for b in set(data) - set(BLANKS)):
         return None
     try:
         return data.decode("utf-8-sig")
     except UnicodeDecodeError:
         return None
+
+
+def need_text(name: str, data: bytes) -> str:
+    """The text of a file that can be nothing else."""
+    text = text_of(data)
+    if text is None:
+        raise WrongUse("%s: this is no text" % name)
+    return text
 
 
 def hex_bytes(name: str, text: str) -> bytes:
@@ -79,32 +100,38 @@ def hex_bytes(name: str, text: str) -> bytes:
     return bytes(found)
 
 
-def is_notation(name: str, text: str) -> bool:
-    """A file .dw is notation and a file .hex is none; elsewhere a `=` outside comments tells."""
-    if name.endswith((".dw", ".hex")):
-        return name.endswith(".dw")
-    return any("=" in line.split("#")[0].split("--")[0] for line in text.splitlines())
+def has_hex(text: Optional[str]) -> bool:
+    """Whether a hex byte stands in a text outside comments."""
+    return any(HEX_WORD.fullmatch(word) for line in (text or "").splitlines() for word in line.split("#")[0].split())
+
+
+def has_definition(text: Optional[str]) -> bool:
+    """Whether a `NAME =` stands in a text outside comments, those of hex and those of the notation."""
+    return bool(DEFINES.search("\n".join(line.split("#")[0].split("--")[0] for line in (text or "").splitlines())))
 
 
 def read_net(name: str) -> Source:
-    """A netlist: commented hex where its text is that, else raw bytes. The kinds 21 to 24 are signs of a text too."""
-    data = raw(name)
-    text = text_of(data)
-    if text is None or (text[:1] in ("!", '"') and not name.endswith(".hex")):
-        return Source(name, data)
-    return Source(name, hex_bytes(name, text))
+    """A netlist: raw bytes or commented hex, by its name or else by what is in it."""
+    data, form = raw(name), BY_NAME.get(Path(name).suffix)
+    if form is NOTATION:
+        raise WrongUse("%s: a netlist is raw bytes or commented hex, and no notation" % name)
+    if form is None:
+        text = text_of(data)
+        form = HEX if has_hex(text) and not (text or "").startswith(KINDS) else RAW
+    return Source(name, data if form is RAW else hex_bytes(name, need_text(name, data)))
 
 
 def read(name: str) -> Source:
-    """A sheet: raw bytes, commented hex, or notation, told apart by what is in it."""
-    data = raw(name)
-    text = text_of(data)
-    if text is None:
-        if name.endswith(".dw") and data:
-            raise WrongUse("%s: this is no text" % name)
+    """A sheet: raw bytes, commented hex or notation, by its name or else by what is in it."""
+    data, form = raw(name), BY_NAME.get(Path(name).suffix)
+    if form is None:
+        # a text that is neither is raw bytes: these have an answer of their own
+        text = text_of(data)
+        form = NOTATION if has_definition(text) else HEX if has_hex(text) else RAW
+    if form is RAW:
         return Source(name, data)
-    if not is_notation(name, text):
-        return Source(name, hex_bytes(name, text))
+    if form is HEX:
+        return Source(name, hex_bytes(name, need_text(name, data)))
     from .notation import make
-    made = make(text, name)
+    made = make(need_text(name, data), name)
     return Source(name, made.sheet, made)

@@ -4,6 +4,7 @@ from __future__ import annotations
 import sys
 from dataclasses import dataclass
 from itertools import groupby
+from typing import Optional
 
 from .files import WrongUse
 
@@ -48,6 +49,18 @@ def inputs_of(name: str, rows: list[Row], width: int) -> bytes:
 
 
 @dataclass
+class Period:
+    """After how many ticks something comes again, None where that was not seen; how many ticks were looked through; all in words."""
+
+    ticks: Optional[int]
+    looked: int
+    words: str
+
+    def as_json(self) -> dict:
+        return {"period": self.ticks, "looked": self.looked, "words": self.words}
+
+
+@dataclass
 class Run:
     """A run that was accepted: names and bits of the pins, in pin order, tick after tick."""
 
@@ -86,18 +99,30 @@ class Run:
                 lines.append("%*s  %s" % (name_wide, name, "".join(high if b else low for b in bits[at:at + step])))
         return lines
 
-    def period(self) -> str:
-        """When the row of outputs at tick 0 comes again."""
+    def period(self) -> Period:
+        """When the row of outputs at tick 0 comes again, and all rows behind it, as far as the run goes."""
         shown = [row[1] for row in self.rows]
+        ticks = len(shown)
         if not shown:
-            return "no tick, no period"
-        for p in range(1, len(shown)):
-            if shown[p] == shown[0] and all(shown[t] == shown[t % p] for t in range(p, len(shown))):
-                return "period %d: from tick %d on the outputs are those from tick 0 on" % (p, p)
+            return Period(None, 0, "no tick, no period")
+        p = ticks - border(shown)
+        if p < ticks:
+            return Period(p, ticks, "period %d: in the %d ticks looked through the outputs from tick %d on are those from tick 0 on" % (p, ticks, p))
         different = len(set(shown))
-        if different == len(shown):
-            return "no two of the %d ticks show the same outputs" % len(shown)
-        return "%d different outputs in %d ticks, and no period from tick 0 on" % (different, len(shown))
+        if different == ticks:
+            return Period(None, ticks, "no two of the %d ticks show the same outputs" % ticks)
+        return Period(None, ticks, "%d different outputs in %d ticks, and no period from tick 0 on" % (different, ticks))
+
+
+def border(rows: list[bytes]) -> int:
+    """How many rows the longest beginning has that is an end too, and not all (after Knuth, Morris and Pratt)."""
+    same = [0]
+    for row in rows[1:]:
+        k = same[-1]
+        while k and rows[k] != row:
+            k = same[k - 1]
+        same.append(k + (rows[k] == row))
+    return same[-1]
 
 
 def columns(names: list[str]) -> list[tuple[str, int]]:

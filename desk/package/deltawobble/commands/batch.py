@@ -36,12 +36,14 @@ class Done:
 
 def add(parser: argparse.ArgumentParser) -> None:
     parser.add_argument("sheets", nargs="+", help="files, or folders, of which all files .sheet, .hex and .dw are taken")
-    parser.add_argument("-o", metavar="FOLDER", dest="output", help="write each netlist to FOLDER/NAME.net")
+    parser.add_argument("-o", metavar="FOLDER", dest="output", help="write each netlist to FOLDER/NAME.net, a file for each sheet")
     wishes(parser)
 
 
 def run(given: argparse.Namespace) -> int:
     names = files(given.sheets)
+    if given.output:
+        make_folder(given.output, names)
     done: list[Done] = []
     bar = Progress(len(names), "sheets")
     try:
@@ -62,13 +64,41 @@ def files(words: list[str]) -> list[str]:
     names: list[str] = []
     for word in words:
         if Path(word).is_dir():
-            found = sorted(str(p) for p in Path(word).iterdir() if p.suffix in SUFFIXES)
+            found = in_folder(word)
             if not found:
                 raise WrongUse("%s: no file .sheet, .hex or .dw is in this folder" % word)
             names += found
         else:
             names.append(word)
+    if names.count("-") > 1:
+        raise WrongUse("only one sheet can come from standard input")
     return names
+
+
+def in_folder(folder: str) -> list[str]:
+    try:
+        return sorted(str(p) for p in Path(folder).iterdir() if p.suffix in SUFFIXES)
+    except OSError as error:
+        raise WrongUse("%s: %s" % (folder, error.strerror)) from error
+
+
+def net_name(folder: str, source: str) -> str:
+    """Where a sheet's netlist goes."""
+    return str(Path(folder) / (Path(source).stem + ".net"))
+
+
+def make_folder(folder: str, names: list[str]) -> None:
+    """The folder for the netlists. Two sheets whose netlists would be one file are wrong use: one would be lost."""
+    taken: dict[str, str] = {}
+    for name in names:
+        net = net_name(folder, name)
+        if net in taken:
+            raise WrongUse("%s and %s would both be written to %s: nothing is done" % (taken[net], name, net))
+        taken[net] = name
+    try:
+        Path(folder).mkdir(parents=True, exist_ok=True)
+    except OSError as error:
+        raise WrongUse("%s: %s" % (folder, error.strerror)) from error
 
 
 def translated(names: list[str], given: argparse.Namespace) -> list[Done]:
@@ -82,11 +112,9 @@ def translated(names: list[str], given: argparse.Namespace) -> list[Done]:
     good = [s for s in sources if isinstance(s, Source)]
     results = iter(calls.batch([s.bytes for s in good], lean=given.lean, plain=given.plain, card=given.card))
     done = [s if isinstance(s, Done) else Done(s.name, next(results)) for s in sources]
-    if given.output:
-        Path(given.output).mkdir(parents=True, exist_ok=True)
-        for d in done:
-            if isinstance(d.result, bytes):
-                write(str(Path(given.output) / (Path(d.source).stem + ".net")), d.result)
+    for d in done:
+        if given.output and isinstance(d.result, bytes):
+            write(net_name(given.output, d.source), d.result)
     return done
 
 

@@ -5,6 +5,7 @@ import argparse
 import json
 import sys
 from pathlib import Path
+from typing import Callable
 
 from .. import calls
 from ..answer import Refused
@@ -19,6 +20,7 @@ from ..sheet import Sheet
 WORDS = "draw the netlist of a sheet, or the term of a refused one with the node marked"
 EXAMPLE = "deltawobble draw --lean examples/full-adder.hex -o adder.svg"
 KINDS = (".svg", ".png", ".dot")
+Drawing = Callable[[bool], str]
 
 
 def add(parser: argparse.ArgumentParser) -> None:
@@ -32,30 +34,37 @@ def run(given: argparse.Namespace) -> int:
     if kind not in KINDS:
         raise WrongUse("%s: a picture is FILE.svg, FILE.png or FILE.dot" % given.output)
     source = read(given.sheet)
-    status, dot = drawing(source, given)
+    said: dict = {"accepted": True}
+    try:
+        dot = netlist_drawing(source, given.lean)
+    except Refused as refused:
+        if refused.number < 10 or not given.json:
+            say(source, refused, given.json)
+        if refused.number < 10:
+            return 1
+        said, dot = refused.as_json(), term_drawing(source, refused)
     data = dot(False).encode() if kind == ".dot" else rendered(dot, kind[1:])
     if given.output:
         write(given.output, data)
     elif not given.json:
         sys.stdout.write(data.decode())
     if given.json:
-        print(json.dumps({"accepted": status == 0, "file": given.output, "bytes": len(data)}))
-    return status
+        picture = {} if given.output else {"dot": data.decode()}
+        print(json.dumps(dict(said, file=source.name, output=given.output, bytes=len(data), **picture)))
+    return int(not said["accepted"])
 
 
-def drawing(source: Source, given: argparse.Namespace):
-    """The exit status, and what gives the DOT: of the netlist, or of the term where it is refused."""
-    which = "lean netlist" if given.lean else "full netlist"
-    try:
-        net = Netlist.parse(calls.translate(source.bytes, lean=given.lean))
-        names = pin_names(Sheet.parse(source.bytes, source.own))
-        return 0, lambda images: netlist_dot(net, names, "%s, %s" % (source.stem, which), images)
-    except Refused as refused:
-        if refused.number < 10 and not given.json:
-            raise SystemExit(say(source, refused)) from None
-        if not given.json:
-            say(source, refused)
-        sheet = Sheet.parse(source.bytes, source.own)
-        mark = sheet.nodes[refused.place] if refused.number < 16 else None
-        title = "%s, %s" % (source.stem, str(refused).split(":")[0])
-        return 1, lambda images: tree_dot(sheet, mark, title)
+def netlist_drawing(source: Source, lean: bool) -> Drawing:
+    """What gives the DOT of the netlist, with pictures of the parts or without."""
+    net = Netlist.parse(calls.translate(source.bytes, lean=lean))
+    names = pin_names(Sheet.parse(source.bytes, source.own))
+    title = "%s, %s netlist" % (source.stem, "lean" if lean else "full")
+    return lambda images: netlist_dot(net, names, title, images)
+
+
+def term_drawing(source: Source, refused: Refused) -> Drawing:
+    """The same of the term of a sheet that is refused with 10 to 16; with 16 no node is marked."""
+    sheet = Sheet.parse(source.bytes, source.own)
+    mark = sheet.nodes[refused.place] if refused.number < 16 else None
+    title = "%s, %s" % (source.stem, str(refused).split(":")[0])
+    return lambda images: tree_dot(sheet, mark, title)

@@ -6,8 +6,7 @@ import json
 
 from .. import calls
 from ..answer import Refused
-from ..files import WrongUse, raw, text_of
-from ..files import Source
+from ..files import Source, need_text, raw
 from ..hexes import sheet_hex
 from ..notation import make
 from ..output import put
@@ -23,10 +22,7 @@ def add(parser: argparse.ArgumentParser) -> None:
 
 
 def run(given: argparse.Namespace) -> int:
-    text = text_of(raw(given.text) or b"\n")
-    if text is None:
-        raise WrongUse("%s: this is no text" % given.text)
-    made = make(text, given.text)
+    made = make(need_text(given.text, raw(given.text)), given.text)
     try:
         calls.translate(made.sheet)
     except Refused as refused:

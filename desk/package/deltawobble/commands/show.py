@@ -23,5 +23,5 @@ def run(given: argparse.Namespace) -> int:
         text = show(source.bytes)
     except Refused as refused:
         return say(source, refused, given.json)
-    print(json.dumps({"notation": text}) if given.json else text, end="\n" if given.json else "")
+    print(json.dumps({"accepted": True, "notation": text}) if given.json else text, end="\n" if given.json else "")
     return 0

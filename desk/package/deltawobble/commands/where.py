@@ -40,8 +40,8 @@ def run(given: argparse.Namespace) -> int:
     start, size = calls.stretch(source.bytes, node.number)
     kept = lean.element_of(given.terminal) is not None
     if given.json:
-        print(json.dumps({"terminal": given.terminal, "element": element.name, "terminals": element.terminals, "kept": kept, "node": node.number,
-                          "kind": node.word, "offset": start, "size": size, "above": [n.number for n in node.above()]}))
+        print(json.dumps({"accepted": True, "terminal": given.terminal, "element": element.name, "terminals": element.terminals,
+                          "kept": kept, "node": node.number, "kind": node.word, "offset": start, "size": size, "above": [n.number for n in node.above()]}))
         return 0
     side = "output" if given.terminal == element.output else "input"
     print("terminal %d: the %s of %s%s" % (given.terminal, side, element_words(element), "" if kept else "; not in the lean netlist"))
