@@ -14,4 +14,5 @@ pub mod PutRanged
 pub mod Bytes
 pub mod Numbered
 pub mod Main
+pub mod MarksMakers
 pub mod Examples
