@@ -112,6 +112,66 @@ find (mfix t e) (suc k) h = let r = find e k h in record { to = mfix t (r .to); 
 find (mcon p t i) zero h = absurd h
 find (mcon p t i) (suc k) h = absurd h
 
+-- ---- and the other way round: where an argument is put in, a linear function is applied
+
+in-left : (xs ys : List Term) (k : ℕ) → AppliedAt xs k → AppliedAt (xs ++ ys) k
+in-left [] ys k h = absurd h
+in-left (x ∷ xs) ys zero h = h
+in-left (x ∷ xs) ys (suc k) h = in-left xs ys k h
+
+in-right : (xs ys : List Term) (k : ℕ) → AppliedAt ys k → AppliedAt (xs ++ ys) (length xs + k)
+in-right [] ys k h = let e : k ≡ 0 + k = omega arith in subst (AppliedAt ys) e h
+in-right (x ∷ xs) ys k h = let e : suc (length xs + k) ≡ suc (length xs) + k = omega arith in subst (AppliedAt (x ∷ (xs ++ ys))) e (in-right xs ys k h)
+
+in-second : (f a : Marked) (k : ℕ) → AppliedAt (subterms (plain a)) k → AppliedAt (subterms (plain f) ++ subterms (plain a)) (nodes (plain f) + k)
+in-second f a k h =
+    subst (λ (n : ℕ). AppliedAt (subterms (plain f) ++ subterms (plain a)) (n + k)) (count-subterms (plain f)) (in-right (subterms (plain f)) (subterms (plain a)) k h)
+
+put-applied : {e e′ : Marked} (r : PutIn e e′) → AppliedAt (subterms (plain e)) (putNode r)
+put-applied put-here = tt
+put-applied (in-fun r) = put-applied r
+put-applied (in-app-left {f = f} {a = a} r) = in-left (subterms (plain f)) (subterms (plain a)) (putNode r) (put-applied r)
+put-applied (in-app-right {f = f} {a = a} r) = in-second f a (putNode r) (put-applied r)
+put-applied (in-lfun r) = put-applied r
+put-applied (in-lapp-left {f = f} {a = a} r) = in-left (subterms (plain f)) (subterms (plain a)) (putNode r) (put-applied r)
+put-applied (in-lapp-right {f = f} {a = a} r) = in-second f a (putNode r) (put-applied r)
+put-applied (in-pair-left {a = a} {b = b} r) = in-left (subterms (plain a)) (subterms (plain b)) (putNode r) (put-applied r)
+put-applied (in-pair-right {a = a} {b = b} r) = in-second a b (putNode r) (put-applied r)
+put-applied (in-proj-left {a = a} {e = e} r) = in-left (subterms (plain a)) (subterms (plain e)) (putNode r) (put-applied r)
+put-applied (in-proj-right {a = a} {e = e} r) = in-second a e (putNode r) (put-applied r)
+put-applied (in-fix r) = put-applied r
+
+linear-form : (f a : Term) → T (isLinear f) → (t : ℕ) × (b c : Term) × (lapp f a ≡ lapp (lfun t b) c)
+linear-form (var i) a h = absurd h
+linear-form (lvar i) a h = absurd h
+linear-form (fun t e) a h = absurd h
+linear-form (app g b) a h = absurd h
+linear-form (lfun t e) a h = (t, e, a, refl)
+linear-form (lapp g b) a h = absurd h
+linear-form (pair t b c) a h = absurd h
+linear-form (proj b e) a h = absurd h
+linear-form (fix t e) a h = absurd h
+linear-form (con p t) a h = absurd h
+linear-form (name b e) a h = absurd h
+
+applied-form : (x : Term) → T (isApplied x) → (t : ℕ) × (b c : Term) × (x ≡ lapp (lfun t b) c)
+applied-form (var i) h = absurd h
+applied-form (lvar i) h = absurd h
+applied-form (fun t e) h = absurd h
+applied-form (app g b) h = absurd h
+applied-form (lfun t e) h = absurd h
+applied-form (lapp g b) h = linear-form g b h
+applied-form (pair t b c) h = absurd h
+applied-form (proj b e) h = absurd h
+applied-form (fix t e) h = absurd h
+applied-form (con p t) h = absurd h
+applied-form (name b e) h = absurd h
+
+pub puts-applied : {e e′ : Marked} (r : PutIn e e′) → (t : ℕ) × (b c : Term) × (getD (subterms (plain e)) (putNode r) (var 0) ≡ lapp (lfun t b) c)
+puts-applied {e} r = applied-form (getD (subterms (plain e)) (putNode r) (var 0)) (put-applied r)
+
+-- ---- every first-edition sheet
+
 -- at each node that is a linear function applied, its argument can be put in
 pub applied-puts : (e : Marked) (k t : ℕ) (b a : Term) → getD (subterms (plain e)) k (var 0) ≡ lapp (lfun t b) a → (e′ : Marked) × (r : PutIn e e′) × (putNode r ≡ k)
 applied-puts e k t b a q = let r = find e k (subst (λ (x : Term). T (isApplied x)) (sym q) tt) in (r .to, r .puts, r .node)
