@@ -77,8 +77,7 @@ module _ (k q : ℕ) (f : DrivenBy → ℕ) (ws : List Wire) where
   parts-wired [] n o h = tt
   parts-wired (g ∷ gs) n o h =
       let t = n + partAt (g .part) .inputs + 1 in
-      let c = o .0 .whole in
-      (
+      let c = o .0 .whole in (
         (λ x l. h (n + x) (wired-left (gateWires f (g .ins) n) (allWires f gs t) (n + x) (gate-wired f (g .ins) n x (omega arith)))),
         parts-wired gs t (o .1) (λ i w. h i (wired-right (gateWires f (g .ins) n) (allWires f gs t) i w)),
       )

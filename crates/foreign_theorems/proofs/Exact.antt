@@ -113,8 +113,8 @@ missed-input lean s τ r i f =
     elim (decLe 1 (madeAt (τ .net .elements) i)) [
       | yes l ↦ l
       | no l ↦
-        let z : madeAt (τ .net .elements) i ≡ 0 = omega arith in
-        absurd (f (omega (arith, no-targets (τ .net .elements) (τ .net .wires) i (r .runs) z, no-inputs (τ .net .elements) (τ .net .pins) i (r .pins) z)))
+          let z : madeAt (τ .net .elements) i ≡ 0 = omega arith in
+          absurd (f (omega (arith, no-targets (τ .net .elements) (τ .net .wires) i (r .runs) z, no-inputs (τ .net .elements) (τ .net .pins) i (r .pins) z)))
     ]
 
 -- ---- a refusal: 21 or 22 at the first record in byte order that is refused; or else, all records read, 23 at the lowest input

@@ -186,8 +186,7 @@ applied-rewritten s σ h f k t b a q = by (markable s σ h f .0) (markable s σ 
         let e = markedFrom m 0 in
         let is : plain e ≡ σ .term = numbered-plain m 0 ∙ p in
         let r = find e k (subst (λ (x : Term). T (isApplied x)) (sym (ap (λ (x : Term). getD (subterms x) k (var 0)) is ∙ q)) tt) in
-        let whole : σ ≡ record { edition = first; table = σ .table; term = plain e } = λ i. record { edition = f i; table = σ .table; term = sym is i } in
-        (
+        let whole : σ ≡ record { edition = first; table = σ .table; term = plain e } = λ i. record { edition = f i; table = σ .table; term = sym is i } in (
           sheetBytes first (σ .table) (plain (r .to)),
           record { table = σ .table; before = e; after = r .to; reads = h ∙ ap good whole; marked = numbered-nodes m 0; puts = r .puts; writes = refl },
           r .node,
