@@ -5,5 +5,6 @@ pub mod SourceLaws
 pub mod TermLaws
 pub mod WriteLaws
 pub mod SheetLaws
+pub mod Enough
 pub mod AnswerLaws
 pub mod Determined

@@ -5,4 +5,5 @@ pub mod Reading
 pub mod CameBack
 pub mod SameParts
 pub mod Main
+pub mod Pins
 pub mod Worked

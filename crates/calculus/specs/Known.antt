@@ -308,8 +308,24 @@ T11 = misfits (0x01 ∷ 0x03 ∷ 0x00 ∷ 0x00 ∷ 0x1A ∷ 0x01 ∷ 0x00 ∷ []
 abbrev pub T12 : Row
 T12 = misfits (0x01 ∷ 0x1A ∷ 0x01 ∷ 0x00 ∷ []) 0 aForm 0
 
+-- a linear function's written type is a sharable arrow
+abbrev pub T13 : Row
+T13 = misfits (0x01 ∷ 0x03 ∷ 0x00 ∷ 0x00 ∷ 0x15 ∷ 0x01 ∷ 0x11 ∷ 0x00 ∷ []) 0 aForm 1
+
+-- P3 with a bit in the register's place: a linear function's argument of another type than the arrow's left side
+abbrev pub T14 : Row
+T14 = misfits (0x01 ∷ 0x03 ∷ 0x00 ∷ 0x00 ∷ 0x04 ∷ 0x01 ∷ 0x00 ∷ 0x16 ∷ 0x15 ∷ 0x02 ∷ 0x14 ∷ 0x12 ∷ 0x00 ∷ 0x1A ∷ 0x00 ∷ 0x00 ∷ 0x1A ∷ 0x00 ∷ 0x00 ∷ []) 0 1 0
+
+-- a pair's written type is no product
+abbrev pub T15 : Row
+T15 = misfits (0x01 ∷ 0x17 ∷ 0x00 ∷ 0x1A ∷ 0x00 ∷ 0x00 ∷ 0x1A ∷ 0x00 ∷ 0x00 ∷ []) 0 aForm 0
+
+-- 14 with a linear arrow: the form is judged before the argument, which does not fit either
+abbrev pub T16 : Row
+T16 = misfits (0x01 ∷ 0x03 ∷ 0x00 ∷ 0x00 ∷ 0x04 ∷ 0x01 ∷ 0x00 ∷ 0x14 ∷ 0x15 ∷ 0x02 ∷ 0x14 ∷ 0x12 ∷ 0x00 ∷ 0x1A ∷ 0x00 ∷ 0x00 ∷ 0x1A ∷ 0x00 ∷ 0x00 ∷ []) 0 aForm 2
+
 unfoldable pub clashes : List Row
-clashes = T1 ∷ T2 ∷ T3 ∷ T4 ∷ T5 ∷ T6 ∷ T7 ∷ T8 ∷ T9 ∷ T10 ∷ T11 ∷ T12 ∷ []
+clashes = T1 ∷ T2 ∷ T3 ∷ T4 ∷ T5 ∷ T6 ∷ T7 ∷ T8 ∷ T9 ∷ T10 ∷ T11 ∷ T12 ∷ T13 ∷ T14 ∷ T15 ∷ T16 ∷ []
 
 -- ---- what the definitions answer
 

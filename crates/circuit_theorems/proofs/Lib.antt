@@ -14,6 +14,7 @@ pub mod Counts
 pub mod Main
 pub mod Bounds
 pub mod Makers
+pub mod MakerOnly
 pub mod NodeBytes
 pub mod Drive
 pub mod KnownParts

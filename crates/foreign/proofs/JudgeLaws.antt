@@ -17,8 +17,8 @@ use Rattle.foreign_theorems.specs.Foreign.{Reading, begin, readOn, oneEach, che
 use Rattle.calculus.specs.Translate.{zeroed, workOf}
 use Rattle.memory.proofs.Zeroed.{zeroed-length, zeroed-zeros, zeroed-same, zeroed-later}
 use Rattle.circuit_theorems.proofs.Terminals.{made-one}
-use Rattle.foreign_theorems.proofs.Exact.{OneFeed}
-use Rattle.foreign_theorems.proofs.Sound.{ReadAs, read-none, read-all, numbered-rising, no-targets, no-inputs}
+use Rattle.foreign_theorems.specs.Refused.{ReadAs, OneFeed}
+use Rattle.foreign_theorems.proofs.Sound.{read-none, read-all, numbered-rising, no-targets, no-inputs}
 use Rattle.circuit_theorems.proofs.NetRead.{out-not-made}
 use Rattle.foreign.specs.Table.{TableHolds, LaterKept, TableClear}
 use Rattle.foreign.specs.Walk.{WalkAgrees}

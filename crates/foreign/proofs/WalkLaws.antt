@@ -12,7 +12,8 @@ use Rattle.memory.specs.Map.{memorySize}
 use Rattle.foreign_theorems.specs.Foreign.{Reading, begin, judge, onFront, readOn, Bytes}
 use Rattle.foreign_theorems.proofs.Standing.{Stood, item-stood, ended-stood}
 use Rattle.circuit_theorems.proofs.NetRead.{item-some, ends-here}
-use Rattle.foreign_theorems.proofs.Sound.{ReadAs, read-more, read-none, more-taken}
+use Rattle.foreign_theorems.specs.Refused.{ReadAs}
+use Rattle.foreign_theorems.proofs.Sound.{read-more, read-none, more-taken}
 use Rattle.net_reader.specs.Said.{saidRecord, frontSize}
 use Rattle.net_reader.specs.declared.Record.{Record}
 use Rattle.foreign.specs.Table.{cellOf, TableHolds, LaterKept, TableClear}

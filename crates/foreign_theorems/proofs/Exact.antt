@@ -15,8 +15,9 @@ use Rattle.calculus.specs.Net.{Net, Item, element, wire, pin}
 use Rattle.calculus.specs.Inputs.{ins, madeAt, targets, isOut}
 use Rattle.calculus.specs.NetRead.{itemSize, Front, item, ended, broken, itemAt}
 use Rattle.foreign_theorems.specs.Foreign.{Bytes, Accepts, Reading, begin, firstOf, pastOf, starts, isIn, moreElement, moreWire, morePin, judge, onFront, readOn, oneEach, check}
+use Rattle.foreign_theorems.specs.Refused.{ReadAs, Wrong, FirstRefused, OneFeed, Lowest}
 use Rattle.foreign_theorems.proofs.Standing.{Stood, item-stood}
-use Rattle.foreign_theorems.proofs.Sound.{ReadAs, read-more, read-none, more-taken, read-all, accepted}
+use Rattle.foreign_theorems.proofs.Sound.{read-more, read-none, more-taken, read-all, no-targets, no-inputs, accepted}
 use Rattle.foreign_theorems.proofs.Complete.{accepts-check}
 
 -- accepted exactly when the bytes are those of a formed netlist of known parts in this order and numbering
@@ -36,16 +37,6 @@ on-refused (refused by) f why e g k = g (ap refused (refused-inj e))
 
 good≢refused : {A : Type 0} {a : A} {why : Refusal} → _≡_ {A = Answer A} (good a) (refused why) → ⊥
 good≢refused e = refused≢good (sym e)
-
--- what is wrong at an offset, behind what was read: no record, which is 21; or a record that is refused there
-abbrev pub Wrong : Bool → List ℕ → ℕ → Reading → Refusal → Type 0
-Wrong lean s at σ why = ((itemAt s at ≡ broken) × (why ≡ numbered 21 at)) ⊎ ((r : Item) × (itemAt s at ≡ item r) × (judge lean r σ at ≡ refused why))
-
--- all bytes before the place were read, and what stands there is refused: so it is the first in byte order
-pub record FirstRefused (lean : Bool) (s : List ℕ) (why : Refusal) : Type 0 where
-  pub reading : Reading
-  pub before : ReadAs lean (take (why .place) s) reading
-  pub wrong : Wrong lean s (why .place) reading why
 
 -- a record is refused at its own offset, by 21 or by 22
 module _ (at : ℕ) (why : Refusal) where
@@ -99,19 +90,6 @@ first-number lean s why f =
 
 -- ---- 23: the lowest input
 
--- wires and pins reach a terminal as often as it is an input
-abbrev pub OneFeed : Net → ℕ → Type 0
-OneFeed m i = targets (m .wires) i + ins (m .pins) i ≡ madeAt (m .elements) i
-
--- all was read; at the place there is not exactly one wire or pin, and at each terminal below it there is
-pub record Lowest (lean : Bool) (s : List ℕ) (why : Refusal) : Type 0 where
-  pub place : ℕ
-  pub why-is : why ≡ numbered 23 place
-  pub reading : Reading
-  pub all : ReadAs lean s reading
-  pub not-one : OneFeed (reading .net) place → ⊥
-  pub below : (i : ℕ) → i < place → OneFeed (reading .net) i
-
 abbrev Missed : Net → Refusal → Type 0
 Missed m why = (place : ℕ) × (why ≡ numbered 23 place) × (OneFeed m place → ⊥) × ((j : ℕ) → j < place → OneFeed m j)
 
@@ -129,6 +107,16 @@ lowest-from m (suc k) i why e h = by (lowest-from m k (i + 1) why) (eqb (targets
         ])
     by rec false q e = (i, sym (refused-inj e), eqb-false _ _ q, h)
 
+-- what is no input is reached by none, so that the place is one
+missed-input : (lean : Bool) (s : List ℕ) (τ : Reading) → ReadAs lean s τ → (i : ℕ) → (OneFeed (τ .net) i → ⊥) → 1 ≤ madeAt (τ .net .elements) i
+missed-input lean s τ r i f =
+    elim (decLe 1 (madeAt (τ .net .elements) i)) [
+      | yes l ↦ l
+      | no l ↦
+          let z : madeAt (τ .net .elements) i ≡ 0 = omega arith in
+          absurd (f (omega (arith, no-targets (τ .net .elements) (τ .net .wires) i (r .runs) z, no-inputs (τ .net .elements) (τ .net .pins) i (r .pins) z)))
+    ]
+
 -- ---- a refusal: 21 or 22 at the first record in byte order that is refused; or else, all records read, 23 at the lowest input
 
 pub check-refused : (lean : Bool) (s : List ℕ) → Bytes s → (why : Refusal) → check lean s ≡ refused why → FirstRefused lean s why ⊎ Lowest lean s why
@@ -138,4 +126,4 @@ check-refused lean s b why e =
     (λ τ h₁ h₂.
     let r = read-all lean s b (length s) 0 begin τ (omega arith) (omega arith) (read-none lean) h₁ in
     let m = lowest-from (τ .net) (τ .next) 0 why h₂ (λ j l. absurd (omega arith)) in
-    inr (record { place = m .0; why-is = m .1; reading = τ; all = r; not-one = m .2; below = m .3 }))
+    inr (record { place = m .0; why-is = m .1; reading = τ; all = r; input = missed-input lean s τ r (m .0) (m .2); not-one = m .2; below = m .3 }))

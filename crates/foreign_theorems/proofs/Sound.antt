@@ -12,36 +12,17 @@ use Rattle.laws.proofs.Tests.{by-eqb, and-both}
 use Rattle.calculus.specs.Answer.{Answer, good, _>>=_, need}
 use Rattle.calculus.proofs.Answers.{good-inj, refused≢good, on-bind, on-need}
 use Rattle.calculus.specs.Terms.{partAt}
-use Rattle.calculus.specs.Net.{Terminal, inp, out, Interface, number, Element, point, part, Wire, Net, Item, element, wire, pin, itemBytes}
+use Rattle.calculus.specs.Net.{Terminal, inp, out, Interface, number, Element, point, part, Wire, Net, Item, element, wire, pin, itemBytes, netBytes}
 use Rattle.calculus.specs.Record.{All}
 use Rattle.calculus.specs.Inputs.{ins, madeAt, targets, isOut}
 use Rattle.calculus.specs.NetRead.{Known, Fits, itemSize, Front, item, ended, broken, itemAt, pinTerminal}
 use Rattle.circuit_theorems.specs.Formed.{Shown, Tiled, Rising, Formed}
 use Rattle.circuit_theorems.proofs.Lists.{all-map, all-append}
-use Rattle.circuit_theorems.proofs.Outputs.{EndHolds}
 use Rattle.circuit_theorems.proofs.Terminals.{tiled-rising, made-high}
 use Rattle.circuit_theorems.proofs.NetRead.{itemsOf, itemsBytes, items-append, records-in-a-row, item-length, item-some}
 use Rattle.foreign_theorems.specs.Foreign.{Bytes, Numbered, Accepts, Reading, begin, firstOf, pastOf, starts, isIn, moreElement, moreWire, morePin, judge, onFront, readOn, oneEach, check}
+use Rattle.foreign_theorems.specs.Refused.{PinStands, WireRuns, ReadAs}
 use Rattle.foreign_theorems.proofs.Standing.{Stood, item-stood, ended-stood}
-
--- a pin names a terminal that is made
-abbrev pub PinStands : List Element → Terminal → Type 0
-PinStands es t = EndHolds (λ i. 1 ≤ madeAt es i) (λ o. T (isOut es o)) t
-
--- a wire runs from an output to an input that are made
-abbrev pub WireRuns : List Element → Wire → Type 0
-WireRuns es w = T (isOut es (w .from)) × (1 ≤ madeAt es (w .to))
-
--- the bytes p were read as σ
-pub record ReadAs (lean : Bool) (p : List ℕ) (σ : Reading) : Type 0 where
-  pub bytes : p ≡ itemsBytes (itemsOf (σ .net))
-  pub no-wires : σ .stage ≡ 0 → σ .net .wires ≡ []
-  pub no-pins : σ .stage ≤ 1 → σ .net .pins ≡ []
-  pub known : All Known (σ .net .elements)
-  pub numbering : Numbered lean (σ .net .elements) 0 (σ .next)
-  pub few : σ .next ≤ 8192
-  pub runs : All (WireRuns (σ .net .elements)) (σ .net .wires)
-  pub pins : All (PinStands (σ .net .elements)) (σ .net .pins)
 
 -- ---- the numbering with one more element
 
@@ -78,8 +59,11 @@ wire-last es ws ps w b = rw (b, map-append wire ws (w ∷ [])) (simp (append-nil
 pin-last : (es ws : List Item) (ps : Interface) (t : Terminal) → es ++ (ws ++ map (λ t. pin (number t)) (ps ++ (t ∷ []))) ≡ (es ++ (ws ++ map (λ t. pin (number t)) ps)) ++ (pin (number t) ∷ [])
 pin-last es ws ps t = rw (map-append (λ t. pin (number t)) ps (t ∷ [])) (simp append-assoc)
 
-more-bytes : (p : List ℕ) (xs ys : List Item) (r : Item) → p ≡ itemsBytes xs → ys ≡ xs ++ (r ∷ []) → p ++ itemBytes r ≡ itemsBytes ys
-more-bytes p xs ys r e h = rw (h, e) (ap (λ (l : List ℕ). itemsBytes xs ++ l) (sym (append-nil (itemBytes r))) ∙ sym (items-append xs (r ∷ [])))
+items-more : (p : List ℕ) (xs ys : List Item) (r : Item) → p ≡ itemsBytes xs → ys ≡ xs ++ (r ∷ []) → p ++ itemBytes r ≡ itemsBytes ys
+items-more p xs ys r e h = rw (h, e) (ap (λ (l : List ℕ). itemsBytes xs ++ l) (sym (append-nil (itemBytes r))) ∙ sym (items-append xs (r ∷ [])))
+
+more-bytes : (p : List ℕ) (m n : Net) (r : Item) → p ≡ netBytes m → itemsOf n ≡ itemsOf m ++ (r ∷ []) → p ++ itemBytes r ≡ netBytes n
+more-bytes p m n r e h = items-more p (itemsOf m) (itemsOf n) r (e ∙ records-in-a-row m) h ∙ sym (records-in-a-row n)
 
 number-of : (es : List Element) (x : ℕ) → number (pinTerminal es x) ≡ x
 number-of es x = by (isOut es x)
@@ -107,7 +91,7 @@ module _ (lean : Bool) (at : ℕ) (p : List ℕ) (σ τ : Reading) (ok : ReadAs 
       let np = ok .no-pins (omega arith) in
       let b = and-both (starts lean (firstOf e) (σ .next)) (leb (pastOf e) 8192) s₁ in
       subst (ReadAs lean (p ++ itemBytes (element e))) (good-inj h₂) record {
-        bytes = more-bytes p (itemsOf (σ .net)) _ (element e) (ok .bytes) (element-last (σ .net .elements) (σ .net .wires) (σ .net .pins) e nw np);
+        bytes = more-bytes p (σ .net) (moreElement e σ .net) (element e) (ok .bytes) (element-last (σ .net .elements) (σ .net .wires) (σ .net .pins) e nw np);
         no-wires = λ _. nw;
         no-pins = λ _. np;
         known = all-append Known (σ .net .elements) (e ∷ []) (ok .known) (known-of e f, tt);
@@ -124,7 +108,7 @@ module _ (lean : Bool) (at : ℕ) (p : List ℕ) (σ τ : Reading) (ok : ReadAs 
       let np = ok .no-pins (leb→le (σ .stage) 1 s₀) in
       let b = and-both (isOut (σ .net .elements) (w .from)) (isIn (σ .net .elements) (w .to)) s₁ in
       subst (ReadAs lean (p ++ itemBytes (wire w))) (good-inj h₂) record {
-        bytes = more-bytes p (itemsOf (σ .net)) _ (wire w) (ok .bytes) (wire-last (map element (σ .net .elements)) (σ .net .wires) (σ .net .pins) w np);
+        bytes = more-bytes p (σ .net) (moreWire w σ .net) (wire w) (ok .bytes) (wire-last (map element (σ .net .elements)) (σ .net .wires) (σ .net .pins) w np);
         no-wires = λ e. absurd (omega arith);
         no-pins = λ _. np;
         known = ok .known;
@@ -146,7 +130,7 @@ module _ (lean : Bool) (at : ℕ) (p : List ℕ) (σ τ : Reading) (ok : ReadAs 
       on-need (isOut (σ .net .elements) t || isIn (σ .net .elements) t) 22 at _ τ h λ s₁ h₂.
       let q = pinTerminal (σ .net .elements) t in
       subst (ReadAs lean (p ++ itemBytes (pin t))) (good-inj h₂) record {
-        bytes = more-bytes p (itemsOf (σ .net)) _ (pin t) (ok .bytes) (pin-last (map element (σ .net .elements)) (map wire (σ .net .wires)) (σ .net .pins) q ∙ ap (λ (x : ℕ). itemsOf (σ .net) ++ (pin x ∷ [])) (number-of (σ .net .elements) t));
+        bytes = more-bytes p (σ .net) (morePin t σ .net) (pin t) (ok .bytes) (pin-last (map element (σ .net .elements)) (map wire (σ .net .wires)) (σ .net .pins) q ∙ ap (λ (x : ℕ). itemsOf (σ .net) ++ (pin x ∷ [])) (number-of (σ .net .elements) t));
         no-wires = λ e. absurd (omega arith);
         no-pins = λ e. absurd (omega arith);
         known = ok .known;
@@ -163,7 +147,7 @@ module _ (lean : Bool) (at : ℕ) (p : List ℕ) (σ τ : Reading) (ok : ReadAs 
 
 pub read-none : (lean : Bool) → ReadAs lean [] begin
 read-none lean = record {
-  bytes = refl;
+  bytes = sym (records-in-a-row (begin .net));
   no-wires = λ _. refl;
   no-pins = λ _. refl;
   known = tt;
@@ -233,7 +217,7 @@ accepted lean s b e =
     let up = numbered-rising lean es 0 (τ .next) (r .numbering) in
     record {
       net = τ .net;
-      bytes = r .bytes ∙ sym (records-in-a-row (τ .net));
+      bytes = r .bytes;
       known = r .known;
       formed = record {
         end = τ .next;

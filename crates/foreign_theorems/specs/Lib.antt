@@ -1,2 +1,3 @@
 pub mod Foreign
+pub mod Refused
 pub mod Worked

@@ -13,5 +13,7 @@ pub mod OneSheet
 pub mod PutRanged
 pub mod Bytes
 pub mod Numbered
+pub mod Applied
 pub mod Main
+pub mod MarksMakers
 pub mod Examples

@@ -40,7 +40,7 @@ pub record Start (Θ : Table) (e : Marked) (m : Net) : Type 0 where
   pub few : make Θ (plain e) [] 0 .next ≤ 8192
   pub net-is : netOf (make Θ (plain e) [] 0) ≡ m
 
-start : {s s′ : List ℕ} (r : Rewritten s s′) (m : Net) → full s ≡ good m → Start (r .table) (r .before) m
+pub start : {s s′ : List ℕ} (r : Rewritten s s′) (m : Net) → full s ≡ good m → Start (r .table) (r .before) m
 start {s} r m a =
     let p = accepts s m a in
     let σ : p .sheet ≡ record { edition = first; table = r .table; term = plain (r .before) } = good-inj (sym (p .reads) ∙ r .reads) in

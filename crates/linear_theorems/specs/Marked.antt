@@ -3,8 +3,10 @@
 use Prim.Native.Nat.{ℕ, _+_, _<_, _≤_}
 use mathlib.Core.Path.{_≡_}
 use mathlib.Core.List.{List, [], _∷_, _++_}
+use lib.ListN.{drop}
 use Rattle.calculus.specs.Terms.{Term, var, lvar, fun, app, lfun, lapp, pair, proj, fix, con, nodes, partAt}
 use Rattle.calculus.specs.Net.{Element, point, part, Net}
+use Rattle.calculus.specs.Makers.{maker}
 use Rattle.calculus.specs.Record.{Bits, Law, Outside}
 use Rattle.calculus.specs.Inputs.{tally}
 
@@ -53,6 +55,12 @@ ByNode (mpair t a b) n = ByNode a (n + 1) × ByNode b (n + 1 + nodes (plain a))
 ByNode (mproj a e) n = ByNode a (n + 1) × ByNode e (n + 1 + nodes (plain a))
 ByNode (mfix t e) n = ByNode e (n + 1)
 ByNode (mcon p t k) n = k ≡ n
+
+-- of elements and the nodes that made them (document 02, L6): those of the parts
+abbrev pub partMakers : List Element → List ℕ → List ℕ
+partMakers [] ks = []
+partMakers (point i ∷ es) ks = partMakers es (drop 1 ks)
+partMakers (part p i ∷ es) ks = maker ks ∷ partMakers es (drop 1 ks)
 
 -- how often k stands in a list
 abbrev pub times : ℕ → List ℕ → ℕ

@@ -1,8 +1,9 @@
 -- Putting a linear argument straight into the body at the one place where its variable stands, binder numbers adjusted (document 02, L13).
 -- Assumes nothing.
-use Prim.Native.Nat.{ℕ, zero, suc}
+use Prim.Native.Nat.{ℕ, zero, suc, _+_}
 use mathlib.Core.Bool.{Bool, true, false, cond}
-use Rattle.linear_theorems.specs.Marked.{Marked, mvar, mlvar, mfun, mapp, mlfun, mlapp, mpair, mproj, mfix, mcon}
+use Rattle.calculus.specs.Terms.{nodes}
+use Rattle.linear_theorems.specs.Marked.{Marked, mvar, mlvar, mfun, mapp, mlfun, mlapp, mpair, mproj, mfix, mcon, plain}
 
 -- ---- binder numbers
 
@@ -68,3 +69,18 @@ pub data PutIn : Marked → Marked → Type 0 where
   in-proj-left : {a a′ e : Marked} → PutIn a a′ → PutIn (mproj a e) (mproj a′ e)
   in-proj-right : {a e e′ : Marked} → PutIn e e′ → PutIn (mproj a e) (mproj a e′)
   in-fix : {t : ℕ} {e e′ : Marked} → PutIn e e′ → PutIn (mfix t e) (mfix t e′)
+
+-- the node of the first term that is this application
+abbrev pub putNode : {e e′ : Marked} → PutIn e e′ → ℕ
+putNode put-here = 0
+putNode (in-fun r) = suc (putNode r)
+putNode (in-app-left r) = suc (putNode r)
+putNode (in-app-right {f = f} r) = suc (nodes (plain f) + putNode r)
+putNode (in-lfun r) = suc (putNode r)
+putNode (in-lapp-left r) = suc (putNode r)
+putNode (in-lapp-right {f = f} r) = suc (nodes (plain f) + putNode r)
+putNode (in-pair-left r) = suc (putNode r)
+putNode (in-pair-right {a = a} r) = suc (nodes (plain a) + putNode r)
+putNode (in-proj-left r) = suc (putNode r)
+putNode (in-proj-right {a = a} r) = suc (nodes (plain a) + putNode r)
+putNode (in-fix r) = suc (putNode r)
