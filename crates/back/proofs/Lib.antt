@@ -6,4 +6,5 @@ pub mod TermLaws
 pub mod WriteLaws
 pub mod SheetLaws
 pub mod AnswerLaws
+pub mod Places
 pub mod Determined

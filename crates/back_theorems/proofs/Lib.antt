@@ -4,5 +4,6 @@ pub mod Leaning
 pub mod Reading
 pub mod CameBack
 pub mod SameParts
+pub mod SameDrivers
 pub mod Main
 pub mod Worked
