@@ -7,4 +7,5 @@ pub mod WriteLaws
 pub mod SheetLaws
 pub mod Enough
 pub mod AnswerLaws
+pub mod Places
 pub mod Determined

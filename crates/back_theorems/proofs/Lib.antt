@@ -4,6 +4,7 @@ pub mod Leaning
 pub mod Reading
 pub mod CameBack
 pub mod SameParts
+pub mod SameDrivers
 pub mod Main
 pub mod Pins
 pub mod Worked

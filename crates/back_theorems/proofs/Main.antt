@@ -17,6 +17,8 @@ use Rattle.calculus.specs.Record.{All}
 use Rattle.calculus.specs.Translate.{full}
 use Rattle.calculus.proofs.Answers.{refused≢good, good-inj, on-bind, on-need}
 use Rattle.laws.proofs.Tests.{and-both}
+use Rattle.circuit_theorems.specs.Formed.{Formed}
+use Rattle.circuit_theorems.proofs.Main.{formed-lean}
 use Rattle.circuit_theorems.proofs.NetRead.{read-back}
 use Rattle.circuit_theorems.proofs.Told.{items-fit}
 use Rattle.foreign_theorems.specs.Foreign.{Bytes, Accepts, check}
@@ -24,8 +26,10 @@ use Rattle.foreign_theorems.proofs.Exact.{check-exact}
 use Rattle.back_theorems.specs.Back.{gates, openIns, backSheet, backNet}
 use Rattle.back_theorems.specs.Returned.{noPoint, within, returned}
 use Rattle.back_theorems.specs.Promises.{PartOnly, Returns, Back, LeanOf, SameParts}
+use Rattle.back_theorems.specs.Drivers.{SameDrivers}
 use Rattle.back_theorems.proofs.CameBack.{net-came-back}
 use Rattle.back_theorems.proofs.SameParts.{same-gates}
+use Rattle.back_theorems.proofs.SameDrivers.{drivers-same}
 
 -- what is accepted is read
 pub accepts-read : (told : Bool) (s : List ℕ) (a : Accepts told s) → readNet s ≡ good (a .net)
@@ -93,3 +97,13 @@ same-parts told s sheet b e m net r f = go (back-exact told s sheet b .0 e) (cam
         let n : k .accepts .net ≡ m = good-inj (sym (accepts-read told s (k .accepts)) ∙ r) in
         let l : lean net ≡ backNet (openIns (gates m)) (gates m) = ap lean (good-inj (sym f ∙ c .accepted)) ∙ c .lean-is in
         record { gates-same = same-gates m (subst Returns n (k .returns)) (lean net) l; pins = ap (λ (x : Net). x .pins) l }
+
+-- .. and the same said by the wires and pins of the two netlists alone
+pub same-drivers : (told : Bool) (s sheet : List ℕ) → Bytes s → returned told s ≡ good sheet → (m net : Net) → readNet s ≡ good m → full sheet ≡ good net → SameDrivers m (lean net)
+same-drivers told s sheet b e m net r f = go (back-exact told s sheet b .0 e) (came-back told s sheet b e m r)
+  where
+    go : Back told s sheet → LeanOf sheet (backNet (openIns (gates m)) (gates m)) → SameDrivers m (lean net)
+    go k c =
+        let n : k .accepts .net ≡ m = good-inj (sym (accepts-read told s (k .accepts)) ∙ r) in
+        let l : lean net ≡ backNet (openIns (gates m)) (gates m) = ap lean (good-inj (sym f ∙ c .accepted)) ∙ c .lean-is in
+        drivers-same m (subst Returns n (k .returns)) (subst Formed n (k .accepts .formed)) (lean net) (formed-lean sheet net f) l

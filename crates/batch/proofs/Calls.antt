@@ -2,14 +2,16 @@
 -- holds of each accepted sheet alone (document 02, L10). Assumes nothing.
 use Prim.Native.Nat.{ℕ, zero, suc, _+_, _≤_, _<_}
 use mathlib.Core.Path.{_≡_, refl, sym, ap, ap₂, subst, _∙_}
+use mathlib.Core.Logic.{_↔_}
 use mathlib.Core.Bool.{true}
 use mathlib.Core.List.{List, [], _∷_, _++_, map}
 use native.Mathlib.Omega.{arith}
 use lib.ListN.{length, getD, take, drop, length-map, take-append-drop, List·getD-append}
 use lib.Seq.{length-take-le, take-at, drop-at, drop-append-seam, drop-append-add, drop-drop}
 use native.Mathlib.Decide.{decLt}
-use borrow.Author.Tests.{eq-eqb}
-use Rattle.calculus.specs.Answer.{Answer, good, refused}
+use borrow.Author.Tests.{eq-eqb, ne-eqb}
+use Rattle.calculus.specs.Answer.{Answer, good, refused, refuse}
+use Rattle.calculus.proofs.Answers.{refused≢good}
 use Rattle.calculus.specs.Translate.{zeroed, workOf, Call, saidOf, outOf}
 use Rattle.export_calculus.specs.CardCall.{Wished, cardAnswer, cardCall, wishedCall}
 use Rattle.memory.proofs.Zeroed.{zeroed-length, zeroed-same, zeroed-later}
@@ -21,7 +23,7 @@ use Rattle.translation.proofs.Demands.{demand-3}
 use Rattle.batch.specs.Batch.{usedBy, CallsMade, oneByOne, sum, Batch, ofRow, batchCall}
 use Rattle.batch.specs.Promise.{sheetAt, callAt, AsCalls, EachCircuit}
 use Rattle.batch.proofs.RowLaws.{used-within}
-use Rattle.batch.proofs.BatchLaws.{fitting}
+use Rattle.batch.proofs.BatchLaws.{no-room, no-sum, fitting}
 
 -- ---- one call
 
@@ -167,6 +169,25 @@ again-work w s (n ∷ ns) out m work e = again-work w (drop n s) ns _ _ work (le
 row-work : (w : Wished) (s lengths out work : List ℕ) → 0 < length lengths → oneByOne w s lengths out work .work ≡ workOf work
 row-work w s [] out work h = absurd (omega arith)
 row-work w s (n ∷ ns) out work h = again-work w (drop n s) ns _ _ work (leaves-work w (take n s) out work)
+
+-- ---- 24: where the results have no room, or the lengths do not add up, and nowhere else
+
+module _ (w : Wished) (s lengths out results work : List ℕ) where
+  abbrev Fitting : Type 0
+  Fitting = (length lengths ≤ length results) × (sum lengths ≡ length s)
+
+  misfits : (Fitting → ⊥) → batchCall w s lengths out results work ≡ record { said = refuse 24 0; out = out; results = results; work = work }
+  misfits f =
+      elim (decLt (length results) (length lengths)) [
+        | yes h ↦ no-room w s lengths out results work h
+        | no h ↦ let r : length lengths ≤ length results = omega arith in no-sum w s lengths out results work r (ne-eqb (sum lengths) (length s) (λ e. f (r, e)))
+      ]
+
+  fits-not : (p : ℕ) → batchCall w s lengths out results work .said ≡ refuse 24 p → Fitting → ⊥
+  fits-not p e (room, adds) = refused≢good (sym e ∙ ap (λ (b : Batch). b .said) (fitting w s lengths out results work room (eq-eqb (sum lengths) (length s) adds)))
+
+  pub batch-24 : (((length lengths ≤ length results) × (sum lengths ≡ length s)) → ⊥) ↔ (batchCall w s lengths out results work ≡ record { said = refuse 24 0; out = out; results = results; work = work })
+  batch-24 = (misfits, λ e. fits-not 0 (ap (λ (b : Batch). b .said) e))
 
 -- ---- the call
 

@@ -147,6 +147,14 @@ impossible-P6 n γ π o t h e =
     let pin : γ 0 t ≡ β 4 t = o .pins .0 t h in
     false≢true (sym (pin ∙ and-out ∙ ap (λ (b : Bool). b && β 3 t) first) ∙ e)
 
+-- .. and the terminals of its parts are seen: the output of `zero` and the first input of `and`, which it drives, have 0
+pub seen-P6 : (n : ℕ) (γ π : Bits) → Outside partLaw fullP6 n γ π → (t : ℕ) → t < n → (π 5 t ≡ false) × (π 2 t ≡ false)
+seen-P6 n γ π o t h =
+    let zero-out = o .possible .elements .1 .1 .0 t h in (
+      o .parts .1 .1 .0 5 (omega arith) (omega arith) t h ∙ zero-out,
+      o .parts .1 .0 2 (omega arith) (omega arith) t h ∙ sym (o .possible .wires .0 t h) ∙ zero-out,
+    )
+
 -- P2: both ends of its point are equal, so in every possible record its two pins are
 pub passes-P2 : (n : ℕ) (γ π : Bits) → Outside partLaw netP2 n γ π → (t : ℕ) → t < n → γ 0 t ≡ γ 1 t
 passes-P2 n γ π o t h = o .pins .0 t h ∙ o .possible .elements .0 t h ∙ sym (o .pins .1 .0 t h)

@@ -1,30 +1,37 @@
 -- The number that a call answers tells what it said; a node's stretch fits its half of one. Assumes nothing.
-use Prim.Native.Nat.{ℕ, _+_, _≤_}
+use Prim.Native.Nat.{ℕ, _+_, _≤_, _<_}
 use mathlib.Core.Path.{_≡_, refl, sym, ap, _∙_}
+use mathlib.Core.Logic.{⊎-elim}
+use mathlib.Core.Bool.{Bool, true, false}
 use mathlib.Core.List.{List}
 use native.Mathlib.Omega.{arith}
-use native.Mathlib.Decide.{decLt}
+use native.Mathlib.Decide.{decLt, decLe}
+use lib.Dec.{leb}
 use lib.ListN.{length}
-use Rattle.calculus.specs.Answer.{Answer, good, refused}
+use Rattle.calculus.specs.Answer.{Answer, good, refused, need, _>>=_}
 use Rattle.calculus.specs.Terms.{nodes}
 use Rattle.calculus.specs.Read.{Sheet, readSheet}
 use Rattle.calculus.specs.Stretch.{stretchOf}
-use Rattle.calculus.specs.Translate.{Wish, Call, call}
+use Rattle.calculus.specs.Translate.{Wish, Call}
 use Rattle.sheet_theorems.proofs.Laying.{opened}
 use Rattle.sheet_theorems.proofs.StretchHolds.{stretch-holds, stretch-past, stretch-refused}
-use Rattle.sheet_theorems.proofs.Judging.{Judged, value, refusal}
+use Rattle.sheet_theorems.proofs.Judging.{Judged, value, refusal, Any}
 use Rattle.translator.specs.Word.{packed, FitsWord}
 use Rattle.translator.specs.Said.{saidAnswer, called}
 use Rattle.translator.specs.declared.Answer as code
 use Rattle.translator.proofs.Places.{names-small}
 use Rattle.translator.proofs.WordLaws.{word-tells}
+use Rattle.export_calculus.specs.CardCall.{cardCall}
 use Rattle.export_calculus.specs.Verilog.{verilogCall}
 use Rattle.verilog.proofs.Places.{verilog-places, verilog-fits}
-use Rattle.translation.proofs.Places.{CallPlace, CallCount, call-places}
+use Rattle.translation.proofs.Places.{CallPlace, CallCount, ProfilePlace, CardPlace, card-places}
 use Rattle.batch.specs.Batch.{Batch}
 use Rattle.batch.specs.Left.{left}
 use Rattle.translator.specs.declared.Answer.the-variants as answer
-use Rattle.foreign_theorems.specs.Foreign.{Checked}
+use Rattle.foreign_theorems.specs.Foreign.{Bytes, check, Checked, checkCall}
+use Rattle.foreign_theorems.proofs.Places.{CheckPlace, check-places}
+use Rattle.back_theorems.specs.Returned.{backCall}
+use Rattle.back.proofs.Places.{back-places, back-fits}
 use Rattle.foreign.specs.Walk.{saidCheck, calledCheck as checked}
 use Rattle.foreign.specs.declared.Verdict.{Verdict}
 use Rattle.foreign.specs.declared.Verdict.the-variants as verdict
@@ -63,13 +70,42 @@ check-packs v w c a e f = record {
   kept = ap (λ (x : Checked). x .work) e;
 }
 
-fits : (s : List ℕ) (room : ℕ) {a : Answer ℕ} → Judged (CallPlace s room) (CallCount room) a → FitsWord a
+fits : (s : List ℕ) (room : ℕ) {a : Answer ℕ} → Judged (CardPlace s room) (CallCount room) a → FitsWord a
 fits s room (value h) = omega (arith, h .0)
-fits s room (refusal {why} h) = let (w, f) = names-small s why (h .names) in (h .from, omega (arith, h .to), omega (arith, h .few), omega arith, omega arith)
+fits s room (refusal {why} h) =
+    ⊎-elim
+    (λ (o : CallPlace s room why). let (w, f) = names-small s why (o .names) in (o .from, omega (arith, o .to), omega (arith, o .few), omega arith, omega arith))
+    (λ (o : ProfilePlace why). (omega (arith, o .from), omega (arith, o .to), omega (arith, o .low), omega (arith, o .plain .0), omega (arith, o .plain .1)))
+    h
 
--- the number tells what a call said: two that answer the same number said the same
-pub packed-tells : (b b′ : Wish) (s s′ out out′ work work′ : List ℕ) → packed (call b s out work .said) ≡ packed (call b′ s′ out′ work′ .said) → call b s out work .said ≡ call b′ s′ out′ work′ .said
-packed-tells b b′ s s′ out out′ work work′ e = word-tells _ _ (fits s (length out) (call-places b s out work)) (fits s′ (length out′) (call-places b′ s′ out′ work′)) e
+-- the number tells what a call said, with the card's profile or without: two that answer the same number said the same
+pub packed-tells : (card card′ : Bool) (b b′ : Wish) (s s′ out out′ work work′ : List ℕ)
+    → packed (cardCall card b s out work .said) ≡ packed (cardCall card′ b′ s′ out′ work′ .said) → cardCall card b s out work .said ≡ cardCall card′ b′ s′ out′ work′ .said
+packed-tells card card′ b b′ s s′ out out′ work work′ e = word-tells _ _ (fits s (length out) (card-places card b s out work)) (fits s′ (length out′) (card-places card′ b′ s′ out′ work′)) e
+
+-- .. of a netlist shorter than 2^32 bytes too, whose offsets then fit: back to a sheet, and checked
+pub back-tells : (lean lean′ : Bool) (s s′ out out′ work work′ : List ℕ) → Bytes s → Bytes s′ → length s < 4294967296 → length s′ < 4294967296
+    → packed (backCall lean s out work .said) ≡ packed (backCall lean′ s′ out′ work′ .said) → backCall lean s out work .said ≡ backCall lean′ s′ out′ work′ .said
+back-tells lean lean′ s s′ out out′ work work′ b b′ h h′ e =
+    word-tells _ _ (back-fits s (length out) h (back-places lean s out work b)) (back-fits s′ (length out′) h′ (back-places lean′ s′ out′ work′ b′)) e
+
+check-fits : (s : List ℕ) → length s < 4294967296 → {a : Answer (Unit {0})} → Judged (CheckPlace s) Any a → FitsWord (checkedValue a)
+check-fits s short (value h) = omega arith
+check-fits s short (refusal {why} o) =
+    let low : why .place < 4294967296 = elim (decLe (why .number) 22) [ yes h ↦ omega (arith, o .offset h) | no h ↦ omega (arith, o .input (omega (arith, o .to))) ] in
+    (omega (arith, o .from), omega (arith, o .to), low, omega (arith, o .plain .0), omega (arith, o .plain .1))
+
+check-call-fits : (lean : Bool) (s work : List ℕ) → length s < 4294967296 → FitsWord (checkedValue (checkCall lean s work .said))
+unfolding checkCall
+check-call-fits lean s work h = by (leb 32768 (length work))
+  where
+    by : (t : Bool) → FitsWord (checkedValue (need t 1 0 >>= λ _. check lean s))
+    by false = (omega arith, omega arith, omega arith, omega arith, omega arith)
+    by true = check-fits s h (check-places lean s)
+
+pub check-tells : (lean lean′ : Bool) (s s′ work work′ : List ℕ) → length s < 4294967296 → length s′ < 4294967296
+    → packed (checkedValue (checkCall lean s work .said)) ≡ packed (checkedValue (checkCall lean′ s′ work′ .said)) → checkedValue (checkCall lean s work .said) ≡ checkedValue (checkCall lean′ s′ work′ .said)
+check-tells lean lean′ s s′ work work′ h h′ e = word-tells _ _ (check-call-fits lean s work h) (check-call-fits lean′ s′ work′ h′) e
 
 pub verilog-tells : (s s′ out out′ work work′ : List ℕ) → packed (verilogCall s out work .said) ≡ packed (verilogCall s′ out′ work′ .said) → verilogCall s out work .said ≡ verilogCall s′ out′ work′ .said
 verilog-tells s s′ out out′ work work′ e = word-tells _ _ (verilog-fits s (length out) (verilog-places s out work)) (verilog-fits s′ (length out′) (verilog-places s′ out′ work′)) e

@@ -2,5 +2,6 @@ pub mod Standing
 pub mod Sound
 pub mod Complete
 pub mod Exact
+pub mod Places
 pub mod Own
 pub mod Worked

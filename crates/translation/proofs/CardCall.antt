@@ -42,6 +42,27 @@ card-accepted card w s out work n h =
     ap (λ (a : Answer (List ℕ)). record { said = saidOf a; out = outOf a out; work = workOf work })
     (no-check (leb 32768 (length work)) (full s) (onCard card s) (λ m. need (leb (length (askedBytes w m (makersOf s))) (length out)) 17 (length (askedBytes w m (makersOf s))) >>= λ _. good (askedBytes w m (makersOf s))) n h)
 
+-- 1 to 16 come first: where one of them refuses, the profile is not looked at
+no-net : (t : Bool) (f : Answer Net) (check : Net → Answer (Unit {0})) (r : Net → Answer (List ℕ)) (why : Refusal)
+    → (need t 1 0 >>= λ _. f) ≡ refused why → (need t 1 0 >>= λ _. f >>= λ m. check m >>= λ _. r m) ≡ refused why
+no-net false f check r why h = ap refused (refused-inj h)
+no-net true (refused x) check r why h = ap refused (refused-inj h)
+no-net true (good m) check r why h = absurd (refused≢good (sym h))
+
+early-answer : (card : Bool) (w : Wish) (s out work : List ℕ) (why : Refusal) → (need (leb 32768 (length work)) 1 0 >>= λ _. full s) ≡ refused why → cardAnswer card (length work) w s (length out) ≡ refused why
+unfolding cardAnswer
+early-answer card w s out work why h =
+    no-net (leb 32768 (length work)) (full s) (onCard card s) (λ m. need (leb (length (askedBytes w m (makersOf s))) (length out)) 17 (length (askedBytes w m (makersOf s))) >>= λ _. good (askedBytes w m (makersOf s))) why h
+
+pub card-early : (card : Bool) (w : Wish) (s out work : List ℕ) (why : Refusal) → (need (leb 32768 (length work)) 1 0 >>= λ _. full s) ≡ refused why
+    → (cardCall card w s out work ≡ call w s out work) × (cardCall card w s out work .said ≡ refused why)
+unfolding cardCall
+card-early card w s out work why h =
+    let a = early-answer card w s out work why h in (
+      ap (λ (a : Answer (List ℕ)). record { said = saidOf a; out = outOf a out; work = workOf work }) (a ∙ sym (early-answer false w s out work why h)) ∙ card-unasked w s out work,
+      ap saidOf a,
+    )
+
 -- a rule's number is 27 or more
 rule-number : {m : Net} {why : Refusal} (τ : _) → Broken τ m why → 27 ≤ why .number
 rule-number τ (root-type f) = omega arith
