@@ -176,10 +176,10 @@ behindWires (l ∷ ls) = cond (eqb (l .form) 0) (behindWires ls) (l ∷ ls)
 -- which is assigned from a net
 unfoldable pub pinRead : ℕ → Taken → Taken → Option Terminal
 pinRead k p l =
-    let x = getD (l .numbers) 0 0 in
-    let y = getD (l .numbers) 1 0 in
+    let left = getD (l .numbers) 0 0 in
+    let right = getD (l .numbers) 1 0 in
     cond (sameNumbers (p .numbers) (k ∷ []))
-    (cond (eqb (p .form) 0 && (eqb (l .form) 1 && eqb y k)) (some (inp x)) (cond (eqb (p .form) 1 && (eqb (l .form) 2 && eqb x k)) (some (out y)) none))
+    (cond (eqb (p .form) 0 && (eqb (l .form) 1 && eqb right k)) (some (inp left)) (cond (eqb (p .form) 1 && (eqb (l .form) 2 && eqb left k)) (some (out right)) none))
     none
 
 -- from position k on: as many port lines as assignments
