@@ -8,7 +8,7 @@ use second::translate::netlist;
 use second::verilog::{call, exported, module};
 use second::write::hex;
 use second::{word, Refusal};
-use std::collections::BTreeMap;
+use std::panic::catch_unwind;
 
 const ROOM: usize = 1_000_000;
 
@@ -122,7 +122,6 @@ fn the_room_and_the_lent_storage() {
 struct Reader {
     ports: Vec<bool>,
     read: Netlist,
-    pins: BTreeMap<usize, Terminal>,
     declared: Vec<u16>,
 }
 
@@ -137,7 +136,7 @@ impl Reader {
         let words: Vec<&str> =
             line.split([' ', ',', ';', '(', ')']).filter(|word| !word.is_empty()).collect();
         match words[..] {
-            ["module", "circuit"] | ["endmodule"] | [] | ["input", "clock"] => {}
+            [] => {}
             ["input", port] => self.port(port, true),
             ["output", port] => self.port(port, false),
             ["wire", ..] => self.declared = words[1..].iter().map(|word| number(word)).collect(),
@@ -157,6 +156,7 @@ impl Reader {
     }
 
     fn port(&mut self, port: &str, input: bool) {
+        assert!(self.read.elements.is_empty() && self.read.pins.is_empty());
         assert_eq!(usize::from(number(port)), self.ports.len());
         self.ports.push(input);
     }
@@ -169,34 +169,83 @@ impl Reader {
     fn part(&mut self, part: u8, nets: &[u16]) {
         assert_eq!(self.declared, nets);
         assert!(nets.windows(2).all(|two| two[0] + 1 == two[1]));
-        self.read.elements.push(Element::Part { part, first: nets[0] });
+        self.element(Element::Part { part, first: nets[0] });
+    }
+
+    /// Elements stand before wires and pins.
+    fn element(&mut self, element: Element) {
+        assert!(self.read.wires.is_empty() && self.read.pins.is_empty());
+        self.read.elements.push(element);
         self.declared.clear();
+    }
+
+    /// Pins stand behind the wires, in the order of their positions.
+    fn pin(&mut self, port: &str, pin: Terminal) {
+        assert_eq!(usize::from(number(port)), self.read.pins.len());
+        self.read.pins.push(pin);
     }
 
     fn assign(&mut self, to: &str, from: &str) {
         if self.declared.len() == 2 {
             assert_eq!((self.declared[0], self.declared[1]), (number(from), number(to)));
-            self.read.elements.push(Element::Point { input: Input(number(from)) });
-            self.declared.clear();
+            assert_eq!(self.declared[0] + 1, self.declared[1]);
+            self.element(Element::Point { input: Input(number(from)) });
         } else if from.starts_with('p') {
-            self.pins.insert(number(from).into(), Terminal::Input(Input(number(to))));
+            self.pin(from, Terminal::Input(Input(number(to))));
         } else if to.starts_with('p') {
-            self.pins.insert(number(to).into(), Terminal::Output(Output(number(from))));
+            self.pin(to, Terminal::Output(Output(number(from))));
         } else {
+            assert!(self.read.pins.is_empty());
             self.read.wires.push(Wire { from: Output(number(from)), to: Input(number(to)) });
         }
     }
 }
 
 fn read_back(text: &str) -> Netlist {
+    let ports = text.strip_prefix("module circuit (\n  input clock").expect("the header");
+    let body = ports.strip_suffix("endmodule\n").expect("the ending");
     let mut reader = Reader::default();
-    text.lines().for_each(|line| reader.line(line));
+    body.lines().for_each(|line| reader.line(line));
     let sides: Vec<bool> =
-        reader.pins.values().map(|pin| matches!(pin, Terminal::Input(_))).collect();
+        reader.read.pins.iter().map(|pin| matches!(pin, Terminal::Input(_))).collect();
     assert_eq!(sides, reader.ports);
-    assert!(reader.pins.keys().copied().eq(0..reader.ports.len()));
-    reader.read.pins = reader.pins.into_values().collect();
     reader.read
+}
+
+/// An inverter from position 0 to position 1, and one fault after the other in it.
+#[test]
+fn faulty_modules_are_not_read() {
+    let sound = "module circuit (
+  input clock,
+  input p0000,
+  output p0001
+);
+wire t0000, t0001;
+not (t0001, t0000);
+assign t0000 = p0000;
+assign p0001 = t0001;
+endmodule
+";
+    assert_eq!(read_back(sound).pins.len(), 2);
+    let pins = "assign t0000 = p0000;\nassign p0001 = t0001;\n";
+    let faults = [
+        ("not (t0001, t0000)", "not (t0000, t0001)"),
+        ("t0001;\nnot (t0001, t0000)", "t0000;\nnot (t0000, t0000)"),
+        ("t0001;\nnot (t0001, t0000)", "t0002;\nnot (t0002, t0000)"),
+        ("input p0000,\n  output p0001", "output p0000,\n  input p0001"),
+        ("input p0000,\n  output p0001", "input p0001,\n  output p0000"),
+        (",\n  output p0001", ""),
+        ("assign p0001", "assign p0000"),
+        (pins, "assign p0001 = t0001;\nassign t0000 = p0000;\n"),
+        ("assign p0001 = t0001", "assign t0001 = p0001"),
+        ("endmodule", "assign t0000 = t0001;\nendmodule"),
+        ("endmodule\n", "endmodule\n\n"),
+        ("input clock", "output clock"),
+    ];
+    for (old, new) in faults {
+        let text = sound.replace(old, new);
+        assert!(text != sound && catch_unwind(|| read_back(&text)).is_err(), "{old} {new}");
+    }
 }
 
 #[test]

@@ -1,3 +1,4 @@
 pub mod Card
 pub mod CardCall
 pub mod Verilog
+pub mod VerilogRead

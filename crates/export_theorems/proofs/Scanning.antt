@@ -11,7 +11,8 @@ use lib.ListN.{length, getD, drop, length-append}
 use Rattle.laws.proofs.Tests.{T-is, and-both, not-true, is-false}
 use Rattle.laws.proofs.Below.{all, below}
 use Rattle.calculus.specs.Record.{All}
-use Rattle.export_calculus.specs.Verilog.{fourDigits, isMark, pick, letter, filled, Line, lineText, linesText, isDigit, numberHere, charHere, Scanned, withNumber, scan, Taken, Fit, orElse, firstFit, Block, more, block}
+use Rattle.export_calculus.specs.Verilog.{fourDigits, isMark, pick, letter, filled, Line, lineText, linesText}
+use Rattle.export_calculus.specs.VerilogRead.{isDigit, numberHere, charHere, Scanned, withNumber, scan, Taken, Fit, orElse, firstFit, Block, more, block}
 
 -- ---- numbers
 
@@ -109,13 +110,13 @@ module _ (x y z : ℕ) (rest : List ℕ) where
 
 -- ---- a list of forms
 
--- the forms withNumber the k-th differ from g
+-- the forms before the k-th differ from g
 abbrev pub earlier : List (List ℕ) → ℕ → List ℕ → Bool
 earlier fs zero g = true
 earlier [] (suc k) g = true
 earlier (f ∷ fs) (suc k) g = differ f g && earlier fs k g
 
--- .. each from those withNumber it
+-- .. each from those before it
 abbrev pub apart : List (List ℕ) → Bool
 apart fs = all (length fs) (λ k. earlier fs k (getD fs k []))
 

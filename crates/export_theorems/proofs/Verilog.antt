@@ -32,7 +32,8 @@ use Rattle.circuit_theorems.proofs.Main.{formed, formed-lean}
 use Rattle.circuit_theorems.proofs.Bounds.{few-pins}
 use Rattle.circuit_theorems.proofs.Told.{lean-known}
 use Rattle.export_calculus.specs.Card.{needAll, noRing, inputPlace}
-use Rattle.export_calculus.specs.Verilog.{moduleText, readVerilog, exported, export, verilogCall}
+use Rattle.export_calculus.specs.Verilog.{moduleText, exported, export, verilogCall}
+use Rattle.export_calculus.specs.VerilogRead.{readVerilog}
 use Rattle.export_theorems.specs.Broken.{KeptRing, LowestRing}
 use Rattle.export_theorems.proofs.CardLaws.{Ringed, ring-refused, ring-free}
 use Rattle.export_theorems.proofs.VerilogLength.{verilog-few}
@@ -159,6 +160,45 @@ module _ (s : List ℕ) (m : Net) (e : full s ≡ good m) where
 
     pub verilog-out : ((j : ℕ) → KeptRing (lean m) j → ⊥) → length text ≤ length room → verilogCall s room work .out ≡ text ++ drop (length text) room
     verilog-out free h = out-is ∙ rw (ring-free (lean m) 18 .1 free, le-leb (length text) (length room) h)
+
+-- ---- 1 to 16 come first, and as without this call
+
+all-number : {A : Type 0} (ok : A → Bool) (n : ℕ) (place : A → ℕ) (xs : List A) (why : Refusal) → needAll ok n place xs ≡ refused why → why .number ≡ n
+all-number ok n place [] why e = absurd (refused≢good (sym e))
+all-number ok n place (x ∷ xs) why e = by (ok x) e (λ h. all-number ok n place xs why h)
+  where
+    by : (b : Bool) → (need b n (place x) >>= λ _. needAll ok n place xs) ≡ refused why → (needAll ok n place xs ≡ refused why → why .number ≡ n) → why .number ≡ n
+    by true e go = go e
+    by false e go = ap (λ (w : Refusal). w .number) (refused-inj (sym e))
+
+-- what is refused behind 16
+exported-late : (m : Net) (room : ℕ) (why : Refusal) → saidOf (exported m room) ≡ refused why → 17 ≤ why .number
+unfolding exported
+exported-late m room why e = by (needAll (noRing (lean m .pins)) 18 inputPlace (lean m .elements)) refl e
+  where
+    roomy : (b : Bool) → saidOf (need b 17 (length (moduleText (lean m))) >>= λ _. good (moduleText (lean m))) ≡ refused why → 17 ≤ why .number
+    roomy true e = absurd (refused≢good (sym e))
+    roomy false e = let z : 17 ≡ why .number = ap (λ (w : Refusal). w .number) (refused-inj e) in omega arith
+
+    by : (a : Answer (Unit {0})) → needAll (noRing (lean m .pins)) 18 inputPlace (lean m .elements) ≡ a
+        → saidOf (a >>= λ _. need (leb (length (moduleText (lean m))) room) 17 (length (moduleText (lean m))) >>= λ _. good (moduleText (lean m))) ≡ refused why → 17 ≤ why .number
+    by (good tt) q e = roomy (leb (length (moduleText (lean m))) room) e
+    by (refused w) q e =
+        let y : w .number ≡ 18 = all-number (noRing (lean m .pins)) 18 inputPlace (lean m .elements) w q in
+        let z : w .number ≡ why .number = ap (λ (r : Refusal). r .number) (refused-inj e) in
+        omega arith
+
+pub verilog-early : (s room work : List ℕ) (why : Refusal) → why .number ≤ 16
+    → (verilogCall s room work .said ≡ refused why) ↔ ((need (leb 32768 (length work)) 1 0 >>= λ _. full s) ≡ refused why)
+unfolding verilogCall export
+verilog-early s room work why low = by (leb 32768 (length work)) (full s)
+  where
+    by : (b : Bool) (a : Answer Net) → (saidOf (need b 1 0 >>= λ _. a >>= λ m. exported m (length room)) ≡ refused why) ↔ ((need b 1 0 >>= λ _. a) ≡ refused why)
+    by false a = ((λ e. ap refused (refused-inj e)), (λ e. ap refused (refused-inj e)))
+    by true (refused w) = ((λ e. ap refused (refused-inj e)), (λ e. ap refused (refused-inj e)))
+    by true (good m) = ((λ e. absurd (let l = exported-late m (length room) why e in omega arith)), (λ e. absurd (refused≢good (sym e))))
+
+-- ---- what a call wrote
 
 export-wrote : {C : Type 0} (memory : ℕ) (s : List ℕ) (room : ℕ) (text : List ℕ) → export memory s room ≡ good text
     → ((m : Net) → full s ≡ good m → readVerilog text ≡ some (lean m) → C) → C

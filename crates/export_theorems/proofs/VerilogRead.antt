@@ -1,31 +1,32 @@
--- The text of a netlist whose numbers have fourDigits digits, read by the definition of the subset, gives back the netlist. Assumes nothing.
-use Prim.Native.Nat.{ℕ, zero, suc, _+_, _<_, _≤_}
+-- The text of a netlist whose numbers have four digits, read by the definition of the subset, gives back the netlist. Assumes nothing.
+use Prim.Native.Nat.{ℕ, zero, suc, _+_, _-_, _<_, _≤_}
 use mathlib.Core.Path.{_≡_, refl, sym, ap, _∙_, subst}
 use mathlib.Core.Bool.{Bool, true, false, cond, _&&_}
-use mathlib.Core.Option.{Option, none, some}
+use mathlib.Core.Option.{Option, none, some, bind}
 use mathlib.Core.List.{List, [], _∷_, _++_, map, append-assoc}
 use native.Mathlib.Omega.{arith}
-use lib.Dec.{T, eqb, eqb-refl, eqb→eq, leb, leb→le}
-use lib.ListN.{length, getD, drop, length-append, length-map}
-use lib.Seq.{drop-at}
-use Rattle.laws.proofs.Tests.{T-is, and-both}
+use lib.Dec.{T, eqb, eqb-refl, leb, leb→le}
+use lib.ListN.{length, getD, length-append}
+use borrow.Author.Tests.{ne-eqb}
+use Rattle.laws.proofs.Tests.{T-is, and-both, by-eqb}
 use Rattle.laws.proofs.Below.{all, below}
 use Rattle.calculus.specs.Net.{Terminal, inp, out, number, Interface, Element, point, part, Wire, Net}
 use Rattle.calculus.specs.Record.{All}
-use Rattle.export_calculus.specs.Verilog.{elementForms, portForms, assignForms, elementWords, portWords, assignWords, header, portsEnd, moduleEnd, filled, letter, Line, lineText, linesText, lineOfElement, lineOfWire, lineOfPin, lineOfPort, linesOfPins, linesOfPorts, moduleText, Taken, firstFit, block, elementOf, wiresOf, pinsOf, sameText, namedNet, readVerilog}
-use Rattle.export_theorems.proofs.Scanning.{numbersOf, earlier, apart, none-fits, full-forms, LineReadable, takenOf, first-none, block-read, texts-long}
+use Rattle.export_calculus.specs.Verilog.{elementForms, portForms, assignForms, header, portsEnd, moduleEnd, isMark, pick, filled, letter, Line, lineText, linesText, kindLine, lineOfElement, lineOfWire, lineOfPin, lineOfPort, linesOfPins, linesOfPorts, moduleText}
+use Rattle.export_calculus.specs.VerilogRead.{elementWords, portWords, assignWords, Scanned, scan, Block, firstFit, block, sameNumbers, ownNumbers, elementRead, elementsRead, wiresRead, behindWires, pinRead, pinsRead, bodyRead, readVerilog}
+use Rattle.export_theorems.proofs.Scanning.{numbersOf, earlier, apart, none-fits, full-forms, LineReadable, takenOf, scan-filled, first-none, block-read, texts-long}
 
 -- ---- the reader's words make the writer's forms, by computing
 
-element-words : elementWords ≡ elementForms
+pub element-words : elementWords ≡ elementForms
 unfolding elementWords elementForms
 element-words = refl
 
-port-words : portWords ≡ portForms
+pub port-words : portWords ≡ portForms
 unfolding portWords portForms
 port-words = refl
 
-assign-words : assignWords ≡ assignForms
+pub assign-words : assignWords ≡ assignForms
 unfolding assignWords assignForms
 assign-words = refl
 
@@ -98,7 +99,7 @@ no-element (l ∷ ls) a =
     rw (append-assoc (lineText assignForms l) (linesText assignForms ls) moduleEnd)
     (first-none elementForms (getD assignForms (l .form) []) (below 3 (λ k. none-fits elementForms (getD assignForms k [])) element-assign (l .form) (a .0 .known)) 0 (l .x) (l .y) (l .z) (linesText assignForms ls ++ moduleEnd))
 
--- ---- what fits fourDigits digits
+-- ---- what fits four digits
 
 abbrev pub ElementFour : Element → Type 0
 ElementFour (point i) = i + 2 < 10000
@@ -131,43 +132,90 @@ port-lines k (out o ∷ ts) h = (record { known = omega arith; x = omega arith; 
 
 -- ---- from lines back to a netlist
 
-element-back : (e : Element) → ElementFour e → elementOf (takenOf elementForms (lineOfElement e)) ≡ e
-unfolding elementForms
-element-back (point i) h = refl
-element-back (part zero i) h = refl
-element-back (part (suc zero) i) h = refl
-element-back (part (suc (suc zero)) i) h = refl
-element-back (part (suc (suc (suc zero))) i) h = refl
-element-back (part (suc (suc (suc (suc zero)))) i) h = refl
-element-back (part (suc (suc (suc (suc (suc zero))))) i) h = refl
-element-back (part (suc (suc (suc (suc (suc (suc zero)))))) i) h = refl
-element-back (part (suc (suc (suc (suc (suc (suc (suc p))))))) i) h = absurd (omega (arith, h .1))
+same-self : (s : List ℕ) → sameNumbers s s ≡ true
+same-self [] = refl
+same-self (c ∷ s) = rw (T-is (eqb c c) (eqb-refl c)) (same-self s)
 
-elements-back : (es : List Element) → All ElementFour es → map elementOf (map (takenOf elementForms) (map lineOfElement es)) ≡ es
+pub bind-some : {A B : Type 0} (o : Option A) (a : A) (f : A → Option B) → o ≡ some a → bind o f ≡ f a
+unfolding bind
+bind-some {A = A} o a f h = ap (λ (x : Option A). bind x f) h
+
+-- a mark of an element's line stands for the number that its words ask for
+pub pick-own : (c n : ℕ) → T (isMark c) → pick c n (n + 1) (n + 2) ≡ n + (c - 88)
+pick-own c n t =
+    let b = and-both (leb 88 c) (leb c 90) t in
+    let l : 88 ≤ c = leb→le 88 c (b .0) in
+    let h : c ≤ 90 = leb→le c 90 (b .1) in
+    by-eqb (λ x. cond x n (cond (eqb c 89) (n + 1) (n + 2)) ≡ n + (c - 88)) c 88 (λ e. let z : n ≡ n + (c - 88) = omega arith in z)
+    (λ d. by-eqb (λ x. cond x (n + 1) (n + 2) ≡ n + (c - 88)) c 89 (λ e. let z : n + 1 ≡ n + (c - 88) = omega arith in z) (λ f. last c n l h d f))
+  where
+    last : (c n : ℕ) → 88 ≤ c → c ≤ 90 → (c ≡ 88 → ⊥) → (c ≡ 89 → ⊥) → n + 2 ≡ n + (c - 88)
+    last c n l h d f = omega arith
+
+numbers-own : (f : List ℕ) (n : ℕ) → numbersOf f n (n + 1) (n + 2) ≡ ownNumbers f n
+numbers-own [] n = refl
+numbers-own (c ∷ cs) n = by (isMark c) refl (numbers-own cs n)
+  where
+    by : (b : Bool) → isMark c ≡ b → numbersOf cs n (n + 1) (n + 2) ≡ ownNumbers cs n
+        → cond b (pick c n (n + 1) (n + 2) ∷ numbersOf cs n (n + 1) (n + 2)) (numbersOf cs n (n + 1) (n + 2)) ≡ cond b ((n + (c - 88)) ∷ ownNumbers cs n) (ownNumbers cs n)
+    by true q e = let p = pick-own c n (subst (λ (b : Bool). T b) (sym q) tt) in rw (p, e)
+    by false q e = e
+
+-- the first number of a line is that of the first terminal
+first-number : (k n : ℕ) → k < 8 → getD (numbersOf (getD elementWords k []) n (n + 1) (n + 2)) 0 0 ≡ n
+unfolding elementWords
+first-number zero n h = refl
+first-number (suc zero) n h = refl
+first-number (suc (suc zero)) n h = refl
+first-number (suc (suc (suc zero))) n h = refl
+first-number (suc (suc (suc (suc zero)))) n h = refl
+first-number (suc (suc (suc (suc (suc zero))))) n h = refl
+first-number (suc (suc (suc (suc (suc (suc zero)))))) n h = refl
+first-number (suc (suc (suc (suc (suc (suc (suc zero))))))) n h = refl
+first-number (suc (suc (suc (suc (suc (suc (suc (suc k)))))))) n h = absurd (omega arith)
+
+element-read : (k n : ℕ) → k < 8 → elementRead (takenOf elementWords (kindLine k n)) ≡ some (cond (eqb k 7) (point n) (part k n))
+unfolding elementRead
+element-read k n h = rw (first-number k n h, numbers-own (getD elementWords k []) n, same-self (ownNumbers (getD elementWords k []) n))
+
+element-back : (e : Element) → ElementFour e → elementRead (takenOf elementWords (lineOfElement e)) ≡ some e
+element-back (point i) h = element-read 7 i (omega arith)
+element-back (part p i) h =
+    let l : p < 7 = h .1 in
+    element-read p i (omega arith) ∙ ap (λ (b : Bool). some (cond b (point i) (part p i))) (ne-eqb p 7 (λ z. absurd (omega arith)))
+
+elements-back : (es : List Element) → All ElementFour es → elementsRead (map (takenOf elementWords) (map lineOfElement es)) ≡ some es
 elements-back [] a = refl
-elements-back (e ∷ es) a = rw (element-back e (a .0), elements-back es (a .1))
+elements-back (e ∷ es) a = bind-some _ e _ (element-back e (a .0)) ∙ bind-some _ es _ (elements-back es (a .1))
 
-wires-none : (k : ℕ) (ts : Interface) → wiresOf (map (takenOf assignForms) (linesOfPins k ts)) ≡ []
-unfolding assignForms
+wires-none : (k : ℕ) (ts : Interface) → wiresRead (map (takenOf assignWords) (linesOfPins k ts)) ≡ []
+unfolding assignWords
 wires-none k [] = refl
-wires-none k (inp i ∷ ts) = wires-none (k + 1) ts
-wires-none k (out o ∷ ts) = wires-none (k + 1) ts
+wires-none k (inp i ∷ ts) = refl
+wires-none k (out o ∷ ts) = refl
 
-wires-back : (ws : List Wire) (k : ℕ) (ts : Interface) → wiresOf (map (takenOf assignForms) (map lineOfWire ws ++ linesOfPins k ts)) ≡ ws
-unfolding assignForms
+wires-back : (ws : List Wire) (k : ℕ) (ts : Interface) → wiresRead (map (takenOf assignWords) (map lineOfWire ws ++ linesOfPins k ts)) ≡ ws
+unfolding assignWords
 wires-back [] k ts = wires-none k ts
 wires-back (w ∷ ws) k ts = ap (λ (l : List Wire). w ∷ l) (wires-back ws k ts)
 
-pins-alone : (k : ℕ) (ts : Interface) → pinsOf (map (takenOf assignForms) (linesOfPins k ts)) ≡ ts
-unfolding assignForms
-pins-alone k [] = refl
-pins-alone k (inp i ∷ ts) = ap (λ (l : Interface). inp i ∷ l) (pins-alone (k + 1) ts)
-pins-alone k (out o ∷ ts) = ap (λ (l : Interface). out o ∷ l) (pins-alone (k + 1) ts)
+behind-none : (k : ℕ) (ts : Interface) → behindWires (map (takenOf assignWords) (linesOfPins k ts)) ≡ map (takenOf assignWords) (linesOfPins k ts)
+behind-none k [] = refl
+behind-none k (inp i ∷ ts) = refl
+behind-none k (out o ∷ ts) = refl
 
-pins-back : (ws : List Wire) (k : ℕ) (ts : Interface) → pinsOf (map (takenOf assignForms) (map lineOfWire ws ++ linesOfPins k ts)) ≡ ts
-unfolding assignForms
-pins-back [] k ts = pins-alone k ts
-pins-back (w ∷ ws) k ts = pins-back ws k ts
+behind-back : (ws : List Wire) (k : ℕ) (ts : Interface) → behindWires (map (takenOf assignWords) (map lineOfWire ws ++ linesOfPins k ts)) ≡ map (takenOf assignWords) (linesOfPins k ts)
+behind-back [] k ts = behind-none k ts
+behind-back (w ∷ ws) k ts = behind-back ws k ts
+
+pin-back : (k : ℕ) (t : Terminal) → pinRead k (takenOf portWords (lineOfPort k t)) (takenOf assignWords (lineOfPin k t)) ≡ some t
+unfolding pinRead portWords assignWords
+pin-back k (inp i) = rw (T-is (eqb k k) (eqb-refl k))
+pin-back k (out o) = rw (T-is (eqb k k) (eqb-refl k))
+
+pins-back : (k : ℕ) (ts : Interface) → pinsRead k (map (takenOf portWords) (linesOfPorts k ts)) (map (takenOf assignWords) (linesOfPins k ts)) ≡ some ts
+pins-back k [] = refl
+pins-back k (t ∷ ts) = bind-some _ t _ (pin-back k t) ∙ bind-some _ ts _ (pins-back (k + 1) ts)
 
 -- ---- the whole
 
@@ -179,9 +227,16 @@ all-both : {A : Type 0} (F : A → Type 0) (xs ys : List A) → All F xs → All
 all-both F [] ys a b = b
 all-both F (x ∷ xs) ys a b = (a .0, all-both F xs ys (a .1) b)
 
-same-text : (s : List ℕ) → sameText s s ≡ true
-same-text [] = refl
-same-text (c ∷ s) = rw (T-is (eqb c c) (eqb-refl c)) (same-text s)
+-- a text without numbers
+header-filled : (rest : List ℕ) → header ++ rest ≡ filled header 0 0 0 ++ rest
+unfolding header letter
+header-filled rest = refl
+
+scan-header : (rest : List ℕ) → scan header (header ++ rest) ≡ some (record { numbers = numbersOf header 0 0 0; rest = rest })
+scan-header rest = ap (scan header) (header-filled rest) ∙ scan-filled 0 0 0 header (omega arith) (omega arith) (omega arith) rest
+
+scan-closing : (rest : List ℕ) → scan portsEnd (portsEnd ++ rest) ≡ some (record { numbers = numbersOf portsEnd 0 0 0; rest = rest })
+scan-closing rest = ap (scan portsEnd) (closing-filled rest) ∙ scan-filled 0 0 0 portsEnd (omega arith) (omega arith) (omega arith) rest
 
 module _ (m : Net) (f : FitsFour m) where
   abbrev P : List Line
@@ -243,54 +298,43 @@ module _ (m : Net) (f : FitsFour m) where
       let l₅ = length-append (linesText assignForms A) moduleEnd in
       (omega arith, omega arith, omega arith)
 
-  block-ports : block (length (moduleText m)) portForms firsts ≡ record { lines = map (takenOf portForms) P; rest = portsEnd ++ second }
+  two-ports : All (LineReadable (length portForms)) P
   unfolding portForms
-  block-ports = block-read portForms ports-apart (portsEnd ++ second) (no-port second) P ports-ok (length (moduleText m)) (long .0)
+  two-ports = ports-ok
 
-  block-elements : block (length (moduleText m)) elementForms second ≡ record { lines = map (takenOf elementForms) E; rest = third }
+  eight-elements : All (LineReadable (length elementForms)) E
   unfolding elementForms
-  block-elements = block-read elementForms elements-apart third (no-element A assigns-ok) E elements-ok (length (moduleText m)) (long .1)
+  eight-elements = elements-ok
 
-  block-assigns : block (length (moduleText m)) assignForms third ≡ record { lines = map (takenOf assignForms) A; rest = moduleEnd }
+  three-assigns : All (LineReadable (length assignForms)) A
   unfolding assignForms
-  block-assigns = block-read assignForms assigns-apart moduleEnd no-assign A assigns-ok (length (moduleText m)) (long .2)
+  three-assigns = assigns-ok
 
-  named-is : namedNet (moduleText m) ≡ m
-  unfolding namedNet
-  named-is =
-      rw (
-        port-words,
-        element-words,
-        assign-words,
-        ap (drop (length header)) text-is ∙ drop-at header firsts (length header) refl,
-        block-ports,
-        drop-at portsEnd second (length portsEnd) refl,
-        block-elements,
-        block-assigns,
-        elements-back (m .elements) (f .elements),
-        wires-back (m .wires) 0 (m .pins),
-        pins-back (m .wires) 0 (m .pins),
-      )
+  block-ports : block (length (moduleText m)) portWords firsts ≡ record { lines = map (takenOf portWords) P; rest = portsEnd ++ second }
+  block-ports =
+      subst (λ (w : List (List ℕ)). block (length (moduleText m)) w firsts ≡ record { lines = map (takenOf w) P; rest = portsEnd ++ second }) (sym port-words)
+      (block-read portForms ports-apart (portsEnd ++ second) (no-port second) P two-ports (length (moduleText m)) (long .0))
+
+  block-elements : block (length (moduleText m)) elementWords second ≡ record { lines = map (takenOf elementWords) E; rest = third }
+  block-elements =
+      subst (λ (w : List (List ℕ)). block (length (moduleText m)) w second ≡ record { lines = map (takenOf w) E; rest = third }) (sym element-words)
+      (block-read elementForms elements-apart third (no-element A assigns-ok) E eight-elements (length (moduleText m)) (long .1))
+
+  block-assigns : block (length (moduleText m)) assignWords third ≡ record { lines = map (takenOf assignWords) A; rest = moduleEnd }
+  block-assigns =
+      subst (λ (w : List (List ℕ)). block (length (moduleText m)) w third ≡ record { lines = map (takenOf w) A; rest = moduleEnd }) (sym assign-words)
+      (block-read assignForms assigns-apart moduleEnd no-assign A three-assigns (length (moduleText m)) (long .2))
+
+  body-read : bodyRead (length (moduleText m)) (map (takenOf portWords) P) second ≡ some m
+  unfolding bodyRead
+  body-read =
+      rw (block-elements, block-assigns)
+      (bind-some _ (m .elements) _ (elements-back (m .elements) (f .elements))
+      ∙ bind-some _ (m .pins) _ (ap (pinsRead 0 (map (takenOf portWords) P)) (behind-back (m .wires) 0 (m .pins)) ∙ pins-back 0 (m .pins))
+      ∙ rw (same-self moduleEnd, wires-back (m .wires) 0 (m .pins)))
 
   pub verilog-read : readVerilog (moduleText m) ≡ some m
   unfolding readVerilog
-  verilog-read = rw (named-is, same-text (moduleText m))
-
--- the other half: a text that is read is the text of the netlist that it gives
-same-is : (s t : List ℕ) → T (sameText s t) → s ≡ t
-same-is [] [] h = refl
-same-is [] (d ∷ t) h = absurd h
-same-is (c ∷ s) [] h = absurd h
-same-is (c ∷ s) (d ∷ t) h =
-    let b = and-both (eqb c d) (sameText s t) h in
-    let e = eqb→eq c d (b .0) in
-    let r = same-is s t (b .1) in
-    cc
-
-pub read-verilog : (s : List ℕ) (m : Net) → readVerilog s ≡ some m → s ≡ moduleText m
-unfolding readVerilog
-read-verilog s m e = by (sameText (moduleText (namedNet s)) s) refl e
-  where
-    by : (b : Bool) → sameText (moduleText (namedNet s)) s ≡ b → cond b (some (namedNet s)) none ≡ some m → s ≡ moduleText m
-    by true q e = let h : namedNet s ≡ m = cc in sym (same-is (moduleText (namedNet s)) s (subst (λ (b : Bool). T b) (sym q) tt)) ∙ ap moduleText h
-    by false q e = let z : _≡_ {A = ℕ} 0 1 = cc in absurd (omega arith)
+  verilog-read =
+      bind-some _ (record { numbers = numbersOf header 0 0 0; rest = firsts }) _ (ap (scan header) text-is ∙ scan-header firsts)
+      ∙ rw block-ports (bind-some _ (record { numbers = numbersOf portsEnd 0 0 0; rest = second }) _ (scan-closing second) ∙ body-read)
