@@ -9,7 +9,7 @@ use Rattle.calculus.specs.Answer.{Answer, good, refused, _>>=_, need}
 use Rattle.calculus.specs.Net.{Net}
 use Rattle.calculus.specs.Lean.{lean}
 use Rattle.calculus.specs.Translate.{full, workOf}
-use Rattle.memory.specs.Map.{netIn}
+use Rattle.memory.specs.Map.{memorySize, netIn}
 use Rattle.typing.specs.declared.Refusal.{Refusal}
 use Rattle.typing.specs.Verdicts.{saidWhy}
 use Rattle.lean.specs.Table.{Rooted}
@@ -21,7 +21,7 @@ use Rattle.translator.specs.declared.Answer.the-variants as answer
 use Rattle.trace.proofs.StageLaws.{above-within, above-keeps}
 
 -- the roots change nothing of the netlist
-pub rooted-ran : (u v w : List ℕ) (e k p n : ℕ) (bits starts out after : List ℕ) (r : code.Answer) → 32768 ≤ length u → Rooted u v e k p
+pub rooted-ran : (u v w : List ℕ) (e k p n : ℕ) (bits starts out after : List ℕ) (r : code.Answer) → memorySize ≤ length u → Rooted u v e k p
     → AnswerSays r out after (ran (lean (netIn v e k p)) n bits starts (length out)) × Keeps v w → AnswerSays r out after (ran (lean (netIn u e k p)) n bits starts (length out)) × Keeps u w
 rooted-ran u v w e k p n bits starts out after r l q h = (
   subst (λ (m : Net). AnswerSays r out after (ran (lean m) n bits starts (length out))) (q .net) (h .0),
@@ -36,7 +36,7 @@ need-first false a f = refl
 module _ (s bits starts out : List ℕ) (n memory : ℕ) where
   trace-lent : trace memory s n bits starts (length out) ≡ (lent memory s >>= λ m. ran (lean m) n bits starts (length out))
   unfolding trace lent
-  trace-lent = need-first (leb 32768 memory) (full s) (λ m. ran (lean m) n bits starts (length out))
+  trace-lent = need-first (leb memorySize memory) (full s) (λ m. ran (lean m) n bits starts (length out))
 
   -- a refusal passes through
   pub refused-says : (why : Refusal) → refused (saidWhy why) ≡ lent memory s → AnswerSays (answer.Refused why) out out (trace memory s n bits starts (length out))

@@ -1,5 +1,5 @@
 -- Terminals, and the elements that have them. Assumes nothing.
-use Prim.Native.Nat.{ℕ, zero, suc, _+_, _≤_, _<_}
+use Prim.Native.Nat.{ℕ, _+_, _≤_, _<_}
 use mathlib.Core.Path.{_≡_, refl, sym, ap, _∙_, subst}
 use mathlib.Core.Logic.{_⊎_, inl, inr, ⊎-elim}
 use mathlib.Core.Bool.{Bool, true, false, cond, _||_}
@@ -14,8 +14,9 @@ use Rattle.calculus.specs.Inputs.{ins, madeAt, isOut}
 use Rattle.calculus.specs.Record.{Among, here, there}
 use Rattle.circuit_theorems.specs.Terminals.{has}
 use Rattle.circuit_theorems.specs.Formed.{Rising}
+use Rattle.circuit_theorems.proofs.Drivers.{made-append}
 use Rattle.trace_calculus.specs.Trace.{terminals}
-use Rattle.trace_theorems.proofs.Sources.{ins-range, out-of-point, out-of-part, out-not-made, terminal-is, point-terminal, part-terminal, out-terminal}
+use Rattle.trace_theorems.proofs.Sources.{ins-range, ins-of, out-of-point, out-of-part, out-not-made, terminal-is, point-terminal, part-terminal, out-terminal}
 use Rattle.trace_theorems.proofs.Owners.{start, last, same-owner}
 
 pub out-in : (es : List Element) (x : ℕ) → T (isOut es x) → (a : Element) × Among a es × (last a ≡ x)
@@ -37,18 +38,10 @@ made-within (part p i ∷ es) x h = elim (decLe 1 (ins (partSide (partAt p .inpu
   | no l ↦ (let r = made-within es x (omega arith) in (r .0, there (r .1), r .2, r .3))
 ]
 
-ins-of : (k i x : ℕ) → i ≤ x → x < i + k → 1 ≤ ins (partSide k i) x
-ins-of zero i x l h = absurd (omega arith)
-ins-of (suc k) i x l h = by-eqb (λ b. 1 ≤ cond b 1 0 + ins (partSide k (i + 1)) x) i x (λ e. omega arith) (λ d. omega (arith, ins-of k (i + 1) x (omega arith) (omega arith)))
-
-more-made : (c : Element) (es : List Element) (x : ℕ) → madeAt es x ≤ madeAt (c ∷ es) x
-more-made (point j) es x = omega arith
-more-made (part q j) es x = omega arith
-
 pub within-made : {es : List Element} (a : Element) (x : ℕ) → Among a es → start a ≤ x → x < last a → 1 ≤ madeAt es x
 within-made (point i) x (here {xs = es}) l h = by-eqb (λ b. 1 ≤ cond b 1 0 + madeAt es x) i x (λ e. omega arith) (λ d. absurd (d (omega arith)))
 within-made (part p i) x (here {xs = es}) l h = omega (arith, ins-of (partAt p .inputs) i x l h)
-within-made a x (there {y = c} {xs = es} g) l h = omega (arith, more-made c es x, within-made a x g l h)
+within-made a x (there {y = c} {xs = es} g) l h = omega (arith, made-append (c ∷ []) es x, within-made a x g l h)
 
 pub in-terminal : {es : List Element} (a : Element) (x : ℕ) → Among a es → start a ≤ x → x ≤ last a → T (has (terminals es) x)
 in-terminal {es} (point i) x h l k = elim (decLe (i + 1) x) [

@@ -24,10 +24,11 @@ use Rattle.circuit_theorems.proofs.Terminals.{rising-end}
 use Rattle.circuit_theorems.proofs.Main.{formed, formed-lean}
 use Rattle.circuit_theorems.proofs.Bounds.{few-pins}
 use Rattle.sheet_theorems.proofs.Judging.{of-refused}
+use Rattle.memory.specs.Map.{memorySize}
 use Rattle.translator.specs.Word.{packed, FitsWord}
 use Rattle.translator.proofs.WordLaws.{word-tells}
 use Rattle.translator.proofs.Places.{names-small, full-places}
-use Rattle.trace_calculus.specs.Trace.{upFrom, inputs, outPins, ran, trace, runCall}
+use Rattle.trace_calculus.specs.Trace.{OnRing, upFrom, inputs, outPins, ran, trace, runCall}
 use Rattle.trace_calculus.specs.Promise.{Traced, Ringless, LowestOnRing, ExactBits, Needs, OfSheet, RunPromise}
 use Rattle.trace_theorems.proofs.Lists.{in-has}
 use Rattle.trace_theorems.proofs.Sources.{has-left, has-right, has-append, has-up}
@@ -82,33 +83,33 @@ record Early (why : Refusal) : Type 0 where
 module _ (s bits starts : List ℕ) (n room : ℕ) (work : List ℕ) where
   -- the full netlist, or refusal 1 to 16
   abbrev made : Answer Net
-  made = need (leb 32768 (length work)) 1 0 >>= λ _. full s
+  made = need (leb memorySize (length work)) 1 0 >>= λ _. full s
 
   -- how a call ends: early, or as the run of the lean netlist does
   data Ends : Answer (List ℕ) → Type 0 where
     early : {why : Refusal} → made ≡ refused why → Early why → Ends (refused why)
-    of-net : {a : Answer (List ℕ)} (m : Net) → 32768 ≤ length work → full s ≡ good m → Came (lean m) n bits starts room a → Ends a
+    of-net : {a : Answer (List ℕ)} (m : Net) → memorySize ≤ length work → full s ≡ good m → Came (lean m) n bits starts room a → Ends a
 
-  made-good : (m : Net) → 32768 ≤ length work → full s ≡ good m → made ≡ good m
-  made-good m l e = rw (le-leb 32768 (length work) l, e)
+  made-good : (m : Net) → memorySize ≤ length work → full s ≡ good m → made ≡ good m
+  made-good m l e = rw (le-leb memorySize (length work) l, e)
 
   ends : Ends (trace (length work) s n bits starts room)
   unfolding trace
-  ends = memory (leb 32768 (length work)) refl
+  ends = memory (leb memorySize (length work)) refl
     where
-      trace-as : (b : Bool) → leb 32768 (length work) ≡ b → {a : Answer (List ℕ)} → (need b 1 0 >>= λ _. full s >>= λ m. ran (lean m) n bits starts room) ≡ a → Ends a
-          → Ends (need (leb 32768 (length work)) 1 0 >>= λ _. full s >>= λ m. ran (lean m) n bits starts room)
+      trace-as : (b : Bool) → leb memorySize (length work) ≡ b → {a : Answer (List ℕ)} → (need b 1 0 >>= λ _. full s >>= λ m. ran (lean m) n bits starts room) ≡ a → Ends a
+          → Ends (need (leb memorySize (length work)) 1 0 >>= λ _. full s >>= λ m. ran (lean m) n bits starts room)
       trace-as b e f h = subst Ends (sym (ap (λ (c : Bool). need c 1 0 >>= λ _. full s >>= λ m. ran (lean m) n bits starts room) e ∙ f)) h
 
-      sheet : leb 32768 (length work) ≡ true → (a : Answer Net) → full s ≡ a → Ends (need (leb 32768 (length work)) 1 0 >>= λ _. full s >>= λ m. ran (lean m) n bits starts room)
+      sheet : leb memorySize (length work) ≡ true → (a : Answer Net) → full s ≡ a → Ends (need (leb memorySize (length work)) 1 0 >>= λ _. full s >>= λ m. ran (lean m) n bits starts room)
       sheet e (good m) q =
           trace-as true e (ap (λ (a : Answer Net). a >>= λ m. ran (lean m) n bits starts room) q)
-          (of-net m (leb→le 32768 (length work) (subst T (sym e) tt)) q (came (lean m) n bits starts (formed-lean s m q) room))
+          (of-net m (leb→le memorySize (length work) (subst T (sym e) tt)) q (came (lean m) n bits starts (formed-lean s m q) room))
       sheet e (refused why) q =
           trace-as true e (ap (λ (a : Answer Net). a >>= λ m. ran (lean m) n bits starts room) q)
           (early (ap (λ (c : Bool). need c 1 0 >>= λ _. full s) e ∙ q) (let p = of-refused (full s) why (full-places s) q in record { from = omega (arith, p .from); to = p .to; few = p .few; small = names-small s why (p .names) }))
 
-      memory : (b : Bool) → leb 32768 (length work) ≡ b → Ends (need (leb 32768 (length work)) 1 0 >>= λ _. full s >>= λ m. ran (lean m) n bits starts room)
+      memory : (b : Bool) → leb memorySize (length work) ≡ b → Ends (need (leb memorySize (length work)) 1 0 >>= λ _. full s >>= λ m. ran (lean m) n bits starts room)
       memory true e = sheet e (full s) refl
       memory false e = trace-as false e refl (early (ap (λ (c : Bool). need c 1 0 >>= λ _. full s) e) (record { from = omega arith; to = omega arith; few = omega arith; small = (omega arith, omega arith) }))
 
@@ -173,6 +174,14 @@ module _ (s bits starts : List ℕ) (n room : ℕ) (work : List ℕ) where
   ringed x (of-net m l q (by-bits f h)) o = absurd (f x (same-net m q o .ring))
   ringed x (of-net m l q (by-room d h)) o = absurd (d .ringless x (same-net m q o .ring))
   ringed x (of-net m l q (to-end d h z t)) o = absurd (d .ringless x (same-net m q o .ring))
+
+  -- a ring somewhere is enough
+  ringed-somewhere : {a : Answer (List ℕ)} → Ends a → OfSheet s work (λ m. (x : ℕ) × OnRing m x) → (x : ℕ) × (saidOf a ≡ refuse 19 x)
+  ringed-somewhere (early q l) o = absurd (not-early q o)
+  ringed-somewhere (of-net m l q (by-ring {x = y} h)) o = (y, refl)
+  ringed-somewhere (of-net m l q (by-bits f h)) o = let p = same-net m q o in absurd (f (p .0) (p .1))
+  ringed-somewhere (of-net m l q (by-room d h)) o = let p = same-net m q o in absurd (d .ringless (p .0) (p .1))
+  ringed-somewhere (of-net m l q (to-end d h z t)) o = let p = same-net m q o in absurd (d .ringless (p .0) (p .1))
 
   wrong : (x : ℕ) {a : Answer (List ℕ)} → Ends a → saidOf a ≡ refuse 20 x → (x ≡ 0) × OfSheet s work (λ m. Ringless m × (ExactBits m n bits starts → ⊥))
   wrong x (early q l) e = absurd (let z = ap (λ (r : Refusal). r .number) (refused-inj e) in omega (arith, l .to))
@@ -241,6 +250,16 @@ run-exists s bits starts n output work = run-promise s bits starts n output work
 -- 19 exactly when a ring passes through no register, at the lowest input on any
 pub ring-exact : (s bits starts : List ℕ) (n : ℕ) (output work : List ℕ) (x : ℕ) → (runCall s bits starts n output work .said ≡ refuse 19 x) ↔ OfSheet s work (λ m. LowestOnRing m x)
 ring-exact s bits starts n output work = run-promise s bits starts n output work .ring
+
+-- "it is refused exactly when one doesn't" (document 02, L4), and somewhere on the rings that do not there is the lowest input
+pub ring-refused : (s bits starts : List ℕ) (n : ℕ) (output work : List ℕ)
+    → ((x : ℕ) × (runCall s bits starts n output work .said ≡ refuse 19 x)) ↔ OfSheet s work (λ m. (x : ℕ) × OnRing m x)
+unfolding runCall
+ring-refused s bits starts n output work =
+    let e = ends s bits starts n (length output) work in (
+      (λ r. let o = rings s bits starts n (length output) work (r .0) e (r .1) in record { memory = o .memory; net = o .net; of-sheet = o .of-sheet; has = (r .0, o .has .ring) }),
+      ringed-somewhere s bits starts n (length output) work e,
+    )
 
 -- two calls for C that answer the same number said the same
 pub run-tells : (s s′ bits bits′ starts starts′ : List ℕ) (n n′ : ℕ) (output output′ work work′ : List ℕ) → n ≤ 65535 → n′ ≤ 65535

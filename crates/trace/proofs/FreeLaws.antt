@@ -10,7 +10,7 @@ use native.Mathlib.Nat.{suc-mul, mul-le-mul-right}
 use lib.ListN.{length, getD, set, drop, length-append}
 use lib.Seq.{sets}
 use lib.Dec.{T, eqb, ltb, leb, eqb→eq}
-use borrow.Author.Tests.{eq-eqb, ne-eqb, le-leb, lt-leb}
+use borrow.Author.Tests.{not-true, not-false, eq-eqb, ne-eqb, le-leb, lt-leb}
 use Rattle.laws.proofs.Tests.{and-both, T-is}
 use Rattle.laws.proofs.Regions.{sets-append, sets-front}
 use Rattle.calculus.specs.Answer.{Answer, good, refuse, _>>=_, need}
@@ -18,6 +18,7 @@ use Rattle.calculus.specs.Net.{Interface, Element, part, Net}
 use Rattle.calculus.specs.Record.{Bits, Among}
 use Rattle.calculus.specs.Translate.{saidOf, outOf}
 use Rattle.circuit_theorems.specs.Terminals.{has}
+use Rattle.memory.specs.Map.{memorySize}
 use Rattle.lean.specs.Table.{Within, entry}
 use Rattle.lean.proofs.TableLaws.{within-none, within-then, within-set, entry-same, entry-other}
 use Rattle.trace_calculus.specs.Trace.{terminals, OnRing, run, inPins, outPins, registers, place, givenBits, startBits, bitByte, row, rows, allBits}
@@ -25,9 +26,10 @@ use Rattle.trace_theorems.proofs.TraceRun.{heldAt}
 use Rattle.trace_theorems.proofs.Lending.{row-length, rows-length}
 use Rattle.trace_theorems.proofs.Sources.{out-terminal}
 use Rattle.trace_theorems.proofs.Owners.{last}
+use Rattle.trace_steps.specs.Map.{registersAt, orderAt, pinsAt, bitsAt, registerEntry, inverterEntry, oneEntry}
 use Rattle.trace_steps.specs.Turns.{takeTurns, Looped}
 use Rattle.trace_steps.specs.Steps.{lit, firstIn, Looks, Ordered, Register, Registers, wakeOne, beginOne}
-use Rattle.trace_steps.specs.Pins.{Counted, counted, inPinCount, outPinCount, Pins, Listable, RegistersListed, registerOne}
+use Rattle.trace_steps.specs.Pins.{Counted, counted, inPinCount, outPinCount, PinsLow, Listable, RegistersListed, registerOne}
 use Rattle.trace_steps.specs.Ticks.{Sizes, sizes, lighted, ticked, shownBits, Runs, Running, running, tickOne, Ran, TraceFits, InOrder}
 use Rattle.trace_steps.proofs.Laws.{first-low}
 use Rattle.trace_steps.proofs.SweepLaws.{looks-table}
@@ -46,19 +48,11 @@ use Rattle.trace.proofs.RunLaws.{RunStood, State, state-next, row-store
 use Rattle.trace.proofs.StageLaws.{above-then, above-within, tabled-same}
 
 -- a test, and what it says
-un-true : (b : Bool) → not b ≡ true → b ≡ false
-un-true true e = absurd (subst T (sym e) tt)
-un-true false e = refl
-
-un-false : (b : Bool) → not b ≡ false → b ≡ true
-un-false true e = refl
-un-false false e = absurd (subst T e tt)
-
 pub said-no : {x : Bool} (r : Bool) → r ≡ x → not r ≡ true → x ≡ false
-said-no r e q = sym e ∙ un-true r q
+said-no r e q = sym e ∙ not-true r q
 
 pub said-yes : {x : Bool} (r : Bool) → r ≡ x → not r ≡ false → x ≡ true
-said-yes r e q = sym e ∙ un-false r q
+said-yes r e q = sym e ∙ not-false r q
 
 -- ---- what is lent
 
@@ -194,7 +188,7 @@ module _ (u : List ℕ) (m : Net) (end settled pins : ℕ) (rn : Runnable u m en
   few = rn .order .ordered .few
 
   met-same : (j : ℕ) → j < settled → met w₁ j ≡ met u j
-  met-same j l = ls .above (13824 + j) (omega arith)
+  met-same j l = ls .above (orderAt + j) (omega arith)
 
   met-low : (j : ℕ) → j < settled → met u j < 8192
   met-low j l = rn .order .ordered .looks j l .low
@@ -202,7 +196,7 @@ module _ (u : List ℕ) (m : Net) (end settled pins : ℕ) (rn : Runnable u m en
   first-at : (j : ℕ) → j < settled → getD w₁ (firstIn w₁ (met w₁ j)) 0 ≡ getD u (firstIn u (met u j)) 0
   first-at j l =
       let o = met-low j l in
-      ap (λ (x : ℕ). getD w₁ (firstIn w₁ x) 0) (met-same j l) ∙ ap (λ (k : ℕ). getD w₁ (cond (ltb k 65525) (met u j - 2) (met u j - 1)) 0) (ls .table (met u j) o) ∙ ls .table (firstIn u (met u j)) (first-low u (met u j) o)
+      ap (λ (x : ℕ). getD w₁ (firstIn w₁ x) 0) (met-same j l) ∙ ap (λ (k : ℕ). getD w₁ (cond (ltb k inverterEntry) (met u j - 2) (met u j - 1)) 0) (ls .table (met u j) o) ∙ ls .table (firstIn u (met u j)) (first-low u (met u j) o)
 
   last-at : (j : ℕ) → j < settled → getD w₁ (met w₁ j - 1) 0 ≡ getD u (met u j - 1) 0
   last-at j l = let o = met-low j l in ap (λ (x : ℕ). getD w₁ (x - 1) 0) (met-same j l) ∙ ls .table (met u j - 1) (omega arith)
@@ -244,7 +238,7 @@ module _ (u : List ℕ) (m : Net) (end settled pins : ℕ) (rn : Runnable u m en
 
   record Begun (j : ℕ) (w : List ℕ) : Type 0 where
     pub within : Within w₁ w
-    pub done : (x : ℕ) → x < j → entry w x ≡ bitByte (eqb (getD w₁ x 0) 65526)
+    pub done : (x : ℕ) → x < j → entry w x ≡ bitByte (eqb (getD w₁ x 0) oneEntry)
 
   begin-all : (n : ℕ) → n ≤ 8192 → Begun n (takeTurns beginOne n 0 w₁)
   begin-all n few = turns-keep beginOne Begun w₁ (record { within = within-none w₁; done = λ x l. absurd (omega arith) }) n step
@@ -254,11 +248,11 @@ module _ (u : List ℕ) (m : Net) (end settled pins : ℕ) (rn : Runnable u m en
           let e = q .within .below j (omega arith) in
           let z = q .within .size in
           let y = tabled₁ .size in
-          let v = bitByte (eqb (getD w j 0) 65526) in
+          let v = bitByte (eqb (getD w j 0) oneEntry) in
           record {
             within = within-then (q .within) (within-set w j v (omega arith));
             done = λ x h. elim (ℕ-discrete x j) [
-              | yes a ↦ ap (entry (beginOne j w)) a ∙ entry-same w j v (omega arith) (omega arith) ∙ ap (λ (k : ℕ). bitByte (eqb k 65526)) e ∙ ap (λ (k : ℕ). bitByte (eqb (getD w₁ k 0) 65526)) (sym a)
+              | yes a ↦ ap (entry (beginOne j w)) a ∙ entry-same w j v (omega arith) (omega arith) ∙ ap (λ (k : ℕ). bitByte (eqb k oneEntry)) e ∙ ap (λ (k : ℕ). bitByte (eqb (getD w₁ k 0) oneEntry)) (sym a)
               | no d ↦ entry-other w j x v d ∙ q .done x (omega arith)
             ];
           }
@@ -284,23 +278,23 @@ module _ (u : List ℕ) (m : Net) (end settled pins : ℕ) (rn : Runnable u m en
             i : Within w₁ w
             i = within-then (bg .within) (q .within)
 
-            at-j : Among (part 1 (getD rs j 0)) (m .elements) × (getD w₁ (8192 + j) 0 ≡ getD rs j 0 + 1)
+            at-j : Among (part 1 (getD rs j 0)) (m .elements) × (getD w₁ (registersAt + j) 0 ≡ getD rs j 0 + 1)
             at-j = stood .register-at j l
 
-            shape : wakeOne starts j w ≡ set w (19072 + (getD rs j 0 + 1)) (getD starts j 0)
-            shape = let f = stood .few-registers in ap (λ (o : ℕ). set w (19072 + o) (getD starts j 0)) (i .below (8192 + j) (omega arith) ∙ at-j .1)
+            shape : wakeOne starts j w ≡ set w (bitsAt + (getD rs j 0 + 1)) (getD starts j 0)
+            shape = let f = stood .few-registers in ap (λ (o : ℕ). set w (bitsAt + o) (getD starts j 0)) (i .below (registersAt + j) (omega arith) ∙ at-j .1)
 
             lo : getD rs j 0 + 1 < 8192
             lo = let a = t .low (getD rs j 0 + 1) (out-terminal (m .elements) (getD rs j 0 + 1) (in-out (part 1 (getD rs j 0)) (at-j .0))) in let f = t .few in omega arith
 
-            big : 32768 ≤ length w
+            big : memorySize ≤ length w
             big = let a = i .size in let c = tabled₁ .size in omega arith
 
-            next : Woken (suc j) (set w (19072 + (getD rs j 0 + 1)) (getD starts j 0))
+            next : Woken (suc j) (set w (bitsAt + (getD rs j 0 + 1)) (getD starts j 0))
             next = record {
               within = within-then (q .within) (within-set w (getD rs j 0 + 1) (getD starts j 0) lo);
               done = λ k h. elim (ℕ-discrete k j) [
-                | yes e ↦ subst (λ (z : ℕ). entry (set w (19072 + (getD rs j 0 + 1)) (getD starts j 0)) (getD rs z 0 + 1) ≡ getD starts z 0) (sym e) (entry-same w (getD rs j 0 + 1) (getD starts j 0) big lo)
+                | yes e ↦ subst (λ (z : ℕ). entry (set w (bitsAt + (getD rs j 0 + 1)) (getD starts j 0)) (getD rs z 0 + 1) ≡ getD starts z 0) (sym e) (entry-same w (getD rs j 0 + 1) (getD starts j 0) big lo)
                 | no d ↦ entry-other w (getD rs j 0 + 1) (getD rs k 0 + 1) (getD starts j 0) (λ e. d (stood .apart k j (omega arith) l (omega arith))) ∙ q .done k (omega arith)
               ];
               others = λ x f. entry-other w (getD rs j 0 + 1) x (getD starts j 0) (λ e. f j (omega arith) (sym e)) ∙ q .others x (λ k h. f k (omega arith));
@@ -310,7 +304,7 @@ module _ (u : List ℕ) (m : Net) (end settled pins : ℕ) (rn : Runnable u m en
     woken = subst (Woken regs) (sym (wk .whole)) wake-all
 
     -- a constant's output
-    still : (a : Element) → Among a (m .elements) → (getD w₁ (last a) 0 ≡ 65521 → ⊥) → entry w₃ (last a) ≡ bitByte (eqb (getD w₁ (last a) 0) 65526)
+    still : (a : Element) → Among a (m .elements) → (getD w₁ (last a) 0 ≡ registerEntry → ⊥) → entry w₃ (last a) ≡ bitByte (eqb (getD w₁ (last a) 0) oneEntry)
     still a h d =
         woken .others (last a) (λ k l e. d (ap (λ (z : ℕ). getD w₁ z 0) (sym e) ∙ element-entry w₁ m end pins tabled₁ (part 1 (getD rs k 0)) (stood .register-at k l .0)))
         ∙ begun .done (last a) (t .low (last a) (out-terminal (m .elements) (last a) (in-out a h)))
@@ -322,11 +316,11 @@ module _ (u : List ℕ) (m : Net) (end settled pins : ℕ) (rn : Runnable u m en
       zeros = λ i h.
           let z : i + 0 ≡ i = omega arith in
           let e = element-entry w₁ m end pins tabled₁ (part 0 i) h in
-          subst (λ (x : ℕ). lit w₃ x ≡ false) z (ap (λ (x : ℕ). eqb x 1) (still (part 0 i) h (λ d. omega arith) ∙ ap (λ (x : ℕ). bitByte (eqb x 65526)) e));
+          subst (λ (x : ℕ). lit w₃ x ≡ false) z (ap (λ (x : ℕ). eqb x 1) (still (part 0 i) h (λ d. omega arith) ∙ ap (λ (x : ℕ). bitByte (eqb x oneEntry)) e));
       ones = λ i h.
           let z : i + 0 ≡ i = omega arith in
           let e = element-entry w₁ m end pins tabled₁ (part 6 i) h in
-          subst (λ (x : ℕ). lit w₃ x ≡ true) z (ap (λ (x : ℕ). eqb x 1) (still (part 6 i) h (λ d. omega arith) ∙ ap (λ (x : ℕ). bitByte (eqb x 65526)) e));
+          subst (λ (x : ℕ). lit w₃ x ≡ true) z (ap (λ (x : ℕ). eqb x 1) (still (part 6 i) h (λ d. omega arith) ∙ ap (λ (x : ℕ). bitByte (eqb x oneEntry)) e));
     }
 
     -- all ticks
@@ -340,11 +334,11 @@ listed-above : (u : List ℕ) (end : ℕ) (w₁ : List ℕ) (regs : ℕ) → Reg
 listed-above u end w₁ regs ls = record { size = ls .size; above = λ j l. ls .above j (omega arith) }
 
 module _ (u : List ℕ) (end settled pins n : ℕ) (bits starts out : List ℕ) (sf : Safe u end settled pins n) (w₁ : List ℕ) (regs : ℕ) (ls : RegistersListed u end w₁ regs) (i : ℕ) (ei : i ≡ inPinCount w₁ pins) where
-  pub pins₁ : Pins w₁ pins
+  pub pins₁ : PinsLow w₁ pins
   pins₁ = record {
     size = let a = ls .size in let c = sf .size in omega arith;
     few = sf .pins-low .few;
-    low = λ k l. (let f = sf .pins-low .few in subst (λ (x : ℕ). x / 2 < 8192) (sym (ls .above (18944 + k) (omega arith))) (sf .pins-low .low k l));
+    low = λ k l. (let f = sf .pins-low .few in subst (λ (x : ℕ). x / 2 < 8192) (sym (ls .above (pinsAt + k) (omega arith))) (sf .pins-low .low k l));
   }
 
   pub ins-few₁ : i ≤ pins
@@ -377,7 +371,7 @@ module _ (u : List ℕ) (end settled pins n : ℕ) (bits starts out : List ℕ) 
       order-ready = let f = sf .order .few in record {
         size = let a = ls .size in let c = sf .size in omega arith;
         few = sf .order .few;
-        looks = λ j l. subst (λ (x : ℕ). Looks w₁ x) (sym (ls .above (13824 + j) (omega arith))) (looks-table (ls .size) (ls .table) (sf .order .looks j l));
+        looks = λ j l. subst (λ (x : ℕ). Looks w₁ x) (sym (ls .above (orderAt + j) (omega arith))) (looks-table (ls .size) (ls .table) (sf .order .looks j l));
       }
 
       all₃ : Within w₁ w₃

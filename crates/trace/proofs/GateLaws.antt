@@ -17,9 +17,11 @@ use Rattle.calculus.specs.Inputs.{madeAt, isOut}
 use Rattle.calculus.specs.Record.{Among}
 use Rattle.circuit_theorems.specs.Terminals.{has}
 use Rattle.circuit_theorems.specs.Formed.{Formed}
+use Rattle.memory.specs.Map.{rootsAt}
 use Rattle.trace_calculus.specs.Trace.{Source, pin, from, made-part as made-by, source, looks, before, terminals, gate, bit}
 use Rattle.trace_theorems.proofs.Sources.{at-point, at-part, at-pin, out-terminal}
 use Rattle.trace_theorems.proofs.Owners.{start, last}
+use Rattle.trace_steps.specs.Map.{kindsFrom, registerEntry, inverterEntry, oneEntry, pointEntry}
 use Rattle.trace_steps.specs.Steps.{firstIn, Looks, gateBit, freeIn}
 use Rattle.trace_steps.proofs.Laws.{first-two, first-one}
 use Rattle.trace_rings.specs.Lists.{looksIn}
@@ -87,23 +89,23 @@ module _ (w : List ℕ) (m : Net) (end pins : ℕ) (t : Tabled w m end pins) whe
   -- ---- outputs that look at something
 
   pub data Gate (o : ℕ) : Type 0 where
-    one : (i : ℕ) → looks (source m o) ≡ i ∷ [] → i + 1 ≡ o → 65525 ≤ getD w o 0 → 1 ≤ madeAt es i → Gate o
-    two : (i : ℕ) → looks (source m o) ≡ i ∷ (i + 1) ∷ [] → i + 2 ≡ o → 65520 ≤ getD w o 0 → getD w o 0 < 65525 → 1 ≤ madeAt es i → 1 ≤ madeAt es (i + 1) → Gate o
+    one : (i : ℕ) → looks (source m o) ≡ i ∷ [] → i + 1 ≡ o → inverterEntry ≤ getD w o 0 → 1 ≤ madeAt es i → Gate o
+    two : (i : ℕ) → looks (source m o) ≡ i ∷ (i + 1) ∷ [] → i + 2 ≡ o → kindsFrom ≤ getD w o 0 → getD w o 0 < inverterEntry → 1 ≤ madeAt es i → 1 ≤ madeAt es (i + 1) → Gate o
 
   pub gate-at : (o : ℕ) → T (has (terminals es) o) → Looking (getD w o 0) → Gate o
   gate-at o h l = go (t .entries o h) refl
     where
       low-not : getD w o 0 < 8192 → Gate o
-      low-not k = absurd (⊎-elim (λ (e : getD w o 0 ≡ 65527). omega arith) (λ r. omega (arith, r .0)) l)
+      low-not k = absurd (⊎-elim (λ (e : getD w o 0 ≡ pointEntry). omega arith) (λ r. omega (arith, r .0)) l)
 
-      by-part : (p i : ℕ) → Among (part p i) es → i + partAt p .inputs ≡ o → 65520 + p ≡ getD w o 0 → p < 7 → Gate o
-      by-part zero i a b e c = absurd (⊎-elim (λ (q : getD w o 0 ≡ 65527). omega arith) (λ r. omega (arith, r .0)) l)
-      by-part (suc zero) i a b e c = absurd (⊎-elim (λ (q : getD w o 0 ≡ 65527). omega arith) (λ r. omega (arith, r .0)) l)
+      by-part : (p i : ℕ) → Among (part p i) es → i + partAt p .inputs ≡ o → kindsFrom + p ≡ getD w o 0 → p < 7 → Gate o
+      by-part zero i a b e c = absurd (⊎-elim (λ (q : getD w o 0 ≡ pointEntry). omega arith) (λ r. omega (arith, r .0)) l)
+      by-part (suc zero) i a b e c = absurd (⊎-elim (λ (q : getD w o 0 ≡ pointEntry). omega arith) (λ r. omega (arith, r .0)) l)
       by-part (suc (suc zero)) i a b e c = two i (ap looks (subst (λ (z : ℕ). source m z ≡ made-by 2 i) b (at-part m ok a))) b (omega arith) (omega arith) (within-made (part 2 i) i a (omega arith) (omega arith)) (within-made (part 2 i) (i + 1) a (omega arith) (omega arith))
       by-part (suc (suc (suc zero))) i a b e c = two i (ap looks (subst (λ (z : ℕ). source m z ≡ made-by 3 i) b (at-part m ok a))) b (omega arith) (omega arith) (within-made (part 3 i) i a (omega arith) (omega arith)) (within-made (part 3 i) (i + 1) a (omega arith) (omega arith))
       by-part (suc (suc (suc (suc zero)))) i a b e c = two i (ap looks (subst (λ (z : ℕ). source m z ≡ made-by 4 i) b (at-part m ok a))) b (omega arith) (omega arith) (within-made (part 4 i) i a (omega arith) (omega arith)) (within-made (part 4 i) (i + 1) a (omega arith) (omega arith))
       by-part (suc (suc (suc (suc (suc zero))))) i a b e c = one i (ap looks (subst (λ (z : ℕ). source m z ≡ made-by 5 i) b (at-part m ok a))) b (omega arith) (within-made (part 5 i) i a (omega arith) (omega arith))
-      by-part (suc (suc (suc (suc (suc (suc p)))))) i a b e c = absurd (⊎-elim (λ (q : getD w o 0 ≡ 65527). omega arith) (λ r. omega (arith, r .1)) l)
+      by-part (suc (suc (suc (suc (suc (suc p)))))) i a b e c = absurd (⊎-elim (λ (q : getD w o 0 ≡ pointEntry). omega arith) (λ r. omega (arith, r .1)) l)
 
       go : {v : ℕ} → TableEntry m o v → v ≡ getD w o 0 → Gate o
       go (of-pin a b) e = low-not (let k = low o h in omega arith)
@@ -136,11 +138,11 @@ module _ (w : List ℕ) (m : Net) (end pins : ℕ) (t : Tabled w m end pins) whe
         last = input-low (o - 1) (last-is o g);
       }
     where
-      kind : Gate o → 65520 ≤ getD w o 0
+      kind : Gate o → kindsFrom ≤ getD w o 0
       kind (one i a b c d) = omega arith
       kind (two i a b k c d f) = k
 
-      two-low : Gate o → getD w o 0 < 65525 → 2 ≤ o
+      two-low : Gate o → getD w o 0 < inverterEntry → 2 ≤ o
       two-low (one i a b c d) h = absurd (omega arith)
       two-low (two i a b k c d f) h = omega arith
 
@@ -166,26 +168,26 @@ module _ (w : List ℕ) (m : Net) (end pins : ℕ) (t : Tabled w m end pins) whe
       never : {X : Type 0} → isOut es y ≡ false → X
       never b = absurd (subst T b h)
 
-      free : (v : ℕ) → v ≡ getD w y 0 → (v ≡ 65520) ⊎ ((v ≡ 65521) ⊎ (v ≡ 65526)) → freeIn w y ≡ true
-      free v e c = ap (λ (x : ℕ). eqb x y || (eqb x 65520 || (eqb x 65521 || eqb x 65526))) (sym e) ∙ by c
+      free : (v : ℕ) → v ≡ getD w y 0 → (v ≡ kindsFrom) ⊎ ((v ≡ registerEntry) ⊎ (v ≡ oneEntry)) → freeIn w y ≡ true
+      free v e c = ap (λ (x : ℕ). eqb x y || (eqb x kindsFrom || (eqb x registerEntry || eqb x oneEntry))) (sym e) ∙ by c
         where
           or-last : (a : Bool) → a || true ≡ true
           or-last true = refl
           or-last false = refl
 
-          by : (v ≡ 65520) ⊎ ((v ≡ 65521) ⊎ (v ≡ 65526)) → eqb v y || (eqb v 65520 || (eqb v 65521 || eqb v 65526)) ≡ true
-          by (inl q) = ap (λ (x : Bool). eqb v y || (x || (eqb v 65521 || eqb v 65526))) (eq-eqb v 65520 q) ∙ or-last (eqb v y)
-          by (inr (inl q)) = ap (λ (x : Bool). eqb v y || (eqb v 65520 || (x || eqb v 65526))) (eq-eqb v 65521 q) ∙ ap (λ (x : Bool). eqb v y || x) (or-last (eqb v 65520)) ∙ or-last (eqb v y)
-          by (inr (inr q)) = ap (λ (x : Bool). eqb v y || (eqb v 65520 || (eqb v 65521 || x))) (eq-eqb v 65526 q) ∙ ap (λ (x : Bool). eqb v y || (eqb v 65520 || x)) (or-last (eqb v 65521)) ∙ ap (λ (x : Bool). eqb v y || x) (or-last (eqb v 65520)) ∙ or-last (eqb v y)
+          by : (v ≡ kindsFrom) ⊎ ((v ≡ registerEntry) ⊎ (v ≡ oneEntry)) → eqb v y || (eqb v kindsFrom || (eqb v registerEntry || eqb v oneEntry)) ≡ true
+          by (inl q) = ap (λ (x : Bool). eqb v y || (x || (eqb v registerEntry || eqb v oneEntry))) (eq-eqb v kindsFrom q) ∙ or-last (eqb v y)
+          by (inr (inl q)) = ap (λ (x : Bool). eqb v y || (eqb v kindsFrom || (x || eqb v oneEntry))) (eq-eqb v registerEntry q) ∙ ap (λ (x : Bool). eqb v y || x) (or-last (eqb v kindsFrom)) ∙ or-last (eqb v y)
+          by (inr (inr q)) = ap (λ (x : Bool). eqb v y || (eqb v kindsFrom || (eqb v registerEntry || x))) (eq-eqb v oneEntry q) ∙ ap (λ (x : Bool). eqb v y || (eqb v kindsFrom || x)) (or-last (eqb v registerEntry)) ∙ ap (λ (x : Bool). eqb v y || x) (or-last (eqb v kindsFrom)) ∙ or-last (eqb v y)
 
-      by-part : (p i : ℕ) → Among (part p i) es → i + partAt p .inputs ≡ y → 65520 + p ≡ getD w y 0 → p < 7 → Looking (getD w y 0) ⊎ ((freeIn w y ≡ true) × (looks (source m y) ≡ []))
-      by-part zero i a b e c = inr (free 65520 e (inl refl), ap looks (subst (λ (z : ℕ). source m z ≡ made-by 0 i) b (at-part m ok a)))
-      by-part (suc zero) i a b e c = inr (free 65521 e (inr (inl refl)), ap looks (subst (λ (z : ℕ). source m z ≡ made-by 1 i) b (at-part m ok a)))
+      by-part : (p i : ℕ) → Among (part p i) es → i + partAt p .inputs ≡ y → kindsFrom + p ≡ getD w y 0 → p < 7 → Looking (getD w y 0) ⊎ ((freeIn w y ≡ true) × (looks (source m y) ≡ []))
+      by-part zero i a b e c = inr (free kindsFrom e (inl refl), ap looks (subst (λ (z : ℕ). source m z ≡ made-by 0 i) b (at-part m ok a)))
+      by-part (suc zero) i a b e c = inr (free registerEntry e (inr (inl refl)), ap looks (subst (λ (z : ℕ). source m z ≡ made-by 1 i) b (at-part m ok a)))
       by-part (suc (suc zero)) i a b e c = inl (inr (omega arith, omega arith))
       by-part (suc (suc (suc zero))) i a b e c = inl (inr (omega arith, omega arith))
       by-part (suc (suc (suc (suc zero)))) i a b e c = inl (inr (omega arith, omega arith))
       by-part (suc (suc (suc (suc (suc zero))))) i a b e c = inl (inr (omega arith, omega arith))
-      by-part (suc (suc (suc (suc (suc (suc zero)))))) i a b e c = inr (free 65526 e (inr (inr refl)), ap looks (subst (λ (z : ℕ). source m z ≡ made-by 6 i) b (at-part m ok a)))
+      by-part (suc (suc (suc (suc (suc (suc zero)))))) i a b e c = inr (free oneEntry e (inr (inr refl)), ap looks (subst (λ (z : ℕ). source m z ≡ made-by 6 i) b (at-part m ok a)))
       by-part (suc (suc (suc (suc (suc (suc (suc p))))))) i a b e c = absurd (omega arith)
 
       go : {v : ℕ} → TableEntry m y v → v ≡ getD w y 0 → Looking (getD w y 0) ⊎ ((freeIn w y ≡ true) × (looks (source m y) ≡ []))
@@ -197,21 +199,21 @@ module _ (w : List ℕ) (m : Net) (end pins : ℕ) (t : Tabled w m end pins) whe
   -- ---- the test of the code
 
   pub looks-looking : (x : ℕ) → x < end → KeptRoots w m end → looksIn w x ≡ true → T (has (terminals es) x) × Looking (getD w x 0)
-  looks-looking x l k q = by (eqb (getD w x 0) 65527) (ltb 65521 (getD w x 0)) (ltb (getD w x 0) 65526) refl refl refl q
+  looks-looking x l k q = by (eqb (getD w x 0) pointEntry) (ltb registerEntry (getD w x 0)) (ltb (getD w x 0) oneEntry) refl refl refl q
     where
-      by : (a b c : Bool) → eqb (getD w x 0) 65527 ≡ a → ltb 65521 (getD w x 0) ≡ b → ltb (getD w x 0) 65526 ≡ c → cond a (eqb (getD w (19072 + x) 0) x) (b && c) ≡ true → T (has (terminals es) x) × Looking (getD w x 0)
+      by : (a b c : Bool) → eqb (getD w x 0) pointEntry ≡ a → ltb registerEntry (getD w x 0) ≡ b → ltb (getD w x 0) oneEntry ≡ c → cond a (eqb (getD w (rootsAt + x) 0) x) (b && c) ≡ true → T (has (terminals es) x) × Looking (getD w x 0)
       by true b c p r s e =
-          let z = eqb→eq (getD w x 0) 65527 (subst T (sym p) tt) in
-          (k .kept x l z (eqb→eq (getD w (19072 + x) 0) x (subst T (sym e) tt)), inl z)
+          let z = eqb→eq (getD w x 0) pointEntry (subst T (sym p) tt) in
+          (k .kept x l z (eqb→eq (getD w (rootsAt + x) 0) x (subst T (sym e) tt)), inl z)
       by false true true p r s e =
-          let u = ltb-true 65521 (getD w x 0) r in
-          let v = ltb-true (getD w x 0) 65526 s in
-          (⊎-elim (λ h. h) (λ h. absurd (⊎-elim (λ (i : getD w x 0 < 8192). omega arith) (λ (i : getD w x 0 ≡ 65527). omega arith) h)) (t .others x l), inr (u, v))
+          let u = ltb-true registerEntry (getD w x 0) r in
+          let v = ltb-true (getD w x 0) oneEntry s in
+          (⊎-elim (λ h. h) (λ h. absurd (⊎-elim (λ (i : getD w x 0 < 8192). omega arith) (λ (i : getD w x 0 ≡ pointEntry). omega arith) h)) (t .others x l), inr (u, v))
       by false true false p r s e = absurd (subst T (sym e) tt)
       by false false c p r s e = absurd (subst T (sym e) tt)
 
   pub looking-looks : (x : ℕ) → KeptRoots w m end → T (has (terminals es) x) → Looking (getD w x 0) → looksIn w x ≡ true
-  looking-looks x k h (inl e) = ap (λ (b : Bool). cond b (eqb (getD w (19072 + x) 0) x) (ltb 65521 (getD w x 0) && ltb (getD w x 0) 65526)) (eq-eqb (getD w x 0) 65527 e) ∙ eq-eqb (getD w (19072 + x) 0) x (k .rooted x h e)
+  looking-looks x k h (inl e) = ap (λ (b : Bool). cond b (eqb (getD w (rootsAt + x) 0) x) (ltb registerEntry (getD w x 0) && ltb (getD w x 0) oneEntry)) (eq-eqb (getD w x 0) pointEntry e) ∙ eq-eqb (getD w (rootsAt + x) 0) x (k .rooted x h e)
   looking-looks x k h (inr (a, b)) =
-      ap (λ (c : Bool). cond c (eqb (getD w (19072 + x) 0) x) (ltb 65521 (getD w x 0) && ltb (getD w x 0) 65526)) (ne-eqb (getD w x 0) 65527 (λ z. omega arith))
-      ∙ ap (λ (c : Bool). c && ltb (getD w x 0) 65526) (lt-ltb 65521 (getD w x 0) a) ∙ lt-ltb (getD w x 0) 65526 b
+      ap (λ (c : Bool). cond c (eqb (getD w (rootsAt + x) 0) x) (ltb registerEntry (getD w x 0) && ltb (getD w x 0) oneEntry)) (ne-eqb (getD w x 0) pointEntry (λ z. omega arith))
+      ∙ ap (λ (c : Bool). c && ltb (getD w x 0) oneEntry) (lt-ltb registerEntry (getD w x 0) a) ∙ lt-ltb (getD w x 0) oneEntry b

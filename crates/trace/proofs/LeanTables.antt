@@ -23,7 +23,7 @@ use Rattle.circuit_theorems.proofs.Outputs.{EndHolds}
 use Rattle.circuit_theorems.proofs.Wiring.{pins-show}
 use Rattle.circuit_theorems.proofs.RootLaws.{root-reached}
 use Rattle.circuit_theorems.proofs.BackLaws.{backs-out}
-use Rattle.memory.specs.Map.{region, kindNumber, elementsFrom, terminalOf, netIn, Ready}
+use Rattle.memory.specs.Map.{targetsAt, elementsAt, rootsAt, region, kindNumber, elementsFrom, terminalOf, netIn, Ready}
 use Rattle.calculus.specs.NetRead.{Known}
 use Rattle.circuit_theorems.specs.Terminals.{has}
 use Rattle.netlist.specs.Elements.{after, afterAll}
@@ -34,6 +34,7 @@ use Rattle.lean.proofs.LeanLaws.{entry-root}
 use Rattle.trace_calculus.specs.Trace.{Source, pin, from, made-part as made-by, source, terminals}
 use Rattle.trace_theorems.proofs.Sources.{in-all, Decided, is-pin, is-wire, is-point, is-part, decided, at-wire, out-terminal}
 use Rattle.trace_theorems.proofs.Owners.{start, last, keep-in, in-keep, pin-map, FromRoot, lean-root}
+use Rattle.trace_steps.specs.Map.{pinsAt, kindsFrom, pointEntry}
 use Rattle.trace_steps.specs.Turns.{takeTurns}
 use Rattle.trace_steps.specs.Names.{namedOutputs, NamesStand, Namable}
 use Rattle.trace_steps.specs.Links.{linkOf, linkIn, linkOne, Linkable, Linked, rootedIn, pinOne, Rootable, Pinned}
@@ -85,9 +86,9 @@ module _ (u : List ℕ) (e k p : ℕ) (q : Whole u e k p) (known : All Known (ne
   kind-low (point i) h = omega arith
   kind-low (part x i) h = let l = in-all Known h known in omega arith
 
-  pub end-low : afterAll (region u 13824 e) 0 ≡ r .end
+  pub end-low : afterAll (region u elementsAt e) 0 ≡ r .end
   unfolding netIn
-  end-low = tiled-after (region u 13824 e) 0 (r .end) (r .tiled)
+  end-low = tiled-after (region u elementsAt e) 0 (r .end) (r .tiled)
 
   root-low : (o : ℕ) → T (isOut es o) → root net o < 8192
   root-low o t =
@@ -109,13 +110,13 @@ module _ (u : List ℕ) (e k p : ℕ) (q : Whole u e k p) (known : All Known (ne
     made-before : (x : ℕ) → 1 ≤ madeAt es x → x < end
     made-before x h = elim (decLe (r .end) x) [ yes l ↦ absurd (let z = made-high es 0 (r .end) x (rising u e k p r) l in omega arith) | no l ↦ let z = end-is in omega arith ]
 
-    out-named : (a : Element) → Among a es → getD w₁ (last a) 0 ≡ 65520 + kindNumber a
+    out-named : (a : Element) → Among a es → getD w₁ (last a) 0 ≡ kindsFrom + kindNumber a
     unfolding netIn
-    out-named a h = let z = end-few in let y = n .end-is in ap (λ (w : List ℕ). getD w (last a) 0) (n .whole) ∙ named-out (region u 13824 e) 0 u a (r .size) (omega arith) h
+    out-named a h = let z = end-few in let y = n .end-is in ap (λ (w : List ℕ). getD w (last a) 0) (n .whole) ∙ named-out (region u elementsAt e) 0 u a (r .size) (omega arith) h
 
     other-named : (x : ℕ) → isOut es x ≡ false → getD w₁ x 0 ≡ getD u x 0
     unfolding netIn
-    other-named x h = ap (λ (w : List ℕ). getD w x 0) (n .whole) ∙ named-other (region u 13824 e) 0 u x h
+    other-named x h = ap (λ (w : List ℕ). getD w x 0) (n .whole) ∙ named-other (region u elementsAt e) 0 u x h
 
     pub linkable : Linkable w₁ end
     linkable = record {
@@ -124,7 +125,7 @@ module _ (u : List ℕ) (e k p : ℕ) (q : Whole u e k p) (known : All Known (ne
       low = λ x l h. by x l h (isOut es x) refl;
     }
       where
-        by : (x : ℕ) → x < end → getD w₁ x 0 < 65520 → (b : Bool) → isOut es x ≡ b → getD w₁ x 0 < 8192
+        by : (x : ℕ) → x < end → getD w₁ x 0 < kindsFrom → (b : Bool) → isOut es x ≡ b → getD w₁ x 0 < 8192
         by x l h true t = absurd (let g = out-in es x (subst T (sym t) tt) in let z = out-named (g .0) (g .1) in let y = ap (λ (i : ℕ). getD w₁ i 0) (g .2) in omega arith)
         by x l h false t =
             let z = other-named x t in
@@ -139,15 +140,15 @@ module _ (u : List ℕ) (e k p : ℕ) (q : Whole u e k p) (known : All Known (ne
       linked : LinkedAt w₁ end w₂
       linked = subst (LinkedAt w₁ end) (sym (c .whole)) (link-all w₁ end (linkable .size) end-few)
 
-      out-linked : (a : Element) → Among a es → getD w₂ (last a) 0 ≡ 65520 + kindNumber a
+      out-linked : (a : Element) → Among a es → getD w₂ (last a) 0 ≡ kindsFrom + kindNumber a
       out-linked a h =
           let g = out-named a h in
           let l = kind-low a h in
           let b = out-before (last a) (in-out a h) in
-          linked .done (last a) b ∙ sym (link-kind (getD w₁ (last a) 0) (last a) (getD w₁ (19072 + getD w₁ (last a) 0) 0) (λ z. omega arith) (omega arith)) ∙ g
+          linked .done (last a) b ∙ sym (link-kind (getD w₁ (last a) 0) (last a) (getD w₁ (rootsAt + getD w₁ (last a) 0) 0) (λ z. omega arith) (omega arith)) ∙ g
 
       pin-linked : (x : ℕ) → x < end → isOut es x ≡ false → getD u x 0 ≡ 65535 → getD w₂ x 0 ≡ x
-      pin-linked x l t d = linked .done x l ∙ sym (link-none (getD w₁ x 0) x (getD w₁ (19072 + getD w₁ x 0) 0) (other-named x t ∙ d))
+      pin-linked x l t d = linked .done x l ∙ sym (link-none (getD w₁ x 0) x (getD w₁ (rootsAt + getD w₁ x 0) 0) (other-named x t ∙ d))
 
       wire-linked : (x : ℕ) → x < end → isOut es x ≡ false → (getD u x 0 ≡ 65535 → ⊥) → T (isOut es (getD u x 0)) × (getD w₂ x 0 ≡ root net (getD u x 0))
       wire-linked x l t d =
@@ -156,23 +157,23 @@ module _ (u : List ℕ) (e k p : ℕ) (q : Whole u e k p) (known : All Known (ne
           let b = output-below u e k p r (getD u x 0) o in
           let g = other-named x t in (
             o,
-            linked .done x l ∙ sym (link-driver (getD w₁ x 0) x (getD w₁ (19072 + getD w₁ x 0) 0) (λ z. d (sym g ∙ z)) (omega arith))
-                ∙ ap (λ (z : ℕ). getD w₁ (19072 + z) 0) g ∙ n .above (19072 + getD u x 0) (omega arith) ∙ entry-root u e k p q (getD u x 0) o,
+            linked .done x l ∙ sym (link-driver (getD w₁ x 0) x (getD w₁ (rootsAt + getD w₁ x 0) 0) (λ z. d (sym g ∙ z)) (omega arith))
+                ∙ ap (λ (z : ℕ). getD w₁ (rootsAt + z) 0) g ∙ n .above (rootsAt + getD u x 0) (omega arith) ∙ entry-root u e k p q (getD u x 0) o,
           )
 
-      roots-same : (x : ℕ) → getD w₂ (19072 + x) 0 ≡ entry u x
-      roots-same x = let f = end-few in linked .rest (19072 + x) (omega arith) ∙ n .above (19072 + x) (omega arith)
+      roots-same : (x : ℕ) → getD w₂ (rootsAt + x) 0 ≡ entry u x
+      roots-same x = let f = end-few in linked .rest (rootsAt + x) (omega arith) ∙ n .above (rootsAt + x) (omega arith)
 
-      high-same : (j : ℕ) → 8192 ≤ j → getD w₂ j 0 ≡ getD u j 0
+      high-same : (j : ℕ) → targetsAt ≤ j → getD w₂ j 0 ≡ getD u j 0
       high-same j l = let f = end-few in linked .rest j (omega arith) ∙ n .above j l
 
-      codes : (P : Terminal → Type 0) → All P (net .pins) → (i : ℕ) → i < p → P (terminalOf (getD u (18944 + i) 0))
+      codes : (P : Terminal → Type 0) → All P (net .pins) → (i : ℕ) → i < p → P (terminalOf (getD u (pinsAt + i) 0))
       unfolding netIn
       codes P a i h =
           let z = r .size in
           let f = r .few-pins in
-          let l : length (region u 18944 p) ≡ p = region-length u 18944 p (omega arith) in
-          subst (λ (x : ℕ). P (terminalOf x)) (region-at u 18944 p i h) (pin-at P (region u 18944 p) i a (omega arith))
+          let l : length (region u pinsAt p) ≡ p = region-length u pinsAt p (omega arith) in
+          subst (λ (x : ℕ). P (terminalOf x)) (region-at u pinsAt p i h) (pin-at P (region u pinsAt p) i a (omega arith))
 
       code-low : (c : ℕ) → EndHolds (λ i. madeAt es i ≡ 1) (λ o. T (isOut es o)) (terminalOf c) → c / 2 < 8192
       code-low c = by (eqb (c % 2) 0)
@@ -193,13 +194,13 @@ module _ (u : List ℕ) (e k p : ℕ) (q : Whole u e k p) (known : All Known (ne
         size = let z = linked .size in let y = linkable .size in omega arith;
         few = r .few-pins;
         low = low;
-        root = λ j h. (let f = r .few-pins in subst (λ (z : ℕ). z < 8192) (sym (roots-same (getD w₂ (18944 + j) 0 / 2))) (entry-low (getD w₂ (18944 + j) 0 / 2) (low j h)));
+        root = λ j h. (let f = r .few-pins in subst (λ (z : ℕ). z < 8192) (sym (roots-same (getD w₂ (pinsAt + j) 0 / 2))) (entry-low (getD w₂ (pinsAt + j) 0 / 2) (low j h)));
       }
         where
-          low : (j : ℕ) → j < p → getD w₂ (18944 + j) 0 / 2 < 8192
+          low : (j : ℕ) → j < p → getD w₂ (pinsAt + j) 0 / 2 < 8192
           low j h =
               let f = r .few-pins in
-              subst (λ (z : ℕ). z / 2 < 8192) (sym (high-same (18944 + j) (omega arith))) (code-low (getD u (18944 + j) 0) (codes (EndHolds (λ i. madeAt es i ≡ 1) (λ o. T (isOut es o))) (pins-show net (r .formed)) j h))
+              subst (λ (z : ℕ). z / 2 < 8192) (sym (high-same (pinsAt + j) (omega arith))) (code-low (getD u (pinsAt + j) 0) (codes (EndHolds (λ i. madeAt es i ≡ 1) (λ o. T (isOut es o))) (pins-show net (r .formed)) j h))
 
       -- ---- the pins
 
@@ -210,8 +211,8 @@ module _ (u : List ℕ) (e k p : ℕ) (q : Whole u e k p) (known : All Known (ne
         same : (x : ℕ) → x < end → getD w₃ x 0 ≡ getD w₂ x 0
         same x l = let f = end-few in pinned .before x (omega arith)
 
-        root-at : (x : ℕ) → T (isOut es x) → getD w₃ (19072 + x) 0 ≡ root net x
-        root-at x t = let f = r .few-pins in pinned .rest (19072 + x) (omega arith) ∙ roots-same x ∙ entry-root u e k p q x t
+        root-at : (x : ℕ) → T (isOut es x) → getD w₃ (rootsAt + x) 0 ≡ root net x
+        root-at x t = let f = r .few-pins in pinned .rest (rootsAt + x) (omega arith) ∙ roots-same x ∙ entry-root u e k p q x t
 
         abbrev pub L : Net
         L = lean net
@@ -251,7 +252,7 @@ module _ (u : List ℕ) (e k p : ℕ) (q : Whole u e k p) (known : All Known (ne
             subst (TableEntry L x) (sym (same x l ∙ a .1 ∙ sym same-root))
             (of-wire (v .from) (subst (λ (y : ℕ). source L y ≡ from (v .from)) g (at-wire L ok h)) (out-lean net x z) (in-all (λ v. T (isOut (L .elements) (v .from))) h (ok .from)))
 
-        element-entry : (a : Element) (x : ℕ) → Among a es → last a ≡ x → getD w₃ x 0 ≡ 65520 + kindNumber a
+        element-entry : (a : Element) (x : ℕ) → Among a es → last a ≡ x → getD w₃ x 0 ≡ kindsFrom + kindNumber a
         element-entry a x h g = let l = out-before (last a) (in-out a h) in ap (λ (z : ℕ). getD w₃ z 0) (sym g) ∙ same (last a) l ∙ out-linked a h
 
         entry-of : (x : ℕ) → {s : Source} → Decided L ok x s → TableEntry L x (getD w₃ x 0)
@@ -260,21 +261,21 @@ module _ (u : List ℕ) (e k p : ℕ) (q : Whole u e k p) (known : All Known (ne
         entry-of x (is-point i h g) = subst (TableEntry L x) (sym (element-entry (point i) x (lean-in net h .0) g)) (of-point i h g)
         entry-of x (is-part a i h g) = subst (TableEntry L x) (sym (element-entry (part a i) x (lean-in net h .0) g)) (of-part a i h g (in-all Known (lean-in net h .0) known))
 
-        other-entry : (x : ℕ) → x < end → T (has (terminals (L .elements)) x) ⊎ ((getD w₃ x 0 < 8192) ⊎ (getD w₃ x 0 ≡ 65527))
+        other-entry : (x : ℕ) → x < end → T (has (terminals (L .elements)) x) ⊎ ((getD w₃ x 0 < 8192) ⊎ (getD w₃ x 0 ≡ pointEntry))
         other-entry x l = by (isOut es x) refl
           where
-            of : (a : Element) → Among a es → last a ≡ x → T (has (terminals (L .elements)) x) ⊎ ((getD w₃ x 0 < 8192) ⊎ (getD w₃ x 0 ≡ 65527))
+            of : (a : Element) → Among a es → last a ≡ x → T (has (terminals (L .elements)) x) ⊎ ((getD w₃ x 0 < 8192) ⊎ (getD w₃ x 0 ≡ pointEntry))
             of (point i) h g = inr (inr (element-entry (point i) x h g))
             of (part a i) h g = inl (in-terminal (part a i) x (in-lean net h tt) (omega arith) (omega arith))
 
-            by : (b : Bool) → isOut es x ≡ b → T (has (terminals (L .elements)) x) ⊎ ((getD w₃ x 0 < 8192) ⊎ (getD w₃ x 0 ≡ 65527))
+            by : (b : Bool) → isOut es x ≡ b → T (has (terminals (L .elements)) x) ⊎ ((getD w₃ x 0 < 8192) ⊎ (getD w₃ x 0 ≡ pointEntry))
             by true t = let g = out-in es x (subst T (sym t) tt) in of (g .0) (g .1) (g .2)
             by false t = elim (ℕ-discrete (getD u x 0) 65535) [
               | yes z ↦ (let y = same x l ∙ pin-linked x l t z in let f = end-few in inr (inl (omega arith)))
               | no z ↦ (let a = wire-linked x l t z in inr (inl (subst (λ (y : ℕ). y < 8192) (sym (same x l ∙ a .1)) (root-low (getD u x 0) (a .0)))))
             ]
 
-        shown : map terminalOf (region w₃ 18944 p) ≡ L .pins
+        shown : map terminalOf (region w₃ pinsAt p) ≡ L .pins
         unfolding netIn lean
         shown =
             let f = r .few-pins in
@@ -283,20 +284,20 @@ module _ (u : List ℕ) (e k p : ℕ) (q : Whole u e k p) (known : All Known (ne
             let x = pinned .size in
             let v = linked .size in
             let t = n .size in
-            let same-region : region w₃ 18944 p ≡ map (λ c. rootedIn w₂ c) (region u 18944 p) =
-            region-map u w₃ 18944 p (λ c. rootedIn w₂ c) (omega arith) (omega arith) (λ i l. pinned .done i l ∙ ap (rootedIn w₂) (high-same (18944 + i) (omega arith))) in
-            ap (map terminalOf) same-region ∙ each (region u 18944 p) (r .formed .shown)
+            let same-region : region w₃ pinsAt p ≡ map (λ c. rootedIn w₂ c) (region u pinsAt p) =
+            region-map u w₃ pinsAt p (λ c. rootedIn w₂ c) (omega arith) (omega arith) (λ i l. pinned .done i l ∙ ap (rootedIn w₂) (high-same (pinsAt + i) (omega arith))) in
+            ap (map terminalOf) same-region ∙ each (region u pinsAt p) (r .formed .shown)
           where
-            odd : (c : ℕ) (b : Bool) → Shown es (cond b (inp (c / 2)) (out (c / 2))) → terminalOf (cond b c (2 * getD w₂ (19072 + c / 2) 0 + 1)) ≡ leanPin net (cond b (inp (c / 2)) (out (c / 2))) ⊎ (b ≡ true)
+            odd : (c : ℕ) (b : Bool) → Shown es (cond b (inp (c / 2)) (out (c / 2))) → terminalOf (cond b c (2 * getD w₂ (rootsAt + c / 2) 0 + 1)) ≡ leanPin net (cond b (inp (c / 2)) (out (c / 2))) ⊎ (b ≡ true)
             odd c true h = inr refl
             odd c false h =
-                let z = getD w₂ (19072 + c / 2) 0 in
+                let z = getD w₂ (rootsAt + c / 2) 0 in
                 let g : (2 * z + 1) / 2 ≡ z = omega arith in
                 inl (ap (λ (t : Bool). cond t (inp ((2 * z + 1) / 2)) (out ((2 * z + 1) / 2))) (ne-eqb ((2 * z + 1) % 2) 0 (λ y. omega arith)) ∙ ap out (g ∙ roots-same (c / 2) ∙ entry-root u e k p q (c / 2) h))
 
             one : (c : ℕ) → Shown es (terminalOf c) → terminalOf (rootedIn w₂ c) ≡ leanPin net (terminalOf c)
             one c h = ⊎-elim (λ g. g)
-                (λ (t : eqb (c % 2) 0 ≡ true). ap terminalOf (ap (λ (b : Bool). cond b c (2 * getD w₂ (19072 + c / 2) 0 + 1)) t) ∙ ap (λ (b : Bool). cond b (inp (c / 2)) (out (c / 2))) t ∙ sym (ap (λ (b : Bool). leanPin net (cond b (inp (c / 2)) (out (c / 2)))) t))
+                (λ (t : eqb (c % 2) 0 ≡ true). ap terminalOf (ap (λ (b : Bool). cond b c (2 * getD w₂ (rootsAt + c / 2) 0 + 1)) t) ∙ ap (λ (b : Bool). cond b (inp (c / 2)) (out (c / 2))) t ∙ sym (ap (λ (b : Bool). leanPin net (cond b (inp (c / 2)) (out (c / 2)))) t))
                 (odd c (eqb (c % 2) 0) h)
 
             each : (cs : List ℕ) → All (Shown es) (map terminalOf cs) → map terminalOf (map (λ c. rootedIn w₂ c) cs) ≡ map (leanPin net) (map terminalOf cs)
@@ -321,12 +322,12 @@ module _ (u : List ℕ) (e k p : ℕ) (q : Whole u e k p) (known : All Known (ne
         pub kept-roots : KeptRoots w₃ L end
         kept-roots = record { kept = λ x l h g. of-kept x l h g (isOut es x) refl; rooted = of-rooted; past = of-past }
           where
-            of-past : (x : ℕ) → end ≤ x → x < 8192 → getD w₃ (19072 + x) 0 ≡ 0
+            of-past : (x : ℕ) → end ≤ x → x < 8192 → getD w₃ (rootsAt + x) 0 ≡ 0
             of-past x l h =
                 let f = r .few-pins in
-                pinned .rest (19072 + x) (omega arith) ∙ roots-same x ∙ q .table x h ∙ ap (λ (b : Bool). cond b (root net x) 0) (is-false (isOut es x) (λ t. let z = out-before x t in omega arith))
+                pinned .rest (rootsAt + x) (omega arith) ∙ roots-same x ∙ q .table x h ∙ ap (λ (b : Bool). cond b (root net x) 0) (is-false (isOut es x) (λ t. let z = out-before x t in omega arith))
 
-            of-kept : (x : ℕ) → x < end → getD w₃ x 0 ≡ 65527 → getD w₃ (19072 + x) 0 ≡ x → (b : Bool) → isOut es x ≡ b → T (has (terminals (L .elements)) x)
+            of-kept : (x : ℕ) → x < end → getD w₃ x 0 ≡ pointEntry → getD w₃ (rootsAt + x) 0 ≡ x → (b : Bool) → isOut es x ≡ b → T (has (terminals (L .elements)) x)
             of-kept x l h g true t = let a = out-in es x (subst T (sym t) tt) in on (a .0) (a .1) (a .2)
               where
                 on : (a : Element) → Among a es → last a ≡ x → T (has (terminals (L .elements)) x)
@@ -336,19 +337,19 @@ module _ (u : List ℕ) (e k p : ℕ) (q : Whole u e k p) (known : All Known (ne
                 on (part a i) c y = in-terminal (part a i) x (in-lean net c tt) (omega arith) (omega arith)
             of-kept x l h g false t = ⊎-elim (λ z. z) (λ z. absurd (⊎-elim (λ (v : getD w₃ x 0 < 8192). omega arith) (λ v. not-out z) z)) (other-entry x l)
               where
-                not-out : (getD w₃ x 0 < 8192) ⊎ (getD w₃ x 0 ≡ 65527) → ⊥
+                not-out : (getD w₃ x 0 < 8192) ⊎ (getD w₃ x 0 ≡ pointEntry) → ⊥
                 not-out z = elim (ℕ-discrete (getD u x 0) 65535) [
                   | yes y ↦ (let v = same x l ∙ pin-linked x l t y in let f = end-few in omega arith)
                   | no y ↦ (let a = wire-linked x l t y in let v = same x l ∙ a .1 in omega (arith, root-low (getD u x 0) (a .0)))
                 ]
 
-            of-rooted : (x : ℕ) → T (has (terminals (L .elements)) x) → getD w₃ x 0 ≡ 65527 → getD w₃ (19072 + x) 0 ≡ x
+            of-rooted : (x : ℕ) → T (has (terminals (L .elements)) x) → getD w₃ x 0 ≡ pointEntry → getD w₃ (rootsAt + x) 0 ≡ x
             of-rooted x t h = go (entry-of x (decided L ok x t)) refl
               where
-                go : {v : ℕ} → TableEntry L x v → v ≡ getD w₃ x 0 → getD w₃ (19072 + x) 0 ≡ x
+                go : {v : ℕ} → TableEntry L x v → v ≡ getD w₃ x 0 → getD w₃ (rootsAt + x) 0 ≡ x
                 go (of-pin a b) g = absurd (let l = low-lean x t in let f = end-few in omega arith)
                 go (of-wire y a b c) g = absurd (let l = low-lean y (out-terminal (L .elements) y c) in let f = end-few in omega arith)
                 go (of-point i a b) g =
                     let y = lean-in net a in
-                    subst (λ (v : ℕ). getD w₃ (19072 + v) 0 ≡ v) b (root-at (i + 1) (in-out (point i) (y .0)) ∙ eqb→eq (root net (i + 1)) (i + 1) (y .1))
+                    subst (λ (v : ℕ). getD w₃ (rootsAt + v) 0 ≡ v) b (root-at (i + 1) (in-out (point i) (y .0)) ∙ eqb→eq (root net (i + 1)) (i + 1) (y .1))
                 go (of-part a i b c d) g = absurd (omega arith)

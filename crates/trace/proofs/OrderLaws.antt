@@ -2,29 +2,28 @@
 -- Assumes nothing.
 use Prim.Native.Nat.{ℕ, zero, suc, _+_, _-_, _*_, _≤_, _<_}
 use mathlib.Core.Path.{_≡_, refl, sym, ap, _∙_, subst}
-use mathlib.Core.Logic.{_⊎_, inl, inr, ⊎-elim, _≢_}
+use mathlib.Core.Logic.{_⊎_, inl, inr, ⊎-elim}
 use mathlib.Core.Bool.{Bool, true, false, cond, _&&_}
 use mathlib.Core.List.{List}
 use native.Mathlib.Omega.{arith}
 use native.Mathlib.Decide.{ℕ-discrete, decLe}
 use lib.ListN.{length, getD, set, length-set}
-use lib.Seq.{getD-set-same, getD-set-other}
+use lib.Seq.{getD-set-same}
 use lib.Dec.{T, eqb, ltb, eqb→eq}
 use borrow.Author.Tests.{eq-eqb, ne-eqb, eqb-false}
 use Rattle.laws.proofs.Tests.{and-both, T-is}
+use Rattle.memory.specs.Map.{memorySize}
+use Rattle.trace_steps.specs.Map.{restAt, orderAt, pinsAt, bitsAt, bitsEnd, inverterEntry}
 use Rattle.trace_steps.specs.Turns.{takeTurns}
 use Rattle.trace_steps.specs.Steps.{lit, firstIn, inputBit, readyIn, Looks}
 use Rattle.trace_steps.specs.Sweeps.{settleAt, Sweep, sweeping, sweepAt, sweepOne, sweepAll, sweeps}
-use Rattle.trace_steps.proofs.Laws.{first-low}
+use Rattle.trace_steps.proofs.Laws.{first-low, set-other}
 use Rattle.trace_rings.specs.Rings.{mark, rest, met, InputOf}
 use Rattle.trace.proofs.Turning.{turns-keep}
 
-other : (w : List ℕ) (i j v : ℕ) → (j ≡ i → ⊥) → getD (set w i v) j 0 ≡ getD w j 0
-other w i j v d = let ne : j ≢ i = d in getD-set-other w i j v 0 ne
-
 -- the outputs that are to be settled, in a memory u
 pub record OrderStart (u : List ℕ) (total : ℕ) : Type 0 where
-  pub size : 32768 ≤ length u
+  pub size : memorySize ≤ length u
   pub few : total ≤ 4096
   pub looks : (k : ℕ) → k < total → Looks u (rest u k)
   pub falling : (i k : ℕ) → i < k → k < total → rest u k < rest u i
@@ -37,8 +36,8 @@ PlaceHeld kept j left i = (i < kept) ⊎ ((j ≤ i) × (i < left))
 pub record Stage (u : List ℕ) (total left j : ℕ) (w : List ℕ) (kept done : ℕ) : Type 0 where
   pub size : length w ≡ length u
   pub table : (x : ℕ) → x < 8192 → getD w x 0 ≡ getD u x 0
-  pub pins : (x : ℕ) → 18944 ≤ x → x < 19072 → getD w x 0 ≡ getD u x 0
-  pub above : (x : ℕ) → 27264 ≤ x → getD w x 0 ≡ getD u x 0
+  pub pins : (x : ℕ) → pinsAt ≤ x → x < bitsAt → getD w x 0 ≡ getD u x 0
+  pub above : (x : ℕ) → bitsEnd ≤ x → getD w x 0 ≡ getD u x 0
   pub sum : kept + done + left ≡ total + j
   pub few : kept ≤ j
   pub some : j ≤ left
@@ -83,7 +82,7 @@ stage-start u total s = record {
 -- what is ready depends on the table and the marks
 ready-same : (w v : List ℕ) (o : ℕ) → o < 8192 → ((x : ℕ) → x < 8192 → getD v x 0 ≡ getD w x 0) → ((y : ℕ) → mark v y ≡ mark w y) → readyIn v o ≡ readyIn w o
 ready-same w v o l t m =
-    let e : firstIn v o ≡ firstIn w o = ap (λ (a : ℕ). cond (ltb a 65525) (o - 2) (o - 1)) (t o l) in
+    let e : firstIn v o ≡ firstIn w o = ap (λ (a : ℕ). cond (ltb a inverterEntry) (o - 2) (o - 1)) (t o l) in
     let a : getD v (firstIn v o) 0 ≡ getD w (firstIn w o) 0 = ap (λ (z : ℕ). getD v z 0) e ∙ t (firstIn w o) (first-low w o l) in
     let b : getD v (o - 1) 0 ≡ getD w (o - 1) 0 = t (o - 1) (omega arith) in
     let p : lit v (getD v (firstIn v o) 0) ≡ lit w (getD w (firstIn w o) 0) = ap (lit v) a ∙ ap (λ (n : ℕ). eqb n 1) (m (getD w (firstIn w o) 0)) in
@@ -106,7 +105,7 @@ module _ (u : List ℕ) (total : ℕ) (s : OrderStart u total) (left j : ℕ) (w
   less : done < total
   less = let a = c .sum in omega arith
 
-  big : 32768 ≤ length w
+  big : memorySize ≤ length w
   big = let a = c .size in let b = s .size in omega arith
 
   -- ---- o is ready
@@ -114,29 +113,29 @@ module _ (u : List ℕ) (total : ℕ) (s : OrderStart u total) (left j : ℕ) (w
   abbrev v : List ℕ
   v = settleAt w done o
 
-  same : (x : ℕ) → x < 13824 → getD v x 0 ≡ getD w x 0
-  same x l = let a = low in other (set w (13824 + done) o) (19072 + o) x 1 (λ z. omega arith) ∙ other w (13824 + done) x o (λ z. omega arith)
+  same : (x : ℕ) → x < orderAt → getD v x 0 ≡ getD w x 0
+  same x l = let a = low in set-other (set w (orderAt + done) o) (bitsAt + o) x 1 (λ z. omega arith) ∙ set-other w (orderAt + done) x o (λ z. omega arith)
 
-  between : (x : ℕ) → 18944 ≤ x → x < 19072 → getD v x 0 ≡ getD w x 0
-  between x l g = let a = less in let b = s .few in other (set w (13824 + done) o) (19072 + o) x 1 (λ z. omega arith) ∙ other w (13824 + done) x o (λ z. omega arith)
+  between : (x : ℕ) → pinsAt ≤ x → x < bitsAt → getD v x 0 ≡ getD w x 0
+  between x l g = let a = less in let b = s .few in set-other (set w (orderAt + done) o) (bitsAt + o) x 1 (λ z. omega arith) ∙ set-other w (orderAt + done) x o (λ z. omega arith)
 
-  far : (x : ℕ) → 27264 ≤ x → getD v x 0 ≡ getD w x 0
-  far x l = let a = less in let b = s .few in let d = low in other (set w (13824 + done) o) (19072 + o) x 1 (λ z. omega arith) ∙ other w (13824 + done) x o (λ z. omega arith)
+  far : (x : ℕ) → bitsEnd ≤ x → getD v x 0 ≡ getD w x 0
+  far x l = let a = less in let b = s .few in let d = low in set-other (set w (orderAt + done) o) (bitsAt + o) x 1 (λ z. omega arith) ∙ set-other w (orderAt + done) x o (λ z. omega arith)
 
   mark-at : mark v o ≡ 1
-  mark-at = let a = big in let d = low in getD-set-same (set w (13824 + done) o) (19072 + o) 1 0 (let q = length-set w (13824 + done) o in omega arith)
+  mark-at = let a = big in let d = low in getD-set-same (set w (orderAt + done) o) (bitsAt + o) 1 0 (let q = length-set w (orderAt + done) o in omega arith)
 
   mark-other : (y : ℕ) → (y ≡ o → ⊥) → mark v y ≡ mark w y
-  mark-other y d = let a = less in let b = s .few in other (set w (13824 + done) o) (19072 + o) (19072 + y) 1 (λ z. d (omega arith)) ∙ other w (13824 + done) (19072 + y) o (λ z. omega arith)
+  mark-other y d = let a = less in let b = s .few in set-other (set w (orderAt + done) o) (bitsAt + o) (bitsAt + y) 1 (λ z. d (omega arith)) ∙ set-other w (orderAt + done) (bitsAt + y) o (λ z. omega arith)
 
   met-old : (k : ℕ) → k < done → met v k ≡ met w k
-  met-old k l = let a = less in let b = s .few in other (set w (13824 + done) o) (19072 + o) (13824 + k) 1 (λ z. omega arith) ∙ other w (13824 + done) (13824 + k) o (λ z. omega arith)
+  met-old k l = let a = less in let b = s .few in set-other (set w (orderAt + done) o) (bitsAt + o) (orderAt + k) 1 (λ z. omega arith) ∙ set-other w (orderAt + done) (orderAt + k) o (λ z. omega arith)
 
   met-new : met v done ≡ o
-  met-new = let a = less in let b = s .few in let g = big in other (set w (13824 + done) o) (19072 + o) (13824 + done) 1 (λ z. omega arith) ∙ getD-set-same w (13824 + done) o 0 (omega arith)
+  met-new = let a = less in let b = s .few in let g = big in set-other (set w (orderAt + done) o) (bitsAt + o) (orderAt + done) 1 (λ z. omega arith) ∙ getD-set-same w (orderAt + done) o 0 (omega arith)
 
   rest-same : (i : ℕ) → i < left → rest v i ≡ rest w i
-  rest-same i l = let a = s .few in let b = c .bound in same (8192 + i) (omega arith)
+  rest-same i l = let a = s .few in let b = c .bound in same (restAt + i) (omega arith)
 
   held-old : (i : ℕ) → PlaceHeld kept (j + 1) left i → PlaceHeld kept j left i
   held-old i (inl l) = inl l
@@ -163,7 +162,7 @@ module _ (u : List ℕ) (total : ℕ) (s : OrderStart u total) (left j : ℕ) (w
 
   pub stage-yes : readyIn w o ≡ true → Stage u total left (j + 1) v kept (done + 1)
   stage-yes q = record {
-    size = length-set (set w (13824 + done) o) (19072 + o) 1 ∙ length-set w (13824 + done) o ∙ c .size;
+    size = length-set (set w (orderAt + done) o) (bitsAt + o) 1 ∙ length-set w (orderAt + done) o ∙ c .size;
     table = λ x l. same x (omega arith) ∙ c .table x l;
     pins = λ x l g. between x l g ∙ c .pins x l g;
     above = λ x l. far x l ∙ c .above x l;
@@ -201,7 +200,7 @@ module _ (u : List ℕ) (total : ℕ) (s : OrderStart u total) (left j : ℕ) (w
       source-of : (z : ℕ) → InputOf u o z → T (lit w (getD u z 0))
       source-of z (inl e) =
           let l = low in
-          let f : firstIn w o ≡ firstIn u o = ap (λ (a : ℕ). cond (ltb a 65525) (o - 2) (o - 1)) (c .table o l) in
+          let f : firstIn w o ≡ firstIn u o = ap (λ (a : ℕ). cond (ltb a inverterEntry) (o - 2) (o - 1)) (c .table o l) in
           subst (λ (y : ℕ). T (lit w y)) (ap (λ (a : ℕ). getD w a 0) f ∙ c .table (firstIn u o) (first-low u o l) ∙ ap (λ (a : ℕ). getD u a 0) (sym e)) (both .0)
       source-of z (inr e) = let l = low in subst (λ (y : ℕ). T (lit w y)) (c .table (o - 1) (omega arith) ∙ ap (λ (a : ℕ). getD u a 0) (sym e)) (both .1)
 
@@ -221,29 +220,29 @@ module _ (u : List ℕ) (total : ℕ) (s : OrderStart u total) (left j : ℕ) (w
   -- ---- o waits
 
   abbrev x : List ℕ
-  x = set w (8192 + kept) o
+  x = set w (restAt + kept) o
 
-  keep-other : (i : ℕ) → (i ≡ 8192 + kept → ⊥) → getD x i 0 ≡ getD w i 0
-  keep-other i d = other w (8192 + kept) i o d
+  keep-other : (i : ℕ) → (i ≡ restAt + kept → ⊥) → getD x i 0 ≡ getD w i 0
+  keep-other i d = set-other w (restAt + kept) i o d
 
   few-kept : kept < 4096
   few-kept = let a = c .few in let b = c .sum in let d = s .few in let e = less in omega arith
 
   keep-new : rest x kept ≡ o
-  keep-new = let a = few-kept in let b = big in getD-set-same w (8192 + kept) o 0 (omega arith)
+  keep-new = let a = few-kept in let b = big in getD-set-same w (restAt + kept) o 0 (omega arith)
 
   held-of : (i : ℕ) → PlaceHeld (kept + 1) (j + 1) left i → (i ≡ kept → ⊥) → PlaceHeld kept j left i
   held-of i (inl l) d = inl (omega arith)
   held-of i (inr (a, b)) d = inr (omega arith, b)
 
   rest-kept : (i : ℕ) → (i ≡ kept → ⊥) → rest x i ≡ rest w i
-  rest-kept i d = keep-other (8192 + i) (λ z. d (omega arith))
+  rest-kept i d = keep-other (restAt + i) (λ z. d (omega arith))
 
   mark-kept : (y : ℕ) → mark x y ≡ mark w y
-  mark-kept y = let a = few-kept in keep-other (19072 + y) (λ z. omega arith)
+  mark-kept y = let a = few-kept in keep-other (bitsAt + y) (λ z. omega arith)
 
   met-kept : (k : ℕ) → met x k ≡ met w k
-  met-kept k = let a = few-kept in keep-other (13824 + k) (λ z. omega arith)
+  met-kept k = let a = few-kept in keep-other (orderAt + k) (λ z. omega arith)
 
   each : (P : ℕ → Type 0) → ((i : ℕ) → PlaceHeld kept j left i → P (rest w i)) → (i : ℕ) → PlaceHeld (kept + 1) (j + 1) left i → P (rest x i)
   each P f i g = elim (ℕ-discrete i kept) [
@@ -253,7 +252,7 @@ module _ (u : List ℕ) (total : ℕ) (s : OrderStart u total) (left j : ℕ) (w
 
   pub stage-no : readyIn w o ≡ false → Stage u total left (j + 1) x (kept + 1) done
   stage-no q = record {
-    size = length-set w (8192 + kept) o ∙ c .size;
+    size = length-set w (restAt + kept) o ∙ c .size;
     table = λ y l. keep-other y (λ z. omega arith) ∙ c .table y l;
     pins = λ y l g. (let a = few-kept in keep-other y (λ z. omega arith) ∙ c .pins y l g);
     above = λ y l. (let a = few-kept in keep-other y (λ z. omega arith) ∙ c .above y l);

@@ -22,17 +22,18 @@ use Rattle.memory.specs.Map.{region, terminalOf}
 use Rattle.trace_calculus.specs.Trace.{inPins, outPins, place, bitByte, row}
 use Rattle.trace_theorems.proofs.Lists.{Once, place-at}
 use Rattle.trace_theorems.proofs.Lending.{pins-once}
+use Rattle.trace_steps.specs.Map.{pinsAt}
 use Rattle.trace_steps.specs.Pins.{pinIsIn, inPinCount, outPinCount}
 use Rattle.trace_steps.proofs.PinLaws.{ins-up}
 
 -- the terminal of pin k
 abbrev pub pinAt : List ℕ → ℕ → ℕ
-pinAt w k = getD w (18944 + k) 0 / 2
+pinAt w k = getD w (pinsAt + k) 0 / 2
 
 -- the first n pins
 abbrev pub upTo : List ℕ → ℕ → Interface
 upTo w zero = []
-upTo w (suc k) = upTo w k ++ terminalOf (getD w (18944 + k) 0) ∷ []
+upTo w (suc k) = upTo w k ++ terminalOf (getD w (pinsAt + k) 0) ∷ []
 
 map-snoc : {A B : Type 0} (f : A → B) (xs : List A) (x : A) → map f (xs ++ x ∷ []) ≡ map f xs ++ f x ∷ []
 map-snoc f [] x = refl
@@ -43,11 +44,11 @@ region-snoc w a n h =
     let e : suc n ≡ n + 1 = omega arith in
     ap (λ (k : ℕ). take k (drop a w)) e ∙ region-join a n 1 w ∙ ap (λ (l : List ℕ). take n (drop a w) ++ take 1 l) (drop-cons w (a + n) 0 (omega arith))
 
-pub upto-is : (w : List ℕ) (n : ℕ) → 18944 + n ≤ length w → upTo w n ≡ map terminalOf (region w 18944 n)
+pub upto-is : (w : List ℕ) (n : ℕ) → pinsAt + n ≤ length w → upTo w n ≡ map terminalOf (region w pinsAt n)
 upto-is w zero h = refl
 upto-is w (suc n) h =
-    ap (λ (l : Interface). l ++ terminalOf (getD w (18944 + n) 0) ∷ []) (upto-is w n (omega arith))
-    ∙ sym (ap (map terminalOf) (region-snoc w 18944 n h) ∙ map-snoc terminalOf (region w 18944 n) (getD w (18944 + n) 0))
+    ap (λ (l : Interface). l ++ terminalOf (getD w (pinsAt + n) 0) ∷ []) (upto-is w n (omega arith))
+    ∙ sym (ap (map terminalOf) (region-snoc w pinsAt n h) ∙ map-snoc terminalOf (region w pinsAt n) (getD w (pinsAt + n) 0))
 
 -- ---- inputs and outputs of a list with one pin more
 
@@ -69,8 +70,8 @@ pin-append (out o ∷ xs) ys x t = pin-append xs ys x t
 pub ins-length : (w : List ℕ) (n : ℕ) → length (inPins (upTo w n)) ≡ inPinCount w n
 ins-length w zero = refl
 ins-length w (suc n) =
-    ap length (in-append (upTo w n) (terminalOf (getD w (18944 + n) 0) ∷ [])) ∙ length-append (inPins (upTo w n)) (inPins (terminalOf (getD w (18944 + n) 0) ∷ []))
-    ∙ ap (λ (k : ℕ). k + length (inPins (terminalOf (getD w (18944 + n) 0) ∷ []))) (ins-length w n) ∙ ap (λ (k : ℕ). inPinCount w n + k) (by (pinIsIn w n))
+    ap length (in-append (upTo w n) (terminalOf (getD w (pinsAt + n) 0) ∷ [])) ∙ length-append (inPins (upTo w n)) (inPins (terminalOf (getD w (pinsAt + n) 0) ∷ []))
+    ∙ ap (λ (k : ℕ). k + length (inPins (terminalOf (getD w (pinsAt + n) 0) ∷ []))) (ins-length w n) ∙ ap (λ (k : ℕ). inPinCount w n + k) (by (pinIsIn w n))
   where
     by : (b : Bool) → length (inPins (cond b (inp (pinAt w n)) (out (pinAt w n)) ∷ [])) ≡ cond b 1 0
     by true = refl
@@ -79,8 +80,8 @@ ins-length w (suc n) =
 pub outs-length : (w : List ℕ) (n : ℕ) → length (outPins (upTo w n)) ≡ outPinCount w n
 outs-length w zero = refl
 outs-length w (suc n) =
-    ap length (out-append (upTo w n) (terminalOf (getD w (18944 + n) 0) ∷ [])) ∙ length-append (outPins (upTo w n)) (outPins (terminalOf (getD w (18944 + n) 0) ∷ []))
-    ∙ ap (λ (k : ℕ). k + length (outPins (terminalOf (getD w (18944 + n) 0) ∷ []))) (outs-length w n) ∙ ap (λ (k : ℕ). outPinCount w n + k) (by (pinIsIn w n))
+    ap length (out-append (upTo w n) (terminalOf (getD w (pinsAt + n) 0) ∷ [])) ∙ length-append (outPins (upTo w n)) (outPins (terminalOf (getD w (pinsAt + n) 0) ∷ []))
+    ∙ ap (λ (k : ℕ). k + length (outPins (terminalOf (getD w (pinsAt + n) 0) ∷ []))) (outs-length w n) ∙ ap (λ (k : ℕ). outPinCount w n + k) (by (pinIsIn w n))
   where
     by : (b : Bool) → length (outPins (cond b (inp (pinAt w n)) (out (pinAt w n)) ∷ [])) ≡ cond b 0 1
     by true = refl
@@ -97,15 +98,15 @@ ins-outs w (suc n) = by (pinIsIn w n) (ins-outs w n)
 -- ---- input pin j is number `inPinCount w j` of the input pins
 
 in-last : (w : List ℕ) (n : ℕ) → pinIsIn w n ≡ true → inPins (upTo w (suc n)) ≡ inPins (upTo w n) ++ pinAt w n ∷ []
-in-last w n e = in-append (upTo w n) (terminalOf (getD w (18944 + n) 0) ∷ []) ∙ ap (λ (b : Bool). inPins (upTo w n) ++ inPins (cond b (inp (pinAt w n)) (out (pinAt w n)) ∷ [])) e
+in-last w n e = in-append (upTo w n) (terminalOf (getD w (pinsAt + n) 0) ∷ []) ∙ ap (λ (b : Bool). inPins (upTo w n) ++ inPins (cond b (inp (pinAt w n)) (out (pinAt w n)) ∷ [])) e
 
 pub in-place : (w : List ℕ) (n j : ℕ) → j < n → pinIsIn w j ≡ true → (getD (inPins (upTo w n)) (inPinCount w j) 0 ≡ pinAt w j) × (inPinCount w j < inPinCount w n)
 in-place w zero j l e = absurd (omega arith)
 in-place w (suc n) j l e = elim (ℕ-discrete j n) [
   | yes q ↦ subst (λ (k : ℕ). pinIsIn w k ≡ true → (getD (inPins (upTo w (suc n))) (inPinCount w k) 0 ≡ pinAt w k) × (inPinCount w k < inPinCount w (suc n))) (sym q) at-last e
   | no d ↦ (let r = in-place w n j (omega arith) e in (
-    ap (λ (l : List ℕ). getD l (inPinCount w j) 0) (in-append (upTo w n) (terminalOf (getD w (18944 + n) 0) ∷ []))
-        ∙ List·getD-append (inPins (upTo w n)) (inPins (terminalOf (getD w (18944 + n) 0) ∷ [])) 0 (inPinCount w j) (let a = ins-length w n in omega (arith, r .1)) ∙ r .0,
+    ap (λ (l : List ℕ). getD l (inPinCount w j) 0) (in-append (upTo w n) (terminalOf (getD w (pinsAt + n) 0) ∷ []))
+        ∙ List·getD-append (inPins (upTo w n)) (inPins (terminalOf (getD w (pinsAt + n) 0) ∷ [])) 0 (inPinCount w j) (let a = ins-length w n in omega (arith, r .1)) ∙ r .0,
     omega (arith, r .1, ins-up w n (suc n) (omega arith)),
   ))
 ]
@@ -120,7 +121,7 @@ in-place w (suc n) j l e = elim (ℕ-discrete j n) [
 pub pin-number : (w : List ℕ) (n x : ℕ) → T (isPin (upTo w n) x) → (j : ℕ) × (j < n) × ((pinIsIn w j ≡ true) × (pinAt w j ≡ x))
 pin-number w zero x t = absurd t
 pin-number w (suc n) x t =
-    ⊎-elim (λ u. let r = pin-number w n x u in (r .0, omega (arith, r .1), r .2)) (λ u. by (pinIsIn w n) refl u) (pin-append (upTo w n) (terminalOf (getD w (18944 + n) 0) ∷ []) x t)
+    ⊎-elim (λ u. let r = pin-number w n x u in (r .0, omega (arith, r .1), r .2)) (λ u. by (pinIsIn w n) refl u) (pin-append (upTo w n) (terminalOf (getD w (pinsAt + n) 0) ∷ []) x t)
   where
     by : (b : Bool) → pinIsIn w n ≡ b → T (isPin (cond b (inp (pinAt w n)) (out (pinAt w n)) ∷ []) x) → (j : ℕ) × (j < suc n) × ((pinIsIn w j ≡ true) × (pinAt w j ≡ x))
     by true e u = (n, omega arith, (e, or-elim (eqb (pinAt w n) x) false u (λ v. eqb→eq (pinAt w n) x v) (λ v. absurd v)))
@@ -135,8 +136,8 @@ append-pin (out o ∷ xs) ys x t = append-pin xs ys x t
 
 pub number-pin : (w : List ℕ) (n j : ℕ) → j < n → pinIsIn w j ≡ true → T (isPin (upTo w n) (pinAt w j))
 number-pin w zero j l e = absurd (omega arith)
-number-pin w (suc n) j l e = append-pin (upTo w n) (terminalOf (getD w (18944 + n) 0) ∷ []) (pinAt w j) (elim (ℕ-discrete j n) [
-  | yes q ↦ inr (subst (λ (k : ℕ). pinIsIn w k ≡ true → T (isPin (terminalOf (getD w (18944 + n) 0) ∷ []) (pinAt w k))) (sym q)
+number-pin w (suc n) j l e = append-pin (upTo w n) (terminalOf (getD w (pinsAt + n) 0) ∷ []) (pinAt w j) (elim (ℕ-discrete j n) [
+  | yes q ↦ inr (subst (λ (k : ℕ). pinIsIn w k ≡ true → T (isPin (terminalOf (getD w (pinsAt + n) 0) ∷ []) (pinAt w k))) (sym q)
       (λ f. subst (λ (b : Bool). T (isPin (cond b (inp (pinAt w n)) (out (pinAt w n)) ∷ []) (pinAt w n))) (sym f) (or-left (eqb (pinAt w n) (pinAt w n)) false (eqb-refl (pinAt w n)))) e)
   | no d ↦ inl (number-pin w n j (omega arith) e)
 ])
@@ -167,14 +168,14 @@ row-snoc β t [] o = refl
 row-snoc β t (x ∷ os) o = ap (λ (l : List ℕ). bitByte (β x t) ∷ l) (row-snoc β t os o)
 
 pub out-last : (w : List ℕ) (n : ℕ) → pinIsIn w n ≡ false → outPins (upTo w (suc n)) ≡ outPins (upTo w n) ++ pinAt w n ∷ []
-out-last w n e = out-append (upTo w n) (terminalOf (getD w (18944 + n) 0) ∷ []) ∙ ap (λ (b : Bool). outPins (upTo w n) ++ outPins (cond b (inp (pinAt w n)) (out (pinAt w n)) ∷ [])) e
+out-last w n e = out-append (upTo w n) (terminalOf (getD w (pinsAt + n) 0) ∷ []) ∙ ap (λ (b : Bool). outPins (upTo w n) ++ outPins (cond b (inp (pinAt w n)) (out (pinAt w n)) ∷ [])) e
 
 nil-append : (xs : List ℕ) → xs ++ [] ≡ xs
 nil-append [] = refl
 nil-append (x ∷ xs) = ap (λ (l : List ℕ). x ∷ l) (nil-append xs)
 
 pub out-same : (w : List ℕ) (n : ℕ) → pinIsIn w n ≡ true → outPins (upTo w (suc n)) ≡ outPins (upTo w n)
-out-same w n e = out-append (upTo w n) (terminalOf (getD w (18944 + n) 0) ∷ []) ∙ ap (λ (b : Bool). outPins (upTo w n) ++ outPins (cond b (inp (pinAt w n)) (out (pinAt w n)) ∷ [])) e ∙ nil-append (outPins (upTo w n))
+out-same w n e = out-append (upTo w n) (terminalOf (getD w (pinsAt + n) 0) ∷ []) ∙ ap (λ (b : Bool). outPins (upTo w n) ++ outPins (cond b (inp (pinAt w n)) (out (pinAt w n)) ∷ [])) e ∙ nil-append (outPins (upTo w n))
 
 -- an output pin's terminal is an output
 pub out-shown : (es : List Element) (w : List ℕ) (n j : ℕ) → j < n → pinIsIn w j ≡ false → All (Shown es) (upTo w n) → T (isOut es (pinAt w j))
@@ -184,10 +185,10 @@ out-shown es w (suc n) j l e a = elim (ℕ-discrete j n) [
   | no d ↦ out-shown es w n j (omega arith) e (front (upTo w n) a)
 ]
   where
-    last : (xs : Interface) → All (Shown es) (xs ++ terminalOf (getD w (18944 + n) 0) ∷ []) → Shown es (terminalOf (getD w (18944 + n) 0))
+    last : (xs : Interface) → All (Shown es) (xs ++ terminalOf (getD w (pinsAt + n) 0) ∷ []) → Shown es (terminalOf (getD w (pinsAt + n) 0))
     last [] a = a .0
     last (x ∷ xs) a = last xs (a .1)
 
-    front : (xs : Interface) → All (Shown es) (xs ++ terminalOf (getD w (18944 + n) 0) ∷ []) → All (Shown es) xs
+    front : (xs : Interface) → All (Shown es) (xs ++ terminalOf (getD w (pinsAt + n) 0) ∷ []) → All (Shown es) xs
     front [] a = tt
     front (x ∷ xs) a = (a .0, front xs (a .1))

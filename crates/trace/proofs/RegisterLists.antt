@@ -1,13 +1,13 @@
 -- The registers by rising output, as the memory lists them and as the definition does. Assumes nothing.
 use Prim.Native.Nat.{ℕ, zero, suc, _+_, _≤_, _<_}
 use mathlib.Core.Path.{_≡_, refl, sym, ap, _∙_, subst}
-use mathlib.Core.Logic.{_⊎_, inl, inr, ⊎-elim, _≢_}
+use mathlib.Core.Logic.{_⊎_, inl, inr, ⊎-elim}
 use mathlib.Core.Bool.{Bool, true, false, cond, _||_}
 use mathlib.Core.List.{List, [], _∷_, _++_, map}
 use native.Mathlib.Omega.{arith}
 use native.Mathlib.Decide.{ℕ-discrete, decLe}
 use lib.ListN.{length, getD, set, length-set, length-append, length-map}
-use lib.Seq.{getD-set-same, getD-set-other, getD-append-add}
+use lib.Seq.{getD-set-same, getD-append-add}
 use lib.Dec.{T, eqb, eqb→eq, eqb-refl}
 use borrow.Author.Tests.{eq-eqb, eqb-false}
 use Rattle.laws.proofs.Tests.{or-elim, or-left, or-right}
@@ -19,12 +19,14 @@ use Rattle.circuit_theorems.specs.Terminals.{has}
 use Rattle.circuit_theorems.specs.Formed.{Rising, Formed}
 use Rattle.trace_calculus.specs.Trace.{terminals, registers, place}
 use Rattle.trace_theorems.proofs.Sources.{has-append, has-left, has-right, out-terminal}
-use Rattle.memory.specs.Map.{kindNumber}
+use Rattle.memory.specs.Map.{memorySize, kindNumber}
 use Rattle.trace_theorems.proofs.Lists.{has-at, place-at, at-place, Up, up-low, up-weaken, up-once}
 use Rattle.trace_theorems.proofs.Lending.{registers-in, in-registers, registers-up}
 use Rattle.trace_theorems.proofs.Owners.{start, last, same-owner}
+use Rattle.trace_steps.specs.Map.{registersAt, kindsFrom, registerEntry, pointEntry}
 use Rattle.trace_steps.specs.Turns.{takeTurns}
 use Rattle.trace_steps.specs.Pins.{Counted, counted, registerOne}
+use Rattle.trace_steps.proofs.Laws.{set-other}
 use Rattle.trace.specs.Tables.{TableEntry, of-pin, of-wire, of-point, of-part, Tabled}
 use Rattle.trace.proofs.Turning.{turns-keep}
 use Rattle.trace.proofs.ElementLaws.{in-out}
@@ -68,24 +70,24 @@ has-map (j ∷ is) i t = or-elim (eqb j i) (has is i) t (λ v. or-left (eqb (j +
 
 -- ---- the memory's list
 
--- the first n numbers from 8,192 on
+-- the first n numbers of the registers' list
 abbrev pub listed : List ℕ → ℕ → List ℕ
 listed w zero = []
-listed w (suc n) = listed w n ++ getD w (8192 + n) 0 ∷ []
+listed w (suc n) = listed w n ++ getD w (registersAt + n) 0 ∷ []
 
-listed-same : (w v : List ℕ) (n : ℕ) → ((i : ℕ) → i < n → getD v (8192 + i) 0 ≡ getD w (8192 + i) 0) → listed v n ≡ listed w n
+listed-same : (w v : List ℕ) (n : ℕ) → ((i : ℕ) → i < n → getD v (registersAt + i) 0 ≡ getD w (registersAt + i) 0) → listed v n ≡ listed w n
 listed-same w v zero f = refl
-listed-same w v (suc n) f = ap (λ (l : List ℕ). l ++ getD v (8192 + n) 0 ∷ []) (listed-same w v n (λ i l. f i (omega arith))) ∙ ap (λ (x : ℕ). listed w n ++ x ∷ []) (f n (omega arith))
+listed-same w v (suc n) f = ap (λ (l : List ℕ). l ++ getD v (registersAt + n) 0 ∷ []) (listed-same w v n (λ i l. f i (omega arith))) ∙ ap (λ (x : ℕ). listed w n ++ x ∷ []) (f n (omega arith))
 
 pub listed-length : (w : List ℕ) (n : ℕ) → length (listed w n) ≡ n
 listed-length w zero = refl
-listed-length w (suc n) = length-append (listed w n) (getD w (8192 + n) 0 ∷ []) ∙ (let a = listed-length w n in omega arith)
+listed-length w (suc n) = length-append (listed w n) (getD w (registersAt + n) 0 ∷ []) ∙ (let a = listed-length w n in omega arith)
 
-pub listed-at : (w : List ℕ) (n i : ℕ) → i < n → getD (listed w n) i 0 ≡ getD w (8192 + i) 0
+pub listed-at : (w : List ℕ) (n i : ℕ) → i < n → getD (listed w n) i 0 ≡ getD w (registersAt + i) 0
 listed-at w zero i l = absurd (omega arith)
 listed-at w (suc n) i l = elim (ℕ-discrete i n) [
-  | yes e ↦ (let z : length (listed w n) + 0 ≡ i = (let a = listed-length w n in omega arith) in ap (λ (k : ℕ). getD (listed w n ++ getD w (8192 + n) 0 ∷ []) k 0) (sym z) ∙ getD-append-add (listed w n) (getD w (8192 + n) 0 ∷ []) 0 0 ∙ ap (λ (k : ℕ). getD w (8192 + k) 0) (sym e))
-  | no d ↦ (let a = listed-length w n in lib.ListN.List·getD-append (listed w n) (getD w (8192 + n) 0 ∷ []) 0 i (omega arith) ∙ listed-at w n i (omega arith))
+  | yes e ↦ (let z : length (listed w n) + 0 ≡ i = (let a = listed-length w n in omega arith) in ap (λ (k : ℕ). getD (listed w n ++ getD w (registersAt + n) 0 ∷ []) k 0) (sym z) ∙ getD-append-add (listed w n) (getD w (registersAt + n) 0 ∷ []) 0 0 ∙ ap (λ (k : ℕ). getD w (registersAt + k) 0) (sym e))
+  | no d ↦ (let a = listed-length w n in lib.ListN.List·getD-append (listed w n) (getD w (registersAt + n) 0 ∷ []) 0 i (omega arith) ∙ listed-at w n i (omega arith))
 ]
 
 -- the outputs of registers among the first x terminals
@@ -95,35 +97,35 @@ pub record Collected (u : List ℕ) (x : ℕ) (c : Counted) : Type 0 where
   pub few : c .count ≤ x
   pub up : Up (listed (c .mem) (c .count)) 0
   pub below : (y : ℕ) → T (has (listed (c .mem) (c .count)) y) → y < x
-  pub is-register : (y : ℕ) → T (has (listed (c .mem) (c .count)) y) → getD u y 0 ≡ 65521
-  pub all : (y : ℕ) → y < x → getD u y 0 ≡ 65521 → T (has (listed (c .mem) (c .count)) y)
+  pub is-register : (y : ℕ) → T (has (listed (c .mem) (c .count)) y) → getD u y 0 ≡ registerEntry
+  pub all : (y : ℕ) → y < x → getD u y 0 ≡ registerEntry → T (has (listed (c .mem) (c .count)) y)
 
-pub collect : (u : List ℕ) (end : ℕ) → 32768 ≤ length u → end ≤ 8192 → Collected u end (takeTurns registerOne end 0 (counted u 0))
+pub collect : (u : List ℕ) (end : ℕ) → memorySize ≤ length u → end ≤ 8192 → Collected u end (takeTurns registerOne end 0 (counted u 0))
 collect u end size few = turns-keep registerOne (Collected u) (counted u 0) start end step
   where
     start : Collected u 0 (counted u 0)
     start = record { table = λ y l. refl; size = refl; few = omega arith; up = tt; below = λ y t. absurd t; is-register = λ y t. absurd t; all = λ y l. absurd (omega arith) }
 
     step : (x : ℕ) (c : Counted) → x < end → Collected u x c → Collected u (suc x) (registerOne x c)
-    step x c l q = by (eqb (getD (c .mem) x 0) 65521) refl
+    step x c l q = by (eqb (getD (c .mem) x 0) registerEntry) refl
       where
         same-x : getD (c .mem) x 0 ≡ getD u x 0
         same-x = q .table x (omega arith)
 
-        yes-case : getD u x 0 ≡ 65521 → Collected u (suc x) (counted (set (c .mem) (8192 + c .count) x) (c .count + 1))
+        yes-case : getD u x 0 ≡ registerEntry → Collected u (suc x) (counted (set (c .mem) (registersAt + c .count) x) (c .count + 1))
         yes-case e =
             let n = c .count in
             let w = c .mem in
-            let v = set w (8192 + n) x in
+            let v = set w (registersAt + n) x in
             let z = q .size in
             let few-n = q .few in
-            let at-n : getD v (8192 + n) 0 ≡ x = getD-set-same w (8192 + n) x 0 (omega arith) in
-            let old : (i : ℕ) → (i ≡ 8192 + n → ⊥) → getD v i 0 ≡ getD w i 0 = λ i d. (let ne : i ≢ 8192 + n = d in getD-set-other w (8192 + n) i x 0 ne) in
+            let at-n : getD v (registersAt + n) 0 ≡ x = getD-set-same w (registersAt + n) x 0 (omega arith) in
+            let old : (i : ℕ) → (i ≡ registersAt + n → ⊥) → getD v i 0 ≡ getD w i 0 = λ i d. set-other w (registersAt + n) i x d in
             let shape : listed v (n + 1) ≡ listed w n ++ x ∷ [] =
-            (let k : n + 1 ≡ suc n = omega arith in ap (listed v) k ∙ ap (λ (l : List ℕ). l ++ getD v (8192 + n) 0 ∷ []) (listed-same w v n (λ i l. old (8192 + i) (λ t. omega arith))) ∙ ap (λ (y : ℕ). listed w n ++ y ∷ []) at-n) in
+            (let k : n + 1 ≡ suc n = omega arith in ap (listed v) k ∙ ap (λ (l : List ℕ). l ++ getD v (registersAt + n) 0 ∷ []) (listed-same w v n (λ i l. old (registersAt + i) (λ t. omega arith))) ∙ ap (λ (y : ℕ). listed w n ++ y ∷ []) at-n) in
             record {
               table = λ y h. old y (λ t. omega arith) ∙ q .table y h;
-              size = length-set w (8192 + n) x ∙ q .size;
+              size = length-set w (registersAt + n) x ∙ q .size;
               few = omega arith;
               up = subst (λ (l : List ℕ). Up l 0) (sym shape) (up-snoc (listed w n) 0 x (omega arith) (q .up) (q .below));
               below = λ y t. split y (subst (λ (l : List ℕ). T (has l y)) shape t) (λ h. (let k = q .below y h in omega arith)) (λ h. omega arith);
@@ -137,7 +139,7 @@ collect u end size few = turns-keep registerOne (Collected u) (counted u 0) star
             split : {X : Type 0} (y : ℕ) → T (has (listed (c .mem) (c .count) ++ x ∷ []) y) → (T (has (listed (c .mem) (c .count)) y) → X) → (x ≡ y → X) → X
             split y t f g = ⊎-elim f (λ h. or-elim (eqb x y) false h (λ k. g (eqb→eq x y k)) (λ k. absurd k)) (has-append (listed (c .mem) (c .count)) (x ∷ []) y t)
 
-        no-case : (getD u x 0 ≡ 65521 → ⊥) → Collected u (suc x) c
+        no-case : (getD u x 0 ≡ registerEntry → ⊥) → Collected u (suc x) c
         no-case d = record {
           table = q .table;
           size = q .size;
@@ -148,18 +150,18 @@ collect u end size few = turns-keep registerOne (Collected u) (counted u 0) star
           all = λ y h f. elim (ℕ-discrete y x) [ yes k ↦ absurd (d (ap (λ (a : ℕ). getD u a 0) (sym k) ∙ f)) | no k ↦ q .all y (omega arith) f ];
         }
 
-        by : (b : Bool) → eqb (getD (c .mem) x 0) 65521 ≡ b → Collected u (suc x) (cond b (counted (set (c .mem) (8192 + c .count) x) (c .count + 1)) c)
-        by true e = yes-case (sym same-x ∙ eqb→eq (getD (c .mem) x 0) 65521 (subst T (sym e) tt))
-        by false e = no-case (λ h. eqb-false (getD (c .mem) x 0) 65521 e (same-x ∙ h))
+        by : (b : Bool) → eqb (getD (c .mem) x 0) registerEntry ≡ b → Collected u (suc x) (cond b (counted (set (c .mem) (registersAt + c .count) x) (c .count + 1)) c)
+        by true e = yes-case (sym same-x ∙ eqb→eq (getD (c .mem) x 0) registerEntry (subst T (sym e) tt))
+        by false e = no-case (λ h. eqb-false (getD (c .mem) x 0) registerEntry e (same-x ∙ h))
 
 -- ---- both lists
 
 module _ (u : List ℕ) (m : Net) (end pins : ℕ) (t : Tabled u m end pins) where
-  pub register-of : (x : ℕ) → x < end → getD u x 0 ≡ 65521 → (i : ℕ) × Among (part 1 i) (m .elements) × (i + 1 ≡ x)
+  pub register-of : (x : ℕ) → x < end → getD u x 0 ≡ registerEntry → (i : ℕ) × Among (part 1 i) (m .elements) × (i + 1 ≡ x)
   register-of x l e = go (t .entries x terminal) refl
     where
       terminal : T (has (terminals (m .elements)) x)
-      terminal = ⊎-elim (λ h. h) (λ h. absurd (⊎-elim (λ (a : getD u x 0 < 8192). omega arith) (λ (a : getD u x 0 ≡ 65527). omega arith) h)) (t .others x l)
+      terminal = ⊎-elim (λ h. h) (λ h. absurd (⊎-elim (λ (a : getD u x 0 < 8192). omega arith) (λ (a : getD u x 0 ≡ pointEntry). omega arith) h)) (t .others x l)
 
       go : {v : ℕ} → TableEntry m x v → v ≡ getD u x 0 → (i : ℕ) × Among (part 1 i) (m .elements) × (i + 1 ≡ x)
       go (of-pin a b) q = absurd (let f = t .few in omega arith)
@@ -168,7 +170,7 @@ module _ (u : List ℕ) (m : Net) (end pins : ℕ) (t : Tabled u m end pins) whe
       go (of-part p i a b c) q = let k : p ≡ 1 = omega arith in (i, subst (λ (z : ℕ). Among (part z i) (m .elements)) k a, subst (λ (z : ℕ). i + partAt z .inputs ≡ x) k b)
 
   -- the entry of an element's output
-  pub element-entry : (a : Element) → Among a (m .elements) → getD u (last a) 0 ≡ 65520 + kindNumber a
+  pub element-entry : (a : Element) → Among a (m .elements) → getD u (last a) 0 ≡ kindsFrom + kindNumber a
   element-entry a h = go (t .entries (last a) (out-terminal (m .elements) (last a) (in-out a h))) refl
     where
       start-last : (a : Element) → start a ≤ last a
@@ -178,13 +180,13 @@ module _ (u : List ℕ) (m : Net) (end pins : ℕ) (t : Tabled u m end pins) whe
       one : (b : Element) → Among b (m .elements) → last b ≡ last a → b ≡ a
       one b k e = same-owner 0 (t .formed .end) (last a) (t .formed .rising) k h (let l = start-last b in omega arith) (omega arith) (start-last a) (omega arith)
 
-      go : {v : ℕ} → TableEntry m (last a) v → v ≡ getD u (last a) 0 → getD u (last a) 0 ≡ 65520 + kindNumber a
+      go : {v : ℕ} → TableEntry m (last a) v → v ≡ getD u (last a) 0 → getD u (last a) 0 ≡ kindsFrom + kindNumber a
       go (of-pin x y) q = absurd (subst T y (in-out a h))
       go (of-wire y x z c) q = absurd (subst T z (in-out a h))
-      go (of-point i x e) q = sym q ∙ ap (λ (b : Element). 65520 + kindNumber b) (one (point i) x e)
-      go (of-part p i x e c) q = sym q ∙ ap (λ (b : Element). 65520 + kindNumber b) (one (part p i) x e)
+      go (of-point i x e) q = sym q ∙ ap (λ (b : Element). kindsFrom + kindNumber b) (one (point i) x e)
+      go (of-part p i x e c) q = sym q ∙ ap (λ (b : Element). kindsFrom + kindNumber b) (one (part p i) x e)
 
-  of-register : (i : ℕ) → Among (part 1 i) (m .elements) → (i + 1 < end) × (getD u (i + 1) 0 ≡ 65521)
+  of-register : (i : ℕ) → Among (part 1 i) (m .elements) → (i + 1 < end) × (getD u (i + 1) 0 ≡ registerEntry)
   of-register i h = (t .low (i + 1) (out-terminal (m .elements) (i + 1) (in-out (part 1 i) h)), element-entry (part 1 i) h)
 
   pub lists-same : (c : Counted) → Collected u end c → listed (c .mem) (c .count) ≡ map next (registers (m .elements))
@@ -207,7 +209,7 @@ module _ (u : List ℕ) (m : Net) (end pins : ℕ) (t : Tabled u m end pins) whe
     at-map (x ∷ xs) (suc j) l = at-map xs j (omega arith)
 
     -- the j-th of the memory's list is the output of the definition's j-th register
-    pub register-at : (j : ℕ) → j < c .count → Among (part 1 (getD rs j 0)) (m .elements) × (getD (c .mem) (8192 + j) 0 ≡ getD rs j 0 + 1)
+    pub register-at : (j : ℕ) → j < c .count → Among (part 1 (getD rs j 0)) (m .elements) × (getD (c .mem) (registersAt + j) 0 ≡ getD rs j 0 + 1)
     register-at j l =
         let n = registers-length in
         (registers-in (m .elements) (getD rs j 0) (has-at rs j (omega arith)), sym (listed-at (c .mem) (c .count) j l) ∙ ap (λ (xs : List ℕ). getD xs j 0) (lists-same c q) ∙ at-map rs j (omega arith))

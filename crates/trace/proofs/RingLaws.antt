@@ -24,6 +24,7 @@ use Rattle.trace_theorems.proofs.Sources.{closed, terminal-is, out-terminal, at
 use Rattle.trace_theorems.proofs.TraceRings.{on-ring, back-ring, runs-iff, accepted, Lowest, ring-place}
 use Rattle.trace_theorems.proofs.Owners as owners
 use Rattle.circuit_theorems.proofs.Terminals.{each-target}
+use Rattle.trace_steps.specs.Map.{kindsFrom, registerEntry, inverterEntry, oneEntry, pointEntry}
 use Rattle.trace_steps.specs.Steps.{lit, firstIn, readyIn, freeIn, Looks}
 use Rattle.trace_steps.proofs.Laws.{first-low}
 use Rattle.trace_steps.proofs.SweepLaws.{looks-table}
@@ -134,11 +135,11 @@ module _ (u : List ℕ) (m : Net) (end pins total : ℕ) (g : Ground u m end pin
   not-free : (x : ℕ) → x < 8192 → Looking (getD u x 0) → freeIn u x ≡ false
   not-free x l h =
       let v = getD u x 0 in
-      let high : 65521 < v = ⊎-elim (λ (e : v ≡ 65527). omega arith) (λ r. r .0) h in
-      let six : v ≡ 65526 → ⊥ = λ e. ⊎-elim (λ (f : v ≡ 65527). omega arith) (λ r. omega (arith, r .1)) h in
-      ap (λ (b : Bool). b || (eqb v 65520 || (eqb v 65521 || eqb v 65526))) (ne-eqb v x (λ e. omega arith))
-      ∙ ap (λ (b : Bool). b || (eqb v 65521 || eqb v 65526)) (ne-eqb v 65520 (λ e. omega arith))
-      ∙ ap (λ (b : Bool). b || eqb v 65526) (ne-eqb v 65521 (λ e. omega arith)) ∙ ne-eqb v 65526 six
+      let high : registerEntry < v = ⊎-elim (λ (e : v ≡ pointEntry). omega arith) (λ r. r .0) h in
+      let six : v ≡ oneEntry → ⊥ = λ e. ⊎-elim (λ (f : v ≡ pointEntry). omega arith) (λ r. omega (arith, r .1)) h in
+      ap (λ (b : Bool). b || (eqb v kindsFrom || (eqb v registerEntry || eqb v oneEntry))) (ne-eqb v x (λ e. omega arith))
+      ∙ ap (λ (b : Bool). b || (eqb v registerEntry || eqb v oneEntry)) (ne-eqb v kindsFrom (λ e. omega arith))
+      ∙ ap (λ (b : Bool). b || eqb v oneEntry) (ne-eqb v registerEntry (λ e. omega arith)) ∙ ne-eqb v oneEntry six
 
   loose : (x : ℕ) → T (has (terminals es) x) → Looking (getD u x 0) → mark u x ≡ 1 → ⊥
   loose x h l e = let z = g .marks x (t .low x h) ∙ ap bitByte (not-free x (low x h) l) in omega arith
@@ -163,7 +164,7 @@ module _ (u : List ℕ) (m : Net) (end pins total : ℕ) (g : Ground u m end pin
       z-low = let r = made-within es z h in t .low z (in-terminal (r .0) z (r .1) (r .2) (let k = r .3 in omega arith))
 
       go : Input u m end pins t z → (mark u (getD u z 0) ≡ 1) ⊎ ((i : ℕ) × (i < total) × (rest u i ≡ getD u z 0))
-      go (at-a-pin a e) = inl (ap (mark u) e ∙ g .marks z z-low ∙ ap bitByte (ap (λ (b : Bool). b || (eqb (getD u z 0) 65520 || (eqb (getD u z 0) 65521 || eqb (getD u z 0) 65526))) (eq-eqb (getD u z 0) z e)))
+      go (at-a-pin a e) = inl (ap (mark u) e ∙ g .marks z z-low ∙ ap bitByte (ap (λ (b : Bool). b || (eqb (getD u z 0) kindsFrom || (eqb (getD u z 0) registerEntry || eqb (getD u z 0) oneEntry))) (eq-eqb (getD u z 0) z e)))
       go (at-a-wire a b) = ⊎-elim (λ c. inr (g .all (getD u z 0) (out-terminal es (getD u z 0) b) c)) (λ c. inl (g .marks (getD u z 0) (t .low (getD u z 0) (out-terminal es (getD u z 0) b)) ∙ ap bitByte (c .0))) (out-cases u m end pins t (getD u z 0) b)
 
   -- an output that is settled from the start looks at nothing
@@ -189,11 +190,11 @@ module _ (u : List ℕ) (m : Net) (end pins total : ℕ) (g : Ground u m end pin
 
     -- inputs by u's table and by w's are the same
     input-u : (o z : ℕ) → o < 8192 → InputOf w o z → InputOf u o z
-    input-u o z l (inl e) = inl (e ∙ ap (λ (a : ℕ). cond (ltb a 65525) (o - 2) (o - 1)) (s .table o l))
+    input-u o z l (inl e) = inl (e ∙ ap (λ (a : ℕ). cond (ltb a inverterEntry) (o - 2) (o - 1)) (s .table o l))
     input-u o z l (inr e) = inr e
 
     input-w : (o z : ℕ) → o < 8192 → InputOf u o z → InputOf w o z
-    input-w o z l (inl e) = inl (e ∙ sym (ap (λ (a : ℕ). cond (ltb a 65525) (o - 2) (o - 1)) (s .table o l)))
+    input-w o z l (inl e) = inl (e ∙ sym (ap (λ (a : ℕ). cond (ltb a inverterEntry) (o - 2) (o - 1)) (s .table o l)))
     input-w o z l (inr e) = inr e
 
     source-same : (z : ℕ) → 1 ≤ madeAt es z → getD w z 0 ≡ getD u z 0
@@ -306,7 +307,7 @@ module _ (u : List ℕ) (m : Net) (end pins total : ℕ) (g : Ground u m end pin
               pin-marked : mark u (getD u z 0) ≡ 1
               pin-marked =
                   let r = made-within es z a in
-                  ap (mark u) e ∙ g .marks z (t .low z (in-terminal (r .0) z (r .1) (r .2) (let k = r .3 in omega arith))) ∙ ap bitByte (ap (λ (b : Bool). b || (eqb (getD u z 0) 65520 || (eqb (getD u z 0) 65521 || eqb (getD u z 0) 65526))) (eq-eqb (getD u z 0) z e))
+                  ap (mark u) e ∙ g .marks z (t .low z (in-terminal (r .0) z (r .1) (r .2) (let k = r .3 in omega arith))) ∙ ap bitByte (ap (λ (b : Bool). b || (eqb (getD u z 0) kindsFrom || (eqb (getD u z 0) registerEntry || eqb (getD u z 0) oneEntry))) (eq-eqb (getD u z 0) z e))
           go (at-a-wire p q) = subst (λ (y : ℕ). T (has (before m z) y)) (sym (source-same z a)) (subst (λ (v : Source). T (has (looks v) (getD u z 0))) (sym p) (or-left (eqb (getD u z 0) (getD u z 0)) false (eqb-refl (getD u z 0))))
 
       behind-gate : (o : ℕ) → Behind w x o → (j : ℕ) × (j < left) × (rest w j ≡ o)
@@ -331,7 +332,7 @@ module _ (u : List ℕ) (m : Net) (end pins total : ℕ) (g : Ground u m end pin
     -- ---- an input on a ring has its own output behind it
 
     looking-out : (o : ℕ) → T (has (terminals es) o) → Looking (getD u o 0) → T (isOut es o)
-    looking-out o h l = ⊎-elim (λ a. a) (λ a. absurd (let z = input-low u m end pins t o a in ⊎-elim (λ (e : getD u o 0 ≡ 65527). omega arith) (λ r. omega (arith, r .0)) l)) (terminal-is es o h)
+    looking-out o h l = ⊎-elim (λ a. a) (λ a. absurd (let z = input-low u m end pins t o a in ⊎-elim (λ (e : getD u o 0 ≡ pointEntry). omega arith) (λ r. omega (arith, r .0)) l)) (terminal-is es o h)
 
     left-out : (i : ℕ) → i < left → T (isOut es (rest w i))
     left-out i l = let k = in-rest i l in subst (λ (x : ℕ). T (isOut es x)) (k .2) (looking-out (rest u (k .0)) (g .each (k .0) (k .1) .0) (g .each (k .0) (k .1) .1))
@@ -442,7 +443,7 @@ module _ (u : List ℕ) (m : Net) (end pins total : ℕ) (g : Ground u m end pin
             by (inl e) = let k = some in omega (arith, first-last)
               where
                 first-last : firstIn w (rest w j) ≤ rest w j - 1
-                first-last = on (ltb (getD w (rest w j) 0) 65525)
+                first-last = on (ltb (getD w (rest w j) 0) inverterEntry)
                   where
                     on : (b : Bool) → cond b (rest w j - 2) (rest w j - 1) ≤ rest w j - 1
                     on true = omega arith

@@ -21,15 +21,17 @@ use Rattle.calculus.specs.Inputs.{madeAt, isOut}
 use Rattle.circuit_theorems.specs.Terminals.{has}
 use Rattle.circuit_theorems.specs.Formed.{Shown, Formed}
 use Rattle.circuit_theorems.proofs.Terminals.{pin-ins}
+use Rattle.memory.specs.Map.{memorySize}
 use Rattle.lean.specs.Table.{Within, entry}
 use Rattle.lean.proofs.TableLaws.{within-none, within-then, within-set, entry-same, entry-other}
 use Rattle.trace_calculus.specs.Trace.{Source, pin, from, made-part as made-by, source, terminals, bit, gate, run, OnRing, inPins, outPins, registers, place, givenBits, startBits, bitByte, row, rows}
 use Rattle.trace_theorems.proofs.Sources.{at-pin, at-point, at-part, out-terminal, terminal-is}
 use Rattle.trace_theorems.proofs.TraceRun.{heldAt, tick-is}
 use Rattle.trace_theorems.proofs.Owners.{start, last}
+use Rattle.trace_steps.specs.Map.{registersAt, orderAt, pinsAt, bitsAt, kindsFrom, registerEntry, oneEntry, pointEntry}
 use Rattle.trace_steps.specs.Turns.{takeTurns}
 use Rattle.trace_steps.specs.Steps.{lit, firstIn, gateBit, passOne, Register, Registers, holdOne, turnOne}
-use Rattle.trace_steps.specs.Pins.{Counted, counted, pinIsIn, inPinCount, outPinCount, Pins, loadOne, storeOne}
+use Rattle.trace_steps.specs.Pins.{Counted, counted, pinIsIn, inPinCount, outPinCount, PinsLow, loadOne, storeOne}
 use Rattle.trace_steps.specs.Ticks.{InOrder, due, OrderAgrees}
 use Rattle.trace_steps.proofs.Laws.{first-two, first-one}
 use Rattle.trace_steps.proofs.PassLaws.{pass-agrees}
@@ -44,7 +46,7 @@ use Rattle.trace_theorems.proofs.Lending.{row-length}
 use Rattle.trace.proofs.PinLists.{pinAt, upTo, upto-is, ins-length, outs-length, in-place, pin-number, number-pin, place-is, pins-apart, row-snoc, out-last, out-same, out-shown}
 use Rattle.trace.proofs.RegisterLists.{element-entry}
 
--- what stands below 19,072 during a run
+-- what stands below the bits during a run
 pub record RunStood (b : List ℕ) (m : Net) (end pins total regs : ℕ) : Type 0 where
   pub tabled : Tabled b m end pins
   pub order : InOrder b total
@@ -52,13 +54,9 @@ pub record RunStood (b : List ℕ) (m : Net) (end pins total regs : ℕ) : Type 
   pub all : (x : ℕ) → T (has (terminals (m .elements)) x) → Looking (getD b x 0) → (j : ℕ) × (j < total) × (met b j ≡ x)
   pub few-registers : regs ≤ 5120
   pub count : length (registers (m .elements)) ≡ regs
-  pub register-at : (j : ℕ) → j < regs → Among (part 1 (getD (registers (m .elements)) j 0)) (m .elements) × (getD b (8192 + j) 0 ≡ getD (registers (m .elements)) j 0 + 1)
+  pub register-at : (j : ℕ) → j < regs → Among (part 1 (getD (registers (m .elements)) j 0)) (m .elements) × (getD b (registersAt + j) 0 ≡ getD (registers (m .elements)) j 0 + 1)
   pub register-number : (i : ℕ) → Among (part 1 i) (m .elements) → (place (registers (m .elements)) i < regs) × (getD (registers (m .elements)) (place (registers (m .elements)) i) 0 ≡ i)
   pub apart : (i j : ℕ) → i < regs → j < regs → getD (registers (m .elements)) i 0 ≡ getD (registers (m .elements)) j 0 → i ≡ j
-
-lit-byte : (c : Bool) → eqb (bitByte c) 1 ≡ c
-lit-byte true = refl
-lit-byte false = refl
 
 module _ (b : List ℕ) (m : Net) (end pins total regs : ℕ) (s : RunStood b m end pins total regs) where
   abbrev es : List Element
@@ -112,13 +110,13 @@ module _ (b : List ℕ) (m : Net) (end pins total regs : ℕ) (s : RunStood b m 
       step : (k : ℕ) (c : Counted) → k < pins → Loaded bits w at k c → Loaded bits w at (suc k) (loadOne bits k c)
       step k c l q = by (pinIsIn b k) refl
         where
-          same : getD (c .mem) (18944 + k) 0 ≡ getD b (18944 + k) 0
-          same = let f = t .few-pins in q .within .below (18944 + k) (omega arith) ∙ i .below (18944 + k) (omega arith)
+          same : getD (c .mem) (pinsAt + k) 0 ≡ getD b (pinsAt + k) 0
+          same = let f = t .few-pins in q .within .below (pinsAt + k) (omega arith) ∙ i .below (pinsAt + k) (omega arith)
 
-          big : 32768 ≤ length (c .mem)
+          big : memorySize ≤ length (c .mem)
           big = let x = q .within .size in let y = i .size in let z = t .size in omega arith
 
-          yes-case : pinIsIn b k ≡ true → Loaded bits w at (suc k) (counted (set (c .mem) (19072 + pinAt b k) (getD bits (c .count) 0)) (c .count + 1))
+          yes-case : pinIsIn b k ≡ true → Loaded bits w at (suc k) (counted (set (c .mem) (bitsAt + pinAt b k) (getD bits (c .count) 0)) (c .count + 1))
           yes-case e =
               let v = getD bits (c .count) 0 in
               let lo = pin-low k l e in
@@ -126,7 +124,7 @@ module _ (b : List ℕ) (m : Net) (end pins total regs : ℕ) (s : RunStood b m 
                 within = within-then (q .within) (within-set (c .mem) (pinAt b k) v lo);
                 count = (let z = q .count in let y : inPinCount b (suc k) ≡ inPinCount b k + 1 = ap (λ (x : Bool). inPinCount b k + cond x 1 0) e in omega arith);
                 done = λ j h f. elim (ℕ-discrete j k) [
-                  | yes p ↦ ap (λ (x : ℕ). entry (set (c .mem) (19072 + pinAt b k) v) (pinAt b x)) p ∙ entry-same (c .mem) (pinAt b k) v big lo ∙ ap (λ (x : ℕ). getD bits x 0) (q .count) ∙ ap (λ (x : ℕ). getD bits (at + inPinCount b x) 0) (sym p)
+                  | yes p ↦ ap (λ (x : ℕ). entry (set (c .mem) (bitsAt + pinAt b k) v) (pinAt b x)) p ∙ entry-same (c .mem) (pinAt b k) v big lo ∙ ap (λ (x : ℕ). getD bits x 0) (q .count) ∙ ap (λ (x : ℕ). getD bits (at + inPinCount b x) 0) (sym p)
                   | no d ↦ entry-other (c .mem) (pinAt b k) (pinAt b j) v (pins-apart b pins m ok shown j k (omega arith) l f e) ∙ q .done j (omega arith) f
                 ];
                 others = λ x f. entry-other (c .mem) (pinAt b k) x v (λ p. f k (omega arith) e (sym p)) ∙ q .others x (λ j h g. f j (omega arith) g);
@@ -146,12 +144,12 @@ module _ (b : List ℕ) (m : Net) (end pins total regs : ℕ) (s : RunStood b m 
           by : (x : Bool) → pinIsIn b k ≡ x → Loaded bits w at (suc k) (loadOne bits k c)
           by true e =
               subst (Loaded bits w at (suc k))
-              (sym (ap (λ (n : ℕ). cond (eqb (n % 2) 0) (counted (set (c .mem) (19072 + n / 2) (getD bits (c .count) 0)) (c .count + 1)) c) same
-              ∙ ap (λ (x : Bool). cond x (counted (set (c .mem) (19072 + pinAt b k) (getD bits (c .count) 0)) (c .count + 1)) c) e)) (yes-case e)
+              (sym (ap (λ (n : ℕ). cond (eqb (n % 2) 0) (counted (set (c .mem) (bitsAt + n / 2) (getD bits (c .count) 0)) (c .count + 1)) c) same
+              ∙ ap (λ (x : Bool). cond x (counted (set (c .mem) (bitsAt + pinAt b k) (getD bits (c .count) 0)) (c .count + 1)) c) e)) (yes-case e)
           by false e =
               subst (Loaded bits w at (suc k))
-              (sym (ap (λ (n : ℕ). cond (eqb (n % 2) 0) (counted (set (c .mem) (19072 + n / 2) (getD bits (c .count) 0)) (c .count + 1)) c) same
-              ∙ ap (λ (x : Bool). cond x (counted (set (c .mem) (19072 + pinAt b k) (getD bits (c .count) 0)) (c .count + 1)) c) e)) (no-case e)
+              (sym (ap (λ (n : ℕ). cond (eqb (n % 2) 0) (counted (set (c .mem) (bitsAt + n / 2) (getD bits (c .count) 0)) (c .count + 1)) c) same
+              ∙ ap (λ (x : Bool). cond x (counted (set (c .mem) (bitsAt + pinAt b k) (getD bits (c .count) 0)) (c .count + 1)) c) e)) (no-case e)
 
   -- ---- the order stays
 
@@ -167,7 +165,7 @@ module _ (b : List ℕ) (m : Net) (end pins total regs : ℕ) (s : RunStood b m 
       }
     where
       same : (w : List ℕ) → Within b w → (j : ℕ) → j < total → met w j ≡ met b j
-      same w i j l = let f = s .order .ordered .few in i .below (13824 + j) (omega arith)
+      same w i j l = let f = s .order .ordered .few in i .below (orderAt + j) (omega arith)
 
       first-at : (w : List ℕ) → Within b w → (j : ℕ) → j < total → getD w (firstIn w (met w j)) 0 ≡ getD b (firstIn b (met b j)) 0
       first-at w i j l =
@@ -182,17 +180,17 @@ module _ (b : List ℕ) (m : Net) (end pins total regs : ℕ) (s : RunStood b m 
   -- ---- a gate's bit
 
   module _ (v : List ℕ) where
-    due-two : (o i p : ℕ) → getD b o 0 ≡ 65520 + p → p < 5 → i + 2 ≡ o → due b v o ≡ gateBit p (lit v (getD b i 0)) (lit v (getD b (i + 1) 0))
+    due-two : (o i p : ℕ) → getD b o 0 ≡ kindsFrom + p → p < 5 → i + 2 ≡ o → due b v o ≡ gateBit p (lit v (getD b i 0)) (lit v (getD b (i + 1) 0))
     due-two o i p e l q =
-        let k : getD b o 0 - 65520 ≡ p = omega arith in
+        let k : getD b o 0 - kindsFrom ≡ p = omega arith in
         let f : firstIn b o ≡ i = (let z : o - 2 ≡ i = omega arith in sym (first-two b o (omega arith)) ∙ z) in
         let g : o - 1 ≡ i + 1 = omega arith in
         ap (λ (x : ℕ). gateBit x (lit v (getD b (firstIn b o) 0)) (lit v (getD b (o - 1) 0))) k
         ∙ ap (λ (x : ℕ). gateBit p (lit v (getD b x 0)) (lit v (getD b (o - 1) 0))) f ∙ ap (λ (x : ℕ). gateBit p (lit v (getD b i 0)) (lit v (getD b x 0))) g
 
-    due-one : (o i p : ℕ) → getD b o 0 ≡ 65520 + p → 5 ≤ p → i + 1 ≡ o → due b v o ≡ gateBit p (lit v (getD b i 0)) (lit v (getD b i 0))
+    due-one : (o i p : ℕ) → getD b o 0 ≡ kindsFrom + p → 5 ≤ p → i + 1 ≡ o → due b v o ≡ gateBit p (lit v (getD b i 0)) (lit v (getD b i 0))
     due-one o i p e l q =
-        let k : getD b o 0 - 65520 ≡ p = omega arith in
+        let k : getD b o 0 - kindsFrom ≡ p = omega arith in
         let f : firstIn b o ≡ i = (let z : o - 1 ≡ i = omega arith in sym (first-one b o (omega arith)) ∙ z) in
         let g : o - 1 ≡ i = omega arith in
         ap (λ (x : ℕ). gateBit x (lit v (getD b (firstIn b o) 0)) (lit v (getD b (o - 1) 0))) k
@@ -241,7 +239,7 @@ module _ (b : List ℕ) (m : Net) (end pins total regs : ℕ) (s : RunStood b m 
       -- what no pin and no gate has stays
       stays : (x : ℕ) → T (isOut es x) → (Looking (getD b x 0) → ⊥) → entry v x ≡ entry w x
       stays x h d =
-          agrees .others x (λ j l e. (let f = s .order .ordered .few in let q = s .listed j l in d (subst (λ (z : ℕ). Looking (getD b z 0)) (sym (in-w₁ .below (13824 + j) (omega arith)) ∙ e) (q .1))))
+          agrees .others x (λ j l e. (let f = s .order .ordered .few in let q = s .listed j l in d (subst (λ (z : ℕ). Looking (getD b z 0)) (sym (in-w₁ .below (orderAt + j) (omega arith)) ∙ e) (q .1))))
           ∙ loaded .others x (λ j l e p. absurd (subst T (input-out x (subst (λ (z : ℕ). 1 ≤ madeAt es z) p (pin-made (pinAt b j) (pin-is j l e)))) h))
 
       -- a gate has what is due
@@ -249,7 +247,7 @@ module _ (b : List ℕ) (m : Net) (end pins total regs : ℕ) (s : RunStood b m 
       due-at x h l =
           let r = s .all x h l in
           let f = s .order .ordered .few in
-          let e : met w₁ (r .0) ≡ x = in-w₁ .below (13824 + r .0) (omega (arith, r .1)) ∙ r .2 in
+          let e : met w₁ (r .0) ≡ x = in-w₁ .below (orderAt + r .0) (omega (arith, r .1)) ∙ r .2 in
           subst (λ (z : ℕ). lit v z ≡ due w₁ v z) e (agrees .bits (r .0) (r .1)) ∙ due-same x (low x h)
         where
           due-same : (o : ℕ) → o < 8192 → due w₁ v o ≡ due b v o
@@ -257,8 +255,8 @@ module _ (b : List ℕ) (m : Net) (end pins total regs : ℕ) (s : RunStood b m 
               let k = in-w₁ .below o (omega arith) in
               let f = ap (λ (y : ℕ). getD w₁ y 0) (first-same in-w₁ o l) ∙ in-w₁ .below (firstIn b o) (omega (arith, first-low b o l)) in
               let g = in-w₁ .below (o - 1) (omega arith) in
-              ap (λ (x : ℕ). gateBit (x - 65520) (lit v (getD w₁ (firstIn w₁ o) 0)) (lit v (getD w₁ (o - 1) 0))) k
-              ∙ ap (λ (x : ℕ). gateBit (getD b o 0 - 65520) (lit v x) (lit v (getD w₁ (o - 1) 0))) f ∙ ap (λ (x : ℕ). gateBit (getD b o 0 - 65520) (lit v (getD b (firstIn b o) 0)) (lit v x)) g
+              ap (λ (x : ℕ). gateBit (x - kindsFrom) (lit v (getD w₁ (firstIn w₁ o) 0)) (lit v (getD w₁ (o - 1) 0))) k
+              ∙ ap (λ (x : ℕ). gateBit (getD b o 0 - kindsFrom) (lit v x) (lit v (getD w₁ (o - 1) 0))) f ∙ ap (λ (x : ℕ). gateBit (getD b o 0 - kindsFrom) (lit v (getD b (firstIn b o) 0)) (lit v x)) g
 
       -- a pin has the bit given
       pin-bit : (x : ℕ) → T (isPin (m .pins) x) → lit v x ≡ given x n
@@ -268,14 +266,14 @@ module _ (b : List ℕ) (m : Net) (end pins total regs : ℕ) (s : RunStood b m 
           let e = r .2 .1 in
           let f = s .order .ordered .few in
           ap (λ (k : ℕ). eqb k 1)
-          (agrees .others x (λ i l q. (let y = s .listed i l in not-out x h (subst (λ (z : ℕ). T (isOut es z)) (sym (in-w₁ .below (13824 + i) (omega arith)) ∙ q) (looking-out (met b i) (y .0) (y .1)))))
+          (agrees .others x (λ i l q. (let y = s .listed i l in not-out x h (subst (λ (z : ℕ). T (isOut es z)) (sym (in-w₁ .below (orderAt + i) (omega arith)) ∙ q) (looking-out (met b i) (y .0) (y .1)))))
           ∙ ap (entry w₁) (sym e) ∙ loaded .done j (r .1) (r .2 .0) ∙ ap (λ (k : ℕ). getD bits (at + k) 0) (sym (ap (place (inPins (m .pins))) (sym e) ∙ place-is b pins m ok shown j (r .1) (r .2 .0))))
         where
           not-out : (x : ℕ) → T (isPin (m .pins) x) → T (isOut es x) → ⊥
           not-out x h o = subst T (input-out x (pin-made x h)) o
 
           looking-out : (o : ℕ) → T (has (terminals es) o) → Looking (getD b o 0) → T (isOut es o)
-          looking-out o h l = ⊎-elim (λ a. a) (λ a. absurd (let z = input-low b m end pins t o a in ⊎-elim (λ (e : getD b o 0 ≡ 65527). omega arith) (λ r. omega (arith, r .0)) l)) (terminal-is es o h)
+          looking-out o h l = ⊎-elim (λ a. a) (λ a. absurd (let z = input-low b m end pins t o a in ⊎-elim (λ (e : getD b o 0 ≡ pointEntry). omega arith) (λ r. omega (arith, r .0)) l)) (terminal-is es o h)
 
       -- the bit of each terminal
       abbrev pub β : ℕ → Bool
@@ -290,10 +288,10 @@ module _ (b : List ℕ) (m : Net) (end pins total regs : ℕ) (s : RunStood b m 
       made-in : (x : ℕ) → 1 ≤ madeAt es x → β x ≡ lit v (getD b x 0)
       made-in x h = β-in x (input-out x h)
 
-      quiet : (x k : ℕ) → getD b x 0 ≡ k → (k ≡ 65520) ⊎ ((k ≡ 65521) ⊎ (k ≡ 65526)) → Looking (getD b x 0) → ⊥
-      quiet x k e (inl q) l = ⊎-elim (λ (f : getD b x 0 ≡ 65527). omega arith) (λ r. omega (arith, r .0)) l
-      quiet x k e (inr (inl q)) l = ⊎-elim (λ (f : getD b x 0 ≡ 65527). omega arith) (λ r. omega (arith, r .0)) l
-      quiet x k e (inr (inr q)) l = ⊎-elim (λ (f : getD b x 0 ≡ 65527). omega arith) (λ r. omega (arith, r .1)) l
+      quiet : (x k : ℕ) → getD b x 0 ≡ k → (k ≡ kindsFrom) ⊎ ((k ≡ registerEntry) ⊎ (k ≡ oneEntry)) → Looking (getD b x 0) → ⊥
+      quiet x k e (inl q) l = ⊎-elim (λ (f : getD b x 0 ≡ pointEntry). omega arith) (λ r. omega (arith, r .0)) l
+      quiet x k e (inr (inl q)) l = ⊎-elim (λ (f : getD b x 0 ≡ pointEntry). omega arith) (λ r. omega (arith, r .0)) l
+      quiet x k e (inr (inr q)) l = ⊎-elim (λ (f : getD b x 0 ≡ pointEntry). omega arith) (λ r. omega (arith, r .1)) l
 
       two-bit : (p i : ℕ) → Among (part p i) es → partAt p .inputs ≡ 2 → 2 ≤ p → p < 5 → lit v (i + partAt p .inputs) ≡ gateBit p (lit v (getD b i 0)) (lit v (getD b (i + 1) 0))
       two-bit p i h e l k =
@@ -304,15 +302,15 @@ module _ (b : List ℕ) (m : Net) (end pins total regs : ℕ) (s : RunStood b m 
       both-bits f i h k = ap (λ (x : Bool). f x (β (i + 1))) (made-in i h) ∙ ap (λ (x : Bool). f (lit v (getD b i 0)) x) (made-in (i + 1) k)
 
       part-bit : (p i : ℕ) → Among (part p i) es → p < 7 → lit v (i + partAt p .inputs) ≡ gate p i (heldAt woken β₀ n) β
-      part-bit zero i h l = let z : i + 0 ≡ i = omega arith in ap (lit v) z ∙ ap (λ (k : ℕ). eqb k 1) (stays i (subst (λ (x : ℕ). T (isOut es x)) z (in-out (part 0 i) h)) (λ q. quiet i 65520 (subst (λ (x : ℕ). getD b x 0 ≡ 65520) z (element-entry b m end pins t (part 0 i) h)) (inl refl) q)) ∙ c .zeros i h
-      part-bit (suc zero) i h l = ap (λ (k : ℕ). eqb k 1) (stays (i + 1) (in-out (part 1 i) h) (λ q. quiet (i + 1) 65521 (element-entry b m end pins t (part 1 i) h) (inr (inl refl)) q)) ∙ c .holds i h
+      part-bit zero i h l = let z : i + 0 ≡ i = omega arith in ap (lit v) z ∙ ap (λ (k : ℕ). eqb k 1) (stays i (subst (λ (x : ℕ). T (isOut es x)) z (in-out (part 0 i) h)) (λ q. quiet i kindsFrom (subst (λ (x : ℕ). getD b x 0 ≡ kindsFrom) z (element-entry b m end pins t (part 0 i) h)) (inl refl) q)) ∙ c .zeros i h
+      part-bit (suc zero) i h l = ap (λ (k : ℕ). eqb k 1) (stays (i + 1) (in-out (part 1 i) h) (λ q. quiet (i + 1) registerEntry (element-entry b m end pins t (part 1 i) h) (inr (inl refl)) q)) ∙ c .holds i h
       part-bit (suc (suc zero)) i h l = two-bit 2 i h refl (omega arith) (omega arith) ∙ sym (both-bits _&&_ i (within-made (part 2 i) i h (omega arith) (omega arith)) (within-made (part 2 i) (i + 1) h (omega arith) (omega arith)))
       part-bit (suc (suc (suc zero))) i h l = two-bit 3 i h refl (omega arith) (omega arith) ∙ sym (both-bits _||_ i (within-made (part 3 i) i h (omega arith) (omega arith)) (within-made (part 3 i) (i + 1) h (omega arith) (omega arith)))
       part-bit (suc (suc (suc (suc zero)))) i h l = two-bit 4 i h refl (omega arith) (omega arith) ∙ sym (both-bits xor i (within-made (part 4 i) i h (omega arith) (omega arith)) (within-made (part 4 i) (i + 1) h (omega arith) (omega arith)))
       part-bit (suc (suc (suc (suc (suc zero))))) i h l =
           due-at (i + 1) (out-terminal es (i + 1) (in-out (part 5 i) h)) (inr (let e = element-entry b m end pins t (part 5 i) h in (omega arith, omega arith)))
           ∙ due-one v (i + 1) i 5 (element-entry b m end pins t (part 5 i) h) (omega arith) refl ∙ ap not (sym (made-in i (within-made (part 5 i) i h (omega arith) (omega arith))))
-      part-bit (suc (suc (suc (suc (suc (suc zero)))))) i h l = let z : i + 0 ≡ i = omega arith in ap (lit v) z ∙ ap (λ (k : ℕ). eqb k 1) (stays i (subst (λ (x : ℕ). T (isOut es x)) z (in-out (part 6 i) h)) (λ q. quiet i 65526 (subst (λ (x : ℕ). getD b x 0 ≡ 65526) z (element-entry b m end pins t (part 6 i) h)) (inr (inr refl)) q)) ∙ c .ones i h
+      part-bit (suc (suc (suc (suc (suc (suc zero)))))) i h l = let z : i + 0 ≡ i = omega arith in ap (lit v) z ∙ ap (λ (k : ℕ). eqb k 1) (stays i (subst (λ (x : ℕ). T (isOut es x)) z (in-out (part 6 i) h)) (λ q. quiet i oneEntry (subst (λ (x : ℕ). getD b x 0 ≡ oneEntry) z (element-entry b m end pins t (part 6 i) h)) (inr (inr refl)) q)) ∙ c .ones i h
       part-bit (suc (suc (suc (suc (suc (suc (suc p))))))) i h l = absurd (omega arith)
 
       agree : (x : ℕ) → T (has (terminals es) x) → β x ≡ bit (source m x) x (λ y. given y n) (heldAt woken β₀ n) β
@@ -349,8 +347,8 @@ module _ (b : List ℕ) (m : Net) (end pins total regs : ℕ) (s : RunStood b m 
       reg-out : (j : ℕ) → j < regs → T (isOut es (getD rs j 0 + 1))
       reg-out j l = in-out (part 1 (getD rs j 0)) (s .register-at j l .0)
 
-      reg-at : (x : List ℕ) → Within b x → (j : ℕ) → j < regs → getD x (8192 + j) 0 ≡ getD rs j 0 + 1
-      reg-at x i j l = let f = s .few-registers in i .below (8192 + j) (omega arith) ∙ s .register-at j l .1
+      reg-at : (x : List ℕ) → Within b x → (j : ℕ) → j < regs → getD x (registersAt + j) 0 ≡ getD rs j 0 + 1
+      reg-at x i j l = let f = s .few-registers in i .below (registersAt + j) (omega arith) ∙ s .register-at j l .1
 
       out-not-input : (y z : ℕ) → T (isOut es y) → 1 ≤ madeAt es z → z ≡ y → ⊥
       out-not-input y z h k e = subst T (input-out z k) (subst (λ (x : ℕ). T (isOut es x)) (sym e) h)
@@ -382,23 +380,23 @@ module _ (b : List ℕ) (m : Net) (end pins total regs : ℕ) (s : RunStood b m 
                   go (at-a-pin a e) k h f = let z = s .apart k j (omega arith) l (f ∙ e) in omega arith
                   go (at-a-wire a o) k h f = out-not-input (getD b (getD rs j 0) 0) (getD rs k 0) o (reg-made k (omega arith)) f
 
-              shape : holdOne j x ≡ set x (19072 + getD rs j 0) (entry x (getD b (getD rs j 0) 0))
+              shape : holdOne j x ≡ set x (bitsAt + getD rs j 0) (entry x (getD b (getD rs j 0) 0))
               shape =
                   let e = reg-at x i j l in
                   let f : getD rs j 0 + 1 - 1 ≡ getD rs j 0 = omega arith in
                   let lo = reg-low j l in
-                  ap (λ (o : ℕ). set x (19072 + (o - 1)) (getD x (19072 + getD x (o - 1) 0) 0)) e
-                  ∙ ap (λ (z : ℕ). set x (19072 + z) (getD x (19072 + getD x z 0) 0)) f
-                  ∙ ap (λ (z : ℕ). set x (19072 + getD rs j 0) (getD x (19072 + z) 0)) (i .below (getD rs j 0) (omega arith))
+                  ap (λ (o : ℕ). set x (bitsAt + (o - 1)) (getD x (bitsAt + getD x (o - 1) 0) 0)) e
+                  ∙ ap (λ (z : ℕ). set x (bitsAt + z) (getD x (bitsAt + getD x z 0) 0)) f
+                  ∙ ap (λ (z : ℕ). set x (bitsAt + getD rs j 0) (getD x (bitsAt + z) 0)) (i .below (getD rs j 0) (omega arith))
 
-              big : 32768 ≤ length x
+              big : memorySize ≤ length x
               big = let a = i .size in let c = t .size in omega arith
 
-              next : Holding (suc j) (set x (19072 + getD rs j 0) (entry x (getD b (getD rs j 0) 0)))
+              next : Holding (suc j) (set x (bitsAt + getD rs j 0) (entry x (getD b (getD rs j 0) 0)))
               next = let lo = reg-low j l in record {
                 within = within-then (q .within) (within-set x (getD rs j 0) _ lo);
                 done = λ k h. elim (ℕ-discrete k j) [
-                  | yes e ↦ subst (λ (z : ℕ). entry (set x (19072 + getD rs j 0) (entry x (getD b (getD rs j 0) 0))) (getD rs z 0) ≡ entry v (getD b (getD rs z 0) 0)) (sym e) (entry-same x (getD rs j 0) (entry x (getD b (getD rs j 0) 0)) big lo ∙ value)
+                  | yes e ↦ subst (λ (z : ℕ). entry (set x (bitsAt + getD rs j 0) (entry x (getD b (getD rs j 0) 0))) (getD rs z 0) ≡ entry v (getD b (getD rs z 0) 0)) (sym e) (entry-same x (getD rs j 0) (entry x (getD b (getD rs j 0) 0)) big lo ∙ value)
                   | no d ↦ entry-other x (getD rs j 0) (getD rs k 0) _ (λ e. d (s .apart k j (omega arith) l e)) ∙ q .done k (omega arith)
                 ];
                 others = λ z f. entry-other x (getD rs j 0) z _ (λ e. f j (omega arith) (sym e)) ∙ q .others z (λ k h. f k (omega arith));
@@ -421,29 +419,29 @@ module _ (b : List ℕ) (m : Net) (end pins total regs : ℕ) (s : RunStood b m 
               i : Within b x
               i = within-then in-v (within-then (hold-all .within) (q .within))
 
-              big : 32768 ≤ length x
+              big : memorySize ≤ length x
               big = let a = i .size in let c = t .size in omega arith
 
-              shape : turnOne j x ≡ set x (19072 + (getD rs j 0 + 1)) (entry x (getD rs j 0))
+              shape : turnOne j x ≡ set x (bitsAt + (getD rs j 0 + 1)) (entry x (getD rs j 0))
               shape =
                   let f : getD rs j 0 + 1 - 1 ≡ getD rs j 0 = omega arith in
-                  ap (λ (o : ℕ). set x (19072 + o) (getD x (19072 + (o - 1)) 0)) (reg-at x i j l) ∙ ap (λ (z : ℕ). set x (19072 + (getD rs j 0 + 1)) (getD x (19072 + z) 0)) f
+                  ap (λ (o : ℕ). set x (bitsAt + o) (getD x (bitsAt + (o - 1)) 0)) (reg-at x i j l) ∙ ap (λ (z : ℕ). set x (bitsAt + (getD rs j 0 + 1)) (getD x (bitsAt + z) 0)) f
 
               value : entry x (getD rs j 0) ≡ entry v₁ (getD rs j 0)
               value = q .others (getD rs j 0) (λ k h e. out-not-input (getD rs k 0 + 1) (getD rs j 0) (reg-out k (omega arith)) (reg-made j l) (sym e))
 
-              next : Turned (suc j) (set x (19072 + (getD rs j 0 + 1)) (entry x (getD rs j 0)))
+              next : Turned (suc j) (set x (bitsAt + (getD rs j 0 + 1)) (entry x (getD rs j 0)))
               next = let lo = out-low (getD rs j 0 + 1) (reg-out j l) in record {
                 within = within-then (q .within) (within-set x (getD rs j 0 + 1) _ lo);
                 done = λ k h. elim (ℕ-discrete k j) [
-                  | yes e ↦ subst (λ (z : ℕ). entry (set x (19072 + (getD rs j 0 + 1)) (entry x (getD rs j 0))) (getD rs z 0 + 1) ≡ entry v₁ (getD rs z 0)) (sym e) (entry-same x (getD rs j 0 + 1) (entry x (getD rs j 0)) big lo ∙ value)
+                  | yes e ↦ subst (λ (z : ℕ). entry (set x (bitsAt + (getD rs j 0 + 1)) (entry x (getD rs j 0))) (getD rs z 0 + 1) ≡ entry v₁ (getD rs z 0)) (sym e) (entry-same x (getD rs j 0 + 1) (entry x (getD rs j 0)) big lo ∙ value)
                   | no d ↦ entry-other x (getD rs j 0 + 1) (getD rs k 0 + 1) _ (λ e. d (s .apart k j (omega arith) l (omega arith))) ∙ q .done k (omega arith)
                 ];
                 others = λ z f. entry-other x (getD rs j 0 + 1) z _ (λ e. f j (omega arith) (sym e)) ∙ q .others z (λ k h. f k (omega arith));
               }
 
       -- an output that is no register's and no gate's
-      constant : (a : Element) → Among a es → (getD b (last a) 0 ≡ 65520) ⊎ (getD b (last a) 0 ≡ 65526) → entry (takeTurns turnOne regs 0 v₁) (last a) ≡ entry w (last a)
+      constant : (a : Element) → Among a es → (getD b (last a) 0 ≡ kindsFrom) ⊎ (getD b (last a) 0 ≡ oneEntry) → entry (takeTurns turnOne regs 0 v₁) (last a) ≡ entry w (last a)
       constant a h e =
           turn-all .others (last a) (λ j l q. not-register j l q)
           ∙ hold-all .others (last a) (λ j l q. out-not-input (last a) (getD rs j 0) (in-out a h) (reg-made j l) q)
@@ -453,10 +451,10 @@ module _ (b : List ℕ) (m : Net) (end pins total regs : ℕ) (s : RunStood b m 
           not-register j l q =
               let z = element-entry b m end pins t (part 1 (getD rs j 0)) (s .register-at j l .0) in
               let y = ap (λ (k : ℕ). getD b k 0) q in
-              ⊎-elim (λ (f : getD b (last a) 0 ≡ 65520). omega arith) (λ (f : getD b (last a) 0 ≡ 65526). omega arith) e
+              ⊎-elim (λ (f : getD b (last a) 0 ≡ kindsFrom). omega arith) (λ (f : getD b (last a) 0 ≡ oneEntry). omega arith) e
 
           not-looking : Looking (getD b (last a) 0) → ⊥
-          not-looking l = ⊎-elim (λ f. quiet (last a) 65520 f (inl refl) l) (λ f. quiet (last a) 65526 f (inr (inr refl)) l) e
+          not-looking l = ⊎-elim (λ f. quiet (last a) kindsFrom f (inl refl) l) (λ f. quiet (last a) oneEntry f (inr (inr refl)) l) e
 
       pub state-next : State (suc n) (takeTurns turnOne regs 0 v₁)
       state-next = record {
@@ -487,8 +485,8 @@ module _ (b : List ℕ) (m : Net) (end pins total regs : ℕ) (s : RunStood b m 
           step : (k : ℕ) (q : Counted) → k < pins → Stored out to k q → Stored out to (suc k) (storeOne v k q)
           step k q l g = subst (Stored out to (suc k)) (sym shape) (by (pinIsIn b k) refl)
             where
-              same : getD v (18944 + k) 0 ≡ getD b (18944 + k) 0
-              same = let f = t .few-pins in in-v .below (18944 + k) (omega arith)
+              same : getD v (pinsAt + k) 0 ≡ getD b (pinsAt + k) 0
+              same = let f = t .few-pins in in-v .below (pinsAt + k) (omega arith)
 
               shape : storeOne v k q ≡ cond (pinIsIn b k) q (counted (set (q .mem) (q .count) (bitByte (lit v (pinAt b k)))) (q .count + 1))
               shape = ap (λ (x : ℕ). cond (eqb (x % 2) 0) q (counted (set (q .mem) (q .count) (bitByte (lit v (x / 2)))) (q .count + 1))) same

@@ -20,8 +20,9 @@ use Rattle.calculus.specs.Record.{All}
 use Rattle.calculus.specs.Inputs.{madeAt}
 use Rattle.circuit_theorems.specs.Formed.{Shown}
 use Rattle.trace_theorems.proofs.Sources.{out-terminal}
+use Rattle.trace_steps.specs.Map.{restAt, pinsAt, bitsAt, kindsFrom, registerEntry, inverterEntry, oneEntry, pointEntry}
 use Rattle.trace_steps.specs.Pins.{pinIsIn}
-use Rattle.memory.specs.Map.{region, terminalOf, netIn}
+use Rattle.memory.specs.Map.{rootsAt, memorySize, region, terminalOf, netIn}
 use Rattle.calculus.specs.NetRead.{Known}
 use Rattle.circuit_theorems.specs.Terminals.{has}
 use Rattle.netlist.proofs.InMemory.{kind-here}
@@ -35,7 +36,7 @@ use Rattle.trace_steps.specs.Steps.{firstIn, freeIn, markOne, Looks, Ordered, R
 use Rattle.trace_steps.specs.Names.{Namable, NamesStand}
 use Rattle.trace_steps.specs.Links.{Linked, Pinned}
 use Rattle.trace_steps.specs.Sweeps.{sweeping, Sweepable, sweeps, AllSwept}
-use Rattle.trace_steps.specs.Pins.{Pins, Listable}
+use Rattle.trace_steps.specs.Pins.{PinsLow, Listable}
 use Rattle.trace_steps.specs.Ticks.{InOrder}
 use Rattle.trace_steps.proofs.Laws.{first-low}
 use Rattle.trace_steps.proofs.SweepLaws.{looks-table}
@@ -67,16 +68,16 @@ above-then a b = record { size = b .size ∙ a .size; above = λ j l. b .above j
 pub above-within : {u w : List ℕ} → Within u w → Above u w
 above-within i = record { size = i .size; above = i .above }
 
-above-later : (u w : List ℕ) → Above u w → drop 32768 w ≡ drop 32768 u
+above-later : (u w : List ℕ) → Above u w → drop memorySize w ≡ drop memorySize u
 above-later u w h =
-    ext-getD 0 (drop 32768 w) (drop 32768 u) (length-drop 32768 w ∙ ap (λ (n : ℕ). n - 32768) (h .size) ∙ sym (length-drop 32768 u))
-    (λ i l. getD-drop 32768 w i 0 ∙ h .above (32768 + i) (omega arith) ∙ sym (getD-drop 32768 u i 0))
+    ext-getD 0 (drop memorySize w) (drop memorySize u) (length-drop memorySize w ∙ ap (λ (n : ℕ). n - memorySize) (h .size) ∙ sym (length-drop memorySize u))
+    (λ i l. getD-drop memorySize w i 0 ∙ h .above (memorySize + i) (omega arith) ∙ sym (getD-drop memorySize u i 0))
 
-pub above-keeps : (u w : List ℕ) → 32768 ≤ length u → Above u w → Keeps u w
-above-keeps u w l h = later-keeps u w l (subst (λ (n : ℕ). 32768 ≤ n) (sym (h .size)) l) (above-later u w h)
+pub above-keeps : (u w : List ℕ) → memorySize ≤ length u → Above u w → Keeps u w
+above-keeps u w l h = later-keeps u w l (subst (λ (n : ℕ). memorySize ≤ n) (sym (h .size)) l) (above-later u w h)
 
 -- the table and the pins stay
-pub tabled-same : (u w : List ℕ) (m : Net) (end pins : ℕ) → length w ≡ length u → ((x : ℕ) → x < 8192 → getD w x 0 ≡ getD u x 0) → ((x : ℕ) → 18944 ≤ x → x < 19072 → getD w x 0 ≡ getD u x 0)
+pub tabled-same : (u w : List ℕ) (m : Net) (end pins : ℕ) → length w ≡ length u → ((x : ℕ) → x < 8192 → getD w x 0 ≡ getD u x 0) → ((x : ℕ) → pinsAt ≤ x → x < bitsAt → getD w x 0 ≡ getD u x 0)
     → Tabled u m end pins → Tabled w m end pins
 tabled-same u w m end pins z f g t =
     let few = t .few in
@@ -88,9 +89,9 @@ tabled-same u w m end pins z f g t =
       few = t .few;
       low = t .low;
       entries = λ x h. (let l = t .low x h in subst (λ (v : ℕ). TableEntry m x v) (sym (f x (omega arith))) (t .entries x h));
-      others = λ x l. ⊎-elim inl (λ h. inr (subst (λ (v : ℕ). (v < 8192) ⊎ (v ≡ 65527)) (sym (f x (omega arith))) h)) (t .others x l);
+      others = λ x l. ⊎-elim inl (λ h. inr (subst (λ (v : ℕ). (v < 8192) ⊎ (v ≡ pointEntry)) (sym (f x (omega arith))) h)) (t .others x l);
       few-pins = t .few-pins;
-      shown = ap (map terminalOf) (region-ext 18944 pins u w (omega arith) (omega arith) (λ j l h. g j l (omega arith))) ∙ t .shown;
+      shown = ap (map terminalOf) (region-ext pinsAt pins u w (omega arith) (omega arith) (λ j l h. g j l (omega arith))) ∙ t .shown;
     }
 
 -- a pin's terminal is below 8,192
@@ -143,7 +144,7 @@ module _ (w₃ : List ℕ) (m : Net) (end pins : ℕ) (t : Tabled w₃ m end pin
   }
 
   module _ (w₄ : List ℕ) (total : ℕ) (c : Chosen w₃ end w₄ total) where
-    pub marking-size : 32768 ≤ length w₄
+    pub marking-size : memorySize ≤ length w₄
     marking-size = let a = c .size in let b = t .size in omega arith
 
     record Marking (j : ℕ) (w : List ℕ) : Type 0 where
@@ -159,7 +160,7 @@ module _ (w₃ : List ℕ) (m : Net) (end pins : ℕ) (t : Tabled w₃ m end pin
             let e = q .within .below j (omega arith) in
             let s = q .within .size in
             let b = marking-size in
-            let same : freeIn w j ≡ freeIn w₄ j = ap (λ (v : ℕ). eqb v j || (eqb v 65520 || (eqb v 65521 || eqb v 65526))) e in
+            let same : freeIn w j ≡ freeIn w₄ j = ap (λ (v : ℕ). eqb v j || (eqb v kindsFrom || (eqb v registerEntry || eqb v oneEntry))) e in
             record {
               within = within-then (q .within) (within-set w j (bitByte (freeIn w j)) (omega arith));
               done = λ x h. elim (ℕ-discrete x j) [
@@ -177,7 +178,7 @@ module _ (w₃ : List ℕ) (m : Net) (end pins : ℕ) (t : Tabled w₃ m end pin
       same x h = l .within .below x (omega arith) ∙ c .table x h
 
       list-same : (i : ℕ) → i < total → rest u i ≡ rest w₄ i
-      list-same i h = let f = c .few in l .within .below (8192 + i) (omega arith)
+      list-same i h = let f = c .few in l .within .below (restAt + i) (omega arith)
 
       pub tabled-u : Tabled u m end pins
       tabled-u = tabled-same w₃ u m end pins (l .within .size ∙ c .size) same (λ x a b. l .within .below x b ∙ c .above x (omega arith)) t
@@ -196,8 +197,8 @@ module _ (w₃ : List ℕ) (m : Net) (end pins : ℕ) (t : Tabled w₃ m end pin
         each = listed-at;
         all = λ x h g. (let lo = t .low x h in let f = t .few in let r = c .all x lo (looking-looks w₃ m end pins t x k h (subst Looking (same x (omega arith)) g)) in (r .0, r .1, list-same (r .0) (r .1) ∙ r .2));
         falling = λ i j a b. (let p = list-same i (omega arith) in let q = list-same j b in let z = c .falling i j a b in omega arith);
-        marks = λ x h. (let f = t .few in marked .done x h ∙ ap bitByte (ap (λ (v : ℕ). eqb v x || (eqb v 65520 || (eqb v 65521 || eqb v 65526))) (sym (l .within .below x (omega arith)))));
-        past = λ x h g. marked .others x h ∙ c .above (19072 + x) (omega arith) ∙ k .past x h g;
+        marks = λ x h. (let f = t .few in marked .done x h ∙ ap bitByte (ap (λ (v : ℕ). eqb v x || (eqb v kindsFrom || (eqb v registerEntry || eqb v oneEntry))) (sym (l .within .below x (omega arith)))));
+        past = λ x h g. marked .others x h ∙ c .above (rootsAt + x) (omega arith) ∙ k .past x h g;
       }
 
       pub sweepable : Sweepable u total total
@@ -253,7 +254,7 @@ module _ (u : List ℕ) (m : Net) (end pins total : ℕ) (g : Ground u m end pin
     first-at : (j : ℕ) → j < total → getD w (firstIn w (met w j)) 0 ≡ getD u (firstIn u (met w j)) 0
     first-at j l =
         let o = met-low j l in
-        let e : firstIn w (met w j) ≡ firstIn u (met w j) = ap (λ (a : ℕ). cond (ltb a 65525) (met w j - 2) (met w j - 1)) (st .table (met w j) o) in
+        let e : firstIn w (met w j) ≡ firstIn u (met w j) = ap (λ (a : ℕ). cond (ltb a inverterEntry) (met w j - 2) (met w j - 1)) (st .table (met w j) o) in
         ap (λ (a : ℕ). getD w a 0) e ∙ st .table (firstIn u (met w j)) (first-low u (met w j) o)
 
     in-order : InOrder w total
@@ -292,7 +293,7 @@ module _ (u : List ℕ) (m : Net) (end pins total : ℕ) (g : Ground u m end pin
       short = h;
     }
       where
-        register : (x : ℕ) → x < end → getD w x 0 ≡ 65521 → Register w x
+        register : (x : ℕ) → x < end → getD w x 0 ≡ registerEntry → Register w x
         register x l e =
             let r = register-of w m end pins tabled-w x l e in
             let i : r .0 ≡ x - 1 = omega (arith, r .2) in
@@ -348,7 +349,7 @@ module _ (u : List ℕ) (e k p : ℕ) (w₃ : List ℕ) (end : ℕ) (md : Tables
   pub settle-ready : Sweepable w₅ total total
   settle-ready = sweepable w₃ L end p (md .tabled) (md .roots) w₄ total ch w₅ mk
 
-  large : 32768 ≤ length u
+  large : memorySize ≤ length u
   large = let a = md .tabled .size in let b = md .kept .size in omega arith
 
   module _ (w₆ : List ℕ) (left : ℕ) (st : AllSwept w₅ total w₆ left) where

@@ -1,13 +1,13 @@
 -- Naming, linking and rooting, one after the other, leave the table of the lean netlist. Assumes nothing.
 use Prim.Native.Nat.{ℕ, zero, suc, _+_, _*_, _/_, _%_, _≤_, _<_}
 use mathlib.Core.Path.{_≡_, refl, sym, ap, _∙_, subst}
-use mathlib.Core.Logic.{_⊎_, inl, inr, ⊎-elim, _≢_}
+use mathlib.Core.Logic.{_⊎_, inl, inr, ⊎-elim}
 use mathlib.Core.Bool.{Bool, true, false, cond, _||_}
 use mathlib.Core.List.{List, [], _∷_, map}
 use native.Mathlib.Omega.{arith}
 use native.Mathlib.Decide.{ℕ-discrete, decLe}
 use lib.ListN.{length, getD, set, length-set, length-map, List·getD-map}
-use lib.Seq.{getD-set-same, getD-set-other, ext-getD}
+use lib.Seq.{getD-set-same, ext-getD}
 use lib.Dec.{T, eqb, ltb, eqb→eq}
 use borrow.Author.Tests.{eq-eqb, ne-eqb, lt-ltb, le-ltb, eqb-false}
 use Rattle.laws.proofs.Tests.{by-eqb, T-is, is-false, or-left, or-right, or-elim}
@@ -20,7 +20,7 @@ use Rattle.calculus.specs.Inputs.{madeAt, isOut}
 use Rattle.circuit_theorems.specs.Formed.{Shown, Formed}
 use Rattle.circuit_theorems.proofs.Terminals.{made-high, made-one, out-high}
 use Rattle.circuit_theorems.proofs.Forming.{lean-formed}
-use Rattle.memory.specs.Map.{region, kindNumber, elementsFrom, terminalOf, netIn, Ready}
+use Rattle.memory.specs.Map.{rootsAt, memorySize, region, kindNumber, elementsFrom, terminalOf, netIn, Ready}
 use Rattle.calculus.specs.NetRead.{Known}
 use Rattle.circuit_theorems.specs.Terminals.{has}
 use Rattle.netlist.specs.Elements.{after, afterAll}
@@ -33,14 +33,13 @@ use Rattle.lean.proofs.LeanLaws.{entry-root}
 use Rattle.trace_calculus.specs.Trace.{Source, pin, from, made-part as made-by, source, terminals}
 use Rattle.trace_theorems.proofs.Sources.{in-all, Decided, is-pin, is-wire, is-point, is-part, decided, at-wire, out-not-made, out-of-point, out-of-part, terminal-is, point-terminal, part-terminal, out-terminal}
 use Rattle.trace_theorems.proofs.Owners.{in-cons, keep-in, in-keep, pin-map, last, FromRoot, lean-root}
+use Rattle.trace_steps.specs.Map.{pinsAt, kindsFrom}
 use Rattle.trace_steps.specs.Turns.{takeTurns}
 use Rattle.trace_steps.specs.Names.{namedOutputs}
 use Rattle.trace_steps.specs.Links.{linkOf, linkIn, linkOne, rootedIn, pinOne}
+use Rattle.trace_steps.proofs.Laws.{set-other}
 use Rattle.trace.specs.Tables.{TableEntry, of-pin, of-wire, of-point, of-part, Tabled}
 use Rattle.trace.proofs.Turning.{turns-keep}
-
-other : (w : List ℕ) (i j v : ℕ) → (j ≡ i → ⊥) → getD (set w i v) j 0 ≡ getD w j 0
-other w i j v d = let ne : j ≢ i = d in getD-set-other w i j v 0 ne
 
 -- ---- naming
 
@@ -49,7 +48,7 @@ named-before [] n w x h = refl
 named-before (k ∷ ks) n w x h =
     let a = output-from k n in
     let b = after-output k n in
-    named-before ks (after k n) (set w (outputOf k n) (65520 + k)) x (omega arith) ∙ other w (outputOf k n) x (65520 + k) (λ e. omega arith)
+    named-before ks (after k n) (set w (outputOf k n) (kindsFrom + k)) x (omega arith) ∙ set-other w (outputOf k n) x (kindsFrom + k) (λ e. omega arith)
 
 -- an entry that is no output's
 pub named-other : (ks : List ℕ) (n : ℕ) (w : List ℕ) (x : ℕ) → isOut (elementsFrom ks n) x ≡ false → getD (namedOutputs w ks n) x 0 ≡ getD w x 0
@@ -61,30 +60,30 @@ named-other (k ∷ ks) n w x h = by (eqb k 7) h (λ v n. named-other ks n v x)
 
     by : (b : Bool) → isOut (cond b (point n ∷ elementsFrom ks (n + 2)) (part k n ∷ elementsFrom ks (n + partAt k .inputs + 1))) x ≡ false
         → ((v : List ℕ) (n : ℕ) → isOut (elementsFrom ks n) x ≡ false → getD (namedOutputs v ks n) x 0 ≡ getD v x 0)
-        → getD (namedOutputs (set w (cond b (n + 1) (n + partAt k .inputs)) (65520 + k)) ks (cond b (n + 2) (n + partAt k .inputs + 1))) x 0 ≡ getD w x 0
-    by true g f = let a = apart (n + 1) (isOut (elementsFrom ks (n + 2)) x) g in f _ (n + 2) (a .1) ∙ other w (n + 1) x (65520 + k) (a .0)
-    by false g f = let a = apart (n + partAt k .inputs) (isOut (elementsFrom ks (n + partAt k .inputs + 1)) x) g in f _ (n + partAt k .inputs + 1) (a .1) ∙ other w (n + partAt k .inputs) x (65520 + k) (a .0)
+        → getD (namedOutputs (set w (cond b (n + 1) (n + partAt k .inputs)) (kindsFrom + k)) ks (cond b (n + 2) (n + partAt k .inputs + 1))) x 0 ≡ getD w x 0
+    by true g f = let a = apart (n + 1) (isOut (elementsFrom ks (n + 2)) x) g in f _ (n + 2) (a .1) ∙ set-other w (n + 1) x (kindsFrom + k) (a .0)
+    by false g f = let a = apart (n + partAt k .inputs) (isOut (elementsFrom ks (n + partAt k .inputs + 1)) x) g in f _ (n + partAt k .inputs + 1) (a .1) ∙ set-other w (n + partAt k .inputs) x (kindsFrom + k) (a .0)
 
 -- an output's entry
-pub named-out : (ks : List ℕ) (n : ℕ) (w : List ℕ) (a : Element) → 32768 ≤ length w → afterAll ks n ≤ 8192 → Among a (elementsFrom ks n) → getD (namedOutputs w ks n) (last a) 0 ≡ 65520 + kindNumber a
+pub named-out : (ks : List ℕ) (n : ℕ) (w : List ℕ) (a : Element) → memorySize ≤ length w → afterAll ks n ≤ 8192 → Among a (elementsFrom ks n) → getD (namedOutputs w ks n) (last a) 0 ≡ kindsFrom + kindNumber a
 named-out [] n w a l h g = elim g [ ]
 named-out (k ∷ ks) n w a l h g = by (eqb k 7) refl h g (λ v n. named-out ks n v a)
   where
     by : (b : Bool) → eqb k 7 ≡ b → afterAll ks (cond b (n + 2) (n + partAt k .inputs + 1)) ≤ 8192 → Among a (cond b (point n ∷ elementsFrom ks (n + 2)) (part k n ∷ elementsFrom ks (n + partAt k .inputs + 1)))
-        → ((v : List ℕ) (n : ℕ) → 32768 ≤ length v → afterAll ks n ≤ 8192 → Among a (elementsFrom ks n) → getD (namedOutputs v ks n) (last a) 0 ≡ 65520 + kindNumber a)
-        → getD (namedOutputs (set w (cond b (n + 1) (n + partAt k .inputs)) (65520 + k)) ks (cond b (n + 2) (n + partAt k .inputs + 1))) (last a) 0 ≡ 65520 + kindNumber a
+        → ((v : List ℕ) (n : ℕ) → memorySize ≤ length v → afterAll ks n ≤ 8192 → Among a (elementsFrom ks n) → getD (namedOutputs v ks n) (last a) 0 ≡ kindsFrom + kindNumber a)
+        → getD (namedOutputs (set w (cond b (n + 1) (n + partAt k .inputs)) (kindsFrom + k)) ks (cond b (n + 2) (n + partAt k .inputs + 1))) (last a) 0 ≡ kindsFrom + kindNumber a
     by true q h g f =
         let low = after-rises ks (n + 2) in
         ⊎-elim
-        (λ (e : a ≡ point n). subst (λ (z : Element). getD (namedOutputs (set w (n + 1) (65520 + k)) ks (n + 2)) (last z) 0 ≡ 65520 + kindNumber z) (sym e)
-        (named-before ks (n + 2) (set w (n + 1) (65520 + k)) (n + 1) (omega arith) ∙ getD-set-same w (n + 1) (65520 + k) 0 (omega arith) ∙ ap (λ (z : ℕ). 65520 + z) (eqb→eq k 7 (subst T (sym q) tt))))
-        (λ t. f (set w (n + 1) (65520 + k)) (n + 2) (simp length-set l) h t) (in-cons (point n) (elementsFrom ks (n + 2)) g)
+        (λ (e : a ≡ point n). subst (λ (z : Element). getD (namedOutputs (set w (n + 1) (kindsFrom + k)) ks (n + 2)) (last z) 0 ≡ kindsFrom + kindNumber z) (sym e)
+        (named-before ks (n + 2) (set w (n + 1) (kindsFrom + k)) (n + 1) (omega arith) ∙ getD-set-same w (n + 1) (kindsFrom + k) 0 (omega arith) ∙ ap (λ (z : ℕ). kindsFrom + z) (eqb→eq k 7 (subst T (sym q) tt))))
+        (λ t. f (set w (n + 1) (kindsFrom + k)) (n + 2) (simp length-set l) h t) (in-cons (point n) (elementsFrom ks (n + 2)) g)
     by false q h g f =
         let low = after-rises ks (n + partAt k .inputs + 1) in
         ⊎-elim
-        (λ (e : a ≡ part k n). subst (λ (z : Element). getD (namedOutputs (set w (n + partAt k .inputs) (65520 + k)) ks (n + partAt k .inputs + 1)) (last z) 0 ≡ 65520 + kindNumber z) (sym e)
-        (named-before ks (n + partAt k .inputs + 1) (set w (n + partAt k .inputs) (65520 + k)) (n + partAt k .inputs) (omega arith) ∙ getD-set-same w (n + partAt k .inputs) (65520 + k) 0 (omega arith)))
-        (λ t. f (set w (n + partAt k .inputs) (65520 + k)) (n + partAt k .inputs + 1) (simp length-set l) h t) (in-cons (part k n) (elementsFrom ks (n + partAt k .inputs + 1)) g)
+        (λ (e : a ≡ part k n). subst (λ (z : Element). getD (namedOutputs (set w (n + partAt k .inputs) (kindsFrom + k)) ks (n + partAt k .inputs + 1)) (last z) 0 ≡ kindsFrom + kindNumber z) (sym e)
+        (named-before ks (n + partAt k .inputs + 1) (set w (n + partAt k .inputs) (kindsFrom + k)) (n + partAt k .inputs) (omega arith) ∙ getD-set-same w (n + partAt k .inputs) (kindsFrom + k) 0 (omega arith)))
+        (λ t. f (set w (n + partAt k .inputs) (kindsFrom + k)) (n + partAt k .inputs + 1) (simp length-set l) h t) (in-cons (part k n) (elementsFrom ks (n + partAt k .inputs + 1)) g)
 
 -- ---- linking
 
@@ -93,49 +92,49 @@ pub record LinkedAt (u : List ℕ) (n : ℕ) (w : List ℕ) : Type 0 where
   pub done : (x : ℕ) → x < n → getD w x 0 ≡ linkIn u x
   pub rest : (j : ℕ) → n ≤ j → getD w j 0 ≡ getD u j 0
 
-pub link-all : (u : List ℕ) (n : ℕ) → 32768 ≤ length u → n ≤ 8192 → LinkedAt u n (takeTurns linkOne n 0 u)
+pub link-all : (u : List ℕ) (n : ℕ) → memorySize ≤ length u → n ≤ 8192 → LinkedAt u n (takeTurns linkOne n 0 u)
 link-all u n size few = turns-keep linkOne (LinkedAt u) u (record { size = refl; done = λ x l. absurd (omega arith); rest = λ j l. refl }) n step
   where
     step : (j : ℕ) (w : List ℕ) → j < n → LinkedAt u j w → LinkedAt u (suc j) (linkOne j w)
     step j w l c =
         let s = c .size in
         let e = c .rest j (omega arith) in
-        let same : linkIn w j ≡ linkIn u j = ap (λ (d : ℕ). linkOf d j (getD w (19072 + d) 0)) e ∙ ap (linkOf (getD u j 0) j) (c .rest (19072 + getD u j 0) (omega arith)) in
+        let same : linkIn w j ≡ linkIn u j = ap (λ (d : ℕ). linkOf d j (getD w (rootsAt + d) 0)) e ∙ ap (linkOf (getD u j 0) j) (c .rest (rootsAt + getD u j 0) (omega arith)) in
         record {
           size = length-set w j (linkIn w j) ∙ c .size;
           done = λ x h. elim (ℕ-discrete x j) [
             | yes q ↦ ap (λ (y : ℕ). getD (linkOne j w) y 0) q ∙ getD-set-same w j (linkIn w j) 0 (omega arith) ∙ same ∙ ap (linkIn u) (sym q)
-            | no d ↦ other w j x (linkIn w j) d ∙ c .done x (omega arith)
+            | no d ↦ set-other w j x (linkIn w j) d ∙ c .done x (omega arith)
           ];
-          rest = λ i h. other w j i (linkIn w j) (λ q. omega arith) ∙ c .rest i (omega arith);
+          rest = λ i h. set-other w j i (linkIn w j) (λ q. omega arith) ∙ c .rest i (omega arith);
         }
 
 -- ---- the pins
 
 pub record PinnedAt (u : List ℕ) (n : ℕ) (w : List ℕ) : Type 0 where
   pub size : length w ≡ length u
-  pub done : (k : ℕ) → k < n → getD w (18944 + k) 0 ≡ rootedIn u (getD u (18944 + k) 0)
-  pub before : (j : ℕ) → j < 18944 → getD w j 0 ≡ getD u j 0
-  pub rest : (j : ℕ) → 18944 + n ≤ j → getD w j 0 ≡ getD u j 0
+  pub done : (k : ℕ) → k < n → getD w (pinsAt + k) 0 ≡ rootedIn u (getD u (pinsAt + k) 0)
+  pub before : (j : ℕ) → j < pinsAt → getD w j 0 ≡ getD u j 0
+  pub rest : (j : ℕ) → pinsAt + n ≤ j → getD w j 0 ≡ getD u j 0
 
-pub pin-all : (u : List ℕ) (n : ℕ) → 32768 ≤ length u → n ≤ 128 → PinnedAt u n (takeTurns pinOne n 0 u)
+pub pin-all : (u : List ℕ) (n : ℕ) → memorySize ≤ length u → n ≤ 128 → PinnedAt u n (takeTurns pinOne n 0 u)
 pin-all u n size few = turns-keep pinOne (PinnedAt u) u (record { size = refl; done = λ x l. absurd (omega arith); before = λ j l. refl; rest = λ j l. refl }) n step
   where
     step : (j : ℕ) (w : List ℕ) → j < n → PinnedAt u j w → PinnedAt u (suc j) (pinOne j w)
     step j w l c =
         let s = c .size in
-        let e = c .rest (18944 + j) (omega arith) in
-        let d = getD u (18944 + j) 0 in
-        let v = rootedIn w (getD w (18944 + j) 0) in
-        let same : v ≡ rootedIn u d = ap (rootedIn w) e ∙ ap (λ (z : ℕ). cond (eqb (d % 2) 0) d (2 * z + 1)) (c .rest (19072 + d / 2) (omega arith)) in
+        let e = c .rest (pinsAt + j) (omega arith) in
+        let d = getD u (pinsAt + j) 0 in
+        let v = rootedIn w (getD w (pinsAt + j) 0) in
+        let same : v ≡ rootedIn u d = ap (rootedIn w) e ∙ ap (λ (z : ℕ). cond (eqb (d % 2) 0) d (2 * z + 1)) (c .rest (rootsAt + d / 2) (omega arith)) in
         record {
-          size = length-set w (18944 + j) v ∙ c .size;
+          size = length-set w (pinsAt + j) v ∙ c .size;
           done = λ k h. elim (ℕ-discrete k j) [
-            | yes q ↦ ap (λ (y : ℕ). getD (pinOne j w) (18944 + y) 0) q ∙ getD-set-same w (18944 + j) v 0 (omega arith) ∙ same ∙ ap (λ (y : ℕ). rootedIn u (getD u (18944 + y) 0)) (sym q)
-            | no t ↦ other w (18944 + j) (18944 + k) v (λ q. t (omega arith)) ∙ c .done k (omega arith)
+            | yes q ↦ ap (λ (y : ℕ). getD (pinOne j w) (pinsAt + y) 0) q ∙ getD-set-same w (pinsAt + j) v 0 (omega arith) ∙ same ∙ ap (λ (y : ℕ). rootedIn u (getD u (pinsAt + y) 0)) (sym q)
+            | no t ↦ set-other w (pinsAt + j) (pinsAt + k) v (λ q. t (omega arith)) ∙ c .done k (omega arith)
           ];
-          before = λ i h. other w (18944 + j) i v (λ q. omega arith) ∙ c .before i h;
-          rest = λ i h. other w (18944 + j) i v (λ q. omega arith) ∙ c .rest i (omega arith);
+          before = λ i h. set-other w (pinsAt + j) i v (λ q. omega arith) ∙ c .before i h;
+          rest = λ i h. set-other w (pinsAt + j) i v (λ q. omega arith) ∙ c .rest i (omega arith);
         }
 
 -- a region, each number changed

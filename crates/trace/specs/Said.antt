@@ -9,13 +9,14 @@ use Rattle.calculus.specs.Answer.{Answer, good, _>>=_, need}
 use Rattle.calculus.specs.Net.{Net}
 use Rattle.calculus.specs.Lean.{lean}
 use Rattle.calculus.specs.Record.{All}
-use Rattle.memory.specs.Map.{netIn}
+use Rattle.memory.specs.Map.{memorySize, netIn}
 use Rattle.calculus.specs.NetRead.{Known}
 use Rattle.circuit_theorems.specs.Terminals.{has}
 use Rattle.lean.specs.Table.{Whole}
 use Rattle.trace_calculus.specs.Trace.{OnRing, terminals, inPins, outPins, registers, allBits, run, givenBits, startBits, rows}
+use Rattle.trace_steps.specs.Map.{bitsEnd}
 use Rattle.trace_steps.specs.Steps.{Ordered}
-use Rattle.trace_steps.specs.Pins.{Pins, Listable}
+use Rattle.trace_steps.specs.Pins.{PinsLow, Listable}
 use Rattle.trace_steps.specs.Ticks.{InOrder}
 use Rattle.trace_rings.specs.Rings.{met}
 use Rattle.translator.specs.Said.{AnswerSays}
@@ -25,10 +26,10 @@ use Rattle.translator.specs.declared.Answer.the-variants as answer
 
 -- ---- the stages
 
--- what stays from 27,264 on
+-- what stays above the bits
 pub record Above (u w : List ℕ) : Type 0 where
   pub size : length w ≡ length u
-  pub above : (j : ℕ) → 27264 ≤ j → getD w j 0 ≡ getD u j 0
+  pub above : (j : ℕ) → bitsEnd ≤ j → getD w j 0 ≡ getD u j 0
 
 -- the table by terminal is made
 pub record TablesMade (u : List ℕ) (elements wires pins : ℕ) (w : List ℕ) (end : ℕ) : Type 0 where
@@ -49,11 +50,11 @@ freed m n bits starts room = do
 
 -- what a run asks of the memory, whatever netlist stands there
 pub record Safe (w : List ℕ) (end settled pins ticks : ℕ) : Type 0 where
-  pub size : 32768 ≤ length w
+  pub size : memorySize ≤ length w
   pub few : end ≤ 8192
   pub order : Ordered w settled
   pub registers : Listable w end
-  pub pins-low : Pins w pins
+  pub pins-low : PinsLow w pins
   pub short : ticks ≤ 65535
 
 -- the netlist m stands in the table, and all its gates in an order

@@ -14,33 +14,34 @@ use Rattle.calculus.specs.Record.{Among}
 use Rattle.circuit_theorems.specs.Terminals.{has}
 use Rattle.circuit_theorems.specs.Formed.{Formed}
 use Rattle.trace_calculus.specs.Trace.{pin, from, made-part, source, terminals}
-use Rattle.memory.specs.Map.{region, terminalOf}
+use Rattle.memory.specs.Map.{rootsAt, memorySize, region, terminalOf}
+use Rattle.trace_steps.specs.Map.{pinsAt, kindsFrom, registerEntry, oneEntry, pointEntry}
 
--- the entry of terminal x: a pin has itself, another input the output that its wire comes from, an output 65,520 and its element's kind
+-- the entry of terminal x: a pin has itself, another input the output that its wire comes from, an output its element's kind, from `kindsFrom` on
 pub data TableEntry (m : Net) (x : ℕ) : ℕ → Type 0 where
   of-pin : T (isPin (m .pins) x) → isOut (m .elements) x ≡ false → TableEntry m x x
   of-wire : (y : ℕ) → source m x ≡ from y → isOut (m .elements) x ≡ false → T (isOut (m .elements) y) → TableEntry m x y
-  of-point : (i : ℕ) → Among (point i) (m .elements) → i + 1 ≡ x → TableEntry m x 65527
-  of-part : (p i : ℕ) → Among (part p i) (m .elements) → i + partAt p .inputs ≡ x → p < 7 → TableEntry m x (65520 + p)
+  of-point : (i : ℕ) → Among (point i) (m .elements) → i + 1 ≡ x → TableEntry m x pointEntry
+  of-part : (p i : ℕ) → Among (part p i) (m .elements) → i + partAt p .inputs ≡ x → p < 7 → TableEntry m x (kindsFrom + p)
 
 -- an entry of an output that looks at something: a point's, or a gate's
 abbrev pub Looking : ℕ → Type 0
-Looking v = (v ≡ 65527) ⊎ ((65521 < v) × (v < 65526))
+Looking v = (v ≡ pointEntry) ⊎ ((registerEntry < v) × (v < oneEntry))
 
 -- the netlist m, whose terminals are below `end`, stands in the table from 0 on and among the pins
 pub record Tabled (w : List ℕ) (m : Net) (end pins : ℕ) : Type 0 where
-  pub size : 32768 ≤ length w
+  pub size : memorySize ≤ length w
   pub formed : Formed m
   pub few : end ≤ 8192
   pub low : (x : ℕ) → T (has (terminals (m .elements)) x) → x < end
   pub entries : (x : ℕ) → T (has (terminals (m .elements)) x) → TableEntry m x (getD w x 0)
   -- what belongs to a point that is not kept
-  pub others : (x : ℕ) → x < end → T (has (terminals (m .elements)) x) ⊎ ((getD w x 0 < 8192) ⊎ (getD w x 0 ≡ 65527))
+  pub others : (x : ℕ) → x < end → T (has (terminals (m .elements)) x) ⊎ ((getD w x 0 < 8192) ⊎ (getD w x 0 ≡ pointEntry))
   pub few-pins : pins ≤ 128
-  pub shown : map terminalOf (region w 18944 pins) ≡ m .pins
+  pub shown : map terminalOf (region w pinsAt pins) ≡ m .pins
 
--- of the points' outputs just those that are kept are their own roots, by the table of roots from 19,072 on
+-- of the points' outputs just those that are kept are their own roots, by the table of roots
 pub record KeptRoots (w : List ℕ) (m : Net) (end : ℕ) : Type 0 where
-  pub kept : (x : ℕ) → x < end → getD w x 0 ≡ 65527 → getD w (19072 + x) 0 ≡ x → T (has (terminals (m .elements)) x)
-  pub rooted : (x : ℕ) → T (has (terminals (m .elements)) x) → getD w x 0 ≡ 65527 → getD w (19072 + x) 0 ≡ x
-  pub past : (x : ℕ) → end ≤ x → x < 8192 → getD w (19072 + x) 0 ≡ 0
+  pub kept : (x : ℕ) → x < end → getD w x 0 ≡ pointEntry → getD w (rootsAt + x) 0 ≡ x → T (has (terminals (m .elements)) x)
+  pub rooted : (x : ℕ) → T (has (terminals (m .elements)) x) → getD w x 0 ≡ pointEntry → getD w (rootsAt + x) 0 ≡ x
+  pub past : (x : ℕ) → end ≤ x → x < 8192 → getD w (rootsAt + x) 0 ≡ 0

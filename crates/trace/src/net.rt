@@ -1,9 +1,5 @@
-// A recorded trace run through the lean netlist that stands in the working memory. What stands where during a run:
-//   0       8,192  by input terminal, the terminal whose bit it has (itself for a pin); by output terminal, 65,520 and its element's kind
-//   8,192   5,120  the outputs that are not settled yet; afterwards the registers' outputs by rising number
-//   13,824  5,120  the order: the outputs that are settled, each behind those that it looks at; in the search, those that are met
-//   18,944    128  the pins, each output pin's root in its place
-//   19,072  8,192  the roots; then by terminal a mark; then by terminal its bit
+// A recorded trace run through the lean netlist that stands in the working memory. What stands where during a run is said in
+// trace_steps/specs/Map.
 use crate::free;
 use crate::tables;
 use trace_rings::list;

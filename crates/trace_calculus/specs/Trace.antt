@@ -48,13 +48,13 @@ pub data Source : Type 0 where
   from : ℕ → Source  -- an input: the output that its wire comes from. A point's output: the point's input
   made-part : ℕ → ℕ → Source  -- a part's output: the part's number, its first terminal
 
-abbrev pub sourceIn : List Element → Source → ℕ → Source
-sourceIn [] d x = d
-sourceIn (point i ∷ es) d x = cond (eqb (i + 1) x) (from i) (sourceIn es d x)
-sourceIn (part p i ∷ es) d x = cond (eqb (i + partAt p .inputs) x) (made-part p i) (sourceIn es d x)
+abbrev pub sourceAmong : List Element → Source → ℕ → Source
+sourceAmong [] d x = d
+sourceAmong (point i ∷ es) d x = cond (eqb (i + 1) x) (from i) (sourceAmong es d x)
+sourceAmong (part p i ∷ es) d x = cond (eqb (i + partAt p .inputs) x) (made-part p i) (sourceAmong es d x)
 
 unfoldable pub source : Net → ℕ → Source
-source m x = sourceIn (m .elements) (cond (hasWire (m .wires) x) (from (driver (m .wires) x 0)) pin) x
+source m x = sourceAmong (m .elements) (cond (hasWire (m .wires) x) (from (driver (m .wires) x 0)) pin) x
 
 -- the terminals that it looks at within the tick: a register looks at none
 abbrev pub looks : Source → List ℕ

@@ -1,5 +1,5 @@
--- The contracts determine what is answered. Of the working memory, `list` determines all but what stands behind its list up to number 13,824,
--- and `lowest` determines what it does not use: below 13,824, and from 27,264 on. Assumes nothing.
+-- The contracts determine what is answered. Of the working memory, `list` determines all but what stands behind its list up to the
+-- order, and `lowest` determines what it does not use: below the order, and above the marks. Assumes nothing.
 use mathlib.Core.Path.{_≡_, refl, sym, subst}
 use mathlib.Core.List.{List}
 use Prim.Native.Nat.{ℕ, zero, suc, _+_, _≤_, _<_}
@@ -10,6 +10,7 @@ use contract.Lifetimes.{Lfts}
 use denote.Triple.Clauses.{AtExit}
 use borrow.Fn.Kinds.{Dens, resT, endedOf}
 use Rattle.laws.proofs.OneResult.{Result}
+use Rattle.trace_steps.specs.Map.{restAt}
 use Rattle.trace_rings.specs.Lists.{Chosen}
 use Rattle.trace_rings.specs.Rings.{rest, InputOf, Behind, First, here, none}
 use Rattle.trace_rings.proofs.list.list.Kinds as list
@@ -21,11 +22,11 @@ use Rattle.trace_rings.proofs.ring.lowest.Reads as lowest-reads
 
 -- two falling lists of the same members: one is not longer, and they are the same place by place
 module _ (u : List ℕ) (end : ℕ) where
-  same-below : (w v : List ℕ) (n m : ℕ) → Chosen u end w n → Chosen u end v m → (k : ℕ) → ((i : ℕ) → i < k → i < m → getD w (8192 + i) 0 ≡ getD v (8192 + i) 0) → k < n
-      → (k < m) × (getD w (8192 + k) 0 ≤ getD v (8192 + k) 0)
+  same-below : (w v : List ℕ) (n m : ℕ) → Chosen u end w n → Chosen u end v m → (k : ℕ) → ((i : ℕ) → i < k → i < m → getD w (restAt + i) 0 ≡ getD v (restAt + i) 0) → k < n
+      → (k < m) × (getD w (restAt + k) 0 ≤ getD v (restAt + k) 0)
   same-below w v n m a b k f l =
       let e = a .each k l in
-      let r = b .all (getD w (8192 + k) 0) (e .0) (e .1) in
+      let r = b .all (getD w (restAt + k) 0) (e .0) (e .1) in
       let at : k ≤ r .0 = elim (decLt (r .0) k) [
         | yes h ↦ absurd (let x = a .falling (r .0) k h l in let y = f (r .0) h (r .1) in omega (arith, r .2))
         | no h ↦ omega arith
@@ -33,13 +34,13 @@ module _ (u : List ℕ) (end : ℕ) where
         omega (arith, r .1),
         elim (decLt k (r .0)) [
           | yes h ↦ (let x = b .falling k (r .0) h (r .1) in omega (arith, r .2))
-          | no h ↦ (let z : r .0 ≡ k = omega arith in let y = subst (λ (i : ℕ). getD v (8192 + i) 0 ≡ getD w (8192 + k) 0) z (r .2) in omega arith)
+          | no h ↦ (let z : r .0 ≡ k = omega arith in let y = subst (λ (i : ℕ). getD v (restAt + i) 0 ≡ getD w (restAt + k) 0) z (r .2) in omega arith)
         ],
       )
 
   module _ (w v : List ℕ) (n m : ℕ) (a : Chosen u end w n) (b : Chosen u end v m) where
     -- below k, and then at k
-    same-at : (k i : ℕ) → i < k → i < n → i < m → getD w (8192 + i) 0 ≡ getD v (8192 + i) 0
+    same-at : (k i : ℕ) → i < k → i < n → i < m → getD w (restAt + i) 0 ≡ getD v (restAt + i) 0
     same-at zero i l p q = absurd (omega arith)
     same-at (suc k) i l p q =
         let x = same-below w v n m a b i (λ j h c. same-at k j (omega arith) (omega arith) c) p in
@@ -52,11 +53,11 @@ module _ (u : List ℕ) (end : ℕ) where
       | no h ↦ omega arith
     ]
 
-    pub same-entry : (i : ℕ) → i < n → i < m → getD w (8192 + i) 0 ≡ getD v (8192 + i) 0
+    pub same-entry : (i : ℕ) → i < n → i < m → getD w (restAt + i) 0 ≡ getD v (restAt + i) 0
     same-entry i p q = same-at (suc i) i (omega arith) p q
 
 pub list-determined : (κs : Lfts 1) (a : Dens κs list.ps) (x y : resT list.r κs .Denot) (s t : AtExit (endedOf 1 list.ps list.r) κs)
-    → list-reads.Post κs a x s → list-reads.Post κs a y t → (x ≡ y) × ((i : ℕ) → i < x → getD (s .0 .now) (8192 + i) 0 ≡ getD (t .0 .now) (8192 + i) 0)
+    → list-reads.Post κs a x s → list-reads.Post κs a y t → (x ≡ y) × ((i : ℕ) → i < x → getD (s .0 .now) (restAt + i) 0 ≡ getD (t .0 .now) (restAt + i) 0)
 list-determined κs a x y s t f g =
     let p = same-count _ _ _ _ x y f g in
     let q = same-count _ _ _ _ y x g f in

@@ -1,57 +1,59 @@
 -- The outputs that look at something, one after the other by falling number. No two are next to each other, so there are few. Assumes nothing.
 use Prim.Native.Nat.{ℕ, _+_, _-_, _*_, _≤_, _<_}
 use mathlib.Core.Path.{_≡_, refl, sym, ap, _∙_, subst}
-use mathlib.Core.Logic.{_≢_}
 use mathlib.Core.Bool.{Bool, true, false, cond, _&&_}
 use mathlib.Core.List.{List}
 use native.Mathlib.Omega.{arith}
 use native.Mathlib.Decide.{ℕ-discrete}
 use lib.ListN.{length, getD, set, length-set}
-use lib.Seq.{getD-set-same, getD-set-other}
+use lib.Seq.{getD-set-same}
 use lib.Dec.{T, eqb, ltb, eqb→eq}
 use borrow.Author.Tests.{ltb-true, eq-eqb, ne-eqb, lt-ltb, le-ltb}
 use Rattle.laws.proofs.Tests.{T-is, and-both}
+use Rattle.memory.specs.Map.{rootsAt}
+use Rattle.trace_steps.specs.Map.{restAt, orderAt, kindsFrom, registerEntry, oneEntry, pointEntry}
 use Rattle.trace_steps.specs.Steps.{Looks}
+use Rattle.trace_steps.proofs.Laws.{set-other}
 use Rattle.trace_rings.specs.Lists.{looksIn, Choosable, Chosen}
 
-pub looks-same : (u w : List ℕ) (x : ℕ) → getD w x 0 ≡ getD u x 0 → getD w (19072 + x) 0 ≡ getD u (19072 + x) 0 → looksIn w x ≡ looksIn u x
+pub looks-same : (u w : List ℕ) (x : ℕ) → getD w x 0 ≡ getD u x 0 → getD w (rootsAt + x) 0 ≡ getD u (rootsAt + x) 0 → looksIn w x ≡ looksIn u x
 looks-same u w x e f =
-    ap (λ (k : ℕ). cond (eqb k 65527) (eqb (getD w (19072 + x) 0) x) (ltb 65521 k && ltb k 65526)) e
-    ∙ ap (λ (k : ℕ). cond (eqb (getD u x 0) 65527) (eqb k x) (ltb 65521 (getD u x 0) && ltb (getD u x 0) 65526)) f
+    ap (λ (k : ℕ). cond (eqb k pointEntry) (eqb (getD w (rootsAt + x) 0) x) (ltb registerEntry k && ltb k oneEntry)) e
+    ∙ ap (λ (k : ℕ). cond (eqb (getD u x 0) pointEntry) (eqb k x) (ltb registerEntry (getD u x 0) && ltb (getD u x 0) oneEntry)) f
 
 -- what looks at something is an output
-pub looks-high : (w : List ℕ) (x : ℕ) → looksIn w x ≡ true → 65520 ≤ getD w x 0
-looks-high w x e = by (eqb (getD w x 0) 65527) (ltb 65521 (getD w x 0)) (ltb (getD w x 0) 65526) refl refl e
+pub looks-high : (w : List ℕ) (x : ℕ) → looksIn w x ≡ true → kindsFrom ≤ getD w x 0
+looks-high w x e = by (eqb (getD w x 0) pointEntry) (ltb registerEntry (getD w x 0)) (ltb (getD w x 0) oneEntry) refl refl e
   where
-    by : (a b c : Bool) → eqb (getD w x 0) 65527 ≡ a → ltb 65521 (getD w x 0) ≡ b → cond a (eqb (getD w (19072 + x) 0) x) (b && c) ≡ true → 65520 ≤ getD w x 0
-    by true b c q r e = let z = eqb→eq (getD w x 0) 65527 (subst (λ (t : Bool). T t) (sym q) tt) in omega arith
-    by false true c q r e = omega (arith, ltb-true 65521 (getD w x 0) r)
+    by : (a b c : Bool) → eqb (getD w x 0) pointEntry ≡ a → ltb registerEntry (getD w x 0) ≡ b → cond a (eqb (getD w (rootsAt + x) 0) x) (b && c) ≡ true → kindsFrom ≤ getD w x 0
+    by true b c q r e = let z = eqb→eq (getD w x 0) pointEntry (subst (λ (t : Bool). T t) (sym q) tt) in omega arith
+    by false true c q r e = omega (arith, ltb-true registerEntry (getD w x 0) r)
     by false false c q r e = absurd (subst (λ (t : Bool). T t) (sym e) tt)
 
-pub looks-point : (w : List ℕ) (x : ℕ) → getD w x 0 ≡ 65527 → eqb (getD w (19072 + x) 0) x ≡ looksIn w x
-looks-point w x e = sym (ap (λ (b : Bool). cond b (eqb (getD w (19072 + x) 0) x) (ltb 65521 (getD w x 0) && ltb (getD w x 0) 65526)) (eq-eqb (getD w x 0) 65527 e))
+pub looks-point : (w : List ℕ) (x : ℕ) → getD w x 0 ≡ pointEntry → eqb (getD w (rootsAt + x) 0) x ≡ looksIn w x
+looks-point w x e = sym (ap (λ (b : Bool). cond b (eqb (getD w (rootsAt + x) 0) x) (ltb registerEntry (getD w x 0) && ltb (getD w x 0) oneEntry)) (eq-eqb (getD w x 0) pointEntry e))
 
-pub looks-gate : (w : List ℕ) (x : ℕ) → (getD w x 0 ≡ 65527 → ⊥) → 65521 < getD w x 0 → ltb (getD w x 0) 65526 ≡ looksIn w x
+pub looks-gate : (w : List ℕ) (x : ℕ) → (getD w x 0 ≡ pointEntry → ⊥) → registerEntry < getD w x 0 → ltb (getD w x 0) oneEntry ≡ looksIn w x
 looks-gate w x d l =
-    sym (ap (λ (b : Bool). cond b (eqb (getD w (19072 + x) 0) x) (ltb 65521 (getD w x 0) && ltb (getD w x 0) 65526)) (ne-eqb (getD w x 0) 65527 d) ∙ ap (λ (b : Bool). b && ltb (getD w x 0) 65526) (lt-ltb 65521 (getD w x 0) l))
+    sym (ap (λ (b : Bool). cond b (eqb (getD w (rootsAt + x) 0) x) (ltb registerEntry (getD w x 0) && ltb (getD w x 0) oneEntry)) (ne-eqb (getD w x 0) pointEntry d) ∙ ap (λ (b : Bool). b && ltb (getD w x 0) oneEntry) (lt-ltb registerEntry (getD w x 0) l))
 
-pub looks-none : (w : List ℕ) (x : ℕ) → (getD w x 0 ≡ 65527 → ⊥) → getD w x 0 ≤ 65521 → ltb 65521 (getD w x 0) ≡ looksIn w x
+pub looks-none : (w : List ℕ) (x : ℕ) → (getD w x 0 ≡ pointEntry → ⊥) → getD w x 0 ≤ registerEntry → ltb registerEntry (getD w x 0) ≡ looksIn w x
 looks-none w x d l =
-    le-ltb 65521 (getD w x 0) l
-    ∙ sym (ap (λ (b : Bool). cond b (eqb (getD w (19072 + x) 0) x) (ltb 65521 (getD w x 0) && ltb (getD w x 0) 65526)) (ne-eqb (getD w x 0) 65527 d) ∙ ap (λ (b : Bool). b && ltb (getD w x 0) 65526) (le-ltb 65521 (getD w x 0) l))
+    le-ltb registerEntry (getD w x 0) l
+    ∙ sym (ap (λ (b : Bool). cond b (eqb (getD w (rootsAt + x) 0) x) (ltb registerEntry (getD w x 0) && ltb (getD w x 0) oneEntry)) (ne-eqb (getD w x 0) pointEntry d) ∙ ap (λ (b : Bool). b && ltb (getD w x 0) oneEntry) (le-ltb registerEntry (getD w x 0) l))
 
 -- those from x on are listed
 pub record Choosing (u : List ℕ) (end x : ℕ) (w : List ℕ) (n : ℕ) : Type 0 where
   pub size : length w ≡ length u
   pub table : (y : ℕ) → y < 8192 → getD w y 0 ≡ getD u y 0
-  pub above : (j : ℕ) → 13824 ≤ j → getD w j 0 ≡ getD u j 0
+  pub above : (j : ℕ) → orderAt ≤ j → getD w j 0 ≡ getD u j 0
   pub low : x ≤ end
   pub half : 2 * n + x ≤ end + 1
   pub free : (x < end → looksIn u x ≡ true → ⊥) → 2 * n + x ≤ end
-  pub from : (k : ℕ) → k < n → x ≤ getD w (8192 + k) 0
-  pub each : (k : ℕ) → k < n → (getD w (8192 + k) 0 < end) × (looksIn u (getD w (8192 + k) 0) ≡ true)
-  pub falling : (i k : ℕ) → i < k → k < n → getD w (8192 + k) 0 < getD w (8192 + i) 0
-  pub all : (y : ℕ) → x ≤ y → y < end → looksIn u y ≡ true → (k : ℕ) × (k < n) × (getD w (8192 + k) 0 ≡ y)
+  pub from : (k : ℕ) → k < n → x ≤ getD w (restAt + k) 0
+  pub each : (k : ℕ) → k < n → (getD w (restAt + k) 0 < end) × (looksIn u (getD w (restAt + k) 0) ≡ true)
+  pub falling : (i k : ℕ) → i < k → k < n → getD w (restAt + k) 0 < getD w (restAt + i) 0
+  pub all : (y : ℕ) → x ≤ y → y < end → looksIn u y ≡ true → (k : ℕ) × (k < n) × (getD w (restAt + k) 0 ≡ y)
 
 pub choosing-start : (u : List ℕ) (end : ℕ) → Choosing u end end u 0
 choosing-start u end = record {
@@ -69,7 +71,7 @@ choosing-start u end = record {
 
 module _ (u : List ℕ) (end x y : ℕ) (w : List ℕ) (n : ℕ) (p : Choosable u end) (c : Choosing u end x w n) (e : x ≡ y + 1) where
   pub choosing-same : looksIn w y ≡ looksIn u y
-  choosing-same = let f = p .few in let l = c .low in looks-same u w y (c .table y (omega arith)) (c .above (19072 + y) (omega arith))
+  choosing-same = let f = p .few in let l = c .low in looks-same u w y (c .table y (omega arith)) (c .above (rootsAt + y) (omega arith))
 
   lonely : looksIn u y ≡ true → x < end → looksIn u x ≡ true → ⊥
   lonely q l h =
@@ -81,7 +83,7 @@ module _ (u : List ℕ) (end x y : ℕ) (w : List ℕ) (n : ℕ) (p : Choosable 
   pub choosing-few : looksIn w y ≡ true → n < 4096
   choosing-few q = let f = p .few in let h = c .free (lonely (sym choosing-same ∙ q)) in omega arith
 
-  pub choosing-yes : looksIn w y ≡ true → Choosing u end y (set w (8192 + n) y) (n + 1)
+  pub choosing-yes : looksIn w y ≡ true → Choosing u end y (set w (restAt + n) y) (n + 1)
   choosing-yes q =
       let f = p .few in
       let z = p .size in
@@ -90,30 +92,30 @@ module _ (u : List ℕ) (end x y : ℕ) (w : List ℕ) (n : ℕ) (p : Choosable 
       let r : looksIn u y ≡ true = sym choosing-same ∙ q in
       let h = c .free (lonely r) in
       let few = choosing-few q in
-      let at-n : getD (set w (8192 + n) y) (8192 + n) 0 ≡ y = getD-set-same w (8192 + n) y 0 (omega arith) in
-      let at-other : (j : ℕ) → (j ≡ 8192 + n → ⊥) → getD (set w (8192 + n) y) j 0 ≡ getD w j 0 = λ j d. (let ne : j ≢ 8192 + n = d in getD-set-other w (8192 + n) j y 0 ne) in
+      let at-n : getD (set w (restAt + n) y) (restAt + n) 0 ≡ y = getD-set-same w (restAt + n) y 0 (omega arith) in
+      let at-other : (j : ℕ) → (j ≡ restAt + n → ⊥) → getD (set w (restAt + n) y) j 0 ≡ getD w j 0 = λ j d. set-other w (restAt + n) j y d in
       record {
-        size = length-set w (8192 + n) y ∙ c .size;
+        size = length-set w (restAt + n) y ∙ c .size;
         table = λ j l. at-other j (λ t. omega arith) ∙ c .table j l;
         above = λ j l. at-other j (λ t. omega arith) ∙ c .above j l;
         low = omega arith;
         half = omega arith;
         free = λ g. absurd (g (omega arith) r);
         from = λ k l. elim (ℕ-discrete k n) [
-          | yes t ↦ subst (λ (a : ℕ). y ≤ a) (sym (ap (λ (i : ℕ). getD (set w (8192 + n) y) (8192 + i) 0) t ∙ at-n)) (omega arith)
-          | no d ↦ let a = at-other (8192 + k) (λ t. d (omega arith)) in let b = c .from k (omega arith) in omega arith
+          | yes t ↦ subst (λ (a : ℕ). y ≤ a) (sym (ap (λ (i : ℕ). getD (set w (restAt + n) y) (restAt + i) 0) t ∙ at-n)) (omega arith)
+          | no d ↦ let a = at-other (restAt + k) (λ t. d (omega arith)) in let b = c .from k (omega arith) in omega arith
         ];
         each = λ k l. elim (ℕ-discrete k n) [
-          | yes t ↦ subst (λ (a : ℕ). (a < end) × (looksIn u a ≡ true)) (sym (ap (λ (i : ℕ). getD (set w (8192 + n) y) (8192 + i) 0) t ∙ at-n)) (omega arith, r)
-          | no d ↦ subst (λ (a : ℕ). (a < end) × (looksIn u a ≡ true)) (sym (at-other (8192 + k) (λ t. d (omega arith)))) (c .each k (omega arith))
+          | yes t ↦ subst (λ (a : ℕ). (a < end) × (looksIn u a ≡ true)) (sym (ap (λ (i : ℕ). getD (set w (restAt + n) y) (restAt + i) 0) t ∙ at-n)) (omega arith, r)
+          | no d ↦ subst (λ (a : ℕ). (a < end) × (looksIn u a ≡ true)) (sym (at-other (restAt + k) (λ t. d (omega arith)))) (c .each k (omega arith))
         ];
         falling = λ i k l g. elim (ℕ-discrete k n) [
-          | yes t ↦ (let a = at-other (8192 + i) (λ t. omega arith) in let b = c .from i (omega arith) in let v = ap (λ (i : ℕ). getD (set w (8192 + n) y) (8192 + i) 0) t ∙ at-n in omega arith)
-          | no d ↦ (let a = at-other (8192 + i) (λ t. omega arith) in let b = at-other (8192 + k) (λ t. d (omega arith)) in let v = c .falling i k l (omega arith) in omega arith)
+          | yes t ↦ (let a = at-other (restAt + i) (λ t. omega arith) in let b = c .from i (omega arith) in let v = ap (λ (i : ℕ). getD (set w (restAt + n) y) (restAt + i) 0) t ∙ at-n in omega arith)
+          | no d ↦ (let a = at-other (restAt + i) (λ t. omega arith) in let b = at-other (restAt + k) (λ t. d (omega arith)) in let v = c .falling i k l (omega arith) in omega arith)
         ];
         all = λ a l g v. elim (ℕ-discrete a y) [
           | yes t ↦ (n, omega arith, at-n ∙ sym t)
-          | no d ↦ (let o = c .all a (omega arith) g v in (o .0, omega (arith, o .1), at-other (8192 + o .0) (λ t. omega (arith, o .1)) ∙ o .2))
+          | no d ↦ (let o = c .all a (omega arith) g v in (o .0, omega (arith, o .1), at-other (restAt + o .0) (λ t. omega (arith, o .1)) ∙ o .2))
         ];
       }
 

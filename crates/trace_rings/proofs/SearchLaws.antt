@@ -1,13 +1,13 @@
 -- The search back from an input, output by output: what is met is behind the input, each once, and so there are few. Assumes nothing.
 use Prim.Native.Nat.{ℕ, _+_, _-_, _*_, _≤_, _<_}
 use mathlib.Core.Path.{_≡_, refl, sym, ap, _∙_, subst}
-use mathlib.Core.Logic.{_⊎_, inl, inr, ⊎-elim, _≢_}
+use mathlib.Core.Logic.{_⊎_, inl, inr, ⊎-elim}
 use mathlib.Core.Bool.{Bool, true, false, cond, _||_}
 use mathlib.Core.List.{List}
 use native.Mathlib.Omega.{arith}
 use native.Mathlib.Decide.{ℕ-discrete, decLe}
 use lib.ListN.{length, getD, set, length-set}
-use lib.Seq.{getD-set-same, getD-set-other}
+use lib.Seq.{getD-set-same}
 use lib.Dec.{T, eqb, ltb, eqb→eq}
 use borrow.Author.Tests.{eq-eqb, ne-eqb, eqb-false}
 use Rattle.circuit_theorems.specs.Terminals.{has}
@@ -15,14 +15,12 @@ use Rattle.laws.proofs.Regions.{region-length, region-at}
 use Rattle.memory.specs.Map.{region}
 use Rattle.circuit_theorems.proofs.Rings.{pigeon}
 use Rattle.trace_theorems.proofs.Lists.{has-at}
+use Rattle.trace_steps.specs.Map.{restAt, orderAt, bitsAt, inverterEntry}
 use Rattle.trace_steps.specs.Steps.{firstIn, Looks}
 use Rattle.trace_steps.specs.Pins.{Counted, counted}
-use Rattle.trace_steps.proofs.Laws.{first-low}
+use Rattle.trace_steps.proofs.Laws.{first-low, set-other}
 use Rattle.trace_steps.proofs.SweepLaws.{looks-table}
 use Rattle.trace_rings.specs.Rings.{mark, rest, met, InputOf, Behind, first, further, Rest, InputAmong, meetIn, lookIn, Fresh, Kept, Searched, SearchTold, OnNoRing, First, here, none, RingFound}
-
-other : (w : List ℕ) (i j v : ℕ) → (j ≡ i → ⊥) → getD (set w i v) j 0 ≡ getD w j 0
-other w i j v d = let ne : j ≢ i = d in getD-set-other w i j v 0 ne
 
 pub kept-none : (w : List ℕ) → Kept w w
 kept-none w = record { size = refl; below = λ j l. refl; above = λ j l. refl }
@@ -33,13 +31,13 @@ kept-then a b = record { size = b .size ∙ a .size; below = λ j l. b .below j 
 -- ---- one output
 
 abbrev joined : List ℕ → ℕ → ℕ → ℕ → List ℕ
-joined w y s n = set (set w (19072 + y) s) (13824 + n) y
+joined w y s n = set (set w (bitsAt + y) s) (orderAt + n) y
 
 joined-kept : (w : List ℕ) (y s n : ℕ) → y < 8192 → n ≤ 5120 → Kept w (joined w y s n)
 joined-kept w y s n l h = record {
-  size = length-set (set w (19072 + y) s) (13824 + n) y ∙ length-set w (19072 + y) s;
-  below = λ j g. other (set w (19072 + y) s) (13824 + n) j y (λ z. omega arith) ∙ other w (19072 + y) j s (λ z. omega arith);
-  above = λ j g. other (set w (19072 + y) s) (13824 + n) j y (λ z. omega arith) ∙ other w (19072 + y) j s (λ z. omega arith);
+  size = length-set (set w (bitsAt + y) s) (orderAt + n) y ∙ length-set w (bitsAt + y) s;
+  below = λ j g. set-other (set w (bitsAt + y) s) (orderAt + n) j y (λ z. omega arith) ∙ set-other w (bitsAt + y) j s (λ z. omega arith);
+  above = λ j g. set-other (set w (bitsAt + y) s) (orderAt + n) j y (λ z. omega arith) ∙ set-other w (bitsAt + y) j s (λ z. omega arith);
 }
 
 pub meet-kept : (w : List ℕ) (y s n : ℕ) → y < 8192 → n ≤ 5120 → Kept w (meetIn w y s n .mem)
@@ -101,16 +99,16 @@ searching-start u left x s = record {
 module _ (u : List ℕ) (left x s : ℕ) (r : Rest u left) (f : Fresh u s) where
   -- each is met once, and is one of those left
   pub met-few : (w : List ℕ) (n h : ℕ) → SearchingBack u left x s w n h → n ≤ left
-  met-few w n h c = elim (decLe n left) [ yes l ↦ l | no d ↦ absurd (go (pigeon n (region u 8192 left) (met w) (let z = long in omega arith) (λ k l. in-rest k l))) ]
+  met-few w n h c = elim (decLe n left) [ yes l ↦ l | no d ↦ absurd (go (pigeon n (region u restAt left) (met w) (let z = long in omega arith) (λ k l. in-rest k l))) ]
     where
-      long : length (region u 8192 left) ≡ left
-      long = let a = r .size in let b = r .few in region-length u 8192 left (omega arith)
+      long : length (region u restAt left) ≡ left
+      long = let a = r .size in let b = r .few in region-length u restAt left (omega arith)
 
-      in-rest : (k : ℕ) → k < n → T (has (region u 8192 left) (met w k))
+      in-rest : (k : ℕ) → k < n → T (has (region u restAt left) (met w k))
       in-rest k l =
           let o = c .listed k l in
           let b = long in
-          subst (λ (y : ℕ). T (has (region u 8192 left) y)) (region-at u 8192 left (o .0) (o .1) ∙ o .2) (has-at (region u 8192 left) (o .0) (omega (arith, o .1)))
+          subst (λ (y : ℕ). T (has (region u restAt left) y)) (region-at u restAt left (o .0) (o .1) ∙ o .2) (has-at (region u restAt left) (o .0) (omega (arith, o .1)))
 
       go : (a : ℕ) × (b : ℕ) × (a < b) × (b < n) × (met w a ≡ met w b) → ⊥
       go (a, b, l, k, e) = c .apart a b l k e
@@ -142,7 +140,7 @@ module _ (u : List ℕ) (left x s : ℕ) (r : Rest u left) (f : Fresh u s) where
         loose q = ⊎-elim (λ g. d (g ∙ q)) (λ g. e (sym (ap (mark w) (g .2)) ∙ c .stamped (g .0) (g .1))) (c .marks y)
 
         met-old : (k : ℕ) → k < n → met v k ≡ met w k
-        met-old k l = let a = r .few in let b = few in other (set w (19072 + y) s) (13824 + n) (13824 + k) y (λ z. omega arith) ∙ other w (19072 + y) (13824 + k) s (λ z. omega arith)
+        met-old k l = let a = r .few in let b = few in set-other (set w (bitsAt + y) s) (orderAt + n) (orderAt + k) y (λ z. omega arith) ∙ set-other w (bitsAt + y) (orderAt + k) s (λ z. omega arith)
 
         met-last : met v n ≡ y
         met-last =
@@ -150,10 +148,10 @@ module _ (u : List ℕ) (left x s : ℕ) (r : Rest u left) (f : Fresh u s) where
             let b = few in
             let g = r .size in
             let q = c .kept .size in
-            getD-set-same (set w (19072 + y) s) (13824 + n) y 0 (let q₁ = length-set w (19072 + y) s in omega arith)
+            getD-set-same (set w (bitsAt + y) s) (orderAt + n) y 0 (let q₁ = length-set w (bitsAt + y) s in omega arith)
 
         mark-old : (z : ℕ) → (z ≡ y → ⊥) → mark v z ≡ mark w z
-        mark-old z g = let a = r .few in let b = few in other (set w (19072 + y) s) (13824 + n) (19072 + z) y (λ t. omega arith) ∙ other w (19072 + y) (19072 + z) s (λ t. g (omega arith))
+        mark-old z g = let a = r .few in let b = few in set-other (set w (bitsAt + y) s) (orderAt + n) (bitsAt + z) y (λ t. omega arith) ∙ set-other w (bitsAt + y) (bitsAt + z) s (λ t. g (omega arith))
 
         mark-new : mark v y ≡ s
         mark-new =
@@ -161,7 +159,7 @@ module _ (u : List ℕ) (left x s : ℕ) (r : Rest u left) (f : Fresh u s) where
             let b = few in
             let g = r .size in
             let q = c .kept .size in
-            other (set w (19072 + y) s) (13824 + n) (19072 + y) y (λ t. omega arith) ∙ getD-set-same w (19072 + y) s 0 (omega arith)
+            set-other (set w (bitsAt + y) s) (orderAt + n) (bitsAt + y) y (λ t. omega arith) ∙ getD-set-same w (bitsAt + y) s 0 (omega arith)
 
         not-met : (k : ℕ) → k < n → met w k ≡ y → ⊥
         not-met k l q = e (sym (ap (mark w) q) ∙ c .stamped k l)
@@ -233,7 +231,7 @@ module _ (u : List ℕ) (left x s : ℕ) (r : Rest u left) (f : Fresh u s) where
     same-first : getD w (firstIn w o) 0 ≡ getD u (firstIn u o) 0
     same-first =
         let k = looks .low in
-        let e : firstIn w o ≡ firstIn u o = ap (λ (a : ℕ). cond (ltb a 65525) (o - 2) (o - 1)) (c .kept .below o (omega arith)) in
+        let e : firstIn w o ≡ firstIn u o = ap (λ (a : ℕ). cond (ltb a inverterEntry) (o - 2) (o - 1)) (c .kept .below o (omega arith)) in
         ap (λ (a : ℕ). getD w a 0) e ∙ c .kept .below (firstIn u o) (omega (arith, first-low u o k))
 
     abbrev a : Counted
@@ -408,14 +406,14 @@ module _ (u w : List ℕ) (left : ℕ) (r : Rest u left) (same : SameMarks u w) 
   still = same .still
 
   pub same-rest : (j : ℕ) → j < left → rest w j ≡ rest u j
-  same-rest j l = let f = r .few in k .below (8192 + j) (omega arith)
+  same-rest j l = let f = r .few in k .below (restAt + j) (omega arith)
 
   pub same-input : (j z : ℕ) → j < left → InputOf w (rest u j) z → InputOf u (rest u j) z
-  same-input j z l (inl e) = inl (e ∙ (let h = r .looks j l .low in ap (λ (a : ℕ). cond (ltb a 65525) (rest u j - 2) (rest u j - 1)) (k .below (rest u j) (omega arith))))
+  same-input j z l (inl e) = inl (e ∙ (let h = r .looks j l .low in ap (λ (a : ℕ). cond (ltb a inverterEntry) (rest u j - 2) (rest u j - 1)) (k .below (rest u j) (omega arith))))
   same-input j z l (inr e) = inr e
 
   input-same : (j z : ℕ) → j < left → InputOf u (rest u j) z → InputOf w (rest u j) z
-  input-same j z l (inl e) = inl (e ∙ sym (let h = r .looks j l .low in ap (λ (a : ℕ). cond (ltb a 65525) (rest u j - 2) (rest u j - 1)) (k .below (rest u j) (omega arith))))
+  input-same j z l (inl e) = inl (e ∙ sym (let h = r .looks j l .low in ap (λ (a : ℕ). cond (ltb a inverterEntry) (rest u j - 2) (rest u j - 1)) (k .below (rest u j) (omega arith))))
   input-same j z l (inr e) = inr e
 
   input-low : (j z : ℕ) → j < left → InputOf u (rest u j) z → z < 8192
@@ -471,7 +469,7 @@ module _ (u w : List ℕ) (left : ℕ) (r : Rest u left) (same : SameMarks u w) 
 -- ---- input after input
 
 first-last : (w : List ℕ) (o : ℕ) → firstIn w o ≤ o - 1
-first-last w o = by (ltb (getD w o 0) 65525)
+first-last w o = by (ltb (getD w o 0) inverterEntry)
   where
     by : (b : Bool) → cond b (o - 2) (o - 1) ≤ o - 1
     by true = omega arith
@@ -533,7 +531,7 @@ module _ (u : List ℕ) (left : ℕ) (r : Rest u left) (w : List ℕ) (j i s o x
   x-first : x ≡ firstIn u (rest u i)
   x-first =
       let l = r .looks i lower .low in
-      ex ∙ ap (λ (z : ℕ). firstIn w z) is-rest ∙ ap (λ (a : ℕ). cond (ltb a 65525) (rest u i - 2) (rest u i - 1)) (c .same .kept .below (rest u i) (omega arith))
+      ex ∙ ap (λ (z : ℕ). firstIn w z) is-rest ∙ ap (λ (a : ℕ). cond (ltb a inverterEntry) (rest u i - 2) (rest u i - 1)) (c .same .kept .below (rest u i) (omega arith))
 
   -- the first input of o is on a ring
   pub seek-first : (v : List ℕ) (b : Bool) → SearchTold w x s o v b → b ≡ true → RingFound u left v x

@@ -1,5 +1,5 @@
--- The search back from an input, over the working memory: from 8,192 the outputs that no order settles, by falling number; from 13,824 those that
--- are met; from 19,072 the marks, 1 for what is settled, and a stamp for what is met. Assumes nothing.
+-- The search back from an input, over the working memory: among the rest the outputs that no order settles, by falling number; in the order's
+-- room those that are met; as marks 1 for what is settled, and a stamp for what is met. Assumes nothing.
 use Prim.Native.Nat.{ℕ, _+_, _-_, _≤_, _<_}
 use mathlib.Core.Path.{_≡_}
 use mathlib.Core.Logic.{_⊎_}
@@ -7,18 +7,20 @@ use mathlib.Core.Bool.{Bool, true, false, cond, _||_}
 use mathlib.Core.List.{List}
 use lib.ListN.{length, getD, set}
 use lib.Dec.{eqb}
+use Rattle.memory.specs.Map.{memorySize}
+use Rattle.trace_steps.specs.Map.{restAt, orderAt, bitsAt, bitsEnd}
 use Rattle.trace_steps.specs.Steps.{firstIn, Looks}
 use Rattle.trace_steps.specs.Pins.{Counted, counted}
 
 abbrev pub mark : List ℕ → ℕ → ℕ
-mark w x = getD w (19072 + x) 0
+mark w x = getD w (bitsAt + x) 0
 
 -- the j-th output that is left, and the k-th that is met
 abbrev pub rest : List ℕ → ℕ → ℕ
-rest w j = getD w (8192 + j) 0
+rest w j = getD w (restAt + j) 0
 
 abbrev pub met : List ℕ → ℕ → ℕ
-met w k = getD w (13824 + k) 0
+met w k = getD w (orderAt + k) 0
 
 -- x is an input of output o
 abbrev pub InputOf : List ℕ → ℕ → ℕ → Type 0
@@ -31,7 +33,7 @@ pub data Behind (w : List ℕ) (x : ℕ) : ℕ → Type 0 where
 
 -- the outputs that are left look at one another, and at what is settled
 pub record Rest (w : List ℕ) (left : ℕ) : Type 0 where
-  pub size : 32768 ≤ length w
+  pub size : memorySize ≤ length w
   pub few : left ≤ 4096
   pub looks : (j : ℕ) → j < left → Looks w (rest w j)
   pub shut : (j x : ℕ) → j < left → InputOf w (rest w j) x → (mark w (getD w x 0) ≡ 1) ⊎ ((i : ℕ) × (i < left) × (rest w i ≡ getD w x 0))
@@ -46,7 +48,7 @@ pub record InputAmong (w : List ℕ) (left x : ℕ) : Type 0 where
 
 -- output y gets this stamp and joins the n that are met, where it is not settled and has no such stamp yet
 abbrev pub meetIn : List ℕ → ℕ → ℕ → ℕ → Counted
-meetIn w y s n = cond (eqb (mark w y) 1 || eqb (mark w y) s) (counted w n) (counted (set (set w (19072 + y) s) (13824 + n) y) (n + 1))
+meetIn w y s n = cond (eqb (mark w y) 1 || eqb (mark w y) s) (counted w n) (counted (set (set w (bitsAt + y) s) (orderAt + n) y) (n + 1))
 
 -- both that output o looks at
 abbrev pub lookIn : List ℕ → ℕ → ℕ → ℕ → Counted
@@ -61,8 +63,8 @@ Fresh w s = (2 ≤ s) × ((y : ℕ) → y < 8192 → mark w y < s)
 -- what stays while marks and the order's room change
 pub record Kept (u w : List ℕ) : Type 0 where
   pub size : length w ≡ length u
-  pub below : (j : ℕ) → j < 13824 → getD w j 0 ≡ getD u j 0
-  pub above : (j : ℕ) → 27264 ≤ j → getD w j 0 ≡ getD u j 0
+  pub below : (j : ℕ) → j < orderAt → getD w j 0 ≡ getD u j 0
+  pub above : (j : ℕ) → bitsEnd ≤ j → getD w j 0 ≡ getD u j 0
 
 -- a search from input x is over: just what is behind x has the stamp
 pub record Searched (u : List ℕ) (x s : ℕ) (w : List ℕ) : Type 0 where

@@ -1,21 +1,23 @@
 // The outputs that look at something within the tick.
 use memory::ROOTS;
-use memory::TARGETS;
+use trace_steps::table;
+use trace_steps::table::REST;
 ghost use mathlib.Core.Path.{_≡_};
 ghost use Prim.Native.Nat.{_+_, _≤_, _<_};
 ghost use lib.ListN.{length};
+ghost use Rattle.memory.specs.Map.{memorySize};
 ghost use Rattle.trace_rings.specs.Lists.{looksIn, Choosable, Chosen};
 
 // Output x looks at something: a gate's, or a kept point's.
 fn looks(work: &[u16], x: usize) -> bool
-    requires { ⌜ (32768 ≤ length (now work)) × (x < 8192) ⌝ }
+    requires { ⌜ (memorySize ≤ length (now work)) × (x < 8192) ⌝ }
     ensures { λ r. ⌜ r ≡ looksIn (now (work .entry)) x ⌝ }
 {
     let entry = work[x];
-    if entry == 65527 {
+    if entry == table::POINT_ENTRY {
         return work[ROOTS + x] as usize == x;
     }
-    65521 < entry && entry < 65526
+    table::REGISTER_ENTRY < entry && entry < table::ONE_ENTRY
 }
 
 // Those that do, by falling number; how many.
@@ -28,7 +30,7 @@ pub fn list(work: &mut [u16], end: usize) -> usize
     while x > 0 {
         x = x - 1;
         if looks(&work[..], x) {
-            work[TARGETS + n] = x as u16;
+            work[REST + n] = x as u16;
             n = n + 1;
         }
     }

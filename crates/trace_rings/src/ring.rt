@@ -1,29 +1,30 @@
 // The lowest input on a ring that passes through no register, where some outputs are left that no order settles.
-use memory::ELEMENTS;
-use memory::ROOTS;
-use memory::TARGETS;
 use trace_steps::table;
+use trace_steps::table::BITS;
+use trace_steps::table::ORDER;
+use trace_steps::table::REST;
 ghost use mathlib.Core.Path.{_≡_};
 ghost use Prim.Native.Nat.{_+_, _≤_, _<_};
 ghost use lib.ListN.{length, getD};
+ghost use Rattle.memory.specs.Map.{memorySize};
 ghost use Rattle.trace_steps.specs.Steps.{Looks};
 ghost use Rattle.trace_steps.specs.Pins.{counted};
 ghost use Rattle.trace_rings.specs.Rings.{Rest, InputAmong, meetIn, lookIn, Fresh, Searched, SearchTold, RingFound};
 
 // Output y gets the stamp and joins the n that are met, where it is not settled and has no such stamp yet; how many are met.
 fn meet(work: &mut [u16], y: usize, stamp: u16, n: usize) -> usize
-    requires { ⌜ (32768 ≤ length (now work)) × ((y < 8192) × (n ≤ 5120)) ⌝ }
+    requires { ⌜ (memorySize ≤ length (now work)) × ((y < 8192) × (n ≤ 5120)) ⌝ }
     ensures { λ r. ⌜ counted (now (work .exit)) r ≡ meetIn (now (work .entry)) y stamp n ⌝ }
 {
-    let m = work[ROOTS + y];
+    let m = work[BITS + y];
     if m == 1 {
         return n;
     }
     if m == stamp {
         return n;
     }
-    work[ROOTS + y] = stamp;
-    work[ELEMENTS + n] = y as u16;
+    work[BITS + y] = stamp;
+    work[ORDER + n] = y as u16;
     n + 1
 }
 
@@ -48,7 +49,7 @@ fn search(work: &mut [u16], left: usize, x: usize, stamp: u16)
     let mut n = meet(work, first, stamp, 0);
     let mut h: usize = 0;
     while h < n {
-        let o = table::at(&work[..], ELEMENTS + h);
+        let o = table::at(&work[..], ORDER + h);
         n = look(work, o, stamp, n);
         h = h + 1;
     }
@@ -60,7 +61,7 @@ fn on_ring(work: &mut [u16], left: usize, x: usize, o: usize, stamp: u16) -> boo
     ensures { λ r. ⌜ SearchTold (now (work .entry)) x stamp o (now (work .exit)) r ⌝ }
 {
     search(work, left, x, stamp);
-    work[ROOTS + o] == stamp
+    work[BITS + o] == stamp
 }
 
 // The lowest input on a ring. Those left stand by falling number.
@@ -72,7 +73,7 @@ pub fn lowest(work: &mut [u16], left: usize) -> usize
     let mut j = left;
     while j > 0 {
         j = j - 1;
-        let o = table::at(&work[..], TARGETS + j);
+        let o = table::at(&work[..], REST + j);
         let x = table::first_of(&work[..], o);
         if on_ring(work, left, x, o, stamp) {
             return x;

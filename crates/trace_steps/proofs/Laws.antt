@@ -1,18 +1,25 @@
--- Laws of loops, and of a memory that changes only from 19,072 on. Assumes nothing.
+-- Laws of loops, and of a memory of which only the marks and bits change. Assumes nothing.
 use Prim.Native.Nat.{ℕ, zero, suc, _+_, _-_, _≤_, _<_}
 use mathlib.Core.Path.{_≡_, refl, sym, ap, _∙_, subst}
+use mathlib.Core.Logic.{_≢_}
 use mathlib.Core.Bool.{Bool, true, false, cond, not, _&&_, _||_, xor, Bool·beq}
 use mathlib.Core.List.{List}
 use native.Mathlib.Omega.{arith}
 use native.Mathlib.Numerals.{add-one}
 use lib.ListN.{length, getD, set}
+use lib.Seq.{getD-set-other}
 use lib.Dec.{eqb, ltb}
 use borrow.Author.Tests.{lt-ltb, le-ltb, eq-eqb, ne-eqb}
 use Rattle.lean.specs.Table.{Within}
 use Rattle.trace_calculus.specs.Trace.{bitByte}
+use Rattle.trace_steps.specs.Map.{registersAt, orderAt, bitsAt, kindsFrom, inverterEntry}
 use Rattle.trace_steps.specs.Turns.{takeTurns}
 use Rattle.trace_steps.specs.Steps.{firstIn, inputBit, readyIn, stepIn, gateBit, freeIn, Looks, Ordered, Register, Registers, holdOne, turnOne, wakeOne, passOne}
 use Rattle.lean.proofs.TableLaws.{within-then, within-set}
+
+-- a store elsewhere
+pub set-other : (w : List ℕ) (i j v : ℕ) → (j ≡ i → ⊥) → getD (set w i v) j 0 ≡ getD w j 0
+set-other w i j v d = let ne : j ≢ i = d in getD-set-other w i j v 0 ne
 
 turns-snoc : {S : Type 0} (f : ℕ → S → S) (j x : ℕ) (s : S) → takeTurns f (suc j) x s ≡ f (x + j) (takeTurns f j x s)
 turns-snoc f zero x s = let e : x + 0 ≡ x = omega arith in rw e
@@ -29,7 +36,7 @@ pub turns-all : {S : Type 0} (f : ℕ → S → S) (j n : ℕ) (s t : S) → j �
 turns-all f j n s t e q = q ∙ ap (λ (k : ℕ). takeTurns f k 0 s) e
 
 first-le : (w : List ℕ) (o : ℕ) → firstIn w o ≤ o
-first-le w o = by (ltb (getD w o 0) 65525)
+first-le w o = by (ltb (getD w o 0) inverterEntry)
   where
     by : (b : Bool) → cond b (o - 2) (o - 1) ≤ o
     by true = omega arith
@@ -39,7 +46,7 @@ pub first-low : (w : List ℕ) (o : ℕ) → o < 8192 → firstIn w o < 8192
 first-low w o h = omega (arith, first-le w o)
 
 pub first-same : {u w : List ℕ} → Within u w → (o : ℕ) → o < 8192 → firstIn w o ≡ firstIn u o
-first-same i o h = ap (λ (k : ℕ). cond (ltb k 65525) (o - 2) (o - 1)) (i .below o (omega arith))
+first-same i o h = ap (λ (k : ℕ). cond (ltb k inverterEntry) (o - 2) (o - 1)) (i .below o (omega arith))
 
 pub looks-within : {u w : List ℕ} → Within u w → {o : ℕ} → Looks u o → Looks w o
 looks-within {u} {w} i {o} l =
@@ -58,20 +65,20 @@ looks-within {u} {w} i {o} l =
       last = let z = l .last in omega arith;
     }
 
-pub ordered-at : {u w : List ℕ} {n : ℕ} → Within u w → Ordered u n → (j : ℕ) → j < n → Looks w (getD w (13824 + j) 0)
-ordered-at {u} {w} i o j h = let f = o .few in subst (λ (k : ℕ). Looks w k) (sym (i .below (13824 + j) (omega arith))) (looks-within i (o .looks j h))
+pub ordered-at : {u w : List ℕ} {n : ℕ} → Within u w → Ordered u n → (j : ℕ) → j < n → Looks w (getD w (orderAt + j) 0)
+ordered-at {u} {w} i o j h = let f = o .few in subst (λ (k : ℕ). Looks w k) (sym (i .below (orderAt + j) (omega arith))) (looks-within i (o .looks j h))
 
 pub register-within : {u w : List ℕ} → Within u w → {o : ℕ} → Register u o → Register w o
 register-within i {o} r = let h = r .low in let e = i .below (o - 1) (omega arith) in let s = r .source in record { low = h; some = r .some; source = omega arith }
 
-pub register-at : {u w : List ℕ} {n : ℕ} → Within u w → Registers u n → (j : ℕ) → j < n → Register w (getD w (8192 + j) 0)
-register-at {u} {w} i r j h = let f = r .few in subst (λ (k : ℕ). Register w k) (sym (i .below (8192 + j) (omega arith))) (register-within i (r .each j h))
+pub register-at : {u w : List ℕ} {n : ℕ} → Within u w → Registers u n → (j : ℕ) → j < n → Register w (getD w (registersAt + j) 0)
+register-at {u} {w} i r j h = let f = r .few in subst (λ (k : ℕ). Register w k) (sym (i .below (registersAt + j) (omega arith))) (register-within i (r .each j h))
 
-pub first-two : (w : List ℕ) (o : ℕ) → getD w o 0 < 65525 → o - 2 ≡ firstIn w o
-first-two w o h = rw (lt-ltb (getD w o 0) 65525 h)
+pub first-two : (w : List ℕ) (o : ℕ) → getD w o 0 < inverterEntry → o - 2 ≡ firstIn w o
+first-two w o h = rw (lt-ltb (getD w o 0) inverterEntry h)
 
-pub first-one : (w : List ℕ) (o : ℕ) → 65525 ≤ getD w o 0 → o - 1 ≡ firstIn w o
-first-one w o h = rw (le-ltb (getD w o 0) 65525 h)
+pub first-one : (w : List ℕ) (o : ℕ) → inverterEntry ≤ getD w o 0 → o - 1 ≡ firstIn w o
+first-one w o h = rw (le-ltb (getD w o 0) inverterEntry h)
 
 -- ---- a gate's bit
 
@@ -112,8 +119,8 @@ pub both-fed : (w : List ℕ) (o x : ℕ) (a b : Bool) → x ≡ firstIn w o →
 both-fed w o x a b e f g = rw (f, g, e)
 
 -- the bit that output o gets
-pub step-is : (w : List ℕ) (o x : ℕ) (a b v : Bool) (n : ℕ) → x ≡ firstIn w o → a ≡ inputBit w x → b ≡ inputBit w (o - 1) → v ≡ gateBit (getD w o 0 - 65520) a b → n ≡ bitByte v
-    → set w (19072 + o) n ≡ stepIn w o
+pub step-is : (w : List ℕ) (o x : ℕ) (a b v : Bool) (n : ℕ) → x ≡ firstIn w o → a ≡ inputBit w x → b ≡ inputBit w (o - 1) → v ≡ gateBit (getD w o 0 - kindsFrom) a b → n ≡ bitByte v
+    → set w (bitsAt + o) n ≡ stepIn w o
 step-is w o x a b v n e f g h k = rw (k, h, f, g, e)
 
 -- ---- one of four
@@ -137,20 +144,20 @@ differ true false = refl
 differ false true = refl
 differ false false = refl
 
--- ---- loops over a memory that changes only from 19,072 on
+-- ---- loops over a memory of which only the marks and bits change
 
 pub loop-step : (f : ℕ → List ℕ → List ℕ) (u w v : List ℕ) (j n : ℕ) → j < n → Within u w → w ≡ takeTurns f j 0 u → v ≡ f j w → Within w (f j w)
     → (j + 1 ≤ n) × (Within u v × (v ≡ takeTurns f (j + 1) 0 u))
 loop-step f u w v j n h i q e k = (omega arith, (subst (λ (z : List ℕ). Within u z) (sym e) (within-then i k), e ∙ turns-next f j u w q))
 
-pub hold-within : (w : List ℕ) (j : ℕ) → Register w (getD w (8192 + j) 0) → Within w (holdOne j w)
-hold-within w j r = let l = r .low in within-set w (getD w (8192 + j) 0 - 1) _ (omega arith)
+pub hold-within : (w : List ℕ) (j : ℕ) → Register w (getD w (registersAt + j) 0) → Within w (holdOne j w)
+hold-within w j r = let l = r .low in within-set w (getD w (registersAt + j) 0 - 1) _ (omega arith)
 
-pub turn-within : (w : List ℕ) (j : ℕ) → Register w (getD w (8192 + j) 0) → Within w (turnOne j w)
-turn-within w j r = within-set w (getD w (8192 + j) 0) _ (r .low)
+pub turn-within : (w : List ℕ) (j : ℕ) → Register w (getD w (registersAt + j) 0) → Within w (turnOne j w)
+turn-within w j r = within-set w (getD w (registersAt + j) 0) _ (r .low)
 
-pub wake-within : (starts w : List ℕ) (j : ℕ) → Register w (getD w (8192 + j) 0) → Within w (wakeOne starts j w)
-wake-within starts w j r = within-set w (getD w (8192 + j) 0) _ (r .low)
+pub wake-within : (starts w : List ℕ) (j : ℕ) → Register w (getD w (registersAt + j) 0) → Within w (wakeOne starts j w)
+wake-within starts w j r = within-set w (getD w (registersAt + j) 0) _ (r .low)
 
-pub pass-within : (w : List ℕ) (j : ℕ) → Looks w (getD w (13824 + j) 0) → Within w (passOne j w)
-pass-within w j r = within-set w (getD w (13824 + j) 0) _ (r .low)
+pub pass-within : (w : List ℕ) (j : ℕ) → Looks w (getD w (orderAt + j) 0) → Within w (passOne j w)
+pass-within w j r = within-set w (getD w (orderAt + j) 0) _ (r .low)

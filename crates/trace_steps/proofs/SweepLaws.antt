@@ -1,26 +1,26 @@
 -- Laws of one sweep. Assumes nothing.
 use Prim.Native.Nat.{ℕ, zero, suc, _+_, _-_, _≤_, _<_}
 use mathlib.Core.Path.{_≡_, refl, sym, ap, _∙_, subst}
-use mathlib.Core.Logic.{_≢_}
 use mathlib.Core.Bool.{Bool, true, false, cond}
 use mathlib.Core.List.{List}
 use native.Mathlib.Omega.{arith}
 use native.Mathlib.Decide.{ℕ-discrete}
 use lib.ListN.{length, getD, set, length-set}
-use lib.Seq.{getD-set-same, getD-set-other}
+use lib.Seq.{getD-set-same}
 use lib.Dec.{eqb, ltb}
 use borrow.Author.Tests.{eq-eqb, ne-eqb}
+use Rattle.trace_steps.specs.Map.{restAt, orderAt, bitsAt, inverterEntry}
 use Rattle.trace_steps.specs.Turns.{takeTurns}
 use Rattle.trace_steps.specs.Steps.{Looks, firstIn, readyIn}
 use Rattle.trace_steps.specs.Sweeps.{settleAt, Sweep, sweeping, sweepAt, sweepOne, Sweepable, Sweeping, Swept, sweepAll, sweeps, Settling, AllSwept}
-use Rattle.trace_steps.proofs.Laws.{first-low, turns-next}
+use Rattle.trace_steps.proofs.Laws.{first-low, turns-next, set-other}
 
--- what an output looks at is told by the first 8,192 numbers
+-- what an output looks at is told by the table by terminal
 pub looks-table : {u w : List ℕ} → length w ≡ length u → ((x : ℕ) → x < 8192 → getD w x 0 ≡ getD u x 0) → {o : ℕ} → Looks u o → Looks w o
 looks-table {u} {w} s t {o} l =
     let h = l .low in
     let e = t o h in
-    let f : firstIn w o ≡ firstIn u o = ap (λ (k : ℕ). cond (ltb k 65525) (o - 2) (o - 1)) e in
+    let f : firstIn w o ≡ firstIn u o = ap (λ (k : ℕ). cond (ltb k inverterEntry) (o - 2) (o - 1)) e in
     let g = t (firstIn u o) (first-low u o h) in
     let q = ap (λ (k : ℕ). getD w k 0) f in
     let r = t (o - 1) (omega arith) in record {
@@ -33,10 +33,7 @@ looks-table {u} {w} s t {o} l =
       last = let z = l .last in omega arith;
     }
 
-other : (w : List ℕ) (i j v : ℕ) → (j ≡ i → ⊥) → getD (set w i v) j 0 ≡ getD w j 0
-other w i j v d = let ne : j ≢ i = d in getD-set-other w i j v 0 ne
-
-module _ (u : List ℕ) (total left j : ℕ) (w : List ℕ) (kept done o : ℕ) (p : Sweepable u total left) (h : j < left) (s : Sweeping u total left j w kept done) (q : o ≡ getD w (8192 + j) 0) where
+module _ (u : List ℕ) (total left j : ℕ) (w : List ℕ) (kept done o : ℕ) (p : Sweepable u total left) (h : j < left) (s : Sweeping u total left j w kept done) (q : o ≡ getD w (restAt + j) 0) where
   pub sweep-looks₀ : Looks u o
   sweep-looks₀ = subst (λ (x : ℕ). Looks u x) (sym (q ∙ s .rest j (omega arith) h)) (p .looks j h)
 
@@ -49,21 +46,21 @@ module _ (u : List ℕ) (total left j : ℕ) (w : List ℕ) (kept done o : ℕ) 
       let some = p .some in
       let sum = s .sum in
       let low = s .few in
-      let keeps : (x : ℕ) → x < 13824 → getD (settleAt w done o) x 0 ≡ getD w x 0
-      = λ x l. other (set w (13824 + done) o) (19072 + o) x 1 (λ z. omega arith) ∙ other w (13824 + done) x o (λ z. omega arith) in
+      let keeps : (x : ℕ) → x < orderAt → getD (settleAt w done o) x 0 ≡ getD w x 0
+      = λ x l. set-other (set w (orderAt + done) o) (bitsAt + o) x 1 (λ z. omega arith) ∙ set-other w (orderAt + done) x o (λ z. omega arith) in
       record {
-        size = length-set (set w (13824 + done) o) (19072 + o) 1 ∙ length-set w (13824 + done) o ∙ s .size;
+        size = length-set (set w (orderAt + done) o) (bitsAt + o) 1 ∙ length-set w (orderAt + done) o ∙ s .size;
         table = λ x l. keeps x (omega arith) ∙ s .table x l;
-        rest = λ i l m. keeps (8192 + i) (omega arith) ∙ s .rest i (omega arith) m;
-        looks = λ i l. subst (λ (x : ℕ). Looks u x) (sym (keeps (8192 + i) (omega arith))) (s .looks i l);
+        rest = λ i l m. keeps (restAt + i) (omega arith) ∙ s .rest i (omega arith) m;
+        looks = λ i l. subst (λ (x : ℕ). Looks u x) (sym (keeps (restAt + i) (omega arith))) (s .looks i l);
         sum = omega arith;
         few = omega arith;
         whole =
-            sym (ap (λ (b : Bool). cond b (sweeping (settleAt w done o) kept (done + 1)) (sweeping (set w (8192 + kept) o) (kept + 1) done)) e)
+            sym (ap (λ (b : Bool). cond b (sweeping (settleAt w done o) kept (done + 1)) (sweeping (set w (restAt + kept) o) (kept + 1) done)) e)
             ∙ ap (λ (x : ℕ). sweepAt x (sweeping w kept done)) q ∙ turns-next sweepOne j (sweeping u 0 (total - left)) (sweeping w kept done) (s .whole);
       }
 
-  pub sweep-no : readyIn w o ≡ false → Sweeping u total left (j + 1) (set w (8192 + kept) o) (kept + 1) done
+  pub sweep-no : readyIn w o ≡ false → Sweeping u total left (j + 1) (set w (restAt + kept) o) (kept + 1) done
   sweep-no e =
       let few = p .few in
       let some = p .some in
@@ -72,17 +69,17 @@ module _ (u : List ℕ) (total left j : ℕ) (w : List ℕ) (kept done o : ℕ) 
       let low = s .few in
       let same = s .size in
       record {
-        size = length-set w (8192 + kept) o ∙ s .size;
-        table = λ x l. other w (8192 + kept) x o (λ z. omega arith) ∙ s .table x l;
-        rest = λ i l m. other w (8192 + kept) (8192 + i) o (λ z. omega arith) ∙ s .rest i (omega arith) m;
+        size = length-set w (restAt + kept) o ∙ s .size;
+        table = λ x l. set-other w (restAt + kept) x o (λ z. omega arith) ∙ s .table x l;
+        rest = λ i l m. set-other w (restAt + kept) (restAt + i) o (λ z. omega arith) ∙ s .rest i (omega arith) m;
         looks = λ i l. elim (ℕ-discrete i kept) [
-          | yes z ↦ subst (λ (x : ℕ). Looks u x) (sym (ap (λ (k : ℕ). getD (set w (8192 + kept) o) (8192 + k) 0) z ∙ getD-set-same w (8192 + kept) o 0 (omega arith))) sweep-looks₀
-          | no d ↦ subst (λ (x : ℕ). Looks u x) (sym (other w (8192 + kept) (8192 + i) o (λ z. d (omega arith)))) (s .looks i (omega arith))
+          | yes z ↦ subst (λ (x : ℕ). Looks u x) (sym (ap (λ (k : ℕ). getD (set w (restAt + kept) o) (restAt + k) 0) z ∙ getD-set-same w (restAt + kept) o 0 (omega arith))) sweep-looks₀
+          | no d ↦ subst (λ (x : ℕ). Looks u x) (sym (set-other w (restAt + kept) (restAt + i) o (λ z. d (omega arith)))) (s .looks i (omega arith))
         ];
         sum = omega arith;
         few = omega arith;
         whole =
-            sym (ap (λ (b : Bool). cond b (sweeping (settleAt w done o) kept (done + 1)) (sweeping (set w (8192 + kept) o) (kept + 1) done)) e)
+            sym (ap (λ (b : Bool). cond b (sweeping (settleAt w done o) kept (done + 1)) (sweeping (set w (restAt + kept) o) (kept + 1) done)) e)
             ∙ ap (λ (x : ℕ). sweepAt x (sweeping w kept done)) q ∙ turns-next sweepOne j (sweeping u 0 (total - left)) (sweeping w kept done) (s .whole);
       }
 

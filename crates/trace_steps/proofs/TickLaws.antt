@@ -10,13 +10,14 @@ use lib.ListN.{length, getD}
 use lib.Dec.{eqb}
 use Rattle.lean.specs.Table.{Within}
 use Rattle.lean.proofs.TableLaws.{within-then}
+use Rattle.trace_steps.specs.Map.{pinsAt}
 use Rattle.trace_steps.specs.Turns.{takeTurns, Looped}
 use Rattle.trace_steps.specs.Steps.{Ordered, Registers, passOne, holdOne, turnOne}
-use Rattle.trace_steps.specs.Pins.{Counted, counted, pinIsIn, inPinCount, outPinCount, Pins, loadOne, storeOne, Loading, Storing}
+use Rattle.trace_steps.specs.Pins.{Counted, counted, pinIsIn, inPinCount, outPinCount, PinsLow, loadOne, storeOne, Loading, Storing}
 use Rattle.trace_steps.specs.Ticks.{Sizes, sizes, lighted, ticked, shownBits, Runs, Ticked, Running, running, tickOne, Ran}
 use Rattle.trace_steps.proofs.Laws.{looks-within, register-within, ordered-at, register-at, turns-next}
 
--- ---- what stays where nothing below 19,072 changes
+-- ---- what stays where nothing below the bits changes
 
 pub ordered-within : {u w : List ℕ} {n : ℕ} → Within u w → Ordered u n → Ordered w n
 ordered-within i o = record { size = let z = o .size in let s = i .size in omega arith; few = o .few; looks = λ j h. ordered-at i o j h }
@@ -24,11 +25,11 @@ ordered-within i o = record { size = let z = o .size in let s = i .size in omega
 pub registers-within : {u w : List ℕ} {n : ℕ} → Within u w → Registers u n → Registers w n
 registers-within i r = record { size = let z = r .size in let s = i .size in omega arith; few = r .few; each = λ j h. register-at i r j h }
 
-pub pins-within : {u w : List ℕ} {n : ℕ} → Within u w → Pins u n → Pins w n
+pub pins-within : {u w : List ℕ} {n : ℕ} → Within u w → PinsLow u n → PinsLow w n
 pins-within i p = record {
   size = let z = p .size in let s = i .size in omega arith;
   few = p .few;
-  low = λ k h. let f = p .few in subst (λ (x : ℕ). x / 2 < 8192) (sym (i .below (18944 + k) (omega arith))) (p .low k h);
+  low = λ k h. let f = p .few in subst (λ (x : ℕ). x / 2 < 8192) (sym (i .below (pinsAt + k) (omega arith))) (p .low k h);
 }
 
 pub runs-within : {u w : List ℕ} {s r p : ℕ} → Within u w → Runs u s r p → Runs w s r p
@@ -38,14 +39,14 @@ pub ins-within : (u w : List ℕ) → Within u w → (n : ℕ) → n ≤ 128 →
 ins-within u w i zero h = refl
 ins-within u w i (suc n) h =
     let r = ins-within u w i n (omega arith) in
-    let e = ap {B = ℕ} (λ (x : ℕ). cond (eqb (x % 2) 0) 1 0) (i .below (18944 + n) (omega arith)) in
+    let e = ap {B = ℕ} (λ (x : ℕ). cond (eqb (x % 2) 0) 1 0) (i .below (pinsAt + n) (omega arith)) in
     omega arith
 
 pub outs-within : (u w : List ℕ) → Within u w → (n : ℕ) → n ≤ 128 → outPinCount w n ≡ outPinCount u n
 outs-within u w i zero h = refl
 outs-within u w i (suc n) h =
     let r = outs-within u w i n (omega arith) in
-    let e = ap {B = ℕ} (λ (x : ℕ). cond (eqb (x % 2) 0) 0 1) (i .below (18944 + n) (omega arith)) in
+    let e = ap {B = ℕ} (λ (x : ℕ). cond (eqb (x % 2) 0) 0 1) (i .below (pinsAt + n) (omega arith)) in
     omega arith
 
 -- ---- a tick

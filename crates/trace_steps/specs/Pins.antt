@@ -1,12 +1,14 @@
--- The bits that are lent and written, over the working memory: from 18,944 the pins, an input i as 2 i and an output o as 2 o + 1. Assumes nothing.
+-- The bits that are lent and written, over the working memory (specs/Map says what stands where). Assumes nothing.
 use Prim.Native.Nat.{ℕ, zero, suc, _+_, _/_, _%_, _≤_, _<_}
 use mathlib.Core.Path.{_≡_}
 use mathlib.Core.Bool.{Bool, cond}
 use mathlib.Core.List.{List}
 use lib.ListN.{length, getD, set}
 use lib.Dec.{eqb}
+use Rattle.memory.specs.Map.{memorySize}
 use Rattle.trace_calculus.specs.Trace.{bitByte}
 use Rattle.lean.specs.Table.{Within}
+use Rattle.trace_steps.specs.Map.{registersAt, orderAt, pinsAt, bitsAt, registerEntry}
 use Rattle.trace_steps.specs.Turns.{takeTurns}
 use Rattle.trace_steps.specs.Steps.{lit, Register, Registers}
 
@@ -20,7 +22,7 @@ counted w n = record { mem = w; count = n }
 
 -- pin k is an input
 abbrev pub pinIsIn : List ℕ → ℕ → Bool
-pinIsIn w k = eqb (getD w (18944 + k) 0 % 2) 0
+pinIsIn w k = eqb (getD w (pinsAt + k) 0 % 2) 0
 
 -- how many of the first n pins are inputs, and how many are outputs
 abbrev pub inPinCount : List ℕ → ℕ → ℕ
@@ -32,22 +34,22 @@ outPinCount w zero = 0
 outPinCount w (suc n) = outPinCount w n + cond (pinIsIn w n) 0 1
 
 -- so many pins, with terminals below 8,192
-pub record Pins (w : List ℕ) (n : ℕ) : Type 0 where
-  pub size : 32768 ≤ length w
+pub record PinsLow (w : List ℕ) (n : ℕ) : Type 0 where
+  pub size : memorySize ≤ length w
   pub few : n ≤ 128
-  pub low : (k : ℕ) → k < n → getD w (18944 + k) 0 / 2 < 8192
+  pub low : (k : ℕ) → k < n → getD w (pinsAt + k) 0 / 2 < 8192
 
 -- an input pin gets the next bit
 abbrev pub loadOne : List ℕ → ℕ → Counted → Counted
-loadOne bits k s = cond (pinIsIn (s .mem) k) (counted (set (s .mem) (19072 + getD (s .mem) (18944 + k) 0 / 2) (getD bits (s .count) 0)) (s .count + 1)) s
+loadOne bits k s = cond (pinIsIn (s .mem) k) (counted (set (s .mem) (bitsAt + getD (s .mem) (pinsAt + k) 0 / 2) (getD bits (s .count) 0)) (s .count + 1)) s
 
 -- an output pin's bit is the next byte
 abbrev pub storeOne : List ℕ → ℕ → Counted → Counted
-storeOne w k s = cond (pinIsIn w k) s (counted (set (s .mem) (s .count) (bitByte (lit w (getD w (18944 + k) 0 / 2)))) (s .count + 1))
+storeOne w k s = cond (pinIsIn w k) s (counted (set (s .mem) (s .count) (bitByte (lit w (getD w (pinsAt + k) 0 / 2)))) (s .count + 1))
 
 -- the outputs of registers
 abbrev pub registerOne : ℕ → Counted → Counted
-registerOne x s = cond (eqb (getD (s .mem) x 0) 65521) (counted (set (s .mem) (8192 + s .count) x) (s .count + 1)) s
+registerOne x s = cond (eqb (getD (s .mem) x 0) registerEntry) (counted (set (s .mem) (registersAt + s .count) x) (s .count + 1)) s
 
 -- the first k input pins have their bits: what the memory is, and which byte is next
 pub record Loading (bits u : List ℕ) (from k : ℕ) (w : List ℕ) (at : ℕ) : Type 0 where
@@ -64,13 +66,13 @@ pub record Storing (w out₀ : List ℕ) (from k : ℕ) (out : List ℕ) (at : �
 -- ---- the registers' outputs, by rising number
 
 pub record Listable (w : List ℕ) (end : ℕ) : Type 0 where
-  pub size : 32768 ≤ length w
+  pub size : memorySize ≤ length w
   pub few : end ≤ 8192
-  pub register : (x : ℕ) → x < end → getD w x 0 ≡ 65521 → Register w x
+  pub register : (x : ℕ) → x < end → getD w x 0 ≡ registerEntry → Register w x
 
 pub record RegistersListed (u : List ℕ) (end : ℕ) (w : List ℕ) (n : ℕ) : Type 0 where
   pub size : length w ≡ length u
   pub table : (x : ℕ) → x < 8192 → getD w x 0 ≡ getD u x 0
-  pub above : (j : ℕ) → 13824 ≤ j → getD w j 0 ≡ getD u j 0
+  pub above : (j : ℕ) → orderAt ≤ j → getD w j 0 ≡ getD u j 0
   pub registers : Registers w n
   pub whole : counted w n ≡ takeTurns registerOne end 0 (counted u 0)

@@ -1,17 +1,18 @@
--- One sweep over the outputs that are not settled, over the working memory: they stand from 8,192 on, those settled from 13,824 on, and the
--- marks from 19,072 on. Assumes nothing.
+-- Sweeps over the outputs that are not settled, over the working memory (specs/Map says what stands where). Assumes nothing.
 use Prim.Native.Nat.{ℕ, zero, suc, _+_, _-_, _≤_, _<_}
 use mathlib.Core.Path.{_≡_}
 use mathlib.Core.Bool.{cond}
 use mathlib.Core.List.{List}
 use lib.ListN.{length, getD, set}
 use lib.Dec.{eqb}
+use Rattle.memory.specs.Map.{memorySize}
+use Rattle.trace_steps.specs.Map.{restAt, orderAt, bitsAt}
 use Rattle.trace_steps.specs.Turns.{takeTurns}
 use Rattle.trace_steps.specs.Steps.{Looks, readyIn}
 
 -- output o is settled, the next of the order
 abbrev pub settleAt : List ℕ → ℕ → ℕ → List ℕ
-settleAt w done o = set (set w (13824 + done) o) (19072 + o) 1
+settleAt w done o = set (set w (orderAt + done) o) (bitsAt + o) 1
 
 pub record Sweep : Type 0 where
   pub mem : List ℕ
@@ -23,23 +24,23 @@ sweeping w k d = record { mem = w; kept = k; done = d }
 
 -- the j-th of those left: it is settled where it is ready, and stays where not
 abbrev pub sweepAt : ℕ → Sweep → Sweep
-sweepAt o s = cond (readyIn (s .mem) o) (sweeping (settleAt (s .mem) (s .done) o) (s .kept) (s .done + 1)) (sweeping (set (s .mem) (8192 + s .kept) o) (s .kept + 1) (s .done))
+sweepAt o s = cond (readyIn (s .mem) o) (sweeping (settleAt (s .mem) (s .done) o) (s .kept) (s .done + 1)) (sweeping (set (s .mem) (restAt + s .kept) o) (s .kept + 1) (s .done))
 
 abbrev pub sweepOne : ℕ → Sweep → Sweep
-sweepOne j s = sweepAt (getD (s .mem) (8192 + j) 0) s
+sweepOne j s = sweepAt (getD (s .mem) (restAt + j) 0) s
 
 pub record Sweepable (w : List ℕ) (total left : ℕ) : Type 0 where
-  pub size : 32768 ≤ length w
+  pub size : memorySize ≤ length w
   pub few : total ≤ 5120
   pub some : left ≤ total
-  pub looks : (j : ℕ) → j < left → Looks w (getD w (8192 + j) 0)
+  pub looks : (j : ℕ) → j < left → Looks w (getD w (restAt + j) 0)
 
 -- j of those left are looked at
 pub record Sweeping (u : List ℕ) (total left j : ℕ) (w : List ℕ) (kept done : ℕ) : Type 0 where
   pub size : length w ≡ length u
   pub table : (x : ℕ) → x < 8192 → getD w x 0 ≡ getD u x 0
-  pub rest : (i : ℕ) → j ≤ i → i < left → getD w (8192 + i) 0 ≡ getD u (8192 + i) 0
-  pub looks : (i : ℕ) → i < kept → Looks u (getD w (8192 + i) 0)
+  pub rest : (i : ℕ) → j ≤ i → i < left → getD w (restAt + i) 0 ≡ getD u (restAt + i) 0
+  pub looks : (i : ℕ) → i < kept → Looks u (getD w (restAt + i) 0)
   pub sum : kept + done + left ≡ total + j
   pub few : kept ≤ j
   pub whole : sweeping w kept done ≡ takeTurns sweepOne j 0 (sweeping u 0 (total - left))

@@ -5,9 +5,10 @@ use mathlib.Core.List.{List}
 use mathlib.Core.Bool.{Bool}
 use lib.ListN.{length, getD}
 use Rattle.lean.specs.Table.{Within}
+use Rattle.trace_steps.specs.Map.{orderAt, bitsAt, kindsFrom}
 use Rattle.trace_steps.specs.Turns.{takeTurns}
 use Rattle.trace_steps.specs.Steps.{lit, firstIn, gateBit, Ordered, Registers, passOne, holdOne, turnOne}
-use Rattle.trace_steps.specs.Pins.{Counted, counted, Pins, inPinCount, outPinCount, loadOne, storeOne}
+use Rattle.trace_steps.specs.Pins.{Counted, counted, PinsLow, inPinCount, outPinCount, loadOne, storeOne}
 
 -- how many outputs the order has, how many registers and pins there are
 pub record Sizes : Type 0 where
@@ -34,7 +35,7 @@ shownBits z bits from to w out = takeTurns (storeOne (lighted z bits from w)) (z
 pub record Runs (w : List ℕ) (s r p : ℕ) : Type 0 where
   pub order : Ordered w s
   pub registers : Registers w r
-  pub pins : Pins w p
+  pub pins : PinsLow w p
 
 -- after a tick
 pub record Ticked (z : Sizes) (bits : List ℕ) (from to : ℕ) (u out₀ w out : List ℕ) : Type 0 where
@@ -72,16 +73,16 @@ pub record TraceFits (w : List ℕ) (a b p i o n : ℕ) : Type 0 where
 
 pub record InOrder (w : List ℕ) (n : ℕ) : Type 0 where
   pub ordered : Ordered w n
-  pub apart : (i j : ℕ) → i < n → j < n → getD w (13824 + i) 0 ≡ getD w (13824 + j) 0 → i ≡ j
-  pub first : (j i : ℕ) → j ≤ i → i < n → getD w (firstIn w (getD w (13824 + j) 0)) 0 ≡ getD w (13824 + i) 0 → ⊥
-  pub last : (j i : ℕ) → j ≤ i → i < n → getD w (getD w (13824 + j) 0 - 1) 0 ≡ getD w (13824 + i) 0 → ⊥
+  pub apart : (i j : ℕ) → i < n → j < n → getD w (orderAt + i) 0 ≡ getD w (orderAt + j) 0 → i ≡ j
+  pub first : (j i : ℕ) → j ≤ i → i < n → getD w (firstIn w (getD w (orderAt + j) 0)) 0 ≡ getD w (orderAt + i) 0 → ⊥
+  pub last : (j i : ℕ) → j ≤ i → i < n → getD w (getD w (orderAt + j) 0 - 1) 0 ≡ getD w (orderAt + i) 0 → ⊥
 
 -- the bit that output o has to have, over the bits in v
 abbrev pub due : List ℕ → List ℕ → ℕ → Bool
-due w v o = gateBit (getD w o 0 - 65520) (lit v (getD w (firstIn w o) 0)) (lit v (getD w (o - 1) 0))
+due w v o = gateBit (getD w o 0 - kindsFrom) (lit v (getD w (firstIn w o) 0)) (lit v (getD w (o - 1) 0))
 
 -- every output of the order agrees with what it looks at; all other bits are as they were
 pub record OrderAgrees (w : List ℕ) (n : ℕ) (v : List ℕ) : Type 0 where
   pub within : Within w v
-  pub bits : (j : ℕ) → j < n → lit v (getD w (13824 + j) 0) ≡ due w v (getD w (13824 + j) 0)
-  pub others : (x : ℕ) → ((j : ℕ) → j < n → getD w (13824 + j) 0 ≡ x → ⊥) → getD v (19072 + x) 0 ≡ getD w (19072 + x) 0
+  pub bits : (j : ℕ) → j < n → lit v (getD w (orderAt + j) 0) ≡ due w v (getD w (orderAt + j) 0)
+  pub others : (x : ℕ) → ((j : ℕ) → j < n → getD w (orderAt + j) 0 ≡ x → ⊥) → getD v (bitsAt + x) 0 ≡ getD w (bitsAt + x) 0

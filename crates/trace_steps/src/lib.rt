@@ -1,4 +1,4 @@
-// The steps of a run in the working memory: the table by terminal, sweeps, pins and ticks. What stands where is said in the crate `trace`.
+// The steps of a run in the working memory: the table by terminal, sweeps, pins and ticks. What stands where is said in specs/Map.
 pub mod links;
 pub mod names;
 pub mod order;

@@ -1,22 +1,25 @@
 // The table by terminal, made of the drivers and the roots; the pins by their roots.
+use crate::table::KIND;
+use crate::table::PINS;
 use memory::NONE;
 use memory::ROOTS;
-use memory::STACK;
 ghost use mathlib.Core.Path.{_≡_};
 ghost use Prim.Native.Nat.{_+_, _/_, _≤_, _<_};
 ghost use lib.ListN.{length, getD};
+ghost use Rattle.memory.specs.Map.{rootsAt, memorySize};
+ghost use Rattle.trace_steps.specs.Map.{kindsFrom};
 ghost use Rattle.trace_steps.specs.Links.{linkIn, Linkable, Linked, rootedIn, Rootable, Pinned};
 
 // The entry of terminal x: of an input the root of the output that drives it, or the input itself; an output's stays.
 fn source_of(work: &[u16], x: usize) -> u16
-    requires { ⌜ (32768 ≤ length (now work)) × ((x < 8192) × (getD (now work) x 0 < 65520 → getD (now work) x 0 < 8192)) ⌝ }
+    requires { ⌜ (memorySize ≤ length (now work)) × ((x < 8192) × (getD (now work) x 0 < kindsFrom → getD (now work) x 0 < 8192)) ⌝ }
     ensures { λ r. ⌜ r ≡ linkIn (now (work .entry)) x ⌝ }
 {
     let d = work[x];
     if d == NONE {
         return x as u16;
     }
-    if d < 65520 {
+    if d < KIND {
         return work[ROOTS + d as usize];
     }
     d
@@ -35,7 +38,7 @@ pub fn link(work: &mut [u16], end: usize)
 
 // A pin's code, an output's root in its place.
 fn rooted(work: &[u16], code: u16) -> u16
-    requires { ⌜ (32768 ≤ length (now work)) × ((code / 2 < 8192) × (getD (now work) (19072 + code / 2) 0 < 8192)) ⌝ }
+    requires { ⌜ (memorySize ≤ length (now work)) × ((code / 2 < 8192) × (getD (now work) (rootsAt + code / 2) 0 < 8192)) ⌝ }
     ensures { λ r. ⌜ r ≡ rootedIn (now (work .entry)) code ⌝ }
 {
     if code % 2 == 0 {
@@ -50,8 +53,8 @@ pub fn root_pins(work: &mut [u16], pins: usize)
 {
     let mut k: usize = 0;
     while k < pins {
-        let code = work[STACK + k];
-        work[STACK + k] = rooted(&work[..], code);
+        let code = work[PINS + k];
+        work[PINS + k] = rooted(&work[..], code);
         k = k + 1;
     }
 }

@@ -1,32 +1,36 @@
 // What is settled, and what is ready to be.
 use crate::table;
-use memory::ELEMENTS;
-use memory::ROOTS;
-use memory::TARGETS;
+use crate::table::BITS;
+use crate::table::ORDER;
+use crate::table::REST;
 ghost use mathlib.Core.Path.{_≡_};
 ghost use Prim.Native.Nat.{_+_, _≤_, _<_};
 ghost use lib.ListN.{length, getD, set};
+ghost use Rattle.memory.specs.Map.{memorySize};
+ghost use Rattle.trace_steps.specs.Map.{restAt};
 ghost use Rattle.trace_steps.specs.Steps.{Looks, readyIn, freeIn, markOne};
 ghost use Rattle.trace_steps.specs.Turns.{Looped};
 ghost use Rattle.trace_steps.specs.Sweeps.{settleAt, Sweepable, Swept, AllSwept};
 
 // What looks at nothing is settled from the start: pins, registers, zero and one.
 fn free(work: &[u16], x: usize) -> bool
-    requires { ⌜ (32768 ≤ length (now work)) × (x < 8192) ⌝ }
+    requires { ⌜ (memorySize ≤ length (now work)) × (x < 8192) ⌝ }
     ensures { λ r. ⌜ r ≡ freeIn (now (work .entry)) x ⌝ }
 {
     let entry = work[x];
-    entry as usize == x || (entry == 65520 || (entry == 65521 || entry == 65526))
+    entry as usize == x
+        || (entry == table::ZERO_ENTRY
+            || (entry == table::REGISTER_ENTRY || entry == table::ONE_ENTRY))
 }
 
 pub fn mark_free(work: &mut [u16], end: usize)
-    requires { ⌜ (32768 ≤ length (now work)) × (end ≤ 8192) ⌝ }
+    requires { ⌜ (memorySize ≤ length (now work)) × (end ≤ 8192) ⌝ }
     ensures { λ _. ⌜ Looped markOne end (now (work .entry)) (now (work .exit)) ⌝ }
 {
     let mut x: usize = 0;
     while x < end {
         let f = free(&work[..], x);
-        work[ROOTS + x] = table::byte(f);
+        work[BITS + x] = table::byte(f);
         x = x + 1;
     }
 }
@@ -44,19 +48,19 @@ fn ready(work: &[u16], o: usize) -> bool
 
 // Output o is settled: it goes to the order, and gets its mark.
 fn settle_one(work: &mut [u16], o: usize, done: usize)
-    requires { ⌜ (32768 ≤ length (now work)) × ((o < 8192) × (done < 5120)) ⌝ }
+    requires { ⌜ (memorySize ≤ length (now work)) × ((o < 8192) × (done < 5120)) ⌝ }
     ensures { λ _. ⌜ now (work .exit) ≡ settleAt (now (work .entry)) done o ⌝ }
 {
-    work[ELEMENTS + done] = o as u16;
-    work[ROOTS + o] = 1;
+    work[ORDER + done] = o as u16;
+    work[BITS + o] = 1;
 }
 
 // Output o stays.
 fn keep_one(work: &mut [u16], o: usize, kept: usize)
-    requires { ⌜ (32768 ≤ length (now work)) × ((o < 8192) × (kept < 5120)) ⌝ }
-    ensures { λ _. ⌜ now (work .exit) ≡ set (now (work .entry)) (8192 + kept) o ⌝ }
+    requires { ⌜ (memorySize ≤ length (now work)) × ((o < 8192) × (kept < 5120)) ⌝ }
+    ensures { λ _. ⌜ now (work .exit) ≡ set (now (work .entry)) (restAt + kept) o ⌝ }
 {
-    work[TARGETS + kept] = o as u16;
+    work[REST + kept] = o as u16;
 }
 
 // One sweep over those left: what is ready goes to the order, the others stay; how many stay.
@@ -68,7 +72,7 @@ fn sweep(work: &mut [u16], total: usize, left: usize) -> usize
     let mut kept: usize = 0;
     let mut j: usize = 0;
     while j < left {
-        let o = table::at(&work[..], TARGETS + j);
+        let o = table::at(&work[..], REST + j);
         if ready(&work[..], o) {
             settle_one(work, o, done);
             done = done + 1;

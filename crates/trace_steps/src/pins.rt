@@ -1,23 +1,25 @@
 // The bits of the pins, one byte a bit.
 use crate::table;
-use memory::ROOTS;
-use memory::STACK;
+use crate::table::BITS;
+use crate::table::PINS;
 ghost use mathlib.Core.Path.{_≡_};
 ghost use Prim.Native.Nat.{_+_, _≤_, _<_};
 ghost use lib.ListN.{length, getD, set};
+ghost use Rattle.memory.specs.Map.{memorySize};
 ghost use Rattle.trace_calculus.specs.Trace.{bitByte as bit, allBits};
+ghost use Rattle.trace_steps.specs.Map.{bitsAt};
 ghost use Rattle.trace_steps.specs.Steps.{lit};
-ghost use Rattle.trace_steps.specs.Pins.{inPinCount, outPinCount, Pins, Loading, Storing};
+ghost use Rattle.trace_steps.specs.Pins.{inPinCount, outPinCount, PinsLow, Loading, Storing};
 
 // How many pins are inputs.
 pub fn input_pins(work: &[u16], pins: usize) -> usize
-    requires { ⌜ Pins (now work) pins ⌝ }
+    requires { ⌜ PinsLow (now work) pins ⌝ }
     ensures { λ r. ⌜ r ≡ inPinCount (now (work .entry)) pins ⌝ }
 {
     let mut n: usize = 0;
     let mut k: usize = 0;
     while k < pins {
-        if table::at(work, STACK + k) % 2 == 0 {
+        if table::at(work, PINS + k) % 2 == 0 {
             n = n + 1;
         }
         k = k + 1;
@@ -41,21 +43,21 @@ pub fn all_bits(bytes: &[u8]) -> bool
 
 // Terminal x gets this bit.
 fn put(work: &mut [u16], x: usize, b: u8)
-    requires { ⌜ (32768 ≤ length (now work)) × (x < 8192) ⌝ }
-    ensures { λ _. ⌜ now (work .exit) ≡ set (now (work .entry)) (19072 + x) b ⌝ }
+    requires { ⌜ (memorySize ≤ length (now work)) × (x < 8192) ⌝ }
+    ensures { λ _. ⌜ now (work .exit) ≡ set (now (work .entry)) (bitsAt + x) b ⌝ }
 {
-    work[ROOTS + x] = b as u16;
+    work[BITS + x] = b as u16;
 }
 
 // The input pins' bits of a tick, from byte `from` on; the next byte.
 pub fn load(work: &mut [u16], inputs: &[u8], pins: usize, from: usize) -> usize
-    requires { ⌜ (Pins (now work) pins) × (from + inPinCount (now work) pins ≤ length (now inputs)) ⌝ }
+    requires { ⌜ (PinsLow (now work) pins) × (from + inPinCount (now work) pins ≤ length (now inputs)) ⌝ }
     ensures { λ r. ⌜ Loading (now (inputs .entry)) (now (work .entry)) from pins (now (work .exit)) r ⌝ }
 {
     let mut at = from;
     let mut k: usize = 0;
     while k < pins {
-        let code = table::at(&work[..], STACK + k);
+        let code = table::at(&work[..], PINS + k);
         if code % 2 == 0 {
             put(work, code / 2, inputs[at]);
             at = at + 1;
@@ -67,21 +69,21 @@ pub fn load(work: &mut [u16], inputs: &[u8], pins: usize, from: usize) -> usize
 
 // The bit of terminal x.
 fn bit_of(work: &[u16], x: usize) -> u8
-    requires { ⌜ (32768 ≤ length (now work)) × (x < 8192) ⌝ }
+    requires { ⌜ (memorySize ≤ length (now work)) × (x < 8192) ⌝ }
     ensures { λ r. ⌜ r ≡ bit (lit (now (work .entry)) x) ⌝ }
 {
-    if work[ROOTS + x] == 1 { 1 } else { 0 }
+    if work[BITS + x] == 1 { 1 } else { 0 }
 }
 
 // The output pins' bits of a tick, from byte `from` on; the next byte.
 pub fn store(work: &[u16], out: &mut [u8], pins: usize, from: usize) -> usize
-    requires { ⌜ (Pins (now work) pins) × (from + outPinCount (now work) pins ≤ length (now out)) ⌝ }
+    requires { ⌜ (PinsLow (now work) pins) × (from + outPinCount (now work) pins ≤ length (now out)) ⌝ }
     ensures { λ r. ⌜ Storing (now (work .entry)) (now (out .entry)) from pins (now (out .exit)) r ⌝ }
 {
     let mut at = from;
     let mut k: usize = 0;
     while k < pins {
-        let code = table::at(work, STACK + k);
+        let code = table::at(work, PINS + k);
         if code % 2 != 0 {
             out[at] = bit_of(work, code / 2);
             at = at + 1;

@@ -1,13 +1,14 @@
 // The run, tick after tick, over the order. By terminal its bit.
 use crate::pins;
 use crate::table;
+use crate::table::BITS;
 use crate::table::KIND;
-use memory::ELEMENTS;
-use memory::ROOTS;
-use memory::TARGETS;
+use crate::table::ORDER;
+use crate::table::REGISTERS;
 ghost use mathlib.Core.Path.{_≡_};
 ghost use Prim.Native.Nat.{_+_, _≤_, _<_};
 ghost use lib.ListN.{length, getD};
+ghost use Rattle.memory.specs.Map.{memorySize};
 ghost use Rattle.trace_steps.specs.Steps.{Looks, gateBit, stepIn, Ordered, passOne, Register, Registers, holdAt, turnAt, wakeOne, holdOne, turnOne, beginOne};
 ghost use Rattle.trace_steps.specs.Turns.{Looped};
 ghost use Rattle.trace_steps.specs.Pins.{inPinCount, outPinCount, Listable, RegistersListed};
@@ -15,12 +16,12 @@ ghost use Rattle.trace_steps.specs.Ticks.{sizes, Runs, Ticked, TraceFits
 
 // Every bit is 0, but that of a part one.
 pub fn begin(work: &mut [u16], end: usize)
-    requires { ⌜ (32768 ≤ length (now work)) × (end ≤ 8192) ⌝ }
+    requires { ⌜ (memorySize ≤ length (now work)) × (end ≤ 8192) ⌝ }
     ensures { λ _. ⌜ Looped beginOne end (now (work .entry)) (now (work .exit)) ⌝ }
 {
     let mut x: usize = 0;
     while x < end {
-        work[ROOTS + x] = table::byte(table::at(&work[..], x) == 65526);
+        work[BITS + x] = table::byte(work[x] == table::ONE_ENTRY);
         x = x + 1;
     }
 }
@@ -32,8 +33,8 @@ pub fn wake(work: &mut [u16], starts: &[u8], regs: usize)
 {
     let mut j: usize = 0;
     while j < regs {
-        let o = table::at(&work[..], TARGETS + j);
-        work[ROOTS + o] = starts[j] as u16;
+        let o = table::at(&work[..], REGISTERS + j);
+        work[BITS + o] = starts[j] as u16;
         j = j + 1;
     }
 }
@@ -66,7 +67,7 @@ fn step(work: &mut [u16], o: usize)
     let x = table::first_of(&work[..], o);
     let a = table::is_fed(&work[..], x);
     let b = table::is_fed(&work[..], o - 1);
-    work[ROOTS + o] = table::byte(value(kind, a, b));
+    work[BITS + o] = table::byte(value(kind, a, b));
 }
 
 fn pass(work: &mut [u16], settled: usize)
@@ -75,7 +76,7 @@ fn pass(work: &mut [u16], settled: usize)
 {
     let mut j: usize = 0;
     while j < settled {
-        let o = table::at(&work[..], ELEMENTS + j);
+        let o = table::at(&work[..], ORDER + j);
         step(work, o);
         j = j + 1;
     }
@@ -83,19 +84,19 @@ fn pass(work: &mut [u16], settled: usize)
 
 // The input terminal of the register with output o gets its bit.
 fn hold_one(work: &mut [u16], o: usize)
-    requires { ⌜ (32768 ≤ length (now work)) × Register (now work) o ⌝ }
+    requires { ⌜ (memorySize ≤ length (now work)) × Register (now work) o ⌝ }
     ensures { λ _. ⌜ now (work .exit) ≡ holdAt (now (work .entry)) o ⌝ }
 {
     let y = table::at(&work[..], o - 1);
-    work[ROOTS + (o - 1)] = work[ROOTS + y];
+    work[BITS + (o - 1)] = work[BITS + y];
 }
 
 // Its output gets that of its input terminal.
 fn turn_one(work: &mut [u16], o: usize)
-    requires { ⌜ (32768 ≤ length (now work)) × Register (now work) o ⌝ }
+    requires { ⌜ (memorySize ≤ length (now work)) × Register (now work) o ⌝ }
     ensures { λ _. ⌜ now (work .exit) ≡ turnAt (now (work .entry)) o ⌝ }
 {
-    work[ROOTS + o] = work[ROOTS + (o - 1)];
+    work[BITS + o] = work[BITS + (o - 1)];
 }
 
 // Each register's input terminal gets its bit ..
@@ -105,7 +106,7 @@ fn hold(work: &mut [u16], regs: usize)
 {
     let mut j: usize = 0;
     while j < regs {
-        let o = table::at(&work[..], TARGETS + j);
+        let o = table::at(&work[..], REGISTERS + j);
         hold_one(work, o);
         j = j + 1;
     }
@@ -118,7 +119,7 @@ fn turn(work: &mut [u16], regs: usize)
 {
     let mut j: usize = 0;
     while j < regs {
-        let o = table::at(&work[..], TARGETS + j);
+        let o = table::at(&work[..], REGISTERS + j);
         turn_one(work, o);
         j = j + 1;
     }
@@ -179,8 +180,8 @@ pub fn registers(work: &mut [u16], end: usize) -> usize
     let mut n: usize = 0;
     let mut x: usize = 0;
     while x < end {
-        if work[x] == 65521 {
-            work[TARGETS + n] = x as u16;
+        if work[x] == table::REGISTER_ENTRY {
+            work[REGISTERS + n] = x as u16;
             n = n + 1;
         }
         x = x + 1;

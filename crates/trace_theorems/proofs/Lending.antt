@@ -21,7 +21,8 @@ use Rattle.circuit_theorems.specs.Formed.{Rising, Formed}
 use Rattle.circuit_theorems.proofs.Wiring.{input-once}
 use Rattle.trace_calculus.specs.Trace.{StartsWith, Has, inPins, registers, place, givenBits, startBits, bitByte, row, rows}
 use Rattle.trace_calculus.specs.Promise.{registerOutputs, Recorded, ExactBits}
-use Rattle.trace_theorems.proofs.Lists.{has-at, Once, place-at, at-place, Up, up-weaken, up-once}
+use Rattle.trace_calculus.proofs.Bytes.{byte-bit}
+use Rattle.trace_theorems.proofs.Lists.{has-at, Once, place-at, at-place, Up, up-weaken, up-once, up-rises, up-next}
 use Rattle.trace_theorems.proofs.Sources.{all-in, in-all}
 
 -- ---- rows of bits
@@ -55,10 +56,6 @@ rows-from β os a (suc n) (suc t) k l h =
 
 pub rows-at : (β : Bits) (os : List ℕ) (n t k : ℕ) → t < n → k < length os → getD (rows β os 0 n) (t * length os + k) 0 ≡ bitByte (β (getD os k 0) t)
 rows-at β os n t k l h = let z : 0 + t ≡ t = omega arith in rows-from β os 0 n t k l h ∙ ap (λ (j : ℕ). bitByte (β (getD os k 0) j)) z
-
-byte-bit : (b : Bool) → eqb (bitByte b) 1 ≡ b
-byte-bit true = refl
-byte-bit false = refl
 
 bit-byte : (v : ℕ) → v ≤ 1 → bitByte (eqb v 1) ≡ v
 bit-byte zero h = refl
@@ -98,6 +95,13 @@ registers-up (part p j ∷ es) n e r = by (eqb p 1) (registers-up es (j + partAt
     by : (b : Bool) → Up (registers es) (j + partAt p .inputs + 1) → Up (cond b (j ∷ registers es) (registers es)) n
     by true u = (r .0, up-weaken (registers es) (j + partAt p .inputs + 1) (j + 1) (omega arith) u)
     by false u = up-weaken (registers es) (j + partAt p .inputs + 1) n (let l = r .0 in omega arith) u
+
+-- "a start bit for each register by rising terminal" (document 02, L4): no two stand the wrong way round, nor do their outputs
+pub registers-rise : (m : Net) → Formed m → (j k : ℕ) → j < k → k < length (registers (m .elements)) → getD (registers (m .elements)) j 0 < getD (registers (m .elements)) k 0
+registers-rise m ok = up-rises (registers (m .elements)) 0 (registers-up (m .elements) 0 (ok .end) (ok .rising))
+
+pub outputs-rise : (m : Net) → Formed m → (j k : ℕ) → j < k → k < length (registerOutputs m) → getD (registerOutputs m) j 0 < getD (registerOutputs m) k 0
+outputs-rise m ok = up-rises (registerOutputs m) 1 (up-next (registers (m .elements)) 0 (registers-up (m .elements) 0 (ok .end) (ok .rising)))
 
 -- the outputs of those at xs
 outputs-at : (β : Bits) (t : ℕ) (xs : List ℕ) (k : ℕ) → k < length xs → getD (row β t (map (λ i. i + 1) xs)) k 0 ≡ bitByte (β (getD xs k 0 + 1) t)

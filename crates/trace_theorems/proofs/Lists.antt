@@ -2,7 +2,7 @@
 use Prim.Native.Nat.{ℕ, zero, suc, _+_, _≤_, _<_}
 use mathlib.Core.Path.{_≡_, refl, sym, ap, subst}
 use mathlib.Core.Bool.{Bool, true, false, cond, _||_}
-use mathlib.Core.List.{List, [], _∷_, _++_}
+use mathlib.Core.List.{List, [], _∷_, _++_, map}
 use native.Mathlib.Omega.{arith}
 use native.Mathlib.Nat.{not-suc-le-zero, le-of-suc-le-suc}
 use lib.Dec.{T, eqb, eqb→eq, eqb-refl}
@@ -68,3 +68,19 @@ up-weaken (x ∷ is) a n l u = (omega (arith, u .0), u .1)
 pub up-once : (is : List ℕ) (n : ℕ) → Up is n → Once is
 up-once [] n u = tt
 up-once (i ∷ is) n u = ((λ t. let l = up-low is (i + 1) i (u .1) t in omega arith), up-once is (i + 1) (u .1))
+
+up-at : (is : List ℕ) (n k : ℕ) → Up is n → k < length is → n ≤ getD is k 0
+up-at [] n k u h = absurd (not-suc-le-zero h)
+up-at (i ∷ is) n zero u h = u .0
+up-at (i ∷ is) n (suc k) u h = omega (arith, u .0, up-at is (i + 1) k (u .1) (le-of-suc-le-suc h))
+
+-- a later one is above an earlier one
+pub up-rises : (is : List ℕ) (n : ℕ) → Up is n → (j k : ℕ) → j < k → k < length is → getD is j 0 < getD is k 0
+up-rises [] n u j k l h = absurd (not-suc-le-zero h)
+up-rises (i ∷ is) n u j zero l h = absurd (not-suc-le-zero l)
+up-rises (i ∷ is) n u zero (suc k) l h = omega (arith, up-at is (i + 1) k (u .1) (le-of-suc-le-suc h))
+up-rises (i ∷ is) n u (suc j) (suc k) l h = up-rises is (i + 1) (u .1) j k (le-of-suc-le-suc l) (le-of-suc-le-suc h)
+
+pub up-next : (is : List ℕ) (n : ℕ) → Up is n → Up (map (λ i. i + 1) is) (n + 1)
+up-next [] n u = tt
+up-next (i ∷ is) n u = (omega (arith, u .0), up-next is (i + 1) (u .1))

@@ -14,7 +14,7 @@ use Rattle.calculus.specs.Terms.{partAt}
 use Rattle.calculus.specs.Net.{Terminal, inp, out, Interface, Element, point, part, Wire, Net, partSide}
 use Rattle.calculus.specs.Lean.{driver, isPin}
 use Rattle.calculus.specs.Record.{All, Among, here, there}
-use Rattle.trace_calculus.specs.Trace.{Source, pin, from, made-part as made-by, sourceIn, source, looks, before, upFrom, terminals, inputs}
+use Rattle.trace_calculus.specs.Trace.{Source, pin, from, made-part as made-by, sourceAmong, source, looks, before, upFrom, terminals, inputs}
 use Rattle.calculus.specs.Inputs.{tally, ins, madeAt, targets, isOut, hasWire}
 use Rattle.circuit_theorems.specs.Terminals.{has}
 use Rattle.circuit_theorems.specs.Formed.{Rising, Formed}
@@ -44,14 +44,14 @@ behind e f (other h) = other (λ t. h (f t))
 behind e f (of-point i h q) = of-point i (there h) q
 behind e f (of-part p i h q) = of-part p i (there h) q
 
-pub view : (es : List Element) (d : Source) (x : ℕ) → View es d x (sourceIn es d x)
+pub view : (es : List Element) (d : Source) (x : ℕ) → View es d x (sourceAmong es d x)
 view [] d x = other (λ t. t)
 view (point i ∷ es) d x =
-    by-eqb (λ b. (b ≡ eqb (i + 1) x) → View (point i ∷ es) d x (cond b (from i) (sourceIn es d x))) (i + 1) x
+    by-eqb (λ b. (b ≡ eqb (i + 1) x) → View (point i ∷ es) d x (cond b (from i) (sourceAmong es d x))) (i + 1) x
     (λ e _. of-point i here e)
     (λ n q. behind (point i) (λ t. subst (λ (b : Bool). T (b || isOut es x)) (sym q) t) (view es d x)) refl
 view (part p i ∷ es) d x =
-    by-eqb (λ b. (b ≡ eqb (i + partAt p .inputs) x) → View (part p i ∷ es) d x (cond b (made-by p i) (sourceIn es d x))) (i + partAt p .inputs) x
+    by-eqb (λ b. (b ≡ eqb (i + partAt p .inputs) x) → View (part p i ∷ es) d x (cond b (made-by p i) (sourceAmong es d x))) (i + partAt p .inputs) x
     (λ e _. of-part p i here e)
     (λ n q. behind (part p i) (λ t. subst (λ (b : Bool). T (b || isOut es x)) (sym q) t) (view es d x)) refl
 
@@ -66,19 +66,19 @@ part-from {es} n e (there {y = point j} h) r = let l = part-from (j + 2) e h (r 
 part-from {es} n e (there {y = part p j} h) r = let l = part-from (j + partAt p .inputs + 1) e h (r .1) in omega (arith, r .0)
 
 -- in a rising list each output is found at its own element
-pub point-source : {es : List Element} {i : ℕ} (n e : ℕ) (d : Source) → Among (point i) es → Rising es n e → sourceIn es d (i + 1) ≡ from i
-point-source {i = i} n e d (here {xs = es}) r = by-eqb (λ b. cond b (from i) (sourceIn es d (i + 1)) ≡ from i) (i + 1) (i + 1) (λ e. refl) (λ f. absurd (f refl))
+pub point-source : {es : List Element} {i : ℕ} (n e : ℕ) (d : Source) → Among (point i) es → Rising es n e → sourceAmong es d (i + 1) ≡ from i
+point-source {i = i} n e d (here {xs = es}) r = by-eqb (λ b. cond b (from i) (sourceAmong es d (i + 1)) ≡ from i) (i + 1) (i + 1) (λ e. refl) (λ f. absurd (f refl))
 point-source {i = i} n e d (there {y = point j} {xs = es} h) r =
-    by-eqb (λ b. cond b (from j) (sourceIn es d (i + 1)) ≡ from i) (j + 1) (i + 1) (λ f. absurd (let l = point-low (j + 2) e h (r .1) in omega arith)) (λ f. point-source (j + 2) e d h (r .1))
+    by-eqb (λ b. cond b (from j) (sourceAmong es d (i + 1)) ≡ from i) (j + 1) (i + 1) (λ f. absurd (let l = point-low (j + 2) e h (r .1) in omega arith)) (λ f. point-source (j + 2) e d h (r .1))
 point-source {i = i} n e d (there {y = part p j} {xs = es} h) r =
-    by-eqb (λ b. cond b (made-by p j) (sourceIn es d (i + 1)) ≡ from i) (j + partAt p .inputs) (i + 1) (λ f. absurd (let l = point-low (j + partAt p .inputs + 1) e h (r .1) in omega arith)) (λ f. point-source (j + partAt p .inputs + 1) e d h (r .1))
+    by-eqb (λ b. cond b (made-by p j) (sourceAmong es d (i + 1)) ≡ from i) (j + partAt p .inputs) (i + 1) (λ f. absurd (let l = point-low (j + partAt p .inputs + 1) e h (r .1) in omega arith)) (λ f. point-source (j + partAt p .inputs + 1) e d h (r .1))
 
-pub part-source : {es : List Element} {p i : ℕ} (n e : ℕ) (d : Source) → Among (part p i) es → Rising es n e → sourceIn es d (i + partAt p .inputs) ≡ made-by p i
-part-source {p = p} {i = i} n e d (here {xs = es}) r = by-eqb (λ b. cond b (made-by p i) (sourceIn es d (i + partAt p .inputs)) ≡ made-by p i) (i + partAt p .inputs) (i + partAt p .inputs) (λ e. refl) (λ f. absurd (f refl))
+pub part-source : {es : List Element} {p i : ℕ} (n e : ℕ) (d : Source) → Among (part p i) es → Rising es n e → sourceAmong es d (i + partAt p .inputs) ≡ made-by p i
+part-source {p = p} {i = i} n e d (here {xs = es}) r = by-eqb (λ b. cond b (made-by p i) (sourceAmong es d (i + partAt p .inputs)) ≡ made-by p i) (i + partAt p .inputs) (i + partAt p .inputs) (λ e. refl) (λ f. absurd (f refl))
 part-source {p = p} {i = i} n e d (there {y = point j} {xs = es} h) r =
-    by-eqb (λ b. cond b (from j) (sourceIn es d (i + partAt p .inputs)) ≡ made-by p i) (j + 1) (i + partAt p .inputs) (λ f. absurd (let l = part-from (j + 2) e h (r .1) in omega arith)) (λ f. part-source (j + 2) e d h (r .1))
+    by-eqb (λ b. cond b (from j) (sourceAmong es d (i + partAt p .inputs)) ≡ made-by p i) (j + 1) (i + partAt p .inputs) (λ f. absurd (let l = part-from (j + 2) e h (r .1) in omega arith)) (λ f. part-source (j + 2) e d h (r .1))
 part-source {p = p} {i = i} n e d (there {y = part q j} {xs = es} h) r =
-    by-eqb (λ b. cond b (made-by q j) (sourceIn es d (i + partAt p .inputs)) ≡ made-by p i) (j + partAt q .inputs) (i + partAt p .inputs) (λ f. absurd (let l = part-from (j + partAt q .inputs + 1) e h (r .1) in omega arith)) (λ f. part-source (j + partAt q .inputs + 1) e d h (r .1))
+    by-eqb (λ b. cond b (made-by q j) (sourceAmong es d (i + partAt p .inputs)) ≡ made-by p i) (j + partAt q .inputs) (i + partAt p .inputs) (λ f. absurd (let l = part-from (j + partAt q .inputs + 1) e h (r .1) in omega arith)) (λ f. part-source (j + partAt q .inputs + 1) e d h (r .1))
 
 -- ---- an output is no input
 
@@ -165,9 +165,10 @@ out-terminal [] x t = absurd t
 out-terminal (point i ∷ es) x t = or-elim (eqb (i + 1) x) (isOut es x) t (λ u. let e = eqb→eq (i + 1) x u in has-left (upFrom 2 i) (terminals es) x (up-has 2 i x (omega arith) (omega arith))) (λ u. has-right (upFrom 2 i) (terminals es) x (out-terminal es x u))
 out-terminal (part p i ∷ es) x t = or-elim (eqb (i + partAt p .inputs) x) (isOut es x) t (λ u. let e = eqb→eq (i + partAt p .inputs) x u in has-left (upFrom (suc (partAt p .inputs)) i) (terminals es) x (up-has (suc (partAt p .inputs)) i x (omega arith) (omega arith))) (λ u. has-right (upFrom (suc (partAt p .inputs)) i) (terminals es) x (out-terminal es x u))
 
-ins-up : (k i x : ℕ) → i ≤ x → x < i + k → 1 ≤ ins (partSide k i) x
-ins-up zero i x l h = absurd (omega arith)
-ins-up (suc k) i x l h = by-eqb (λ b. 1 ≤ cond b 1 0 + ins (partSide k (i + 1)) x) i x (λ e. omega arith) (λ d. omega (arith, ins-up k (i + 1) x (omega arith) (omega arith)))
+-- a part makes each of its inputs
+pub ins-of : (k i x : ℕ) → i ≤ x → x < i + k → 1 ≤ ins (partSide k i) x
+ins-of zero i x l h = absurd (omega arith)
+ins-of (suc k) i x l h = by-eqb (λ b. 1 ≤ cond b 1 0 + ins (partSide k (i + 1)) x) i x (λ e. omega arith) (λ d. omega (arith, ins-of k (i + 1) x (omega arith) (omega arith)))
 
 -- a terminal is an output, or an input that is made
 pub terminal-is : (es : List Element) (x : ℕ) → T (has (terminals es) x) → T (isOut es x) ⊎ (1 ≤ madeAt es x)
@@ -181,7 +182,7 @@ terminal-is (part p i ∷ es) x t = ⊎-elim at-part (λ u. ⊎-elim (λ v. inl 
     at-part : T (has (upFrom (suc (partAt p .inputs)) i) x) → T (isOut (part p i ∷ es) x) ⊎ (1 ≤ madeAt (part p i ∷ es) x)
     at-part u =
         let r = has-up (suc (partAt p .inputs)) i x u in
-        by-eqb (λ b. T (b || isOut es x) ⊎ (1 ≤ madeAt (part p i ∷ es) x)) (i + partAt p .inputs) x (λ e. inl tt) (λ d. inr (omega (arith, ins-up (partAt p .inputs) i x (omega arith) (omega arith))))
+        by-eqb (λ b. T (b || isOut es x) ⊎ (1 ≤ madeAt (part p i ∷ es) x)) (i + partAt p .inputs) x (λ e. inl tt) (λ d. inr (omega (arith, ins-of (partAt p .inputs) i x (omega arith) (omega arith))))
 
 -- ---- what a part looks at within the tick
 

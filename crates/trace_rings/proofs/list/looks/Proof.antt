@@ -2,12 +2,13 @@
 use native.Mathlib.Omega.{arith}
 use Prim.Native.Nat.{_+_}
 use borrow.Author.Needs.{needs}
+use Rattle.memory.specs.Map.{rootsAt}
 use Rattle.trace_rings.proofs.ListLaws.{looks-point, looks-gate, looks-none}
 use Rattle.trace_rings.proofs.list.looks.Statement.{statement}
 use Rattle.trace_rings.proofs.list.looks.Tie as tie
 
 cast-result : tie.Need-cast-result
-cast-result c = omega (arith, c .shared-slice-known2 .given (19072 + c .before .before .before .args .x))
+cast-result c = omega (arith, c .shared-slice-known2 .given (rootsAt + c .before .before .before .args .x))
 
 returns : tie.Need-returns
 returns c = let a = c .before .before .before .args in looks-point (a .work .now) (a .x) (c .before .if1 .taken)

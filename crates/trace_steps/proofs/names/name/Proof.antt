@@ -4,8 +4,10 @@ use mathlib.Core.Path.{_≡_, refl, sym, ap, _∙_, subst}
 use Prim.Native.Nat.{ℕ, _+_, _-_, _≤_, _<_}
 use mathlib.Core.List.{List}
 use lib.ListN.{length, getD, set}
+use Rattle.memory.specs.Map.{elementsAt}
 use Rattle.netlist.specs.Elements.{outputOf}
-use Rattle.trace_steps.proofs.NameLaws.{Naming, naming-start, naming-low, naming-known, naming-next, naming-end}
+use Rattle.trace_steps.specs.Map.{kindsFrom}
+use Rattle.trace_steps.proofs.NameLaws.{Naming, naming-start, naming-low, naming-known, naming-next, naming-few, naming-end}
 use Rattle.trace_steps.proofs.names.name.Statement.{statement}
 use Rattle.trace_steps.proofs.names.name.Tie as tie
 
@@ -59,11 +61,17 @@ loop-again c =
     let few = s .pre .few in
     let same = l .inv .1 .size in
     let r = c .before .before .name-one in
-    let k = getD (l .work) (13824 + l .i) 0 in (
+    let k = getD (l .work) (elementsAt + l .i) 0 in (
       omega arith,
       subst (λ (x : List ℕ). Naming (s .args .work .now) (s .args .elements) x (r .result) (l .i + 1)) (sym (r .ensures .1))
-          (subst (λ (x : ℕ). Naming (s .args .work .now) (s .args .elements) (set (l .work) (outputOf k (l .at)) (65520 + k)) x (l .i + 1)) (sym (r .ensures .0)) (naming-next (s .args .work .now) (l .work) (s .args .elements) (l .at) (l .i) (s .pre) h (l .inv .1))),
+          (subst (λ (x : ℕ). Naming (s .args .work .now) (s .args .elements) (set (l .work) (outputOf k (l .at)) (kindsFrom + k)) x (l .i + 1)) (sym (r .ensures .0)) (naming-next (s .args .work .now) (l .work) (s .args .elements) (l .at) (l .i) (s .pre) h (l .inv .1))),
     )
+
+cast-result : tie.Need-cast-result Inv-loop μ-loop
+cast-result c =
+    let s = c .before .before .before in
+    let l = c .before .loop in
+    omega (arith, naming-few (s .args .work .now) (l .work) (s .args .elements) (l .at) (l .i) (s .pre) (l .inv .1))
 
 same-length : tie.Need-same-length Inv-loop μ-loop
 same-length c = c .before .loop .inv .1 .size
@@ -88,5 +96,6 @@ name-spec =
     add-i
     loop-less
     loop-again
+    cast-result
     same-length
     returns)

@@ -6,6 +6,7 @@ use Prim.Native.Nat.{ℕ}
 use mathlib.Core.List.{List}
 use lib.ListN.{getD}
 use lib.Dec.{eqb}
+use Rattle.trace_steps.specs.Map.{zeroEntry, registerEntry, oneEntry}
 use Rattle.trace_steps.proofs.Laws.{or-first, or-second, or-third, or-fourth}
 use Rattle.trace_steps.proofs.order.free.Statement.{statement}
 use Rattle.trace_steps.proofs.order.free.Tie as tie
@@ -17,25 +18,25 @@ returns : tie.Need-returns
 returns c =
     let a = c .before .before .args in
     let d = getD (a .work .now) (a .x) 0 in
-    or-first (eqb d (a .x)) (eqb d 65520) (eqb d 65521) (eqb d 65526) (eq-eqb d (a .x) (c .if1 .taken))
+    or-first (eqb d (a .x)) (eqb d zeroEntry) (eqb d registerEntry) (eqb d oneEntry) (eq-eqb d (a .x) (c .if1 .taken))
 
 returns-2 : tie.Need-returns-2
 returns-2 c =
     let a = c .before .before .before .args in
     let d = getD (a .work .now) (a .x) 0 in
-    or-second (eqb d (a .x)) (eqb d 65520) (eqb d 65521) (eqb d 65526) (ne-eqb d (a .x) (c .before .if1 .left)) (eq-eqb d 65520 (c .if2 .taken))
+    or-second (eqb d (a .x)) (eqb d zeroEntry) (eqb d registerEntry) (eqb d oneEntry) (ne-eqb d (a .x) (c .before .if1 .left)) (eq-eqb d zeroEntry (c .if2 .taken))
 
 returns-3 : tie.Need-returns-3
 returns-3 c =
     let a = c .before .before .before .before .args in
     let d = getD (a .work .now) (a .x) 0 in
-    or-third (eqb d (a .x)) (eqb d 65520) (eqb d 65521) (eqb d 65526) (ne-eqb d (a .x) (c .before .before .if1 .left)) (ne-eqb d 65520 (c .before .if2 .left)) (eq-eqb d 65521 (c .if3 .taken))
+    or-third (eqb d (a .x)) (eqb d zeroEntry) (eqb d registerEntry) (eqb d oneEntry) (ne-eqb d (a .x) (c .before .before .if1 .left)) (ne-eqb d zeroEntry (c .before .if2 .left)) (eq-eqb d registerEntry (c .if3 .taken))
 
 returns-4 : tie.Need-returns-4
 returns-4 c =
     let a = c .before .before .before .before .args in
     let d = getD (a .work .now) (a .x) 0 in
-    or-fourth (eqb d (a .x)) (eqb d 65520) (eqb d 65521) (eqb d 65526) (ne-eqb d (a .x) (c .before .before .if1 .left)) (ne-eqb d 65520 (c .before .if2 .left)) (ne-eqb d 65521 (c .if3 .left))
+    or-fourth (eqb d (a .x)) (eqb d zeroEntry) (eqb d registerEntry) (eqb d oneEntry) (ne-eqb d (a .x) (c .before .before .if1 .left)) (ne-eqb d zeroEntry (c .before .if2 .left)) (ne-eqb d registerEntry (c .if3 .left))
 
 pub free-spec : {M : Type 1} → statement M
 free-spec =

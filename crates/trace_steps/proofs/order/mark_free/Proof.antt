@@ -8,6 +8,7 @@ use lib.ListN.{length, getD, set}
 use Rattle.lean.specs.Table.{Within}
 use Rattle.lean.proofs.TableLaws.{within-none, within-then, within-set}
 use Rattle.trace_calculus.specs.Trace.{bitByte}
+use Rattle.trace_steps.specs.Map.{bitsAt}
 use Rattle.trace_steps.specs.Turns.{takeTurns}
 use Rattle.trace_steps.specs.Steps.{markOne}
 use Rattle.trace_steps.proofs.Laws.{turns-next, turns-all, looks-within, ordered-at, register-at}
@@ -52,7 +53,7 @@ loop-again c =
       omega arith,
       (
         within-then (l .inv .1 .0) (within-set (l .work) (l .x) (c .byte .result) (omega arith)),
-        ap (λ (v : ℕ). set (l .work) (19072 + l .x) v) (c .byte .ensures ∙ ap bitByte (c .before .free .ensures)) ∙ turns-next markOne (l .x) (a .work .now) (l .work) (l .inv .1 .1),
+        ap (λ (v : ℕ). set (l .work) (bitsAt + l .x) v) (c .byte .ensures ∙ ap bitByte (c .before .free .ensures)) ∙ turns-next markOne (l .x) (a .work .now) (l .work) (l .inv .1 .1),
       ),
     )
 

@@ -4,6 +4,7 @@ use mathlib.Core.Path.{ap, sym, subst, _∙_}
 use Prim.Native.Nat.{ℕ, _≤_, _<_}
 use mathlib.Core.Bool.{Bool, true, false, _&&_}
 use lib.ListN.{length, getD}
+use Rattle.memory.specs.Map.{memorySize}
 use Rattle.trace_steps.specs.Steps.{inputBit, firstIn}
 use Rattle.trace_steps.proofs.Laws.{first-low, all-yes, all-no, both-fed}
 use Rattle.trace_steps.proofs.order.ready.Statement.{statement}
@@ -13,7 +14,7 @@ is-fed-requires : tie.Need-is-fed-requires
 is-fed-requires c κs =
     let s = c .before .before in
     let w = s .args .work .now in
-    subst (λ (x : ℕ). (32768 ≤ length w) × ((x < 8192) × (getD w x 0 < 8192))) (sym (c .first-of .ensures)) (s .pre .size, (first-low w (s .args .o) (s .pre .low), s .pre .first))
+    subst (λ (x : ℕ). (memorySize ≤ length w) × ((x < 8192) × (getD w x 0 < 8192))) (sym (c .first-of .ensures)) (s .pre .size, (first-low w (s .args .o) (s .pre .low), s .pre .first))
 
 returns : tie.Need-returns
 returns c =

@@ -8,6 +8,7 @@ use mathlib.Core.List.{List}
 use lib.ListN.{length, getD, set, drop}
 use Rattle.lean.proofs.TableLaws.{within-none}
 use Rattle.trace_calculus.specs.Trace.{allBits, bitByte}
+use Rattle.trace_steps.specs.Map.{bitsAt}
 use Rattle.trace_steps.specs.Turns.{takeTurns}
 use Rattle.trace_steps.specs.Pins.{inPinCount, outPinCount, Loading, Storing}
 use Rattle.trace_steps.proofs.PinLaws.{load-yes, load-no, load-room, store-yes, store-no, store-room, ins-yes, ins-no, bits-more, bits-not, bits-all, load-low, pin-low, ins-few, lit-yes, lit-no, ins-step, ins-skip}
@@ -82,7 +83,7 @@ loop-again c =
       omega arith,
       ⊎-elim
           (λ v. subst (λ (x : List ℕ). Loading bits u (s .args .from) (l .k + 1) x (c .if1 .at)) (sym (v .6 ∙ v .3 .ensures))
-          (subst (λ (y : ℕ). Loading bits u (s .args .from) (l .k + 1) (set (l .work) (19072 + a .result / 2) (getD bits (l .at) 0)) y) (sym (v .7))
+          (subst (λ (y : ℕ). Loading bits u (s .args .from) (l .k + 1) (set (l .work) (bitsAt + a .result / 2) (getD bits (l .at) 0)) y) (sym (v .7))
           (load-yes bits u (l .work) (s .args .from) (l .at) (l .k) (a .result) h₁ (l .inv .1) (a .ensures) (v .0 .taken) low)))
           (λ v. subst (λ (x : List ℕ). Loading bits u (s .args .from) (l .k + 1) x (c .if1 .at)) (sym (v .1))
           (subst (λ (y : ℕ). Loading bits u (s .args .from) (l .k + 1) (l .work) y) (sym (v .2))

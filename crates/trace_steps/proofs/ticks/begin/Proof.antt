@@ -1,5 +1,4 @@
 -- The invariant: the first x bits are as they begin. Assumes nothing.
-use lib.Dec.{eqb}
 use borrow.Author.Needs.{needs}
 use native.Mathlib.Omega.{arith}
 use mathlib.Core.Path.{_≡_, refl, sym, ap, _∙_, subst}
@@ -8,7 +7,7 @@ use mathlib.Core.List.{List}
 use lib.ListN.{length, getD, set}
 use Rattle.lean.specs.Table.{Within}
 use Rattle.lean.proofs.TableLaws.{within-none, within-then, within-set}
-use Rattle.trace_calculus.specs.Trace.{bitByte}
+use Rattle.trace_steps.specs.Map.{bitsAt}
 use Rattle.trace_steps.specs.Turns.{takeTurns}
 use Rattle.trace_steps.specs.Steps.{beginOne}
 use Rattle.trace_steps.proofs.Laws.{turns-next, turns-all, looks-within, ordered-at, register-at}
@@ -24,8 +23,11 @@ abbrev μ-loop : tie.MeasureT-loop
 loop-holds : tie.Need-loop-holds Inv-loop μ-loop
 loop-holds c = (omega arith, (within-none _, refl))
 
-at-requires : tie.Need-at-requires Inv-loop μ-loop
-at-requires c κs = let z = c .before .before .loop .inv .1 .0 .size in omega arith
+mul-byte : tie.Need-mul-byte Inv-loop μ-loop
+mul-byte c = omega arith
+
+slice-read-byte : tie.Need-slice-read-byte Inv-loop μ-loop
+slice-read-byte c = let z = c .before .before .loop .inv .1 .0 .size in omega arith
 
 byte-requires : tie.Need-byte-requires Inv-loop μ-loop
 byte-requires c κs = search needs
@@ -37,7 +39,7 @@ mul-work : tie.Need-mul-work Inv-loop μ-loop
 mul-work c = omega arith
 
 slice-write-work : tie.Need-slice-write-work Inv-loop μ-loop
-slice-write-work c = let z = c .before .before .before .before .loop .inv .1 .0 .size in omega arith
+slice-write-work c = let z = c .before .before .before .loop .inv .1 .0 .size in omega arith
 
 add-x : tie.Need-add-x Inv-loop μ-loop
 add-x c = omega arith
@@ -47,13 +49,13 @@ loop-less c = omega arith
 
 loop-again : tie.Need-loop-again Inv-loop μ-loop
 loop-again c =
-    let l = c .before .before .before .before .loop in
-    let a = c .before .before .before .before .before .before .args in
+    let l = c .before .before .before .loop in
+    let a = c .before .before .before .before .before .args in
     let z = l .inv .1 .0 .size in (
       omega arith,
       (
         within-then (l .inv .1 .0) (within-set (l .work) (l .x) (c .byte .result) (omega arith)),
-        ap (λ (v : ℕ). set (l .work) (19072 + l .x) v) (c .byte .ensures ∙ ap (λ (k : ℕ). bitByte (eqb k 65526)) (c .before .at .ensures)) ∙ turns-next beginOne (l .x) (a .work .now) (l .work) (l .inv .1 .1),
+        ap (λ (v : ℕ). set (l .work) (bitsAt + l .x) v) (c .byte .ensures) ∙ turns-next beginOne (l .x) (a .work .now) (l .work) (l .inv .1 .1),
       ),
     )
 
@@ -73,7 +75,8 @@ begin-spec =
     Inv-loop
     μ-loop
     loop-holds
-    at-requires
+    mul-byte
+    slice-read-byte
     byte-requires
     add-work
     mul-work

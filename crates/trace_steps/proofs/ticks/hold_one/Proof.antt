@@ -3,6 +3,7 @@ use mathlib.Core.Path.{ap}
 use Prim.Native.Nat.{ℕ, _+_, _-_}
 use lib.ListN.{getD, set}
 use borrow.Author.Needs.{needs}
+use Rattle.trace_steps.specs.Map.{bitsAt}
 use Rattle.trace_steps.proofs.ticks.hold_one.Statement.{statement}
 use Rattle.trace_steps.proofs.ticks.hold_one.Tie as tie
 
@@ -37,7 +38,7 @@ same-length : tie.Need-same-length
 same-length c = search needs
 
 returns : tie.Need-returns
-returns c = let a = c .before .before .before .before .args in ap (λ (y : ℕ). set (a .work .now) (19072 + (a .o - 1)) (getD (a .work .now) (19072 + y) 0)) (c .before .at .ensures)
+returns c = let a = c .before .before .before .before .args in ap (λ (y : ℕ). set (a .work .now) (bitsAt + (a .o - 1)) (getD (a .work .now) (bitsAt + y) 0)) (c .before .at .ensures)
 
 pub hold-one-spec : {M : Type 1} → statement M
 hold-one-spec =

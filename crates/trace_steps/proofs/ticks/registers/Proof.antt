@@ -5,6 +5,7 @@ use mathlib.Core.Logic.{⊎-elim}
 use Prim.Native.Nat.{ℕ, _+_, _-_, _≤_, _<_}
 use mathlib.Core.List.{List}
 use lib.ListN.{set}
+use Rattle.trace_steps.specs.Map.{registersAt}
 use Rattle.trace_steps.proofs.RegisterLaws.{Listing, listing-start, listing-yes, listing-no, listing-end}
 use Rattle.trace_steps.proofs.ticks.registers.Statement.{statement}
 use Rattle.trace_steps.proofs.ticks.registers.Tie as tie
@@ -105,7 +106,7 @@ loop-again c =
     let u = s .args .work .now in (
       omega arith,
       ⊎-elim
-          (λ v. subst (λ (y : List ℕ). Listing u (l .x + 1) y (c .if1 .n)) (sym (v .1)) (subst (λ (y : ℕ). Listing u (l .x + 1) (set (l .work) (8192 + l .n) (l .x)) y) (sym (v .2)) (listing-yes (s .args .work .now) (s .args .end) (l .x) (l .work) (l .n) (s .pre) h (l .inv .1) (v .0 .taken))))
+          (λ v. subst (λ (y : List ℕ). Listing u (l .x + 1) y (c .if1 .n)) (sym (v .1)) (subst (λ (y : ℕ). Listing u (l .x + 1) (set (l .work) (registersAt + l .n) (l .x)) y) (sym (v .2)) (listing-yes (s .args .work .now) (s .args .end) (l .x) (l .work) (l .n) (s .pre) h (l .inv .1) (v .0 .taken))))
           (λ v. subst (λ (y : List ℕ). Listing u (l .x + 1) y (c .if1 .n)) (sym (v .1)) (subst (λ (y : ℕ). Listing u (l .x + 1) (l .work) y) (sym (v .2)) (listing-no (s .args .work .now) (s .args .end) (l .x) (l .work) (l .n) (s .pre) h (l .inv .1) (v .0 .left)))) (c .if1 .came),
     )
 

@@ -2,6 +2,7 @@
 use mathlib.Core.Path.{ap, sym, subst, _∙_}
 use Prim.Native.Nat.{ℕ, _≤_, _<_}
 use lib.ListN.{length, getD}
+use Rattle.memory.specs.Map.{memorySize}
 use Rattle.trace_steps.proofs.Laws.{first-low, step-is}
 use borrow.Author.Needs.{needs}
 use Rattle.trace_steps.proofs.ticks.step.Statement.{statement}
@@ -23,7 +24,7 @@ is-fed-requires : tie.Need-is-fed-requires
 is-fed-requires c κs =
     let s = c .before .before .before .before .before in
     let w = s .args .work .now in
-    subst (λ (x : ℕ). (32768 ≤ length w) × ((x < 8192) × (getD w x 0 < 8192))) (sym (c .before .first-of .ensures)) (s .pre .size, (first-low w (s .args .o) (s .pre .low), s .pre .first))
+    subst (λ (x : ℕ). (memorySize ≤ length w) × ((x < 8192) × (getD w x 0 < 8192))) (sym (c .before .first-of .ensures)) (s .pre .size, (first-low w (s .args .o) (s .pre .low), s .pre .first))
 
 sub-is-fed : tie.Need-sub-is-fed
 sub-is-fed c = search needs

@@ -8,6 +8,7 @@ use lib.ListN.{length, getD, set}
 use Rattle.lean.specs.Table.{Within}
 use Rattle.lean.proofs.TableLaws.{within-none, within-then, within-set}
 use Rattle.trace_calculus.specs.Trace.{bitByte}
+use Rattle.trace_steps.specs.Map.{bitsAt}
 use Rattle.trace_steps.specs.Turns.{takeTurns}
 use Rattle.trace_steps.specs.Steps.{wakeOne}
 use Rattle.trace_steps.proofs.Laws.{loop-step, wake-within, turns-all, looks-within, ordered-at, register-at}
@@ -56,8 +57,8 @@ loop-again c =
     let l = c .before .before .before .before .loop in
     let h = c .before .before .before .loop-test .taken in
     let v = getD (s .args .starts .now) (l .j) 0 in
-    loop-step (wakeOne (s .args .starts .now)) (s .args .work .now) (l .work) (set (l .work) (19072 + c .before .at .result) v) (l .j) (s .args .regs) h (l .inv .1 .0) (l .inv .1 .1)
-    (ap (λ (k : ℕ). set (l .work) (19072 + k) v) (c .before .at .ensures)) (wake-within (s .args .starts .now) (l .work) (l .j) (register-at (l .inv .1 .0) (s .pre .0) (l .j) h))
+    loop-step (wakeOne (s .args .starts .now)) (s .args .work .now) (l .work) (set (l .work) (bitsAt + c .before .at .result) v) (l .j) (s .args .regs) h (l .inv .1 .0) (l .inv .1 .1)
+    (ap (λ (k : ℕ). set (l .work) (bitsAt + k) v) (c .before .at .ensures)) (wake-within (s .args .starts .now) (l .work) (l .j) (register-at (l .inv .1 .0) (s .pre .0) (l .j) h))
 
 same-length : tie.Need-same-length Inv-loop μ-loop
 same-length c = c .before .loop .inv .1 .0 .size
