@@ -5,7 +5,7 @@ use Prim.Native.Nat.{ℕ, _+_, _-_, _≤_, _<_}
 use mathlib.Core.List.{List}
 use lib.ListN.{length, getD, set}
 use Rattle.netlist.specs.Elements.{outputOf}
-use Rattle.netlist.proofs.PartInputs.{inputs-few}
+use Rattle.circuit_theorems.proofs.Counts.{part-inputs as inputs-few}
 use Rattle.lean.proofs.KindLaws.{first-low, output-low}
 use Rattle.trace_steps.proofs.NameLaws.{point-kind, part-kind}
 use borrow.Author.Needs.{needs}
