@@ -1,17 +1,13 @@
 -- Laws of rows that are written one behind the other. Assumes nothing.
 use Prim.Native.Nat.{ℕ, zero, suc, _+_, _*_}
 use mathlib.Core.Path.{_≡_}
-use mathlib.Core.List.{List, _++_}
+use mathlib.Core.List.{List}
 use native.Mathlib.Omega.{arith}
 use native.Mathlib.Numerals.{add-one}
 use lib.ListN.{length, length-append}
 use lib.Seq.{sets}
-use Rattle.laws.proofs.Regions.{sets-append}
+use Rattle.laws.proofs.Regions.{written-more}
 use Rattle.back.specs.Rows.{rowsUpTo}
-
--- what stands, and what is written behind it
-pub written-more : (out bs cs : List ℕ) (from at : ℕ) → at ≡ from + length bs → sets (sets out from bs) at cs ≡ sets out from (bs ++ cs)
-written-more out bs cs from at h = rw h (sets-append bs cs out from)
 
 module _ (f : ℕ → List ℕ) (w : ℕ) (width : (j : ℕ) → length (f j) ≡ w) where
   pub rows-length : (n : ℕ) → length (rowsUpTo f n) ≡ w * n

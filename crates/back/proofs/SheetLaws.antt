@@ -16,7 +16,8 @@ use Rattle.back_theorems.proofs.Typing.{few}
 use Rattle.back_theorems.proofs.CameBack.{gates-length}
 use Rattle.back.specs.Gates.{netHere, inputTotal, Limited}
 use Rattle.back.specs.Rows.{rowsUpTo, functionRow, projectionRow, pairRow, tupleRows, gateRow, gateOf, sheetLength}
-use Rattle.back.proofs.RowLaws.{written-more, rows-length}
+use Rattle.laws.proofs.Regions.{written-more}
+use Rattle.back.proofs.RowLaws.{rows-length}
 use Rattle.back.proofs.TermLaws.{arrows-few, types-length, functions-bytes, projections-bytes}
 use Rattle.back.proofs.WriteLaws.{gate-length, rows-of}
 

@@ -117,12 +117,6 @@ module _ (es : List Element) (r : ℕ) (p f : ℕ) (h : r < length es) (g : part
   pub inputs-more : (n N : ℕ) → n + inputTotal (drop r es) ≡ N → n + partAt p .inputs + inputTotal (drop (r + 1) es) ≡ N
   inputs-more n N e = let w : n + (partAt p .inputs + inputTotal (drop (r + 1) es)) ≡ N = ap (λ (l : List Element). n + inputTotal l) (sym part-next) ∙ e in omega arith
 
-pub none-left : {A : Type 0} (es : List A) (r : ℕ) → length es ≤ r → drop r es ≡ []
-none-left [] zero h = refl
-none-left [] (suc r) h = refl
-none-left (e ∷ es) zero h = absurd (omega arith)
-none-left (e ∷ es) (suc r) h = none-left es r (let l : suc (length es) ≤ suc r = h in omega arith)
-
 pub before-few : (es : List Element) (o : ℕ) → partBefore es o ≤ length es
 before-few [] o = omega arith
 before-few (point i ∷ es) o = omega (arith, before-few es o)

@@ -15,7 +15,8 @@ use Rattle.calculus.specs.Record.{All}
 use Rattle.sheet_theorems.proofs.Laying.{table-snoc}
 use Rattle.back_theorems.specs.Back.{DrivenBy, Gate, tuple, base, products, arrows, backTable, binderNumber, applied, gateTerm, tupleTerm, projections, functions}
 use Rattle.back.specs.Rows.{rowsUpTo, productRow, arrowRow, functionRow, projectionRow, applicationRow, headRow, sourceRows, tupleRows, arrowLength}
-use Rattle.back.proofs.RowLaws.{written-more, rows-length}
+use Rattle.laws.proofs.Regions.{written-more}
+use Rattle.back.proofs.RowLaws.{rows-length}
 
 -- ---- the types
 

@@ -17,9 +17,10 @@ use Rattle.back_theorems.proofs.CameBack.{gates-length}
 use Rattle.circuit_theorems.proofs.Lists.{all-at, all-drop}
 use Rattle.back.specs.Gates.{netHere, AcceptedNet}
 use Rattle.back.specs.Rows.{rowsUpTo, applicationRow, pairRow, headRow, sourceRows, gateRow, tupleRows, gateOf}
-use Rattle.back.proofs.RowLaws.{written-more, rows-length}
+use Rattle.laws.proofs.Regions.{written-more, drop-past}
+use Rattle.back.proofs.RowLaws.{rows-length}
 use Rattle.back.proofs.TermLaws.{GateFull, tuple-bytes}
-use Rattle.back.proofs.SourceLaws.{source-open, source-wired, sources-split, undrivens-append, sources-length, none-left}
+use Rattle.back.proofs.SourceLaws.{source-open, source-wired, sources-split, undrivens-append, sources-length}
 
 -- ---- one variable
 
@@ -145,7 +146,7 @@ module _ (m : Net) (k q from : ℕ) (out₀ out : List ℕ) (at before r n : ℕ
 
 pub all-written : (m : Net) (k q from : ℕ) (out₀ out : List ℕ) (at before r : ℕ) → length (m .elements) ≤ r → PartsWritten m k q from out₀ out at before r → out ≡ sets out₀ from (tupleRows k q (gates m))
 all-written m k q from out₀ out at before r h w =
-    w .stands ∙ ap (sets out₀ from) (sym (append-nil (w .done)) ∙ ap (λ (l : List Element). w .done ++ tupleRows k q (gatesFrom m l before)) (sym (none-left (m .elements) r h)) ∙ w .whole)
+    w .stands ∙ ap (sets out₀ from) (sym (append-nil (w .done)) ∙ ap (λ (l : List Element). w .done ++ tupleRows k q (gatesFrom m l before)) (sym (drop-past (m .elements) r h)) ∙ w .whole)
 
 -- ---- the parts' rows are the term's bytes
 

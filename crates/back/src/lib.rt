@@ -6,27 +6,14 @@ use foreign::Verdict;
 use gates::Counts;
 use gates::Parts;
 use translator::Answer;
-use typing::Refusal;
 ghost use mathlib.Core.Path.{_≡_};
 ghost use lib.ListN.{length};
 ghost use Prim.Native.Nat.{_≤_};
 ghost use Rattle.back_theorems.specs.Back.{backSheet};
 ghost use Rattle.back_theorems.specs.Returned.{backCall};
 ghost use Rattle.back.specs.Gates.{netHere, AcceptedNet, OfParts, Limited, CountedNet};
-ghost use Rattle.translator.specs.Said.{inRoom, AnswerSays, called, refusedAs};
+ghost use Rattle.translator.specs.Said.{inRoom, AnswerSays, called};
 ghost use Rattle.back.specs.Answered.{limitAnswer, netAnswer};
-
-// A refusal that names no types.
-fn refused(number: u8, place: usize) -> Answer
-    ensures { λ r. ⌜ r ≡ refusedAs number place ⌝ }
-{
-    Answer::Refused(Refusal {
-        number,
-        place,
-        wanted: 0,
-        found: 0,
-    })
-}
 
 // 17 where the output is shorter than the sheet; else the sheet is written.
 fn fitted(net: &[u8], out: &mut [u8], parts: usize, counts: Counts) -> Answer
@@ -36,7 +23,7 @@ fn fitted(net: &[u8], out: &mut [u8], parts: usize, counts: Counts) -> Answer
     let undriven = counts.undriven;
     let n = write::length(parts, undriven, counts.inputs);
     if out.len() < n {
-        return translator::too_short(n);
+        return translator::refused(17, n);
     }
     write::sheet(net, out, parts, undriven);
     Answer::Written(n)
@@ -48,14 +35,14 @@ fn limited(net: &[u8], out: &mut [u8], parts: usize) -> Answer
     ensures { λ r. ⌜ AnswerSays r (now (out .entry)) (now (out .exit)) (limitAnswer (netHere (now (net .entry))) (length (now (out .entry)))) ⌝ }
 {
     if parts == 0 {
-        return refused(26, 0);
+        return translator::refused(26, 0);
     }
     if 16 < parts {
-        return refused(26, 0);
+        return translator::refused(26, 0);
     }
     let counts = gates::count_inputs(net, parts);
     if 24 < counts.undriven {
-        return refused(26, 0);
+        return translator::refused(26, 0);
     }
     fitted(net, out, parts, counts)
 }
@@ -66,7 +53,7 @@ fn returned(net: &[u8], out: &mut [u8]) -> Answer
     ensures { λ r. ⌜ AnswerSays r (now (out .entry)) (now (out .exit)) (netAnswer (netHere (now (net .entry))) (length (now (out .entry)))) ⌝ }
 {
     match gates::count_parts(net) {
-        Parts::Point(at) => refused(25, at),
+        Parts::Point(at) => translator::refused(25, at),
         Parts::All(n) => limited(net, out, n),
     }
 }
@@ -77,7 +64,7 @@ pub fn back(net: &[u8], out: &mut [u8], work: &mut [u16], lean: bool) -> Answer
     ensures { λ r. ⌜ called r (now (out .exit)) (now (work .exit)) ≡ backCall lean (now (net .entry)) (now (out .entry)) (now (work .entry)) ⌝ }
 {
     match foreign::check(net, work, lean) {
-        Verdict::Refused(number, place) => refused(number, place),
+        Verdict::Refused(number, place) => translator::refused(number, place),
         Verdict::Accepted => returned(net, out),
     }
 }

@@ -6,13 +6,9 @@ use mathlib.Core.List.{List, [], _∷_, _++_}
 use native.Mathlib.Omega.{arith}
 use lib.Dec.{T}
 use lib.ListN.{length, length-append}
-use borrow.Author.Tests.{le-leb}
 use Rattle.calculus.specs.Answer.{good}
-use Rattle.calculus.specs.Types.{Ty}
 use Rattle.calculus.specs.Terms.{first, partAt}
-use Rattle.calculus.specs.Read.{Sheet, readSheet}
 use Rattle.calculus.specs.Write.{sheetBytes}
-use Rattle.calculus.specs.Rules.{Typed}
 use Rattle.calculus.specs.Net.{Element, point, part, Wire, Net, make, netOf}
 use Rattle.calculus.specs.Lean.{driver}
 use Rattle.calculus.specs.Inputs.{isOut, hasWire}
@@ -20,8 +16,8 @@ use Rattle.calculus.specs.Record.{All}
 use Rattle.calculus.specs.Translate.{full}
 use Rattle.circuit_theorems.specs.Formed.{Tiled}
 use Rattle.laws.proofs.Tests.{by-eqb}
-use Rattle.sheet_theorems.proofs.Exact.{exact}
 use Rattle.circuit_theorems.proofs.Outputs.{tiled}
+use Rattle.circuit_theorems.proofs.Main.{accepted-by}
 use Rattle.back_theorems.specs.Back.{DrivenBy, undriven, output, Gate, partBefore, sources, undrivens, gatesFrom, gates, openIns, backTable, backTerm, gatesSheet, backSheet, pointsFrom, partsFrom, backNet}
 use Rattle.back_theorems.specs.Promises.{PartOnly, Returns, LeanOf}
 use Rattle.back_theorems.proofs.Typing.{tupleType, towards, few, SourceIn, GateIn, back-typed}
@@ -93,11 +89,6 @@ parts-count [] n = refl
 parts-count (g ∷ gs) n = ap suc (parts-count gs _)
 
 -- ---- the whole
-
--- a sheet that is read, has a derivation and makes few enough terminals is accepted
-accepted-by : (s : List ℕ) (σ : Sheet) (τ : Ty) → readSheet s ≡ good σ → Typed (σ .edition) (σ .table) [] (σ .term) τ → make (σ .table) (σ .term) [] 0 .next ≤ 8192 → full s ≡ good (netOf (make (σ .table) (σ .term) [] 0))
-unfolding full
-accepted-by s σ τ h d l = rw (h, exact s σ h .1 (τ, d) .1, le-leb (make (σ .table) (σ .term) [] 0 .next) 8192 l)
 
 written : (k : ℕ) (g : Gate) (gs : List Gate) → All (GateIn k (length gs)) (g ∷ gs) → (length gs ≡ 0 → k ≤ 2) → length gs ≤ 15 → k ≤ 24
     → full (sheetBytes first (backTable (length gs) k) (backTerm (length gs) k (g ∷ gs))) ≡ good (netOf (make (backTable (length gs) k) (backTerm (length gs) k (g ∷ gs)) [] 0))

@@ -14,6 +14,7 @@ use Rattle.calculus.specs.Record.{All}
 use Rattle.back_theorems.specs.Back.{DrivenBy, undriven, output, Gate, tuple, base, products, arrows, backTable, binderNumber, applied, gateTerm, tupleTerm, projections, functions, backTerm}
 use Rattle.sheet_theorems.proofs.Tables.{tree-new}
 use Rattle.sheet_theorems.proofs.TableRead.{tree-prefix}
+use Rattle.circuit_theorems.proofs.Counts.{part-inputs}
 
 -- q + 1 tupleType as pairs nested to the right, and k arrows from a bit
 abbrev pub tupleType : ℕ → Ty
@@ -185,14 +186,7 @@ part-type (suc (suc (suc (suc (suc (suc zero)))))) = refl
 part-type (suc (suc (suc (suc (suc (suc (suc p))))))) = refl
 
 pub few : (p : ℕ) → partAt p .inputs < 3
-few zero = omega arith
-few (suc zero) = omega arith
-few (suc (suc zero)) = omega arith
-few (suc (suc (suc zero))) = omega arith
-few (suc (suc (suc (suc zero)))) = omega arith
-few (suc (suc (suc (suc (suc zero))))) = omega arith
-few (suc (suc (suc (suc (suc (suc zero)))))) = omega arith
-few (suc (suc (suc (suc (suc (suc (suc p))))))) = omega arith
+few p = omega (arith, part-inputs p)
 
 module _ (Θ : Table) (q k : ℕ) (h : HoldsTypes Θ q k) where
   abbrev inner : Ctx

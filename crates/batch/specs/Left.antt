@@ -7,7 +7,6 @@ use Rattle.calculus.specs.Translate.{Call}
 use Rattle.translator.specs.Said.{saidAnswer}
 use Rattle.translator.specs.Word.{packed}
 use Rattle.translator.specs.declared.Answer as code
-use Rattle.translator.specs.declared.Answer.the-variants as answer
 use Rattle.batch.specs.Batch.{usedBy, Batch}
 
 -- after one sheet: its call's output and working memory, its result at place k, and the bytes used
@@ -20,7 +19,3 @@ pub record OneLeft (r k : ℕ) (out results results′ work : List ℕ) (c : Cal
 -- after all of them
 abbrev pub left : code.Answer → List ℕ → List ℕ → List ℕ → Batch
 left r out results work = record { said = saidAnswer r; out = out; results = results; work = work }
-
--- 24
-abbrev pub lengthsMisfit : code.Answer
-lengthsMisfit = answer.Refused (record { number = 24; place = 0; wanted = 0; found = 0 })

@@ -1,7 +1,6 @@
 // One call over sheets laid end to end.
 use translation::Wish;
 use translator::Answer;
-use typing::Refusal;
 ghost use mathlib.Core.Path.{_≡_};
 ghost use Prim.Native.Nat.{_<_, _≤_};
 ghost use lib.Dec.{eqb};
@@ -11,7 +10,7 @@ ghost use Rattle.translator.specs.Said.{saidAnswer};
 ghost use Rattle.translator.specs.declared.Answer.the-variants as answer;
 ghost use Rattle.translation.specs.Wished.{allWish};
 ghost use Rattle.batch.specs.Batch.{usedBy, sum, oneByOne, ofRow, batchCall};
-ghost use Rattle.batch.specs.Left.{OneLeft, left, lengthsMisfit};
+ghost use Rattle.batch.specs.Left.{OneLeft, left};
 
 fn wide(x: u32) -> usize
     ensures { λ r. ⌜ r ≡ x ⌝ }
@@ -27,18 +26,6 @@ fn used_by(answer: Answer) -> usize
         Answer::Written(n) => n,
         Answer::Refused(_) => 0,
     }
-}
-
-// 24, whatever lengths do not fit.
-fn misfits() -> Answer
-    ensures { λ r. ⌜ r ≡ lengthsMisfit ⌝ }
-{
-    Answer::Refused(Refusal {
-        number: 24,
-        place: 0,
-        wanted: 0,
-        found: 0,
-    })
 }
 
 // Whether lengths add up to so many bytes. What is left of the bytes is counted down: a sum of lengths could be too large.
@@ -115,11 +102,11 @@ pub fn batch(
         ≡ batchCall (allWish wish) (now (sheets .entry)) (now (lengths .entry)) (now (out .entry)) (now (results .entry)) (now (work .entry)) ⌝ }
 {
     if results.len() < lengths.len() {
-        return misfits();
+        return translator::refused(24, 0);
     }
     if adds_up(lengths, sheets.len()) {
         let used = each(sheets, lengths, out, results, work, wish);
         return Answer::Written(used);
     }
-    misfits()
+    translator::refused(24, 0)
 }

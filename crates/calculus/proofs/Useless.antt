@@ -11,7 +11,7 @@ use Rattle.calculus.specs.Read.{editionOf, recordsOf, readSheet, readRec
 use Rattle.calculus.specs.Lean.{root, lean}
 use Rattle.calculus.specs.Makers.{makersOf}
 use Rattle.calculus.specs.Translate.{full, Wish, answer, saidOf, outOf, Call, call}
-use Rattle.calculus.specs.Known.{P1, P2, P3}
+use Rattle.calculus.specs.Known.{P1, P2, P3, fullPlain, leanPlain}
 use Rattle.calculus.specs.Useless.{Program, refusesAll, writesP1, writesNothing, longer, inventsLength, leanCopiesFull, BreaksContract}
 use Rattle.calculus.proofs.Answers.{refused≢good, good-inj}
 
@@ -21,13 +21,6 @@ memory = replicate 32768 0
 
 abbrev zeros : ℕ → List ℕ
 zeros n = replicate n 0
-
--- plain kinds
-abbrev fullPlain : Wish
-fullPlain = record { lean = false; plain = true }
-
-abbrev leanPlain : Wish
-leanPlain = record { lean = true; plain = true }
 
 -- what a call with this memory says and leaves of the output
 module _ (b : Wish) (s out : List ℕ) where

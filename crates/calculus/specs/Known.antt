@@ -330,10 +330,10 @@ clashes = T1 ∷ T2 ∷ T3 ∷ T4 ∷ T5 ∷ T6 ∷ T7 ∷ T8 ∷ T9 ∷ T10 ∷
 -- ---- what the definitions answer
 
 -- the two netlists, plain and with nodes
-abbrev fullPlain : Wish
+abbrev pub fullPlain : Wish
 fullPlain = record { lean = false; plain = true }
 
-abbrev leanPlain : Wish
+abbrev pub leanPlain : Wish
 leanPlain = record { lean = true; plain = true }
 
 abbrev fullNodes : Wish

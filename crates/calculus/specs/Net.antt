@@ -35,6 +35,9 @@ pub record Wire : Type 0 where
   pub from : ℕ
   pub to : ℕ
 
+abbrev pub wireOf : ℕ → ℕ → Wire
+wireOf from to = record { from = from; to = to }
+
 pub record Net : Type 0 where
   pub elements : List Element
   pub wires : List Wire
@@ -225,7 +228,8 @@ pub data Item : Type 0 where
 abbrev pub two : ℕ → List ℕ
 two n = n % 256 ∷ n / 256 ∷ []
 
--- a record's bytes: the one definition, of the writer and of the reader
+-- a record's bytes, as they are written. NetRead's `itemAt` tells the record that bytes begin with; that it tells the one written is a
+-- theorem, `item-here`, and of a whole netlist `read-back` (circuit_theorems)
 abbrev pub itemBytes : Item → List ℕ
 itemBytes (element (point i)) = 0x21 ∷ two i
 itemBytes (element (part p i)) = 0x22 ∷ p ∷ two i

@@ -186,7 +186,8 @@ fix-wires θ n e d =
 
 -- ---- every accepted sheet
 
-tiled-end : (es : List Element) (n e f : ℕ) → Tiled es n e → Tiled es n f → e ≡ f
+-- elements end at one terminal
+pub tiled-end : (es : List Element) (n e f : ℕ) → Tiled es n e → Tiled es n f → e ≡ f
 tiled-end [] n e f a b = sym a ∙ b
 tiled-end (point i ∷ es) n e f a b = tiled-end es (n + 2) e f (a .1) (b .1)
 tiled-end (part p i ∷ es) n e f a b = tiled-end es (n + partAt p .inputs + 1) e f (a .1) (b .1)

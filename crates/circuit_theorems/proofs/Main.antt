@@ -5,9 +5,10 @@ use mathlib.Core.Path.{_≡_, subst}
 use mathlib.Core.Logic.{_↔_}
 use mathlib.Core.List.{List, []}
 use lib.Dec.{T, leb, leb→le}
+use borrow.Author.Tests.{le-leb}
 use Rattle.calculus.specs.Answer.{good}
 use Rattle.calculus.proofs.Answers.{good-inj, on-bind, on-need}
-use Rattle.calculus.specs.Types.{tree}
+use Rattle.calculus.specs.Types.{Ty, tree}
 use Rattle.calculus.specs.Read.{Sheet, readSheet}
 use Rattle.calculus.specs.Walk.{walk}
 use Rattle.calculus.specs.Rules.{Typed}
@@ -19,6 +20,7 @@ use Rattle.circuit_theorems.specs.Formed.{Formed}
 use Rattle.calculus.specs.Translate.{full}
 use Rattle.sheet_theorems.proofs.Sound.{sound}
 use Rattle.sheet_theorems.proofs.Laying.{laid}
+use Rattle.sheet_theorems.proofs.Exact.{exact}
 use Rattle.circuit_theorems.proofs.Same.{same-records}
 use Rattle.circuit_theorems.proofs.Forming.{Gapless, gapless-net, lean-formed}
 use Rattle.circuit_theorems.proofs.Wiring.{input-once, one-driver, no-driver, wires-run}
@@ -47,6 +49,11 @@ accepts s m e =
       few = leb→le _ 8192 h₃;
       is = good-inj e₃;
     }
+
+-- a sheet that is read, has a derivation and makes few enough terminals is accepted
+pub accepted-by : (s : List ℕ) (σ : Sheet) (τ : Ty) → readSheet s ≡ good σ → Typed (σ .edition) (σ .table) [] (σ .term) τ → make (σ .table) (σ .term) [] 0 .next ≤ 8192 → full s ≡ good (netOf (make (σ .table) (σ .term) [] 0))
+unfolding full
+accepted-by s σ τ h d l = rw (h, exact s σ h .1 (τ, d) .1, le-leb (make (σ .table) (σ .term) [] 0 .next) 8192 l)
 
 -- ---- formed
 

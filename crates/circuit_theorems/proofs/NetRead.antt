@@ -21,7 +21,7 @@ use Rattle.calculus.specs.NetRead.{Fits, itemSize, Front, item, ended, twoAt, i
 use Rattle.calculus.proofs.Answers.{good-inj}
 use Rattle.sheet_theorems.proofs.Bytes.{behind}
 use Rattle.circuit_theorems.proofs.Outputs.{EndHolds}
-use Rattle.circuit_theorems.proofs.Terminals.{out-low, made-low}
+use Rattle.circuit_theorems.proofs.Terminals.{out-low, made-low, part-high}
 use Rattle.circuit_theorems.proofs.Wiring.{pins-show}
 
 -- ---- the writer's bytes are the records' in a row
@@ -161,10 +161,6 @@ pins-of [] (w ∷ ws) ps = pins-of [] ws ps
 pins-of [] [] (t ∷ ps) = ap (λ (l : List ℕ). number t ∷ l) (pins-of [] [] ps)
 pins-of [] [] [] = refl
 
-part-above : (k i x : ℕ) → i + k ≤ x → ins (partSide k i) x ≡ 0
-part-above zero i x h = refl
-part-above (suc k) i x h = by-eqb (λ b. cond b 1 0 + ins (partSide k (i + 1)) x ≡ 0) i x (λ q. absurd (omega arith)) (λ q. omega (arith, part-above k (i + 1) x (omega arith)))
-
 -- no output is an input
 pub out-not-made : (es : List Element) (n e x : ℕ) → Rising es n e → T (isOut es x) → madeAt es x ≡ 0
 out-not-made [] n e x a t = absurd t
@@ -174,8 +170,8 @@ out-not-made (point i ∷ es) n e x a t =
     (λ q. or-elim (eqb (i + 1) x) (isOut es x) t (λ u. let v = eqb→eq (i + 1) x u in omega (arith, made-low es (i + 2) e x (a .1) (omega arith))) (λ u. omega (arith, out-not-made es (i + 2) e x (a .1) u)))
 out-not-made (part p i ∷ es) n e x a t =
     or-elim (eqb (i + partAt p .inputs) x) (isOut es x) t
-    (λ u. let v = eqb→eq (i + partAt p .inputs) x u in omega (arith, part-above (partAt p .inputs) i x (omega arith), made-low es (i + partAt p .inputs + 1) e x (a .1) (omega arith)))
-    (λ u. let v = out-low es (i + partAt p .inputs + 1) e x (a .1) u in omega (arith, part-above (partAt p .inputs) i x (omega arith), out-not-made es (i + partAt p .inputs + 1) e x (a .1) u))
+    (λ u. let v = eqb→eq (i + partAt p .inputs) x u in omega (arith, part-high (partAt p .inputs) i x (omega arith), made-low es (i + partAt p .inputs + 1) e x (a .1) (omega arith)))
+    (λ u. let v = out-low es (i + partAt p .inputs + 1) e x (a .1) u in omega (arith, part-high (partAt p .inputs) i x (omega arith), out-not-made es (i + partAt p .inputs + 1) e x (a .1) u))
 
 -- the elements tell a pin's direction
 abbrev pub Shows : List Element → Terminal → Type 0

@@ -114,7 +114,8 @@ part-low : (k i x : ℕ) → x < i → ins (partSide k i) x ≡ 0
 part-low zero i x h = refl
 part-low (suc k) i x h = by-eqb (λ b. cond b 1 0 + ins (partSide k (i + 1)) x ≡ 0) i x (λ q. absurd (omega arith)) (λ q. omega (arith, part-low k (i + 1) x (omega arith)))
 
-part-high : (k i x : ℕ) → i + k ≤ x → ins (partSide k i) x ≡ 0
+-- a part's inputs stand below its output
+pub part-high : (k i x : ℕ) → i + k ≤ x → ins (partSide k i) x ≡ 0
 part-high zero i x h = refl
 part-high (suc k) i x h = by-eqb (λ b. cond b 1 0 + ins (partSide k (i + 1)) x ≡ 0) i x (λ q. absurd (omega arith)) (λ q. omega (arith, part-high k (i + 1) x (omega arith)))
 

@@ -17,7 +17,7 @@ use Rattle.sheet_theorems.proofs.Laying.{opened}
 use Rattle.sheet_theorems.proofs.StretchHolds.{stretch-holds, stretch-past, stretch-refused}
 use Rattle.sheet_theorems.proofs.Judging.{Judged, value, refusal, Any}
 use Rattle.translator.specs.Word.{packed, FitsWord}
-use Rattle.translator.specs.Said.{saidAnswer, called}
+use Rattle.translator.specs.Said.{saidAnswer, refusedAs, called}
 use Rattle.translator.specs.declared.Answer as code
 use Rattle.translator.proofs.Places.{names-small}
 use Rattle.translator.proofs.WordLaws.{word-tells}
@@ -58,7 +58,7 @@ batch-packs r o p w b e = record {
 -- a verdict, as an answer that every call can give
 abbrev pub verdictAnswer : Verdict → code.Answer
 verdictAnswer verdict.Accepted = answer.Written 0
-verdictAnswer (verdict.Refused number place) = answer.Refused (record { number = number; place = place; wanted = 0; found = 0 })
+verdictAnswer (verdict.Refused number place) = refusedAs number place
 
 same-value : (v : Verdict) → saidAnswer (verdictAnswer v) ≡ checkedValue (saidCheck v)
 same-value verdict.Accepted = refl

@@ -2,7 +2,6 @@
 use foreign::Verdict;
 use translation::Wish;
 use translator::Answer;
-use typing::Refusal;
 ghost use mathlib.Core.Path.{_≡_};
 ghost use Rattle.calculus.specs.Stretch.{stretchOf};
 ghost use Rattle.batch.specs.Batch.{batchCall};
@@ -64,12 +63,7 @@ pub extern "C" fn deltawobble_check(net: &[u8], work: &mut [u16], lean: bool) ->
 {
     match foreign::check(net, work, lean) {
         Verdict::Accepted => translator::word(Answer::Written(0)),
-        Verdict::Refused(number, place) => translator::word(Answer::Refused(Refusal {
-            number,
-            place,
-            wanted: 0,
-            found: 0,
-        })),
+        Verdict::Refused(number, place) => translator::word(translator::refused(number, place)),
     }
 }
 

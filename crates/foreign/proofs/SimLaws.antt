@@ -10,7 +10,7 @@ use lib.ListN.{length, getD, set, replicate, length-set, length-append, length-r
 use lib.Seq.{sets, length-sets, getD-set-same, getD-set-other, getD-at, drop-set-lt}
 use borrow.Author.Tests.{eq-eqb, ne-eqb, lt-ltb, le-ltb, le-leb, lt-leb}
 use Rattle.laws.proofs.Tests.{by-eqb, is-false}
-use Rattle.laws.proofs.Regions.{sets-outside, sets-before, sets-read, sets-drop, region-at}
+use Rattle.laws.proofs.Regions.{sets-outside, sets-before, sets-drop, sets-at}
 use Rattle.calculus.specs.Answer.{Answer, good, refused, _>>=_, numbered, need}
 use Rattle.calculus.specs.Terms.{partAt}
 use Rattle.calculus.specs.Net.{Terminal, inp, out, Interface, Element, point, part, Wire, Net, partSide, Item, element, wire, pin}
@@ -82,9 +82,6 @@ cells-in k d h = List·getD-append (replicate k 1) (4 ∷ []) 0 d (rw length-rep
 
 cells-out : (k : ℕ) → getD (cellsOf k) k 0 ≡ 4
 cells-out k = getD-at (replicate k 1) 4 [] 0 k (length-replicate k 1)
-
-sets-inside : (vs l : List ℕ) (i d : ℕ) → i + length vs ≤ length l → d < length vs → getD (sets l i vs) (i + d) 0 ≡ getD vs d 0
-sets-inside vs l i d h k = sym (region-at (sets l i vs) i (length vs) d k) ∙ ap (λ (x : List ℕ). getD x d 0) (sets-read vs l i h)
 
 -- ---- what a terminal is
 
@@ -158,14 +155,14 @@ module _ (lean : Bool) (at : ℕ) (p : List ℕ) (σ : Reading) (w : List ℕ) (
         let o : isOut (σ .net .elements ++ (e ∷ [])) (i + d) ≡ false =
         out-more (σ .net .elements) e (i + d) ∙ ap₂ (λ (a b : Bool). a || b) (no-out (i + d) (omega arith)) (out-alone e (i + d) ∙ or-false _ ∙ ne-eqb (i + k) (i + d) (λ q. omega arith)) in
         let c : 1 ≤ madeAt (σ .net .elements ++ (e ∷ [])) (i + d) = omega (arith, made-append (σ .net .elements) (e ∷ []) (i + d), made-alone e (i + d), part-in k i (i + d) (omega arith) (omega arith)) in
-        sets-inside (cellsOf k) w i d fits (omega (arith, cells-length k)) ∙ cells-in k d l
+        sets-at (cellsOf k) w i d fits (omega (arith, cells-length k)) ∙ cells-in k d l
         ∙ sym (cell-in m′ (i + d) o c ∙ ap (λ (x : ℕ). 1 + min 2 x) (none-here (i + d)))
 
     output : getD (sets w i (cellsOf k)) (i + k) 0 ≡ cellOf m′ (i + k)
     output =
         let o : isOut (σ .net .elements ++ (e ∷ [])) (i + k) ≡ true =
         out-more (σ .net .elements) e (i + k) ∙ ap₂ (λ (a b : Bool). a || b) (no-out (i + k) (omega arith)) (out-alone e (i + k) ∙ or-false _ ∙ eq-eqb (i + k) (i + k) refl) in
-        sets-inside (cellsOf k) w i k fits (omega (arith, cells-length k)) ∙ cells-out k ∙ sym (cell-out m′ (i + k) o)
+        sets-at (cellsOf k) w i k fits (omega (arith, cells-length k)) ∙ cells-out k ∙ sym (cell-out m′ (i + k) o)
 
     outside : (x : ℕ) → (i ≤ x → x < i + k + 1 → ⊥) → x < 8192 → getD (sets w i (cellsOf k)) x 0 ≡ cellOf m′ x
     outside x f l =

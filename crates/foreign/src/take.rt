@@ -20,14 +20,6 @@ pub enum Taken {
     Refused(u8),
 }
 
-// The inputs of a part that is known.
-fn inputs_of(p: u8) -> usize
-    ensures { λ r. ⌜ r ≡ partAt p .inputs ⌝ }
-{
-    let part = parts::part_of(p as u16);
-    part.inputs as usize
-}
-
 // An element may start here: at the next terminal, or in a lean netlist there or above.
 fn starts_at(lean: bool, first: usize, next: usize) -> bool
     ensures { λ r. ⌜ r ≡ starts lean first next ⌝ }
@@ -36,14 +28,21 @@ fn starts_at(lean: bool, first: usize, next: usize) -> bool
 }
 
 // An element, of some inputs and one output behind them.
-fn element(work: &mut [u16], lean: bool, st: State, first: usize, inputs: usize) -> Taken
-    requires { ⌜ (8192 ≤ length (now work)) × (inputs ≤ 2) × (first < 65536) ⌝ }
+fn element(
+    work: &mut [u16],
+    lean: bool,
+    st: State,
+    first: usize,
+    inputs: usize,
+    outputs: usize,
+) -> Taken
+    requires { ⌜ (8192 ≤ length (now work)) × (inputs ≤ 2) × (first < 65536) × (outputs ≡ 1) ⌝ }
     ensures { λ r. ⌜ saidTaken r (now (work .exit)) ≡ tookElement lean (st .stage) (st .next) first inputs (now (work .entry)) ⌝ }
 {
     if st.stage != 0 {
         return Taken::Refused(21);
     }
-    let past = first + inputs + 1;
+    let past = first + inputs + outputs;
     if !starts_at(lean, first, st.next) {
         return Taken::Refused(22);
     }
@@ -55,6 +54,22 @@ fn element(work: &mut [u16], lean: bool, st: State, first: usize, inputs: usize)
         stage: 0,
         next: past,
     })
+}
+
+// A part, with the inputs and outputs that the table gives it.
+fn part(work: &mut [u16], lean: bool, st: State, first: usize, p: u8) -> Taken
+    requires { ⌜ (8192 ≤ length (now work)) × (first < 65536) ⌝ }
+    ensures { λ r. ⌜ saidTaken r (now (work .exit)) ≡ tookElement lean (st .stage) (st .next) first (partAt p .inputs) (now (work .entry)) ⌝ }
+{
+    let entry = parts::part_of(p as u16);
+    element(
+        work,
+        lean,
+        st,
+        first,
+        entry.inputs as usize,
+        entry.outputs as usize,
+    )
 }
 
 fn wire(work: &mut [u16], st: State, from: usize, to: usize) -> Taken
@@ -104,8 +119,8 @@ pub fn take(work: &mut [u16], lean: bool, st: State, r: Record) -> Taken
     ensures { λ q. ⌜ saidTaken q (now (work .exit)) ≡ took lean (st .stage) (st .next) (saidRecord r) (now (work .entry)) ⌝ }
 {
     match r {
-        Record::Point(i) => element(work, lean, st, i as usize, 1),
-        Record::Part(p, first) => element(work, lean, st, first as usize, inputs_of(p)),
+        Record::Point(i) => element(work, lean, st, i as usize, 1, 1),
+        Record::Part(p, first) => part(work, lean, st, first as usize, p),
         Record::Wire(from, to) => wire(work, st, from as usize, to as usize),
         Record::Pin(t) => pin(work, st, t as usize),
         Record::End => Taken::Next(st),

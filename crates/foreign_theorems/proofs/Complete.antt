@@ -15,6 +15,7 @@ use Rattle.calculus.specs.Inputs.{ins, madeAt, targets, isOut}
 use Rattle.calculus.specs.NetRead.{Known, Fits, itemSize, Front, itemAt}
 use Rattle.circuit_theorems.specs.Formed.{Tiled, Rising, Formed}
 use Rattle.sheet_theorems.proofs.Bytes.{behind}
+use Rattle.sheet_theorems.proofs.Going.{needed}
 use Rattle.circuit_theorems.proofs.Terminals.{rising-end}
 use Rattle.circuit_theorems.proofs.Wiring.{wires-run, pins-show}
 use Rattle.circuit_theorems.proofs.NetRead.{itemsOf, itemsBytes, records-in-a-row, item-length, item-some, ends-here, item-here, Shows, terminal-is}
@@ -44,10 +45,6 @@ module _ (lean : Bool) (s : List ℕ) where
       ap (λ (x : Front). onFront x at σ (λ r. judge lean r σ at >>= λ τ. readOn left lean s (at + itemSize r) τ)) (item-here s (itemsBytes rs) at r (f .0) e)
       ∙ bind-ext (judge lean r σ at) _ _ (λ τ. read-row rs left (at + itemSize r) τ (f .1) b z (omega (arith, item-some r)))
 
-need-pass : (b : Bool) (n p : ℕ) → T b → need b n p ≡ good tt
-need-pass true n p t = refl
-need-pass false n p t = absurd t
-
 -- ---- the numbering, element by element
 
 numbered-end : (lean : Bool) (es : List Element) (n e : ℕ) → Numbered lean es n e → n ≤ e
@@ -73,7 +70,7 @@ module _ (lean : Bool) where
       let c : T (leb (pastOf x) 8192) = le→leb (pastOf x) 8192 (omega (arith, numbered-end lean es (pastOf x) e (b .1))) in
       let t = and-of (starts lean (firstOf x) next) (leb (pastOf x) 8192) (b .0) c in
       let r = elements-pass es (pre ++ (x ∷ [])) rest (at + itemSize (element x)) (pastOf x) e (b .1) l in
-      (r .0, r .1, rw (need-pass (starts lean (firstOf x) next && leb (pastOf x) 8192) 22 at t) (r .2 ∙ ap (λ (y : List Element). judgeAll lean rest (r .0) (reading y [] [] 0 (r .1))) (append-assoc pre (x ∷ []) es)))
+      (r .0, r .1, rw (needed (starts lean (firstOf x) next && leb (pastOf x) 8192) 22 at t) (r .2 ∙ ap (λ (y : List Element). judgeAll lean rest (r .0) (reading y [] [] 0 (r .1))) (append-assoc pre (x ∷ []) es)))
 
   module _ (es : List Element) (next : ℕ) where
     wires-pass : (ws pre : List Wire) (rest : List Item) (at stage : ℕ) → stage ≤ 1 → All (λ w. T (isOut es (w .from)) × (madeAt es (w .to) ≡ 1)) ws
@@ -83,7 +80,7 @@ module _ (lean : Bool) where
         let q = a .0 .1 in
         let t = and-of (isOut es (w .from)) (isIn es (w .to)) (a .0 .0) (le→leb 1 (madeAt es (w .to)) (omega arith)) in
         let r = wires-pass ws (pre ++ (w ∷ [])) rest (at + 5) 1 (omega arith) (a .1) in
-        (r .0, r .1, rw (need-pass (leb stage 1) 21 at (le→leb stage 1 z), need-pass (isOut es (w .from) && isIn es (w .to)) 22 at t) (r .2 ∙ ap (λ (y : List Wire). judgeAll lean rest (r .0) (reading es y [] (r .1) next)) (append-assoc pre (w ∷ []) ws)))
+        (r .0, r .1, rw (needed (leb stage 1) 21 at (le→leb stage 1 z), needed (isOut es (w .from) && isIn es (w .to)) 22 at t) (r .2 ∙ ap (λ (y : List Wire). judgeAll lean rest (r .0) (reading es y [] (r .1) next)) (append-assoc pre (w ∷ []) ws)))
 
     shows-one : (t : Terminal) → Shows es t → T (isOut es (number t) || isIn es (number t))
     shows-one (inp i) a = or-right (isOut es i) (isIn es i) (le→leb 1 (madeAt es i) (omega arith))
@@ -95,7 +92,7 @@ module _ (lean : Bool) where
       pins-pass [] pre at stage a = (stage, ap (λ (x : Interface). good (reading es ws x stage next)) (sym (append-nil pre)))
       pins-pass (t ∷ ts) pre at stage a =
           let r = pins-pass ts (pre ++ (t ∷ [])) (at + 3) 2 (a .1) in
-          (r .0, rw (need-pass (isOut es (number t) || isIn es (number t)) 22 at (shows-one t (a .0)), terminal-is es e t up (a .0)) (r .1 ∙ ap (λ (x : Interface). good (reading es ws x (r .0) next)) (append-assoc pre (t ∷ []) ts)))
+          (r .0, rw (needed (isOut es (number t) || isIn es (number t)) 22 at (shows-one t (a .0)), terminal-is es e t up (a .0)) (r .1 ∙ ap (λ (x : Interface). good (reading es ws x (r .0) next)) (append-assoc pre (t ∷ []) ts)))
 
 -- ---- the whole
 
@@ -113,7 +110,7 @@ read-through lean s a =
 
 one-all : (m : Net) → Formed m → (k i : ℕ) → oneEach k i m ≡ good tt
 one-all m ok zero i = refl
-one-all m ok (suc k) i = rw (need-pass (eqb (targets (m .wires) i + ins (m .pins) i) (madeAt (m .elements) i)) 23 i (rw (ok .reached i) (eqb-refl (madeAt (m .elements) i)))) (one-all m ok k (i + 1))
+one-all m ok (suc k) i = rw (needed (eqb (targets (m .wires) i + ins (m .pins) i) (madeAt (m .elements) i)) 23 i (rw (ok .reached i) (eqb-refl (madeAt (m .elements) i)))) (one-all m ok k (i + 1))
 
 pub accepts-check : (lean : Bool) (s : List ℕ) → Accepts lean s → check lean s ≡ good tt
 unfolding check

@@ -14,6 +14,10 @@ sets-append (v ∷ vs) ws l i =
     let e : i + suc (length vs) ≡ suc i + length vs = omega arith in
     rw e (sets-append vs ws (set l i v) (suc i))
 
+-- .. at an offset that is told
+pub written-more : (out bs cs : List ℕ) (from at : ℕ) → at ≡ from + length bs → sets (sets out from bs) at cs ≡ sets out from (bs ++ cs)
+written-more out bs cs from at h = rw h (sets-append bs cs out from)
+
 -- what stands outside a run
 pub sets-outside : (vs l : List ℕ) (i j d : ℕ) → (j < i → ⊥) → i + length vs ≤ j → getD (sets l i vs) j d ≡ getD l j d
 sets-outside [] l i j d h g = refl
@@ -64,6 +68,10 @@ region-length w a n h = length-take-le n (drop a w) (rw length-drop (omega arith
 pub region-at : (w : List ℕ) (a n j : ℕ) → j < n → getD (take n (drop a w)) j 0 ≡ getD w (a + j) 0
 region-at w a n j h = getD-take n (drop a w) j 0 h ∙ getD-drop a w j 0
 
+-- what a run stored is read back
+pub sets-at : (vs l : List ℕ) (i j : ℕ) → i + length vs ≤ length l → j < length vs → getD (sets l i vs) (i + j) 0 ≡ getD vs j 0
+sets-at vs l i j h k = sym (region-at (sets l i vs) i (length vs) j k) ∙ ap (λ (x : List ℕ). getD x j 0) (sets-read vs l i h)
+
 -- a region of two memories that agree there
 pub region-ext : (a n : ℕ) (v w : List ℕ) → a + n ≤ length v → a + n ≤ length w → ((j : ℕ) → a ≤ j → j < a + n → getD w j 0 ≡ getD v j 0)
     → take n (drop a w) ≡ take n (drop a v)
@@ -90,8 +98,8 @@ region-after a m n w = drop-take-add m n (drop a w) ∙ ap (take n) (drop-drop m
         none (suc n) = refl
     drop-take-add (suc m) n (x ∷ l) = let e : suc m + n ≡ suc (m + n) = omega arith in rw e (drop-take-add m n l)
 
-pub drop-past : (xs : List ℕ) (n : ℕ) → length xs ≤ n → drop n xs ≡ []
+pub drop-past : {A : Type 0} (xs : List A) (n : ℕ) → length xs ≤ n → drop n xs ≡ []
 drop-past [] zero h = refl
 drop-past [] (suc n) h = refl
 drop-past (x ∷ xs) zero h = absurd (omega arith)
-drop-past (x ∷ xs) (suc n) h = drop-past xs n (omega arith)
+drop-past (x ∷ xs) (suc n) h = drop-past xs n (let l : suc (length xs) ≤ suc n = h in omega arith)

@@ -14,7 +14,8 @@ use Rattle.calculus.specs.Terms.{partAt}
 use Rattle.circuit_theorems.specs.Formed.{Tiled}
 use Rattle.memory.specs.Map.{region, elementsFrom}
 use Rattle.netlist.specs.Elements.{outputOf, after, afterAll}
-use Rattle.netlist.proofs.Elements.{kinds-tiled, tiled-end}
+use Rattle.circuit_theorems.proofs.Bounds.{tiled-end}
+use Rattle.netlist.proofs.Elements.{kinds-tiled}
 use Rattle.laws.proofs.Regions.{region-length}
 
 -- the next free terminal is one behind the output

@@ -9,19 +9,18 @@ use lib.ListN.{length, getD, drop, length-append, length-map}
 use borrow.Author.Tests.{eqb-false}
 use Rattle.laws.proofs.Tests.{or-elim, or-left, or-right, T-is}
 use Rattle.calculus.specs.Terms.{partAt}
-use Rattle.calculus.specs.Net.{Terminal, inp, out, Element, point, part, Net, partSide, wireBytes, pinBytes, netBytes}
+use Rattle.calculus.specs.Net.{Terminal, inp, out, Element, point, part, wireOf, Net, partSide, wireBytes, pinBytes, netBytes}
 use Rattle.calculus.specs.Makers.{maker, keepMakers, leanMakers, netNodeBytes, written}
 use Rattle.calculus.specs.Lean.{driver, isPin, root, keep, toInputs, toElement, leanWires, leanPin, lean}
 use Rattle.calculus.specs.Record.{All}
 use Rattle.calculus.specs.Inputs.{tally, ins, madeAt, isOut}
 use Rattle.circuit_theorems.specs.Formed.{Shown}
 use Rattle.memory.specs.Map.{elementsAt, stackAt, makersAt, region, elementsFrom, terminalOf, netIn}
-use Rattle.netlist.specs.Said.{wire}
 use Rattle.netlist.specs.Elements.{afterAll}
 use Rattle.laws.proofs.Regions.{region-length, region-at}
 use Rattle.netlist.specs.Elements.{elementRecords}
 use Rattle.netlist.proofs.Elements.{records-are}
-use Rattle.netlist.proofs.Records as records
+use Rattle.circuit_theorems.proofs.Counts.{pin-bytes}
 use Rattle.lean.specs.Table.{entry, Whole}
 use Rattle.lean.specs.InMemory.{undriven, keepIn, keepMakersIn, inputIn, inputsIn, elementIn, leanWiresIn, pinIn, keptRow, wireRow, pinRow}
 use Rattle.lean.specs.Fitting.{DriversLow, LowPin}
@@ -61,16 +60,16 @@ module _ (w : List ℕ) (e k p : ℕ) (q : Whole w e k p) where
   -- ---- wires
 
   input-in : (i : ℕ) → 1 ≤ madeAt (m .elements) i
-      → inputIn w i ≡ cond (isPin (m .pins) i) [] (wire (root m (driver (m .wires) i 0)) i ∷ [])
+      → inputIn w i ≡ cond (isPin (m .pins) i) [] (wireOf (root m (driver (m .wires) i 0)) i ∷ [])
   input-in i h = by (undriven w i) refl
     where
       by : (b : Bool) → undriven w i ≡ b
-          → cond b [] (wire (entry w (getD w i 0)) i ∷ []) ≡ cond (isPin (m .pins) i) [] (wire (root m (driver (m .wires) i 0)) i ∷ [])
+          → cond b [] (wireOf (entry w (getD w i 0)) i ∷ []) ≡ cond (isPin (m .pins) i) [] (wireOf (root m (driver (m .wires) i 0)) i ∷ [])
       by true z = rw (pin-none w e k p (q .ready) i h ∙ z)
       by false z =
           let u = pin-none w e k p (q .ready) i h ∙ z in
           rw (u, driver-in w e k p (q .ready) i 0 h u)
-          (ap (λ (x : ℕ). wire x i ∷ []) (entry-root (getD w i 0) (driver-out w e k p (q .ready) i (input-below w e k p (q .ready) i h) (eqb-false (getD w i 0) 65535 z))))
+          (ap (λ (x : ℕ). wireOf x i ∷ []) (entry-root (getD w i 0) (driver-out w e k p (q .ready) i (input-below w e k p (q .ready) i h) (eqb-false (getD w i 0) 65535 z))))
 
   inputs-in : (c i : ℕ) → ((x : ℕ) → 1 ≤ ins (partSide c i) x → 1 ≤ madeAt (m .elements) x) → inputsIn w c i ≡ toInputs m c i
   inputs-in zero i f = refl
@@ -144,7 +143,7 @@ module _ (w : List ℕ) (e k p : ℕ) (q : Whole w e k p) where
 
   pub pins-length : stackAt + p ≤ length w → length (pinRow w (region w stackAt p)) ≡ 3 * p
   unfolding pinRow
-  pins-length h = records.pins-length (map (λ c. pinIn w (terminalOf c)) (region w stackAt p)) ∙ ap (λ (x : ℕ). 3 * x) (length-map (region w stackAt p) (λ c. pinIn w (terminalOf c)) ∙ region-length w stackAt p h)
+  pins-length h = pin-bytes (map (λ c. pinIn w (terminalOf c)) (region w stackAt p)) ∙ ap (λ (x : ℕ). 3 * x) (length-map (region w stackAt p) (λ c. pinIn w (terminalOf c)) ∙ region-length w stackAt p h)
 
   pub lean-length : (plain : Bool) → stackAt + p ≤ length w → length (written plain (lean m) (leanMakers m js)) ≡ 3 * p + rowsSize plain w ks 0
   lean-length plain h =

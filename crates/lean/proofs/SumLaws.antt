@@ -10,7 +10,7 @@ use Rattle.calculus.specs.Terms.{partAt}
 use Rattle.calculus.specs.Net.{point}
 use Rattle.memory.specs.Map.{elementsAt, region}
 use Rattle.netlist.specs.Elements.{after, afterAll}
-use Rattle.netlist.proofs.PartInputs.{inputs-few}
+use Rattle.circuit_theorems.proofs.Counts.{part-inputs}
 use Rattle.netlist.proofs.Elements.{after-rises, node-small}
 use Rattle.lean.specs.InMemory.{keptIn, keptRow, wireRow}
 use Rattle.lean.proofs.KindLaws.{region-next, region-end}
@@ -29,7 +29,7 @@ module _ (plain : Bool) (w : List ℕ) where
   one-most k n =
       elim (ℕ-discrete k 7) [
         | yes e ↦ by e (keptIn w (point n)) refl
-        | no d ↦ omega (arith, size-part w plain k n d, inputs-most w (partAt k .inputs) n, inputs-few k, node-small plain 1)
+        | no d ↦ omega (arith, size-part w plain k n d, inputs-most w (partAt k .inputs) n, part-inputs k, node-small plain 1)
       ]
     where
       by : k ≡ 7 → (b : Bool) → keptIn w (point n) ≡ b → rowsSize (k ∷ []) n ≤ 16

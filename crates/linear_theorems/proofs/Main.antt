@@ -5,7 +5,6 @@ use mathlib.Core.Logic.{_↔_}
 use mathlib.Core.List.{List, []}
 use native.Mathlib.Omega.{arith}
 use lib.ListN.{length, length-append}
-use borrow.Author.Tests.{le-leb}
 use Rattle.calculus.specs.Answer.{good}
 use Rattle.calculus.proofs.Answers.{good-inj}
 use Rattle.calculus.specs.Types.{Ty, size, Table, tree}
@@ -19,9 +18,8 @@ use Rattle.calculus.specs.Lean.{lean}
 use Rattle.calculus.specs.Record.{Bits, Law}
 use Rattle.calculus.specs.Translate.{full}
 use Rattle.sheet_theorems.proofs.SheetRead.{TermLimits as Within, read-written}
-use Rattle.sheet_theorems.proofs.Exact.{exact}
 use Rattle.circuit_theorems.proofs.Bounds.{next-is}
-use Rattle.circuit_theorems.proofs.Main.{accepts, formed}
+use Rattle.circuit_theorems.proofs.Main.{accepts, accepted-by, formed}
 use Rattle.linear_theorems.specs.Marked.{Marked, plain, marks, Seen, ByMarks}
 use Rattle.linear_theorems.specs.Harmless.{Rewritten, Readable, Harmless, Limits}
 use Rattle.linear_theorems.proofs.PutTyped.{put-in-typed}
@@ -54,11 +52,6 @@ start {s} r m a =
       few = subst (λ (σ : Sheet). make (σ .table) (σ .term) [] 0 .next ≤ 8192) e f;
       net-is = subst (λ (σ : Sheet). netOf (make (σ .table) (σ .term) [] 0) ≡ m) e i;
     }
-
--- a sheet that is read, has a derivation and makes few enough terminals is accepted
-accepted-by : (s : List ℕ) (σ : Sheet) (τ : Ty) → readSheet s ≡ good σ → Typed (σ .edition) (σ .table) [] (σ .term) τ → make (σ .table) (σ .term) [] 0 .next ≤ 8192 → full s ≡ good (netOf (make (σ .table) (σ .term) [] 0))
-unfolding full
-accepted-by s σ τ h d l = rw (h, exact s σ h .1 (τ, d) .1, le-leb (make (σ .table) (σ .term) [] 0 .next) 8192 l)
 
 sheet-length : (Θ : Table) (e : Term) → length (sheetBytes first Θ e) ≡ length (tableBytes Θ) + length (termBytes e)
 unfolding sheetBytes recordBytes

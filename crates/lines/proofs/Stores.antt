@@ -7,15 +7,11 @@ use native.Mathlib.Numerals.{add-one}
 use lib.ListN.{length, getD, set, take, length-append}
 use lib.Seq.{sets, length-sets, take-suc, length-take-le}
 use Rattle.lines.specs.Wrote.{WroteText}
-use Rattle.laws.proofs.Regions.{sets-append}
+use Rattle.laws.proofs.Regions.{sets-append, written-more}
 
 -- one byte behind what stands
 pub store-more : (out bs : List ℕ) (from at v : ℕ) → at ≡ from + length bs → set (sets out from bs) at v ≡ sets out from (bs ++ (v ∷ []))
 store-more out bs from at v h = rw h (sets-append bs (v ∷ []) out from)
-
--- a piece behind what stands
-pub piece-more : (out bs cs : List ℕ) (from at : ℕ) → at ≡ from + length bs → sets (sets out from bs) at cs ≡ sets out from (bs ++ cs)
-piece-more out bs cs from at h = rw h (sets-append bs cs out from)
 
 -- one more byte of a word
 pub word-more : (out word : List ℕ) (at i : ℕ) → i < length word
@@ -30,7 +26,7 @@ wrote-two {a} {b} {c} {xs} {ys} {at} {mid} {end} p q =
     let l = length-append xs ys in
     let o = p .offset in
     let e = q .offset in
-    record { offset = omega arith; bytes = q .bytes ∙ rw (p .bytes) (piece-more a xs ys at mid (p .offset)) }
+    record { offset = omega arith; bytes = q .bytes ∙ rw (p .bytes) (written-more a xs ys at mid (p .offset)) }
 
 pub wrote-length : {a b xs : List ℕ} {at end : ℕ} → WroteText a at xs b end → length b ≡ length a
 wrote-length {a} {b} {xs} {at} p = ap length (p .bytes) ∙ length-sets a at xs

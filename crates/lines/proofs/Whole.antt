@@ -10,11 +10,12 @@ use Rattle.calculus.specs.Listing.{Text, line, field, elementLine, wireLine, el
 use Rattle.netlist.proofs.Bytes.{two-back}
 use Rattle.netlist.proofs.Records.{elements-append, wires-append, pins-append}
 use Rattle.lines.specs.OneLine.{pointLine, partLine, wiredLine, pinLine}
-use Rattle.lines.specs.InBytes.{numberAt, recordSize, sizeAt, textOf, lineAt, linesFrom}
+use Rattle.calculus.specs.NetRead.{twoAt}
+use Rattle.lines.specs.InBytes.{recordSize, sizeAt, textOf, lineAt, linesFrom}
 use Rattle.lines.proofs.Standing.{size-whole, line-some}
 
 -- a number whose two bytes stand j bytes behind an offset
-number-read : (s : List ℕ) (at j n : ℕ) → getD (drop at s) j 0 ≡ n % 256 → getD (drop at s) (suc j) 0 ≡ n / 256 → numberAt s (at + j) ≡ n
+number-read : (s : List ℕ) (at j n : ℕ) → getD (drop at s) j 0 ≡ n % 256 → getD (drop at s) (suc j) 0 ≡ n / 256 → twoAt s (at + j) ≡ n
 number-read s at j n e f =
     let g : getD s (at + j) 0 ≡ n % 256 = sym (getD-drop at s j 0) ∙ e in
     let k : at + j + 1 ≡ at + suc j = omega arith in

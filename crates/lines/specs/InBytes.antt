@@ -1,15 +1,12 @@
 -- What stands at an offset of a netlist's bytes: the length of its record, and its line. Assumes nothing.
-use Prim.Native.Nat.{ℕ, zero, suc, _+_, _*_}
+use Prim.Native.Nat.{ℕ, zero, suc, _+_}
 use mathlib.Core.Bool.{cond}
 use mathlib.Core.List.{List, [], _++_}
 use lib.Dec.{eqb, leb}
 use lib.ListN.{length, getD}
+use Rattle.calculus.specs.NetRead.{twoAt}
 use Rattle.calculus.specs.Listing.{Text}
 use Rattle.lines.specs.OneLine.{pointLine, partLine, wiredLine, pinLine}
-
--- a number of two bytes, low byte first
-abbrev pub numberAt : List ℕ → ℕ → ℕ
-numberAt s at = getD s at 0 + 256 * getD s (at + 1) 0
 
 -- the length of a record of kind k; none where the kind is unknown
 abbrev pub recordSize : ℕ → ℕ
@@ -21,9 +18,9 @@ sizeAt s at = let n = recordSize (getD s at 0) in cond (leb (at + n) (length s))
 
 abbrev pub textOf : ℕ → List ℕ → ℕ → Text
 textOf k s at =
-    cond (eqb k 0x21) (pointLine (numberAt s (at + 1)))
-    (cond (eqb k 0x22) (partLine (getD s (at + 1) 0) (numberAt s (at + 2)))
-    (cond (eqb k 0x23) (wiredLine (numberAt s (at + 1)) (numberAt s (at + 3))) (cond (eqb k 0x24) (pinLine (numberAt s (at + 1))) [])))
+    cond (eqb k 0x21) (pointLine (twoAt s (at + 1)))
+    (cond (eqb k 0x22) (partLine (getD s (at + 1) 0) (twoAt s (at + 2)))
+    (cond (eqb k 0x23) (wiredLine (twoAt s (at + 1)) (twoAt s (at + 3))) (cond (eqb k 0x24) (pinLine (twoAt s (at + 1))) [])))
 
 -- its line; nothing where none stands whole
 unfoldable pub lineAt : List ℕ → ℕ → Text

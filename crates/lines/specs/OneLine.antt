@@ -2,9 +2,8 @@
 use Prim.Native.Nat.{ℕ}
 use mathlib.Core.List.{[], _∷_}
 use Rattle.calculus.specs.Answer.{refuse}
-use Rattle.calculus.specs.Net.{point, part, out}
+use Rattle.calculus.specs.Net.{point, part, wireOf, out}
 use Rattle.calculus.specs.Listing.{Text, elementLine, wireLine, pinLines, listingOf}
-use Rattle.netlist.specs.Said.{wire}
 
 unfoldable pub pointLine : ℕ → Text
 pointLine i = elementLine (point i)
@@ -13,7 +12,7 @@ unfoldable pub partLine : ℕ → ℕ → Text
 partLine p i = elementLine (part p i)
 
 unfoldable pub wiredLine : ℕ → ℕ → Text
-wiredLine from to = wireLine (wire from to)
+wiredLine from to = wireLine (wireOf from to)
 
 -- a pin's line has its terminal's number, of whichever kind that is
 unfoldable pub pinLine : ℕ → Text

@@ -7,7 +7,8 @@ ghost use Rattle.calculus.specs.Listing.{line};
 ghost use Rattle.parts.specs.Table.{nameAt};
 ghost use Rattle.lines.specs.Figure.{figure, figures};
 ghost use Rattle.lines.specs.OneLine.{pointLine, partLine, wiredLine, pinLine, refusedLine};
-ghost use Rattle.lines.specs.InBytes.{numberAt, recordSize, sizeAt, lineAt};
+ghost use Rattle.calculus.specs.NetRead.{twoAt};
+ghost use Rattle.lines.specs.InBytes.{recordSize, sizeAt, lineAt};
 ghost use Rattle.lines.specs.Wrote.{WroteText};
 
 // A word. As each function here, it answers the offset past what it wrote.
@@ -160,7 +161,7 @@ pub fn size_at(net: &[u8], at: usize) -> usize
 // A number of two bytes, low byte first.
 fn number_at(net: &[u8], at: usize) -> usize
     requires { ⌜ at + 2 ≤ length (now net) ⌝ }
-    ensures { λ r. ⌜ (r ≡ numberAt (now (net .entry)) at) × (r < 65536) ⌝ }
+    ensures { λ r. ⌜ (r ≡ twoAt (now (net .entry)) at) × (r < 65536) ⌝ }
 {
     net[at] as usize + 256 * net[at + 1] as usize
 }

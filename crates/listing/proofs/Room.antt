@@ -8,7 +8,7 @@ use lib.Dec.{eqb}
 use lib.ListN.{length, getD, length-append}
 use Rattle.calculus.specs.Terms.{partAt}
 use Rattle.calculus.specs.Listing.{Text, line, names}
-use Rattle.netlist.proofs.PartInputs.{inputs-few}
+use Rattle.circuit_theorems.proofs.Counts.{part-inputs}
 use Rattle.lines.specs.Figure.{figure, figures}
 use Rattle.lines.specs.OneLine.{pointLine, partLine, wiredLine, pinLine, refusedLine}
 use Rattle.lines.specs.InBytes.{sizeAt, textOf, lineAt}
@@ -31,7 +31,7 @@ part-short : (p i : ℕ) → length (partLine p i) ≤ 80
 part-short p i =
     let f = figures (partAt p .inputs + 1) i in
     let k = figures-few (partAt p .inputs + 1) i in
-    let n = inputs-few p in
+    let n = part-inputs p in
     rw (← part-text p i) (omega (arith, length-append (getD names p []) (line f), line-length f, name-short p))
 
 wire-short : (from to : ℕ) → length (wiredLine from to) ≤ 80

@@ -1,12 +1,9 @@
 -- The records of the code as those of the definitions (document 02, L8). Assumes nothing.
 use Prim.Native.Nat.{ℕ}
-use Rattle.calculus.specs.Net.{point, part, Wire, element, wire, pin}
+use Rattle.calculus.specs.Net.{point, part, wireOf, element, wire, pin}
 use Rattle.calculus.specs.NetRead.{itemSize, Front, item, ended, broken}
 use Rattle.net_reader.specs.declared.Record.{Record}
 use Rattle.net_reader.specs.declared.Record.the-variants as rec
-
-abbrev pub wireOf : ℕ → ℕ → Wire
-wireOf from to = record { from = from; to = to }
 
 abbrev pub saidRecord : Record → Front
 saidRecord (rec.Point i) = item (element (point i))

@@ -4,9 +4,9 @@ ghost use mathlib.Core.Path.{_≡_};
 ghost use Prim.Native.Nat.{_+_, _<_};
 ghost use lib.ListN.{length};
 ghost use Rattle.calculus.specs.Read.{byte};
-ghost use Rattle.calculus.specs.Net.{point, element, wire, pin};
+ghost use Rattle.calculus.specs.Net.{point, wireOf, element, wire, pin};
 ghost use Rattle.calculus.specs.NetRead.{item, twoAt, uncut, knownPart, itemAt};
-ghost use Rattle.net_reader.specs.Said.{saidRecord, frontSize, wireOf};
+ghost use Rattle.net_reader.specs.Said.{saidRecord, frontSize};
 
 // What stands at an offset: a record of kind 21 to 24, the end, or no record (kind unknown, body cut short, part unknown). Terminals
 // are bare numbers here: which are inputs and which outputs the elements tell, and not the record.

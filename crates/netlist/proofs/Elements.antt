@@ -76,12 +76,6 @@ kinds-tiled (k ∷ ks) n = by (eqb k 7) (kinds-tiled ks)
     by true next = (refl, next (n + 2))
     by false next = (refl, next (n + partAt k .inputs + 1))
 
--- and no others
-pub tiled-end : (es : List Element) (n d e : ℕ) → Tiled es n d → Tiled es n e → d ≡ e
-tiled-end [] n d e p q = sym p ∙ q
-tiled-end (point i ∷ es) n d e p q = tiled-end es (n + 2) d e (p .1) (q .1)
-tiled-end (part k i ∷ es) n d e p q = tiled-end es (n + partAt k .inputs + 1) d e (p .1) (q .1)
-
 -- kinds of known elements: a part's number, or 7
 pub kinds-known : (ks : List ℕ) (n i : ℕ) → All Known (elementsFrom ks n) → i < length ks → getD ks i 0 < 8
 kinds-known [] n i a h = absurd (omega arith)

@@ -12,13 +12,16 @@ use Rattle.calculus.specs.Net.{elementBytes, wireBytes, pinBytes, netBytes}
 use Rattle.calculus.specs.Makers.{written}
 use Rattle.calculus.specs.Record.{All}
 use Rattle.calculus.specs.Inputs.{targets}
+use Rattle.circuit_theorems.proofs.Terminals.{tiled-rising, made-high}
+use Rattle.circuit_theorems.proofs.Counts.{wire-bytes, pin-bytes}
+use Rattle.circuit_theorems.proofs.Bounds.{tiled-end}
 use Rattle.circuit_theorems.proofs.NodeBytes.{node-bytes}
 use Rattle.memory.specs.Map.{targetsAt, elementsAt, stackAt, makersAt, region, elementsFrom, wiresFrom, terminalOf, netIn, Ready}
 use Rattle.calculus.specs.NetRead.{Known}
 use Rattle.netlist.specs.Elements.{after, afterAll, elementSize, nodeSize, elementRecords}
-use Rattle.netlist.proofs.Records.{wires-append, pins-append, wires-length, pins-length, net-length}
-use Rattle.netlist.proofs.Elements.{firstBytes, firstAfter, bytes-more, length-more, after-one, bytes-within, after-within, kinds-tiled, tiled-end, kinds-known, kinds-length, records-are, records-length, firstRecords, records-first, records-more}
-use Rattle.netlist.proofs.Targets.{made-past, target-counted}
+use Rattle.netlist.proofs.Records.{wires-append, pins-append, net-length}
+use Rattle.netlist.proofs.Elements.{firstBytes, firstAfter, bytes-more, length-more, after-one, bytes-within, after-within, kinds-tiled, kinds-known, kinds-length, records-are, records-length, firstRecords, records-first, records-more}
+use Rattle.netlist.proofs.Targets.{target-counted}
 
 pub wires-count : (w is : List ℕ) → length (wiresFrom w is) ≡ length is
 wires-count w [] = refl
@@ -78,10 +81,10 @@ pins-more w a i h =
 -- ---- the length of n of them
 
 pub wires-first : (w : List ℕ) (a n : ℕ) → a + n ≤ length w → length (wireBytes (wiresFrom w (region w a n))) ≡ 5 * n
-wires-first w a n h = rw (wires-length (wiresFrom w (region w a n)), wires-count w (region w a n), region-length w a n h)
+wires-first w a n h = rw (wire-bytes (wiresFrom w (region w a n)), wires-count w (region w a n), region-length w a n h)
 
 pub pins-first : (w : List ℕ) (a n : ℕ) → a + n ≤ length w → length (pinBytes (map terminalOf (region w a n))) ≡ 3 * n
-pins-first w a n h = rw (pins-length (map terminalOf (region w a n)), length-map (region w a n) terminalOf, region-length w a n h)
+pins-first w a n h = rw (pin-bytes (map terminalOf (region w a n)), length-map (region w a n) terminalOf, region-length w a n h)
 
 -- ---- a whole netlist
 
@@ -121,7 +124,7 @@ module _ (w : List ℕ) (e k p : ℕ) (r : Ready w e k p) where
       let l = region-length w targetsAt k (omega arith) in
       let counted : 1 ≤ targets (wiresFrom w ts) t = rw (← region-at w targetsAt k j h) (target-counted w ts j (omega arith)) in
       let once = r .formed .reached t in
-      let past : 8192 ≤ t → ⊥ = λ g. omega (arith, made-past (elementsFrom (region w elementsAt e) 0) 0 (r .end) t (r .tiled) (omega arith)) in
+      let past : 8192 ≤ t → ⊥ = λ g. omega (arith, made-high (elementsFrom (region w elementsAt e) 0) 0 (r .end) t (tiled-rising (elementsFrom (region w elementsAt e) 0) 0 (r .end) (r .tiled)) (omega arith)) in
       omega arith
 
   pub kind-here : All Known (netIn w e k p .elements) → (i : ℕ) → i < e → getD w (elementsAt + i) 0 < 8

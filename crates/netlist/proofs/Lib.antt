@@ -1,7 +1,6 @@
 pub mod Records
 pub mod Bytes
 pub mod Elements
-pub mod PartInputs
 pub mod Targets
 pub mod InMemory
 pub mod Whole

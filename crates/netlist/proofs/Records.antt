@@ -1,11 +1,10 @@
 -- Laws of the records' bytes: records in a row, and their length. Assumes nothing.
 use mathlib.Core.Path.{_≡_, refl, ap, _∙_}
 use mathlib.Core.List.{List, [], _∷_, _++_}
-use Prim.Native.Nat.{ℕ, _+_, _*_}
-use native.Mathlib.Omega.{arith}
+use Prim.Native.Nat.{ℕ, _+_}
 use lib.ListN.{length, length-append}
 use lib.Seq.{sets}
-use Rattle.laws.proofs.Regions.{sets-append}
+use Rattle.laws.proofs.Regions.{written-more}
 use Rattle.calculus.specs.Net.{Interface, Element, point, part, Wire, Net, elementBytes, wireBytes, pinBytes, netBytes}
 
 -- ---- records in a row
@@ -25,14 +24,6 @@ pins-append (x ∷ xs) ys = rw (pins-append xs ys)
 
 -- ---- their length
 
-pub wires-length : (xs : List Wire) → length (wireBytes xs) ≡ 5 * length xs
-wires-length [] = refl
-wires-length (x ∷ xs) = let h = wires-length xs in omega arith
-
-pub pins-length : (xs : Interface) → length (pinBytes xs) ≡ 3 * length xs
-pins-length [] = refl
-pins-length (x ∷ xs) = let h = pins-length xs in omega arith
-
 pub net-length : (m : Net) → length (netBytes m) ≡ length (elementBytes (m .elements)) + (length (wireBytes (m .wires)) + length (pinBytes (m .pins)))
 unfolding netBytes
 net-length m =
@@ -43,4 +34,4 @@ net-length m =
 
 -- a record behind those that stand
 pub record-more : (out bs cs all : List ℕ) (from at : ℕ) → at ≡ from + length bs → all ≡ bs ++ cs → sets (sets out from bs) at cs ≡ sets out from all
-record-more out bs cs all from at h e = rw (h, e) (sets-append bs cs out from)
+record-more out bs cs all from at h e = rw e (written-more out bs cs from at h)

@@ -5,11 +5,11 @@ ghost use Prim.Native.Nat.{_+_, _*_, _≤_, _<_};
 ghost use lib.ListN.{length};
 ghost use lib.Seq.{sets};
 ghost use mathlib.Core.Bool.{false};
-ghost use Rattle.calculus.specs.Net.{two, number, point, part, elementBytes, wireBytes, pinBytes};
+ghost use Rattle.calculus.specs.Net.{two, number, point, part, wireOf, elementBytes, wireBytes, pinBytes};
 ghost use Rattle.calculus.specs.Makers.{nodeBytes, written};
 ghost use Rattle.calculus.specs.Terms.{partAt};
 ghost use Rattle.memory.specs.Map.{targetsAt, elementsAt, stackAt, makersAt, code, terminalOf, region, elementsFrom, wiresFrom, netIn, Ready};
-ghost use Rattle.netlist.specs.Said.{saidTerminal, wire};
+ghost use Rattle.netlist.specs.Said.{saidTerminal};
 ghost use Rattle.netlist.specs.Elements.{outputOf, after, elementSize, nodeSize, elementRecords};
 ghost use Rattle.netlist.specs.Fitting.{ElementsFit, WiresFit, PinsFit, Writable};
 
@@ -108,7 +108,7 @@ pub fn put_node_part(out: &mut [u8], at: usize, kind: u8, first: u16, node: u16)
 // A wire: 23, the output that it runs from, the input that it runs to.
 pub fn put_wire(out: &mut [u8], at: usize, from: Out, to: In) -> usize
     requires { ⌜ at + 5 ≤ length (now out) ⌝ }
-    ensures { λ r. ⌜ (r ≡ at + 5) × (now (out .exit) ≡ sets (now (out .entry)) at (wireBytes (wire (from .0) (to .0) ∷ []))) ⌝ }
+    ensures { λ r. ⌜ (r ≡ at + 5) × (now (out .exit) ≡ sets (now (out .entry)) at (wireBytes (wireOf (from .0) (to .0) ∷ []))) ⌝ }
 {
     out[at] = 0x23;
     let mid = put_two(out, at + 1, from.0);

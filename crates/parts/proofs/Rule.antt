@@ -12,6 +12,7 @@ use Rattle.calculus.specs.Terms.{first, parts, partAt}
 use Rattle.calculus.specs.Listing.{names}
 use Rattle.laws.proofs.Tests.{and-both}
 use Rattle.laws.proofs.Below.{below}
+use Rattle.sheet_theorems.proofs.Sound.{tyEq→eq}
 use Rattle.parts.specs.declared.Part.{Part}
 use Rattle.parts.specs.declared.Name.{Name}
 use Rattle.parts.specs.Table.{PartEntry, isPart, noPart, saidPart, entryOf, named, nameAt, padded, shapeTy}
@@ -38,25 +39,6 @@ rowAt p = getD codeTable p (entryRow 0 0 0 false)
 abbrev nameRowAt : ℕ → Name
 nameRowAt p = getD nameTable p (nameRow [] 0)
 
--- two types that pass the test are one
-same-type : (σ τ : Ty) → T (tyEq σ τ) → σ ≡ τ
-same-type bit bit t = refl
-same-type bit (prod c d) t = absurd t
-same-type bit (arrow c d) t = absurd t
-same-type bit (lolli c d) t = absurd t
-same-type (prod a b) bit t = absurd t
-same-type (prod a b) (prod c d) t = let h = and-both (tyEq a c) (tyEq b d) t in rw (same-type a c (h .0), same-type b d (h .1))
-same-type (prod a b) (arrow c d) t = absurd t
-same-type (prod a b) (lolli c d) t = absurd t
-same-type (arrow a b) bit t = absurd t
-same-type (arrow a b) (prod c d) t = absurd t
-same-type (arrow a b) (arrow c d) t = let h = and-both (tyEq a c) (tyEq b d) t in rw (same-type a c (h .0), same-type b d (h .1))
-same-type (arrow a b) (lolli c d) t = absurd t
-same-type (lolli a b) bit t = absurd t
-same-type (lolli a b) (prod c d) t = absurd t
-same-type (lolli a b) (arrow c d) t = absurd t
-same-type (lolli a b) (lolli c d) t = let h = and-both (tyEq a c) (tyEq b d) t in rw (same-type a c (h .0), same-type b d (h .1))
-
 abbrev entryEq : PartEntry → PartEntry → Bool
 entryEq x y = eqb (x .inputs) (y .inputs) && (eqb (x .outputs) (y .outputs) && (tyEq (x .in-first) (y .in-first) && tyEq (x .in-second) (y .in-second)))
 
@@ -68,7 +50,7 @@ same-entry i j o q σ τ σ′ τ′ t =
     let h = and-both (eqb i j) _ t in
     let k = and-both (eqb o q) _ (h .1) in
     let l = and-both (tyEq σ τ) _ (k .1) in
-    rw (eqb→eq i j (h .0), eqb→eq o q (k .0), same-type σ τ (l .0), same-type σ′ τ′ (l .1))
+    rw (eqb→eq i j (h .0), eqb→eq o q (k .0), tyEq→eq σ τ (l .0), tyEq→eq σ′ τ′ (l .1))
 
 -- the rule: every entry of the table is the part's
 pub right : (p : ℕ) → p < 7 → saidPart (rowAt p) ≡ entryOf p

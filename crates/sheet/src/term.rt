@@ -60,7 +60,8 @@ fn limits(r: Node, at: usize, count: usize, more: usize, types: usize, second: b
     Head::Opens(r.next, r.subterms)
 }
 
-// The refusal of a record that cannot be read is passed on.
+// The refusal of a record that cannot be read is passed on, which inside the term is what a type's kind is too: no type comes back, and the
+// last case stands only because a match has every case.
 fn head_at(s: &[u8], at: usize, count: usize, more: usize, types: usize, second: bool) -> Head
     ensures { λ h. ⌜ saidHead h ≡ opens (editionBy second) more (now (s .entry)) types at count ⌝ }
 {

@@ -1,11 +1,10 @@
 -- What a call answers, by what its stages found. Assumes nothing.
 use Prim.Native.Nat.{ℕ, _≤_}
 use mathlib.Core.Path.{_≡_, refl, subst, _∙_}
-use mathlib.Core.Bool.{Bool, true, false}
 use mathlib.Core.List.{List}
 use lib.Dec.{leb}
 use lib.ListN.{length}
-use Rattle.calculus.specs.Answer.{Answer, good, refused, _>>=_, need}
+use Rattle.calculus.specs.Answer.{Answer, good, refused, _>>=_}
 use Rattle.calculus.specs.Net.{Net}
 use Rattle.calculus.specs.Lean.{lean}
 use Rattle.calculus.specs.Translate.{full, workOf}
@@ -16,6 +15,7 @@ use Rattle.lean.specs.Table.{Rooted}
 use Rattle.translator.specs.Made.{lent, Keeps}
 use Rattle.trace_calculus.specs.Trace.{ran, trace, runCall}
 use Rattle.translator.specs.Said.{AnswerSays, called}
+use Rattle.translator.proofs.Lent.{need-first}
 use Rattle.translator.specs.declared.Answer as code
 use Rattle.translator.specs.declared.Answer.the-variants as answer
 use Rattle.trace.proofs.StageLaws.{above-within, above-keeps}
@@ -27,11 +27,6 @@ rooted-ran u v w e k p n bits starts out after r l q h = (
   subst (λ (m : Net). AnswerSays r out after (ran (lean m) n bits starts (length out))) (q .net) (h .0),
   h .1 ∙ above-keeps u v l (above-within (q .within)),
 )
-
--- a call's answer is that of the netlist, once there is a full one
-need-first : (t : Bool) (a : Answer Net) (f : Net → Answer (List ℕ)) → (need t 1 0 >>= λ _. a >>= f) ≡ ((need t 1 0 >>= λ _. a) >>= f)
-need-first true a f = refl
-need-first false a f = refl
 
 module _ (s bits starts out : List ℕ) (n memory : ℕ) where
   trace-lent : trace memory s n bits starts (length out) ≡ (lent memory s >>= λ m. ran (lean m) n bits starts (length out))

@@ -41,10 +41,10 @@ pub fn run(
     let reads = ticks * ins;
     let writes = ticks * outs;
     if !lent(inputs, starts, reads, regs) {
-        return crate::refused(20, 0);
+        return translator::refused(20, 0);
     }
     if out.len() < writes {
-        return crate::refused(17, writes);
+        return translator::refused(17, writes);
     }
     ticks::begin(work, end);
     ticks::wake(work, starts, regs);

@@ -5,24 +5,11 @@ mod tables;
 
 use translator::Answer;
 use translator::Made;
-use typing::Refusal;
 ghost use mathlib.Core.Path.{_≡_};
 ghost use lib.ListN.{length};
 ghost use Rattle.translator.specs.Made.{Keeps};
-ghost use Rattle.translator.specs.Said.{AnswerSays, called, refusedAs};
+ghost use Rattle.translator.specs.Said.{AnswerSays, called};
 ghost use Rattle.trace_calculus.specs.Trace.{trace, runCall};
-
-// A refusal that names no types.
-fn refused(number: u8, place: usize) -> Answer
-    ensures { λ r. ⌜ r ≡ refusedAs number place ⌝ }
-{
-    Answer::Refused(Refusal {
-        number,
-        place,
-        wanted: 0,
-        found: 0,
-    })
-}
 
 // The netlist is made and run. The working memory is not yet cleared.
 fn run_sheet(

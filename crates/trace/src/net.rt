@@ -40,7 +40,7 @@ fn run_lean(
     let left = order::settle(work, total);
     if left > 0 {
         let place = ring::lowest(work, left);
-        return crate::refused(19, place);
+        return translator::refused(19, place);
     }
     free::run(work, inputs, starts, out, end, total, pins, ticks)
 }

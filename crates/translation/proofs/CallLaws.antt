@@ -5,7 +5,7 @@ use mathlib.Core.Bool.{Bool, true, false}
 use mathlib.Core.List.{List}
 use lib.Dec.{leb}
 use lib.ListN.{length}
-use Rattle.calculus.specs.Answer.{Answer, good, refused, _>>=_, need}
+use Rattle.calculus.specs.Answer.{Answer, good, refused, _>>=_}
 use Rattle.typing.specs.declared.Refusal.{Refusal}
 use Rattle.typing.specs.Verdicts.{saidWhy}
 use Rattle.calculus.specs.Net.{Net}
@@ -15,14 +15,11 @@ use Rattle.export_calculus.specs.Card.{onCard}
 use Rattle.export_calculus.specs.CardCall.{cardAnswer, cardCall}
 use Rattle.translator.specs.Made.{lent, Keeps}
 use Rattle.translator.specs.Said.{inRoom, AnswerSays, called}
+use Rattle.translator.proofs.Lent.{need-first}
 use Rattle.translator.specs.declared.Answer as code
 use Rattle.translator.specs.declared.Answer.the-variants as answer
 
 -- a call's answer is that of the netlist, once there is a full one
-need-first : (t : Bool) (a : Answer Net) (f : Net → Answer (List ℕ)) → (need t 1 0 >>= λ _. a >>= f) ≡ ((need t 1 0 >>= λ _. a) >>= f)
-need-first true a f = refl
-need-first false a f = refl
-
 answer-lent : (card : Bool) (memory : ℕ) (b : Wish) (s : List ℕ) (room : ℕ) → cardAnswer card memory b s room ≡ (lent memory s >>= λ m. onCard card s m >>= λ _. inRoom (askedBytes b m (makersOf s)) room)
 unfolding cardAnswer lent inRoom
 answer-lent card memory b s room = need-first (leb 32768 memory) (full s) (λ m. onCard card s m >>= λ _. inRoom (askedBytes b m (makersOf s)) room)

@@ -9,18 +9,16 @@ use lib.Seq.{take-at}
 use borrow.Author.Tests.{lt-leb, le-leb}
 use Rattle.calculus.specs.Answer.{Answer, good, refused, _>>=_, refuse}
 use Rattle.calculus.proofs.Answers.{refused≢good, good-inj, on-bind, on-need}
-use Rattle.calculus.specs.Types.{Ty}
 use Rattle.calculus.specs.Read.{Sheet, readSheet}
-use Rattle.calculus.specs.Rules.{Typed}
 use Rattle.calculus.specs.Net.{Net, make, netOf}
 use Rattle.calculus.specs.Makers.{makersOf, dropNodes}
 use Rattle.circuit_theorems.proofs.NodeBytes.{written-dropped}
 use Rattle.calculus.specs.NetRead.{readNet}
 use Rattle.calculus.specs.Translate.{full, Wish, asked, askedMakers, askedBytes, answer, zeroed, saidOf, outOf, workOf, call}
-use Rattle.sheet_theorems.proofs.Exact.{exact}
-use Rattle.circuit_theorems.proofs.Main.{accepts, driven, undriven, made-once, same-circuit, same-circuit-parts}
+use Rattle.circuit_theorems.proofs.Main.{accepts, accepted-by, driven, undriven, made-once, same-circuit, same-circuit-parts}
 use Rattle.circuit_theorems.proofs.Told.{bytes-tell}
 use Rattle.memory.proofs.Zeroed.{zeroed-length, zeroed-zeros, zeroed-later}
+use Rattle.translator.proofs.Keeping.{work-small}
 use Rattle.translation.specs.Demands.{Wrote, Cleared, Demand1, Derivable, Demand2, OneDriver, Circuit, Demand3}
 use Rattle.sheet_theorems.proofs.Judging.{Judged, value, refusal}
 use Rattle.translation.proofs.Places.{CallPlace, CallBytes, answer-places}
@@ -64,27 +62,15 @@ work-clears : (work : List ℕ) → 32768 ≤ length work → Cleared 32768 work
 unfolding workOf
 work-clears work h = rw (le-leb 32768 (length work) h) (zeroed-clears 32768 work h)
 
-pub work-stays : (work : List ℕ) → length work < 32768 → workOf work ≡ work
-unfolding workOf
-work-stays work h = rw (lt-leb 32768 (length work) h)
-
 pub demand-1 : (b : Wish) (s out work : List ℕ) → Demand1 b s out work (call b s out work)
 unfolding call
 demand-1 b s out work = record {
   wrote = wrote s out (answer-places (length work) b s (length out));
-  small = λ h. let e = too-small b s (length work) (length out) h in (ap saidOf e, ap (λ (a : Answer (List ℕ)). outOf a out) e, work-stays work h);
+  small = λ h. let e = too-small b s (length work) (length out) h in (ap saidOf e, ap (λ (a : Answer (List ℕ)). outOf a out) e, work-small work h);
   cleared = λ h. work-clears work h;
 }
 
 -- ---- demand 2
-
--- the netlist of a sheet with a derivation, within the limits
-full-of : (s : List ℕ) (σ : Sheet) (τ : Ty) → readSheet s ≡ good σ → Typed (σ .edition) (σ .table) [] (σ .term) τ → make (σ .table) (σ .term) [] 0 .next ≤ 8192
-    → full s ≡ good (netOf (make (σ .table) (σ .term) [] 0))
-unfolding full
-full-of s σ τ e d h =
-    let a = exact s σ e .1 (τ, d) in
-    rw (e, a .1, le-leb (make (σ .table) (σ .term) [] 0 .next) 8192 h)
 
 answer-of : (b : Wish) (s : List ℕ) (memory room : ℕ) (m : Net) → 32768 ≤ memory → full s ≡ good m → length (askedBytes b m (makersOf s)) ≤ room
     → answer memory b s room ≡ good (askedBytes b m (makersOf s))
@@ -120,7 +106,7 @@ module _ (b : Wish) (s out work : List ℕ) where
       let w = d .conditions in
       let m = netOf (make (σ .table) (σ .term) [] 0) in
       let e : answered ≡ good (askedBytes b m (makersOf s)) =
-      answer-of b s (length work) (length out) m (w .memory) (full-of s σ (d .type) (w .reads) (d .typed) (w .terminals)) (subst (λ (x : ℕ). x ≤ length out) (sym (w .needs)) (w .room)) in
+      answer-of b s (length work) (length out) m (w .memory) (accepted-by s σ (d .type) (w .reads) (d .typed) (w .terminals)) (subst (λ (x : ℕ). x ≤ length out) (sym (w .needs)) (w .room)) in
       ap saidOf e ∙ ap good (w .needs)
 
   bytes-are : (n : ℕ) (a : Answer (List ℕ)) → answered ≡ a → saidOf a ≡ good n → (σ : Sheet) → readSheet s ≡ good σ

@@ -21,9 +21,8 @@ use Rattle.export_calculus.specs.Card.{profiled}
 use Rattle.root_type.specs.Chains.{chainIn}
 use Rattle.translator.specs.Made.{Keeps}
 use Rattle.translator.proofs.Keeping.{later-keeps}
-use Rattle.translator.specs.Said.{inRoom, AnswerSays}
+use Rattle.translator.specs.Said.{refusedAs, inRoom, AnswerSays}
 use Rattle.translator.specs.declared.Answer as code
-use Rattle.translator.specs.declared.Answer.the-variants as answer
 use Rattle.translation.specs.Wished.{cardBy, onPass}
 
 -- the netlist that is wished
@@ -67,7 +66,7 @@ module _ {u v x : List ℕ} {e k p : ℕ} (z : 32768 ≤ length u) (l : e ≤ 51
 -- ---- the card's check
 
 pub check-refused : (a : Answer (Unit {0})) (n p : ℕ) (out : List ℕ) (bytes : Answer (List ℕ)) → refuse n p ≡ a
-    → AnswerSays (answer.Refused (record { number = n; place = p; wanted = 0; found = 0 })) out out (onPass a bytes)
+    → AnswerSays (refusedAs n p) out out (onPass a bytes)
 check-refused a n p out bytes e = rw (← e) (record { said = refl; wrote = refl })
 
 pub check-passed : (a : Answer (Unit {0})) (r : code.Answer) (out after : List ℕ) (bytes bytes′ : Answer (List ℕ)) → good tt ≡ a → bytes ≡ bytes′

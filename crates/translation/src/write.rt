@@ -2,7 +2,6 @@
 use crate::Wish;
 use card::Judged;
 use translator::Answer;
-use typing::Refusal;
 use wiring::Counts;
 ghost use mathlib.Core.Path.{_≡_};
 ghost use lib.ListN.{length};
@@ -34,7 +33,7 @@ fn write_full(
 {
     let n = netlist::full_length(work, elements, wires, pins, plain);
     if out.len() < n {
-        return translator::too_short(n);
+        return translator::refused(17, n);
     }
     let length = netlist::write_full(work, out, elements, wires, pins, plain);
     Answer::Written(length)
@@ -54,7 +53,7 @@ fn write_lean(
 {
     let n = lean::lean_length(work, elements, wires, pins, plain);
     if out.len() < n {
-        return translator::too_short(n);
+        return translator::refused(17, n);
     }
     let written = lean::write_lean(work, out, elements, wires, pins, plain);
     Answer::Written(written)
@@ -94,12 +93,7 @@ fn write_card(
     let pins = counts.pins;
     lean::roots(work, elements, wires, pins);
     match card::judge(records, root, work, elements, wires, pins) {
-        Judged::Refused(number, place) => Answer::Refused(Refusal {
-            number,
-            place,
-            wanted: 0,
-            found: 0,
-        }),
+        Judged::Refused(number, place) => translator::refused(number, place),
         Judged::Passes => write_rooted(&work[..], out, counts, wish),
     }
 }

@@ -1,18 +1,24 @@
 -- What a caller of `make` knows: the netlist that stands in the working memory, or the refusal. Assumes nothing.
-use mathlib.Core.Path.{_≡_, sym, ap, subst, _∙_}
-use mathlib.Core.Bool.{Bool, false}
+use mathlib.Core.Path.{_≡_, refl, sym, ap, subst, _∙_}
+use mathlib.Core.Bool.{Bool, true, false}
 use mathlib.Core.List.{List}
 use lib.ListN.{length}
 use Prim.Native.Nat.{ℕ}
-use Rattle.calculus.specs.Answer.{good, refused}
+use Rattle.calculus.specs.Answer.{Answer, good, refused, _>>=_, need}
 use Rattle.typing.specs.declared.Refusal.{Refusal}
 use Rattle.typing.specs.Verdicts.{saidWhy}
+use Rattle.calculus.specs.Net.{Net}
 use Rattle.calculus.specs.Makers.{makersOf}
 use Rattle.memory.specs.Map.{makersAt, region, netIn}
 use Rattle.wiring.specs.declared.Counts.{Counts}
 use Rattle.translator.specs.Made.{lent, saidMade, Standing, Named, rootNumber, RootTold, MakeLeaves}
 use Rattle.translator.specs.declared.Made as code
 use Rattle.translator.specs.declared.Made.the-variants as made
+
+-- a call's answer is that of the netlist, once there is a full one
+pub need-first : (t : Bool) (a : Answer Net) (f : Net → Answer (List ℕ)) → (need t 1 0 >>= λ _. a >>= f) ≡ ((need t 1 0 >>= λ _. a) >>= f)
+need-first true a f = refl
+need-first false a f = refl
 
 module _ (plain : Bool) (r : code.Made) (s work after : List ℕ) (M : MakeLeaves plain r s work after) where
   pub net-stands : (c : Counts) {t : ℕ} → r ≡ made.Net c t → Standing (made.Net c t) after

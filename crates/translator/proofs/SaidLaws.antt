@@ -11,7 +11,7 @@ use Rattle.calculus.specs.Answer.{Refusal, Answer, good, refused, refuse}
 use Rattle.calculus.proofs.Answers.{refused≢good, good-inj, refused-inj}
 use Rattle.calculus.specs.Translate.{saidOf, outOf, Call}
 use Rattle.laws.proofs.Regions.{sets-front}
-use Rattle.translator.specs.Said.{saidAnswer, tooShort, inRoom, AnswerSays, called}
+use Rattle.translator.specs.Said.{saidAnswer, refusedAs, inRoom, AnswerSays, called}
 use Rattle.translator.specs.declared.Answer as code
 use Rattle.translator.specs.declared.Answer.the-variants as answer
 
@@ -24,7 +24,7 @@ module _ (bytes out : List ℕ) where
   unfolding inRoom
   in-fits h = rw (le-leb (length bytes) (length out) h)
 
-  pub says-short : (n : ℕ) → n ≡ length bytes → length out < n → AnswerSays (tooShort n) out out (inRoom bytes (length out))
+  pub says-short : (n : ℕ) → n ≡ length bytes → length out < n → AnswerSays (refusedAs 17 n) out out (inRoom bytes (length out))
   says-short n e h =
       let f = in-short (subst (λ (x : ℕ). length out < x) e h) in
       record { said = ap (λ (x : ℕ). refuse 17 x) e ∙ sym (ap saidOf f); wrote = sym (ap (λ (a : Answer (List ℕ)). outOf a out) f) }

@@ -19,10 +19,6 @@ saidAnswer (answer.Refused why) = refused (saidWhy why)
 abbrev pub refusedAs : ℕ → ℕ → code.Answer
 refusedAs number place = answer.Refused (record { number = number; place = place; wanted = 0; found = 0 })
 
--- 17, with the length needed
-abbrev pub tooShort : ℕ → code.Answer
-tooShort n = refusedAs 17 n
-
 -- bytes for an output of so many, or 17
 unfoldable pub inRoom : List ℕ → ℕ → Answer (List ℕ)
 inRoom bytes room = do

@@ -10,7 +10,7 @@ ghost use lib.ListN.{length};
 ghost use Rattle.calculus.specs.Translate.{workOf};
 ghost use Rattle.translator.specs.Stages.{ReadStage, WellTyped};
 ghost use Rattle.translator.specs.Made.{madeRefused, MakeLeaves};
-ghost use Rattle.translator.specs.Said.{saidAnswer, tooShort};
+ghost use Rattle.translator.specs.Said.{saidAnswer, refusedAs};
 ghost use Rattle.translator.specs.Word.{packed};
 
 // What a call that writes answers: the number of bytes written, or a refusal, its number and place, and for 12 the type number wanted and
@@ -27,7 +27,19 @@ pub enum Made {
 }
 
 // A refusal that names no types.
-fn refused(number: u8, place: usize) -> Made
+pub fn refused(number: u8, place: usize) -> Answer
+    ensures { λ r. ⌜ r ≡ refusedAs number place ⌝ }
+{
+    Answer::Refused(Refusal {
+        number,
+        place,
+        wanted: 0,
+        found: 0,
+    })
+}
+
+// .. before there is a netlist.
+fn not_made(number: u8, place: usize) -> Made
     ensures { λ r. ⌜ r ≡ madeRefused number place ⌝ }
 {
     Made::Refused(Refusal {
@@ -52,7 +64,7 @@ fn counted(
     ensures { λ r. ⌜ ((q : WellTyped (now (records .entry)) (now (sizes .entry)) start nodes root) → MakeLeaves plain r (q .read .whole) (now (work .entry)) (now (work .exit))) ⌝ }
 {
     if 8192 < wiring::count(records, sizes, start, nodes) {
-        return refused(16, 0);
+        return not_made(16, 0);
     }
     let counts = wiring::make_net(records, sizes, work, start);
     if plain {
@@ -88,12 +100,12 @@ pub fn make(sheet: &[u8], work: &mut [u16], plain: bool) -> Made
     ensures { λ r. ⌜ MakeLeaves plain r (now (sheet .entry)) (now (work .entry)) (now (work .exit)) ⌝ }
 {
     if work.len() < 32768 {
-        return refused(1, 0);
+        return not_made(1, 0);
     }
     let r = sheet::read(sheet);
     let verdict = r.verdict;
     match verdict {
-        Verdict::Refused(number, place) => refused(number, place),
+        Verdict::Refused(number, place) => not_made(number, place),
         Verdict::Read(types, nodes, start) => {
             let sizes = r.sizes;
             let second = sheet::is_second(sheet);
@@ -109,18 +121,6 @@ pub fn make(sheet: &[u8], work: &mut [u16], plain: bool) -> Made
             )
         }
     }
-}
-
-// 17, with the length needed.
-pub fn too_short(n: usize) -> Answer
-    ensures { λ r. ⌜ r ≡ tooShort n ⌝ }
-{
-    Answer::Refused(Refusal {
-        number: 17,
-        place: n,
-        wanted: 0,
-        found: 0,
-    })
 }
 
 // The working memory as every call leaves it: the first 32,768 numbers 0; where it has fewer, as it was.

@@ -26,16 +26,6 @@ use Rattle.typing.specs.declared.rules.Fit.the-variants as how
 use Rattle.records.specs.TypeNumbers.{kindNo, leftNo, rightNo, sidedOf}
 use Rattle.typing.specs.Steps.{Types, bothSides, standsFor, numberBelow, tyIn, constantOf, openingOf, wantedOf, usedUp, entersOf, halvesIn, appliedOf, pairedOf, joinedOf, closesOf}
 
--- ---- a test that the code turns round
-
-pub not-so : (b : Bool) → not b ≡ true → b ≡ false
-not-so true e = absurd (let z : _≡_ {A = ℕ} 0 1 = cc in omega arith)
-not-so false e = refl
-
-pub so : (b : Bool) → not b ≡ false → b ≡ true
-so true e = refl
-so false e = absurd (let z : _≡_ {A = ℕ} 0 1 = cc in omega arith)
-
 -- ---- by the numbers of a type record
 
 module _ {q : Sided} (r : TyRec) (e : q ≡ sidedOf r) where

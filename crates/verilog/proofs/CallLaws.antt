@@ -1,11 +1,10 @@
 -- What the call answers, by what its stages found. Assumes nothing.
 use Prim.Native.Nat.{ℕ}
 use mathlib.Core.Path.{_≡_, refl}
-use mathlib.Core.Bool.{Bool, true, false}
 use mathlib.Core.List.{List}
 use lib.Dec.{leb}
 use lib.ListN.{length}
-use Rattle.calculus.specs.Answer.{Answer, good, refused, _>>=_, need}
+use Rattle.calculus.specs.Answer.{Answer, good, refused, _>>=_}
 use Rattle.typing.specs.declared.Refusal.{Refusal}
 use Rattle.typing.specs.Verdicts.{saidWhy}
 use Rattle.calculus.specs.Net.{Net}
@@ -13,14 +12,11 @@ use Rattle.calculus.specs.Translate.{full, workOf}
 use Rattle.export_calculus.specs.Verilog.{exported, export, verilogCall}
 use Rattle.translator.specs.Made.{lent, Keeps}
 use Rattle.translator.specs.Said.{AnswerSays, called}
+use Rattle.translator.proofs.Lent.{need-first}
 use Rattle.translator.specs.declared.Answer as code
 use Rattle.translator.specs.declared.Answer.the-variants as answer
 
 -- the answer is that of the netlist, once there is a full one
-need-first : (t : Bool) (a : Answer Net) (f : Net → Answer (List ℕ)) → (need t 1 0 >>= λ _. a >>= f) ≡ ((need t 1 0 >>= λ _. a) >>= f)
-need-first true a f = refl
-need-first false a f = refl
-
 export-lent : (memory : ℕ) (s : List ℕ) (room : ℕ) → export memory s room ≡ (lent memory s >>= λ m. exported m room)
 unfolding export lent
 export-lent memory s room = need-first (leb 32768 memory) (full s) (λ m. exported m room)

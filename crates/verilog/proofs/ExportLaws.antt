@@ -16,11 +16,10 @@ use Rattle.lean.proofs.LeanLaws.{kinds-low}
 use Rattle.lines.specs.Wrote.{WroteText}
 use Rattle.ring_points.specs.Rings.{ringFrom}
 use Rattle.ring_points.proofs.RingLaws.{ring-answer}
-use Rattle.translator.specs.Said.{tooShort, inRoom, AnswerSays}
+use Rattle.translator.specs.Said.{refusedAs, inRoom, AnswerSays}
 use Rattle.translator.specs.declared.Answer as code
 use Rattle.translator.specs.declared.Answer.the-variants as answer
 use Rattle.translator.proofs.SaidLaws.{says-short, says-fits}
-use Rattle.verilog.specs.InMemory.{ringKept}
 
 module _ (w : List ℕ) (e k p : ℕ) (q : Whole w e k p) (place : ℕ) (is : place ≡ ringFrom w (region w elementsAt e) 0) (o : List ℕ) where
   abbrev m : Net
@@ -37,12 +36,12 @@ module _ (w : List ℕ) (e k p : ℕ) (q : Whole w e k p) (place : ℕ) (is : pl
   unfolding exported inRoom
   free h = rw (ring-answer w e k p q 18 (kinds-low w e k p q), ← is, le-ltb place 8192 h)
 
-  pub ring-says : place < 8192 → AnswerSays (ringKept place) o o (exported m (length o))
+  pub ring-says : place < 8192 → AnswerSays (refusedAs 18 place) o o (exported m (length o))
   ring-says h = let f = ringed h in record { said = sym (ap saidOf f); wrote = sym (ap (λ (a : Answer (List ℕ)). outOf a o) f) }
 
   module _ (none : 8192 ≤ place) where
-    pub short-says : (n : ℕ) → n ≡ 0 + length text → length o < n → AnswerSays (tooShort n) o o (exported m (length o))
-    short-says n g h = subst (AnswerSays (tooShort n) o o) (sym (free none)) (says-short text o n (omega arith) h)
+    pub short-says : (n : ℕ) → n ≡ 0 + length text → length o < n → AnswerSays (refusedAs 17 n) o o (exported m (length o))
+    short-says n g h = subst (AnswerSays (refusedAs 17 n) o o) (sym (free none)) (says-short text o n (omega arith) h)
 
     pub module-says : {n : ℕ} {after : List ℕ} → length text ≤ length o → WroteText o 0 text after n → AnswerSays (answer.Written n) o after (exported m (length o))
     module-says {n} {after} h g =

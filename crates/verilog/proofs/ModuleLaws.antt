@@ -18,7 +18,7 @@ use Rattle.export_calculus.specs.Verilog.{elementForms, portForms, assignForms,
 use Rattle.memory.specs.Map.{elementsAt, stackAt, region, elementsFrom, terminalOf, netIn}
 use Rattle.calculus.specs.NetRead.{Known}
 use Rattle.netlist.proofs.Elements.{kinds-length}
-use Rattle.netlist.proofs.PartInputs.{inputs-few}
+use Rattle.circuit_theorems.proofs.Counts.{part-inputs}
 use Rattle.netlist.proofs.InMemory.{kind-here}
 use Rattle.lean.specs.Table.{entry, Whole, Leaned}
 use Rattle.lean.specs.InMemory.{undriven, keptIn, keepIn, inputIn, inputsIn, elementIn, leanWiresIn, pinIn}
@@ -88,7 +88,7 @@ module _ (w : List ℕ) where
   inputs-in-few (suc c) i = omega (arith, input-few i, inputs-in-few c (i + 1), length-append (inputIn w i) (inputsIn w c (i + 1)))
 
   element-few : (x : Element) → length (elementIn w x) ≤ 2
-  element-few (part p i) = omega (arith, inputs-in-few (partAt p .inputs) i, inputs-few p)
+  element-few (part p i) = omega (arith, inputs-in-few (partAt p .inputs) i, part-inputs p)
   element-few (point i) = by (keptIn w (point i) && not (undriven w i))
     where
       by : (b : Bool) → length {A = Wire} (cond b (record { from = i + 1; to = i } ∷ []) []) ≤ 2

@@ -9,11 +9,10 @@ use lib.ListN.{length, getD, drop, length-append}
 use lib.Seq.{sets}
 use borrow.Author.Tests.{ne-eqb, eq-eqb}
 use Rattle.calculus.specs.Terms.{partAt}
-use Rattle.calculus.specs.Net.{Element, point, part, Wire}
+use Rattle.calculus.specs.Net.{Element, point, part, Wire, wireOf}
 use Rattle.export_calculus.specs.Verilog.{elementForms, portForms, assignForms, Line, kindLine, lineText, linesText, lineOfElement, lineOfWire, lineOfPin, lineOfPort}
 use Rattle.memory.specs.Map.{elementsAt, stackAt, region, elementsFrom, terminalOf}
 use Rattle.netlist.specs.Elements.{after, afterAll}
-use Rattle.netlist.specs.Said.{wire}
 use Rattle.netlist.proofs.Elements.{after-rises}
 use Rattle.lines.specs.Wrote.{WroteText}
 use Rattle.lean.specs.Table.{entry}
@@ -108,21 +107,21 @@ module _ (w : List ℕ) where
   unfolding wiresText wireText
   wire-pin k n e f = rw (eq-eqb k 7 e, eq-eqb (getD w n 0) 65535 f) (by (eqb (entry w (n + 1)) (n + 1)))
     where
-      by : (b : Bool) → linesText assignForms (map lineOfWire (cond (b && false) (wire (n + 1) n ∷ []) [] ++ [])) ≡ []
+      by : (b : Bool) → linesText assignForms (map lineOfWire (cond (b && false) (wireOf (n + 1) n ∷ []) [] ++ [])) ≡ []
       by true = refl
       by false = refl
 
-  pub wire-point : (k n : ℕ) → k ≡ 7 → keptIn w (point n) ≡ true → (getD w n 0 ≡ 65535 → ⊥) → wiresText w (k ∷ []) n ≡ lineText assignForms (lineOfWire (wire (n + 1) n))
+  pub wire-point : (k n : ℕ) → k ≡ 7 → keptIn w (point n) ≡ true → (getD w n 0 ≡ 65535 → ⊥) → wiresText w (k ∷ []) n ≡ lineText assignForms (lineOfWire (wireOf (n + 1) n))
   unfolding wiresText wireText
-  wire-point k n e f d = rw (eq-eqb k 7 e, f, ne-eqb (getD w n 0) 65535 d) (append-nil (lineText assignForms (lineOfWire (wire (n + 1) n))))
+  wire-point k n e f d = rw (eq-eqb k 7 e, f, ne-eqb (getD w n 0) 65535 d) (append-nil (lineText assignForms (lineOfWire (wireOf (n + 1) n))))
 
   pub input-none : (i : ℕ) → getD w i 0 ≡ 65535 → wireText (inputIn w i) ≡ []
   unfolding wireText
   input-none i e = rw (eq-eqb (getD w i 0) 65535 e)
 
-  pub input-driven : (i : ℕ) → (getD w i 0 ≡ 65535 → ⊥) → wireText (inputIn w i) ≡ lineText assignForms (lineOfWire (wire (entry w (getD w i 0)) i))
+  pub input-driven : (i : ℕ) → (getD w i 0 ≡ 65535 → ⊥) → wireText (inputIn w i) ≡ lineText assignForms (lineOfWire (wireOf (entry w (getD w i 0)) i))
   unfolding wireText
-  input-driven i d = rw (ne-eqb (getD w i 0) 65535 d) (append-nil (lineText assignForms (lineOfWire (wire (entry w (getD w i 0)) i))))
+  input-driven i d = rw (ne-eqb (getD w i 0) 65535 d) (append-nil (lineText assignForms (lineOfWire (wireOf (entry w (getD w i 0)) i))))
 
   -- the first of the inputs that are still to come
   pub inputs-first : (count first i : ℕ) → i < count

@@ -8,8 +8,6 @@ use Rattle.export_calculus.specs.Verilog.{elementForms, portForms, assignForms,
 use Rattle.memory.specs.Map.{elementsFrom, terminalOf, netIn}
 use Rattle.lean.specs.Table.{Whole}
 use Rattle.lean.specs.InMemory.{keepIn, leanWiresIn, pinIn}
-use Rattle.translator.specs.declared.Answer as code
-use Rattle.translator.specs.declared.Answer.the-variants as answer
 
 unfoldable pub elementText : List Element → List ℕ
 elementText es = linesText elementForms (map lineOfElement es)
@@ -33,7 +31,3 @@ pinsText w i cs = linesText assignForms (linesOfPins i (leanPins w cs))
 
 unfoldable pub portsText : List ℕ → ℕ → List ℕ → List ℕ
 portsText w i cs = linesText portForms (linesOfPorts i (leanPins w cs))
-
--- 18, at a kept ring point's input
-abbrev pub ringKept : ℕ → code.Answer
-ringKept input = answer.Refused (record { number = 18; place = input; wanted = 0; found = 0 })

@@ -5,7 +5,6 @@ mod walk;
 
 use translator::Answer;
 use translator::Made;
-use typing::Refusal;
 use wiring::Counts;
 ghost use mathlib.Core.Path.{_≡_};
 ghost use lib.ListN.{length};
@@ -18,19 +17,6 @@ ghost use Rattle.memory.specs.Map.{netIn, Ready};
 ghost use Rattle.lines.specs.Wrote.{WroteText};
 ghost use Rattle.translator.specs.Made.{Keeps};
 ghost use Rattle.translator.specs.Said.{AnswerSays, called};
-ghost use Rattle.verilog.specs.InMemory.{ringKept};
-
-// 18, at a kept ring point's input.
-fn ring_kept(input: usize) -> Answer
-    ensures { λ r. ⌜ r ≡ ringKept input ⌝ }
-{
-    Answer::Refused(Refusal {
-        number: 18,
-        place: input,
-        wanted: 0,
-        found: 0,
-    })
-}
 
 // The module's text, stored as far as the output reaches, and its length. So an output of any length tells the length, and one that is
 // long enough has the whole text.
@@ -55,12 +41,12 @@ fn export_lean(work: &[u16], out: &mut [u8], elements: usize, wires: usize, pins
 {
     let place = ring_points::lowest(work, elements, wires, pins);
     if place < 8192 {
-        return ring_kept(place);
+        return translator::refused(18, place);
     }
     let mut none = [0u8; 1];
     let n = put_module(work, &mut none, elements, wires, pins);
     if out.len() < n {
-        return translator::too_short(n);
+        return translator::refused(17, n);
     }
     let written = put_module(work, out, elements, wires, pins);
     Answer::Written(written)

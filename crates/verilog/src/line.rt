@@ -6,7 +6,8 @@ use netlist::Terminal;
 ghost use mathlib.Core.Path.{_≡_};
 ghost use Prim.Native.Nat.{_≤_, _<_};
 ghost use Rattle.export_calculus.specs.Verilog.{elementForms, portForms, assignForms, lineText, kindLine, lineOfWire, lineOfPin, lineOfPort};
-ghost use Rattle.netlist.specs.Said.{saidTerminal, wire};
+ghost use Rattle.calculus.specs.Net.{wireOf};
+ghost use Rattle.netlist.specs.Said.{saidTerminal};
 ghost use Rattle.lines.specs.Wrote.{WroteText};
 
 // An element of a kind whose first terminal is given: its nets, and what drives its output.
@@ -39,7 +40,7 @@ pub fn put_element(out: &mut [u8], at: usize, kind: u16, first: u16) -> usize
 // A wire.
 pub fn put_wire(out: &mut [u8], at: usize, from: Out, to: In) -> usize
     requires { ⌜ at ≤ 4294967296 ⌝ }
-    ensures { λ r. ⌜ WroteText (now (out .entry)) at (lineText assignForms (lineOfWire (wire (from .0) (to .0)))) (now (out .exit)) r ⌝ }
+    ensures { λ r. ⌜ WroteText (now (out .entry)) at (lineText assignForms (lineOfWire (wireOf (from .0) (to .0)))) (now (out .exit)) r ⌝ }
 {
     form::put_form(
         out,

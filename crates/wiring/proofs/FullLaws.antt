@@ -45,7 +45,8 @@ use Rattle.wiring.specs.Asks.{Asks, Leaves}
 use Rattle.wiring.specs.Count.{Counting}
 use Rattle.wiring.specs.Whole.{Read, Accepted, NetStands}
 use Rattle.wiring.proofs.LinkLaws.{terminal-back}
-use Rattle.wiring.proofs.StoreLaws.{sets-at, lies-region}
+use Rattle.laws.proofs.Regions.{sets-at}
+use Rattle.wiring.proofs.StoreLaws.{lies-region}
 
 -- ---- a read sheet
 

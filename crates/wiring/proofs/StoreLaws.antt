@@ -8,7 +8,7 @@ use native.Mathlib.Omega.{arith}
 use native.Mathlib.Decide.{decLe, ℕ-discrete}
 use lib.ListN.{length, getD, set, length-append, length-set, List·getD-append}
 use lib.Seq.{sets, length-sets, getD-set-same, getD-set-other, getD-append-add, drop-set-lt, ext-getD}
-use Rattle.laws.proofs.Regions.{sets-before, sets-outside, sets-drop, region-length, region-at}
+use Rattle.laws.proofs.Regions.{sets-before, sets-outside, sets-drop, sets-at, region-length, region-at}
 use Rattle.calculus.specs.Net.{inp, out, Interface, Wire, join}
 use Rattle.calculus.specs.Record.{All}
 use Rattle.memory.specs.Map.{targetsAt, elementsAt, stackAt, bindersAt, memorySize, region, code}
@@ -20,16 +20,6 @@ use Rattle.wiring.specs.Store.{Store, Lies, Low, Holds, moreKinds, atSta
 use Rattle.wiring.proofs.LinkLaws.{linked-codes}
 
 -- ---- one list
-
--- what a run stored is read back
-pub sets-at : (vs w : List ℕ) (i k : ℕ) → i + length vs ≤ length w → k < length vs → getD (sets w i vs) (i + k) 0 ≡ getD vs k 0
-sets-at [] w i k h l = absurd (omega arith)
-sets-at (v ∷ vs) w i zero h l =
-    let e : i + 0 ≡ i = omega arith in
-    rw e (sets-before vs (set w i v) (suc i) i 0 (omega arith) ∙ getD-set-same w i v 0 (omega arith))
-sets-at (v ∷ vs) w i (suc k) h l =
-    let e : i + suc k ≡ suc i + k = omega arith in
-    rw e (sets-at vs (set w i v) (suc i) k (rw length-set (omega arith)) (omega arith))
 
 module _ {w : List ℕ} {from room : ℕ} {xs : List ℕ} (L : Lies w from room xs) where
   -- a run past the room, or before it

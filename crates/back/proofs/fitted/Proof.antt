@@ -23,7 +23,7 @@ returns c =
     let x = c .before .before .before .before .before in
     let a = x .args in
     let n = c .before .before .length in
-    rw (c .too-short .ensures) (says-short (backSheet (netHere (a .net .now))) (a .out .now) (n .result) (n .ensures ∙ sheet-length (a .net .now) (a .parts) (a .counts .undriven) (a .counts .inputs) (x .pre .0) (x .pre .1 .all)) (c .before .if1 .taken))
+    rw (c .refused .ensures) (says-short (backSheet (netHere (a .net .now))) (a .out .now) (n .result) (n .ensures ∙ sheet-length (a .net .now) (a .parts) (a .counts .undriven) (a .counts .inputs) (x .pre .0) (x .pre .1 .all)) (c .before .if1 .taken))
 
 sheet-requires : tie.Need-sheet-requires
 sheet-requires c κs =

@@ -9,13 +9,13 @@ use borrow.Author.Needs.{needs}
 use Rattle.batch.proofs.batch.Statement.{statement}
 use Rattle.batch.proofs.batch.Tie as tie
 
-misfits-requires : tie.Need-misfits-requires
-misfits-requires c κs = search needs
+refused-requires : tie.Need-refused-requires
+refused-requires c κs = search needs
 
 returns : tie.Need-returns
 returns c =
     let a = c .before .before .before .before .before .before .before .args in
-    rw (c .misfits .ensures) (sym (no-room (allWish (a .wish)) (a .sheets .now) (a .lengths .now) (a .out .now) (a .results .now) (a .work .now) (c .before .if1 .taken)))
+    rw (c .refused .ensures) (sym (no-room (allWish (a .wish)) (a .sheets .now) (a .lengths .now) (a .out .now) (a .results .now) (a .work .now) (c .before .if1 .taken)))
 
 adds-up-requires : tie.Need-adds-up-requires
 adds-up-requires c κs = search needs
@@ -45,22 +45,22 @@ returns-2 c =
     e .each .ensures
     ∙ sym (fitting (allWish (a .wish)) (a .sheets .now) (a .lengths .now) (a .out .now) (a .results .now) (a .work .now) (u .before .if1 .left) (sym (u .adds-up .ensures) ∙ t .if2 .taken))
 
-misfits-requires-2 : tie.Need-misfits-requires-2
-misfits-requires-2 c κs = search needs
+refused-requires-2 : tie.Need-refused-requires-2
+refused-requires-2 c κs = search needs
 
 returns-3 : tie.Need-returns-3
 returns-3 c =
     let t = c .before in
     let u = t .before in
     let a = u .before .before .before .before .before .before .before .args in
-    rw (c .misfits2 .ensures)
+    rw (c .refused2 .ensures)
     (sym (no-sum (allWish (a .wish)) (a .sheets .now) (a .lengths .now) (a .out .now) (a .results .now) (a .work .now) (u .before .if1 .left) (sym (u .adds-up .ensures) ∙ t .if2 .left)))
 
 pub batch-spec : {M : Type 1} → statement M
 batch-spec =
     tie.close
     (tie.spec
-    misfits-requires
+    refused-requires
     returns
     adds-up-requires
     each-requires
@@ -68,5 +68,5 @@ batch-spec =
     same-length-2
     same-length-3
     returns-2
-    misfits-requires-2
+    refused-requires-2
     returns-3)

@@ -17,6 +17,9 @@ word-requires c κs = search needs
 enum-known-number : tie.Need-enum-known-number
 enum-known-number c = search needs
 
+refused-requires : tie.Need-refused-requires
+refused-requires c κs = search needs
+
 word-requires-2 : tie.Need-word-requires-2
 word-requires-2 c κs = search needs
 
@@ -33,8 +36,9 @@ same-length-2 c = search needs
 
 returns-2 : tie.Need-returns-2
 returns-2 c =
-    let t = c .before .before .before .before .before .before in
-    rw (c .word2 .ensures) (check-packs (t .check .result) _ _ _ (t .check .ensures) (ap verdictAnswer (c .before .before .number .given .1)))
+    let x = c .before in
+    let t = x .before .before .before .before .before .before in
+    rw (c .word2 .ensures, x .refused .ensures) (check-packs (t .check .result) _ _ _ (t .check .ensures) (ap verdictAnswer (x .before .before .number .given .1)))
 
 pub deltawobble-check-spec : {M : Type 1} → statement M
 deltawobble-check-spec =
@@ -44,6 +48,7 @@ deltawobble-check-spec =
     enum-told
     word-requires
     enum-known-number
+    refused-requires
     word-requires-2
     same-length
     returns

@@ -2,7 +2,8 @@
 use native.Mathlib.Omega.{arith}
 use Prim.Native.Nat.{_+_, _*_, _≤_, _<_}
 use lib.ListN.{length}
-use Rattle.netlist.proofs.PartInputs.{inputs-few, part-inputs, part-outputs}
+use Rattle.circuit_theorems.proofs.Counts.{part-inputs}
+use Rattle.parts.proofs.PartInputs.{table-inputs, table-outputs}
 use Rattle.lines.proofs.Stores.{wrote-two}
 use Rattle.lines.proofs.Texts.{part-text, name-short}
 use borrow.Author.Needs.{needs}
@@ -18,9 +19,9 @@ end-line-requires c κs =
     let first = b .before .before .before .before .before .before .put-word in
     let second = b .before .before .put-name in
     let n = name-short (a .p) in
-    let k = inputs-few (a .p) in
-    let e = part-inputs (q .result) (a .p) (q .ensures) in
-    let f = part-outputs (q .result) (a .p) (q .ensures) in
+    let k = part-inputs (a .p) in
+    let e = table-inputs (q .result) (a .p) (q .ensures) in
+    let f = table-outputs (q .result) (a .p) (q .ensures) in
     let sum : q .result .inputs + q .result .outputs ≤ 3 = omega arith in
     let start : a .first < 65536 = s .pre .1 in
     let low : a .first + (q .result .inputs + q .result .outputs) < 4294967296 = omega arith in
@@ -35,7 +36,7 @@ returns c =
     let name = b .before .before .before .put-name .ensures in
     let word = b .before .before .before .before .before .before .before .put-word .ensures in
     let a = b .before .before .before .before .before .before .before .before .before .before .before .args in
-    rw (← part-text (a .p) (a .first), ← part-inputs (q .result) (a .p) (q .ensures), ← part-outputs (q .result) (a .p) (q .ensures)) (wrote-two word (wrote-two name rest))
+    rw (← part-text (a .p) (a .first), ← table-inputs (q .result) (a .p) (q .ensures), ← table-outputs (q .result) (a .p) (q .ensures)) (wrote-two word (wrote-two name rest))
 
 pub part-line-spec : {M : Type 1} → statement M
 part-line-spec =

@@ -7,7 +7,6 @@ use lib.ListN.{length, getD}
 use borrow.Author.Tests.{lt-ltb, le-ltb, le-leb, lt-leb}
 use Rattle.calculus.specs.Net.{point, part, element, wire, pin}
 use Rattle.calculus.specs.NetRead.{item}
-use Rattle.net_reader.specs.Said.{wireOf}
 use Rattle.net_reader.proofs.pin_at.Statement.{statement}
 use Rattle.net_reader.proofs.pin_at.Tie as tie
 

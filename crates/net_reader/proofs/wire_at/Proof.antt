@@ -5,9 +5,8 @@ use mathlib.Core.Path.{_≡_, refl, ap, ap₂}
 use Prim.Native.Nat.{ℕ, _+_}
 use lib.ListN.{length, getD}
 use borrow.Author.Tests.{lt-ltb, le-ltb, le-leb, lt-leb}
-use Rattle.calculus.specs.Net.{point, part, element, wire, pin}
+use Rattle.calculus.specs.Net.{point, part, wireOf, element, wire, pin}
 use Rattle.calculus.specs.NetRead.{item}
-use Rattle.net_reader.specs.Said.{wireOf}
 use Rattle.net_reader.proofs.wire_at.Statement.{statement}
 use Rattle.net_reader.proofs.wire_at.Tie as tie
 

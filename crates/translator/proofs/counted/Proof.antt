@@ -16,15 +16,15 @@ use Rattle.translator.proofs.counted.Tie as tie
 count-requires : tie.Need-count-requires
 count-requires c κs = search needs
 
-refused-requires : tie.Need-refused-requires
-refused-requires c κs = search needs
+not-made-requires : tie.Need-not-made-requires
+not-made-requires c κs = search needs
 
 returns : tie.Need-returns
 returns c =
     let n = c .before .before in
     let q = n .before .before .before .before in
     λ t.
-    rw (c .refused .ensures)
+    rw (c .not-made .ensures)
     (many-makes (t .read .whole) (q .args .work .now) (q .pre .0) (t .read .told .sheet) (t .read .told .is) (t .found) (t .walked) (q .args .plain) (rw (n .count .ensures (t .read)) at (c .before .if1 .taken)))
 
 make-net-requires : tie.Need-make-net-requires
@@ -87,4 +87,4 @@ returns-3 c =
 pub counted-spec : {M : Type 1} → statement M
 counted-spec =
     tie.close
-    (tie.spec count-requires refused-requires returns make-net-requires same-length returns-2 name-requires same-length-2 returns-3)
+    (tie.spec count-requires not-made-requires returns make-net-requires same-length returns-2 name-requires same-length-2 returns-3)

@@ -9,13 +9,13 @@ use borrow.Author.Needs.{needs}
 use Rattle.translator.proofs.make.Statement.{statement}
 use Rattle.translator.proofs.make.Tie as tie
 
-refused-requires : tie.Need-refused-requires
-refused-requires c κs = search needs
+not-made-requires : tie.Need-not-made-requires
+not-made-requires c κs = search needs
 
 returns : tie.Need-returns
 returns c =
     let a = c .before .before .before .before .args in
-    rw (c .refused .ensures) (small-makes (a .plain) (a .sheet .now) (a .work .now) (c .before .if1 .taken))
+    rw (c .not-made .ensures) (small-makes (a .plain) (a .sheet .now) (a .work .now) (c .before .if1 .taken))
 
 read-requires : tie.Need-read-requires
 read-requires c κs = search needs
@@ -23,8 +23,8 @@ read-requires c κs = search needs
 enum-known-verdict : tie.Need-enum-known-verdict
 enum-known-verdict c = search needs
 
-refused-requires-2 : tie.Need-refused-requires-2
-refused-requires-2 c κs = search needs
+not-made-requires-2 : tie.Need-not-made-requires-2
+not-made-requires-2 c κs = search needs
 
 enum-known-verdict-2 : tie.Need-enum-known-verdict-2
 enum-known-verdict-2 c = search needs
@@ -53,7 +53,7 @@ returns-2 c =
     let r = k .before .before .before in
     let x = r .before in
     let a = x .before .before .before .args in
-    rw (c .refused2 .ensures) (unread-makes (a .sheet .now) (a .work .now) (x .if1 .left) (a .plain) _ _ (untold (a .sheet .now) (r .read .result) _ _ (r .read .ensures) (k .before .verdict .given .1)))
+    rw (c .not-made2 .ensures) (unread-makes (a .sheet .now) (a .work .now) (x .if1 .left) (a .plain) _ _ (untold (a .sheet .now) (r .read .result) _ _ (r .read .ensures) (k .before .verdict .given .1)))
 
 same-length : tie.Need-same-length
 same-length c = search needs
@@ -72,11 +72,11 @@ pub make-spec : {M : Type 1} → statement M
 make-spec =
     tie.close
     (tie.spec
-    refused-requires
+    not-made-requires
     returns
     read-requires
     enum-known-verdict
-    refused-requires-2
+    not-made-requires-2
     enum-known-verdict-2
     is-second-requires
     records-of-requires

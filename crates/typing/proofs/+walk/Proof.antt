@@ -16,7 +16,7 @@ use Rattle.binders.proofs.Laws.{length-of, slot-low}
 use Rattle.typing.specs.declared.Verdict.the-variants as verdict
 use Rattle.typing.specs.Verdicts.{reached, withMarks, held, atCount}
 use Rattle.typing.specs.Walkable.{Walkable}
-use Rattle.typing.proofs.StepLaws.{not-so, so}
+use borrow.Author.Tests.{not-true, not-false}
 use Rattle.typing.proofs.VerdictLaws.{says-fine, says-refused, says-under, says-as, says-anyhow}
 use Rattle.typing.proofs.StateLaws.{boundTo, enter-misfit, enter-opened, binds-few, binds-sort, halvedTo, clearedAt, closes-few, follows-refused, follows-halves, bound-kept, halved-kept}
 use Rattle.typing.proofs.WalkLaws.{firstSubterm, secondOf}
@@ -155,7 +155,7 @@ module _ (t : ℕ) where
           some = o .before .before .before .before .if1 .left;
           says =
               says-fine (own c) _ _ (n .first)
-              (enter-opened (recIn (a .s .now)) _ _ _ (o .before .before .before .opens .ensures) (o .before .before .bound .ensures) (a .b) (long (from-opened o)) (first-slot (from-opened o)) (so _ (o .if2 .left)) (c .before .before .with-bit .ensures) (c .before .with-bit2 .ensures));
+              (enter-opened (recIn (a .s .now)) _ _ _ (o .before .before .before .opens .ensures) (o .before .before .bound .ensures) (a .b) (long (from-opened o)) (first-slot (from-opened o)) (not-false _ (o .if2 .left)) (c .before .before .with-bit .ensures) (c .before .with-bit2 .ensures));
         }
 
     abbrev opened : (c : walk-lts.After-struct-known3 (calls t) (walk-at t) walk.Post) → Fitting (from-opened (opening c)) Θ e → On InsideFine (from-opened (opening c)) Θ e
@@ -228,7 +228,7 @@ pub +walk-spec : {M : Type 1} → statement M
       place = here t (c .before .before .before .before .before .before .before .before .before .before) F;
       i = reached (c .before .clash .result) (a .b);
       some = c .before .before .before .before .before .before .if1 .left;
-      says = says-refused (a .b) _ _ _ (c .before .clash .ensures) (enter-misfit (recIn (a .s .now)) _ _ _ (c .before .before .before .before .before .opens .ensures) (c .before .before .before .before .bound .ensures) _ (not-so _ (c .before .before .if2 .taken)));
+      says = says-refused (a .b) _ _ _ (c .before .clash .ensures) (enter-misfit (recIn (a .s .now)) _ _ _ (c .before .before .before .before .before .opens .ensures) (c .before .before .before .before .bound .ensures) _ (not-true _ (c .before .before .if2 .taken)));
     })
     (c .before .clash .ensures))))
     (λ c. first-slot t (from-opened t c))

@@ -13,7 +13,7 @@ returns c =
     let x = c .before in
     let s = x .before .before .before .before in
     let a = s .args in
-    rw (c .ring-kept .ensures) (ring-says (a .work .now) (a .elements) (a .wires) (a .pins) (s .pre .whole) _ (x .before .lowest .ensures) (a .out .now) (x .if1 .taken))
+    rw (c .refused .ensures) (ring-says (a .work .now) (a .elements) (a .wires) (a .pins) (s .pre .whole) _ (x .before .lowest .ensures) (a .out .now) (x .if1 .taken))
 
 slice-aggregate-put-module : tie.Need-slice-aggregate-put-module
 slice-aggregate-put-module c = search needs
@@ -28,7 +28,7 @@ returns-2 c =
     let l = p .before .before in
     let s = l .before .before .before .before in
     let a = s .args in
-    rw (c .too-short .ensures)
+    rw (c .refused2 .ensures)
     (short-says (a .work .now) (a .elements) (a .wires) (a .pins) (s .pre .whole) _ (l .before .lowest .ensures) (a .out .now) (l .if1 .left) _ (p .put-module .ensures .offset) (x .if2 .taken))
 
 put-module-requires-2 : tie.Need-put-module-requires-2

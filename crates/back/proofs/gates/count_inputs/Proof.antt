@@ -9,7 +9,8 @@ use Rattle.calculus.specs.Net.{Element}
 use Rattle.back_theorems.specs.Back.{sources, undrivens, gatesFrom, gates, openIns}
 use Rattle.back_theorems.proofs.Typing.{few}
 use Rattle.back.specs.Gates.{netHere, inputTotal}
-use Rattle.back.proofs.SourceLaws.{undrivens-few, opens-more, inputs-more, none-left}
+use Rattle.laws.proofs.Regions.{drop-past}
+use Rattle.back.proofs.SourceLaws.{undrivens-few, opens-more, inputs-more}
 use Rattle.back.proofs.gates.count_inputs.Statement.{statement}
 use Rattle.back.proofs.gates.count_inputs.Tie as tie
 
@@ -78,7 +79,7 @@ returns c =
     let a = c .before .before .before in
     let m = netHere (a .args .net .now) in
     let n = a .pre .0 .count in
-    let z = none-left (m .elements) (l .r) (omega arith) in
+    let z = drop-past (m .elements) (l .r) (omega arith) in
     let u : l .undriven + 0 ≡ l .undriven = omega arith in
     let v : l .inputs + 0 ≡ l .inputs = omega arith in
     record {

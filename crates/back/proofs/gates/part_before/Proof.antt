@@ -8,7 +8,8 @@ use lib.ListN.{drop}
 use Rattle.calculus.specs.Net.{Element}
 use Rattle.back_theorems.specs.Back.{partBefore}
 use Rattle.back.specs.Gates.{netHere}
-use Rattle.back.proofs.SourceLaws.{before-here, before-more, none-left}
+use Rattle.laws.proofs.Regions.{drop-past}
+use Rattle.back.proofs.SourceLaws.{before-here, before-more}
 use Rattle.back.proofs.gates.part_before.Statement.{statement}
 use Rattle.back.proofs.gates.part_before.Tie as tie
 
@@ -47,7 +48,7 @@ returns-2 c =
     let n = a .pre .count in
     let es = netHere (a .args .net .now) .elements in
     let z : l .r + 0 ≡ a .args .parts = omega arith in
-    sym z ∙ ap (λ (x : List Element). l .r + partBefore x (a .args .o)) (sym (none-left es (l .r) (omega arith))) ∙ l .inv .1
+    sym z ∙ ap (λ (x : List Element). l .r + partBefore x (a .args .o)) (sym (drop-past es (l .r) (omega arith))) ∙ l .inv .1
 
 pub part-before-spec : {M : Type 1} → statement M
 part-before-spec =

@@ -6,7 +6,8 @@ use mathlib.Core.List.{List, [], _∷_}
 use Prim.Native.Nat.{ℕ, _+_}
 use lib.Seq.{sets}
 use Rattle.back.specs.Rows.{rowsUpTo, applicationRow}
-use Rattle.back.proofs.RowLaws.{written-more, rows-length}
+use Rattle.laws.proofs.Regions.{written-more}
+use Rattle.back.proofs.RowLaws.{rows-length}
 use Rattle.back.proofs.write.put_head.Statement.{statement}
 use Rattle.back.proofs.write.put_head.Tie as tie
 

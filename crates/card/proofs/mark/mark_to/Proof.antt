@@ -3,7 +3,7 @@ use borrow.Author.Needs.{needs}
 use native.Mathlib.Omega.{arith}
 use mathlib.Core.Path.{_≡_, refl, sym, ap, _∙_}
 use Prim.Native.Nat.{ℕ}
-use Rattle.netlist.proofs.PartInputs.{part-inputs}
+use Rattle.parts.proofs.PartInputs.{table-inputs as part-inputs}
 use Rattle.lean.proofs.KindLaws.{part-low}
 use Rattle.card.specs.Marks.{markAll, sourcesIn}
 use Rattle.card.proofs.MarkLaws.{kind-point, kind-part}

@@ -1,9 +1,4 @@
 -- By the record. Assumes nothing.
-use mathlib.Core.Path.{ap, _∙_}
-use native.Mathlib.Omega.{arith}
-use Prim.Native.Nat.{ℕ}
-use Rattle.circuit_theorems.proofs.Counts.{part-inputs}
-use Rattle.foreign.specs.Take.{tookElement}
 use borrow.Author.Needs.{needs}
 use Rattle.foreign.proofs.take.take.Statement.{statement}
 use Rattle.foreign.proofs.take.take.Tie as tie
@@ -20,14 +15,11 @@ element-requires c κs = search needs
 enum-known-r-2 : tie.Need-enum-known-r-2
 enum-known-r-2 c = search needs
 
-cast-element-2 : tie.Need-cast-element-2
-cast-element-2 c = search needs
+cast-part : tie.Need-cast-part
+cast-part c = search needs
 
-inputs-of-requires : tie.Need-inputs-of-requires
-inputs-of-requires c κs = search needs
-
-element-requires-2 : tie.Need-element-requires-2
-element-requires-2 c κs = (search needs, omega (arith, c .inputs-of .ensures, part-inputs (c .before .before .before .r2 .given .0 .0)), search needs)
+part-requires : tie.Need-part-requires
+part-requires c κs = search needs
 
 enum-known-r-3 : tie.Need-enum-known-r-3
 enum-known-r-3 c = search needs
@@ -66,9 +58,7 @@ same-length-2 : tie.Need-same-length-2
 same-length-2 c = search needs
 
 returns-2 : tie.Need-returns-2
-returns-2 c =
-    let a = c .before .before .before .before .before .before .before .before .before .args in
-    rw (c .before .before .before .before .before .before .r2 .given .1) (c .before .before .element2 .ensures ∙ ap (λ (k : ℕ). tookElement (a .lean) (a .st .stage) (a .st .next) (c .before .before .before .before .before .before .r2 .given .0 .1 .0) k (a .work .now)) (c .before .before .before .inputs-of .ensures))
+returns-2 c = rw (c .before .before .before .before .before .r2 .given .1) (c .before .before .part .ensures)
 
 same-length-3 : tie.Need-same-length-3
 same-length-3 c = search needs
@@ -96,9 +86,8 @@ take-spec =
     cast-element
     element-requires
     enum-known-r-2
-    cast-element-2
-    inputs-of-requires
-    element-requires-2
+    cast-part
+    part-requires
     enum-known-r-3
     cast-wire
     cast-wire-2

@@ -3,7 +3,8 @@ use borrow.Author.Needs.{needs}
 use native.Mathlib.Omega.{arith}
 use mathlib.Core.Path.{sym, _∙_}
 use Rattle.netlist.proofs.Elements.{node-small}
-use Rattle.netlist.proofs.PartInputs.{inputs-few, part-inputs}
+use Rattle.circuit_theorems.proofs.Counts.{part-inputs}
+use Rattle.parts.proofs.PartInputs.{table-inputs}
 use Rattle.lean.proofs.KindLaws.{point-low, part-low}
 use Rattle.lean.proofs.RowLaws.{inputs-most, input-most, size-part, size-gone, size-point}
 use Rattle.lean.proofs.sizes.element_size.Statement.{statement}
@@ -18,7 +19,7 @@ inputs-size-requires : tie.Need-inputs-size-requires
 inputs-size-requires c κs =
     let q = c .before .before .part-of in
     let s = c .before .before .before .before .before in
-    let e = part-inputs (q .result) (s .args .kind) (q .ensures) in
+    let e = table-inputs (q .result) (s .args .kind) (q .ensures) in
     let h = part-low (s .args .kind) (s .args .n) 8192 (c .before .before .before .if1 .taken) (s .pre .1) in
     (s .pre .0, rw e (omega arith))
 
@@ -26,14 +27,14 @@ add-result-2 : tie.Need-add-result-2
 add-result-2 c =
     let q = c .before .before .before .part-of in
     let a = c .before .before .before .before .before .before .args in
-    let e = part-inputs (q .result) (a .kind) (q .ensures) in
-    omega (arith, c .before .before .node-size .ensures, node-small (a .plain) 1, c .inputs-size .ensures, inputs-most (a .work .now) (q .result .inputs) (a .n), inputs-few (a .kind))
+    let e = table-inputs (q .result) (a .kind) (q .ensures) in
+    omega (arith, c .before .before .node-size .ensures, node-small (a .plain) 1, c .inputs-size .ensures, inputs-most (a .work .now) (q .result .inputs) (a .n), part-inputs (a .kind))
 
 returns : tie.Need-returns
 returns c =
     let q = c .before .before .before .part-of in
     let a = c .before .before .before .before .before .before .args in
-    rw (size-part (a .work .now) (a .plain) (a .kind) (a .n) (c .before .before .before .before .if1 .taken), ← part-inputs (q .result) (a .kind) (q .ensures), c .inputs-size .ensures, c .before .before .node-size .ensures)
+    rw (size-part (a .work .now) (a .plain) (a .kind) (a .n) (c .before .before .before .before .if1 .taken), ← table-inputs (q .result) (a .kind) (q .ensures), c .inputs-size .ensures, c .before .before .node-size .ensures)
 
 is-kept-requires : tie.Need-is-kept-requires
 is-kept-requires c κs = let s = c .before .before in (s .pre .0, point-low (s .args .kind) (s .args .n) 8192 (c .if1 .left) (s .pre .1))

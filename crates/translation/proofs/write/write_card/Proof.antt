@@ -26,6 +26,9 @@ judge-requires c κs = search needs
 enum-known-number : tie.Need-enum-known-number
 enum-known-number c = search needs
 
+refused-requires : tie.Need-refused-requires
+refused-requires c κs = search needs
+
 enum-told : tie.Need-enum-told
 enum-told c = search needs
 
@@ -41,11 +44,12 @@ same-length c = search needs
 
 returns : tie.Need-returns
 returns c =
-    let s = c .before .before .before .before .before .before .before .before .before .before .before .before .before .before in
+    let x = c .before in
+    let s = x .before .before .before .before .before .before .before .before .before .before .before .before .before .before in
     let a = s .args in
-    let r = c .before .before .before .before .before .before .before .before .before .roots .ensures in
-    let j = c .before .before .before .before .before .judge .ensures in (
-      check-refused _ _ _ _ (inRoom (askedBytes (saidWish (a .wish)) (netIn (a .work .now) (a .counts .elements) (a .counts .wires) (a .counts .pins)) (region (a .work .now) makersAt (a .counts .elements))) (length (a .out .now))) (ap saidJudged (sym (c .before .number .given .1)) ∙ j .0 ∙ ap (λ (m : Net). profiled (chainIn (a .records .now) 256 (a .root)) (lean m)) (r .net)),
+    let r = x .before .before .before .before .before .before .before .before .before .roots .ensures in
+    let j = x .before .before .before .before .before .judge .ensures in (
+      rw (c .refused .ensures) (check-refused _ _ _ _ (inRoom (askedBytes (saidWish (a .wish)) (netIn (a .work .now) (a .counts .elements) (a .counts .wires) (a .counts .pins)) (region (a .work .now) makersAt (a .counts .elements))) (length (a .out .now))) (ap saidJudged (sym (x .before .number .given .1)) ∙ j .0 ∙ ap (λ (m : Net). profiled (chainIn (a .records .now) 256 (a .root)) (lean m)) (r .net))),
       rooted-keeps (s .pre .0 .size) (s .pre .0 .few-elements) r (j .1),
     )
 
@@ -73,6 +77,7 @@ write-card-spec =
     roots-requires
     judge-requires
     enum-known-number
+    refused-requires
     enum-told
     write-rooted-requires
     same-length

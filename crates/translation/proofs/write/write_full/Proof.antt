@@ -12,14 +12,14 @@ use Rattle.translation.proofs.write.write_full.Tie as tie
 full-length-requires : tie.Need-full-length-requires
 full-length-requires c κs = search needs
 
-too-short-requires : tie.Need-too-short-requires
-too-short-requires c κs = search needs
+refused-requires : tie.Need-refused-requires
+refused-requires c κs = search needs
 
 returns : tie.Need-returns
 returns c =
     let x = c .before in
     let a = x .before .before .before .before .args in
-    rw (c .too-short .ensures) (says-short (written (a .plain) (netIn (a .work .now) (a .elements) (a .wires) (a .pins)) (region (a .work .now) makersAt (a .elements))) (a .out .now) (x .before .full-length .result) (x .before .full-length .ensures) (x .if1 .taken))
+    rw (c .refused .ensures) (says-short (written (a .plain) (netIn (a .work .now) (a .elements) (a .wires) (a .pins)) (region (a .work .now) makersAt (a .elements))) (a .out .now) (x .before .full-length .result) (x .before .full-length .ensures) (x .if1 .taken))
 
 write-full-requires : tie.Need-write-full-requires
 write-full-requires c κs = search needs
@@ -37,4 +37,4 @@ returns-2 c =
 
 pub write-full-spec : {M : Type 1} → statement M
 write-full-spec =
-    tie.close (tie.spec full-length-requires too-short-requires returns write-full-requires same-length returns-2)
+    tie.close (tie.spec full-length-requires refused-requires returns write-full-requires same-length returns-2)

@@ -13,13 +13,13 @@ use Rattle.translation.proofs.write.write_lean.Tie as tie
 lean-length-requires : tie.Need-lean-length-requires
 lean-length-requires c κs = search needs
 
-too-short-requires : tie.Need-too-short-requires
-too-short-requires c κs = search needs
+refused-requires : tie.Need-refused-requires
+refused-requires c κs = search needs
 
 returns : tie.Need-returns
 returns c =
     let a = c .before .before .before .before .before .args in
-    rw (c .too-short .ensures) (says-short (written (a .plain) (lean (netIn (a .work .now) (a .elements) (a .wires) (a .pins))) (leanMakers (netIn (a .work .now) (a .elements) (a .wires) (a .pins)) (region (a .work .now) makersAt (a .elements)))) (a .out .now) (c .before .before .lean-length .result) (c .before .before .lean-length .ensures) (c .before .if1 .taken))
+    rw (c .refused .ensures) (says-short (written (a .plain) (lean (netIn (a .work .now) (a .elements) (a .wires) (a .pins))) (leanMakers (netIn (a .work .now) (a .elements) (a .wires) (a .pins)) (region (a .work .now) makersAt (a .elements)))) (a .out .now) (c .before .before .lean-length .result) (c .before .before .lean-length .ensures) (c .before .if1 .taken))
 
 write-lean-requires : tie.Need-write-lean-requires
 write-lean-requires c κs = search needs
@@ -38,7 +38,7 @@ write-lean-spec =
     tie.close
     (tie.spec
     lean-length-requires
-    too-short-requires
+    refused-requires
     returns
     write-lean-requires
     same-length

@@ -3,7 +3,8 @@ use mathlib.Core.Path.{sym, _∙_}
 use Rattle.calculus.specs.Types.{bit}
 use Rattle.records.specs.Forms.{recIn}
 use Rattle.typing.specs.Steps.{standsFor}
-use Rattle.typing.proofs.StepLaws.{not-so, so, both-kind, both-left, both-right}
+use borrow.Author.Tests.{not-true, not-false}
+use Rattle.typing.proofs.StepLaws.{both-kind, both-left, both-right}
 use borrow.Author.Needs.{needs}
 use Rattle.typing.proofs.rules.is_unary.Statement.{statement}
 use Rattle.typing.proofs.rules.is_unary.Tie as tie
@@ -20,14 +21,14 @@ is-bit-requires c κs = search needs
 
 returns-2 : tie.Need-returns-2
 unfolding standsFor
-returns-2 c = both-left _ (c .before .before .before .before .sides-of .ensures) 3 (standsFor (recIn (c .before .before .before .before .before .before .args .s .now)) bit) (standsFor (recIn (c .before .before .before .before .before .before .args .s .now)) bit) (c .before .before .if1 .left) (sym (c .before .is-bit .ensures) ∙ not-so (c .before .is-bit .result) (c .if2 .taken))
+returns-2 c = both-left _ (c .before .before .before .before .sides-of .ensures) 3 (standsFor (recIn (c .before .before .before .before .before .before .args .s .now)) bit) (standsFor (recIn (c .before .before .before .before .before .before .args .s .now)) bit) (c .before .before .if1 .left) (sym (c .before .is-bit .ensures) ∙ not-true (c .before .is-bit .result) (c .if2 .taken))
 
 is-bit-requires-2 : tie.Need-is-bit-requires-2
 is-bit-requires-2 c κs = search needs
 
 returns-3 : tie.Need-returns-3
 unfolding standsFor
-returns-3 c = c .is-bit2 .ensures ∙ both-right _ (c .before .before .before .before .before .sides-of .ensures) 3 (standsFor (recIn (c .before .before .before .before .before .before .before .args .s .now)) bit) (standsFor (recIn (c .before .before .before .before .before .before .before .args .s .now)) bit) (c .before .before .before .if1 .left) (sym (c .before .before .is-bit .ensures) ∙ so (c .before .before .is-bit .result) (c .before .if2 .left))
+returns-3 c = c .is-bit2 .ensures ∙ both-right _ (c .before .before .before .before .before .sides-of .ensures) 3 (standsFor (recIn (c .before .before .before .before .before .before .before .args .s .now)) bit) (standsFor (recIn (c .before .before .before .before .before .before .before .args .s .now)) bit) (c .before .before .before .if1 .left) (sym (c .before .before .is-bit .ensures) ∙ not-false (c .before .before .is-bit .result) (c .before .if2 .left))
 
 pub is-unary-spec : {M : Type 1} → statement M
 is-unary-spec =

@@ -2,7 +2,7 @@
 use borrow.Author.Needs.{needs}
 use native.Mathlib.Omega.{arith}
 use mathlib.Core.Path.{refl, sym, _∙_}
-use Rattle.netlist.proofs.PartInputs.{part-inputs}
+use Rattle.parts.proofs.PartInputs.{table-inputs}
 use Rattle.lean.proofs.KindLaws.{point-low, part-low}
 use Rattle.verilog.proofs.TextRows.{wire-part, wire-gone, wire-pin, wire-point}
 use Rattle.verilog.proofs.walk.put_to.Statement.{statement}
@@ -13,7 +13,7 @@ put-inputs-requires c κs =
     let b = c .before .before in
     let s = b .before .before .before .before in
     let a = s .args in
-    let e = part-inputs (b .part-of .result) (a .kind) (b .part-of .ensures) in
+    let e = table-inputs (b .part-of .result) (a .kind) (b .part-of .ensures) in
     let h = part-low (a .kind) (a .n) 8192 (b .before .if1 .taken) (s .pre .low) in
     record {
       driven = s .pre .driven;
@@ -26,7 +26,7 @@ returns c =
     let p = c .before .before in
     let b = p .before .before .before in
     let a = b .before .before .before .before .args in
-    rw (wire-part (a .work .now) (a .kind) (a .n) (b .before .if1 .taken), ← part-inputs (b .part-of .result) (a .kind) (b .part-of .ensures)) (p .put-inputs .ensures)
+    rw (wire-part (a .work .now) (a .kind) (a .n) (b .before .if1 .taken), ← table-inputs (b .part-of .result) (a .kind) (b .part-of .ensures)) (p .put-inputs .ensures)
 
 -- a point's terminals are below 8,192
 mul-if2 : tie.Need-mul-if2

@@ -1,7 +1,7 @@
 -- `wiring::faces::terminals_of` meets its contract: by the table of parts. Assumes nothing.
 use Prim.Native.Nat.{_+_}
 use mathlib.Core.Path.{ap₂}
-use Rattle.netlist.proofs.PartInputs.{part-inputs, part-outputs}
+use Rattle.parts.proofs.PartInputs.{table-inputs, table-outputs}
 use borrow.Author.Needs.{needs}
 use Rattle.wiring.proofs.faces.terminals_of.Statement.{statement}
 use Rattle.wiring.proofs.faces.terminals_of.Tie as tie
@@ -22,7 +22,7 @@ returns : tie.Need-returns
 returns c =
     let p = c .before .before .part-of in
     let k = c .before .before .before .args .number in
-    ap₂ _+_ (part-inputs (p .result) k (p .ensures)) (part-outputs (p .result) k (p .ensures))
+    ap₂ _+_ (table-inputs (p .result) k (p .ensures)) (table-outputs (p .result) k (p .ensures))
 
 pub terminals-of-spec : {M : Type 1} → statement M
 terminals-of-spec =

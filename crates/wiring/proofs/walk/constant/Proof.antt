@@ -3,7 +3,7 @@ use Prim.Native.Nat.{_+_}
 use native.Mathlib.Omega.{arith}
 use mathlib.Core.Path.{ap₂, _∙_}
 use lib.ListN.{length-set}
-use Rattle.netlist.proofs.PartInputs.{part-inputs, part-outputs}
+use Rattle.parts.proofs.PartInputs.{table-inputs, table-outputs}
 use Rattle.wiring.proofs.LeafLaws.{con-room, con-leaves}
 use borrow.Author.Needs.{needs}
 use Rattle.wiring.proofs.walk.constant.Statement.{statement}
@@ -45,7 +45,7 @@ terminals-requires c κs =
     let p = s .pre in
     let h = con-room (p .0) (p .1) in
     let q = c .before .before .before .part-of in
-    let e = part-inputs (q .result) (s .args .node .first) (q .ensures) in
+    let e = table-inputs (q .result) (s .args .node .first) (q .ensures) in
     (simp length-set (omega (arith, p .0 .asks .holds .size)), omega arith)
 
 add-t18 : tie.Need-add-t18
@@ -53,8 +53,8 @@ add-t18 c =
     let s = c .before .before .before .before .before .before .before .before .before .before in
     let q = c .before .before .before .before .before .before .part-of in
     let h = con-room (s .pre .0) (s .pre .1) in
-    let e = part-inputs (q .result) (s .args .node .first) (q .ensures) in
-    omega (arith, part-outputs (q .result) (s .args .node .first) (q .ensures))
+    let e = table-inputs (q .result) (s .args .node .first) (q .ensures) in
+    omega (arith, table-outputs (q .result) (s .args .node .first) (q .ensures))
 
 add-t17 : tie.Need-add-t17
 add-t17 c = search needs
@@ -67,8 +67,8 @@ returns : tie.Need-returns
 returns c =
     let s = c .before .before .before .before .before .before .before .before .before .before in
     let q = c .before .before .before .before .before .before .part-of in
-    let e = part-inputs (q .result) (s .args .node .first) (q .ensures) in
-    let f = part-outputs (q .result) (s .args .node .first) (q .ensures) in
+    let e = table-inputs (q .result) (s .args .node .first) (q .ensures) in
+    let f = table-outputs (q .result) (s .args .node .first) (q .ensures) in
     λ h. con-leaves h (s .pre .1) (q .result .inputs) (q .result .inputs + q .result .outputs) e (ap₂ _+_ e f) _ (c .before .before .terminals .ensures)
 
 pub constant-spec : {M : Type 1} → statement M
