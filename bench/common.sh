@@ -12,13 +12,14 @@ if [ ! -f "$archive" ]; then
     rt staticlib deltawobble >&2
 fi
 
-# native: whether the archive is for this machine. cc and emulator make and run programs for it.
+# native: whether the archive is for this machine. cc and emulator make and run programs for it. With BENCH_EMULATED=yes
+# it runs under the emulator all the same: bench/instructions then counts as it does on another processor.
 case $(readelf -h "$archive" 2>/dev/null | sed -n 's/^ *Machine: *//p' | head -n 1) in
     *X86-64) for_processor=x86_64 ;;
     AArch64) for_processor=aarch64 ;;
     *) echo "$archive is for a processor that this script does not know" >&2; exit 2 ;;
 esac
-if [ "$for_processor" = "$(uname -m)" ]; then
+if [ "$for_processor" = "$(uname -m)" ] && [ "${BENCH_EMULATED:-no}" = no ]; then
     native=yes cc=gcc emulator='' static=''
 else
     native=no cc=$for_processor-linux-gnu-gcc emulator=qemu-$for_processor static=-static
@@ -33,7 +34,7 @@ else
     kit=$(readlink -f "$(command -v rt)" || true)
     beside=${kit%/bin/rt}/on/$(uname -m)/toolchain/bin/$emulator
     if [ -x "$beside" ]; then emulator=$beside; else need "$emulator" qemu-user; fi
-    echo "the archive is for $for_processor and this machine is $(uname -m): running it under ${emulator##*/}" >&2
+    echo "this machine is $(uname -m), the archive for $for_processor: running it under ${emulator##*/}" >&2
 fi
 
 # the calls that the archive has, as definitions for the C compiler: -DHAS_batch ..

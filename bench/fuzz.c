@@ -21,6 +21,7 @@ static size_t size_of(int kind) {
 static void mark_answer(uint32_t number, uint32_t value, bool lean, bool plain, const uint8_t *out) {
     uint32_t size = 0;
     while (value >> size) size++;
+    tally(number);
     mark((uint32_t)plain << 24 | number << 8 | size << 1 | lean);
     if (number) return;
     /* the parts and record kinds that follow each other in the netlist */

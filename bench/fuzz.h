@@ -59,3 +59,18 @@ static bool cleared(const uint16_t *work, size_t numbers, uint32_t refusal) {
 }
 
 static void mark(uint32_t hash) { seen[hash * 2654435761u >> 18] = 1; }
+
+/* How often each number was answered, told at the end: a run that never met one has not tried it. */
+static uint64_t answers[32];
+
+static void tell(void) {
+    for (int number = 0; number < 32; number++)
+        if (answers[number]) fprintf(stderr, "answer %d: %llu\n", number, (unsigned long long)answers[number]);
+}
+
+static void tally(uint32_t number) {
+    static bool asked;
+    DEMAND(number < 32 && (asked || atexit(tell) == 0));
+    asked = true;
+    answers[number]++;
+}

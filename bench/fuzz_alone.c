@@ -90,7 +90,7 @@ int main(int words, char **word) {
     }
     int marks = 0;
     for (int i = 0; i < SEEN; i++) marks += known[i];
-    printf("inputs %llu, kept %zu beside %zu seeds, marks %d, nothing broken\n", (unsigned long long)runs,
+    printf("inputs %llu, kept %zu beside %zu seeds, marks %d\n", (unsigned long long)runs,
            count - first, first, marks);
     return 0;
 }

@@ -59,6 +59,7 @@ static uint64_t wanted(const uint8_t *net, size_t length, bool lean) {
 static void mark_answer(const uint8_t *net, size_t length, uint64_t answer, bool lean) {
     uint32_t number = answer >> 32, place = (uint32_t)answer, size = 0, before = 0;
     while (place >> size) size++;
+    tally(number);
     mark(number << 8 | size << 1 | lean);
     size_t end = number == 21 || number == 22 ? place : length;
     for (size_t at = 0, step; at < end && (step = record(net + at, length - at)); at += step) {

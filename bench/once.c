@@ -1,8 +1,9 @@
 /* Calls a translator once on each sheet, for counting instructions; linked with the proved one, with
-   second_once.rs or with limit_once.c: once full|lean|plain|lean-plain|lean-card|batch|none|lengths ROOM FILE ROOM FILE ..
+   second_once.rs or with limit_once.c: once 1 full|lean|plain|lean-plain|lean-card|batch|lengths ROOM FILE ROOM FILE ..
    `plain` is the full netlist in plain kinds, `lean-plain` the lean one, `lean-card` the lean one under the
    card's profile; `batch` has the full ones of all sheets by one call, of the proved translator alone;
-   `none` does all but the calls; `lengths` prints the bytes of both netlists with nodes, 0 where refused. */
+   `lengths` prints the bytes of both netlists with nodes, 0 where refused. With 0 for 1 it does all but the
+   calls: the words after it are the same then, so that looking at them is in no difference. */
 #include <stdbool.h>
 #include <stdint.h>
 #include <stdio.h>
@@ -29,16 +30,15 @@ static unsigned length_of(size_t length, size_t room, bool lean) {
 }
 
 int main(int count, char **words) {
-    if (count < 4) return 2;
+    if (count < 5 || count % 2 != 1 || count / 2 - 1 > MOST) return 2;
     /* the calls' frames then stand alike, whatever words and environment lie above them: copies of
        memory take more or fewer instructions by where they stand */
     _Alignas(64) volatile char ground = 0;
-    /* looked at before any call, and whatever is asked for, so that they are in no difference */
-    bool lean = strncmp(words[1], "lean", 4) == 0, plain = strstr(words[1], "plain") != 0, card = strstr(words[1], "card") != 0;
-    bool told = strcmp(words[1], "lengths") == 0, called = strcmp(words[1], "none") != 0, batched = strcmp(words[1], "batch") == 0;
+    bool called = words[1][0] == '1';
+    bool lean = strncmp(words[2], "lean", 4) == 0, plain = strstr(words[2], "plain") != 0, card = strstr(words[2], "card") != 0;
+    bool told = strcmp(words[2], "lengths") == 0, batched = strcmp(words[2], "batch") == 0;
     size_t all = 0, room_of_all = 0;
-    if (count % 2 != 0 || count / 2 - 1 > MOST) return 2;
-    for (int i = 2; i < count; i += 2) {
+    for (int i = 3; i < count; i += 2) {
         size_t room = strtoul(words[i], 0, 10);
         FILE *file = fopen(words[i + 1], "rb");
         if (room > sizeof out || !file) return 2;
@@ -53,7 +53,7 @@ int main(int count, char **words) {
         else if (called && !batched)
             deltawobble_translate(sheet, length, out, room, work, 32768, lean, plain, card);
     }
-    if (batched)
+    if (called && batched)
         deltawobble_batch(sheets, all, lengths, count / 2 - 1, outs, room_of_all, results, count / 2 - 1, work, 32768, false, false, false);
     return ground;
 }

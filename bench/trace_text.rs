@@ -1,8 +1,7 @@
-//! A sheet's lean netlist as Verilog (the second program's text), and what drives it: trace_text module FILE,
-//! trace_text bench FILE (for Icarus Verilog, with +ticks=N) or trace_text driver FILE (C++ for Verilator, with
-//! N as its word, registers as the model starts them). Both draw the bits as trace_once.c does, and print its sum
-//! of the bits shown. trace_text counts FILE prints inputs, registers and outputs; trace_text sheets COUNT SEED
-//! FOLDER writes sheets that can be run.
+//! What drives a sheet's module: trace_text bench FILE (for Icarus Verilog, with +ticks=N) or trace_text driver
+//! FILE (C++ for Verilator, with N as its word, registers as the model starts them). Both draw the bits as
+//! trace_once.c does, and print its sum of the bits shown. trace_text counts FILE prints inputs, registers and
+//! outputs; trace_text sheets COUNT SEED FOLDER writes sheets that can be run.
 
 use second::lean::lean;
 use second::netlist::{Element, Terminal};
@@ -21,8 +20,7 @@ fn main() {
     let lean = lean(&accepted.full);
     let pins: Vec<bool> = lean.pins.iter().map(|pin| matches!(pin, Terminal::Input(_))).collect();
     match words[1].as_str() {
-        "module" => print!("{}", second::verilog::module(&lean)),
-        "bench" => print!("{}{}", second::verilog::module(&lean), bench(&pins, &registers(&lean.elements))),
+        "bench" => print!("{}", bench(&pins, &registers(&lean.elements))),
         "driver" => print!("{}", driver(&pins)),
         "counts" => {
             let (inputs, registers, outputs) = Circuit::of(lean).counts();

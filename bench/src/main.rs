@@ -1,5 +1,5 @@
 //! The bench program. The scripts beside it build it and call it from the repository's root:
-//! `differential COUNT SEED CALL..`, `put-in COUNT SEED`, `exact COUNT SEED` (for memcheck), `table`, `stack`,
+//! `differential COUNT SEED CALL..`, `put-in COUNT SEED`, `exact COUNT SEED` (for memcheck), `table [plain]`, `stack`,
 //! `sheets FOLDER`, `nets FOLDER`.
 
 mod boundary;
@@ -11,6 +11,8 @@ mod differential;
 mod exact;
 mod fences;
 mod modes;
+#[cfg(linked)]
+mod others;
 mod put_in;
 mod request;
 mod stack;
@@ -47,7 +49,8 @@ fn main() {
         Some("exact") => exact::exact(number(1, 200) as usize, number(2, 1)),
         #[cfg(linked)]
         Some("table") => {
-            table::print();
+            let plain = words.get(1).is_some_and(|word| word == "plain");
+            table::print(table::Kinds { plain });
             true
         }
         Some("stack") => stack::print().map_err(|why| println!("{why}")).is_ok(),
@@ -67,7 +70,7 @@ fn main() {
 fn usage() -> ! {
     eprintln!("usage: bench differential [COUNT] [SEED] [CALL..] | put-in [COUNT] [SEED]");
     eprintln!("       bench stack | sheets FOLDER | nets FOLDER");
-    eprintln!("and where the archive is linked in: bench exact [COUNT] [SEED] | table");
+    eprintln!("and where the archive is linked in: bench exact [COUNT] [SEED] | table [plain]");
     exit(2)
 }
 

@@ -3,7 +3,7 @@
 
 use crate::boundary::linked;
 use crate::classes::{classes, Class};
-use crate::timing::{medians, ROUNDS};
+use crate::timing::{least, ROUNDS};
 use crate::worst::{chain_4095, ordinary, ring_4096};
 use second::sheet::MEMORY;
 use second::translate::{call, wished, Wish};
@@ -17,27 +17,34 @@ struct Times {
     limit: f64,
 }
 
-/// What a call asks for: netlists with nodes, as they are written where nothing else is said.
-fn wish(lean: bool) -> Wish {
-    Wish { lean, ..Wish::default() }
+/// What a call asks for: netlists with nodes, as they are written where nothing else is said, or plain kinds.
+#[derive(Clone, Copy)]
+pub struct Kinds {
+    pub plain: bool,
+}
+
+impl Kinds {
+    fn wish(self, lean: bool) -> Wish {
+        Wish { lean, plain: self.plain, ..Wish::default() }
+    }
 }
 
 /// What is written for each sheet of a class; nothing where it is refused.
-fn netlists(class: &Class, lean: bool) -> Vec<Vec<u8>> {
-    let made = |sheet: &Vec<u8>| wished(sheet, wish(lean), class.room, MEMORY);
+fn netlists(class: &Class, wish: Wish) -> Vec<Vec<u8>> {
+    let made = |sheet: &Vec<u8>| wished(sheet, wish, class.room, MEMORY);
     class.sheets.iter().map(|sheet| made(sheet).unwrap_or_default()).collect()
 }
 
 /// Both netlists of a class, all jobs in turn, on the same output and working memory: how fast they
 /// are cleared depends on where they lie.
-fn times(class: &Class) -> [Times; 2] {
+fn times(class: &Class, kinds: Kinds) -> [Times; 2] {
     let storage = RefCell::new((vec![0u8; class.room], vec![0u16; MEMORY]));
     let lent = &storage;
     let proved = |lean: bool| {
         move || {
             let (out, work) = &mut *lent.borrow_mut();
             for sheet in &class.sheets {
-                black_box(linked::translate(black_box(sheet), out, work, wish(lean)));
+                black_box(linked::translate(black_box(sheet), out, work, kinds.wish(lean)));
             }
         }
     };
@@ -45,12 +52,12 @@ fn times(class: &Class) -> [Times; 2] {
         move || {
             let (out, work) = &mut *lent.borrow_mut();
             for sheet in &class.sheets {
-                black_box(call(black_box(sheet), out, work, wish(lean)));
+                black_box(call(black_box(sheet), out, work, kinds.wish(lean)));
             }
         }
     };
     let limit = |lean: bool| {
-        let written = netlists(class, lean);
+        let written = netlists(class, kinds.wish(lean));
         move || {
             let (out, work) = &mut *lent.borrow_mut();
             for (sheet, netlist) in class.sheets.iter().zip(&written) {
@@ -63,7 +70,7 @@ fn times(class: &Class) -> [Times; 2] {
     };
     let (mut a, mut b, mut c) = (proved(false), second(false), limit(false));
     let (mut d, mut e, mut f) = (proved(true), second(true), limit(true));
-    let all = medians(&mut [&mut a, &mut b, &mut c, &mut d, &mut e, &mut f]);
+    let all = least(&mut [&mut a, &mut b, &mut c, &mut d, &mut e, &mut f]);
     let each = |at: usize| all[at] / class.sheets.len() as f64;
     [0, 3].map(|at| Times { proved: each(at), second: each(at + 1), limit: each(at + 2) })
 }
@@ -83,8 +90,8 @@ fn terminals(sheet: &[u8]) -> usize {
     }
 }
 
-pub fn print() {
-    println!("Nanoseconds a sheet, median of {ROUNDS} interleaved runs in one process.");
+pub fn print(kinds: Kinds) {
+    println!("Nanoseconds a sheet, least of {ROUNDS} interleaved runs in one process.");
     println!(
         "limit: reading the sheet, writing the netlist and clearing 32,768 numbers, once each."
     );
@@ -96,9 +103,10 @@ pub fn print() {
         let count = class.sheets.len();
         let bytes = class.sheets.iter().map(Vec::len).sum::<usize>() / count;
         let terminals = class.sheets.iter().map(|sheet| terminals(sheet)).sum::<usize>() / count;
-        let [full, lean] = times(&class);
+        let [full, lean] = times(&class, kinds);
         for (kind, is_lean, times) in [("full", false, full), ("lean", true, lean)] {
-            let written = netlists(&class, is_lean).iter().map(Vec::len).sum::<usize>() / count;
+            let written =
+                netlists(&class, kinds.wish(is_lean)).iter().map(Vec::len).sum::<usize>() / count;
             println!(
                 "{:<27}{kind:>6}{bytes:>7}{terminals:>7}{written:>8}{:>11.0}{:>11.0}{:>9.3}{:>9.0}{:>9.2}",
                 class.name,
@@ -110,19 +118,20 @@ pub fn print() {
             );
         }
     }
-    growth();
-    rings_and_chains();
-    depths();
+    growth(kinds);
+    rings_and_chains(kinds);
+    depths(kinds);
+    crate::others::print();
 }
 
-fn growth() {
+fn growth(kinds: Kinds) {
     println!("\nGrowth: nanoseconds a terminal, fixed points of 128 bits around each other.");
     println!("clearing: the part of the limit that every sheet pays, a terminal.");
     println!("{:>9}{:>10}{:>10}{:>10}", "terminals", "full", "lean", "clearing");
     for fixed_points in [1, 2, 4, 8, 16, 32] {
         let class = Class::one("growth", ordinary(fixed_points));
         let terminals = (256 * fixed_points) as f64;
-        let [full, lean] = times(&class);
+        let [full, lean] = times(&class, kinds);
         println!(
             "{terminals:>9}{:>10.2}{:>10.2}{:>10.2}",
             full.proved / terminals,
@@ -138,10 +147,10 @@ fn clearing() -> f64 {
         work.fill(0);
         black_box(&mut work);
     };
-    medians(&mut [&mut clear])[0]
+    least(&mut [&mut clear])[0]
 }
 
-fn rings_and_chains() {
+fn rings_and_chains(kinds: Kinds) {
     println!("\nRings and chains: the proved translator, nanoseconds a terminal.");
     println!(
         "{:<27}{:>9}{:>9}{:>10}{:>11}{:>20}",
@@ -155,7 +164,7 @@ fn rings_and_chains() {
     let mut usual = None;
     for (name, sheet) in rows {
         let terminals = terminals(&sheet) as f64;
-        let [full, lean] = times(&Class::one(name, sheet));
+        let [full, lean] = times(&Class::one(name, sheet), kinds);
         let (full, lean) = (full.proved / terminals, lean.proved / terminals);
         let usual = *usual.get_or_insert(lean - full);
         println!(
@@ -167,12 +176,12 @@ fn rings_and_chains() {
     }
 }
 
-fn depths() {
+fn depths(kinds: Kinds) {
     println!("\nDepth: the proved translator, 2,048 nodes, nanoseconds a node.");
     println!("{:<27}{:>9}{:>9}", "depth", "full", "lean");
     let mut first = None;
     for (depth, sheet) in [("12", second::wide::flat(2048)), ("64", second::wide::deep(2048, 64))] {
-        let [full, lean] = times(&Class::one("depth", sheet));
+        let [full, lean] = times(&Class::one("depth", sheet), kinds);
         let (full, lean) = (full.proved / 2048.0, lean.proved / 2048.0);
         println!("{depth:<27}{full:>9.2}{lean:>9.2}");
         let (flat_full, flat_lean) = *first.get_or_insert((full, lean));

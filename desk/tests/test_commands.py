@@ -222,8 +222,35 @@ class Batch(Folder):
         self.assertIn("stopped: 16 of 40 sheets were done", err)
 
 
+#: the lines of an element, by the name of its part; {0}, {1} and {2} are its terminals
+FORMS = {"zero": "wire {0};\nassign {0} = 1'b0;\n", "one": "wire {0};\nassign {0} = 1'b1;\n", "point": "wire {0}, {1};\nassign {1} = {0};\n",
+         "reg": "wire {0};\nreg {1};\nalways @(posedge clock) {1} <= {0};\n", "inv": "wire {0}, {1};\nnot ({1}, {0});\n",
+         **{gate: "wire {0}, {1}, {2};\n%s ({2}, {0}, {1});\n" % gate for gate in ("and", "or", "xor")}}
+
+
+def module(net: Netlist) -> str:
+    """The module of a lean netlist, worked out here (document 02, L1 and L2)."""
+    outputs = {element.output for element in net.elements}
+    ports = "".join(",\n  %s p%04d" % ("output" if pin in outputs else "input", k) for k, pin in enumerate(net.pins))
+    lines = [FORMS[element.name].format(*("t%04d" % t for t in element.terminals)) for element in net.elements]
+    lines += ["assign t%04d = t%04d;\n" % (to, source) for source, to in net.wires]
+    lines += ["assign p%04d = t%04d;\n" % (k, pin) if pin in outputs else "assign t%04d = p%04d;\n" % (pin, k) for k, pin in enumerate(net.pins)]
+    return "module circuit (\n  input clock%s\n);\n%sendmodule\n" % (ports, "".join(lines))
+
+
 @needs("verilog")
 class Verilog(Folder):
+    def test_the_examples_to_the_byte(self):
+        seen = set()
+        for name, sheet, listing in [*examples(), ("one", bytes.fromhex("01 1A 06 00"), "full")]:
+            if listing.startswith("full"):
+                net = Netlist.parse(calls.translate(sheet, lean=True, plain=True))
+                if any(element.part is None and (element.output, element.first) in net.wires for element in net.elements):
+                    continue
+                self.assertEqual(calls.verilog(sheet), module(net), name)
+                seen |= {element.name for element in net.elements}
+        self.assertEqual(seen, set(FORMS))
+
     def test_p3(self):
         status, out, _ = command("verilog", P3)
         self.assertEqual(status, 0)

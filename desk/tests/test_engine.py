@@ -1,6 +1,8 @@
 """The two back ends: what they hand over, what they bring back, and what is said where there is none."""
 from __future__ import annotations
 
+import json
+import os
 import random
 import shutil
 import subprocess
@@ -65,6 +67,23 @@ class BackEnds(unittest.TestCase):
     def test_a_large_frame(self):
         request = Request("run", b"s" * 16384, inputs=bytes(1 << 20), starts=bytes(100), room=1 << 20, number=65535)
         self.assertEqual(self.library.call(request), self.host.call(request))
+
+
+class Proved(unittest.TestCase):
+    """What the other tests call is the archive that was proved, linked and nothing else."""
+
+    def test_the_library_is_the_archive(self):
+        how = engine.MADE / "how.json"
+        made = json.loads(how.read_text()).get("library") if how.exists() and not os.environ.get("DELTAWOBBLE_LIBRARY") else None
+        if made is None:
+            self.skipTest("NOT RUN: what is called is no library that desk/build has made")
+        self.assertEqual(engine.find().name, "%s, in this process" % made)
+        self.assertIn(" %s\n" % made, Path("/proc/self/maps").read_text())
+        with tempfile.TemporaryDirectory() as folder:
+            again = Path(folder) / "libdeltawobble.so"
+            archive = ROOT / "target" / "staticlib" / "libdeltawobble.a"
+            subprocess.run(["gcc", "-shared", "-o", again, "-Wl,--whole-archive", archive, "-Wl,--no-whole-archive"], check=True)
+            self.assertEqual(again.read_bytes(), Path(made).read_bytes())
 
 
 class Missing(unittest.TestCase):
