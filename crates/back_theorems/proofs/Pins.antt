@@ -1,7 +1,7 @@
 -- The netlist that comes back has its open inputs and all part outputs as pins, and its parts are driven (document 02, L11). Assumes nothing.
-use Prim.Native.Nat.{ℕ, zero, suc, _+_, _-_, _*_, _<_, _≤_}
+use Prim.Native.Nat.{ℕ, zero, suc, _+_, _-_, _*_, _<_}
 use mathlib.Core.Path.{_≡_, refl, sym, ap, ap₂, subst, _∙_}
-use mathlib.Core.Bool.{Bool, cond, _||_}
+use mathlib.Core.Bool.{Bool, _||_}
 use mathlib.Core.List.{List, [], _∷_, _++_, map}
 use native.Mathlib.Omega.{arith}
 use lib.Dec.{T, eqb, eqb-refl}
@@ -10,7 +10,7 @@ use Rattle.laws.proofs.Tests.{or-left, or-right, by-eqb}
 use Rattle.calculus.specs.Answer.{good}
 use Rattle.calculus.proofs.Answers.{good-inj}
 use Rattle.calculus.specs.Terms.{partAt}
-use Rattle.calculus.specs.Net.{inp, out, Interface, Element, point, part, Wire, Net}
+use Rattle.calculus.specs.Net.{inp, out, Interface, Element, Wire, Net}
 use Rattle.calculus.specs.Lean.{lean}
 use Rattle.calculus.specs.Inputs.{hasWire}
 use Rattle.calculus.specs.NetRead.{readNet}

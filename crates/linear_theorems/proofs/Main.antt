@@ -38,7 +38,7 @@ pub record Start (Θ : Table) (e : Marked) (m : Net) : Type 0 where
   pub few : make Θ (plain e) [] 0 .next ≤ 8192
   pub net-is : netOf (make Θ (plain e) [] 0) ≡ m
 
-pub start : {s s′ : List ℕ} (r : Rewritten s s′) (m : Net) → full s ≡ good m → Start (r .table) (r .before) m
+start : {s s′ : List ℕ} (r : Rewritten s s′) (m : Net) → full s ≡ good m → Start (r .table) (r .before) m
 start {s} r m a =
     let p = accepts s m a in
     let σ : p .sheet ≡ record { edition = first; table = r .table; term = plain (r .before) } = good-inj (sym (p .reads) ∙ r .reads) in
@@ -72,7 +72,7 @@ module _ {s s′ : List ℕ} (r : Rewritten s s′) (m : Net) (a : full s ≡ go
   after-ranged : Ranged first Θ (plain (r .after))
   after-ranged = put-in-ranged Θ (r .puts) (before-within .1 .ranged)
 
-  after-read : depth (plain (r .after)) ≤ 64 → readSheet s′ ≡ good (record { edition = first; table = Θ; term = plain (r .after) })
+  pub after-read : depth (plain (r .after)) ≤ 64 → readSheet s′ ≡ good (record { edition = first; table = Θ; term = plain (r .after) })
   after-read h = read-written s′ (record { edition = first; table = Θ; term = plain (r .after) }) .1 (r .writes, record { table = before-within .1 .table; ranged = after-ranged; deep = h; few = after-few })
 
   terminals-lost : make Θ (plain (r .before)) [] 0 .next ≡ make Θ (plain (r .after)) [] 0 .next + 2 * size (leftOf (tree Θ (appliedType (r .puts))))

@@ -43,6 +43,19 @@ marks (mproj a e) = marks a ++ marks e
 marks (mfix t e) = marks e
 marks (mcon p t k) = k ∷ []
 
+-- the nodes of the constants in the same order, where the term is node n
+abbrev pub constantNodes : Marked → ℕ → List ℕ
+constantNodes (mvar i) n = []
+constantNodes (mlvar i) n = []
+constantNodes (mfun t e) n = constantNodes e (n + 1)
+constantNodes (mapp f a) n = constantNodes f (n + 1) ++ constantNodes a (n + 1 + nodes (plain f))
+constantNodes (mlfun t e) n = constantNodes e (n + 1)
+constantNodes (mlapp f a) n = constantNodes f (n + 1) ++ constantNodes a (n + 1 + nodes (plain f))
+constantNodes (mpair t a b) n = constantNodes a (n + 1) ++ constantNodes b (n + 1 + nodes (plain a))
+constantNodes (mproj a e) n = constantNodes a (n + 1) ++ constantNodes e (n + 1 + nodes (plain a))
+constantNodes (mfix t e) n = constantNodes e (n + 1)
+constantNodes (mcon p t k) n = n ∷ []
+
 -- each constant's mark is its node number, where the term is node n
 abbrev pub ByNode : Marked → ℕ → Type 0
 ByNode (mvar i) n = Unit {0}
