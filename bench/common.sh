@@ -44,6 +44,7 @@ has=$(readelf -sW "$archive" | sed -n 's/.* GLOBAL DEFAULT *[0-9]* deltawobble_\
 build_bench() {
     (cd bench && cargo build --release --offline --quiet -j1)
     mkdir -p bench/target
-    "$cc" -O2 -Wall -Wextra $static $has -o bench/target/host bench/host.c "$archive"
+    # -z now: the loader looks up the C library's functions before any call, and not on the stack that is measured
+    "$cc" -O2 -Wall -Wextra $static -Wl,-z,now $has -o bench/target/host bench/host.c "$archive"
     export BENCH_HOST="$emulator bench/target/host"
 }
