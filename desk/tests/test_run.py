@@ -137,6 +137,12 @@ class Running(unittest.TestCase):
         self.assertIn("period 1:", command("run", lfsr, "--period")[1])
         self.assertIn("period 255:", command("run", str(EXAMPLES / "shift-register-8.hex"), "--ticks", "600", "--starts", "10000000", "--period")[1])
 
+    def test_no_period_of_what_may_not_run(self):
+        for sheet, more, number in (("P4.hex", [], 19), ("sticky.dw", ["--starts", "2"], 20)):
+            status, _, err = command("run", str(EXAMPLES / sheet), *more, "--period")
+            self.assertEqual(status, 1, sheet)
+            self.assertIn("refused %d" % number, err)
+
 
 @needs("run")
 class Examples(unittest.TestCase):

@@ -7,7 +7,10 @@
    or place of 2^32 or more shows as 2^32 - 1.
 
    Working memory of fewer than 32,768 numbers is refusal 1, and is not touched; otherwise its first 32,768
-   numbers are 0 afterwards, and later ones never change. Nothing need be checked first. */
+   numbers are 0 afterwards, and later ones never change. Any bytes will do, and any lengths: nothing in
+   them need be checked first. What C cannot say and a caller keeps: a pointer has the memory of its length
+   behind it, aligned for its type, and what a call writes to (out, work, results) overlaps nothing else
+   that is lent. */
 #ifndef DELTAWOBBLE_H
 #define DELTAWOBBLE_H
 #include <stdbool.h>
@@ -21,8 +24,8 @@ enum {
 };
 
 /* Translates a sheet to its full or lean netlist, in the plain kinds 21 and 22 or with the node that
-   made each element, kinds 25 and 26. With card, the card's profile is checked first: 27 the root's type,
-   28 a kept ring point, 29 a part's output that nobody reads. */
+   made each element, kinds 25 and 26. With card, the card's profile is checked too, after 16 and before 17:
+   27 the root's type, 28 a kept ring point, 29 a part's output that nobody reads. */
 uint64_t deltawobble_translate(const uint8_t *sheet, size_t sheet_len, uint8_t *out, size_t out_len,
                                uint16_t *work, size_t work_len, bool lean, bool plain, bool card);
 
@@ -39,7 +42,8 @@ uint64_t deltawobble_batch(const uint8_t *sheets, size_t sheets_len, const uint3
    4,294,967,295 bytes: an offset from there on shows as that number. */
 uint64_t deltawobble_check(const uint8_t *net, size_t net_len, uint16_t *work, size_t work_len, bool lean);
 
-/* Writes the lean netlist of a sheet as one module of structural Verilog. */
+/* Writes the lean netlist of a sheet as one module of structural Verilog. After 16, 18: a kept ring point, place
+   the lowest such input; then 17. */
 uint64_t deltawobble_verilog(const uint8_t *sheet, size_t sheet_len, uint8_t *out, size_t out_len,
                              uint16_t *work, size_t work_len);
 
@@ -48,7 +52,9 @@ uint64_t deltawobble_stretch(const uint8_t *sheet, size_t sheet_len, size_t node
 
 /* Runs a recorded trace through the lean netlist of a sheet, one byte a bit: lent are the bits of the
    input pins, in pin order, tick after tick, and a start bit for each register by rising terminal;
-   written are the bits of the output pins. */
+   written are the bits of the output pins. After 16, 19: a ring that passes through no register, place the lowest
+   input on any; 20, place 0: bits not of the exact number, or a byte above 1; then 17. A tick count has 16 bits:
+   C cuts a larger one to its lowest 16, so a caller with more than 65,535 ticks makes more than one call. */
 uint64_t deltawobble_run(const uint8_t *sheet, size_t sheet_len, const uint8_t *inputs, size_t inputs_len,
                          const uint8_t *starts, size_t starts_len, uint8_t *out, size_t out_len,
                          uint16_t *work, size_t work_len, uint16_t ticks);

@@ -15,8 +15,7 @@ use Rattle.calculus.specs.Translate.{workOf}
 use Rattle.calculus.proofs.Answers.{refused≢good, good-inj, refused-inj}
 use Rattle.foreign_theorems.specs.Foreign.{Bytes, check, Checked, checkCall}
 use Rattle.foreign_theorems.proofs.Exact.{check-exact}
-use Rattle.foreign.specs.Walk.{saidCheck}
-use Rattle.foreign.specs.Walk as foreign
+use Rattle.foreign.specs.Walk.{saidCheck, calledCheck}
 use Rattle.foreign.specs.declared.Verdict.{Verdict}
 use Rattle.foreign.specs.declared.Verdict.the-variants as verdict
 use Rattle.back_theorems.specs.Back.{gates, openIns, backSheet}
@@ -112,7 +111,7 @@ answer-net (good u) true room b = refl
 answer-net (good u) false room b = refl
 answer-net (refused why) t room b = refl
 
-module _ (lean : Bool) (s w w′ : List ℕ) (v : Verdict) (e : foreign.called v w′ ≡ checkCall lean s w) where
+module _ (lean : Bool) (s w w′ : List ℕ) (v : Verdict) (e : calledCheck v w′ ≡ checkCall lean s w) where
   said-is : saidCheck v ≡ (need (leb 32768 (length w)) 1 0 >>= λ _. check lean s)
   unfolding checkCall
   said-is = ap (λ (c : Checked). c .said) e

@@ -84,19 +84,19 @@ module _ (used k : ℕ) (out results o : List ℕ) (a : Answer ℕ) (j : ℕ) (r
       refl
 
 -- the first k sheets are done: they began at `at` together, used so much of the output, and what is left makes the whole
-pub record Going (w : Wished) (s lengths out₀ results₀ work₀ out results work : List ℕ) (at used k : ℕ) : Type 0 where
+pub record RowsGoing (w : Wished) (s lengths out₀ results₀ work₀ out results work : List ℕ) (at used k : ℕ) : Type 0 where
   pub here : k ≤ length lengths
   pub bytes : at + sum (drop k lengths) ≡ length s
   pub room : used ≤ length out
   pub places : length lengths ≤ length results
   pub whole : ofRest used k out results (oneByOne w (drop at s) (drop k lengths) (drop used out) work) ≡ ofRow results₀ (oneByOne w s lengths out₀ work₀)
 
-pub going-start : (w : Wished) (s lengths out results work : List ℕ) → sum lengths ≡ length s → length lengths ≤ length results → Going w s lengths out results work out results work 0 0 0
+pub going-start : (w : Wished) (s lengths out results work : List ℕ) → sum lengths ≡ length s → length lengths ≤ length results → RowsGoing w s lengths out results work out results work 0 0 0
 going-start w s lengths out results work e h =
     let n : 0 + oneByOne w s lengths out work .used ≡ oneByOne w s lengths out work .used = omega arith in
     record { here = omega arith; bytes = omega (arith, e); room = omega arith; places = h; whole = same-batch (ap good n) refl refl refl }
 
-module _ {w : Wished} {s lengths out₀ results₀ work₀ out results work : List ℕ} {at used k : ℕ} (g : Going w s lengths out₀ results₀ work₀ out results work at used k) (more : k < length lengths) where
+module _ {w : Wished} {s lengths out₀ results₀ work₀ out results work : List ℕ} {at used k : ℕ} (g : RowsGoing w s lengths out₀ results₀ work₀ out results work at used k) (more : k < length lengths) where
   abbrev size : ℕ
   size = getD lengths k 0
 
@@ -122,7 +122,7 @@ module _ {w : Wished} {s lengths out₀ results₀ work₀ out results work : Li
   rest-next = ap₂ (λ (x y : List ℕ). oneByOne w x (drop (k + 1) lengths) y (c .work)) (drop-drop size at s)
       (sym (ap (λ (n : ℕ). drop (n + j) (take used out ++ c .out)) (sym (length-take-le used out (g .room))) ∙ drop-append-add (take used out) (c .out) j))
 
-  pub going-more : Going w s lengths out₀ results₀ work₀ (take used out ++ c .out) (set results k (packed (c .said))) (c .work) (at + size) (used + j) (k + 1)
+  pub going-more : RowsGoing w s lengths out₀ results₀ work₀ (take used out ++ c .out) (set results k (packed (c .said))) (c .work) (at + size) (used + j) (k + 1)
   going-more = record {
     here = omega arith;
     bytes = omega (arith, g .bytes, sum-drop lengths k more);
@@ -149,16 +149,16 @@ module _ {w : Wished} {s lengths out₀ results₀ work₀ out results work : Li
         ap (λ (x : List ℕ). take used out ++ x)
         (ap (λ (x : List ℕ). o ++ x) (drop-past (drop used out) (length out - used) (omega (arith, length-drop used out))) ∙ append-nil o ∙ L .wrote ∙ ap (λ (x : Call). x .out) same-call)
 
-    pub going-part : Going w s lengths out₀ results₀ work₀ (take used out ++ (o ++ drop (length out - used) (drop used out))) results′ work′ (at + n) (used + r) (k + 1)
+    pub going-part : RowsGoing w s lengths out₀ results₀ work₀ (take used out ++ (o ++ drop (length out - used) (drop used out))) results′ work′ (at + n) (used + r) (k + 1)
     going-part =
-        subst⁻¹ (λ (x : List ℕ). Going w s lengths out₀ results₀ work₀ x results′ work′ (at + n) (used + r) (k + 1)) put-back
-        (subst⁻¹ (λ (x : List ℕ). Going w s lengths out₀ results₀ work₀ (take used out ++ c .out) x work′ (at + n) (used + r) (k + 1)) (L .result ∙ ap (λ (x : Call). set results k (packed (x .said))) same-call)
-        (subst⁻¹ (λ (x : List ℕ). Going w s lengths out₀ results₀ work₀ (take used out ++ c .out) (set results k (packed (c .said))) x (at + n) (used + r) (k + 1)) (L .kept ∙ ap (λ (x : Call). x .work) same-call)
-        (subst⁻¹ (λ (x : ℕ). Going w s lengths out₀ results₀ work₀ (take used out ++ c .out) (set results k (packed (c .said))) (c .work) (at + x) (used + r) (k + 1)) is
-        (subst⁻¹ (λ (x : ℕ). Going w s lengths out₀ results₀ work₀ (take used out ++ c .out) (set results k (packed (c .said))) (c .work) (at + size) (used + x) (k + 1)) (L .used ∙ ap (λ (x : Call). usedBy (x .said)) same-call)
+        subst⁻¹ (λ (x : List ℕ). RowsGoing w s lengths out₀ results₀ work₀ x results′ work′ (at + n) (used + r) (k + 1)) put-back
+        (subst⁻¹ (λ (x : List ℕ). RowsGoing w s lengths out₀ results₀ work₀ (take used out ++ c .out) x work′ (at + n) (used + r) (k + 1)) (L .result ∙ ap (λ (x : Call). set results k (packed (x .said))) same-call)
+        (subst⁻¹ (λ (x : List ℕ). RowsGoing w s lengths out₀ results₀ work₀ (take used out ++ c .out) (set results k (packed (c .said))) x (at + n) (used + r) (k + 1)) (L .kept ∙ ap (λ (x : Call). x .work) same-call)
+        (subst⁻¹ (λ (x : ℕ). RowsGoing w s lengths out₀ results₀ work₀ (take used out ++ c .out) (set results k (packed (c .said))) (c .work) (at + x) (used + r) (k + 1)) is
+        (subst⁻¹ (λ (x : ℕ). RowsGoing w s lengths out₀ results₀ work₀ (take used out ++ c .out) (set results k (packed (c .said))) (c .work) (at + size) (used + x) (k + 1)) (L .used ∙ ap (λ (x : Call). usedBy (x .said)) same-call)
         going-more))))
 
-pub going-end : {w : Wished} {s lengths out₀ results₀ work₀ out results work : List ℕ} {at used k : ℕ} → Going w s lengths out₀ results₀ work₀ out results work at used k → k ≡ length lengths
+pub going-end : {w : Wished} {s lengths out₀ results₀ work₀ out results work : List ℕ} {at used k : ℕ} → RowsGoing w s lengths out₀ results₀ work₀ out results work at used k → k ≡ length lengths
     → left (variant.Written used) out results work ≡ ofRow results₀ (oneByOne w s lengths out₀ work₀)
 going-end {w} {s} {lengths} {out = out} {results = results} {work = work} {at = at} {used = used} {k = k} g e =
     let n : used ≡ used + 0 = omega arith in

@@ -17,6 +17,7 @@ use Rattle.foreign_theorems.specs.Foreign.{Reading, begin, readOn, oneEach, che
 use Rattle.calculus.specs.Translate.{zeroed, workOf}
 use Rattle.memory.proofs.Zeroed.{zeroed-length, zeroed-zeros, zeroed-same, zeroed-later}
 use Rattle.circuit_theorems.proofs.Terminals.{made-one}
+use Rattle.foreign_theorems.proofs.Exact.{OneFeed}
 use Rattle.foreign_theorems.proofs.Sound.{ReadAs, read-none, read-all, numbered-rising, no-targets, no-inputs}
 use Rattle.circuit_theorems.proofs.NetRead.{out-not-made}
 use Rattle.foreign.specs.Table.{TableHolds, LaterKept, TableClear}
@@ -25,19 +26,16 @@ use Rattle.foreign.specs.declared.Walked.{Walked}
 use Rattle.foreign.specs.declared.Walked.the-variants as walked
 use Rattle.foreign.proofs.SimLaws.{cell-out, cell-in, cell-no}
 
-abbrev One : Net → ℕ → Type 0
-One m i = targets (m .wires) i + ins (m .pins) i ≡ madeAt (m .elements) i
-
-one-all : (m : Net) (k i : ℕ) → ((j : ℕ) → i ≤ j → j < i + k → One m j) → oneEach k i m ≡ good tt
+one-all : (m : Net) (k i : ℕ) → ((j : ℕ) → i ≤ j → j < i + k → OneFeed m j) → oneEach k i m ≡ good tt
 one-all m zero i f = refl
 one-all m (suc k) i f =
     rw (eq-eqb (targets (m .wires) i + ins (m .pins) i) (madeAt (m .elements) i) (f i (omega arith) (omega arith))) (one-all m k (i + 1) (λ j a b. f j (omega arith) (omega arith)))
 
-one-first : (m : Net) (k i p : ℕ) → i ≤ p → p < i + k → ((j : ℕ) → i ≤ j → j < p → One m j) → (One m p → ⊥) → oneEach k i m ≡ refuse 23 p
+one-first : (m : Net) (k i p : ℕ) → i ≤ p → p < i + k → ((j : ℕ) → i ≤ j → j < p → OneFeed m j) → (OneFeed m p → ⊥) → oneEach k i m ≡ refuse 23 p
 one-first m zero i p a b f g = absurd (omega arith)
 one-first m (suc k) i p a b f g =
     elim (ℕ-discrete i p) [
-      | yes e ↦ rw (ne-eqb (targets (m .wires) i + ins (m .pins) i) (madeAt (m .elements) i) (λ q. g (subst (One m) e q))) (ap (λ (x : ℕ). refuse 23 x) e)
+      | yes e ↦ rw (ne-eqb (targets (m .wires) i + ins (m .pins) i) (madeAt (m .elements) i) (λ q. g (subst (OneFeed m) e q))) (ap (λ (x : ℕ). refuse 23 x) e)
       | no e ↦
           rw (eq-eqb (targets (m .wires) i + ins (m .pins) i) (madeAt (m .elements) i) (f i (omega arith) (omega arith)))
           (one-first m k (i + 1) p (omega arith) (omega arith) (λ j c d. f j (omega arith) d) g)
@@ -53,13 +51,13 @@ module _ (lean : Bool) (s : List ℕ) (τ : Reading) (r : ReadAs lean s τ) (w :
   up : Rising (τ .net .elements) 0 (τ .next)
   up = numbered-rising lean (τ .net .elements) 0 (τ .next) (r .numbering)
 
-  none : madeAt (τ .net .elements) i ≡ 0 → One (τ .net) i
+  none : madeAt (τ .net .elements) i ≡ 0 → OneFeed (τ .net) i
   none z = omega (arith, no-targets (τ .net .elements) (τ .net .wires) i (r .runs) z, no-inputs (τ .net .elements) (τ .net .pins) i (r .pins) z)
 
-  even-one : (getD w i 0 % 2 ≡ 1 → ⊥) → One (τ .net) i
+  even-one : (getD w i 0 % 2 ≡ 1 → ⊥) → OneFeed (τ .net) i
   even-one f = by (isOut (τ .net .elements) i) refl
     where
-      by : (b : Bool) → isOut (τ .net .elements) i ≡ b → One (τ .net) i
+      by : (b : Bool) → isOut (τ .net .elements) i ≡ b → OneFeed (τ .net) i
       by true q = none (out-not-made (τ .net .elements) 0 (τ .next) i up (rw q tt))
       by false q =
           elim (decLe 1 (madeAt (τ .net .elements) i)) [
@@ -70,7 +68,7 @@ module _ (lean : Bool) (s : List ℕ) (τ : Reading) (r : ReadAs lean s τ) (w :
             | no c ↦ none (omega arith)
           ]
 
-  odd-not : getD w i 0 % 2 ≡ 1 → One (τ .net) i → ⊥
+  odd-not : getD w i 0 % 2 ≡ 1 → OneFeed (τ .net) i → ⊥
   odd-not o e = by (isOut (τ .net .elements) i) refl
     where
       by : (b : Bool) → isOut (τ .net .elements) i ≡ b → ⊥

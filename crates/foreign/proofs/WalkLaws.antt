@@ -37,7 +37,7 @@ module _ (x : Record) (f : Front) (lean : Bool) (stage n at : ℕ) (t : Taken) (
 -- ---- all records
 
 -- where the walk is: what was read, and what is left says the same as the whole
-pub record Going (lean : Bool) (s w₀ w : List ℕ) (stage n at : ℕ) : Type 0 where
+pub record WalkGoing (lean : Bool) (s w₀ w : List ℕ) (stage n at : ℕ) : Type 0 where
   pub reading : Reading
   pub left : ℕ
   pub before : ReadAs lean (take at s) reading
@@ -49,7 +49,7 @@ pub record Going (lean : Bool) (s w₀ w : List ℕ) (stage n at : ℕ) : Type 0
   pub within : at ≤ length s
   pub rest : readOn left lean s at reading ≡ readOn (length s) lean s 0 begin
 
-pub going-first : (lean : Bool) (s w : List ℕ) → TableClear w → Going lean s w w 0 0 0
+pub going-first : (lean : Bool) (s w : List ℕ) → TableClear w → WalkGoing lean s w w 0 0 0
 unfolding cellOf
 going-first lean s w c = record {
   reading = begin;
@@ -67,7 +67,7 @@ going-first lean s w c = record {
 keeps-on : (u v w : List ℕ) → LaterKept u v → LaterKept v w → LaterKept u w
 keeps-on u v w a b = record { same = b .same ∙ a .same; later = b .later ∙ a .later }
 
-module _ (lean : Bool) (s w₀ w : List ℕ) (b : Bytes s) (size : memorySize ≤ length w₀) (stage n at : ℕ) (g : Going lean s w₀ w stage n at) (l : at < length s) where
+module _ (lean : Bool) (s w₀ w : List ℕ) (b : Bytes s) (size : memorySize ≤ length w₀) (stage n at : ℕ) (g : WalkGoing lean s w₀ w stage n at) (l : at < length s) where
   abbrev σ : Reading
   σ = g .reading
 
@@ -76,7 +76,7 @@ module _ (lean : Bool) (s w₀ w : List ℕ) (b : Bytes s) (size : memorySize �
 
   -- what a step comes to: the walk goes on, or the definition refuses here
   abbrev Comes : Took → ℕ → Type 0
-  Comes (next a c v) m = Going lean s w₀ v a c m × (at < m)
+  Comes (next a c v) m = WalkGoing lean s w₀ v a c m × (at < m)
   Comes (wrong k v) m = (All′ ≡ refuse k at) × LaterKept w₀ v
 
   opened : (left : ℕ) → length s ≤ at + left → readOn left lean s at σ ≡ All′
@@ -118,7 +118,7 @@ module _ (lean : Bool) (s w₀ w : List ℕ) (b : Bytes s) (size : memorySize �
       (sym (subst (λ (x : Front). onFront x at σ (λ r. judge lean r σ at >>= λ τ. readOn (o .0) lean s (at + itemSize r) τ) ≡ All′) q (o .2)), g .keeps)
 
   abbrev pub Leads : Gone → Type 0
-  Leads (on a c m v) = Going lean s w₀ v a c m × (at < m)
+  Leads (on a c m v) = WalkGoing lean s w₀ v a c m × (at < m)
   Leads (off k v) = (readOn (length s) lean s 0 begin ≡ refuse k at) × LaterKept w₀ v
 
   leads : (y : Took) (m : ℕ) → Comes y m → Leads (goneTo y m)
@@ -131,7 +131,7 @@ module _ (lean : Bool) (s w₀ w : List ℕ) (b : Bytes s) (size : memorySize �
       (leads (took lean (σ .stage) (σ .next) (itemAt s at) w) (at + frontSize (itemAt s at)) (step (itemAt s at) refl))
 
 -- at the end of the bytes
-pub going-done : {lean : Bool} {s w₀ w : List ℕ} {stage n at : ℕ} (g : Going lean s w₀ w stage n at) → length s ≤ at
+pub going-done : {lean : Bool} {s w₀ w : List ℕ} {stage n at : ℕ} (g : WalkGoing lean s w₀ w stage n at) → length s ≤ at
     → (τ : Reading) × (readOn (length s) lean s 0 begin ≡ good τ) × (n ≡ τ .next) × TableHolds w (τ .net)
 going-done {lean} {s} {at = at} g l = (g .reading, sym (g .rest) ∙ ended-on (g .left), g .next-is, g .holds)
   where
@@ -141,9 +141,9 @@ going-done {lean} {s} {at = at} g l = (g .reading, sym (g .rest) ∙ ended-on (g
 
 -- ---- the code's own step
 
-module _ {lean : Bool} {s w₀ w : List ℕ} {stage n at : ℕ} (b : Bytes s) (size : memorySize ≤ length w₀) (g : Going lean s w₀ w stage n at) (l : at < length s) (r : Went) (v : List ℕ)
+module _ {lean : Bool} {s w₀ w : List ℕ} {stage n at : ℕ} (b : Bytes s) (size : memorySize ≤ length w₀) (g : WalkGoing lean s w₀ w stage n at) (l : at < length s) (r : Went) (v : List ℕ)
     (h : saidWent r v ≡ goneTo (took lean stage n (itemAt s at) w) (at + frontSize (itemAt s at))) where
-  pub walk-on : {t : State} {m : ℕ} → r ≡ went.On t m → Going lean s w₀ v (t .stage) (t .next) m × (at < m)
+  pub walk-on : {t : State} {m : ℕ} → r ≡ went.On t m → WalkGoing lean s w₀ v (t .stage) (t .next) m × (at < m)
   walk-on e = subst (Leads lean s w₀ w b size stage n at g l) (sym h ∙ ap (λ (y : Went). saidWent y v) e) (gone lean s w₀ w b size stage n at g l)
 
   pub walk-off : {k : ℕ} → r ≡ went.Refused k → (readOn (length s) lean s 0 begin ≡ refuse k at) × LaterKept w₀ v

@@ -100,8 +100,8 @@ first-number lean s why f =
 -- ---- 23: the lowest input
 
 -- wires and pins reach a terminal as often as it is an input
-abbrev pub One : Net → ℕ → Type 0
-One m i = targets (m .wires) i + ins (m .pins) i ≡ madeAt (m .elements) i
+abbrev pub OneFeed : Net → ℕ → Type 0
+OneFeed m i = targets (m .wires) i + ins (m .pins) i ≡ madeAt (m .elements) i
 
 -- all was read; at the place there is not exactly one wire or pin, and at each terminal below it there is
 pub record Lowest (lean : Bool) (s : List ℕ) (why : Refusal) : Type 0 where
@@ -109,22 +109,22 @@ pub record Lowest (lean : Bool) (s : List ℕ) (why : Refusal) : Type 0 where
   pub why-is : why ≡ numbered 23 place
   pub reading : Reading
   pub all : ReadAs lean s reading
-  pub not-one : One (reading .net) place → ⊥
-  pub below : (i : ℕ) → i < place → One (reading .net) i
+  pub not-one : OneFeed (reading .net) place → ⊥
+  pub below : (i : ℕ) → i < place → OneFeed (reading .net) i
 
 abbrev Missed : Net → Refusal → Type 0
-Missed m why = (place : ℕ) × (why ≡ numbered 23 place) × (One m place → ⊥) × ((j : ℕ) → j < place → One m j)
+Missed m why = (place : ℕ) × (why ≡ numbered 23 place) × (OneFeed m place → ⊥) × ((j : ℕ) → j < place → OneFeed m j)
 
-lowest-from : (m : Net) (k i : ℕ) (why : Refusal) → oneEach k i m ≡ refused why → ((j : ℕ) → j < i → One m j) → Missed m why
+lowest-from : (m : Net) (k i : ℕ) (why : Refusal) → oneEach k i m ≡ refused why → ((j : ℕ) → j < i → OneFeed m j) → Missed m why
 lowest-from m zero i why e h = absurd (good≢refused e)
 lowest-from m (suc k) i why e h = by (lowest-from m k (i + 1) why) (eqb (targets (m .wires) i + ins (m .pins) i) (madeAt (m .elements) i)) refl e
   where
-    by : (oneEach k (i + 1) m ≡ refused why → ((j : ℕ) → j < i + 1 → One m j) → Missed m why)
+    by : (oneEach k (i + 1) m ≡ refused why → ((j : ℕ) → j < i + 1 → OneFeed m j) → Missed m why)
         → (t : Bool) → eqb (targets (m .wires) i + ins (m .pins) i) (madeAt (m .elements) i) ≡ t → (need t 23 i >>= λ _. oneEach k (i + 1) m) ≡ refused why → Missed m why
     by rec true q e =
         rec e (λ j l.
         elim (decLe i j) [
-          | yes g ↦ let z : i ≡ j = omega arith in subst (One m) z (eqb→eq _ _ (rw q tt))
+          | yes g ↦ let z : i ≡ j = omega arith in subst (OneFeed m) z (eqb→eq _ _ (rw q tt))
           | no g ↦ h j (omega arith)
         ])
     by rec false q e = (i, sym (refused-inj e), eqb-false _ _ q, h)

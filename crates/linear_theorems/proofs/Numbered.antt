@@ -96,12 +96,12 @@ put-numbered j a (mfix t e) m n = ap (fix t) (rw (raise-numbered 0 a m) (put-num
 put-numbered j a (mcon p t k) m n = refl
 
 -- the same step from the term marked anew
-pub record Step (e e′ : Marked) (n : ℕ) : Type 0 where
+pub record NumberedStep (e e′ : Marked) (n : ℕ) : Type 0 where
   pub to : Marked
   pub puts : PutIn (markedFrom e n) to
   pub same : plain to ≡ plain e′
 
-step : {e e′ : Marked} → PutIn e e′ → (n : ℕ) → Step e e′ n
+step : {e e′ : Marked} → PutIn e e′ → (n : ℕ) → NumberedStep e e′ n
 step (put-here {t = t} {e = e} {a = a}) n = record { to = _; puts = put-here; same = put-numbered 0 a e (n + 1 + nodes (plain (mlfun t e))) (n + 1 + 1) }
 step (in-fun {t = t} r) n = let s = step r (n + 1) in record { to = _; puts = in-fun (s .puts); same = ap (fun t) (s .same) }
 step (in-app-left {a = a} r) n = let s = step r (n + 1) in record { to = _; puts = in-app-left (s .puts); same = ap₂ app (s .same) (numbered-plain a _) }

@@ -42,7 +42,7 @@ use Rattle.trace.proofs.Turning.{turns-keep}
 use Rattle.trace.proofs.ElementLaws.{in-out}
 use Rattle.trace.proofs.PinLists.{upTo, upto-is, ins-length, outs-length, ins-outs}
 use Rattle.trace.proofs.RegisterLists.{Collected, collect, element-entry, registers-length, register-at, register-number, registers-apart}
-use Rattle.trace.proofs.RunLaws.{Stood, State, state-next, row-stored}
+use Rattle.trace.proofs.RunLaws.{RunStood, State, state-next, row-stored}
 use Rattle.trace.proofs.StageLaws.{above-then, above-within, tabled-same}
 
 -- a test, and what it says
@@ -108,7 +108,7 @@ rows-snoc β os t (suc n) =
 
 -- ---- all ticks
 
-module _ (b : List ℕ) (m : Net) (end pins total regs : ℕ) (s : Stood b m end pins total regs) (free : (x : ℕ) → OnRing m x → ⊥) (bits starts out₀ : List ℕ) where
+module _ (b : List ℕ) (m : Net) (end pins total regs : ℕ) (s : RunStood b m end pins total regs) (free : (x : ℕ) → OnRing m x → ⊥) (bits starts out₀ : List ℕ) where
   abbrev β : Bits
   β = run m (givenBits (m .pins) bits) (startBits (m .elements) starts)
 
@@ -215,7 +215,7 @@ module _ (u : List ℕ) (m : Net) (end settled pins : ℕ) (rn : Runnable u m en
     last = λ j i l h e. rn .order .last j i l h (sym (last-at j (omega arith)) ∙ e ∙ met-same i h);
   }
 
-  pub stood : Stood w₁ m end pins settled regs
+  pub stood : RunStood w₁ m end pins settled regs
   stood = record {
     tabled = tabled₁;
     order = order₁;

@@ -23,7 +23,7 @@ other : (w : List ℕ) (i j v : ℕ) → (j ≡ i → ⊥) → getD (set w i v) 
 other w i j v d = let ne : j ≢ i = d in getD-set-other w i j v 0 ne
 
 -- the outputs that are to be settled, in a memory u
-pub record Start (u : List ℕ) (total : ℕ) : Type 0 where
+pub record OrderStart (u : List ℕ) (total : ℕ) : Type 0 where
   pub size : 32768 ≤ length u
   pub few : total ≤ 4096
   pub looks : (k : ℕ) → k < total → Looks u (rest u k)
@@ -54,7 +54,7 @@ pub record Stage (u : List ℕ) (total left j : ℕ) (w : List ℕ) (kept done :
   pub cover : (n : ℕ) → n < total → ((i : ℕ) × PlaceHeld kept j left i × (rest w i ≡ rest u n)) ⊎ ((k : ℕ) × (k < done) × (met w k ≡ rest u n))
   pub stuck : kept ≡ j → (i : ℕ) → i < kept → readyIn w (rest w i) ≡ false
 
-pub stage-start : (u : List ℕ) (total : ℕ) → Start u total → Stage u total total 0 u 0 0
+pub stage-start : (u : List ℕ) (total : ℕ) → OrderStart u total → Stage u total total 0 u 0 0
 stage-start u total s = record {
   size = refl;
   table = λ x l. refl;
@@ -90,7 +90,7 @@ ready-same w v o l t m =
     let q : lit v (getD v (o - 1) 0) ≡ lit w (getD w (o - 1) 0) = ap (lit v) b ∙ ap (λ (n : ℕ). eqb n 1) (m (getD w (o - 1) 0)) in
     ap (λ (c : Bool). c && lit v (getD v (o - 1) 0)) p ∙ ap (λ (c : Bool). lit w (getD w (firstIn w o) 0) && c) q
 
-module _ (u : List ℕ) (total : ℕ) (s : Start u total) (left j : ℕ) (w : List ℕ) (kept done : ℕ) (c : Stage u total left j w kept done) (h : j < left) where
+module _ (u : List ℕ) (total : ℕ) (s : OrderStart u total) (left j : ℕ) (w : List ℕ) (kept done : ℕ) (c : Stage u total left j w kept done) (h : j < left) where
   abbrev o : ℕ
   o = rest w j
 
@@ -315,7 +315,7 @@ module _ (u : List ℕ) (total : ℕ) (s : Start u total) (left j : ℕ) (w : Li
 
 -- ---- all of them
 
-module _ (u : List ℕ) (total : ℕ) (s : Start u total) where
+module _ (u : List ℕ) (total : ℕ) (s : OrderStart u total) where
   abbrev At : ℕ → ℕ → Sweep → Type 0
   At left j r = Stage u total left j (r .mem) (r .kept) (r .done)
 

@@ -15,10 +15,10 @@ use Rattle.calculus.specs.Answer.{Answer, good, refused, refuse}
 use Rattle.calculus.specs.Net.{Element, point, part, Net}
 use Rattle.calculus.specs.Terms.{partAt}
 use Rattle.calculus.specs.Inputs.{madeAt, targets, isOut}
-use Rattle.calculus.specs.Record.{Among}
+use Rattle.calculus.specs.Record.{Among, here as in-here, there as in-there}
 use Rattle.circuit_theorems.specs.Terminals.{has}
 use Rattle.circuit_theorems.specs.Formed.{Formed}
-use Rattle.trace_calculus.specs.Trace.{here as in-here, there as in-there, Source, from, source, looks, before, terminals, upFrom, inputs, rounds, OnRing, onRing, noneOnRing, bitByte}
+use Rattle.trace_calculus.specs.Trace.{Source, from, source, looks, before, terminals, upFrom, inputs, rounds, OnRing, onRing, noneOnRing, bitByte}
 use Rattle.trace_theorems.proofs.Graph.{Back, last, step, longer, settled, settled-up, settled-free, allOf, all-at, all-settled, reach-back}
 use Rattle.trace_theorems.proofs.Sources.{closed, terminal-is, out-terminal, at-pin, Decided, is-pin, is-wire, is-point, is-part, decided, in-all, looks-at, has-left, has-right, has-append, up-has, has-up}
 use Rattle.trace_theorems.proofs.TraceRings.{on-ring, back-ring, runs-iff, accepted, Lowest, ring-place}
@@ -31,7 +31,7 @@ use Rattle.trace_rings.specs.Rings.{mark, rest, met, InputOf, Behind, first, fu
 use Rattle.trace.specs.Tables.{Tabled, Looking}
 use Rattle.trace.proofs.ElementLaws.{in-terminal, terminal-in, made-within, within-made, input-not-out}
 use Rattle.trace.proofs.GateLaws.{Input, at-a-pin, at-a-wire, input, input-low, input-before, Gate, one, two, gate-at, input-made, gate-looks, before-input, input-look, out-cases}
-use Rattle.trace.proofs.OrderLaws.{Start, Stage, End}
+use Rattle.trace.proofs.OrderLaws.{OrderStart, Stage, End}
 
 ring-back : (m : Net) (ok : Formed m) (x : ℕ) → OnRing m x → Back (before m) x x
 unfolding onRing
@@ -143,7 +143,7 @@ module _ (u : List ℕ) (m : Net) (end pins total : ℕ) (g : Ground u m end pin
   loose : (x : ℕ) → T (has (terminals es) x) → Looking (getD u x 0) → mark u x ≡ 1 → ⊥
   loose x h l e = let z = g .marks x (t .low x h) ∙ ap bitByte (not-free x (low x h) l) in omega arith
 
-  pub start : Start u total
+  pub start : OrderStart u total
   start = record {
     size = t .size;
     few = g .few;

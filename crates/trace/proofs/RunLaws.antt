@@ -45,7 +45,7 @@ use Rattle.trace.proofs.PinLists.{pinAt, upTo, upto-is, ins-length, out
 use Rattle.trace.proofs.RegisterLists.{element-entry}
 
 -- what stands below 19,072 during a run
-pub record Stood (b : List ℕ) (m : Net) (end pins total regs : ℕ) : Type 0 where
+pub record RunStood (b : List ℕ) (m : Net) (end pins total regs : ℕ) : Type 0 where
   pub tabled : Tabled b m end pins
   pub order : InOrder b total
   pub listed : (j : ℕ) → j < total → T (has (terminals (m .elements)) (met b j)) × Looking (getD b (met b j) 0)
@@ -60,7 +60,7 @@ lit-byte : (c : Bool) → eqb (bitByte c) 1 ≡ c
 lit-byte true = refl
 lit-byte false = refl
 
-module _ (b : List ℕ) (m : Net) (end pins total regs : ℕ) (s : Stood b m end pins total regs) where
+module _ (b : List ℕ) (m : Net) (end pins total regs : ℕ) (s : RunStood b m end pins total regs) where
   abbrev es : List Element
   es = m .elements
 

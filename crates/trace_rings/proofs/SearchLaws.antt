@@ -76,7 +76,7 @@ abbrev pub Covered : List ℕ → List ℕ → ℕ → ℕ → Type 0
 Covered u w n y = (mark u y ≡ 1) ⊎ ((k : ℕ) × (k < n) × (met w k ≡ y))
 
 -- n are met, and what the first h of them look at is covered
-pub record Searching (u : List ℕ) (left x s : ℕ) (w : List ℕ) (n h : ℕ) : Type 0 where
+pub record SearchingBack (u : List ℕ) (left x s : ℕ) (w : List ℕ) (n h : ℕ) : Type 0 where
   pub kept : Kept u w
   pub listed : (k : ℕ) → k < n → (i : ℕ) × (i < left) × (rest u i ≡ met w k)
   pub stamped : (k : ℕ) → k < n → mark w (met w k) ≡ s
@@ -86,7 +86,7 @@ pub record Searching (u : List ℕ) (left x s : ℕ) (w : List ℕ) (n h : ℕ) 
   pub shut : (k z : ℕ) → k < h → InputOf u (met w k) z → Covered u w n (getD u z 0)
   pub order : h ≤ n
 
-pub searching-start : (u : List ℕ) (left x s : ℕ) → Searching u left x s u 0 0
+pub searching-start : (u : List ℕ) (left x s : ℕ) → SearchingBack u left x s u 0 0
 searching-start u left x s = record {
   kept = kept-none u;
   listed = λ k l. absurd (omega arith);
@@ -100,7 +100,7 @@ searching-start u left x s = record {
 
 module _ (u : List ℕ) (left x s : ℕ) (r : Rest u left) (f : Fresh u s) where
   -- each is met once, and is one of those left
-  pub met-few : (w : List ℕ) (n h : ℕ) → Searching u left x s w n h → n ≤ left
+  pub met-few : (w : List ℕ) (n h : ℕ) → SearchingBack u left x s w n h → n ≤ left
   met-few w n h c = elim (decLe n left) [ yes l ↦ l | no d ↦ absurd (go (pigeon n (region u 8192 left) (met w) (let z = long in omega arith) (λ k l. in-rest k l))) ]
     where
       long : length (region u 8192 left) ≡ left
@@ -116,13 +116,13 @@ module _ (u : List ℕ) (left x s : ℕ) (r : Rest u left) (f : Fresh u s) where
       go (a, b, l, k, e) = c .apart a b l k e
 
   pub record Joined (w : List ℕ) (n h y : ℕ) (c : Counted) : Type 0 where
-    pub next : Searching u left x s (c .mem) (c .count) h
+    pub next : SearchingBack u left x s (c .mem) (c .count) h
     pub covered : Covered u (c .mem) (c .count) y
     pub still : (z : ℕ) → Covered u w n z → Covered u (c .mem) (c .count) z
     pub same : (k : ℕ) → k < n → met (c .mem) k ≡ met w k
     pub grows : n ≤ c .count
 
-  module _ (w : List ℕ) (n h y : ℕ) (c : Searching u left x s w n h) (low : y < 8192) where
+  module _ (w : List ℕ) (n h y : ℕ) (c : SearchingBack u left x s w n h) (low : y < 8192) where
     stays : Covered u w n y → Joined w n h y (counted w n)
     stays g = record { next = c; covered = g; still = λ z k. k; same = λ k l. refl; grows = omega arith }
 
@@ -214,7 +214,7 @@ module _ (u : List ℕ) (left x s : ℕ) (r : Rest u left) (f : Fresh u s) where
 
   -- ---- what an output looks at
 
-  module _ (w : List ℕ) (n h : ℕ) (c : Searching u left x s w n h) (l : h < n) where
+  module _ (w : List ℕ) (n h : ℕ) (c : SearchingBack u left x s w n h) (l : h < n) where
     abbrev o : ℕ
     o = met w h
 
@@ -255,7 +255,7 @@ module _ (u : List ℕ) (left x s : ℕ) (r : Rest u left) (f : Fresh u s) where
         (λ d. subst (λ (y : ℕ). Behind u x y) (sym same-last) (further o (o - 1) (getD u (o - 1) 0) (c .behind h l) (inr refl) refl (subst (λ (y : ℕ). mark u y ≡ 1 → ⊥) same-last d)))
 
     -- where output h stands it stays, and what it looks at is covered
-    pub look-next : Searching u left x s (lookIn w o s n .mem) (lookIn w o s n .count) (h + 1) × ((z : ℕ) → Covered u w n z → Covered u (lookIn w o s n .mem) (lookIn w o s n .count) z)
+    pub look-next : SearchingBack u left x s (lookIn w o s n .mem) (lookIn w o s n .count) (h + 1) × ((z : ℕ) → Covered u w n z → Covered u (lookIn w o s n .mem) (lookIn w o s n .count) z)
     look-next = (
       record {
         kept = q .kept;
@@ -273,7 +273,7 @@ module _ (u : List ℕ) (left x s : ℕ) (r : Rest u left) (f : Fresh u s) where
       (λ z g. two .still z (one .still z g)),
     )
       where
-        q : Searching u left x s (lookIn w o s n .mem) (lookIn w o s n .count) h
+        q : SearchingBack u left x s (lookIn w o s n .mem) (lookIn w o s n .count) h
         q = two .next
 
         at-last : (z : ℕ) → InputOf u o z → Covered u (lookIn w o s n .mem) (lookIn w o s n .count) (getD u z 0)
@@ -284,7 +284,7 @@ module _ (u : List ℕ) (left x s : ℕ) (r : Rest u left) (f : Fresh u s) where
 
   -- ---- the end
 
-  pub search-end : (w : List ℕ) (n : ℕ) → Searching u left x s w n n → Covered u w n (getD u x 0) → Searched u x s w
+  pub search-end : (w : List ℕ) (n : ℕ) → SearchingBack u left x s w n n → Covered u w n (getD u x 0) → Searched u x s w
   search-end w n c g = record {
     kept = c .kept;
     behind = λ o l e. ⊎-elim (λ q. absurd (let t = f .1 o l in omega arith)) (λ k. subst (λ (y : ℕ). Behind u x y) (k .2) (c .behind (k .0) (k .1))) (c .marks o);
@@ -342,16 +342,16 @@ pub began : (u : List ℕ) (left x s y : ℕ) (v : List ℕ) (n : ℕ) → Rest 
 began u left x s y v n r a f e q = record { holds = r; among = a; fresh = f; whole = q ∙ ap (λ (z : ℕ). meetIn u z s 0) e }
 
 -- the loop's invariant, whatever memory it began with
-abbrev pub Going : ℕ → ℕ → ℕ → List ℕ → ℕ → List ℕ → ℕ → ℕ → Type 0
-Going left x s v m w n h = (u : List ℕ) → Began u left x s v m → Searching u left x s w n h × Covered u w n (getD u x 0)
+abbrev pub SearchGoing : ℕ → ℕ → ℕ → List ℕ → ℕ → List ℕ → ℕ → ℕ → Type 0
+SearchGoing left x s v m w n h = (u : List ℕ) → Began u left x s v m → SearchingBack u left x s w n h × Covered u w n (getD u x 0)
 
-pub going-start : (left x s : ℕ) (v : List ℕ) (m : ℕ) → Going left x s v m v m 0
+pub going-start : (left x s : ℕ) (v : List ℕ) (m : ℕ) → SearchGoing left x s v m v m 0
 going-start left x s v m u b =
     let j = join u left x s (b .holds) (b .fresh) u 0 0 (getD u x 0) (searching-start u left x s) (among-source u left x (b .holds) (b .among))
     (b .holds .shut (b .among .at) x (b .among .low) (b .among .input)) (λ d. first (getD u x 0) refl d) in
-    subst (λ (c : Counted). Searching u left x s (c .mem) (c .count) 0 × Covered u (c .mem) (c .count) (getD u x 0)) (sym (b .whole)) (j .next, j .covered)
+    subst (λ (c : Counted). SearchingBack u left x s (c .mem) (c .count) 0 × Covered u (c .mem) (c .count) (getD u x 0)) (sym (b .whole)) (j .next, j .covered)
 
-module _ (u : List ℕ) (left x s : ℕ) (v : List ℕ) (m : ℕ) (b : Began u left x s v m) (w : List ℕ) (n h : ℕ) (g : Going left x s v m w n h) where
+module _ (u : List ℕ) (left x s : ℕ) (v : List ℕ) (m : ℕ) (b : Began u left x s v m) (w : List ℕ) (n h : ℕ) (g : SearchGoing left x s v m w n h) where
   pub going-few : n ≤ 4096
   going-few = let f = b .holds .few in omega (arith, met-few u left x s (b .holds) (b .fresh) w n h (g u b .0))
 
@@ -361,17 +361,17 @@ module _ (u : List ℕ) (left x s : ℕ) (v : List ℕ) (m : ℕ) (b : Began u l
   pub going-looks : (o : ℕ) → o ≡ met w h → h < n → Looks w o
   going-looks o e l = subst (λ (z : ℕ). Looks w z) (sym e) (looks-now u left x s (b .holds) (b .fresh) w n h (g u b .0) l)
 
-pub going-next : (left x s : ℕ) (v : List ℕ) (m : ℕ) (w : List ℕ) (n h : ℕ) → Going left x s v m w n h → h < n → (o : ℕ) (w′ : List ℕ) (n′ : ℕ) → o ≡ met w h → counted w′ n′ ≡ lookIn w o s n → Going left x s v m w′ n′ (h + 1)
+pub going-next : (left x s : ℕ) (v : List ℕ) (m : ℕ) (w : List ℕ) (n h : ℕ) → SearchGoing left x s v m w n h → h < n → (o : ℕ) (w′ : List ℕ) (n′ : ℕ) → o ≡ met w h → counted w′ n′ ≡ lookIn w o s n → SearchGoing left x s v m w′ n′ (h + 1)
 going-next left x s v m w n h g l o w′ n′ e q u b =
     let r = g u b in
     let t = look-next u left x s (b .holds) (b .fresh) w n h (r .0) l in
-    subst (λ (c : Counted). Searching u left x s (c .mem) (c .count) (h + 1) × Covered u (c .mem) (c .count) (getD u x 0)) (ap (λ (z : ℕ). lookIn w z s n) (sym e) ∙ sym q) (t .0, t .1 (getD u x 0) (r .1))
+    subst (λ (c : Counted). SearchingBack u left x s (c .mem) (c .count) (h + 1) × Covered u (c .mem) (c .count) (getD u x 0)) (ap (λ (z : ℕ). lookIn w z s n) (sym e) ∙ sym q) (t .0, t .1 (getD u x 0) (r .1))
 
-pub going-end : (u : List ℕ) (left x s : ℕ) (v : List ℕ) (m : ℕ) → Began u left x s v m → (w : List ℕ) (n h : ℕ) → n ≤ h → Going left x s v m w n h → Searched u x s w
+pub going-end : (u : List ℕ) (left x s : ℕ) (v : List ℕ) (m : ℕ) → Began u left x s v m → (w : List ℕ) (n h : ℕ) → n ≤ h → SearchGoing left x s v m w n h → Searched u x s w
 going-end u left x s v m b w n h l g =
     let r = g u b in
     let e : h ≡ n = (let o = r .0 .order in omega arith) in
-    search-end u left x s (b .holds) (b .fresh) w n (subst (λ (k : ℕ). Searching u left x s w n k) e (r .0)) (r .1)
+    search-end u left x s (b .holds) (b .fresh) w n (subst (λ (k : ℕ). SearchingBack u left x s w n k) e (r .0)) (r .1)
 
 -- both that output o looks at
 pub look-is : (w : List ℕ) (o s n x a : ℕ) (v : List ℕ) (k b : ℕ) (v′ : List ℕ) (r : ℕ) → x ≡ firstIn w o → a ≡ getD w x 0 → counted v k ≡ meetIn w a s n → b ≡ getD v (o - 1) 0 → counted v′ r ≡ meetIn v b s k
@@ -477,14 +477,14 @@ first-last w o = by (ltb (getD w o 0) 65525)
     by true = omega arith
     by false = omega arith
 
-pub record Seeking (u : List ℕ) (left : ℕ) (w : List ℕ) (j s : ℕ) : Type 0 where
+pub record SeekingRing (u : List ℕ) (left : ℕ) (w : List ℕ) (j s : ℕ) : Type 0 where
   pub same : SameMarks u w
   pub fresh : Fresh w s
   pub count : s + 2 * j ≡ 2 + 2 * left
   pub low : j ≤ left
   pub clear : (i : ℕ) → j ≤ i → i < left → OnNoRing u (rest u i)
 
-pub seeking-start : (u : List ℕ) (left : ℕ) → Fresh u 2 → Seeking u left u left 2
+pub seeking-start : (u : List ℕ) (left : ℕ) → Fresh u 2 → SeekingRing u left u left 2
 seeking-start u left f = record {
   same = record { kept = kept-none u; settled = λ y e. e; still = λ y e. e };
   fresh = f;
@@ -508,7 +508,7 @@ module _ (u w : List ℕ) (left : ℕ) (r : Rest u left) (same : SameMarks u w) 
   pub found-none : b ≡ false → Behind u x o → ⊥
   found-none e g = t .not-behind e (behind-kept u w left r same x a o g)
 
-module _ (u : List ℕ) (left : ℕ) (r : Rest u left) (w : List ℕ) (j i s o x : ℕ) (c : Seeking u left w j s) (e : j ≡ i + 1) (eo : o ≡ rest w i) (ex : x ≡ firstIn w o) where
+module _ (u : List ℕ) (left : ℕ) (r : Rest u left) (w : List ℕ) (j i s o x : ℕ) (c : SeekingRing u left w j s) (e : j ≡ i + 1) (eo : o ≡ rest w i) (ex : x ≡ firstIn w o) where
   lower : i < left
   lower = let l = c .low in omega arith
 
@@ -573,7 +573,7 @@ module _ (u : List ℕ) (left : ℕ) (r : Rest u left) (w : List ℕ) (j i s o x
           below z l (inl p) g = not-first (subst (λ (a : ℕ). Behind u a (rest u i)) (p ∙ sym x-first) g)
           below z l (inr p) g = let k = ap (λ (a : ℕ). a - 1) is-rest in omega arith
 
-      pub seek-next : b′ ≡ false → Seeking u left v′ i (s + 2)
+      pub seek-next : b′ ≡ false → SeekingRing u left v′ i (s + 2)
       seek-next p = record {
         same = same-after u v left r after (o - 1) (s + 1) o v′ b′ last-of t′;
         fresh = let k : s + 1 + 1 ≡ s + 2 = omega arith in subst (λ (z : ℕ). Fresh v′ z) k (t′ .searched .fresh);
@@ -587,5 +587,5 @@ module _ (u : List ℕ) (left : ℕ) (r : Rest u left) (w : List ℕ) (j i s o x
           clear-i z (inr a) g =
               found-none u v left r after (o - 1) (s + 1) o v′ b′ last-of t′ p (subst (λ (y : ℕ). Behind u (o - 1) y) (sym is-rest) (subst (λ (y : ℕ). Behind u y (rest u i)) (a ∙ sym (ap (λ (z : ℕ). z - 1) is-rest)) g))
 
-pub seeking-end : (u : List ℕ) (left : ℕ) (w : List ℕ) (j s : ℕ) → j ≡ 0 → Seeking u left w j s → RingFound u left w 0
+pub seeking-end : (u : List ℕ) (left : ℕ) (w : List ℕ) (j s : ℕ) → j ≡ 0 → SeekingRing u left w j s → RingFound u left w 0
 seeking-end u left w j s e c = record { kept = c .same .kept; place = none (λ i l. c .clear i (omega arith) l) }

@@ -40,7 +40,7 @@ wires-append (x ∷ xs) ys =
     ∙ sym (append-assoc (lineText assignForms (lineOfWire x)) (linesText assignForms (map lineOfWire xs)) (linesText assignForms (map lineOfWire ys)))
 
 -- F makes a text element by element, by their kinds, the first at terminal n
-pub record Rows (F : List ℕ → ℕ → List ℕ) : Type 0 where
+pub record TextRowsFor (F : List ℕ → ℕ → List ℕ) : Type 0 where
   pub none : (n : ℕ) → F [] n ≡ []
   pub first : (k : ℕ) (ks : List ℕ) (n : ℕ) → F (k ∷ ks) n ≡ F (k ∷ []) n ++ F ks (after k n)
 
@@ -65,7 +65,7 @@ kinds-first G h k ks n = by (eqb k 7)
     by true = h (point n) (elementsFrom ks (n + 2))
     by false = h (part k n) (elementsFrom ks (n + partAt k .inputs + 1))
 
-pub kept-rows : (w : List ℕ) → Rows (keptText w)
+pub kept-rows : (w : List ℕ) → TextRowsFor (keptText w)
 unfolding keptText elementText
 kept-rows w = record {
   none = λ n. refl;
@@ -74,7 +74,7 @@ kept-rows w = record {
       ∙ elements-append (keepIn w (elementsFrom (k ∷ []) n)) (keepIn w (elementsFrom ks (after k n)));
 }
 
-pub wire-rows : (w : List ℕ) → Rows (wiresText w)
+pub wire-rows : (w : List ℕ) → TextRowsFor (wiresText w)
 unfolding wiresText wireText
 wire-rows w = record {
   none = λ n. refl;
@@ -151,7 +151,7 @@ pub record TextDone (F : List ℕ → ℕ → List ℕ) (w : List ℕ) (elements
   pub low : afterAll (drop i (region w elementsAt elements)) n ≤ 8192
   pub writing : Writing out₀ from (F (region w elementsAt elements) 0) o at (F (drop i (region w elementsAt elements)) n)
 
-module _ {F : List ℕ → ℕ → List ℕ} (rows : Rows F) (out₀ : List ℕ) {w : List ℕ} {elements from : ℕ}
+module _ {F : List ℕ → ℕ → List ℕ} (rows : TextRowsFor F) (out₀ : List ℕ) {w : List ℕ} {elements from : ℕ}
     (f : RowFits w elements (F (region w elementsAt elements) 0) 4294967296 from) where
   abbrev ks : List ℕ
   ks = region w elementsAt elements

@@ -11,6 +11,7 @@ MOST = 1 << 20
 
 def period(sheet: bytes, lean: Netlist, starts: bytes) -> str:
     """The period in words. A run has at most 65,535 ticks: the next begins with what the registers showed at its last."""
+    calls.run(sheet, b"", starts, 0)  # a ring (19) or wrong starts (20) are refused before anything is said of registers
     shown = lean.output_pins
     if not lean.registers:
         return "it has no register: with all inputs 0 the outputs never change"

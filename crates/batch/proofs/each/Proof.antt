@@ -1,4 +1,4 @@
--- `batch::each` meets its contract. The invariant: the first k sheets are done, and what is left of the row makes the whole (`Going`).
+-- `batch::each` meets its contract. The invariant: the first k sheets are done, and what is left of the row makes the whole (`RowsGoing`).
 -- The measure is the sheets that are left. Assumes nothing.
 use Prim.Native.Nat.{ℕ, _+_, _-_, _≤_}
 use mathlib.Core.Path.{_≡_, refl, sym, ap, subst, _∙_}
@@ -8,13 +8,13 @@ use lib.ListN.{length, getD, take, drop, set}
 use borrow.Rule.Slice.PartMut.{same-len-mid}
 use borrow.Author.Needs.{needs}
 use Rattle.translation.specs.Wished.{allWish}
-use Rattle.batch.proofs.RowLaws.{Going, going-start, within, used-fits, going-part, going-end}
+use Rattle.batch.proofs.RowLaws.{RowsGoing, going-start, within, used-fits, going-part, going-end}
 use Rattle.batch.proofs.each.Statement.{statement}
 use Rattle.batch.proofs.each.Tie as tie
 
 abbrev Inv-loop : tie.InvT-loop
 Inv-loop sheets lengths out₀ results₀ work₀ wish at₀ used₀ k₀ out results work at used k =
-    (Going (allWish wish) sheets lengths out₀ results₀ work₀ out results work at used k) × (length out ≡ length out₀) × (length results ≡ length results₀) × (length work ≡ length work₀)
+    (RowsGoing (allWish wish) sheets lengths out₀ results₀ work₀ out results work at used k) × (length out ≡ length out₀) × (length results ≡ length results₀) × (length work ≡ length work₀)
 
 abbrev μ-loop : tie.MeasureT-loop
 μ-loop sheets lengths out₀ results₀ work₀ wish at₀ used₀ k₀ out results work at used k = length lengths - k

@@ -3,12 +3,12 @@ use native.Mathlib.Omega.{arith}
 use mathlib.Core.Path.{_≡_, refl, sym, _∙_}
 use Prim.Native.Nat.{ℕ, _+_, _-_, _≤_, _<_}
 use Rattle.trace_steps.specs.Steps.{firstIn}
-use Rattle.trace_rings.proofs.SearchLaws.{Seeking, seeking-start, seek-rest, seek-looks, seek-among, seek-first, then-rest, then-among, seek-last, seek-next, seeking-end}
+use Rattle.trace_rings.proofs.SearchLaws.{SeekingRing, seeking-start, seek-rest, seek-looks, seek-among, seek-first, then-rest, then-among, seek-last, seek-next, seeking-end}
 use Rattle.trace_rings.proofs.ring.lowest.Statement.{statement}
 use Rattle.trace_rings.proofs.ring.lowest.Tie as tie
 
 abbrev Inv-loop : tie.InvT-loop
-Inv-loop work₀ left stamp₀ j₀ work stamp j = Seeking work₀ left work j stamp
+Inv-loop work₀ left stamp₀ j₀ work stamp j = SeekingRing work₀ left work j stamp
 
 abbrev μ-loop : tie.MeasureT-loop
 μ-loop work₀ left stamp₀ j₀ work stamp j = j

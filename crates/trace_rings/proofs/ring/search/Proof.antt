@@ -3,12 +3,12 @@ use native.Mathlib.Omega.{arith}
 use mathlib.Core.Path.{_≡_, sym, ap, subst, _∙_}
 use Prim.Native.Nat.{ℕ, _+_, _-_, _≤_, _<_}
 use lib.ListN.{length, getD}
-use Rattle.trace_rings.proofs.SearchLaws.{Began, began, Going, among-low, among-source, going-start, going-few, going-size, going-looks, going-next, going-end}
+use Rattle.trace_rings.proofs.SearchLaws.{Began, began, SearchGoing, among-low, among-source, going-start, going-few, going-size, going-looks, going-next, going-end}
 use Rattle.trace_rings.proofs.ring.search.Statement.{statement}
 use Rattle.trace_rings.proofs.ring.search.Tie as tie
 
 abbrev Inv-loop : tie.InvT-loop
-Inv-loop work₀ left x stamp first n₀ h₀ work n h = Going left x stamp work₀ n₀ work n h
+Inv-loop work₀ left x stamp first n₀ h₀ work n h = SearchGoing left x stamp work₀ n₀ work n h
 
 abbrev μ-loop : tie.MeasureT-loop
 μ-loop work₀ left x stamp first n₀ h₀ work n h = 4096 - h
