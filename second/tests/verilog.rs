@@ -233,6 +233,8 @@ endmodule
         ("t0001;\nnot (t0001, t0000)", "t0000;\nnot (t0000, t0000)"),
         ("t0001;\nnot (t0001, t0000)", "t0002;\nnot (t0002, t0000)"),
         ("input p0000,\n  output p0001", "output p0000,\n  input p0001"),
+        ("output p0001", "input p0001"),
+        ("input p0000", "output p0000"),
         ("input p0000,\n  output p0001", "input p0001,\n  output p0000"),
         (",\n  output p0001", ""),
         ("assign p0001", "assign p0000"),

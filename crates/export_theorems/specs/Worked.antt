@@ -103,10 +103,11 @@ misnamed =
     framed inOut (ascii "wire t0000, t0000;\nnot (t0000, t0000);\n") pinned ∷ framed inOut (ascii "wire t0000, t0001;\nnot (t0000, t0001);\n") pinned
     ∷ framed inOut (ascii "wire t0000, t0002;\nnot (t0002, t0000);\n") pinned ∷ framed inOut (ascii "wire t0000, t0001;\nnot (t0001, t0002);\n") pinned ∷ []
 
--- directions exchanged, positions falling, one position twice, a port too few, a port too many
+-- directions exchanged, both ports inputs, both outputs, positions falling, one position twice, a port too few, a port too many
 abbrev misported : List (List ℕ)
 misported =
-    framed (ascii ",\n  output p0000,\n  input p0001") inverter pinned ∷ framed (ascii ",\n  input p0001,\n  output p0000") inverter pinned
+    framed (ascii ",\n  output p0000,\n  input p0001") inverter pinned ∷ framed (ascii ",\n  input p0000,\n  input p0001") inverter pinned
+    ∷ framed (ascii ",\n  output p0000,\n  output p0001") inverter pinned ∷ framed (ascii ",\n  input p0001,\n  output p0000") inverter pinned
     ∷ framed (ascii ",\n  input p0000,\n  output p0000") inverter pinned ∷ framed (ascii ",\n  input p0000") inverter pinned
     ∷ framed (ascii ",\n  input p0000,\n  output p0001,\n  output p0002") inverter pinned ∷ []
 
