@@ -9,7 +9,7 @@ use native.Mathlib.Decide.{ℕ-discrete}
 use lib.Dec.{ltb}
 use lib.ListN.{length, getD, drop, set, length-set}
 use lib.Seq.{getD-set-same, getD-set-other}
-use borrow.Author.Tests.{ne-eqb, eq-eqb, lt-ltb, le-ltb, ltb-true}
+use borrow.Author.Tests.{ne-eqb, eq-eqb, lt-ltb, le-ltb, ltb-true, ltb-false}
 use Rattle.calculus.specs.Terms.{partAt}
 use Rattle.calculus.specs.Net.{Terminal, inp, out}
 use Rattle.calculus.specs.Record.{All}
@@ -18,7 +18,7 @@ use Rattle.circuit_theorems.proofs.Rings.{has}
 use Rattle.memory.specs.Map.{stackAt, memorySize, region, terminalOf}
 use Rattle.lean.specs.Table.{entry}
 use Rattle.lean.proofs.KindLaws.{region-next, region-end}
-use Rattle.card.specs.Marks.{readMark, markAll, wireSource, sourcesIn, pinSource, pinSources, noted, partMarked, Free, Markable, PinFree, PinsFree}
+use Rattle.card.specs.Marks.{readMark, unreadMark, markAll, withoutMark, OnlyMarks, wireSource, sourcesIn, pinSource, pinSources, noted, partMarked, Free, Markable, PinFree, PinsFree}
 
 module _ (mark : ℕ) where
   pub mark-append : (w xs ys : List ℕ) → markAll mark w (xs ++ ys) ≡ markAll mark (markAll mark w xs) ys
@@ -77,6 +77,25 @@ stays-set {w₀} {w} {mark} z high s o f = record {
 pub stays-all : {w₀ w : List ℕ} (mark : ℕ) → memorySize ≤ length w₀ → 8192 ≤ mark → Stays w₀ w → (os : List ℕ) → All (Free w₀) os → Stays w₀ (markAll mark w os)
 stays-all mark z high s [] f = s
 stays-all mark z high s (o ∷ os) f = stays-all mark z high (stays-set z high s o (f .0)) os (f .1)
+
+-- marks are not below 8,192, and nothing else changes
+pub stays-marks : {w₀ w : List ℕ} {end : ℕ} → end ≤ 8192 → OnlyMarks w₀ end w → Stays w₀ w
+stays-marks {w₀} {w} {end} h o = record {
+  size = o .size;
+  above = λ j l. o .above j (omega arith);
+  below = λ j. by j (ltb j end) refl;
+}
+  where
+    number : (x y : ℕ) → withoutMark x ≡ y → (x ≡ y) ⊎ ((8192 ≤ y) × (8192 ≤ x))
+    number x y e = at (ltb x unreadMark) refl e
+      where
+        at : (b : Bool) → ltb x unreadMark ≡ b → cond b x 65535 ≡ y → (x ≡ y) ⊎ ((8192 ≤ y) × (8192 ≤ x))
+        at true z e = inl e
+        at false z e = let l = ltb-false x unreadMark z in inr (omega arith, omega arith)
+
+    by : (j : ℕ) → (b : Bool) → ltb j end ≡ b → (getD w j 0 ≡ getD w₀ j 0) ⊎ ((8192 ≤ getD w₀ j 0) × (8192 ≤ getD w j 0))
+    by j true z = number (getD w j 0) (getD w₀ j 0) (o .marks j (ltb-true j end z))
+    by j false z = inl (o .above j (ltb-false j end z))
 
 module _ {w₀ w : List ℕ} (s : Stays w₀ w) where
   pub entry-stays : (x : ℕ) → entry w x ≡ entry w₀ x

@@ -21,9 +21,9 @@ use Rattle.lean.specs.InMemory.{undriven, keptIn}
 use Rattle.lean.proofs.KindLaws.{region-next, region-end, first-low, output-low, part-low}
 use Rattle.lean.proofs.LeanLaws.{kinds-low}
 use Rattle.ring_points.specs.Rings.{ringIn, ringFrom}
-use Rattle.card.specs.Marks.{readMark, unreadMark, markAll, sourcesIn, kindSources, partSources, kindOutput, partOutputs, noted, partMarked, firstRing}
-use Rattle.card.proofs.MarkLaws.{read-high, mark-at, mark-length, Stays, sources-stay, entry-stays}
-use Rattle.card.proofs.WholeLaws.{Among, among-next, among-out, among-in, Is, output-free, among, sources-outs, outputs-out, has-append, has-all, Spares, spares-none, spares-all, spares-noted}
+use Rattle.card.specs.Marks.{readMark, unreadMark, markAll, sourcesIn, partSources, partOutputs, noted, partMarked}
+use Rattle.card.proofs.MarkLaws.{mark-at, mark-length, sources-stay, entry-stays}
+use Rattle.card.proofs.WholeLaws.{Among, among-next, among-out, among-in, Is, output-free, among, sources-outs, outputs-out, has-append, has-all, Spares, spares-stays, spares-none, spares-all, spares-noted}
 
 -- ---- one terminal: its number, once it is read or noted
 
@@ -74,15 +74,6 @@ noted-at w o j l =
     there d true = getD-set-other w o j unreadMark 0 (λ y. d (sym y))
     there d false = refl
 
--- ---- the first ring point
-
-ring-one : (b : Bool) (r n x : ℕ) → n < 8192 → cond (eqb (cond b (cond (eqb r 8192) n r) r) 8192) x (cond b (cond (eqb r 8192) n r) r) ≡ cond (eqb r 8192) (cond b n x) r
-ring-one true r n x l = elim (ℕ-discrete r 8192) [
-  | yes z ↦ rw (eq-eqb r 8192 z) (rw (ne-eqb n 8192 (λ y. omega arith)))
-  | no d ↦ rw (ne-eqb r 8192 d) (rw (ne-eqb r 8192 d))
-]
-ring-one false r n x l = refl
-
 -- ---- the pass
 
 module _ (w₀ : List ℕ) (e k p : ℕ) (q : Whole w₀ e k p) where
@@ -92,44 +83,47 @@ module _ (w₀ : List ℕ) (e k p : ℕ) (q : Whole w₀ e k p) where
   abbrev kinds : List ℕ
   kinds = region w₀ elementsAt e
 
-  -- elements of kinds ks are still to come, the first at terminal n; r is the first ring point before them
-  pub record Passing (w ks : List ℕ) (n r : ℕ) : Type 0 where
+  -- elements of kinds ks are still to come, the first at terminal n, and no ring point stands before them
+  pub record Passing (w ks : List ℕ) (n : ℕ) : Type 0 where
     pub spares : Spares w₀ e k p q w
     pub low : afterAll ks n ≤ 8192
     pub among : Among (m .elements) ks n
     pub end : afterAll ks n ≡ afterAll kinds 0
-    pub ring : cond (eqb r 8192) (ringFrom w₀ ks n) r ≡ ringFrom w₀ kinds 0
+    pub ring : ringFrom w₀ ks n ≡ ringFrom w₀ kinds 0
     pub same : (j : ℕ) → j < length w₀ → settled (has (partSources w₀ ks n) j) (has (partOutputs ks n) j) (getD w j 0) ≡ settled (has (partSources w₀ kinds 0) j) (has (partOutputs kinds 0) j) (getD w₀ j 0)
 
-  pub passing-start : Passing w₀ kinds 0 8192
+  pub passing-start : Passing w₀ kinds 0
   passing-start = record { spares = spares-none w₀ e k p q; low = kinds-low w₀ e k p q; among = among w₀ e k p q; end = refl; ring = refl; same = λ j l. refl }
 
   fits : elementsAt + e ≤ length w₀
   fits = let z = q .ready .size in let f = q .ready .few-elements in omega arith
 
   -- i elements are done
-  module _ {w : List ℕ} {n r : ℕ} (i : ℕ) (s : Passing w (drop i kinds) n r) where
-    pub last-done : e ≤ i → Passing w [] n r
-    last-done h = subst (λ (ks : List ℕ). Passing w ks n r) (region-end w₀ elementsAt e i fits h) s
+  module _ {w : List ℕ} {n : ℕ} (i : ℕ) (s : Passing w (drop i kinds) n) where
+    pub last-done : e ≤ i → Passing w [] n
+    last-done h = subst (λ (ks : List ℕ). Passing w ks n) (region-end w₀ elementsAt e i fits h) s
 
-    pub one-more : i < e → Passing w (getD w (elementsAt + i) 0 ∷ drop (i + 1) kinds) n r
+    pub one-more : i < e → Passing w (getD w (elementsAt + i) 0 ∷ drop (i + 1) kinds) n
     one-more h =
-        subst (λ (ks : List ℕ). Passing w ks n r)
-        (region-next w₀ elementsAt e i fits h ∙ ap (λ (x : ℕ). x ∷ drop (i + 1) kinds) (sym (s .spares .stays .above (elementsAt + i) (omega arith)))) s
+        subst (λ (ks : List ℕ). Passing w ks n)
+        (region-next w₀ elementsAt e i fits h ∙ ap (λ (x : ℕ). x ∷ drop (i + 1) kinds) (sym (spares-stays w₀ e k p q (s .spares) .above (elementsAt + i) (omega arith)))) s
 
-  module _ {w : List ℕ} {c : ℕ} {ks : List ℕ} {n r : ℕ} (s : Passing w (c ∷ ks) n r) where
+  module _ {w : List ℕ} {c : ℕ} {ks : List ℕ} {n : ℕ} (s : Passing w (c ∷ ks) n) where
     pub passing-low : after c n ≤ 8192
     passing-low = omega (arith, after-rises ks (after c n), s .low)
 
     -- the marks so far do not change what is a ring point
     ring-same : ringIn w c n ≡ ringIn w₀ c n
     ring-same = elim (ℕ-discrete c 7) [
-      | yes z ↦ rw (eq-eqb c 7 z, s .spares .spared n (among-in (s .among) z), entry-stays (s .spares .stays) (n + 1))
+      | yes z ↦ rw (eq-eqb c 7 z, s .spares .spared n (among-in (s .among) z), entry-stays (spares-stays w₀ e k p q (s .spares)) (n + 1))
       | no d ↦ rw (ne-eqb c 7 d)
     ]
 
-    ring-next : cond (eqb (firstRing w r c n) 8192) (ringFrom w₀ ks (after c n)) (firstRing w r c n) ≡ ringFrom w₀ kinds 0
-    ring-next = rw ring-same (ring-one (ringIn w₀ c n) r n (ringFrom w₀ ks (after c n)) (first-low c n 8192 passing-low)) ∙ s .ring
+    pub ring-found : ringIn w c n ≡ true → ringFrom w₀ kinds 0 ≡ n
+    ring-found h = sym (s .ring) ∙ ap (λ (b : Bool). cond b n (ringFrom w₀ ks (after c n))) (sym ring-same ∙ h)
+
+    ring-next : ringIn w c n ≡ false → ringFrom w₀ ks (after c n) ≡ ringFrom w₀ kinds 0
+    ring-next h = ap (λ (b : Bool). cond b n (ringFrom w₀ ks (after c n))) (sym (sym ring-same ∙ h)) ∙ s .ring
 
     module _ (d : c ≡ 7 → ⊥) where
       abbrev read : List ℕ
@@ -142,10 +136,10 @@ module _ (w₀ : List ℕ) (e k p : ℕ) (q : Whole w₀ e k p) where
       inputs-low = omega (arith, part-low c n 8192 d passing-low)
 
       sources-same : sourcesIn w (partAt c .inputs) n ≡ sourcesIn w₀ (partAt c .inputs) n
-      sources-same = sources-stay (s .spares .stays) (partAt c .inputs) n
+      sources-same = sources-stay (spares-stays w₀ e k p q (s .spares)) (partAt c .inputs) n
 
       read-spares : Spares w₀ e k p q read
-      read-spares = subst (λ (xs : List ℕ). Spares w₀ e k p q (markAll readMark w xs)) (sym sources-same) (spares-all w₀ e k p q readMark read-high (s .spares) (sourcesIn w₀ (partAt c .inputs) n) (sources-outs w₀ e k p q (partAt c .inputs) n inputs-low))
+      read-spares = subst (λ (xs : List ℕ). Spares w₀ e k p q (markAll readMark w xs)) (sym sources-same) (spares-all w₀ e k p q readMark refl (s .spares) (sourcesIn w₀ (partAt c .inputs) n) (sources-outs w₀ e k p q (partAt c .inputs) n inputs-low))
 
       note-spares : Spares w₀ e k p q (noted read (outputOf c n))
       note-spares = spares-noted w₀ e k p q read-spares (outputOf c n) (among-out (s .among))
@@ -154,7 +148,7 @@ module _ (w₀ : List ℕ) (e k p : ℕ) (q : Whole w₀ e k p) where
           → getD (noted read (outputOf c n)) j 0 ≡ cond (eqb (outputOf c n) j) (fresh (cond (has (sourcesIn w₀ (partAt c .inputs) n) j) readMark (getD w j 0))) (cond (has (sourcesIn w₀ (partAt c .inputs) n) j) readMark (getD w j 0))
       number-at j l =
           let z = q .ready .size in
-          let y = s .spares .stays .size in
+          let y = spares-stays w₀ e k p q (s .spares) .size in
           let x = mark-length readMark w (sourcesIn w (partAt c .inputs) n) in
           let o = output-low c n 8192 passing-low in
           noted-at read (outputOf c n) j (omega arith)
@@ -184,23 +178,17 @@ module _ (w₀ : List ℕ) (e k p : ℕ) (q : Whole w₀ e k p) where
         absurd-test : true ≡ false → ⊥
         absurd-test h = subst (λ (b : Bool). T b) h tt
 
-    pub passing-step : {w₁ : List ℕ} {n₁ r₁ : ℕ} → w₁ ≡ partMarked w c n → n₁ ≡ after c n → r₁ ≡ firstRing w r c n → Passing w₁ ks n₁ r₁
-    passing-step x y z = rw (x, y, z) (record {
+    pub passing-step : {w₁ : List ℕ} {n₁ : ℕ} → ringIn w c n ≡ false → w₁ ≡ partMarked w c n → n₁ ≡ after c n → Passing w₁ ks n₁
+    passing-step h x y = rw (x, y) (record {
       spares = spares-next;
       low = s .low;
       among = among-next (s .among);
       end = s .end;
-      ring = ring-next;
+      ring = ring-next h;
       same = λ j l. same-by (eqb c 7) refl j l ∙ s .same j l;
     })
 
-  module _ {w : List ℕ} {n r : ℕ} (s : Passing w [] n r) where
-    pub passed-ring : r ≡ ringFrom w₀ kinds 0
-    passed-ring = self ∙ s .ring
-      where
-        self : r ≡ cond (eqb r 8192) 8192 r
-        self = elim (ℕ-discrete r 8192) [ yes z ↦ rw (eq-eqb r 8192 z) z | no d ↦ rw (ne-eqb r 8192 d) ]
-
+  module _ {w : List ℕ} {n : ℕ} (s : Passing w [] n) where
     -- as if the parts' outputs had got their marks first
     at-end : (j : ℕ) → j < length w₀ → getD w j 0 ≡ getD (markAll readMark (markAll unreadMark w₀ (partOutputs kinds 0)) (partSources w₀ kinds 0)) j 0
     at-end j l =
@@ -217,5 +205,5 @@ module _ (w₀ : List ℕ) (e k p : ℕ) (q : Whole w₀ e k p) where
     passed-marks =
         let a = mark-length unreadMark w₀ (partOutputs kinds 0) in
         let b = mark-length readMark (markAll unreadMark w₀ (partOutputs kinds 0)) (partSources w₀ kinds 0) in
-        let c = s .spares .stays .size in
+        let c = spares-stays w₀ e k p q (s .spares) .size in
         ext-getD 0 w (markAll readMark (markAll unreadMark w₀ (partOutputs kinds 0)) (partSources w₀ kinds 0)) (c ∙ sym (b ∙ a)) (λ j l. at-end j (omega arith))

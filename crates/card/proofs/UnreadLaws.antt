@@ -8,7 +8,7 @@ use mathlib.Core.List.{List, [], _∷_, _++_, map}
 use native.Mathlib.Omega.{arith}
 use native.Mathlib.Decide.{ℕ-discrete}
 use lib.Dec.{T, eqb, ltb}
-use lib.ListN.{length, getD}
+use lib.ListN.{length, getD, drop}
 use lib.Seq.{ext-getD}
 use borrow.Author.Tests.{ne-eqb, eq-eqb, lt-ltb, le-ltb, eqb-true, eqb-false, ltb-true, ltb-false}
 use Rattle.laws.proofs.Tests.{is-false}
@@ -28,12 +28,12 @@ use Rattle.netlist.proofs.Elements.{after-rises}
 use Rattle.lean.specs.Table.{entry, Whole}
 use Rattle.lean.specs.InMemory.{undriven, keptIn, keepIn, inputIn, inputsIn, wiresIn, pinIn}
 use Rattle.lean.specs.Fitting.{DriversLow}
-use Rattle.lean.proofs.KindLaws.{first-low, part-low, after-output, output-from}
+use Rattle.lean.proofs.KindLaws.{region-next, first-low, part-low, after-output, output-from}
 use Rattle.lean.proofs.LeanLaws.{lean-net, kinds-low, driven}
 use Rattle.ring_points.specs.Rings.{ringFrom, answerOf}
-use Rattle.card.specs.Marks.{readMark, unreadMark, markAll, wireSource, sourcesIn, partSources, kindOutput, partOutputs, pinSource, pinSources, lowestUnread, withoutMark, unmarked, PinFree, PinsFree}
-use Rattle.card.proofs.MarkLaws.{read-high, mark-append, mark-length, mark-at, Stays, pin-stays, pin-free-stays}
-use Rattle.card.proofs.WholeLaws.{has-append, has-all, has-not, Among, among-next, among-out, Is, output-free, output-end, among, root-there, free, wired, outputs, reads, wired-outs, outputs-out, reads-outs, Spares, spares-none, spares-all}
+use Rattle.card.specs.Marks.{readMark, unreadMark, markAll, wireSource, sourcesIn, partSources, kindOutput, partOutputs, pinSource, pinSources, lowestUnread, unmarked, OnlyMarks, ElementsLow, PinFree, PinsFree}
+use Rattle.card.proofs.MarkLaws.{mark-append, mark-length, mark-at, Stays, stays-marks, pin-stays, pin-free-stays}
+use Rattle.card.proofs.WholeLaws.{has-append, root-there, free, wired, outputs, reads, codes-outs, end, marks-all}
 use Rattle.card.proofs.SweepLaws.{unmark-length, unmark-other, unmark-at, skip}
 
 -- ---- wires and pins of the lean netlist, as lists of outputs
@@ -140,12 +140,6 @@ module _ (w : List ℕ) (e k p : ℕ) (q : Whole w e k p) where
   abbrev pub marked : List ℕ
   marked = markAll readMark noting all
 
-  noting-spares : Spares w e k p q noting
-  noting-spares = spares-all w e k p q unreadMark (omega arith) (spares-none w e k p q) outs (outputs-out w e k p q)
-
-  wired-spares : Spares w e k p q (markAll readMark noting (wired w e k p q))
-  wired-spares = spares-all w e k p q readMark read-high noting-spares (wired w e k p q) (wired-outs w e k p q)
-
   size : memorySize ≤ length w
   size = q .ready .size
 
@@ -168,13 +162,29 @@ module _ (w : List ℕ) (e k p : ℕ) (q : Whole w e k p) where
       by (c ∷ cs) zero a l = a .0
       by (c ∷ cs) (suc j) a l = by cs j (a .1) (omega arith)
 
-  module _ {w₁ : List ℕ} (g : w₁ ≡ markAll readMark noting (wired w e k p q)) where
+  -- a pass that met no ring point came to the end
+  pub all-done : (d n : ℕ) → afterAll (drop d kinds) n ≡ end w e k p q → 8192 ≤ cond (ltb d e) n 8192 → e ≤ d
+  all-done d n s h = by (ltb d e) refl h
+    where
+      low : d < e → n < 8192
+      low l =
+          let z = size in
+          let f = q .ready .few-elements in
+          let y = kinds-low w e k p q in
+          let x = ap (λ (ks : List ℕ). afterAll ks n) (sym (region-next w elementsAt e d (omega arith) l)) ∙ s in
+          first-low (getD w (elementsAt + d) 0) n 8192 (omega (arith, x, after-rises (drop (d + 1) kinds) (after (getD w (elementsAt + d) 0) n)))
+
+      by : (b : Bool) → ltb d e ≡ b → 8192 ≤ cond b n 8192 → e ≤ d
+      by true z g = let l = low (ltb-true d e z) in absurd (omega arith)
+      by false z g = ltb-false d e z
+
+  module _ {w₁ : List ℕ} (o : OnlyMarks w (end w e k p q) w₁) where
     stays₁ : Stays w w₁
-    stays₁ = subst (Stays w) (sym g) (wired-spares .stays)
+    stays₁ = stays-marks (kinds-low w e k p q) o
 
     pub pins-free : PinsFree w₁ p
     pins-free = record {
-      size = let z = size in let t = stays₁ .size in omega arith;
+      size = let z = size in let t = o .size in omega arith;
       few = q .ready .few-pins;
       shown = λ i h. subst (λ (c : ℕ). PinFree w₁ (terminalOf c)) (sym (stays₁ .above (stackAt + i) (omega arith))) (pin-free-stays stays₁ (terminalOf (getD w (stackAt + i) 0)) (pin-free (terminalOf (getD w (stackAt + i) 0)) (shown-at i h)));
     }
@@ -183,66 +193,57 @@ module _ (w : List ℕ) (e k p : ℕ) (q : Whole w e k p) where
     pins-stay [] = refl
     pins-stay (c ∷ cs) = rw (pin-stays stays₁ (terminalOf c), pins-stay cs)
 
-    codes-stay : region w₁ stackAt p ≡ codes
-    codes-stay =
+    region-stays : (at n : ℕ) → 8192 ≤ at → at + n ≤ length w → region w₁ at n ≡ region w at n
+    region-stays at n l h = let t = o .size in region-ext at n w w₁ h (omega arith) (λ j a _. stays₁ .above j (omega arith))
+
+    pub kinds-stay : region w₁ elementsAt e ≡ kinds
+    kinds-stay = let z = size in let f = q .ready .few-elements in region-stays elementsAt e (omega arith) (omega arith)
+
+    -- the first terminal that no element takes, from any element on
+    pub end-same : (d n : ℕ) → afterAll (drop d kinds) n ≡ end w e k p q → afterAll (drop d (region w₁ elementsAt e)) n ≡ end w e k p q
+    end-same d n h = ap (λ (ks : List ℕ). afterAll (drop d ks) n) kinds-stay ∙ h
+
+    pub end-low : (d n : ℕ) → afterAll (drop d kinds) n ≡ end w e k p q → ElementsLow w₁ e d n
+    end-low d n h = record {
+      size = let z = size in let t = o .size in omega arith;
+      few = q .ready .few-elements;
+      low = let z = end-same d n h in let y = kinds-low w e k p q in omega arith;
+    }
+
+    pub memory-long : 8192 ≤ length w₁
+    memory-long = let z = size in let t = o .size in omega arith
+
+    -- the pins' marks behind the others
+    pub pins-marks : {w₂ : List ℕ} → w₂ ≡ markAll readMark w₁ (pinSources w₁ (region w₁ stackAt p)) → w₂ ≡ markAll readMark w₁ (pinSources w codes)
+    pins-marks h =
         let z = size in
         let f = q .ready .few-pins in
-        let t = stays₁ .size in
-        region-ext stackAt p w w₁ (omega arith) (omega arith) (λ j a _. stays₁ .above j (omega arith))
-
-    pub both-marks : {w₂ : List ℕ} → w₂ ≡ markAll readMark w₁ (pinSources w₁ (region w₁ stackAt p)) → w₂ ≡ marked
-    both-marks {w₂} h =
         h
-        ∙ ap (λ (cs : List ℕ). markAll readMark w₁ (pinSources w₁ cs)) codes-stay
+        ∙ ap (λ (cs : List ℕ). markAll readMark w₁ (pinSources w₁ cs)) (region-stays stackAt p (omega arith) (omega arith))
         ∙ ap (markAll readMark w₁) (pins-stay codes)
+
+    pub only-pins : {w₂ : List ℕ} → w₂ ≡ markAll readMark w₁ (pinSources w₁ (region w₁ stackAt p)) → OnlyMarks w (end w e k p q) w₂
+    only-pins h = subst (OnlyMarks w (end w e k p q)) (sym (pins-marks h)) (marks-all w e k p q readMark refl o (pinSources w codes) (codes-outs w e k p q))
+
+    pub both-marks : {w₂ : List ℕ} → w₁ ≡ markAll readMark noting (wired w e k p q) → w₂ ≡ markAll readMark w₁ (pinSources w₁ (region w₁ stackAt p)) → w₂ ≡ marked
+    both-marks g h =
+        pins-marks h
         ∙ ap (λ (x : List ℕ). markAll readMark x (pinSources w codes)) g
         ∙ sym (mark-append readMark noting (wired w e k p q) (pinSources w codes))
-
-  pub marked-length : length marked ≡ length w
-  marked-length = mark-length readMark noting all ∙ mark-length unreadMark w outs
 
   marked-at : (j : ℕ) → j < length w → getD marked j 0 ≡ cond (has all j) readMark (cond (has outs j) unreadMark (getD w j 0))
   marked-at j l = let z = mark-length unreadMark w outs in mark-at readMark noting all j (omega arith) ∙ ap (λ (x : ℕ). cond (has all j) readMark x) (mark-at unreadMark w outs j l)
 
   -- ---- without the marks, the memory is as it was
 
-  number-there : (j : ℕ) → j < 8192 → withoutMark (getD w j 0) ≡ getD w j 0
-  number-there j l = elim (ℕ-discrete (getD w j 0) 65535) [
-    | yes z ↦ rw z
-    | no d ↦ let h = driven w e k p q .low j l d in rw (lt-ltb (getD w j 0) unreadMark (omega arith))
-  ]
-
-  abbrev end : ℕ
-  end = afterAll kinds 0
-
-  cleared : (j : ℕ) → j < 8192 → withoutMark (cond (has all j) readMark (cond (has outs j) unreadMark (getD w j 0))) ≡ getD w j 0
-  cleared j l = by (has all j) refl (has outs j) refl
+  pub restored : {w₂ w₃ : List ℕ} {n : ℕ} → OnlyMarks w (end w e k p q) w₂ → n ≡ end w e k p q → w₃ ≡ unmarked w₂ n 0 → w₃ ≡ w
+  restored {w₂} {w₃} {n} o y h =
+      let t = unmark-length w₂ (end w e k p q) 0 ∙ o .size in
+      h ∙ ap (λ (c : ℕ). unmarked w₂ c 0) y ∙ ext-getD 0 (unmarked w₂ (end w e k p q) 0) w t (λ j l. at j (omega arith) (ltb j (end w e k p q)) refl)
     where
-      by : (b : Bool) → has all j ≡ b → (c : Bool) → has outs j ≡ c → withoutMark (cond b readMark (cond c unreadMark (getD w j 0))) ≡ getD w j 0
-      by true a c d = sym (output-free w e k p q j (has-all (λ x. isOut (m .elements) x) all j (reads-outs w e k p q) a))
-      by false a true d = sym (output-free w e k p q j (has-all (λ x. isOut (m .elements) x) outs j (outputs-out w e k p q) d))
-      by false a false d = number-there j l
-
-  unmarked-there : (j : ℕ) → end ≤ j → cond (has all j) readMark (cond (has outs j) unreadMark (getD w j 0)) ≡ getD w j 0
-  unmarked-there j l =
-      let z = is-false (isOut (m .elements) j) (λ t. let y = output-end w e k p q j t in omega arith) in
-      rw (has-not (λ x. isOut (m .elements) x) all j (reads-outs w e k p q) z, has-not (λ x. isOut (m .elements) x) outs j (outputs-out w e k p q) z)
-
-  gone-at : (j : ℕ) → j < length w → getD (unmarked marked end 0) j 0 ≡ getD w j 0
-  gone-at j h = by (ltb j end) refl
-    where
-      by : (b : Bool) → ltb j end ≡ b → getD (unmarked marked end 0) j 0 ≡ getD w j 0
-      by true a =
-          let l = ltb-true j end a in
-          let z = kinds-low w e k p q in
-          let y = marked-length in
-          unmark-at marked end 0 j (omega arith) (omega arith) (omega arith) ∙ ap withoutMark (marked-at j h) ∙ cleared j (omega arith)
-      by false a = let l = ltb-false j end a in unmark-other marked end 0 j (inr (omega arith)) ∙ marked-at j h ∙ unmarked-there j l
-
-  pub restored : {w₂ w₃ : List ℕ} {n : ℕ} → w₂ ≡ marked → n ≡ end → w₃ ≡ unmarked w₂ n 0 → w₃ ≡ w
-  restored {w₂} {w₃} {n} g y h =
-      let t = unmark-length marked end 0 ∙ marked-length in
-      h ∙ ap₂ (λ (x : List ℕ) (c : ℕ). unmarked x c 0) g y ∙ ext-getD 0 (unmarked marked end 0) w t (λ j l. gone-at j (omega arith))
+      at : (j : ℕ) → j < length w → (b : Bool) → ltb j (end w e k p q) ≡ b → getD (unmarked w₂ (end w e k p q) 0) j 0 ≡ getD w j 0
+      at j l true z = let g = ltb-true j (end w e k p q) z in let y = o .size in unmark-at w₂ (end w e k p q) 0 j (omega arith) (omega arith) (omega arith) ∙ o .marks j g
+      at j l false z = let g = ltb-false j (end w e k p q) z in unmark-other w₂ (end w e k p q) 0 j (inr (omega arith)) ∙ o .above j g
 
   -- ---- the definition's test
 
@@ -323,9 +324,9 @@ module _ (w : List ℕ) (e k p : ℕ) (q : Whole w e k p) where
         parts b false x g h r = rw (g, lt-ltb (n + partAt c .inputs) 8192 h)
         parts b true x g h r = rw g r
 
-    pub unread-answer : {w₂ : List ℕ} {n r : ℕ} → w₂ ≡ marked → n ≡ end → r ≡ lowestUnread w₂ n 0
+    pub unread-answer : {w₂ : List ℕ} {n r : ℕ} → w₂ ≡ marked → n ≡ end w e k p q → r ≡ lowestUnread w₂ n 0
         → needAll (isRead (lean m)) 29 outputPlace (lean m .elements) ≡ answerOf 29 r
-    unread-answer {w₂} {n} g y h =
+    unread-answer {w₂} g y h =
         ap (λ (x : Net). needAll (isRead x) 29 outputPlace (x .elements)) (lean-net w e k p q)
-        ∙ seek kinds 0 end (omega arith) (kinds-low w e k p q) (λ j h. refl)
+        ∙ seek kinds 0 (end w e k p q) (omega arith) (kinds-low w e k p q) (λ j h. refl)
         ∙ ap (answerOf 29) (sym (h ∙ ap₂ (λ (x : List ℕ) (c : ℕ). lowestUnread x c 0) g y))

@@ -6,9 +6,9 @@ use mathlib.Core.List.{List, [], _∷_, _++_, map}
 use native.Mathlib.Omega.{arith}
 use native.Mathlib.Decide.{ℕ-discrete}
 use lib.Dec.{T, eqb, ltb, eqb-refl}
-use lib.ListN.{length, getD, set}
-use lib.Seq.{getD-set-other}
-use borrow.Author.Tests.{ne-eqb, eq-eqb, ltb-true}
+use lib.ListN.{length, getD, set, length-set}
+use lib.Seq.{getD-set-same, getD-set-other}
+use borrow.Author.Tests.{ne-eqb, eq-eqb, ltb-true, lt-ltb}
 use Rattle.laws.proofs.Tests.{or-left, or-right, is-false, T-is}
 use Rattle.laws.proofs.Regions.{region-ext, region-length, region-at}
 use Rattle.calculus.specs.Terms.{partAt}
@@ -29,9 +29,9 @@ use Rattle.netlist.proofs.Elements.{after-rises}
 use Rattle.lean.specs.Table.{entry, Whole}
 use Rattle.lean.proofs.DriverLaws.{rising, output-below, driver-out}
 use Rattle.lean.proofs.KindLaws.{part-low, tiled-after}
-use Rattle.lean.proofs.LeanLaws.{entry-root, kinds-low}
-use Rattle.card.specs.Marks.{readMark, unreadMark, markAll, wireSource, sourcesIn, kindSources, partSources, kindOutput, partOutputs, pinSource, pinSources, noted, Free, Markable, PinFree, PinsFree}
-use Rattle.card.proofs.MarkLaws.{read-high, Stays, stays-none, stays-set, stays-all, pin-free-stays}
+use Rattle.lean.proofs.LeanLaws.{entry-root, kinds-low, driven}
+use Rattle.card.specs.Marks.{readMark, unreadMark, markAll, wireSource, sourcesIn, kindSources, partSources, kindOutput, partOutputs, pinSource, pinSources, noted, withoutMark, OnlyMarks, Free, Markable, PinFree}
+use Rattle.card.proofs.MarkLaws.{Stays, stays-marks}
 
 -- ---- lists of outputs
 
@@ -152,16 +152,6 @@ module _ (w : List ℕ) (e k p : ℕ) (q : Whole w e k p) where
   sources-outs zero i h = tt
   sources-outs (suc c) i h = all-append Is (wireSource w i) (sourcesIn w c (i + 1)) (source-outs i (omega arith)) (sources-outs c (i + 1) (omega arith))
 
-  kind-outs : (c n : ℕ) → after c n ≤ 8192 → All Is (kindSources w c n)
-  kind-outs c n h = elim (ℕ-discrete c 7) [
-    | yes z ↦ rw (eq-eqb c 7 z) tt
-    | no d ↦ rw (ne-eqb c 7 d) (sources-outs (partAt c .inputs) n (omega (arith, part-low c n 8192 d h)))
-  ]
-
-  parts-outs : (ks : List ℕ) (n : ℕ) → afterAll ks n ≤ 8192 → All Is (partSources w ks n)
-  parts-outs [] n h = tt
-  parts-outs (c ∷ ks) n h = all-append Is (kindSources w c n) (partSources w ks (after c n)) (kind-outs c n (omega (arith, after-rises ks (after c n)))) (parts-outs ks (after c n) h)
-
   outputs-outs : (ks : List ℕ) (n : ℕ) → Among (m .elements) ks n → All Is (partOutputs ks n)
   outputs-outs [] n a = tt
   outputs-outs (c ∷ ks) n a = all-append Is (kindOutput c n) (partOutputs ks (after c n)) (by (eqb c 7)) (outputs-outs ks (after c n) (among-next a))
@@ -187,38 +177,72 @@ module _ (w : List ℕ) (e k p : ℕ) (q : Whole w e k p) where
   abbrev pub reads : List ℕ
   reads = wired ++ pinSources w codes
 
-  pub wired-outs : All Is wired
-  wired-outs = parts-outs kinds 0 (kinds-low w e k p q)
-
   pub outputs-out : All Is outputs
   outputs-out = outputs-outs kinds 0 among
 
-  pub reads-outs : All Is reads
+  pub codes-outs : All Is (pinSources w codes)
   unfolding netIn
-  reads-outs = all-append Is wired (pinSources w codes) wired-outs (pins-outs codes (q .ready .formed .shown))
+  codes-outs = pins-outs codes (q .ready .formed .shown)
 
   -- ---- marks at outputs change nothing else
 
+  abbrev pub end : ℕ
+  end = afterAll kinds 0
+
+  pub marks-none : OnlyMarks w end w
+  marks-none = record {
+    size = refl;
+    marks = λ j l. let z = kinds-low w e k p q in elim (ℕ-discrete (getD w j 0) 65535) [
+      | yes y ↦ rw y
+      | no d ↦ let h = driven w e k p q .low j (omega arith) d in rw (lt-ltb (getD w j 0) unreadMark (omega arith))
+    ];
+    above = λ j l. refl;
+  }
+
+  marks-set : {w₁ : List ℕ} (mark : ℕ) → withoutMark mark ≡ 65535 → OnlyMarks w end w₁ → (o : ℕ) → Is o → OnlyMarks w end (set w₁ o mark)
+  marks-set {w₁} mark none s o t = record {
+    size = length-set w₁ o mark ∙ s .size;
+    marks = λ j l. elim (ℕ-discrete j o) [
+      | yes z ↦ subst (λ (x : ℕ). withoutMark (getD (set w₁ o mark) x 0) ≡ getD w x 0) (sym z) here
+      | no d ↦ ap withoutMark (getD-set-other w₁ o j mark 0 d) ∙ s .marks j l
+    ];
+    above = λ j l. let y = output-end o t in getD-set-other w₁ o j mark 0 (λ z. omega arith) ∙ s .above j l;
+  }
+    where
+      here : withoutMark (getD (set w₁ o mark) o 0) ≡ getD w o 0
+      here =
+          let y = output-below w e k p (q .ready) o t in
+          let x = s .size in
+          let z = q .ready .size in
+          ap withoutMark (getD-set-same w₁ o mark 0 (omega arith)) ∙ none ∙ sym (output-free o t)
+
+  pub marks-all : {w₁ : List ℕ} (mark : ℕ) → withoutMark mark ≡ 65535 → OnlyMarks w end w₁ → (os : List ℕ) → All Is os → OnlyMarks w end (markAll mark w₁ os)
+  marks-all mark none s [] a = s
+  marks-all mark none s (o ∷ os) a = marks-all mark none (marks-set mark none s o (a .0)) os (a .1)
+
   pub record Spares (w₁ : List ℕ) : Type 0 where
-    pub stays : Stays w w₁
+    pub only : OnlyMarks w end w₁
     pub spared : (j : ℕ) → 1 ≤ madeAt (m .elements) j → getD w₁ j 0 ≡ getD w j 0
 
-  pub spares-none : Spares w
-  spares-none = record { stays = stays-none w; spared = λ j h. refl }
+  pub spares-stays : {w₁ : List ℕ} → Spares w₁ → Stays w w₁
+  spares-stays s = stays-marks (kinds-low w e k p q) (s .only)
 
-  spares-set : {w₁ : List ℕ} (mark : ℕ) → 8192 ≤ mark → Spares w₁ → (o : ℕ) → Is o → Spares (set w₁ o mark)
-  spares-set {w₁} mark high s o t = record {
-    stays = stays-set (q .ready .size) high (s .stays) o (free o t);
+  pub spares-none : Spares w
+  spares-none = record { only = marks-none; spared = λ j h. refl }
+
+  spares-set : {w₁ : List ℕ} (mark : ℕ) → withoutMark mark ≡ 65535 → Spares w₁ → (o : ℕ) → Is o → Spares (set w₁ o mark)
+  spares-set {w₁} mark none s o t = record {
+    only = marks-set mark none (s .only) o t;
     spared = λ j h. getD-set-other w₁ o j mark 0 (output-other o j t h) ∙ s .spared j h;
   }
 
-  pub spares-all : {w₁ : List ℕ} (mark : ℕ) → 8192 ≤ mark → Spares w₁ → (os : List ℕ) → All Is os → Spares (markAll mark w₁ os)
-  spares-all mark high s [] a = s
-  spares-all mark high s (o ∷ os) a = spares-all mark high (spares-set mark high s o (a .0)) os (a .1)
+  pub spares-all : {w₁ : List ℕ} (mark : ℕ) → withoutMark mark ≡ 65535 → Spares w₁ → (os : List ℕ) → All Is os → Spares (markAll mark w₁ os)
+  spares-all mark none s [] a = s
+  spares-all mark none s (o ∷ os) a = spares-all mark none (spares-set mark none s o (a .0)) os (a .1)
 
   pub spares-noted : {w₁ : List ℕ} → Spares w₁ → (o : ℕ) → Is o → Spares (noted w₁ o)
   spares-noted {w₁} s o t = by (eqb (getD w₁ o 0) 65535)
     where
       by : (b : Bool) → Spares (cond b (set w₁ o unreadMark) w₁)
-      by true = spares-set unreadMark (omega arith) s o t
+      by true = spares-set unreadMark refl s o t
       by false = s

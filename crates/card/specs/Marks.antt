@@ -5,13 +5,12 @@ use mathlib.Core.Path.{_≡_}
 use mathlib.Core.Bool.{Bool, cond}
 use mathlib.Core.List.{List, [], _∷_, _++_}
 use lib.Dec.{eqb, ltb}
-use lib.ListN.{length, getD, set}
+use lib.ListN.{length, getD, drop, set}
 use Rattle.calculus.specs.Terms.{partAt}
 use Rattle.calculus.specs.Net.{Terminal, inp, out}
-use Rattle.memory.specs.Map.{stackAt, memorySize, terminalOf}
-use Rattle.netlist.specs.Elements.{outputOf, after}
+use Rattle.memory.specs.Map.{elementsAt, stackAt, memorySize, region, terminalOf}
+use Rattle.netlist.specs.Elements.{outputOf, after, afterAll}
 use Rattle.lean.specs.Table.{entry}
-use Rattle.ring_points.specs.Rings.{ringIn}
 
 -- an output that is read; a part's output that nobody has read so far
 abbrev pub readMark : ℕ
@@ -69,10 +68,6 @@ noted w o = cond (eqb (getD w o 0) 65535) (set w o unreadMark) w
 abbrev pub partMarked : List ℕ → ℕ → ℕ → List ℕ
 partMarked w k n = cond (eqb k 7) w (noted (markAll readMark w (sourcesIn w (partAt k .inputs) n)) (outputOf k n))
 
--- the input of the first ring point: r, where one has been found
-abbrev pub firstRing : List ℕ → ℕ → ℕ → ℕ → ℕ
-firstRing w r k n = cond (ringIn w k n) (cond (eqb r 8192) n r) r
-
 -- ---- one terminal after the other
 
 -- the first of c terminals from t on that nobody has read; 8,192 where there is none
@@ -88,6 +83,12 @@ abbrev pub unmarked : List ℕ → ℕ → ℕ → List ℕ
 unmarked w zero t = w
 unmarked w (suc c) t = unmarked (set w t (withoutMark (getD w t 0))) c (t + 1)
 
+-- w′ is w but for marks, at terminals below `end`
+pub record OnlyMarks (w : List ℕ) (end : ℕ) (w′ : List ℕ) : Type 0 where
+  pub size : length w′ ≡ length w
+  pub marks : (j : ℕ) → j < end → withoutMark (getD w′ j 0) ≡ getD w j 0
+  pub above : (j : ℕ) → end ≤ j → getD w′ j 0 ≡ getD w j 0
+
 -- ---- what the functions ask of the memory
 
 -- an output may get a mark
@@ -98,6 +99,12 @@ Free w o = (o < 8192) × (8192 ≤ getD w o 0)
 pub record Markable (w : List ℕ) : Type 0 where
   pub size : memorySize ≤ length w
   pub sources : (i : ℕ) → i < 8192 → getD w i 0 < 8192 → Free w (entry w (getD w i 0))
+
+-- `done` elements are done, and the next free terminal is n
+pub record ElementsLow (w : List ℕ) (elements done n : ℕ) : Type 0 where
+  pub size : memorySize ≤ length w
+  pub few : elements ≤ 5120
+  pub low : afterAll (drop done (region w elementsAt elements)) n ≤ 8192
 
 -- what a pin shows may
 abbrev pub PinFree : List ℕ → Terminal → Type 0

@@ -34,11 +34,10 @@ fn find(work: &mut [u16], elements: usize, wires: usize, pins: usize) -> Found
 {
     let passed = mark::mark_elements(work, elements, wires, pins);
     mark::mark_pins(work, pins);
-    let unread = sweep::sweep(work, passed.end as usize);
-    Found {
-        ring: passed.ring as usize,
-        unread: unread as usize,
-    }
+    let end = mark::end_of(&work[..], elements, passed);
+    let unread = sweep::sweep(work, end as usize);
+    let ring = mark::ring_of(passed, elements);
+    Found { ring: ring as usize, unread: unread as usize }
 }
 
 // 27, then 28, then 29.

@@ -6,23 +6,25 @@ use memory::ROOTS;
 use memory::STACK;
 use netlist::Terminal;
 ghost use mathlib.Core.Path.{_≡_};
+ghost use mathlib.Core.Bool.{cond};
 ghost use Prim.Native.Nat.{_+_, _≤_, _<_};
-ghost use lib.ListN.{length};
+ghost use lib.Dec.{ltb};
+ghost use lib.ListN.{length, drop};
 ghost use Rattle.memory.specs.Map.{elementsAt, stackAt, memorySize, region, terminalOf};
-ghost use Rattle.netlist.specs.Elements.{outputOf, after, afterAll};
+ghost use Rattle.netlist.specs.Elements.{after, afterAll};
 ghost use Rattle.lean.specs.Table.{Whole};
 ghost use Rattle.ring_points.specs.Rings.{ringFrom};
-ghost use Rattle.card.specs.Marks.{readMark, unreadMark, markAll, wireSource, sourcesIn, partSources, partOutputs, pinSource, pinSources, noted, partMarked, firstRing, Markable, PinFree, PinsFree};
+ghost use Rattle.card.specs.Marks.{readMark, unreadMark, markAll, wireSource, sourcesIn, partSources, partOutputs, pinSource, pinSources, noted, partMarked, OnlyMarks, Markable, ElementsLow, PinFree, PinsFree};
 
 // The marks: no output's number, and not NONE.
 pub const READ: u16 = 65534;
 
 pub const UNREAD: u16 = 65533;
 
-// What one pass over the elements tells: the input of the lowest kept ring point, 8,192 where there is none; the first terminal that no element takes.
+// How far the pass over the elements came: so many are done, and the next free terminal.
 pub struct Passed {
-    pub ring: u16,
-    pub end: u16,
+    pub done: usize,
+    pub next: u16,
 }
 
 // At the root of input i's driver, where it has one.
@@ -72,38 +74,48 @@ fn mark_part(work: &mut [u16], kind: u16, n: u16)
     }
 }
 
-// The input of the lowest kept ring point, where `ring` is that of the elements before.
-fn first_ring(work: &[u16], ring: u16, kind: u16, n: u16) -> u16
-    requires { ⌜ (memorySize ≤ length (now work)) × (after kind n ≤ 8192) ⌝ }
-    ensures { λ r. ⌜ r ≡ firstRing (now (work .entry)) ring kind n ⌝ }
-{
-    if ring_points::is_ring(work, kind, n) {
-        if ring == 8192 {
-            return n;
-        }
-    }
-    ring
-}
-
-// All elements: the lowest kept ring point, and the marks of wires to parts, as if the parts' outputs had got theirs first.
+// The elements one after the other, up to the first kept ring point: the marks of wires to parts, as if the parts' outputs had got theirs first.
 pub fn mark_elements(work: &mut [u16], elements: usize, wires: usize, pins: usize) -> Passed
     requires { ⌜ Whole (now work) elements wires pins ⌝ }
-    ensures { λ r. ⌜ (r .ring ≡ ringFrom (now (work .entry)) (region (now (work .entry)) elementsAt elements) 0)
-        × ((r .end ≡ afterAll (region (now (work .entry)) elementsAt elements) 0)
-        × (now (work .exit) ≡ markAll readMark (markAll unreadMark (now (work .entry)) (partOutputs (region (now (work .entry)) elementsAt elements) 0))
-        (partSources (now (work .entry)) (region (now (work .entry)) elementsAt elements) 0))) ⌝ }
+    ensures { λ r. ⌜ (ringFrom (now (work .entry)) (region (now (work .entry)) elementsAt elements) 0 ≡ cond (ltb (r .done) elements) (r .next) 8192)
+        × ((afterAll (drop (r .done) (region (now (work .entry)) elementsAt elements)) (r .next) ≡ afterAll (region (now (work .entry)) elementsAt elements) 0)
+        × (OnlyMarks (now (work .entry)) (afterAll (region (now (work .entry)) elementsAt elements) 0) (now (work .exit))
+        × (elements ≤ r .done → now (work .exit) ≡ markAll readMark (markAll unreadMark (now (work .entry)) (partOutputs (region (now (work .entry)) elementsAt elements) 0))
+            (partSources (now (work .entry)) (region (now (work .entry)) elementsAt elements) 0)))) ⌝ }
 {
     let mut n: u16 = 0;
-    let mut ring: u16 = 8192;
     let mut i: usize = 0;
     while i < elements {
         let kind = work[ELEMENTS + i];
-        ring = first_ring(&work[..], ring, kind, n);
+        if ring_points::is_ring(&work[..], kind, n) {
+            return Passed { done: i, next: n };
+        }
         mark_part(work, kind, n);
         n = netlist::next_after(kind, n);
         i = i + 1;
     }
-    Passed { ring: ring, end: n }
+    Passed { done: i, next: n }
+}
+
+// The input of that ring point; 8,192 where there is none.
+pub fn ring_of(passed: Passed, elements: usize) -> u16
+    ensures { λ r. ⌜ r ≡ cond (ltb (passed .done) elements) (passed .next) 8192 ⌝ }
+{
+    if passed.done < elements { passed.next } else { 8192 }
+}
+
+// The first terminal that no element takes.
+pub fn end_of(work: &[u16], elements: usize, passed: Passed) -> u16
+    requires { ⌜ ElementsLow (now work) elements (passed .done) (passed .next) ⌝ }
+    ensures { λ r. ⌜ r ≡ afterAll (drop (passed .done) (region (now (work .entry)) elementsAt elements)) (passed .next) ⌝ }
+{
+    let mut n = passed.next;
+    let mut i = passed.done;
+    while i < elements {
+        n = netlist::next_after(work[ELEMENTS + i], n);
+        i = i + 1;
+    }
+    n
 }
 
 // For a pin.
