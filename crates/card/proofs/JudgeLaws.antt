@@ -1,27 +1,42 @@
 -- The profile's answer, by which of the three rules fails first. Assumes nothing.
 use Prim.Native.Nat.{ℕ, _≤_, _<_}
-use mathlib.Core.Path.{_≡_, refl, sym}
+use mathlib.Core.Path.{_≡_, refl, sym, ap, _∙_}
 use mathlib.Core.Bool.{Bool, true, false}
-use borrow.Author.Tests.{lt-ltb, le-ltb}
-use Rattle.calculus.specs.Answer.{Answer, good, refuse}
+use lib.Dec.{ltb}
+use borrow.Author.Tests.{lt-ltb, le-ltb, ltb-false}
+use Rattle.calculus.specs.Answer.{Answer, good, refuse, _>>=_}
 use Rattle.calculus.specs.Net.{Net}
 use Rattle.export_calculus.specs.Card.{needAll, noRing, isRead, inputPlace, outputPlace, profiled}
 use Rattle.ring_points.specs.Rings.{answerOf}
+use Rattle.card.specs.Judged.{judgedBy}
 
-pub no-chain : (b : Bool) (m : Net) → b ≡ false → refuse 27 0 ≡ profiled b m
+module _ (chained : Bool) (ring unread : ℕ) where
+  pub no-chain : chained ≡ false → refuse 27 0 ≡ judgedBy chained ring unread
+  no-chain e = rw e
+
+  module _ (e : chained ≡ true) where
+    pub ring-there : ring < 8192 → refuse 28 ring ≡ judgedBy chained ring unread
+    ring-there h = rw (e, lt-ltb ring 8192 h)
+
+    pub unread-there : 8192 ≤ ring → unread < 8192 → refuse 29 unread ≡ judgedBy chained ring unread
+    unread-there h l = rw (e, le-ltb ring 8192 h, lt-ltb unread 8192 l)
+
+    pub passes : 8192 ≤ ring → 8192 ≤ unread → good tt ≡ judgedBy chained ring unread
+    passes h l = rw (e, le-ltb ring 8192 h, le-ltb unread 8192 l)
+
+-- without a look at the netlist
+pub by-type : (chained : Bool) (ring unread : ℕ) (m : Net) → chained ≡ false → judgedBy chained ring unread ≡ profiled chained m
 unfolding profiled
-no-chain b m e = rw e
+by-type chained ring unread m e = rw e
 
-module _ (b : Bool) (m : Net) (e : b ≡ true) (r : ℕ) (rings : needAll (noRing (m .pins)) 28 inputPlace (m .elements) ≡ answerOf 28 r) where
-  pub ring-there : r < 8192 → refuse 28 r ≡ profiled b m
-  unfolding profiled
-  ring-there h = rw (e, rings, lt-ltb r 8192 h)
-
-  module _ (h : 8192 ≤ r) (o : ℕ) (reads : needAll (isRead m) 29 outputPlace (m .elements) ≡ answerOf 29 o) where
-    pub unread-there : o < 8192 → refuse 29 o ≡ profiled b m
-    unfolding profiled
-    unread-there l = rw (e, rings, le-ltb r 8192 h, reads, lt-ltb o 8192 l)
-
-    pub passes : 8192 ≤ o → good tt ≡ profiled b m
-    unfolding profiled
-    passes l = rw (e, rings, le-ltb r 8192 h, reads, le-ltb o 8192 l)
+pub by-all : (chained : Bool) (ring unread : ℕ) (m : Net)
+    → needAll (noRing (m .pins)) 28 inputPlace (m .elements) ≡ answerOf 28 ring
+    → (8192 ≤ ring → needAll (isRead m) 29 outputPlace (m .elements) ≡ answerOf 29 unread)
+    → judgedBy chained ring unread ≡ profiled chained m
+unfolding profiled
+by-all false ring unread m rings reads = refl
+by-all true ring unread m rings reads = rw rings (by (ltb ring 8192) refl)
+  where
+    by : (b : Bool) → ltb ring 8192 ≡ b → judgedBy true ring unread ≡ (answerOf 28 ring >>= λ _. needAll (isRead m) 29 outputPlace (m .elements))
+    by true e = rw e
+    by false e = rw (e, reads (ltb-false ring 8192 e))

@@ -11,19 +11,19 @@ ghost use Rattle.netlist.specs.Elements.{after};
 ghost use Rattle.lean.specs.Table.{Whole};
 ghost use Rattle.ring_points.specs.Rings.{ringIn, ringFrom};
 
-// The element of this kind that starts at terminal n is a kept ring point: its input has a driver, and its output is its own root.
-fn is_ring(work: &[u16], kind: u16, n: u16) -> bool
+// The element of this kind that starts at terminal n is a kept ring point: its output is its own root, and its input has a driver.
+pub fn is_ring(work: &[u16], kind: u16, n: u16) -> bool
     requires { ⌜ (memorySize ≤ length (now work)) × (after kind n ≤ 8192) ⌝ }
     ensures { λ r. ⌜ r ≡ ringIn (now (work .entry)) kind n ⌝ }
 {
     if kind != POINT {
         return false;
     }
-    if work[n as usize] == NONE {
+    let o = n + 1;
+    if work[ROOTS + o as usize] != o {
         return false;
     }
-    let o = n + 1;
-    work[ROOTS + o as usize] == o
+    work[n as usize] != NONE
 }
 
 // The input of the lowest; 8,192 where there is none.

@@ -1,19 +1,18 @@
--- By which of the three rules fails first. Assumes nothing.
+-- By the root's type, and then by the first rule that fails. Assumes nothing.
 use borrow.Author.Needs.{needs}
-use borrow.Author.Tests.{not-true, not-false}
-use native.Mathlib.Omega.{arith}
+use borrow.Author.Tests.{not-true}
 use mathlib.Core.Path.{_≡_, refl, sym, ap, _∙_}
-use mathlib.Core.Bool.{true, false}
+use mathlib.Core.Bool.{Bool}
 use mathlib.Core.List.{List}
 use Prim.Native.Nat.{ℕ}
 use Rattle.calculus.specs.Lean.{lean}
-use Rattle.export_calculus.specs.Card.{needAll, noRing, inputPlace}
+use Rattle.export_calculus.specs.Card.{needAll, noRing, inputPlace, profiled}
 use Rattle.memory.specs.Map.{netIn, elementsAt, region}
 use Rattle.lean.specs.Table.{Whole}
 use Rattle.lean.proofs.LeanLaws.{kinds-low}
 use Rattle.ring_points.specs.Rings.{ringFrom, answerOf}
 use Rattle.ring_points.proofs.RingLaws.{ring-answer}
-use Rattle.card.proofs.JudgeLaws.{no-chain, ring-there, unread-there, passes}
+use Rattle.card.proofs.JudgeLaws.{by-type, by-all}
 use Rattle.card.proofs.judge.Statement.{statement}
 use Rattle.card.proofs.judge.Tie as tie
 
@@ -22,33 +21,23 @@ rings : (w : List ℕ) (e k p : ℕ) (q : Whole w e k p) (r : ℕ) → r ≡ rin
 rings w e k p q r h = ring-answer w e k p q 28 (kinds-low w e k p q) ∙ ap (answerOf 28) (sym h)
 
 returns : tie.Need-returns
-returns c = (no-chain _ _ (sym (c .before .is-chain .ensures) ∙ not-true _ (c .if1 .taken)), refl)
+returns c =
+    let a = c .before .before .before .before .before .args in (
+      c .first-broken .ensures
+          ∙ by-type _ 8192 8192 (lean (netIn (a .work .now) (a .elements) (a .wires) (a .pins))) (not-true _ (c .before .if1 .taken))
+          ∙ ap (λ (b : Bool). profiled b (lean (netIn (a .work .now) (a .elements) (a .wires) (a .pins)))) (c .before .before .is-chain .ensures),
+      refl,
+    )
 
 returns-2 : tie.Need-returns-2
 returns-2 c =
-    let s = c .before .before .before .before .before .before .before in
+    let s = c .before .before .before .before .before .before .before .before .before in
     let a = s .args in
-    (ring-there _ _ (sym (c .before .before .before .before .is-chain .ensures) ∙ not-false _ (c .before .before .before .if1 .left)) _ (rings (a .work .now) (a .elements) (a .wires) (a .pins) (s .pre) _ (c .before .lowest .ensures)) (c .if2 .taken), refl)
-
-unread-output-requires : tie.Need-unread-output-requires
-unread-output-requires c κs = let h = c .before .before .lowest .ensures in let l = c .before .if2 .left in (c .before .before .before .before .before .before .before .before .pre, omega arith)
-
-returns-3 : tie.Need-returns-3
-returns-3 c =
-    let s = c .before .before .before .before .before .before .before .before .before .before .before .before in
-    let a = s .args in (
-      unread-there _ _ (sym (c .before .before .before .before .before .before .before .before .before .is-chain .ensures) ∙ not-false _ (c .before .before .before .before .before .before .before .before .if1 .left)) _ (rings (a .work .now) (a .elements) (a .wires) (a .pins) (s .pre) _ (c .before .before .before .before .before .before .lowest .ensures)) (c .before .before .before .before .before .if2 .left)
-          _ (c .before .before .before .unread-output .ensures .0) (c .if3 .taken),
-      c .before .before .before .unread-output .ensures .1,
-    )
-
-returns-4 : tie.Need-returns-4
-returns-4 c =
-    let s = c .before .before .before .before .before .before .before .before .before .before .before .before in
-    let a = s .args in (
-      passes _ _ (sym (c .before .before .before .before .before .before .before .before .before .is-chain .ensures) ∙ not-false _ (c .before .before .before .before .before .before .before .before .if1 .left)) _ (rings (a .work .now) (a .elements) (a .wires) (a .pins) (s .pre) _ (c .before .before .before .before .before .before .lowest .ensures)) (c .before .before .before .before .before .if2 .left)
-          _ (c .before .before .before .unread-output .ensures .0) (c .if3 .left),
-      c .before .before .before .unread-output .ensures .1,
+    let f = c .before .before .before .find .ensures in (
+      c .first-broken2 .ensures
+          ∙ by-all _ _ (c .before .before .before .find .result .unread) (lean (netIn (a .work .now) (a .elements) (a .wires) (a .pins))) (rings (a .work .now) (a .elements) (a .wires) (a .pins) (s .pre) _ (f .0)) (f .1 .0)
+          ∙ ap (λ (b : Bool). profiled b (lean (netIn (a .work .now) (a .elements) (a .wires) (a .pins)))) (c .before .before .before .before .before .before .is-chain .ensures),
+      f .1 .1,
     )
 
 pub judge-spec : {M : Type 1} → statement M
@@ -56,12 +45,9 @@ judge-spec =
     tie.close
     (tie.spec
     (λ c κs. search needs)
+    (λ c κs. search needs)
     returns
     (λ c κs. search needs)
+    (λ c κs. search needs)
     (λ c. search needs)
-    returns-2
-    unread-output-requires
-    (λ c. search needs)
-    returns-3
-    (λ c. search needs)
-    returns-4)
+    returns-2)
