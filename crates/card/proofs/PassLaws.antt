@@ -23,7 +23,7 @@ use Rattle.lean.proofs.LeanLaws.{kinds-low}
 use Rattle.ring_points.specs.Rings.{ringIn, ringFrom}
 use Rattle.card.specs.Marks.{readMark, unreadMark, markAll, sourcesIn, partSources, partOutputs, noted, partMarked}
 use Rattle.card.proofs.MarkLaws.{mark-at, mark-length, sources-stay, entry-stays}
-use Rattle.card.proofs.WholeLaws.{Among, among-next, among-out, among-in, Is, output-free, among, sources-outs, outputs-out, has-append, has-all, Spares, spares-stays, spares-none, spares-all, spares-noted}
+use Rattle.card.proofs.WholeLaws.{OutputAmong, among-next, among-out, among-in, Is, output-free, among, sources-outs, outputs-out, has-append, has-all, Spares, spares-stays, spares-none, spares-all, spares-noted}
 
 -- ---- one terminal: its number, once it is read or noted
 
@@ -87,7 +87,7 @@ module _ (w₀ : List ℕ) (e k p : ℕ) (q : Whole w₀ e k p) where
   pub record Passing (w ks : List ℕ) (n : ℕ) : Type 0 where
     pub spares : Spares w₀ e k p q w
     pub low : afterAll ks n ≤ 8192
-    pub among : Among (m .elements) ks n
+    pub among : OutputAmong (m .elements) ks n
     pub end : afterAll ks n ≡ afterAll kinds 0
     pub ring : ringFrom w₀ ks n ≡ ringFrom w₀ kinds 0
     pub same : (j : ℕ) → j < length w₀ → settled (has (partSources w₀ ks n) j) (has (partOutputs ks n) j) (getD w j 0) ≡ settled (has (partSources w₀ kinds 0) j) (has (partOutputs kinds 0) j) (getD w₀ j 0)

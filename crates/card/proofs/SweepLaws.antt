@@ -32,14 +32,14 @@ low-next false l t h (inl z) = inl (rw z refl)
 low-next true l t h (inr z) = inr (rw (le-ltb t l (omega arith)) (omega arith))
 low-next false l t h (inr z) = inr (rw (le-ltb 8192 l (omega arith)) (omega arith))
 
-pub record Sweeping (w₀ : List ℕ) (end : ℕ) (w : List ℕ) (l t : ℕ) : Type 0 where
+pub record SweepingMarks (w₀ : List ℕ) (end : ℕ) (w : List ℕ) (l t : ℕ) : Type 0 where
   pub size : length w ≡ length w₀
   pub ahead : (j : ℕ) → t ≤ j → getD w j 0 ≡ getD w₀ j 0
   pub gone : unmarked w (end - t) t ≡ unmarked w₀ end 0
   pub found : (l ≡ 8192) ⊎ (l < t)
   pub same : cond (eqb l 8192) (lowestUnread w₀ (end - t) t) l ≡ lowestUnread w₀ end 0
 
-pub sweeping-start : (w : List ℕ) (end : ℕ) → Sweeping w end w 8192 0
+pub sweeping-start : (w : List ℕ) (end : ℕ) → SweepingMarks w end w 8192 0
 sweeping-start w end =
     let a : end - 0 ≡ end = omega arith in record {
       size = refl;
@@ -49,7 +49,7 @@ sweeping-start w end =
       same = ap (λ (c : ℕ). lowestUnread w c 0) a;
     }
 
-module _ {w₀ : List ℕ} {end : ℕ} {w : List ℕ} {l t : ℕ} (s : Sweeping w₀ end w l t) where
+module _ {w₀ : List ℕ} {end : ℕ} {w : List ℕ} {l t : ℕ} (s : SweepingMarks w₀ end w l t) where
   pub sweeping-end : end ≤ t → (l ≡ lowestUnread w₀ end 0) × (w ≡ unmarked w₀ end 0)
   sweeping-end h =
       let a : end - t ≡ 0 = omega arith in
@@ -65,7 +65,7 @@ module _ {w₀ : List ℕ} {end : ℕ} {w : List ℕ} {l t : ℕ} (s : Sweeping 
     more : end - t ≡ suc (end - (t + 1))
     more = omega arith
 
-    pub sweeping-step : {h l₁ y : ℕ} → h ≡ cond (eqb x unreadMark) t 8192 → l₁ ≡ cond (ltb h l) h l → y ≡ withoutMark x → Sweeping w₀ end (set w t y) l₁ (t + 1)
+    pub sweeping-step : {h l₁ y : ℕ} → h ≡ cond (eqb x unreadMark) t 8192 → l₁ ≡ cond (ltb h l) h l → y ≡ withoutMark x → SweepingMarks w₀ end (set w t y) l₁ (t + 1)
     sweeping-step {h} {l₁} {y} a b c =
         let z : l₁ ≡ lowerOf (here (eqb x unreadMark) t) l = b ∙ ap (λ (v : ℕ). lowerOf v l) a in record {
           size = length-set w t y ∙ s .size;

@@ -74,12 +74,12 @@ made-kinds k ks n j = by (eqb k 7)
     by false = omega arith
 
 -- kinds that stand one after the other are those of some of these elements
-pub record Among (es : List Element) (ks : List ℕ) (n : ℕ) : Type 0 where
+pub record OutputAmong (es : List Element) (ks : List ℕ) (n : ℕ) : Type 0 where
   pub outs : (x : ℕ) → T (isOut (elementsFrom ks n) x) → T (isOut es x)
   pub ins : (x : ℕ) → 1 ≤ madeAt (elementsFrom ks n) x → 1 ≤ madeAt es x
 
-module _ {es : List Element} {k : ℕ} {ks : List ℕ} {n : ℕ} (a : Among es (k ∷ ks) n) where
-  pub among-next : Among es ks (after k n)
+module _ {es : List Element} {k : ℕ} {ks : List ℕ} {n : ℕ} (a : OutputAmong es (k ∷ ks) n) where
+  pub among-next : OutputAmong es ks (after k n)
   among-next = record {
     outs = λ x h. a .outs x (subst T (sym (out-kinds k ks n x)) (or-right (eqb (outputOf k n) x) (isOut (elementsFrom ks (after k n)) x) h));
     ins = λ x h. a .ins x (omega (arith, made-kinds k ks n x));
@@ -135,7 +135,7 @@ module _ (w : List ℕ) (e k p : ℕ) (q : Whole w e k p) where
   pub markable : Markable w
   markable = record { size = q .ready .size; sources = λ i l d. free (entry w (getD w i 0)) (driver-root i l d) }
 
-  pub among : Among (m .elements) kinds 0
+  pub among : OutputAmong (m .elements) kinds 0
   unfolding netIn
   among = record { outs = λ x t. t; ins = λ x h. h }
 
@@ -152,7 +152,7 @@ module _ (w : List ℕ) (e k p : ℕ) (q : Whole w e k p) where
   sources-outs zero i h = tt
   sources-outs (suc c) i h = all-append Is (wireSource w i) (sourcesIn w c (i + 1)) (source-outs i (omega arith)) (sources-outs c (i + 1) (omega arith))
 
-  outputs-outs : (ks : List ℕ) (n : ℕ) → Among (m .elements) ks n → All Is (partOutputs ks n)
+  outputs-outs : (ks : List ℕ) (n : ℕ) → OutputAmong (m .elements) ks n → All Is (partOutputs ks n)
   outputs-outs [] n a = tt
   outputs-outs (c ∷ ks) n a = all-append Is (kindOutput c n) (partOutputs ks (after c n)) (by (eqb c 7)) (outputs-outs ks (after c n) (among-next a))
     where

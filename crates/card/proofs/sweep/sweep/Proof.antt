@@ -1,12 +1,12 @@
 -- The invariant: the terminals below t are done, and what is still to come makes the whole. Assumes nothing.
 use native.Mathlib.Omega.{arith}
 use Prim.Native.Nat.{_≤_, _-_}
-use Rattle.card.proofs.SweepLaws.{Sweeping, sweeping-start, sweeping-step, sweeping-end}
+use Rattle.card.proofs.SweepLaws.{SweepingMarks, sweeping-start, sweeping-step, sweeping-end}
 use Rattle.card.proofs.sweep.sweep.Statement.{statement}
 use Rattle.card.proofs.sweep.sweep.Tie as tie
 
 abbrev Inv-loop : tie.InvT-loop
-Inv-loop work₀ end lowest₀ t₀ work lowest t = (t ≤ end) × Sweeping work₀ end work lowest t
+Inv-loop work₀ end lowest₀ t₀ work lowest t = (t ≤ end) × SweepingMarks work₀ end work lowest t
 
 abbrev μ-loop : tie.MeasureT-loop
 μ-loop work₀ end lowest₀ t₀ work lowest t = end - t
