@@ -3,7 +3,7 @@ use borrow.Author.Needs.{needs}
 use native.Mathlib.Omega.{arith}
 use mathlib.Core.Path.{ap, _∙_}
 use lib.ListN.{length}
-use Rattle.netlist.proofs.PartInputs.{part-inputs}
+use Rattle.parts.proofs.PartInputs.{table-inputs as part-inputs}
 use Rattle.lean.proofs.KindLaws.{part-low}
 use Rattle.card.specs.Marks.{readMark, sourcesIn}
 use Rattle.card.proofs.MarkLaws.{mark-length, part-marked, no-part}
