@@ -357,9 +357,10 @@ module _ (k q : ℕ) (gs : List Gate) (len : length gs ≡ suc q) where
   new-ins : (ss : List DrivenBy) (i : ℕ) (A B : List Wire) → All (SourceIn k q) ss → net .wires ≡ A ++ (gateWires (sourceAt gs (2 * k + 2 * length gs)) ss i ++ B) → InsHold (NewDriver (backNet k gs)) ss i
   new-ins [] i A B o e = tt
   new-ins (s ∷ ss) i A B o e =
-      let w : Wire = record { from = sourceAt gs top s; to = i } in
-      (new-driver s i (o .0) (subst (λ (ws : List Wire). Among w ws) (sym e) (among-behind A w (gateWires (sourceAt gs top) ss (i + 1) ++ B))),
-      new-ins ss (i + 1) (A ++ w ∷ []) B (o .1) (e ∙ sym (append-assoc A (w ∷ []) _)))
+      let w : Wire = record { from = sourceAt gs top s; to = i } in (
+        new-driver s i (o .0) (subst (λ (ws : List Wire). Among w ws) (sym e) (among-behind A w (gateWires (sourceAt gs top) ss (i + 1) ++ B))),
+        new-ins ss (i + 1) (A ++ w ∷ []) B (o .1) (e ∙ sym (append-assoc A (w ∷ []) _)),
+      )
 
   new-gated : (fs : List Gate) (n : ℕ) (A : List Wire) → All (GateIn k q) fs → net .wires ≡ A ++ allWires (sourceAt gs (2 * k + 2 * length gs)) fs n → Gated (NewDriver (backNet k gs)) (partsFrom fs n) fs
   new-gated [] n A o e = tt
