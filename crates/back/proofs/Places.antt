@@ -9,7 +9,7 @@ use native.Mathlib.Decide.{decLe}
 use lib.Dec.{T, leb, leb→le}
 use lib.ListN.{length, length-append}
 use borrow.Author.Tests.{leb-false}
-use Rattle.calculus.specs.Answer.{Refusal, Answer, good, refused, numbered, need, _>>=_}
+use Rattle.calculus.specs.Answer.{Refusal, Answer, good, numbered, need, _>>=_}
 use Rattle.calculus.proofs.Answers.{good-inj}
 use Rattle.calculus.specs.Net.{Element, point, part, Net, elementBytes, wireBytes, pinBytes, netBytes}
 use Rattle.calculus.specs.NetRead.{readNet}

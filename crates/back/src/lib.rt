@@ -8,7 +8,6 @@ use gates::Parts;
 use translator::Answer;
 ghost use mathlib.Core.Path.{_≡_};
 ghost use lib.ListN.{length};
-ghost use Prim.Native.Nat.{_≤_};
 ghost use Rattle.back_theorems.specs.Back.{backSheet};
 ghost use Rattle.back_theorems.specs.Returned.{backCall};
 ghost use Rattle.back.specs.Gates.{netHere, AcceptedNet, OfParts, Limited, CountedNet};

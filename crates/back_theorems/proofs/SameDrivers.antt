@@ -2,8 +2,8 @@
 -- are held against the list of gates, and each input has one driver. Assumes nothing.
 use Prim.Native.Nat.{ℕ, zero, suc, _+_, _-_, _*_, _<_, _≤_}
 use mathlib.Core.Path.{_≡_, refl, sym, ap, subst, _∙_}
-use mathlib.Core.Logic.{_↔_, inl, inr}
-use mathlib.Core.Bool.{Bool, true, false, cond, not, _&&_, _||_}
+use mathlib.Core.Logic.{inl, inr}
+use mathlib.Core.Bool.{Bool, true, false, cond, not, _||_}
 use mathlib.Core.List.{List, [], _∷_, _++_, append-assoc}
 use native.Mathlib.Omega.{arith}
 use native.Mathlib.Nat.{le-refl, add-zero}
@@ -14,7 +14,7 @@ use Rattle.laws.proofs.Tests.{or-left, or-right, by-eqb, and-of, and-both, T-is
 use Rattle.calculus.specs.Terms.{partAt}
 use Rattle.calculus.specs.Net.{Terminal, inp, out, Interface, Element, point, part, Wire, Net, partSide}
 use Rattle.calculus.specs.Lean.{driver}
-use Rattle.calculus.specs.Inputs.{tally, ins, madeAt, targets, hasWire, isOut}
+use Rattle.calculus.specs.Inputs.{ins, madeAt, targets, hasWire, isOut}
 use Rattle.calculus.specs.Record.{All, Among, here, there}
 use Rattle.circuit_theorems.specs.Formed.{Rising, Formed}
 use Rattle.circuit_theorems.proofs.Terminals.{made-low, made-one, unique}

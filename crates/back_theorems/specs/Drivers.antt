@@ -7,7 +7,7 @@ use mathlib.Core.List.{List, _∷_}
 use lib.Dec.{T, leb}
 use lib.ListN.{getD}
 use Rattle.calculus.specs.Terms.{partAt}
-use Rattle.calculus.specs.Net.{inp, out, Element, point, part, Wire, Net}
+use Rattle.calculus.specs.Net.{inp, out, Element, point, part, Net}
 use Rattle.calculus.specs.Inputs.{madeAt, hasWire}
 use Rattle.calculus.specs.Record.{Among}
 

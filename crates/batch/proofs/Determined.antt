@@ -6,7 +6,6 @@ use mathlib.Core.List.{List}
 use contract.Lifetimes.{Lfts}
 use denote.Triple.Clauses.{AtExit}
 use borrow.Fn.Kinds.{Dens, resT, endedOf}
-use Rattle.calculus.specs.Translate.{Call}
 use Rattle.translator.proofs.SaidLaws.{SameResult, same-call}
 use Rattle.translator.specs.declared.Answer as code
 use Rattle.batch.specs.Batch.{Batch}

@@ -5,7 +5,6 @@ use mathlib.Core.List.{List, [], _∷_, _++_, map}
 use lib.Dec.{leb, eqb}
 use lib.ListN.{length, take, drop}
 use Rattle.calculus.specs.Answer.{Answer, good, refused, refuse}
-use Rattle.calculus.specs.Translate.{Call}
 use Rattle.export_calculus.specs.CardCall.{Wished, wishedCall}
 use Rattle.translator.specs.Word.{packed}
 

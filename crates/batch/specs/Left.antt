@@ -1,7 +1,7 @@
 -- What the functions over sheets laid end to end leave, in the terms of the definitions. Assumes nothing.
 use Prim.Native.Nat.{ℕ}
 use mathlib.Core.Path.{_≡_}
-use mathlib.Core.List.{List, [], _∷_}
+use mathlib.Core.List.{List}
 use lib.ListN.{set}
 use Rattle.calculus.specs.Translate.{Call}
 use Rattle.translator.specs.Said.{saidAnswer}

@@ -3,7 +3,7 @@ use Prim.Native.Nat.{ℕ, suc, _+_, _<_}
 use mathlib.Core.Path.{_≡_}
 use mathlib.Core.List.{List, [], _++_}
 use lib.ListN.{length, getD, take, drop}
-use Rattle.calculus.specs.Answer.{Answer, good}
+use Rattle.calculus.specs.Answer.{good}
 use Rattle.calculus.specs.Translate.{workOf, Call}
 use Rattle.export_calculus.specs.CardCall.{Wished, wishedCall}
 use Rattle.translator.specs.Word.{packed}

@@ -5,10 +5,10 @@ use mathlib.Core.List.{List, [], _∷_}
 use native.Mathlib.Omega.{arith}
 use lib.Dec.{T}
 use Rattle.calculus.specs.Answer.{good}
-use Rattle.calculus.specs.Types.{Ty, bit, arrow, lolli, sharable, rec01, rec02, rec03, rec04, Table}
+use Rattle.calculus.specs.Types.{Ty, bit, arrow, sharable, rec01, rec02, rec03, rec04, Table}
 use Rattle.calculus.specs.Terms.{Edition, first, second, isSecond, Term, var, lvar, app, lfun, lapp, pair, con, name}
 use Rattle.calculus.specs.Read.{Sheet, editionOf, recordsOf, readSheet, readRecords, readTypes, readTerm, headAt}
-use Rattle.calculus.specs.Rules.{Ctx, many, once, away, NoLinear, none-end, none-many, none-away, in-here, IsΔ, is-here, Split, split-end, split-many, split-first, split-second, split-away, Typed, Var, LVar, →E, ⊸I, ⊸E, ×I, Con, ×E′}
+use Rattle.calculus.specs.Rules.{Ctx, once, away, NoLinear, none-end, none-many, none-away, in-here, IsΔ, is-here, split-end, split-many, split-first, split-second, split-away, Typed, Var, LVar, →E, ⊸I, ⊸E, ×I, Con, ×E′}
 use Rattle.calculus.specs.Known.{P3, P8, P9, P11, S3, S5}
 use Rattle.calculus.proofs.Answers.{good-inj}
 

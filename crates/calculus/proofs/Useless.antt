@@ -1,18 +1,17 @@
 -- Each useless program breaks the contract on a sheet with a known result. Assumes nothing.
 use Prim.Native.Nat.{ℕ, suc, _+_}
 use mathlib.Core.Path.{_≡_, refl, sym, ap, _∙_}
-use mathlib.Core.Bool.{true, false}
-use mathlib.Core.List.{List, [], _∷_}
+use mathlib.Core.List.{List}
 use native.Mathlib.Omega.{arith}
 use lib.ListN.{length, replicate, getD, length-replicate}
-use Rattle.calculus.specs.Answer.{Answer, good, refused}
+use Rattle.calculus.specs.Answer.{good, refused}
 use Rattle.calculus.specs.Net.{netBytes}
 use Rattle.calculus.specs.Read.{editionOf, recordsOf, readSheet, readRecords, readTypes, readTerm, headAt}
 use Rattle.calculus.specs.Lean.{root, lean}
 use Rattle.calculus.specs.Makers.{makersOf}
 use Rattle.calculus.specs.Translate.{full, Wish, answer, saidOf, outOf, Call, call}
 use Rattle.calculus.specs.Known.{P1, P2, P3, fullPlain, leanPlain}
-use Rattle.calculus.specs.Useless.{Program, refusesAll, writesP1, writesNothing, longer, inventsLength, leanCopiesFull, BreaksContract}
+use Rattle.calculus.specs.Useless.{refusesAll, writesP1, writesNothing, longer, inventsLength, leanCopiesFull, BreaksContract}
 use Rattle.calculus.proofs.Answers.{refused≢good, good-inj}
 
 -- a working memory of 32,768 numbers, and outputs of zeros

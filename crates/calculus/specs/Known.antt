@@ -1,7 +1,7 @@
 -- The sheets with known results, P1 to P11 (document 01), in one table; some of the second edition and some that clash in two more: a
 -- call's answers on each. Assumes nothing.
 use Prim.Native.Nat.{ℕ}
-use mathlib.Core.Bool.{Bool, true, false}
+use mathlib.Core.Bool.{true, false}
 use mathlib.Core.List.{List, [], _∷_, map}
 use lib.ListN.{length}
 use Rattle.calculus.specs.Answer.{Answer, good, refused, _>>=_, refuse, clash, aForm}

@@ -11,7 +11,7 @@ use lib.ListN.{length, getD}
 use Rattle.laws.proofs.Tests.{by-eqb, or-cases, or-elim, or-left, or-right, T-is}
 use Rattle.calculus.specs.Terms.{partAt}
 use Rattle.calculus.specs.Net.{Element, point, part, Net}
-use Rattle.calculus.specs.Lean.{driver, isPin, backIn, back, backs, lowest, root, Says, Sentences}
+use Rattle.calculus.specs.Lean.{driver, isPin, backIn, back, backs, root, Says, Sentences}
 use Rattle.calculus.specs.Record.{All}
 use Rattle.calculus.specs.Inputs.{isOut}
 use Rattle.circuit_theorems.specs.Terminals.{has}

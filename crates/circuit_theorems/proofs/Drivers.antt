@@ -13,7 +13,7 @@ use Rattle.laws.proofs.Parts.{map-take, map-drop}
 use Rattle.calculus.specs.Types.{Ty, bit, prod, arrow, lolli, size, sharable, Table}
 use Rattle.calculus.specs.Terms.{Edition, first, second, Term, partAt}
 use Rattle.calculus.specs.Rules.{many, once, away, Ctx, NoLinear, none-end, none-many, none-away, InΓ, in-here, in-many, in-away, IsΔ, is-here, is-many, is-away, Split, split-end, split-many, split-first, split-second, split-away, Typed, Var, LVar, →I, →E, ⊸I, ⊸E, ×I, ×E, Fix, Con, ×E′}
-use Rattle.calculus.specs.Net.{Terminal, inp, out, Interface, turns, Element, point, part, Wire, points, inSide, outSide, join, partSide, Bound, unbound, Made, leftOf, rightOf, binder, madeVar, madeFun, madeApp, madePair, firstHalf, secondHalf, wholeOf, madeProj, madeFix, madeCon, make}
+use Rattle.calculus.specs.Net.{inp, out, Interface, turns, Element, point, part, Wire, points, inSide, outSide, join, partSide, Bound, unbound, Made, leftOf, rightOf, binder, madeVar, madeFun, madeApp, madePair, firstHalf, secondHalf, wholeOf, madeProj, madeFix, madeCon, make}
 use Rattle.calculus.specs.Inputs.{ins, madeAt, targets}
 use Rattle.circuit_theorems.specs.Scope.{dir, dirs, Suits, Env, env-end, env-many, env-once, env-away}
 

@@ -2,13 +2,13 @@
 use Prim.Native.Nat.{ℕ, _+_, _≤_, _<_}
 use mathlib.Core.Path.{_≡_, subst}
 use mathlib.Core.Bool.{Bool, true, false, cond}
-use mathlib.Core.List.{List, [], _∷_, _++_, map}
+use mathlib.Core.List.{List, [], _∷_, map}
 use native.Mathlib.Omega.{arith}
 use native.Mathlib.Decide.{decLe}
 use lib.Dec.{T}
 use Rattle.calculus.specs.Answer.{good}
 use Rattle.calculus.specs.Terms.{partAt}
-use Rattle.calculus.specs.Net.{Terminal, inp, out, Interface, number, Element, point, part, Wire, Net, element, wire, pin, netBytes}
+use Rattle.calculus.specs.Net.{inp, out, Interface, number, Element, point, part, Wire, Net, element, wire, pin, netBytes}
 use Rattle.calculus.specs.Lean.{kept, keep, lean}
 use Rattle.calculus.specs.Record.{All}
 use Rattle.calculus.specs.Inputs.{madeAt, isOut}

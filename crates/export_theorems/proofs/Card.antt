@@ -1,11 +1,10 @@
 -- For every accepted sheet: the card's check is the profile of its root's type and its lean netlist, it refuses exactly when one of the
 -- three rules is broken, and the refusal's place is the lowest. Assumes nothing.
 use Prim.Native.Nat.{ℕ}
-use mathlib.Core.Path.{_≡_, refl, sym, ap, _∙_}
+use mathlib.Core.Path.{_≡_, sym, ap, _∙_}
 use mathlib.Core.Logic.{_↔_}
 use mathlib.Core.Bool.{true}
 use mathlib.Core.List.{List, []}
-use lib.Dec.{leb}
 use Rattle.calculus.specs.Answer.{Refusal, Answer, good, refused, _>>=_}
 use Rattle.calculus.proofs.Answers.{on-bind}
 use Rattle.calculus.specs.Types.{Ty, tree}

@@ -1,8 +1,8 @@
 -- A netlist is refused by the card's profile exactly when one of its three rules is broken, and the places are the lowest. Assumes nothing.
-use Prim.Native.Nat.{ℕ, zero, suc, _+_, _<_, _≤_}
+use Prim.Native.Nat.{ℕ, _+_, _≤_}
 use mathlib.Core.Path.{_≡_, refl, sym, ap, _∙_, subst}
 use mathlib.Core.Logic.{_⊎_, inl, inr, ⊎-elim, _↔_}
-use mathlib.Core.Bool.{Bool, true, false, cond, not, _&&_, _||_}
+use mathlib.Core.Bool.{Bool, true, false, _||_}
 use mathlib.Core.List.{List, [], _∷_}
 use native.Mathlib.Nat.{le-refl}
 use native.Mathlib.Omega.{arith}
@@ -12,8 +12,7 @@ use Rattle.calculus.specs.Answer.{Refusal, Answer, good, refused, _>>=_, number
 use Rattle.calculus.proofs.Answers.{refused≢good, refused-inj, on-bind, on-need}
 use Rattle.calculus.specs.Types.{Ty, bit, prod, arrow, lolli, sharable}
 use Rattle.calculus.specs.Terms.{partAt}
-use Rattle.calculus.specs.Net.{Terminal, inp, out, Interface, Element, point, part, Wire, Net}
-use Rattle.calculus.specs.Lean.{isPin}
+use Rattle.calculus.specs.Net.{inp, out, Interface, Element, point, part, Wire, Net}
 use Rattle.calculus.specs.Record.{Among, here, there}
 use Rattle.circuit_theorems.specs.Formed.{Rising, Formed}
 use Rattle.export_calculus.specs.Card.{needAll, chain, noRing, drives, isOutPin, isRead, inputPlace, outputPlace, profiled, profile}

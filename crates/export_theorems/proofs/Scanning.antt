@@ -12,7 +12,7 @@ use Rattle.laws.proofs.Tests.{T-is, and-both, not-true, is-false}
 use Rattle.laws.proofs.Below.{all, below}
 use Rattle.calculus.specs.Record.{All}
 use Rattle.export_calculus.specs.Verilog.{fourDigits, isMark, pick, letter, filled, Line, lineText, linesText}
-use Rattle.export_calculus.specs.VerilogRead.{isDigit, numberHere, charHere, Scanned, withNumber, scan, Taken, Fit, orElse, firstFit, Block, more, block}
+use Rattle.export_calculus.specs.VerilogRead.{isDigit, numberHere, charHere, withNumber, scan, Taken, firstFit, more, block}
 
 -- ---- numbers
 

@@ -35,7 +35,7 @@ use Rattle.export_calculus.specs.Card.{needAll, noRing, inputPlace}
 use Rattle.export_calculus.specs.Verilog.{moduleText, exported, export, verilogCall}
 use Rattle.export_calculus.specs.VerilogRead.{readVerilog}
 use Rattle.export_theorems.specs.Broken.{KeptRing, LowestRing}
-use Rattle.export_theorems.proofs.CardLaws.{Ringed, ring-refused, ring-free}
+use Rattle.export_theorems.proofs.CardLaws.{ring-refused, ring-free}
 use Rattle.export_theorems.proofs.VerilogLength.{verilog-few}
 use Rattle.export_theorems.proofs.VerilogRead.{ElementFour, FitsFour, verilog-read}
 

@@ -1,7 +1,7 @@
 -- The text of a netlist whose numbers have four digits, read by the definition of the subset, gives back the netlist. Assumes nothing.
 use Prim.Native.Nat.{ℕ, zero, suc, _+_, _-_, _<_, _≤_}
 use mathlib.Core.Path.{_≡_, refl, sym, ap, _∙_, subst}
-use mathlib.Core.Bool.{Bool, true, false, cond, _&&_}
+use mathlib.Core.Bool.{Bool, true, false, cond}
 use mathlib.Core.Option.{Option, none, some, bind}
 use mathlib.Core.List.{List, [], _∷_, _++_, map, append-assoc}
 use native.Mathlib.Omega.{arith}
@@ -13,8 +13,8 @@ use Rattle.laws.proofs.Below.{all, below}
 use Rattle.calculus.specs.Net.{Terminal, inp, out, number, Interface, Element, point, part, Wire, Net}
 use Rattle.calculus.specs.Record.{All}
 use Rattle.export_calculus.specs.Verilog.{elementForms, portForms, assignForms, header, portsEnd, moduleEnd, isMark, pick, filled, letter, Line, lineText, linesText, kindLine, lineOfElement, lineOfWire, lineOfPin, lineOfPort, linesOfPins, linesOfPorts, moduleText}
-use Rattle.export_calculus.specs.VerilogRead.{elementWords, portWords, assignWords, Scanned, scan, Block, firstFit, block, sameNumbers, ownNumbers, elementRead, elementsRead, wiresRead, behindWires, pinRead, pinsRead, bodyRead, readVerilog}
-use Rattle.export_theorems.proofs.Scanning.{numbersOf, earlier, apart, none-fits, full-forms, LineReadable, takenOf, scan-filled, first-none, block-read, texts-long}
+use Rattle.export_calculus.specs.VerilogRead.{elementWords, portWords, assignWords, scan, firstFit, block, sameNumbers, ownNumbers, elementRead, elementsRead, wiresRead, behindWires, pinRead, pinsRead, bodyRead, readVerilog}
+use Rattle.export_theorems.proofs.Scanning.{numbersOf, apart, none-fits, LineReadable, takenOf, scan-filled, first-none, block-read, texts-long}
 
 -- ---- the reader's words make the writer's forms, by computing
 

@@ -9,8 +9,8 @@ use native.Mathlib.Omega.{arith}
 use lib.Dec.{T, eqb, eqb→eq, leb, leb→le}
 use lib.ListN.{length, getD, drop}
 use Rattle.laws.proofs.Tests.{and-both, by-eqb}
-use Rattle.calculus.specs.Net.{Terminal, inp, out, Interface, Element, point, part, Wire, Net}
-use Rattle.export_calculus.specs.Verilog.{elementForms, portForms, assignForms, header, portsEnd, moduleEnd, fourDigits, isMark, pick, letter, filled, Line, lineText, linesText, kindLine, lineOfElement, lineOfWire, lineOfPin, lineOfPort, linesOfPins, linesOfPorts, moduleText}
+use Rattle.calculus.specs.Net.{Terminal, inp, out, Interface, Element, point, part, Net}
+use Rattle.export_calculus.specs.Verilog.{elementForms, portForms, assignForms, header, portsEnd, moduleEnd, fourDigits, isMark, pick, letter, filled, lineText, linesText, lineOfElement, lineOfWire, lineOfPin, lineOfPort, linesOfPins, linesOfPorts, moduleText}
 use Rattle.export_calculus.specs.VerilogRead.{elementWords, portWords, assignWords, isDigit, numberHere, charHere, Scanned, withNumber, scan, Taken, Fit, orElse, firstFit, Block, more, block, sameNumbers, ownNumbers, elementRead, elementsRead, wiresRead, behindWires, pinRead, pinsRead, bodyRead, readVerilog}
 use Rattle.export_theorems.proofs.VerilogRead.{element-words, port-words, assign-words, pick-own}
 

@@ -2,13 +2,12 @@
 use Prim.Native.Nat.{ℕ, _+_, _≤_}
 use mathlib.Core.Path.{_≡_}
 use mathlib.Core.Bool.{false}
-use mathlib.Core.List.{List, _∷_}
 use mathlib.Core.Logic.{_⊎_}
 use lib.Dec.{T}
 use Rattle.calculus.specs.Answer.{Refusal, numbered}
 use Rattle.calculus.specs.Types.{Ty, arrow, sharable}
 use Rattle.calculus.specs.Terms.{partAt}
-use Rattle.calculus.specs.Net.{out, Element, point, part, Wire, Net}
+use Rattle.calculus.specs.Net.{out, point, part, Wire, Net}
 use Rattle.calculus.specs.Lean.{isPin}
 use Rattle.calculus.specs.Record.{Among}
 

@@ -8,7 +8,7 @@ use native.Mathlib.Decide.{decLe, ℕ-discrete}
 use lib.ListN.{length, getD, drop}
 use lib.Seq.{drop-drop}
 use borrow.Author.Tests.{eq-eqb, ne-eqb, le-leb, lt-leb}
-use Rattle.calculus.specs.Answer.{Answer, good, refuse, _>>=_}
+use Rattle.calculus.specs.Answer.{Answer, good, refuse}
 use Rattle.calculus.specs.Net.{Net}
 use Rattle.calculus.specs.Inputs.{ins, madeAt, targets, isOut}
 use Rattle.circuit_theorems.specs.Formed.{Rising}

@@ -1,5 +1,5 @@
 -- The bytes of a formed netlist in this order and numbering are read as that netlist, and accepted. Assumes nothing.
-use Prim.Native.Nat.{ℕ, zero, suc, _+_, _<_, _≤_}
+use Prim.Native.Nat.{ℕ, zero, suc, _+_, _≤_}
 use mathlib.Core.Path.{_≡_, refl, sym, ap, _∙_, subst}
 use mathlib.Core.Bool.{Bool, true, false, _&&_, _||_}
 use mathlib.Core.List.{List, [], _∷_, _++_, map, append-assoc, append-nil}
@@ -7,12 +7,12 @@ use native.Mathlib.Omega.{arith}
 use lib.Dec.{T, eqb, leb, eqb-refl, le→leb}
 use lib.ListN.{length, drop, length-drop, length-append}
 use Rattle.laws.proofs.Tests.{and-of, or-left, or-right}
-use Rattle.calculus.specs.Answer.{Answer, good, refused, _>>=_, need}
+use Rattle.calculus.specs.Answer.{Answer, good, refused, _>>=_}
 use Rattle.calculus.specs.Terms.{partAt}
-use Rattle.calculus.specs.Net.{Terminal, inp, out, Interface, number, Element, point, part, Wire, Net, Item, element, wire, pin, itemBytes, netBytes}
+use Rattle.calculus.specs.Net.{Terminal, inp, out, Interface, number, Element, point, part, Wire, Net, Item, element, wire, pin, itemBytes}
 use Rattle.calculus.specs.Record.{All}
 use Rattle.calculus.specs.Inputs.{ins, madeAt, targets, isOut}
-use Rattle.calculus.specs.NetRead.{Known, Fits, itemSize, Front, itemAt}
+use Rattle.calculus.specs.NetRead.{Fits, itemSize, Front}
 use Rattle.circuit_theorems.specs.Formed.{Tiled, Rising, Formed}
 use Rattle.sheet_theorems.proofs.Bytes.{behind}
 use Rattle.sheet_theorems.proofs.Going.{needed}
@@ -20,7 +20,7 @@ use Rattle.circuit_theorems.proofs.Terminals.{rising-end}
 use Rattle.circuit_theorems.proofs.Wiring.{wires-run, pins-show}
 use Rattle.circuit_theorems.proofs.NetRead.{itemsOf, itemsBytes, records-in-a-row, item-length, item-some, ends-here, item-here, Shows, terminal-is}
 use Rattle.circuit_theorems.proofs.Told.{items-fit}
-use Rattle.foreign_theorems.specs.Foreign.{Numbered, Accepts, Reading, begin, firstOf, pastOf, starts, isIn, moreElement, moreWire, morePin, judge, onFront, readOn, oneEach, check}
+use Rattle.foreign_theorems.specs.Foreign.{Numbered, Accepts, Reading, begin, firstOf, pastOf, starts, isIn, judge, onFront, readOn, oneEach, check}
 use Rattle.foreign_theorems.proofs.Sound.{numbered-rising}
 
 -- ---- a row of records that stands in the bytes is judged record by record

@@ -1,12 +1,12 @@
 -- The check accepts exactly what is a formed netlist in this order and numbering, and refuses at the first place. Assumes nothing.
 use Prim.Native.Nat.{ℕ, zero, suc, _+_, _<_, _≤_}
-use mathlib.Core.Path.{_≡_, refl, sym, ap, _∙_, subst}
+use mathlib.Core.Path.{_≡_, refl, sym, ap, subst}
 use mathlib.Core.Logic.{_↔_, _⊎_, inl, inr, ⊎-elim}
 use mathlib.Core.Bool.{Bool, true, false, _&&_, _||_}
-use mathlib.Core.List.{List, []}
+use mathlib.Core.List.{List}
 use native.Mathlib.Omega.{arith}
 use native.Mathlib.Decide.{decLe}
-use lib.Dec.{T, eqb, leb, eqb→eq}
+use lib.Dec.{eqb, leb, eqb→eq}
 use lib.ListN.{length, take}
 use borrow.Author.Tests.{eqb-false}
 use Rattle.calculus.specs.Answer.{Refusal, Answer, good, refused, _>>=_, numbered, need}
@@ -16,7 +16,7 @@ use Rattle.calculus.specs.Inputs.{ins, madeAt, targets, isOut}
 use Rattle.calculus.specs.NetRead.{itemSize, Front, item, ended, broken, itemAt}
 use Rattle.foreign_theorems.specs.Foreign.{Bytes, Accepts, Reading, begin, firstOf, pastOf, starts, isIn, moreElement, moreWire, morePin, judge, onFront, readOn, oneEach, check}
 use Rattle.foreign_theorems.specs.Refused.{ReadAs, Wrong, FirstRefused, OneFeed, Lowest}
-use Rattle.foreign_theorems.proofs.Standing.{Stood, item-stood}
+use Rattle.foreign_theorems.proofs.Standing.{item-stood}
 use Rattle.foreign_theorems.proofs.Sound.{read-more, read-none, more-taken, read-all, no-targets, no-inputs, accepted}
 use Rattle.foreign_theorems.proofs.Complete.{accepts-check}
 

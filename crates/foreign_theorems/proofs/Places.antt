@@ -8,7 +8,7 @@ use native.Mathlib.Decide.{decLt}
 use lib.Dec.{T, eqb, leb, leb→le}
 use lib.ListN.{length}
 use Rattle.laws.proofs.Tests.{and-both}
-use Rattle.calculus.specs.Answer.{Refusal, Answer, numbered, _>>=_}
+use Rattle.calculus.specs.Answer.{Refusal, numbered, _>>=_}
 use Rattle.calculus.specs.Net.{Net, Item, element, wire, pin}
 use Rattle.calculus.specs.Inputs.{ins, madeAt, targets, isOut}
 use Rattle.calculus.specs.NetRead.{itemSize, Front, item, ended, broken, itemAt}

@@ -1,6 +1,6 @@
 -- What the check has read is the bytes of a netlist in order, numbered and named as asked. Assumes nothing.
 use Prim.Native.Nat.{ℕ, zero, suc, _+_, _<_, _≤_}
-use mathlib.Core.Path.{_≡_, refl, sym, ap, ap₂, _∙_, subst}
+use mathlib.Core.Path.{_≡_, refl, sym, ap, _∙_, subst}
 use mathlib.Core.Bool.{Bool, true, false, cond, _&&_, _||_}
 use mathlib.Core.List.{List, [], _∷_, _++_, map, append-assoc, append-nil, map-append}
 use native.Mathlib.Omega.{arith}
@@ -9,14 +9,14 @@ use lib.Dec.{T, eqb, leb, eqb→eq, leb→le}
 use lib.ListN.{length, take, drop}
 use lib.Seq.{take-all, take-add, take-at}
 use Rattle.laws.proofs.Tests.{by-eqb, and-both}
-use Rattle.calculus.specs.Answer.{Answer, good, _>>=_, need}
+use Rattle.calculus.specs.Answer.{good, _>>=_}
 use Rattle.calculus.proofs.Answers.{good-inj, refused≢good, on-bind, on-need}
 use Rattle.calculus.specs.Terms.{partAt}
 use Rattle.calculus.specs.Net.{Terminal, inp, out, Interface, number, Element, point, part, Wire, Net, Item, element, wire, pin, itemBytes, netBytes}
 use Rattle.calculus.specs.Record.{All}
 use Rattle.calculus.specs.Inputs.{ins, madeAt, targets, isOut}
 use Rattle.calculus.specs.NetRead.{Known, Fits, itemSize, Front, item, ended, broken, itemAt, pinTerminal}
-use Rattle.circuit_theorems.specs.Formed.{Shown, Tiled, Rising, Formed}
+use Rattle.circuit_theorems.specs.Formed.{Shown, Tiled, Rising}
 use Rattle.circuit_theorems.proofs.Lists.{all-map, all-append}
 use Rattle.circuit_theorems.proofs.Terminals.{tiled-rising, made-high}
 use Rattle.circuit_theorems.proofs.NetRead.{itemsOf, itemsBytes, items-append, records-in-a-row, item-length, item-some}

@@ -1,18 +1,18 @@
 -- What the reader of netlists reads at an offset stood there: the record's own bytes. Assumes nothing.
-use Prim.Native.Nat.{ℕ, suc, _+_, _*_, _/_, _%_, _<_, _≤_}
+use Prim.Native.Nat.{ℕ, _+_, _/_, _%_, _<_, _≤_}
 use mathlib.Core.Path.{_≡_, refl, ap, ap₂, _∙_, subst}
 use mathlib.Core.Bool.{Bool, true, false, cond}
-use mathlib.Core.List.{List, [], _∷_, _++_}
+use mathlib.Core.List.{List, _∷_, _++_}
 use native.Mathlib.Omega.{arith}
 use native.Mathlib.Decide.{decLe}
 use lib.Dec.{T, eqb, ltb, leb, eqb→eq, leb→le}
-use lib.ListN.{length, getD, drop}
+use lib.ListN.{length, drop}
 use borrow.Author.Tests.{lt-ltb, ltb-true}
 use Rattle.laws.proofs.Tests.{T-is}
 use Rattle.calculus.specs.Terms.{parts}
 use Rattle.calculus.specs.Read.{byte}
 use Rattle.calculus.specs.Net.{point, part, Item, element, wire, pin, two, itemBytes}
-use Rattle.calculus.specs.NetRead.{Fits, itemSize, Front, item, ended, broken, twoAt, ofKind, itemAt}
+use Rattle.calculus.specs.NetRead.{Fits, itemSize, item, ended, broken, twoAt, ofKind, itemAt}
 use Rattle.sheet_theorems.proofs.Bytes.{front-one, front-two}
 use Rattle.circuit_theorems.proofs.Lists.{all-getD}
 use Rattle.foreign_theorems.specs.Foreign.{Bytes}

@@ -1,6 +1,6 @@
 -- Laws of `zeroed`: the first numbers 0, the later ones as they were. Assumes nothing.
 use borrow.Author.Fill.{fill-none, fill-more}
-use mathlib.Core.Path.{_≡_, refl, ap, sym, _∙_}
+use mathlib.Core.Path.{_≡_, ap, _∙_}
 use mathlib.Core.List.{List, _++_}
 use Prim.Native.Nat.{ℕ, _+_, _-_, _≤_, _<_}
 use native.Mathlib.Omega.{arith}

@@ -8,7 +8,7 @@ use mathlib.Core.List.{List, [], _∷_, map}
 use lib.ListN.{length, getD, take, drop}
 use lib.Dec.{eqb}
 use Rattle.calculus.specs.Terms.{partAt}
-use Rattle.calculus.specs.Net.{Terminal, inp, out, Interface, Element, point, part, Wire, Net}
+use Rattle.calculus.specs.Net.{Terminal, inp, out, Element, point, part, Wire, Net}
 use Rattle.calculus.specs.Lean.{driver}
 use Rattle.circuit_theorems.specs.Formed.{Tiled, Formed}
 

@@ -6,7 +6,7 @@ use native.Mathlib.Omega.{arith}
 use lib.Dec.{ltb}
 use lib.ListN.{length}
 use Rattle.calculus.specs.Terms.{parts}
-use Rattle.parts.specs.Table.{Lookup, isPart, noPart, saidPart, saidNamed, entryOf, named}
+use Rattle.parts.specs.Table.{isPart, noPart, saidPart, saidNamed, entryOf, named}
 use Rattle.parts.specs.declared.Part.{Part}
 use Rattle.parts.specs.declared.Named.{Named}
 use Rattle.parts.specs.declared.Named.the-variants as of

@@ -1,13 +1,12 @@
 -- A record that is read ends within the bytes. Assumes nothing.
 use Prim.Native.Nat.{ℕ, suc, _+_, _≤_, _<_}
 use mathlib.Core.Path.{_≡_, refl}
-use mathlib.Core.Logic.{_⊎_, inl, inr}
 use mathlib.Core.List.{List, [], _∷_}
 use native.Mathlib.Omega.{arith}
 use lib.ListN.{length, getD}
 use Rattle.calculus.specs.NetRead.{Front, item, ended, broken, itemAt}
 use Rattle.foreign_theorems.specs.Foreign.{Bytes}
-use Rattle.foreign_theorems.proofs.Standing.{Stood, item-stood}
+use Rattle.foreign_theorems.proofs.Standing.{item-stood}
 use Rattle.net_reader.specs.Said.{frontSize}
 
 pub bytes-of : (s : List ℕ) → ((i : ℕ) → getD s i 0 < 256) → Bytes s

@@ -20,7 +20,7 @@ use Rattle.memory.specs.Map.{targetsAt, elementsAt, stackAt, makersAt, region, 
 use Rattle.calculus.specs.NetRead.{Known}
 use Rattle.netlist.specs.Elements.{after, afterAll, elementSize, nodeSize, elementRecords}
 use Rattle.netlist.proofs.Records.{wires-append, pins-append, net-length}
-use Rattle.netlist.proofs.Elements.{firstBytes, firstAfter, bytes-more, length-more, after-one, bytes-within, after-within, kinds-tiled, kinds-known, kinds-length, records-are, records-length, firstRecords, records-first, records-more}
+use Rattle.netlist.proofs.Elements.{firstBytes, firstAfter, bytes-more, length-more, after-one, bytes-within, after-within, kinds-tiled, kinds-known, kinds-length, firstRecords, records-first, records-more}
 use Rattle.netlist.proofs.Targets.{target-counted}
 
 pub wires-count : (w is : List ℕ) → length (wiresFrom w is) ≡ length is

@@ -1,19 +1,19 @@
 -- The search for a kept ring point, element by element; and that it finds what the definition's test refuses. Assumes nothing.
-use Prim.Native.Nat.{ℕ, zero, suc, _+_, _≤_, _<_}
+use Prim.Native.Nat.{ℕ, _+_, _≤_, _<_}
 use mathlib.Core.Path.{_≡_, refl, sym, ap, _∙_, subst}
 use mathlib.Core.Bool.{Bool, true, false, cond, not, _&&_}
 use mathlib.Core.List.{List, [], _∷_, map}
 use native.Mathlib.Omega.{arith}
 use native.Mathlib.Decide.{ℕ-discrete}
-use lib.Dec.{T, eqb, eqb-refl, ltb}
+use lib.Dec.{eqb, eqb-refl}
 use lib.ListN.{length, getD, drop}
-use borrow.Author.Tests.{ne-eqb, eq-eqb, lt-ltb, le-ltb}
+use borrow.Author.Tests.{ne-eqb, eq-eqb, lt-ltb}
 use Rattle.laws.proofs.Tests.{T-is}
-use Rattle.calculus.specs.Answer.{Answer, good, _>>=_, need}
+use Rattle.calculus.specs.Answer.{Answer}
 use Rattle.calculus.specs.Terms.{partAt}
-use Rattle.calculus.specs.Net.{Terminal, inp, out, Interface, Element, point, part, Net, partSide}
-use Rattle.calculus.specs.Lean.{isPin, leanPin, lean}
-use Rattle.calculus.specs.Inputs.{tally, ins, madeAt}
+use Rattle.calculus.specs.Net.{Terminal, inp, out, Interface, Element, point, Net}
+use Rattle.calculus.specs.Lean.{isPin, lean}
+use Rattle.calculus.specs.Inputs.{tally, madeAt}
 use Rattle.export_calculus.specs.Card.{needAll, noRing, inputPlace}
 use Rattle.memory.specs.Map.{elementsAt, stackAt, region, elementsFrom, terminalOf, netIn}
 use Rattle.netlist.specs.Elements.{after, afterAll}

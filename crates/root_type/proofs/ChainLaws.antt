@@ -1,15 +1,14 @@
 -- In a sheet that is read, the rule by type numbers is the rule by types; and one step of the search. Assumes nothing.
 use Prim.Native.Nat.{ℕ, zero, suc, _-_, _<_, _≤_}
 use mathlib.Core.Path.{_≡_, refl, sym, ap, _∙_}
-use mathlib.Core.Bool.{Bool, true, false, _&&_}
+use mathlib.Core.Bool.{false, _&&_}
 use mathlib.Core.List.{List}
 use native.Mathlib.Omega.{arith}
-use lib.Dec.{T}
 use lib.ListN.{length}
 use Rattle.laws.proofs.Tests.{T-is, and-of}
-use Rattle.calculus.specs.Types.{Ty, prod, arrow, lolli, sharable, TyRec, rec01, rec02, rec03, rec04, Table, recAt, tree}
+use Rattle.calculus.specs.Types.{Ty, sharable, TyRec, rec01, rec02, rec03, rec04, Table, recAt, tree}
 use Rattle.calculus.specs.Read.{Sheet}
-use Rattle.sheet_theorems.specs.Laid.{Agrees, Below, TableOk, Laid}
+use Rattle.sheet_theorems.specs.Laid.{Agrees, Below, Laid}
 use Rattle.export_calculus.specs.Card.{chain}
 use Rattle.records.specs.Forms.{recIn}
 use Rattle.records.proofs.ToldLaws.{sheet-types}

@@ -1,6 +1,6 @@
 -- Refusal 12 names two types that differ, and no other refusal names any. Assumes nothing.
-use Prim.Native.Nat.{ℕ, zero, suc, _+_, _<_, _≤_}
-use mathlib.Core.Path.{_≡_, refl, sym, ap, subst, _∙_}
+use Prim.Native.Nat.{ℕ, zero, suc, _+_, _<_}
+use mathlib.Core.Path.{_≡_, refl, sym, ap, _∙_}
 use mathlib.Core.Bool.{Bool, true, false, false≢true}
 use mathlib.Core.List.{List, [], _∷_}
 use mathlib.Core.Logic.{_⊎_, inl, inr}
@@ -8,12 +8,12 @@ use native.Mathlib.Omega.{arith}
 use lib.Dec.{eqb, ltb}
 use lib.ListN.{length, getD}
 use borrow.Author.Tests.{eqb-false}
-use Rattle.calculus.specs.Answer.{Refusal, Answer, good, refused, _>>=_, numbered, clash, aForm}
+use Rattle.calculus.specs.Answer.{Refusal, Answer, good, refused, numbered, clash, aForm}
 use Rattle.calculus.specs.Types.{Ty, bit, sharable, tyEq, TyRec, rec01, rec02, rec03, rec04, Table, recAt, tysFrom, tree}
 use Rattle.calculus.specs.Terms.{Edition, Term, var, lvar, fun, app, lfun, lapp, pair, proj, fix, con, name, nodes, parts, partAt}
 use Rattle.calculus.specs.Walk.{shared, linear, Stack, product, sharableArrow, linearArrow, Found, under, useShared, useLinear, topUsed, numberFrom, typeNumber, walk}
 use Rattle.sheet_theorems.specs.Laid.{TableOk, Ranged}
-use Rattle.sheet_theorems.specs.Clash.{Clash, Tells}
+use Rattle.sheet_theorems.specs.Clash.{Tells}
 use Rattle.sheet_theorems.proofs.Tables.{tys-count}
 use Rattle.sheet_theorems.specs.Numbers.{Numbers}
 use Rattle.sheet_theorems.proofs.WalkKeeps.{walk-keeps, kept-numbers, walk-in, arrow-in, lolli-in, product-in}

@@ -1,15 +1,15 @@
 -- Terminals, and the elements that have them. Assumes nothing.
 use Prim.Native.Nat.{ℕ, _+_, _≤_, _<_}
-use mathlib.Core.Path.{_≡_, refl, sym, ap, _∙_, subst}
-use mathlib.Core.Logic.{_⊎_, inl, inr, ⊎-elim}
-use mathlib.Core.Bool.{Bool, true, false, cond, _||_}
+use mathlib.Core.Path.{_≡_, refl, sym, subst}
+use mathlib.Core.Logic.{_⊎_, ⊎-elim}
+use mathlib.Core.Bool.{Bool, true, false, cond}
 use mathlib.Core.List.{List, [], _∷_}
 use native.Mathlib.Omega.{arith}
 use native.Mathlib.Decide.{decLe}
 use lib.Dec.{T, eqb, eqb→eq}
 use Rattle.laws.proofs.Tests.{by-eqb, or-elim}
 use Rattle.calculus.specs.Terms.{partAt}
-use Rattle.calculus.specs.Net.{Element, point, part, partSide, Net}
+use Rattle.calculus.specs.Net.{Element, point, part, partSide}
 use Rattle.calculus.specs.Inputs.{ins, madeAt, isOut}
 use Rattle.calculus.specs.Record.{Among, here, there}
 use Rattle.circuit_theorems.specs.Terminals.{has}
@@ -17,7 +17,7 @@ use Rattle.circuit_theorems.specs.Formed.{Rising}
 use Rattle.circuit_theorems.proofs.Drivers.{made-append}
 use Rattle.trace_calculus.specs.Trace.{terminals}
 use Rattle.trace_theorems.proofs.Sources.{ins-range, ins-of, out-of-point, out-of-part, out-not-made, terminal-is, point-terminal, part-terminal, out-terminal}
-use Rattle.trace_theorems.proofs.Owners.{start, last, same-owner}
+use Rattle.trace_theorems.proofs.Owners.{start, last}
 
 pub out-in : (es : List Element) (x : ℕ) → T (isOut es x) → (a : Element) × Among a es × (last a ≡ x)
 out-in [] x t = absurd t

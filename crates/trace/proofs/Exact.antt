@@ -5,18 +5,18 @@ use Prim.Native.Nat.{ℕ, _+_, _*_, _≤_, _<_}
 use mathlib.Core.Path.{_≡_, refl, sym, ap, _∙_, subst}
 use mathlib.Core.Bool.{Bool, true, false, cond, _||_}
 use mathlib.Core.Logic.{_↔_, ⊎-elim}
-use mathlib.Core.List.{List, [], _∷_, _++_, map}
+use mathlib.Core.List.{List, [], _∷_, _++_}
 use native.Mathlib.Omega.{arith}
 use lib.Dec.{T, eqb, leb, eqb→eq, leb→le}
 use lib.ListN.{length, drop, length-map}
 use borrow.Author.Tests.{le-leb}
-use Rattle.calculus.specs.Answer.{Refusal, Answer, good, refused, _>>=_, numbered, refuse, need}
+use Rattle.calculus.specs.Answer.{Refusal, Answer, good, refused, _>>=_, refuse, need}
 use Rattle.calculus.proofs.Answers.{refused≢good, good-inj, refused-inj}
 use Rattle.laws.proofs.Tests.{or-elim, or-left, or-right}
 use Rattle.calculus.specs.Terms.{partAt}
 use Rattle.calculus.specs.Net.{Interface, inp, out, Element, point, part, Net}
 use Rattle.calculus.specs.Lean.{kept, keep, leanPin, lean}
-use Rattle.calculus.specs.Translate.{full, saidOf, outOf, workOf, Call}
+use Rattle.calculus.specs.Translate.{full, saidOf, outOf}
 use Rattle.calculus.specs.Record.{Among}
 use Rattle.circuit_theorems.specs.Terminals.{has}
 use Rattle.circuit_theorems.specs.Formed.{Rising}

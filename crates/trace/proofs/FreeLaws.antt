@@ -1,17 +1,15 @@
 -- A netlist without rings: the tests, the start, all ticks. Assumes nothing.
 use Prim.Native.Nat.{ℕ, zero, suc, _+_, _-_, _*_, _/_, _≤_, _<_}
 use mathlib.Core.Path.{_≡_, refl, sym, ap, _∙_, subst}
-use mathlib.Core.Logic.{_⊎_, inl, inr, ⊎-elim}
 use mathlib.Core.Bool.{Bool, true, false, cond, not, _&&_}
 use mathlib.Core.List.{List, [], _∷_, _++_, append-assoc}
 use native.Mathlib.Omega.{arith}
 use native.Mathlib.Decide.{ℕ-discrete}
-use native.Mathlib.Nat.{suc-mul, mul-le-mul-right}
-use lib.ListN.{length, getD, set, drop, length-append}
+use native.Mathlib.Nat.{mul-le-mul-right}
+use lib.ListN.{length, getD, set}
 use lib.Seq.{sets}
 use lib.Dec.{T, eqb, ltb, leb, eqb→eq}
 use borrow.Author.Tests.{not-true, not-false, eq-eqb, ne-eqb, le-leb, lt-leb}
-use Rattle.laws.proofs.Tests.{and-both, T-is}
 use Rattle.laws.proofs.Regions.{sets-append, sets-front}
 use Rattle.calculus.specs.Answer.{Answer, good, refuse, _>>=_, need}
 use Rattle.calculus.specs.Net.{Interface, Element, part, Net}
@@ -22,15 +20,14 @@ use Rattle.memory.specs.Map.{memorySize}
 use Rattle.lean.specs.Table.{Within, entry}
 use Rattle.lean.proofs.TableLaws.{within-none, within-then, within-set, entry-same, entry-other}
 use Rattle.trace_calculus.specs.Trace.{terminals, OnRing, run, inPins, outPins, registers, place, givenBits, startBits, bitByte, row, rows, allBits}
-use Rattle.trace_theorems.proofs.TraceRun.{heldAt}
-use Rattle.trace_theorems.proofs.Lending.{row-length, rows-length}
+use Rattle.trace_theorems.proofs.Lending.{rows-length}
 use Rattle.trace_theorems.proofs.Sources.{out-terminal}
 use Rattle.trace_theorems.proofs.Owners.{last}
 use Rattle.trace_steps.specs.Map.{registersAt, orderAt, pinsAt, bitsAt, registerEntry, inverterEntry, oneEntry}
 use Rattle.trace_steps.specs.Turns.{takeTurns, Looped}
-use Rattle.trace_steps.specs.Steps.{lit, firstIn, Looks, Ordered, Register, Registers, wakeOne, beginOne}
-use Rattle.trace_steps.specs.Pins.{Counted, counted, inPinCount, outPinCount, PinsLow, Listable, RegistersListed, registerOne}
-use Rattle.trace_steps.specs.Ticks.{Sizes, sizes, lighted, ticked, shownBits, Runs, Running, running, tickOne, Ran, TraceFits, InOrder}
+use Rattle.trace_steps.specs.Steps.{lit, firstIn, Looks, Ordered, Registers, wakeOne, beginOne}
+use Rattle.trace_steps.specs.Pins.{counted, inPinCount, outPinCount, PinsLow, RegistersListed}
+use Rattle.trace_steps.specs.Ticks.{sizes, lighted, ticked, shownBits, Runs, Running, running, tickOne, Ran, TraceFits, InOrder}
 use Rattle.trace_steps.proofs.Laws.{first-low}
 use Rattle.trace_steps.proofs.SweepLaws.{looks-table}
 use Rattle.trace_steps.proofs.TickLaws.{ordered-within, registers-within, pins-within, ins-within, outs-within}

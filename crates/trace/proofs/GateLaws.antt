@@ -2,14 +2,13 @@
 use Prim.Native.Nat.{ℕ, zero, suc, _+_, _-_, _≤_, _<_}
 use mathlib.Core.Path.{_≡_, refl, sym, ap, _∙_, subst}
 use mathlib.Core.Logic.{_⊎_, inl, inr, ⊎-elim}
-use mathlib.Core.Bool.{Bool, true, false, cond, not, _&&_, _||_, xor}
+use mathlib.Core.Bool.{Bool, true, false, cond, _&&_, _||_}
 use mathlib.Core.List.{List, [], _∷_}
 use native.Mathlib.Omega.{arith}
-use native.Mathlib.Decide.{ℕ-discrete, decLe}
-use lib.ListN.{length, getD}
+use lib.ListN.{getD}
 use lib.Dec.{T, eqb, ltb, eqb→eq, eqb-refl}
-use borrow.Author.Tests.{eq-eqb, ne-eqb, lt-ltb, le-ltb, ltb-true, ltb-false}
-use Rattle.laws.proofs.Tests.{or-elim, or-left, or-right, T-is, by-eqb}
+use borrow.Author.Tests.{eq-eqb, ne-eqb, lt-ltb, ltb-true}
+use Rattle.laws.proofs.Tests.{or-elim, or-left, or-right}
 use Rattle.calculus.specs.Terms.{partAt}
 use Rattle.calculus.specs.Net.{Element, point, part, Net}
 use Rattle.calculus.specs.Lean.{isPin}
@@ -18,11 +17,11 @@ use Rattle.calculus.specs.Record.{Among}
 use Rattle.circuit_theorems.specs.Terminals.{has}
 use Rattle.circuit_theorems.specs.Formed.{Formed}
 use Rattle.memory.specs.Map.{rootsAt}
-use Rattle.trace_calculus.specs.Trace.{Source, pin, from, made-part as made-by, source, looks, before, terminals, gate, bit}
+use Rattle.trace_calculus.specs.Trace.{Source, pin, from, made-part as made-by, source, looks, before, terminals}
 use Rattle.trace_theorems.proofs.Sources.{at-point, at-part, at-pin, out-terminal}
 use Rattle.trace_theorems.proofs.Owners.{start, last}
 use Rattle.trace_steps.specs.Map.{kindsFrom, registerEntry, inverterEntry, oneEntry, pointEntry}
-use Rattle.trace_steps.specs.Steps.{firstIn, Looks, gateBit, freeIn}
+use Rattle.trace_steps.specs.Steps.{firstIn, Looks, freeIn}
 use Rattle.trace_steps.proofs.Laws.{first-two, first-one}
 use Rattle.trace_rings.specs.Lists.{looksIn}
 use Rattle.trace_rings.specs.Rings.{InputOf}

@@ -1,21 +1,20 @@
 -- What the table by terminal says after naming, linking and rooting: the lean netlist. Assumes nothing.
 use Prim.Native.Nat.{ℕ, zero, suc, _+_, _*_, _/_, _%_, _≤_, _<_}
 use mathlib.Core.Path.{_≡_, refl, sym, ap, _∙_, subst}
-use mathlib.Core.Logic.{_⊎_, inl, inr, ⊎-elim, _↔_}
-use mathlib.Core.Bool.{Bool, true, false, cond, _||_}
+use mathlib.Core.Logic.{_⊎_, inl, inr, ⊎-elim}
+use mathlib.Core.Bool.{Bool, true, false, cond}
 use mathlib.Core.List.{List, [], _∷_, map}
 use native.Mathlib.Omega.{arith}
 use native.Mathlib.Decide.{ℕ-discrete, decLe}
 use lib.ListN.{length, getD}
-use lib.Dec.{T, eqb, eqb→eq, eqb-refl}
+use lib.Dec.{T, eqb, eqb→eq}
 use borrow.Author.Tests.{eq-eqb, ne-eqb, eqb-false}
-use Rattle.laws.proofs.Tests.{T-is, is-false}
+use Rattle.laws.proofs.Tests.{is-false}
 use Rattle.laws.proofs.Regions.{region-length, region-at}
-use Rattle.calculus.specs.Terms.{partAt}
-use Rattle.calculus.specs.Net.{Terminal, inp, out, Interface, Element, point, part, Wire, Net}
-use Rattle.calculus.specs.Lean.{driver, isPin, root, kept, keep, leanPin, lean}
-use Rattle.calculus.specs.Record.{All, Among, here, there}
-use Rattle.calculus.specs.Inputs.{ins, targets, madeAt, isOut}
+use Rattle.calculus.specs.Net.{Terminal, inp, out, Element, point, part, Wire, Net}
+use Rattle.calculus.specs.Lean.{driver, isPin, root, kept, leanPin, lean}
+use Rattle.calculus.specs.Record.{All, Among}
+use Rattle.calculus.specs.Inputs.{targets, madeAt, isOut}
 use Rattle.circuit_theorems.specs.Formed.{Shown, Formed}
 use Rattle.circuit_theorems.proofs.Terminals.{made-high, out-high, each-target, pin-ins}
 use Rattle.circuit_theorems.proofs.Forming.{lean-formed}
@@ -23,7 +22,7 @@ use Rattle.circuit_theorems.proofs.Outputs.{EndHolds}
 use Rattle.circuit_theorems.proofs.Wiring.{pins-show}
 use Rattle.circuit_theorems.proofs.RootLaws.{root-reached}
 use Rattle.circuit_theorems.proofs.BackLaws.{backs-out}
-use Rattle.memory.specs.Map.{targetsAt, elementsAt, rootsAt, region, kindNumber, elementsFrom, terminalOf, netIn, Ready}
+use Rattle.memory.specs.Map.{targetsAt, elementsAt, rootsAt, region, kindNumber, terminalOf, netIn, Ready}
 use Rattle.calculus.specs.NetRead.{Known}
 use Rattle.circuit_theorems.specs.Terminals.{has}
 use Rattle.netlist.specs.Elements.{after, afterAll}
@@ -31,13 +30,12 @@ use Rattle.lean.specs.Table.{entry, Whole}
 use Rattle.lean.proofs.KindLaws.{tiled-after}
 use Rattle.lean.proofs.DriverLaws.{rising, output-below, input-below, driver-out, pin-none, driver-in}
 use Rattle.lean.proofs.LeanLaws.{entry-root}
-use Rattle.trace_calculus.specs.Trace.{Source, pin, from, made-part as made-by, source, terminals}
+use Rattle.trace_calculus.specs.Trace.{Source, from, source, terminals}
 use Rattle.trace_theorems.proofs.Sources.{in-all, Decided, is-pin, is-wire, is-point, is-part, decided, at-wire, out-terminal}
-use Rattle.trace_theorems.proofs.Owners.{start, last, keep-in, in-keep, pin-map, FromRoot, lean-root}
+use Rattle.trace_theorems.proofs.Owners.{last, keep-in, in-keep, pin-map, lean-root}
 use Rattle.trace_steps.specs.Map.{pinsAt, kindsFrom, pointEntry}
-use Rattle.trace_steps.specs.Turns.{takeTurns}
-use Rattle.trace_steps.specs.Names.{namedOutputs, NamesStand, Namable}
-use Rattle.trace_steps.specs.Links.{linkOf, linkIn, linkOne, Linkable, Linked, rootedIn, pinOne, Rootable, Pinned}
+use Rattle.trace_steps.specs.Names.{NamesStand}
+use Rattle.trace_steps.specs.Links.{Linkable, Linked, rootedIn, Rootable, Pinned}
 use Rattle.trace_steps.proofs.LinkLaws.{link-none, link-driver, link-kind}
 use Rattle.trace.specs.Tables.{TableEntry, of-pin, of-wire, of-point, of-part, Tabled, KeptRoots}
 use Rattle.trace.proofs.ElementLaws.{out-in, in-out, made-within, within-made, in-terminal, terminal-in, input-not-out}

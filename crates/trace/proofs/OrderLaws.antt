@@ -1,6 +1,6 @@
 -- Sweeps: what is settled looks at what is free or was settled before; in the end all is settled, or each that is left waits for another that is left.
 -- Assumes nothing.
-use Prim.Native.Nat.{ℕ, zero, suc, _+_, _-_, _*_, _≤_, _<_}
+use Prim.Native.Nat.{ℕ, zero, suc, _+_, _-_, _≤_, _<_}
 use mathlib.Core.Path.{_≡_, refl, sym, ap, _∙_, subst}
 use mathlib.Core.Logic.{_⊎_, inl, inr, ⊎-elim}
 use mathlib.Core.Bool.{Bool, true, false, cond, _&&_}
@@ -10,13 +10,12 @@ use native.Mathlib.Decide.{ℕ-discrete, decLe}
 use lib.ListN.{length, getD, set, length-set}
 use lib.Seq.{getD-set-same}
 use lib.Dec.{T, eqb, ltb, eqb→eq}
-use borrow.Author.Tests.{eq-eqb, ne-eqb, eqb-false}
-use Rattle.laws.proofs.Tests.{and-both, T-is}
+use borrow.Author.Tests.{eqb-false}
+use Rattle.laws.proofs.Tests.{and-both}
 use Rattle.memory.specs.Map.{memorySize}
 use Rattle.trace_steps.specs.Map.{restAt, orderAt, pinsAt, bitsAt, bitsEnd, inverterEntry}
-use Rattle.trace_steps.specs.Turns.{takeTurns}
-use Rattle.trace_steps.specs.Steps.{lit, firstIn, inputBit, readyIn, Looks}
-use Rattle.trace_steps.specs.Sweeps.{settleAt, Sweep, sweeping, sweepAt, sweepOne, sweepAll, sweeps}
+use Rattle.trace_steps.specs.Steps.{lit, firstIn, readyIn, Looks}
+use Rattle.trace_steps.specs.Sweeps.{settleAt, Sweep, sweeping, sweepOne, sweepAll, sweeps}
 use Rattle.trace_steps.proofs.Laws.{first-low, set-other}
 use Rattle.trace_rings.specs.Rings.{mark, rest, met, InputOf}
 use Rattle.trace.proofs.Turning.{turns-keep}

@@ -1,8 +1,8 @@
 -- The pins by number and as a list: how many are inputs, which is which. Assumes nothing.
-use Prim.Native.Nat.{ℕ, zero, suc, _+_, _/_, _%_, _≤_, _<_}
+use Prim.Native.Nat.{ℕ, zero, suc, _+_, _/_, _≤_, _<_}
 use mathlib.Core.Path.{_≡_, refl, sym, ap, _∙_, subst}
 use mathlib.Core.Logic.{_⊎_, inl, inr, ⊎-elim}
-use mathlib.Core.Bool.{Bool, true, false, cond, _||_}
+use mathlib.Core.Bool.{Bool, true, false, cond}
 use mathlib.Core.List.{List, [], _∷_, _++_, map}
 use native.Mathlib.Omega.{arith}
 use native.Mathlib.Decide.{ℕ-discrete}
@@ -12,7 +12,7 @@ use lib.Seq.{getD-append-add, drop-cons}
 use lib.Dec.{T, eqb, eqb→eq, eqb-refl}
 use Rattle.laws.proofs.Regions.{region-join}
 use Rattle.laws.proofs.Tests.{or-elim, or-left, or-right}
-use Rattle.calculus.specs.Net.{Terminal, inp, out, Interface, Element, Net}
+use Rattle.calculus.specs.Net.{inp, out, Interface, Element, Net}
 use Rattle.calculus.specs.Lean.{isPin}
 use Rattle.calculus.specs.Record.{Bits, All}
 use Rattle.calculus.specs.Inputs.{isOut}

@@ -1,22 +1,20 @@
 -- The registers by rising output, as the memory lists them and as the definition does. Assumes nothing.
 use Prim.Native.Nat.{ℕ, zero, suc, _+_, _≤_, _<_}
 use mathlib.Core.Path.{_≡_, refl, sym, ap, _∙_, subst}
-use mathlib.Core.Logic.{_⊎_, inl, inr, ⊎-elim}
-use mathlib.Core.Bool.{Bool, true, false, cond, _||_}
+use mathlib.Core.Logic.{_⊎_, ⊎-elim}
+use mathlib.Core.Bool.{Bool, true, false, cond}
 use mathlib.Core.List.{List, [], _∷_, _++_, map}
 use native.Mathlib.Omega.{arith}
-use native.Mathlib.Decide.{ℕ-discrete, decLe}
+use native.Mathlib.Decide.{ℕ-discrete}
 use lib.ListN.{length, getD, set, length-set, length-append, length-map}
 use lib.Seq.{getD-set-same, getD-append-add}
 use lib.Dec.{T, eqb, eqb→eq, eqb-refl}
-use borrow.Author.Tests.{eq-eqb, eqb-false}
+use borrow.Author.Tests.{eqb-false}
 use Rattle.laws.proofs.Tests.{or-elim, or-left, or-right}
 use Rattle.calculus.specs.Terms.{partAt}
 use Rattle.calculus.specs.Net.{Element, point, part, Net}
-use Rattle.calculus.specs.Inputs.{isOut, madeAt}
-use Rattle.calculus.specs.Record.{Among, here, there}
+use Rattle.calculus.specs.Record.{Among, there}
 use Rattle.circuit_theorems.specs.Terminals.{has}
-use Rattle.circuit_theorems.specs.Formed.{Rising, Formed}
 use Rattle.trace_calculus.specs.Trace.{terminals, registers, place}
 use Rattle.trace_theorems.proofs.Sources.{has-append, has-left, has-right, out-terminal}
 use Rattle.memory.specs.Map.{memorySize, kindNumber}

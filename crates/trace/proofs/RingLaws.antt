@@ -7,10 +7,10 @@ use mathlib.Core.Bool.{Bool, true, false, cond, _&&_, _||_}
 use mathlib.Core.List.{List, [], _∷_}
 use native.Mathlib.Omega.{arith}
 use native.Mathlib.Decide.{ℕ-discrete, decLe}
-use lib.ListN.{length, getD}
+use lib.ListN.{getD}
 use lib.Dec.{T, eqb, ltb, eqb→eq, eqb-refl}
 use borrow.Author.Tests.{eq-eqb, ne-eqb, eqb-false}
-use Rattle.laws.proofs.Tests.{or-elim, or-left, or-right, T-is, and-of, and-both}
+use Rattle.laws.proofs.Tests.{or-elim, or-left, or-right, and-of, and-both}
 use Rattle.calculus.specs.Answer.{Answer, good, refused, refuse}
 use Rattle.calculus.specs.Net.{Element, point, part, Net}
 use Rattle.calculus.specs.Terms.{partAt}
@@ -20,18 +20,17 @@ use Rattle.circuit_theorems.specs.Terminals.{has}
 use Rattle.circuit_theorems.specs.Formed.{Formed}
 use Rattle.trace_calculus.specs.Trace.{Source, from, source, looks, before, terminals, upFrom, inputs, rounds, OnRing, onRing, noneOnRing, bitByte}
 use Rattle.trace_theorems.proofs.Graph.{Back, last, step, longer, settled, settled-up, settled-free, allOf, all-at, all-settled, reach-back}
-use Rattle.trace_theorems.proofs.Sources.{closed, terminal-is, out-terminal, at-pin, Decided, is-pin, is-wire, is-point, is-part, decided, in-all, looks-at, has-left, has-right, has-append, up-has, has-up}
-use Rattle.trace_theorems.proofs.TraceRings.{on-ring, back-ring, runs-iff, accepted, Lowest, ring-place}
+use Rattle.trace_theorems.proofs.Sources.{closed, terminal-is, out-terminal, Decided, is-pin, is-wire, is-point, is-part, decided, in-all, looks-at, has-left, has-right, has-append, up-has, has-up}
+use Rattle.trace_theorems.proofs.TraceRings.{on-ring, back-ring, runs-iff, accepted, ring-place}
 use Rattle.trace_theorems.proofs.Owners as owners
 use Rattle.circuit_theorems.proofs.Terminals.{each-target}
 use Rattle.trace_steps.specs.Map.{kindsFrom, registerEntry, inverterEntry, oneEntry, pointEntry}
-use Rattle.trace_steps.specs.Steps.{lit, firstIn, readyIn, freeIn, Looks}
-use Rattle.trace_steps.proofs.Laws.{first-low}
+use Rattle.trace_steps.specs.Steps.{lit, firstIn, freeIn}
 use Rattle.trace_steps.proofs.SweepLaws.{looks-table}
-use Rattle.trace_rings.specs.Rings.{mark, rest, met, InputOf, Behind, first, further, Rest, Fresh, OnNoRing, First, here, none}
+use Rattle.trace_rings.specs.Rings.{mark, rest, met, InputOf, Behind, first, further, Rest, Fresh, First, here, none}
 use Rattle.trace.specs.Tables.{Tabled, Looking}
-use Rattle.trace.proofs.ElementLaws.{in-terminal, terminal-in, made-within, within-made, input-not-out}
-use Rattle.trace.proofs.GateLaws.{Input, at-a-pin, at-a-wire, input, input-low, input-before, Gate, one, two, gate-at, input-made, gate-looks, before-input, input-look, out-cases}
+use Rattle.trace.proofs.ElementLaws.{in-terminal, made-within, within-made, input-not-out}
+use Rattle.trace.proofs.GateLaws.{Input, at-a-pin, at-a-wire, input, input-low, input-before, Gate, gate-at, input-made, gate-looks, before-input, input-look, out-cases}
 use Rattle.trace.proofs.OrderLaws.{OrderStart, Stage, End}
 
 ring-back : (m : Net) (ok : Formed m) (x : ℕ) → OnRing m x → Back (before m) x x

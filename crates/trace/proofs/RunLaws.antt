@@ -3,15 +3,13 @@ use Prim.Native.Nat.{ℕ, zero, suc, _+_, _-_, _*_, _/_, _%_, _≤_, _<_}
 use mathlib.Core.Path.{_≡_, refl, sym, ap, _∙_, subst}
 use mathlib.Core.Logic.{_⊎_, inl, inr, ⊎-elim}
 use mathlib.Core.Bool.{Bool, true, false, cond, not, _&&_, _||_, xor}
-use mathlib.Core.List.{List, [], _∷_, _++_, append-assoc}
+use mathlib.Core.List.{List, [], _∷_, _++_}
 use native.Mathlib.Omega.{arith}
-use native.Mathlib.Decide.{ℕ-discrete, decLe}
-use native.Mathlib.Nat.{suc-mul}
-use lib.ListN.{length, getD, set, length-append}
+use native.Mathlib.Decide.{ℕ-discrete}
+use lib.ListN.{length, getD, set}
 use lib.Seq.{sets}
-use lib.Dec.{T, eqb, ltb, eqb→eq}
-use borrow.Author.Tests.{eq-eqb, ne-eqb}
-use Rattle.laws.proofs.Tests.{T-is, is-false}
+use lib.Dec.{T, eqb}
+use Rattle.laws.proofs.Tests.{T-is}
 use Rattle.laws.proofs.Regions.{sets-append}
 use Rattle.calculus.specs.Terms.{partAt}
 use Rattle.calculus.specs.Net.{Interface, Element, point, part, Net}
@@ -24,14 +22,14 @@ use Rattle.circuit_theorems.proofs.Terminals.{pin-ins}
 use Rattle.memory.specs.Map.{memorySize}
 use Rattle.lean.specs.Table.{Within, entry}
 use Rattle.lean.proofs.TableLaws.{within-none, within-then, within-set, entry-same, entry-other}
-use Rattle.trace_calculus.specs.Trace.{Source, pin, from, made-part as made-by, source, terminals, bit, gate, run, OnRing, inPins, outPins, registers, place, givenBits, startBits, bitByte, row, rows}
+use Rattle.trace_calculus.specs.Trace.{Source, pin, from, made-part as made-by, source, terminals, bit, gate, run, OnRing, inPins, outPins, registers, place, givenBits, startBits, bitByte, row}
 use Rattle.trace_theorems.proofs.Sources.{at-pin, at-point, at-part, out-terminal, terminal-is}
 use Rattle.trace_theorems.proofs.TraceRun.{heldAt, tick-is}
-use Rattle.trace_theorems.proofs.Owners.{start, last}
+use Rattle.trace_theorems.proofs.Owners.{last}
 use Rattle.trace_steps.specs.Map.{registersAt, orderAt, pinsAt, bitsAt, kindsFrom, registerEntry, oneEntry, pointEntry}
 use Rattle.trace_steps.specs.Turns.{takeTurns}
-use Rattle.trace_steps.specs.Steps.{lit, firstIn, gateBit, passOne, Register, Registers, holdOne, turnOne}
-use Rattle.trace_steps.specs.Pins.{Counted, counted, pinIsIn, inPinCount, outPinCount, PinsLow, loadOne, storeOne}
+use Rattle.trace_steps.specs.Steps.{lit, firstIn, gateBit, passOne, holdOne, turnOne}
+use Rattle.trace_steps.specs.Pins.{Counted, counted, pinIsIn, inPinCount, outPinCount, loadOne, storeOne}
 use Rattle.trace_steps.specs.Ticks.{InOrder, due, OrderAgrees}
 use Rattle.trace_steps.proofs.Laws.{first-two, first-one}
 use Rattle.trace_steps.proofs.PassLaws.{pass-agrees}
@@ -43,7 +41,7 @@ use Rattle.trace.proofs.Turning.{turns-keep}
 use Rattle.trace.proofs.ElementLaws.{in-out, within-made, in-terminal, made-within, input-not-out}
 use Rattle.trace.proofs.GateLaws.{Input, at-a-pin, at-a-wire, input, input-low}
 use Rattle.trace_theorems.proofs.Lending.{row-length}
-use Rattle.trace.proofs.PinLists.{pinAt, upTo, upto-is, ins-length, outs-length, in-place, pin-number, number-pin, place-is, pins-apart, row-snoc, out-last, out-same, out-shown}
+use Rattle.trace.proofs.PinLists.{pinAt, upTo, upto-is, outs-length, pin-number, number-pin, place-is, pins-apart, row-snoc, out-last, out-same, out-shown}
 use Rattle.trace.proofs.RegisterLists.{element-entry}
 
 -- what stands below the bits during a run

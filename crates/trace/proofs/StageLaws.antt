@@ -1,17 +1,17 @@
 -- From the table to an order, or to the lowest input on a ring: what each stage leaves is what the next one asks. Assumes nothing.
-use Prim.Native.Nat.{ℕ, zero, suc, _+_, _-_, _≤_, _<_}
+use Prim.Native.Nat.{ℕ, suc, _+_, _-_, _≤_, _<_}
 use mathlib.Core.Path.{_≡_, refl, sym, ap, _∙_, subst}
 use mathlib.Core.Logic.{_⊎_, inl, inr, ⊎-elim}
 use mathlib.Core.Bool.{Bool, true, false, cond, _||_}
 use mathlib.Core.List.{List, map}
 use native.Mathlib.Omega.{arith}
 use native.Mathlib.Decide.{ℕ-discrete, decLe}
-use lib.ListN.{length, getD, set, drop, length-drop}
+use lib.ListN.{length, getD, drop, length-drop}
 use lib.Seq.{ext-getD, getD-drop}
 use lib.Dec.{T, eqb, ltb}
 use Rattle.laws.proofs.Regions.{region-ext}
 use Rattle.calculus.specs.Answer.{Answer, good, refuse, _>>=_}
-use Rattle.calculus.specs.Net.{Interface, Element, Net}
+use Rattle.calculus.specs.Net.{Interface, Net}
 use Rattle.calculus.specs.Lean.{lean}
 use Rattle.calculus.specs.Translate.{saidOf, outOf}
 use Rattle.circuit_theorems.proofs.Terminals.{pin-ins}
@@ -22,25 +22,23 @@ use Rattle.circuit_theorems.specs.Formed.{Shown}
 use Rattle.trace_theorems.proofs.Sources.{out-terminal}
 use Rattle.trace_steps.specs.Map.{restAt, pinsAt, bitsAt, kindsFrom, registerEntry, inverterEntry, oneEntry, pointEntry}
 use Rattle.trace_steps.specs.Pins.{pinIsIn}
-use Rattle.memory.specs.Map.{rootsAt, memorySize, region, terminalOf, netIn}
-use Rattle.calculus.specs.NetRead.{Known}
+use Rattle.memory.specs.Map.{rootsAt, memorySize, terminalOf, netIn}
 use Rattle.circuit_theorems.specs.Terminals.{has}
 use Rattle.netlist.proofs.InMemory.{kind-here}
-use Rattle.lean.specs.Table.{Within, entry, Whole, Leaned}
+use Rattle.lean.specs.Table.{Within, Leaned}
 use Rattle.lean.proofs.TableLaws.{within-none, within-then, within-set, entry-same, entry-other}
 use Rattle.lean.proofs.LeanLaws.{kinds-low}
-use Rattle.trace_calculus.specs.Trace.{terminals, inputs, OnRing, noneOnRing, bitByte, ran}
+use Rattle.trace_calculus.specs.Trace.{terminals, inputs, noneOnRing, bitByte, ran}
 use Rattle.trace_theorems.proofs.TraceRings.{accepted}
 use Rattle.trace_steps.specs.Turns.{takeTurns, Looped}
-use Rattle.trace_steps.specs.Steps.{firstIn, freeIn, markOne, Looks, Ordered, Register}
+use Rattle.trace_steps.specs.Steps.{firstIn, freeIn, markOne, Looks, Register}
 use Rattle.trace_steps.specs.Names.{Namable, NamesStand}
 use Rattle.trace_steps.specs.Links.{Linked, Pinned}
-use Rattle.trace_steps.specs.Sweeps.{sweeping, Sweepable, sweeps, AllSwept}
-use Rattle.trace_steps.specs.Pins.{PinsLow, Listable}
+use Rattle.trace_steps.specs.Sweeps.{Sweepable, sweeps, AllSwept}
 use Rattle.trace_steps.specs.Ticks.{InOrder}
 use Rattle.trace_steps.proofs.Laws.{first-low}
 use Rattle.trace_steps.proofs.SweepLaws.{looks-table}
-use Rattle.trace_rings.specs.Lists.{looksIn, Choosable, Chosen}
+use Rattle.trace_rings.specs.Lists.{Choosable, Chosen}
 use Rattle.trace_rings.specs.Rings.{mark, rest, met, InputOf, Rest, Fresh, RingFound}
 use Rattle.trace.specs.Tables.{TableEntry, Tabled, KeptRoots, Looking}
 use Rattle.translator.specs.Made.{Keeps}

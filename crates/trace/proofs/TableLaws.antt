@@ -1,44 +1,33 @@
 -- Naming, linking and rooting, one after the other, leave the table of the lean netlist. Assumes nothing.
 use Prim.Native.Nat.{ℕ, zero, suc, _+_, _*_, _/_, _%_, _≤_, _<_}
 use mathlib.Core.Path.{_≡_, refl, sym, ap, _∙_, subst}
-use mathlib.Core.Logic.{_⊎_, inl, inr, ⊎-elim}
+use mathlib.Core.Logic.{_⊎_, ⊎-elim}
 use mathlib.Core.Bool.{Bool, true, false, cond, _||_}
 use mathlib.Core.List.{List, [], _∷_, map}
 use native.Mathlib.Omega.{arith}
-use native.Mathlib.Decide.{ℕ-discrete, decLe}
-use lib.ListN.{length, getD, set, length-set, length-map, List·getD-map}
+use native.Mathlib.Decide.{ℕ-discrete}
+use lib.ListN.{length, getD, set, length-set, length-map}
 use lib.Seq.{getD-set-same, ext-getD}
-use lib.Dec.{T, eqb, ltb, eqb→eq}
-use borrow.Author.Tests.{eq-eqb, ne-eqb, lt-ltb, le-ltb, eqb-false}
-use Rattle.laws.proofs.Tests.{by-eqb, T-is, is-false, or-left, or-right, or-elim}
+use lib.Dec.{T, eqb, eqb→eq}
+use Rattle.laws.proofs.Tests.{by-eqb}
 use Rattle.laws.proofs.Regions.{region-length, region-at}
 use Rattle.calculus.specs.Terms.{partAt}
-use Rattle.calculus.specs.Net.{Terminal, inp, out, Interface, Element, point, part, Wire, Net}
-use Rattle.calculus.specs.Lean.{driver, isPin, root, kept, keep, leanPin, lean}
-use Rattle.calculus.specs.Record.{All, Among, here, there}
-use Rattle.calculus.specs.Inputs.{madeAt, isOut}
-use Rattle.circuit_theorems.specs.Formed.{Shown, Formed}
-use Rattle.circuit_theorems.proofs.Terminals.{made-high, made-one, out-high}
-use Rattle.circuit_theorems.proofs.Forming.{lean-formed}
-use Rattle.memory.specs.Map.{rootsAt, memorySize, region, kindNumber, elementsFrom, terminalOf, netIn, Ready}
-use Rattle.calculus.specs.NetRead.{Known}
-use Rattle.circuit_theorems.specs.Terminals.{has}
+use Rattle.calculus.specs.Net.{Element, point, part}
+use Rattle.calculus.specs.Lean.{lean}
+use Rattle.calculus.specs.Record.{Among}
+use Rattle.calculus.specs.Inputs.{isOut}
+use Rattle.memory.specs.Map.{rootsAt, memorySize, region, kindNumber, elementsFrom}
 use Rattle.netlist.specs.Elements.{after, afterAll}
 use Rattle.netlist.proofs.Elements.{after-rises}
 use Rattle.netlist.specs.Elements.{outputOf}
-use Rattle.lean.specs.Table.{entry, Whole}
-use Rattle.lean.proofs.KindLaws.{output-low, after-output, output-from, tiled-after}
-use Rattle.lean.proofs.DriverLaws.{rising, output-below, input-below, driver-out, pin-none, driver-in}
-use Rattle.lean.proofs.LeanLaws.{entry-root}
-use Rattle.trace_calculus.specs.Trace.{Source, pin, from, made-part as made-by, source, terminals}
-use Rattle.trace_theorems.proofs.Sources.{in-all, Decided, is-pin, is-wire, is-point, is-part, decided, at-wire, out-not-made, out-of-point, out-of-part, terminal-is, point-terminal, part-terminal, out-terminal}
-use Rattle.trace_theorems.proofs.Owners.{in-cons, keep-in, in-keep, pin-map, last, FromRoot, lean-root}
+use Rattle.lean.specs.Table.{entry}
+use Rattle.lean.proofs.KindLaws.{after-output, output-from}
+use Rattle.trace_theorems.proofs.Owners.{in-cons, last}
 use Rattle.trace_steps.specs.Map.{pinsAt, kindsFrom}
 use Rattle.trace_steps.specs.Turns.{takeTurns}
 use Rattle.trace_steps.specs.Names.{namedOutputs}
 use Rattle.trace_steps.specs.Links.{linkOf, linkIn, linkOne, rootedIn, pinOne}
 use Rattle.trace_steps.proofs.Laws.{set-other}
-use Rattle.trace.specs.Tables.{TableEntry, of-pin, of-wire, of-point, of-part, Tabled}
 use Rattle.trace.proofs.Turning.{turns-keep}
 
 -- ---- naming

@@ -1,6 +1,6 @@
 -- A loop over rising numbers keeps what each turn keeps. Assumes nothing.
-use Prim.Native.Nat.{ℕ, zero, suc, _+_, _≤_, _<_}
-use mathlib.Core.Path.{_≡_, refl, sym, ap, _∙_, subst}
+use Prim.Native.Nat.{ℕ, zero, suc, _+_, _<_}
+use mathlib.Core.Path.{_≡_, refl, ap, _∙_, subst}
 use native.Mathlib.Omega.{arith}
 use Rattle.trace_steps.specs.Turns.{takeTurns}
 use Rattle.trace_steps.proofs.Laws.{turns-next}

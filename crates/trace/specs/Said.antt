@@ -8,11 +8,8 @@ use lib.ListN.{length, getD}
 use Rattle.calculus.specs.Answer.{Answer, good, _>>=_, need}
 use Rattle.calculus.specs.Net.{Net}
 use Rattle.calculus.specs.Lean.{lean}
-use Rattle.calculus.specs.Record.{All}
 use Rattle.memory.specs.Map.{memorySize, netIn}
-use Rattle.calculus.specs.NetRead.{Known}
 use Rattle.circuit_theorems.specs.Terminals.{has}
-use Rattle.lean.specs.Table.{Whole}
 use Rattle.trace_calculus.specs.Trace.{OnRing, terminals, inPins, outPins, registers, allBits, run, givenBits, startBits, rows}
 use Rattle.trace_steps.specs.Map.{bitsEnd}
 use Rattle.trace_steps.specs.Steps.{Ordered}

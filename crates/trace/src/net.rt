@@ -7,7 +7,6 @@ use trace_rings::ring;
 use trace_steps::order;
 use translator::Answer;
 use wiring::Counts;
-ghost use mathlib.Core.Path.{_≡_};
 ghost use Prim.Native.Nat.{_≤_};
 ghost use lib.ListN.{length};
 ghost use Rattle.calculus.specs.Lean.{lean};

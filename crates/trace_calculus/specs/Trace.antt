@@ -2,12 +2,12 @@
 use Prim.Native.Nat.{ℕ, zero, suc, _+_, _*_, _<_, _≤_}
 use mathlib.Core.Path.{_≡_}
 use mathlib.Core.Bool.{Bool, true, false, cond, not, _&&_, _||_, xor}
-use mathlib.Core.List.{List, [], _∷_, _++_, map}
+use mathlib.Core.List.{List, [], _∷_, _++_}
 use lib.Dec.{T, eqb, leb}
 use lib.ListN.{length, getD}
 use Rattle.calculus.specs.Answer.{Answer, good, _>>=_, need}
 use Rattle.calculus.specs.Terms.{partAt}
-use Rattle.calculus.specs.Net.{Terminal, inp, out, Interface, Element, point, part, Wire, Net}
+use Rattle.calculus.specs.Net.{inp, out, Interface, Element, point, part, Wire, Net}
 use Rattle.calculus.specs.Lean.{driver, isPin, lean}
 use Rattle.calculus.specs.Inputs.{hasWire}
 use Rattle.calculus.specs.Record.{Bits, All, Among}

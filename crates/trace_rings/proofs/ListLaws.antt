@@ -9,10 +9,8 @@ use lib.ListN.{length, getD, set, length-set}
 use lib.Seq.{getD-set-same}
 use lib.Dec.{T, eqb, ltb, eqb→eq}
 use borrow.Author.Tests.{ltb-true, eq-eqb, ne-eqb, lt-ltb, le-ltb}
-use Rattle.laws.proofs.Tests.{T-is, and-both}
 use Rattle.memory.specs.Map.{rootsAt}
 use Rattle.trace_steps.specs.Map.{restAt, orderAt, kindsFrom, registerEntry, oneEntry, pointEntry}
-use Rattle.trace_steps.specs.Steps.{Looks}
 use Rattle.trace_steps.proofs.Laws.{set-other}
 use Rattle.trace_rings.specs.Lists.{looksIn, Choosable, Chosen}
 

@@ -20,7 +20,7 @@ use Rattle.trace_steps.specs.Steps.{firstIn, Looks}
 use Rattle.trace_steps.specs.Pins.{Counted, counted}
 use Rattle.trace_steps.proofs.Laws.{first-low, set-other}
 use Rattle.trace_steps.proofs.SweepLaws.{looks-table}
-use Rattle.trace_rings.specs.Rings.{mark, rest, met, InputOf, Behind, first, further, Rest, InputAmong, meetIn, lookIn, Fresh, Kept, Searched, SearchTold, OnNoRing, First, here, none, RingFound}
+use Rattle.trace_rings.specs.Rings.{mark, rest, met, InputOf, Behind, first, further, Rest, InputAmong, meetIn, lookIn, Fresh, Kept, Searched, SearchTold, OnNoRing, here, none, RingFound}
 
 pub kept-none : (w : List ℕ) → Kept w w
 kept-none w = record { size = refl; below = λ j l. refl; above = λ j l. refl }

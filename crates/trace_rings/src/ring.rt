@@ -5,7 +5,7 @@ use trace_steps::table::ORDER;
 use trace_steps::table::REST;
 ghost use mathlib.Core.Path.{_≡_};
 ghost use Prim.Native.Nat.{_+_, _≤_, _<_};
-ghost use lib.ListN.{length, getD};
+ghost use lib.ListN.{length};
 ghost use Rattle.memory.specs.Map.{memorySize};
 ghost use Rattle.trace_steps.specs.Steps.{Looks};
 ghost use Rattle.trace_steps.specs.Pins.{counted};

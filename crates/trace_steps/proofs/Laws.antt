@@ -6,15 +6,15 @@ use mathlib.Core.Bool.{Bool, true, false, cond, not, _&&_, _||_, xor, Bool·beq}
 use mathlib.Core.List.{List}
 use native.Mathlib.Omega.{arith}
 use native.Mathlib.Numerals.{add-one}
-use lib.ListN.{length, getD, set}
+use lib.ListN.{getD, set}
 use lib.Seq.{getD-set-other}
-use lib.Dec.{eqb, ltb}
+use lib.Dec.{ltb}
 use borrow.Author.Tests.{lt-ltb, le-ltb, eq-eqb, ne-eqb}
 use Rattle.lean.specs.Table.{Within}
 use Rattle.trace_calculus.specs.Trace.{bitByte}
 use Rattle.trace_steps.specs.Map.{registersAt, orderAt, bitsAt, kindsFrom, inverterEntry}
 use Rattle.trace_steps.specs.Turns.{takeTurns}
-use Rattle.trace_steps.specs.Steps.{firstIn, inputBit, readyIn, stepIn, gateBit, freeIn, Looks, Ordered, Register, Registers, holdOne, turnOne, wakeOne, passOne}
+use Rattle.trace_steps.specs.Steps.{firstIn, inputBit, readyIn, stepIn, gateBit, Looks, Ordered, Register, Registers, holdOne, turnOne, wakeOne, passOne}
 use Rattle.lean.proofs.TableLaws.{within-then, within-set}
 
 -- a store elsewhere

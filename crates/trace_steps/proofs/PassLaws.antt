@@ -1,8 +1,8 @@
 -- A pass over an order: afterwards every output of it agrees with what it looks at. Assumes nothing.
 use Prim.Native.Nat.{ℕ, zero, suc, _+_, _-_, _≤_, _<_}
 use mathlib.Core.Path.{_≡_, refl, sym, ap, _∙_, subst}
-use mathlib.Core.Logic.{_⊎_, inl, inr, ⊎-elim}
-use mathlib.Core.Bool.{Bool, cond}
+use mathlib.Core.Logic.{_⊎_, ⊎-elim}
+use mathlib.Core.Bool.{Bool}
 use mathlib.Core.List.{List}
 use native.Mathlib.Omega.{arith}
 use native.Mathlib.Nat.{eq-or-lt-of-le, le-of-suc-le-suc}
@@ -10,11 +10,11 @@ use lib.ListN.{length, getD, set}
 use lib.Dec.{eqb}
 use Rattle.memory.specs.Map.{memorySize}
 use Rattle.trace_calculus.proofs.Bytes.{byte-bit}
-use Rattle.lean.specs.Table.{Within, entry}
+use Rattle.lean.specs.Table.{Within}
 use Rattle.lean.proofs.TableLaws.{within-none, within-then, within-set, entry-same, entry-other}
 use Rattle.trace_steps.specs.Map.{orderAt, bitsAt, kindsFrom}
 use Rattle.trace_steps.specs.Turns.{takeTurns}
-use Rattle.trace_steps.specs.Steps.{lit, firstIn, inputBit, Looks, gateBit, stepIn, passOne, Ordered}
+use Rattle.trace_steps.specs.Steps.{lit, firstIn, inputBit, gateBit, passOne}
 use Rattle.trace_steps.specs.Ticks.{InOrder, due, OrderAgrees}
 use Rattle.trace_steps.proofs.Laws.{first-low, first-same, turns-next}
 

@@ -1,24 +1,21 @@
 -- Laws of the bits that are lent and written. Assumes nothing.
 use Prim.Native.Nat.{ℕ, zero, suc, _+_, _/_, _%_, _≤_, _<_}
-use mathlib.Core.Path.{_≡_, refl, sym, ap, _∙_, subst}
+use mathlib.Core.Path.{_≡_, sym, ap, _∙_, subst}
 use mathlib.Core.Bool.{Bool, true, false, cond, _&&_}
-use mathlib.Core.List.{List, [], _∷_}
+use mathlib.Core.List.{List, _∷_}
 use mathlib.Core.Logic.{⊎-elim}
 use native.Mathlib.Omega.{arith}
 use native.Mathlib.Numerals.{add-one}
-use native.Mathlib.Nat.{eq-or-lt-of-le, le-of-suc-le-suc, not-suc-le-zero}
+use native.Mathlib.Nat.{eq-or-lt-of-le, le-of-suc-le-suc}
 use lib.ListN.{length, getD, set, drop, length-set}
 use lib.Seq.{drop-cons}
-use lib.Dec.{eqb, leb}
 use borrow.Author.Tests.{eq-eqb, ne-eqb, le-leb, lt-leb}
 use Rattle.laws.proofs.Regions.{drop-past}
 use Rattle.trace_calculus.specs.Trace.{bitByte, allBits}
-use Rattle.lean.specs.Table.{Within}
 use Rattle.lean.proofs.TableLaws.{within-then, within-set}
 use Rattle.trace_steps.specs.Map.{pinsAt, bitsAt}
-use Rattle.trace_steps.specs.Turns.{takeTurns}
 use Rattle.trace_steps.specs.Steps.{lit}
-use Rattle.trace_steps.specs.Pins.{Counted, Loading, Storing, counted, pinIsIn, inPinCount, outPinCount, PinsLow, loadOne, storeOne}
+use Rattle.trace_steps.specs.Pins.{Loading, Storing, counted, pinIsIn, inPinCount, outPinCount, PinsLow, loadOne, storeOne}
 use Rattle.trace_steps.proofs.Laws.{turns-next}
 
 -- ---- counts

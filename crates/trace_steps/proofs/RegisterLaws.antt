@@ -10,7 +10,7 @@ use lib.Seq.{getD-set-same}
 use borrow.Author.Tests.{eq-eqb, ne-eqb}
 use Rattle.trace_steps.specs.Map.{registersAt, orderAt, registerEntry}
 use Rattle.trace_steps.specs.Turns.{takeTurns}
-use Rattle.trace_steps.specs.Steps.{Register, Registers}
+use Rattle.trace_steps.specs.Steps.{Register}
 use Rattle.trace_steps.specs.Pins.{counted, registerOne, Listable, RegistersListed}
 use Rattle.trace_steps.proofs.Laws.{turns-next, set-other}
 

@@ -1,21 +1,20 @@
 -- A tick, and ticks one after the other. Assumes nothing.
 use Prim.Native.Nat.{ℕ, zero, suc, _+_, _*_, _/_, _%_, _≤_, _<_}
 use mathlib.Core.Path.{_≡_, refl, sym, ap, _∙_, subst}
-use mathlib.Core.Bool.{Bool, cond}
+use mathlib.Core.Bool.{cond}
 use mathlib.Core.List.{List}
 use native.Mathlib.Omega.{arith}
 use native.Mathlib.Nat.{suc-mul, mul-le-mul-right}
 use native.Mathlib.Numerals.{add-one}
-use lib.ListN.{length, getD}
 use lib.Dec.{eqb}
 use Rattle.lean.specs.Table.{Within}
 use Rattle.lean.proofs.TableLaws.{within-then}
 use Rattle.trace_steps.specs.Map.{pinsAt}
 use Rattle.trace_steps.specs.Turns.{takeTurns, Looped}
 use Rattle.trace_steps.specs.Steps.{Ordered, Registers, passOne, holdOne, turnOne}
-use Rattle.trace_steps.specs.Pins.{Counted, counted, pinIsIn, inPinCount, outPinCount, PinsLow, loadOne, storeOne, Loading, Storing}
-use Rattle.trace_steps.specs.Ticks.{Sizes, sizes, lighted, ticked, shownBits, Runs, Ticked, Running, running, tickOne, Ran}
-use Rattle.trace_steps.proofs.Laws.{looks-within, register-within, ordered-at, register-at, turns-next}
+use Rattle.trace_steps.specs.Pins.{Counted, counted, inPinCount, outPinCount, PinsLow, loadOne, storeOne, Loading, Storing}
+use Rattle.trace_steps.specs.Ticks.{Sizes, sizes, lighted, ticked, shownBits, Runs, Ticked, running, tickOne, Ran}
+use Rattle.trace_steps.proofs.Laws.{ordered-at, register-at, turns-next}
 
 -- ---- what stays where nothing below the bits changes
 

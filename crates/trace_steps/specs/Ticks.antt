@@ -8,7 +8,7 @@ use Rattle.lean.specs.Table.{Within}
 use Rattle.trace_steps.specs.Map.{orderAt, bitsAt, kindsFrom}
 use Rattle.trace_steps.specs.Turns.{takeTurns}
 use Rattle.trace_steps.specs.Steps.{lit, firstIn, gateBit, Ordered, Registers, passOne, holdOne, turnOne}
-use Rattle.trace_steps.specs.Pins.{Counted, counted, PinsLow, inPinCount, outPinCount, loadOne, storeOne}
+use Rattle.trace_steps.specs.Pins.{counted, PinsLow, inPinCount, outPinCount, loadOne, storeOne}
 
 -- how many outputs the order has, how many registers and pins there are
 pub record Sizes : Type 0 where

@@ -5,7 +5,7 @@ use crate::table::ORDER;
 use crate::table::REST;
 ghost use mathlib.Core.Path.{_≡_};
 ghost use Prim.Native.Nat.{_+_, _≤_, _<_};
-ghost use lib.ListN.{length, getD, set};
+ghost use lib.ListN.{length, set};
 ghost use Rattle.memory.specs.Map.{memorySize};
 ghost use Rattle.trace_steps.specs.Map.{restAt};
 ghost use Rattle.trace_steps.specs.Steps.{Looks, readyIn, freeIn, markOne};

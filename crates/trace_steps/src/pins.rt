@@ -4,7 +4,7 @@ use crate::table::BITS;
 use crate::table::PINS;
 ghost use mathlib.Core.Path.{_≡_};
 ghost use Prim.Native.Nat.{_+_, _≤_, _<_};
-ghost use lib.ListN.{length, getD, set};
+ghost use lib.ListN.{length, set};
 ghost use Rattle.memory.specs.Map.{memorySize};
 ghost use Rattle.trace_calculus.specs.Trace.{bitByte as bit, allBits};
 ghost use Rattle.trace_steps.specs.Map.{bitsAt};

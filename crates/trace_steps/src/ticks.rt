@@ -7,7 +7,7 @@ use crate::table::ORDER;
 use crate::table::REGISTERS;
 ghost use mathlib.Core.Path.{_≡_};
 ghost use Prim.Native.Nat.{_+_, _≤_, _<_};
-ghost use lib.ListN.{length, getD};
+ghost use lib.ListN.{length};
 ghost use Rattle.memory.specs.Map.{memorySize};
 ghost use Rattle.trace_steps.specs.Steps.{Looks, gateBit, stepIn, Ordered, passOne, Register, Registers, holdAt, turnAt, wakeOne, holdOne, turnOne, beginOne};
 ghost use Rattle.trace_steps.specs.Turns.{Looped};

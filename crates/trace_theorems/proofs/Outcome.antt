@@ -8,12 +8,12 @@ use lib.Dec.{T, eqb, leb, eqb→eq, leb→le}
 use lib.ListN.{length, drop}
 use borrow.Author.Tests.{eq-eqb, le-leb, leb-false}
 use Rattle.laws.proofs.Tests.{and-both, and-of}
-use Rattle.calculus.specs.Answer.{Refusal, Answer, good, refused, _>>=_, numbered, refuse, need}
+use Rattle.calculus.specs.Answer.{Refusal, Answer, good, refused, _>>=_, refuse, need}
 use Rattle.calculus.specs.Net.{Net}
-use Rattle.calculus.specs.Record.{Bits, All}
+use Rattle.calculus.specs.Record.{All}
 use Rattle.circuit_theorems.specs.Formed.{Formed}
 use Rattle.trace_calculus.specs.Trace.{noneOnRing, inputs, run, inPins, outPins, registers, givenBits, startBits, rows, allBits, ran}
-use Rattle.trace_calculus.specs.Promise.{Recorded, Traced, Ringless, LowestOnRing, ExactBits, Needs}
+use Rattle.trace_calculus.specs.Promise.{Traced, Ringless, LowestOnRing, ExactBits, Needs}
 use Rattle.trace_theorems.proofs.Lists.{has-in, in-has}
 use Rattle.trace_theorems.proofs.Lending.{rows-length, recorded-has, has-recorded}
 use Rattle.trace_theorems.proofs.TraceRings.{Lowest, ring-place, accepted}

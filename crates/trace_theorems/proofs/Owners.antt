@@ -1,27 +1,25 @@
 -- An input belongs to one element; a lean wire comes from the root of what drives its target; the first input on a ring is refused. Assumes nothing.
-use Prim.Native.Nat.{ℕ, zero, suc, _+_, _<_, _≤_}
+use Prim.Native.Nat.{ℕ, zero, suc, _+_, _≤_}
 use mathlib.Core.Path.{_≡_, refl, sym, ap, _∙_, subst}
 use mathlib.Core.Logic.{_⊎_, inl, inr, ⊎-elim}
 use mathlib.Core.Bool.{Bool, true, false, cond, not, _&&_, _||_}
 use mathlib.Core.List.{List, [], _∷_, _++_, map}
-use native.Mathlib.Nat.{le-refl}
 use native.Mathlib.Omega.{arith}
 use lib.Dec.{T, eqb, eqb→eq, eqb-refl}
 use Rattle.calculus.specs.Answer.{Refusal, Answer, good, refused, refuse}
 use Rattle.calculus.specs.Terms.{partAt}
-use Rattle.calculus.specs.Net.{Terminal, inp, out, Interface, Element, point, part, Wire, Net}
+use Rattle.calculus.specs.Net.{inp, out, Interface, Element, point, part, Wire, Net}
 use Rattle.calculus.specs.Lean.{driver, isPin, root, kept, keep, toInputs, toElement, leanWires, leanPin, lean}
-use Rattle.calculus.specs.Inputs.{isOut}
 use Rattle.calculus.specs.Record.{Among, here, there}
 use Rattle.circuit_theorems.specs.Terminals.{has}
 use Rattle.circuit_theorems.specs.Formed.{Rising, Formed}
 use Rattle.trace_calculus.specs.Trace.{OnRing, inputs, noneOnRing}
-use Rattle.laws.proofs.Tests.{by-eqb, or-left, or-right, or-elim, is-false, and-both, not-true}
+use Rattle.laws.proofs.Tests.{or-left, or-right}
 use Rattle.circuit_theorems.proofs.Terminals.{pointIn}
 use Rattle.circuit_theorems.proofs.BackLaws.{point-root}
 use Rattle.circuit_theorems.proofs.Terminals.{driver-any, no-ins, point-made}
 use Rattle.trace_theorems.proofs.Sources.{point-low, part-from}
-use Rattle.trace_theorems.proofs.TraceRings.{accepted, Lowest, ring-place}
+use Rattle.trace_theorems.proofs.TraceRings.{accepted, ring-place}
 
 -- ---- the element that has a terminal
 

@@ -3,24 +3,23 @@
 use Prim.Native.Nat.{ℕ, zero, suc, _+_, _-_, _<_, _≤_}
 use mathlib.Core.Path.{_≡_, refl, sym, ap, _∙_, subst}
 use mathlib.Core.Logic.{_⊎_, inl, inr, ⊎-elim}
-use mathlib.Core.Bool.{Bool, true, false, cond, not, _&&_, _||_}
+use mathlib.Core.Bool.{Bool, true, false, cond, _||_}
 use mathlib.Core.List.{List, [], _∷_, _++_}
-use native.Mathlib.Nat.{not-suc-le-zero, le-of-suc-le-suc, le-refl, eq-or-lt-of-le, add-zero}
+use native.Mathlib.Nat.{le-refl}
 use native.Mathlib.Decide.{decLe}
 use native.Mathlib.Omega.{arith}
 use lib.Dec.{T, eqb, eqb→eq, eqb-refl}
-use lib.ListN.{length}
 use Rattle.calculus.specs.Terms.{partAt}
-use Rattle.calculus.specs.Net.{Terminal, inp, out, Interface, Element, point, part, Wire, Net, partSide}
+use Rattle.calculus.specs.Net.{Element, point, part, Wire, Net, partSide}
 use Rattle.calculus.specs.Lean.{driver, isPin}
 use Rattle.calculus.specs.Record.{All, Among, here, there}
 use Rattle.trace_calculus.specs.Trace.{Source, pin, from, made-part as made-by, sourceAmong, source, looks, before, upFrom, terminals, inputs}
-use Rattle.calculus.specs.Inputs.{tally, ins, madeAt, targets, isOut, hasWire}
+use Rattle.calculus.specs.Inputs.{ins, madeAt, targets, isOut, hasWire}
 use Rattle.circuit_theorems.specs.Terminals.{has}
 use Rattle.circuit_theorems.specs.Formed.{Rising, Formed}
 use Rattle.laws.proofs.Tests.{by-eqb, or-elim, or-left, or-right, is-false, T-is}
 use Rattle.circuit_theorems.proofs.Terminals.{out-low, made-low, each-target, unique, pin-ins, ins-pin}
-use Rattle.circuit_theorems.proofs.Wiring.{input-once, target-one, pin-undriven}
+use Rattle.circuit_theorems.proofs.Wiring.{input-once, target-one}
 
 -- ---- members
 

@@ -2,20 +2,18 @@
 use Prim.Native.Nat.{ℕ, zero, suc, _+_, _-_, _<_, _≤_}
 use mathlib.Core.Path.{_≡_, refl, sym, ap, _∙_, subst}
 use mathlib.Core.Logic.{_⊎_, inl, inr, ⊎-elim, _↔_}
-use mathlib.Core.Bool.{Bool, true, false, cond, not, _&&_, _||_}
+use mathlib.Core.Bool.{Bool, true, false, cond, not, _||_}
 use mathlib.Core.List.{List, [], _∷_, _++_}
 use native.Mathlib.Nat.{le-refl}
 use native.Mathlib.Omega.{arith}
 use native.Mathlib.Decide.{decLe}
 use lib.Dec.{T, eqb, eqb→eq, eqb-refl}
-use lib.ListN.{length}
-use Rattle.calculus.specs.Answer.{Refusal, Answer, good, refused, _>>=_, numbered, need}
+use Rattle.calculus.specs.Answer.{Refusal, good, refused, _>>=_, numbered, need}
 use Rattle.calculus.proofs.Answers.{refused≢good, refused-inj}
 use Rattle.calculus.specs.Terms.{partAt}
-use Rattle.calculus.specs.Net.{partSide, Element, point, part, Wire, Net}
-use Rattle.calculus.specs.Lean.{driver, isPin}
-use Rattle.calculus.specs.Record.{All, Among, here, there}
-use Rattle.trace_calculus.specs.Trace.{Feeds, by-wire, by-point, by-gate, Leads, one-step, then, OnRing, Source, pin, from, made-part as made-by, source, looks, before, upFrom, terminals, inputs, rounds, reach, onRing, noneOnRing}
+use Rattle.calculus.specs.Net.{partSide, Element, point, part, Net}
+use Rattle.calculus.specs.Record.{Among, here, there}
+use Rattle.trace_calculus.specs.Trace.{Feeds, by-wire, by-point, by-gate, Leads, one-step, then, OnRing, Source, from, looks, before, upFrom, terminals, inputs, rounds, onRing, noneOnRing}
 use Rattle.calculus.specs.Inputs.{ins, madeAt, targets}
 use Rattle.circuit_theorems.specs.Terminals.{has}
 use Rattle.circuit_theorems.specs.Formed.{Rising, Formed}
@@ -23,7 +21,7 @@ use Rattle.laws.proofs.Tests.{by-eqb, or-left, or-right, or-elim}
 use Rattle.circuit_theorems.proofs.Terminals.{each-target}
 use Rattle.trace_theorems.proofs.Lists.{Up, up-low, up-weaken}
 use Rattle.trace_theorems.proofs.Graph.{Back, last, step, longer, reach-back, back-reach}
-use Rattle.trace_theorems.proofs.Sources.{in-all, at-point, at-part, at-wire, Decided, is-pin, is-wire, is-point, is-part, decided, closed, looks-at, at-looks, ins-range, has-left, has-right, has-append, up-has, has-up, terminal-is, out-terminal, part-terminal, point-terminal}
+use Rattle.trace_theorems.proofs.Sources.{in-all, at-point, at-part, at-wire, Decided, is-pin, is-wire, is-point, is-part, decided, closed, looks-at, at-looks, ins-range, has-left, has-right, up-has}
 
 -- ---- the relation and the table of looks say the same
 

@@ -1,22 +1,19 @@
 -- The run of a formed netlist without rings is a possible record with the bits and starts given, and the only one. Assumes nothing.
-use Prim.Native.Nat.{ℕ, zero, suc, _+_, _-_, _<_, _≤_}
+use Prim.Native.Nat.{ℕ, zero, suc, _+_, _-_, _<_}
 use mathlib.Core.Path.{_≡_, refl, sym, ap, ap₂, _∙_, subst}
-use mathlib.Core.Logic.{_⊎_, inl, inr, ⊎-elim}
-use mathlib.Core.Bool.{Bool, true, false, cond, not, _&&_, _||_, xor}
-use mathlib.Core.List.{List, [], _∷_, _++_}
+use mathlib.Core.Bool.{Bool, not, _&&_, _||_, xor}
+use mathlib.Core.List.{List, [], _∷_}
 use native.Mathlib.Nat.{le-refl}
 use native.Mathlib.Omega.{arith}
 use lib.Dec.{T, eqb, eqb→eq, eqb-refl}
-use lib.ListN.{length}
 use Rattle.calculus.specs.Terms.{partAt}
-use Rattle.calculus.specs.Net.{Element, point, part, Wire, Net}
-use Rattle.calculus.specs.Lean.{driver, isPin}
-use Rattle.calculus.specs.Record.{Bits, All, streams, Delayed, partLaw, Works, Joined, Possible, Among, here, there}
+use Rattle.calculus.specs.Net.{Element, point, part, Net}
+use Rattle.calculus.specs.Record.{Bits, streams, Delayed, partLaw, Works, Joined, Possible, Among}
 use Rattle.circuit_theorems.specs.Terminals.{has}
 use Rattle.circuit_theorems.specs.Formed.{Formed}
 use Rattle.trace_calculus.specs.Trace.{StartsWith, Has, OnRing, Source, pin, from, made-part as made-by, source, looks, before, terminals, rounds, gate, bit, settle, tick, run}
 use Rattle.laws.proofs.Tests.{or-left, or-right}
-use Rattle.trace_theorems.proofs.Graph.{Back, settled, all-at, all-settled}
+use Rattle.trace_theorems.proofs.Graph.{settled, all-at, all-settled}
 use Rattle.trace_theorems.proofs.Sources.{all-in, in-all, at-point, at-part, at-wire, at-pin, Decided, is-pin, is-wire, is-point, is-part, decided, closed, part-terminal}
 use Rattle.trace_theorems.proofs.TraceRings.{back-ring}
 

@@ -9,12 +9,12 @@ use native.Mathlib.Omega.{arith}
 use lib.Dec.{leb}
 use lib.ListN.{length}
 use borrow.Author.Tests.{le-leb}
-use Rattle.calculus.specs.Answer.{Refusal, Answer, good, refused, _>>=_, numbered, need}
+use Rattle.calculus.specs.Answer.{Refusal, Answer, good, refused, _>>=_, need}
 use Rattle.calculus.proofs.Answers.{refused≢good, refused-inj}
 use Rattle.calculus.specs.Net.{Net}
 use Rattle.calculus.specs.Lean.{lean}
 use Rattle.calculus.specs.Makers.{makersOf}
-use Rattle.calculus.specs.Translate.{full, Wish, askedBytes, answer, saidOf, outOf, workOf, Call, call}
+use Rattle.calculus.specs.Translate.{full, Wish, askedBytes, answer, saidOf, outOf, workOf, call}
 use Rattle.export_calculus.specs.Card.{onCard}
 use Rattle.export_calculus.specs.CardCall.{cardAnswer, cardCall}
 use Rattle.export_theorems.specs.Broken.{Breaks, Broken, root-type, ring, unread}

@@ -7,7 +7,7 @@ use lib.Dec.{leb, leb→le}
 use lib.ListN.{length, drop}
 use lib.Seq.{take-at}
 use borrow.Author.Tests.{lt-leb, le-leb}
-use Rattle.calculus.specs.Answer.{Answer, good, refused, _>>=_, refuse}
+use Rattle.calculus.specs.Answer.{Answer, good, refused, refuse}
 use Rattle.calculus.proofs.Answers.{refused≢good, good-inj, on-bind, on-need}
 use Rattle.calculus.specs.Read.{Sheet, readSheet}
 use Rattle.calculus.specs.Net.{Net, make, netOf}

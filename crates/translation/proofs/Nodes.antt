@@ -13,7 +13,7 @@ use Rattle.calculus.specs.Net.{Net, make, netOf, netBytes}
 use Rattle.calculus.specs.Makers.{makersOf, dropNodes}
 use Rattle.calculus.specs.Translate.{Wish, asked, askedMakers, askedBytes, call}
 use Rattle.circuit_theorems.proofs.NodeBytes.{written-dropped, node-bytes}
-use Rattle.translation.specs.Demands.{Conditions, Derivable, Circuit}
+use Rattle.translation.specs.Demands.{Conditions, Circuit}
 use Rattle.translation.proofs.Demands.{demand-2, demand-3}
 
 abbrev pub withNodes : Bool → Wish

@@ -3,7 +3,6 @@ use crate::Wish;
 use card::Judged;
 use translator::Answer;
 use wiring::Counts;
-ghost use mathlib.Core.Path.{_≡_};
 ghost use lib.ListN.{length};
 ghost use Rattle.calculus.specs.Read.{recordsOf};
 ghost use Rattle.calculus.specs.Lean.{lean};

@@ -1,9 +1,9 @@
 -- The nodes that made the elements, stored beside the netlist: the netlist stays, and they are read back. Assumes nothing.
-use Prim.Native.Nat.{ℕ, _+_, _≤_, _<_}
+use Prim.Native.Nat.{ℕ, _≤_, _<_}
 use mathlib.Core.Path.{_≡_, sym, ap, subst, _∙_}
 use mathlib.Core.List.{List}
 use native.Mathlib.Omega.{arith}
-use lib.ListN.{length, getD, take, drop}
+use lib.ListN.{length, getD}
 use lib.Seq.{sets, length-sets}
 use Rattle.laws.proofs.Regions.{sets-before, sets-drop, sets-read}
 use Rattle.calculus.specs.Answer.{good}

@@ -1,26 +1,24 @@
 -- The text as the working memory gives it is the definition's, and it is short enough for an offset. Assumes nothing.
-use Prim.Native.Nat.{ℕ, zero, suc, _+_, _*_, _≤_, _<_}
-use mathlib.Core.Path.{_≡_, refl, sym, ap, _∙_, subst}
+use Prim.Native.Nat.{ℕ, zero, suc, _+_, _*_, _≤_}
+use mathlib.Core.Path.{_≡_, refl, ap}
 use mathlib.Core.Bool.{Bool, true, false, cond, not, _&&_}
 use mathlib.Core.List.{List, [], _∷_, _++_, map}
 use native.Mathlib.Omega.{arith}
 use native.Mathlib.Nat.{le-refl}
-use lib.Dec.{T, eqb, leb, leb→le}
+use lib.Dec.{T, leb, leb→le}
 use lib.ListN.{length, getD, length-append, length-map, List·getD-eq-default}
 use native.Mathlib.Decide.{decLe}
 use Rattle.laws.proofs.Below.{all, below}
 use Rattle.laws.proofs.Regions.{region-length}
 use Rattle.calculus.specs.Terms.{partAt}
-use Rattle.calculus.specs.Net.{Terminal, inp, out, Interface, Element, point, part, Wire, Net}
+use Rattle.calculus.specs.Net.{Interface, Element, point, part, Wire}
 use Rattle.calculus.specs.Lean.{lean}
-use Rattle.calculus.specs.Record.{All}
 use Rattle.export_calculus.specs.Verilog.{elementForms, portForms, assignForms, header, portsEnd, moduleEnd, filled, letter, Line, lineText, linesText, lineOfElement, lineOfWire, linesOfPins, linesOfPorts, moduleText}
 use Rattle.memory.specs.Map.{elementsAt, stackAt, region, elementsFrom, terminalOf, netIn}
-use Rattle.calculus.specs.NetRead.{Known}
 use Rattle.netlist.proofs.Elements.{kinds-length}
 use Rattle.circuit_theorems.proofs.Counts.{part-inputs}
 use Rattle.netlist.proofs.InMemory.{kind-here}
-use Rattle.lean.specs.Table.{entry, Whole, Leaned}
+use Rattle.lean.specs.Table.{entry, Leaned}
 use Rattle.lean.specs.InMemory.{undriven, keptIn, keepIn, inputIn, inputsIn, elementIn, leanWiresIn, pinIn}
 use Rattle.lean.specs.Fitting.{RowFits, LeanPinsFit}
 use Rattle.lean.proofs.LeanLaws.{lean-net, driven, kinds-low, pins-low}

@@ -1,22 +1,21 @@
 -- Lines written one after the other: what is written and what is still to come make the whole. Assumes nothing.
-use Prim.Native.Nat.{ℕ, zero, suc, _+_, _-_, _*_, _≤_, _<_}
+use Prim.Native.Nat.{ℕ, suc, _+_, _-_, _≤_, _<_}
 use mathlib.Core.Path.{_≡_, refl, sym, ap, _∙_, subst}
 use mathlib.Core.Bool.{Bool, true, false, cond, _&&_}
 use mathlib.Core.List.{List, [], _∷_, _++_, map, append-assoc, append-nil}
 use native.Mathlib.Omega.{arith}
 use lib.Dec.{eqb}
-use lib.ListN.{length, getD, drop, length-append}
-use lib.Seq.{sets}
+use lib.ListN.{length, getD, drop}
 use borrow.Author.Tests.{ne-eqb, eq-eqb}
 use Rattle.calculus.specs.Terms.{partAt}
 use Rattle.calculus.specs.Net.{Element, point, part, Wire, wireOf}
-use Rattle.export_calculus.specs.Verilog.{elementForms, portForms, assignForms, Line, kindLine, lineText, linesText, lineOfElement, lineOfWire, lineOfPin, lineOfPort}
+use Rattle.export_calculus.specs.Verilog.{elementForms, portForms, assignForms, kindLine, lineText, linesText, lineOfElement, lineOfWire, lineOfPin, lineOfPort}
 use Rattle.memory.specs.Map.{elementsAt, stackAt, region, elementsFrom, terminalOf}
 use Rattle.netlist.specs.Elements.{after, afterAll}
 use Rattle.netlist.proofs.Elements.{after-rises}
 use Rattle.lines.specs.Wrote.{WroteText}
 use Rattle.lean.specs.Table.{entry}
-use Rattle.lean.specs.InMemory.{undriven, keptIn, keepIn, inputIn, inputsIn, elementIn, leanWiresIn, pinIn}
+use Rattle.lean.specs.InMemory.{keptIn, keepIn, inputIn, inputsIn, elementIn, leanWiresIn, pinIn}
 use Rattle.lean.specs.Fitting.{ElementFits, RowFits}
 use Rattle.lean.proofs.KindLaws.{region-next, region-end}
 use Rattle.lean.proofs.RowLaws.{Writing, writing-start, writing-fits, writing-step, writing-end}

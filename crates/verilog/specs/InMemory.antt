@@ -1,12 +1,9 @@
 -- The text of the lean netlist as the tables of drivers and roots in the working memory give it. Assumes nothing.
 use Prim.Native.Nat.{ℕ}
-use mathlib.Core.List.{List, [], _∷_, map}
+use mathlib.Core.List.{List, map}
 use Rattle.calculus.specs.Net.{Interface, Element, Wire}
-use Rattle.calculus.specs.NetRead.{Known}
-use Rattle.calculus.specs.Record.{All}
 use Rattle.export_calculus.specs.Verilog.{elementForms, portForms, assignForms, linesText, lineOfElement, lineOfWire, linesOfPins, linesOfPorts}
-use Rattle.memory.specs.Map.{elementsFrom, terminalOf, netIn}
-use Rattle.lean.specs.Table.{Whole}
+use Rattle.memory.specs.Map.{elementsFrom, terminalOf}
 use Rattle.lean.specs.InMemory.{keepIn, leanWiresIn, pinIn}
 
 unfoldable pub elementText : List Element → List ℕ

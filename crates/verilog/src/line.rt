@@ -3,7 +3,6 @@ use crate::form;
 use netlist::In;
 use netlist::Out;
 use netlist::Terminal;
-ghost use mathlib.Core.Path.{_≡_};
 ghost use Prim.Native.Nat.{_≤_, _<_};
 ghost use Rattle.export_calculus.specs.Verilog.{elementForms, portForms, assignForms, lineText, kindLine, lineOfWire, lineOfPin, lineOfPort};
 ghost use Rattle.calculus.specs.Net.{wireOf};

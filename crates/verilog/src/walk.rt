@@ -8,8 +8,6 @@ use memory::ROOTS;
 use memory::STACK;
 use netlist::In;
 use netlist::Out;
-ghost use mathlib.Core.Path.{_≡_};
-ghost use Prim.Native.Nat.{_≤_};
 ghost use mathlib.Core.List.{_∷_, []};
 ghost use Rattle.memory.specs.Map.{elementsAt, stackAt, region};
 ghost use Rattle.lean.specs.InMemory.{inputIn, inputsIn};

@@ -5,7 +5,7 @@ use mathlib.Core.List.{List, [], _∷_, _++_, append-assoc, append-nil}
 use native.Mathlib.Omega.{arith}
 use lib.ListN.{length, getD, drop}
 use Rattle.calculus.specs.Types.{size, TyRec, Table, recAt, tree}
-use Rattle.calculus.specs.Terms.{Edition, Term, var, lvar, fun, app, lfun, lapp, pair, proj, fix, con, name, nodes, partAt}
+use Rattle.calculus.specs.Terms.{Edition, Term, var, lvar, fun, app, lfun, lapp, pair, proj, fix, con, name, nodes}
 use Rattle.calculus.specs.Write.{termBytes}
 use Rattle.sheet_theorems.specs.Laid.{Stands, Ranged}
 use Rattle.calculus.specs.Net.{leftOf, make}

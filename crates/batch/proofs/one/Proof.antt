@@ -1,6 +1,5 @@
 -- `batch::one` meets its contract: the call's answer is stored, packed. Assumes nothing.
-use mathlib.Core.Path.{_≡_, ap, _∙_}
-use mathlib.Core.List.{List}
+use mathlib.Core.Path.{ap, _∙_}
 use Prim.Native.Nat.{ℕ}
 use lib.ListN.{set}
 use Rattle.calculus.specs.Translate.{Call}

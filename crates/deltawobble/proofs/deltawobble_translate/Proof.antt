@@ -1,7 +1,4 @@
 -- `deltawobble::deltawobble_translate` meets its contract: the call's answer, packed. Assumes nothing.
-use mathlib.Core.Path.{_≡_}
-use Prim.Native.Nat.{ℕ}
-use Rattle.deltawobble.specs.Boundary.{Packs}
 use Rattle.deltawobble.proofs.BoundaryLaws.{answer-packs}
 use borrow.Author.Needs.{needs}
 use Rattle.deltawobble.proofs.deltawobble_translate.Statement.{statement}

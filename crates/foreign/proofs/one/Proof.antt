@@ -1,11 +1,10 @@
 -- By the record and what was taken of it. Assumes nothing.
 use native.Mathlib.Omega.{arith}
 use Rattle.net_reader.proofs.Room.{bytes-of, front-room}
-use Prim.Native.Nat.{_+_}
-use mathlib.Core.Path.{_≡_, ap, _∙_}
+use mathlib.Core.Path.{ap}
 use Rattle.calculus.specs.NetRead.{itemAt}
 use Rattle.foreign.proofs.WalkLaws.{one-on, one-off}
-use Rattle.net_reader.specs.Said.{saidRecord, frontSize}
+use Rattle.net_reader.specs.Said.{frontSize}
 use borrow.Author.Needs.{needs}
 use Rattle.foreign.proofs.one.Statement.{statement}
 use Rattle.foreign.proofs.one.Tie as tie

@@ -2,7 +2,7 @@
 use borrow.Author.Needs.{needs}
 use Rattle.memory.proofs.Zeroed.{zeroed-none, zeroed-more}
 use native.Mathlib.Omega.{arith}
-use mathlib.Core.Path.{_≡_, refl, sym, _∙_, ap}
+use mathlib.Core.Path.{_≡_, refl, _∙_, ap}
 use mathlib.Core.List.{List}
 use Prim.Native.Nat.{ℕ, _≤_, _-_}
 use lib.ListN.{length, set, length-set}

@@ -1,11 +1,11 @@
 -- The bytes are there, or they are not. Assumes nothing.
 use borrow.Author.Needs.{needs}
 use native.Mathlib.Omega.{arith}
-use mathlib.Core.Path.{_≡_, refl, ap, ap₂}
+use mathlib.Core.Path.{ap₂}
 use Prim.Native.Nat.{ℕ, _+_}
-use lib.ListN.{length, getD}
-use borrow.Author.Tests.{lt-ltb, le-ltb, le-leb, lt-leb}
-use Rattle.calculus.specs.Net.{point, part, wireOf, element, wire, pin}
+use lib.ListN.{length}
+use borrow.Author.Tests.{le-leb, lt-leb}
+use Rattle.calculus.specs.Net.{wireOf, wire}
 use Rattle.calculus.specs.NetRead.{item}
 use Rattle.net_reader.proofs.wire_at.Statement.{statement}
 use Rattle.net_reader.proofs.wire_at.Tie as tie

@@ -1,7 +1,7 @@
 -- The invariant: the wires, the pins and the first i elements are counted. Assumes nothing.
 use borrow.Author.Needs.{needs}
 use native.Mathlib.Omega.{arith}
-use mathlib.Core.Path.{_≡_, sym, _∙_}
+use mathlib.Core.Path.{_≡_}
 use Prim.Native.Nat.{_≤_, _-_, _+_, _*_}
 use lib.ListN.{length, drop, getD}
 use Rattle.memory.specs.Map.{elementsAt}

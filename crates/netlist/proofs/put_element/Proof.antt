@@ -1,9 +1,8 @@
 -- The wish decides. Assumes nothing.
 use native.Mathlib.Omega.{arith}
 use mathlib.Core.Path.{_≡_, _∙_, sym, ap}
-use mathlib.Core.Bool.{Bool, true, false}
-use mathlib.Core.List.{List, [], _∷_}
-use Prim.Native.Nat.{ℕ}
+use mathlib.Core.Bool.{true}
+use mathlib.Core.List.{[], _∷_}
 use lib.Seq.{sets}
 use Rattle.memory.specs.Map.{elementsFrom}
 use Rattle.netlist.specs.Elements.{nodeSize}

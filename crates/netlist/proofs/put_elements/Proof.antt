@@ -5,9 +5,8 @@ use Prim.Native.Nat.{_≤_, _<_, _-_, _+_}
 use lib.ListN.{length, drop}
 use lib.Seq.{sets}
 use Rattle.memory.specs.Map.{elementsAt, makersAt}
-use Rattle.netlist.specs.Elements.{nodeSize}
 use Rattle.netlist.proofs.Records.{record-more}
-use Rattle.netlist.proofs.Elements.{firstBytes, firstRecords, firstAfter, node-more, node-within}
+use Rattle.netlist.proofs.Elements.{firstRecords, firstAfter, node-more, node-within}
 use Rattle.netlist.proofs.InMemory.{record-next, records-before, element-length, element-after, element-fits, after-fits}
 use Rattle.netlist.proofs.put_elements.Statement.{statement}
 use Rattle.netlist.proofs.put_elements.Tie as tie

@@ -1,10 +1,9 @@
 -- `translator::counted` meets its contract: the count is the definition's, and so is the netlist that stands in the memory.
 -- Assumes nothing.
-use mathlib.Core.Path.{_≡_, sym, subst, _∙_}
+use mathlib.Core.Path.{sym, subst, _∙_}
 use mathlib.Core.Bool.{true≢false}
-use mathlib.Core.List.{List, []}
+use mathlib.Core.List.{List}
 use Prim.Native.Nat.{ℕ}
-use Rattle.calculus.specs.Net.{make, netOf}
 use Rattle.translator.specs.declared.Made.the-variants as made
 use Rattle.translator.specs.Made.{MakeLeaves}
 use Rattle.translator.proofs.StageLaws.{many-makes, full-few, root-found, net-makes}

@@ -1,6 +1,5 @@
 -- `translator::word` meets its contract: each part fits its bits, since what is larger shows as the largest number. Assumes nothing.
-use Prim.Native.Nat.{_+_, _*_}
-use mathlib.Core.Path.{_≡_, sym, ap, _∙_}
+use mathlib.Core.Path.{sym, ap, _∙_}
 use Rattle.translator.specs.Said.{saidAnswer}
 use Rattle.translator.specs.Word.{packed}
 use Rattle.translator.specs.declared.Answer as code

@@ -1,7 +1,6 @@
 -- The seven pieces, one after the other. Assumes nothing.
 use native.Mathlib.Omega.{arith}
 use mathlib.Core.Path.{_∙_}
-use Prim.Native.Nat.{_≤_}
 use Rattle.export_calculus.specs.Verilog.{header, portsEnd, moduleEnd}
 use Rattle.lines.proofs.Stores.{wrote-length}
 use Rattle.verilog.proofs.ModuleLaws.{ports-fit, closing-low, elements-fit, wires-fit, third-low, assigns-fit, last-low, module-wrote}

@@ -1,7 +1,7 @@
 -- The tests, and then one stage after the other. Assumes nothing.
 use native.Mathlib.Omega.{arith}
-use mathlib.Core.Path.{_≡_, refl}
-use Prim.Native.Nat.{ℕ, _-_, _*_, _≤_}
+use mathlib.Core.Path.{refl}
+use Prim.Native.Nat.{_-_}
 use borrow.Author.Needs.{needs}
 use Rattle.trace_steps.specs.Pins.{inPinCount}
 use Rattle.trace.proofs.FreeLaws.{said-no, said-yes, mul-few, pins₁, ins-few₁, freed-20, freed-17, wake-ready, run-ready, freed-written}

@@ -1,6 +1,5 @@
 -- `trace::net::run_lean` meets its contract: one stage after the other. Assumes nothing.
 use native.Mathlib.Omega.{arith}
-use mathlib.Core.Path.{_≡_}
 use borrow.Author.Needs.{needs}
 use Rattle.calculus.specs.Lean.{lean}
 use Rattle.memory.specs.Map.{netIn}

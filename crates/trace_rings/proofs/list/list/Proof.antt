@@ -1,7 +1,7 @@
 -- The invariant: those from x on are listed. Assumes nothing.
 use native.Mathlib.Omega.{arith}
 use mathlib.Core.Path.{_≡_, sym, _∙_}
-use Prim.Native.Nat.{ℕ, _+_, _-_, _≤_, _<_}
+use Prim.Native.Nat.{_+_, _-_}
 use Rattle.trace_rings.proofs.ListLaws.{Choosing, choosing-start, choosing-few, choosing-yes, choosing-no, choosing-end}
 use Rattle.trace_rings.proofs.list.list.Statement.{statement}
 use Rattle.trace_rings.proofs.list.list.Tie as tie

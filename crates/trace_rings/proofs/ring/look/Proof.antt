@@ -1,10 +1,9 @@
 -- One, then the other. Assumes nothing.
 use native.Mathlib.Omega.{arith}
 use borrow.Author.Needs.{needs}
-use mathlib.Core.Path.{_≡_, ap, sym, subst, _∙_}
-use Prim.Native.Nat.{ℕ, _-_, _≤_, _<_}
-use lib.ListN.{length, getD}
-use Rattle.trace_steps.specs.Steps.{firstIn}
+use mathlib.Core.Path.{ap, sym, subst, _∙_}
+use Prim.Native.Nat.{ℕ, _-_, _<_}
+use lib.ListN.{getD}
 use Rattle.trace_steps.proofs.Laws.{first-low}
 use Rattle.trace_rings.proofs.SearchLaws.{meet-after, look-is}
 use Rattle.trace_rings.proofs.ring.look.Statement.{statement}

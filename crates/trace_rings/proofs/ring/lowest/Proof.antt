@@ -1,7 +1,7 @@
 -- The invariant: no input of the outputs from j on is on a ring, and no mark is as high as the stamp. Assumes nothing.
 use native.Mathlib.Omega.{arith}
-use mathlib.Core.Path.{_≡_, refl, sym, _∙_}
-use Prim.Native.Nat.{ℕ, _+_, _-_, _≤_, _<_}
+use mathlib.Core.Path.{_≡_, refl, _∙_}
+use Prim.Native.Nat.{_+_, _-_}
 use Rattle.trace_steps.specs.Steps.{firstIn}
 use Rattle.trace_rings.proofs.SearchLaws.{SeekingRing, seeking-start, seek-rest, seek-looks, seek-among, seek-first, then-rest, then-among, seek-last, seek-next, seeking-end}
 use Rattle.trace_rings.proofs.ring.lowest.Statement.{statement}

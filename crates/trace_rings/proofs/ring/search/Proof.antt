@@ -1,8 +1,7 @@
 -- The invariant: what the first h that are met look at is covered. What is met is one of those left, once. Assumes nothing.
 use native.Mathlib.Omega.{arith}
-use mathlib.Core.Path.{_≡_, sym, ap, subst, _∙_}
-use Prim.Native.Nat.{ℕ, _+_, _-_, _≤_, _<_}
-use lib.ListN.{length, getD}
+use mathlib.Core.Path.{sym, subst}
+use Prim.Native.Nat.{ℕ, _-_, _<_}
 use Rattle.trace_rings.proofs.SearchLaws.{Began, began, SearchGoing, among-low, among-source, going-start, going-few, going-size, going-looks, going-next, going-end}
 use Rattle.trace_rings.proofs.ring.search.Statement.{statement}
 use Rattle.trace_rings.proofs.ring.search.Tie as tie

@@ -1,8 +1,7 @@
 -- The invariant: the first x entries are linked. Assumes nothing.
 use native.Mathlib.Omega.{arith}
-use mathlib.Core.Path.{_≡_, refl, sym, ap, _∙_, subst}
-use Prim.Native.Nat.{ℕ, _+_, _-_, _/_, _≤_, _<_}
-use lib.ListN.{length, getD}
+use mathlib.Core.Path.{_≡_, subst}
+use Prim.Native.Nat.{ℕ, _-_, _≤_}
 use Rattle.trace_steps.specs.Links.{Linked}
 use Rattle.trace_steps.proofs.LinkLaws.{link-start, link-next, link-low}
 use Rattle.trace_steps.proofs.links.link.Statement.{statement}

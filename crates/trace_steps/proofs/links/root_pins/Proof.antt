@@ -1,8 +1,7 @@
 -- The invariant: the first k pins are rooted. Assumes nothing.
 use native.Mathlib.Omega.{arith}
-use mathlib.Core.Path.{_≡_, refl, sym, ap, _∙_, subst}
-use Prim.Native.Nat.{ℕ, _+_, _-_, _/_, _≤_, _<_}
-use lib.ListN.{length, getD}
+use mathlib.Core.Path.{_≡_, subst}
+use Prim.Native.Nat.{ℕ, _-_, _≤_}
 use Rattle.trace_steps.specs.Links.{Pinned}
 use Rattle.trace_steps.proofs.LinkLaws.{pin-start, pin-next, pin-ready}
 use Rattle.trace_steps.proofs.links.root_pins.Statement.{statement}

@@ -1,8 +1,5 @@
 -- By the direction. Assumes nothing.
-use native.Mathlib.Omega.{arith}
-use mathlib.Core.Path.{_≡_, refl, sym, ap, _∙_, subst}
-use Prim.Native.Nat.{ℕ, _+_, _-_, _/_, _≤_, _<_}
-use lib.ListN.{length, getD}
+use Prim.Native.Nat.{_-_}
 use Rattle.trace_steps.proofs.LinkLaws.{rooted-in, rooted-out}
 use borrow.Author.Needs.{needs}
 use Rattle.trace_steps.proofs.links.rooted.Statement.{statement}

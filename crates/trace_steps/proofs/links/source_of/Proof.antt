@@ -1,8 +1,7 @@
 -- By the number. Assumes nothing.
 use native.Mathlib.Omega.{arith}
-use mathlib.Core.Path.{_≡_, refl, sym, ap, _∙_, subst}
-use Prim.Native.Nat.{ℕ, _+_, _-_, _/_, _≤_, _<_}
-use lib.ListN.{length, getD}
+use Prim.Native.Nat.{_+_, _-_}
+use lib.ListN.{getD}
 use Rattle.memory.specs.Map.{rootsAt}
 use Rattle.trace_steps.proofs.LinkLaws.{link-none, link-driver, link-kind}
 use borrow.Author.Needs.{needs}

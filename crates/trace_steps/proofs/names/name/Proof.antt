@@ -1,9 +1,9 @@
 -- The invariant: the first i elements are named. Assumes nothing.
 use native.Mathlib.Omega.{arith}
-use mathlib.Core.Path.{_≡_, refl, sym, ap, _∙_, subst}
-use Prim.Native.Nat.{ℕ, _+_, _-_, _≤_, _<_}
+use mathlib.Core.Path.{sym, subst}
+use Prim.Native.Nat.{ℕ, _+_, _-_, _≤_}
 use mathlib.Core.List.{List}
-use lib.ListN.{length, getD, set}
+use lib.ListN.{getD, set}
 use Rattle.memory.specs.Map.{elementsAt}
 use Rattle.netlist.specs.Elements.{outputOf}
 use Rattle.trace_steps.specs.Map.{kindsFrom}

@@ -1,11 +1,9 @@
 -- Both sources. Assumes nothing.
 use borrow.Author.Needs.{needs}
-use mathlib.Core.Path.{ap, sym, subst, _∙_}
+use mathlib.Core.Path.{sym, subst, _∙_}
 use Prim.Native.Nat.{ℕ, _≤_, _<_}
-use mathlib.Core.Bool.{Bool, true, false, _&&_}
 use lib.ListN.{length, getD}
 use Rattle.memory.specs.Map.{memorySize}
-use Rattle.trace_steps.specs.Steps.{inputBit, firstIn}
 use Rattle.trace_steps.proofs.Laws.{first-low, all-yes, all-no, both-fed}
 use Rattle.trace_steps.proofs.order.ready.Statement.{statement}
 use Rattle.trace_steps.proofs.order.ready.Tie as tie

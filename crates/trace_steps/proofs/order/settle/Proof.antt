@@ -1,6 +1,6 @@
 -- The invariant: the sweeps that are still to come settle what all of them would. Assumes nothing.
 use native.Mathlib.Omega.{arith}
-use mathlib.Core.Path.{_≡_, _∙_}
+use mathlib.Core.Path.{_∙_}
 use Rattle.trace_steps.specs.Sweeps.{Settling}
 use Rattle.trace_steps.proofs.SweepLaws.{settle-start, settle-stuck, settle-more, settle-none}
 use Rattle.trace_steps.proofs.order.settle.Statement.{statement}

@@ -1,8 +1,8 @@
 -- The invariant: j of those left are looked at. Assumes nothing.
 use native.Mathlib.Omega.{arith}
-use mathlib.Core.Path.{_≡_, sym, _∙_}
+use mathlib.Core.Path.{sym, _∙_}
 use mathlib.Core.Logic.{⊎-elim}
-use Prim.Native.Nat.{ℕ, _+_, _-_, _≤_, _<_}
+use Prim.Native.Nat.{_+_, _-_, _≤_}
 use Rattle.trace_steps.specs.Sweeps.{Sweeping}
 use Rattle.trace_steps.proofs.SweepLaws.{sweep-looks, sweep-yes, sweep-no, sweep-start, sweep-end, swap}
 use Rattle.trace_steps.proofs.order.sweep.Statement.{statement}

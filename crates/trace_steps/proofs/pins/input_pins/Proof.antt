@@ -1,16 +1,10 @@
 -- The invariant: n of the first k pins are inputs. Assumes nothing.
-use borrow.Author.Needs.{needs}
 use native.Mathlib.Omega.{arith}
-use mathlib.Core.Path.{_≡_, refl, sym, ap, _∙_, subst}
+use mathlib.Core.Path.{_≡_, refl, ap, _∙_}
 use mathlib.Core.Logic.{⊎-elim}
-use Prim.Native.Nat.{ℕ, _≤_, _<_, _-_, _+_, _*_}
-use mathlib.Core.List.{List}
-use lib.ListN.{length, getD, set, drop}
-use Rattle.lean.proofs.TableLaws.{within-none}
-use Rattle.trace_calculus.specs.Trace.{allBits, bitByte}
-use Rattle.trace_steps.specs.Turns.{takeTurns}
-use Rattle.trace_steps.specs.Pins.{inPinCount, outPinCount}
-use Rattle.trace_steps.proofs.PinLaws.{load-yes, load-no, load-room, store-yes, store-no, store-room, ins-yes, ins-no, bits-more, bits-not, bits-all, load-low, pin-low, ins-few, lit-yes, lit-no, ins-step, ins-skip}
+use Prim.Native.Nat.{_≤_, _-_}
+use Rattle.trace_steps.specs.Pins.{inPinCount}
+use Rattle.trace_steps.proofs.PinLaws.{ins-few, ins-step, ins-skip}
 use Rattle.trace_steps.proofs.pins.input_pins.Statement.{statement}
 use Rattle.trace_steps.proofs.pins.input_pins.Tie as tie
 

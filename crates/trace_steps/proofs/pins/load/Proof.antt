@@ -1,17 +1,14 @@
 -- The invariant: the first k pins are loaded. Assumes nothing.
-use borrow.Author.Needs.{needs}
 use native.Mathlib.Omega.{arith}
-use mathlib.Core.Path.{_≡_, refl, sym, ap, _∙_, subst}
+use mathlib.Core.Path.{_≡_, refl, sym, _∙_, subst}
 use mathlib.Core.Logic.{⊎-elim}
-use Prim.Native.Nat.{ℕ, _≤_, _<_, _-_, _+_, _*_, _/_}
+use Prim.Native.Nat.{ℕ, _≤_, _<_, _-_, _+_, _/_}
 use mathlib.Core.List.{List}
-use lib.ListN.{length, getD, set, drop}
+use lib.ListN.{getD, set}
 use Rattle.lean.proofs.TableLaws.{within-none}
-use Rattle.trace_calculus.specs.Trace.{allBits, bitByte}
 use Rattle.trace_steps.specs.Map.{bitsAt}
-use Rattle.trace_steps.specs.Turns.{takeTurns}
-use Rattle.trace_steps.specs.Pins.{inPinCount, outPinCount, Loading, Storing}
-use Rattle.trace_steps.proofs.PinLaws.{load-yes, load-no, load-room, store-yes, store-no, store-room, ins-yes, ins-no, bits-more, bits-not, bits-all, load-low, pin-low, ins-few, lit-yes, lit-no, ins-step, ins-skip}
+use Rattle.trace_steps.specs.Pins.{Loading}
+use Rattle.trace_steps.proofs.PinLaws.{load-yes, load-no, load-room, load-low}
 use Rattle.trace_steps.proofs.pins.load.Statement.{statement}
 use Rattle.trace_steps.proofs.pins.load.Tie as tie
 

@@ -1,8 +1,5 @@
 -- By the kind. Assumes nothing.
 use borrow.Author.Needs.{needs}
-use borrow.Author.Tests.{ltb-true, ltb-false}
-use native.Mathlib.Omega.{arith}
-use mathlib.Core.Path.{refl}
 use Rattle.trace_steps.proofs.Laws.{first-two, first-one}
 use Rattle.trace_steps.proofs.table.first_of.Statement.{statement}
 use Rattle.trace_steps.proofs.table.first_of.Tie as tie

@@ -1,16 +1,15 @@
 -- The invariant: the first x bits are as they begin. Assumes nothing.
 use borrow.Author.Needs.{needs}
 use native.Mathlib.Omega.{arith}
-use mathlib.Core.Path.{_≡_, refl, sym, ap, _∙_, subst}
-use Prim.Native.Nat.{ℕ, _≤_, _<_, _-_, _+_}
-use mathlib.Core.List.{List}
-use lib.ListN.{length, getD, set}
+use mathlib.Core.Path.{_≡_, refl, ap, _∙_}
+use Prim.Native.Nat.{ℕ, _≤_, _-_, _+_}
+use lib.ListN.{set}
 use Rattle.lean.specs.Table.{Within}
 use Rattle.lean.proofs.TableLaws.{within-none, within-then, within-set}
 use Rattle.trace_steps.specs.Map.{bitsAt}
 use Rattle.trace_steps.specs.Turns.{takeTurns}
 use Rattle.trace_steps.specs.Steps.{beginOne}
-use Rattle.trace_steps.proofs.Laws.{turns-next, turns-all, looks-within, ordered-at, register-at}
+use Rattle.trace_steps.proofs.Laws.{turns-next, turns-all}
 use Rattle.trace_steps.proofs.ticks.begin.Statement.{statement}
 use Rattle.trace_steps.proofs.ticks.begin.Tie as tie
 

@@ -1,16 +1,12 @@
 -- The invariant: the first j registers hold their inputs. Assumes nothing.
-use borrow.Author.Needs.{needs}
 use native.Mathlib.Omega.{arith}
 use mathlib.Core.Path.{_≡_, refl, sym, ap, _∙_, subst}
-use Prim.Native.Nat.{ℕ, _≤_, _<_, _-_, _+_}
-use mathlib.Core.List.{List}
-use lib.ListN.{length, getD, set}
+use Prim.Native.Nat.{ℕ, _≤_, _-_}
 use Rattle.lean.specs.Table.{Within}
-use Rattle.lean.proofs.TableLaws.{within-none, within-then, within-set}
-use Rattle.trace_calculus.specs.Trace.{bitByte}
+use Rattle.lean.proofs.TableLaws.{within-none}
 use Rattle.trace_steps.specs.Turns.{takeTurns}
 use Rattle.trace_steps.specs.Steps.{holdOne, holdAt, Register}
-use Rattle.trace_steps.proofs.Laws.{loop-step, hold-within, turns-all, looks-within, ordered-at, register-at}
+use Rattle.trace_steps.proofs.Laws.{loop-step, hold-within, turns-all, register-at}
 use Rattle.trace_steps.proofs.ticks.hold.Statement.{statement}
 use Rattle.trace_steps.proofs.ticks.hold.Tie as tie
 

@@ -1,7 +1,7 @@
 -- The invariant: so many ticks are run, and so many bytes read and written. Assumes nothing.
 use native.Mathlib.Omega.{arith}
 use mathlib.Core.Path.{_≡_, refl, ap, _∙_, subst}
-use Prim.Native.Nat.{ℕ, _+_, _*_, _-_, _≤_, _<_}
+use Prim.Native.Nat.{ℕ, _+_, _*_, _-_, _≤_}
 use Rattle.lean.proofs.TableLaws.{within-none}
 use Rattle.trace_steps.specs.Ticks.{sizes, Ran}
 use Rattle.trace_steps.proofs.TickLaws.{runs-within, ins-within, outs-within, ran-next, fits-next, next-mul, zero-mul}

@@ -1,5 +1,5 @@
 -- The two sources, and the gate's bit. Assumes nothing.
-use mathlib.Core.Path.{ap, sym, subst, _∙_}
+use mathlib.Core.Path.{sym, subst}
 use Prim.Native.Nat.{ℕ, _≤_, _<_}
 use lib.ListN.{length, getD}
 use Rattle.memory.specs.Map.{memorySize}

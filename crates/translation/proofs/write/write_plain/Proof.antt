@@ -1,13 +1,7 @@
 -- `translation::write::write_plain` meets its contract: the netlist that is wished is written. Assumes nothing.
-use mathlib.Core.Path.{refl, ap}
+use mathlib.Core.Path.{refl}
 use mathlib.Core.Bool.{true, false}
-use mathlib.Core.List.{List}
-use Prim.Native.Nat.{ℕ}
-use lib.ListN.{length}
-use Rattle.calculus.specs.Lean.{lean}
-use Rattle.calculus.specs.Net.{Net}
-use Rattle.calculus.specs.Makers.{leanMakers, written}
-use Rattle.translator.specs.Said.{inRoom}
+use Rattle.calculus.specs.Makers.{written}
 use Rattle.translation.specs.Wished.{saidWish}
 use Rattle.translation.proofs.WriteLaws.{wished-says, rooted-net, rooted-makers, rooted-keeps, rooted-known}
 use borrow.Author.Needs.{needs}

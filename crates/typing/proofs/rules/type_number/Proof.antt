@@ -1,6 +1,6 @@
 -- `typing::rules::type_number` meets its contract. The invariant: none of the first k types is the part's. The measure is the types left. Assumes nothing.
 use Prim.Native.Nat.{_+_, _-_, _≤_}
-use mathlib.Core.Path.{_≡_, sym, ap, _∙_}
+use mathlib.Core.Path.{_≡_, sym, _∙_}
 use native.Mathlib.Omega.{arith}
 use borrow.Author.Needs.{needs}
 use Rattle.records.specs.Forms.{recIn}

@@ -1,6 +1,6 @@
 -- The invariant: the form's first i characters are written. Assumes nothing.
 use native.Mathlib.Omega.{arith}
-use mathlib.Core.Path.{_≡_, refl, _∙_}
+use mathlib.Core.Path.{refl}
 use Prim.Native.Nat.{_≤_, _-_, _+_, _*_}
 use lib.ListN.{length, take, getD}
 use lib.Seq.{take-all}

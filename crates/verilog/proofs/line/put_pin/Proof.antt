@@ -1,5 +1,4 @@
 -- By its form. Assumes nothing.
-use mathlib.Core.Path.{sym}
 use borrow.Author.Needs.{needs}
 use Rattle.export_calculus.specs.Verilog.{lineText, assignForms}
 use Rattle.verilog.proofs.line.put_pin.Statement.{statement}

@@ -1,7 +1,6 @@
 -- The invariant: what is written and the lines that are still to come make the whole. Assumes nothing.
 use native.Mathlib.Omega.{arith}
-use mathlib.Core.List.{List}
-use Prim.Native.Nat.{ℕ, _≤_, _-_, _+_}
+use Prim.Native.Nat.{_≤_, _-_, _+_}
 use lib.ListN.{length, getD, drop}
 use Rattle.export_calculus.specs.Verilog.{assignForms, lineText, lineOfPin}
 use Rattle.memory.specs.Map.{stackAt, region, terminalOf}
