@@ -13,9 +13,9 @@ use Rattle.laws.proofs.Tests.{by-eqb, or-elim, T-is, is-false}
 use Rattle.calculus.specs.Answer.{Answer, good, _>>=_}
 use Rattle.calculus.specs.Terms.{partAt, parts}
 use Rattle.calculus.specs.Read.{byte}
-use Rattle.calculus.specs.Net.{Terminal, inp, out, Interface, number, Element, point, part, Wire, Net, partSide, Item, element, wire, pin, two, itemBytes, elementBytes, wireBytes, pinBytes, netBytes}
+use Rattle.calculus.specs.Net.{Terminal, inp, out, Interface, number, Element, point, part, Wire, Net, Item, element, wire, pin, two, itemBytes, elementBytes, wireBytes, pinBytes, netBytes}
 use Rattle.calculus.specs.Record.{All}
-use Rattle.calculus.specs.Inputs.{ins, madeAt, isOut}
+use Rattle.calculus.specs.Inputs.{madeAt, isOut}
 use Rattle.circuit_theorems.specs.Formed.{Rising, Formed}
 use Rattle.calculus.specs.NetRead.{Fits, itemSize, Front, item, ended, twoAt, itemAt, andRest, itemsFrom, elementsIn, wiresIn, pinsIn, pinTerminal, netFrom, readNet}
 use Rattle.calculus.proofs.Answers.{good-inj}

@@ -7,7 +7,7 @@ use native.Mathlib.Omega.{arith}
 use lib.Dec.{T, eqb, leb, eqb-refl, le→leb}
 use lib.ListN.{length, drop, length-drop, length-append}
 use Rattle.laws.proofs.Tests.{and-of, or-left, or-right}
-use Rattle.calculus.specs.Answer.{Answer, good, refused, _>>=_, need}
+use Rattle.calculus.specs.Answer.{Answer, good, refused, _>>=_}
 use Rattle.calculus.specs.Terms.{partAt}
 use Rattle.calculus.specs.Net.{Terminal, inp, out, Interface, number, Element, point, part, Wire, Net, Item, element, wire, pin, itemBytes, netBytes}
 use Rattle.calculus.specs.Record.{All}

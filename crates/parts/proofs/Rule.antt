@@ -7,7 +7,7 @@ use native.Mathlib.Omega.{arith}
 use borrow.Author.Tests.{lt-ltb, le-ltb, ltb-true, ltb-false}
 use lib.Dec.{T, eqb, ltb, leb, eqb→eq, leb→le}
 use lib.ListN.{length, getD, List·getD-eq-default}
-use Rattle.calculus.specs.Types.{Ty, bit, prod, arrow, lolli, size, tyEq}
+use Rattle.calculus.specs.Types.{Ty, size, tyEq}
 use Rattle.calculus.specs.Terms.{first, parts, partAt}
 use Rattle.calculus.specs.Listing.{names}
 use Rattle.laws.proofs.Tests.{and-both}
