@@ -1,10 +1,10 @@
 -- The profile's answer, by which of the three rules fails first. Assumes nothing.
 use Prim.Native.Nat.{ℕ, _≤_, _<_}
-use mathlib.Core.Path.{_≡_, refl, sym, ap, _∙_}
+use mathlib.Core.Path.{_≡_, refl}
 use mathlib.Core.Bool.{Bool, true, false}
 use lib.Dec.{ltb}
 use borrow.Author.Tests.{lt-ltb, le-ltb, ltb-false}
-use Rattle.calculus.specs.Answer.{Answer, good, refuse, _>>=_}
+use Rattle.calculus.specs.Answer.{good, refuse, _>>=_}
 use Rattle.calculus.specs.Net.{Net}
 use Rattle.export_calculus.specs.Card.{needAll, noRing, isRead, inputPlace, outputPlace, profiled}
 use Rattle.ring_points.specs.Rings.{answerOf}

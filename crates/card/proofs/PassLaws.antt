@@ -1,6 +1,6 @@
 -- The pass over the elements, one after the other: what is still to come makes the whole, at each terminal. Assumes nothing.
-use Prim.Native.Nat.{ℕ, zero, suc, _+_, _≤_, _<_}
-use mathlib.Core.Path.{_≡_, refl, sym, ap, ap₂, _∙_, subst}
+use Prim.Native.Nat.{ℕ, _+_, _≤_, _<_}
+use mathlib.Core.Path.{_≡_, refl, sym, ap, _∙_, subst}
 use mathlib.Core.Bool.{Bool, true, false, cond, _||_}
 use mathlib.Core.List.{List, [], _∷_, _++_}
 use native.Mathlib.Omega.{arith}
@@ -16,14 +16,13 @@ use Rattle.circuit_theorems.proofs.Rings.{has}
 use Rattle.memory.specs.Map.{elementsAt, region, netIn}
 use Rattle.netlist.specs.Elements.{outputOf, after, afterAll}
 use Rattle.netlist.proofs.Elements.{after-rises}
-use Rattle.lean.specs.Table.{entry, Whole}
-use Rattle.lean.specs.InMemory.{undriven, keptIn}
-use Rattle.lean.proofs.KindLaws.{region-next, region-end, first-low, output-low, part-low}
+use Rattle.lean.specs.Table.{Whole}
+use Rattle.lean.proofs.KindLaws.{region-next, region-end, output-low, part-low}
 use Rattle.lean.proofs.LeanLaws.{kinds-low}
 use Rattle.ring_points.specs.Rings.{ringIn, ringFrom}
 use Rattle.card.specs.Marks.{readMark, unreadMark, markAll, sourcesIn, partSources, partOutputs, noted, partMarked}
 use Rattle.card.proofs.MarkLaws.{mark-at, mark-length, sources-stay, entry-stays}
-use Rattle.card.proofs.WholeLaws.{Among, among-next, among-out, among-in, Is, output-free, among, sources-outs, outputs-out, has-append, has-all, Spares, spares-stays, spares-none, spares-all, spares-noted}
+use Rattle.card.proofs.WholeLaws.{Among, among-next, among-out, among-in, output-free, among, sources-outs, outputs-out, has-append, has-all, Spares, spares-stays, spares-none, spares-all, spares-noted}
 
 -- ---- one terminal: its number, once it is read or noted
 

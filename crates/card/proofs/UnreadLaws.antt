@@ -2,22 +2,20 @@
 -- memory as it was before the marks. Assumes nothing.
 use Prim.Native.Nat.{ℕ, zero, suc, _+_, _-_, _≤_, _<_}
 use mathlib.Core.Path.{_≡_, refl, sym, ap, ap₂, _∙_, subst}
-use mathlib.Core.Logic.{_⊎_, inl, inr}
+use mathlib.Core.Logic.{inr}
 use mathlib.Core.Bool.{Bool, true, false, cond, not, _&&_, _||_}
 use mathlib.Core.List.{List, [], _∷_, _++_, map}
 use native.Mathlib.Omega.{arith}
 use native.Mathlib.Decide.{ℕ-discrete}
-use lib.Dec.{T, eqb, ltb}
+use lib.Dec.{eqb, ltb}
 use lib.ListN.{length, getD, drop}
 use lib.Seq.{ext-getD}
 use borrow.Author.Tests.{ne-eqb, eq-eqb, lt-ltb, le-ltb, eqb-true, eqb-false, ltb-true, ltb-false}
-use Rattle.laws.proofs.Tests.{is-false}
 use Rattle.laws.proofs.Regions.{region-ext, region-length, region-at}
-use Rattle.calculus.specs.Answer.{Answer, good, _>>=_, need}
+use Rattle.calculus.specs.Answer.{Answer, _>>=_, need}
 use Rattle.calculus.specs.Terms.{partAt}
 use Rattle.calculus.specs.Net.{Terminal, inp, out, Element, point, part, Wire, Net}
 use Rattle.calculus.specs.Lean.{lean}
-use Rattle.calculus.specs.Inputs.{isOut}
 use Rattle.calculus.specs.Record.{All}
 use Rattle.circuit_theorems.specs.Formed.{Shown}
 use Rattle.circuit_theorems.proofs.Rings.{has}

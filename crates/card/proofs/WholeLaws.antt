@@ -6,11 +6,10 @@ use mathlib.Core.List.{List, [], _∷_, _++_, map}
 use native.Mathlib.Omega.{arith}
 use native.Mathlib.Decide.{ℕ-discrete}
 use lib.Dec.{T, eqb, ltb, eqb-refl}
-use lib.ListN.{length, getD, set, length-set}
+use lib.ListN.{getD, set, length-set}
 use lib.Seq.{getD-set-same, getD-set-other}
 use borrow.Author.Tests.{ne-eqb, eq-eqb, ltb-true, lt-ltb}
-use Rattle.laws.proofs.Tests.{or-left, or-right, is-false, T-is}
-use Rattle.laws.proofs.Regions.{region-ext, region-length, region-at}
+use Rattle.laws.proofs.Tests.{or-left, or-right, T-is}
 use Rattle.calculus.specs.Terms.{partAt}
 use Rattle.calculus.specs.Net.{Terminal, inp, out, Element, point, part, Net}
 use Rattle.calculus.specs.Inputs.{isOut, madeAt, tally}
@@ -23,14 +22,13 @@ use Rattle.circuit_theorems.proofs.RootLaws.{root-reached}
 use Rattle.circuit_theorems.proofs.Drive.{driver-none}
 use Rattle.circuit_theorems.proofs.Terminals.{out-high}
 use Rattle.circuit_theorems.proofs.NetRead.{out-not-made}
-use Rattle.memory.specs.Map.{elementsAt, stackAt, memorySize, region, elementsFrom, terminalOf, netIn}
+use Rattle.memory.specs.Map.{elementsAt, stackAt, region, elementsFrom, terminalOf, netIn}
 use Rattle.netlist.specs.Elements.{outputOf, after, afterAll}
-use Rattle.netlist.proofs.Elements.{after-rises}
 use Rattle.lean.specs.Table.{entry, Whole}
 use Rattle.lean.proofs.DriverLaws.{rising, output-below, driver-out}
-use Rattle.lean.proofs.KindLaws.{part-low, tiled-after}
+use Rattle.lean.proofs.KindLaws.{tiled-after}
 use Rattle.lean.proofs.LeanLaws.{entry-root, kinds-low, driven}
-use Rattle.card.specs.Marks.{readMark, unreadMark, markAll, wireSource, sourcesIn, kindSources, partSources, kindOutput, partOutputs, pinSource, pinSources, noted, withoutMark, OnlyMarks, Free, Markable, PinFree}
+use Rattle.card.specs.Marks.{unreadMark, markAll, wireSource, sourcesIn, partSources, kindOutput, partOutputs, pinSource, pinSources, noted, withoutMark, OnlyMarks, Free, Markable}
 use Rattle.card.proofs.MarkLaws.{Stays, stays-marks}
 
 -- ---- lists of outputs

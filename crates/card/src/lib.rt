@@ -37,7 +37,10 @@ fn find(work: &mut [u16], elements: usize, wires: usize, pins: usize) -> Found
     let end = mark::end_of(&work[..], elements, passed);
     let unread = sweep::sweep(work, end as usize);
     let ring = mark::ring_of(passed, elements);
-    Found { ring: ring as usize, unread: unread as usize }
+    Found {
+        ring: ring as usize,
+        unread: unread as usize,
+    }
 }
 
 // 27, then 28, then 29.

@@ -81,7 +81,7 @@ pub fn mark_elements(work: &mut [u16], elements: usize, wires: usize, pins: usiz
         × ((afterAll (drop (r .done) (region (now (work .entry)) elementsAt elements)) (r .next) ≡ afterAll (region (now (work .entry)) elementsAt elements) 0)
         × (OnlyMarks (now (work .entry)) (afterAll (region (now (work .entry)) elementsAt elements) 0) (now (work .exit))
         × (elements ≤ r .done → now (work .exit) ≡ markAll readMark (markAll unreadMark (now (work .entry)) (partOutputs (region (now (work .entry)) elementsAt elements) 0))
-            (partSources (now (work .entry)) (region (now (work .entry)) elementsAt elements) 0)))) ⌝ }
+        (partSources (now (work .entry)) (region (now (work .entry)) elementsAt elements) 0)))) ⌝ }
 {
     let mut n: u16 = 0;
     let mut i: usize = 0;
@@ -101,7 +101,11 @@ pub fn mark_elements(work: &mut [u16], elements: usize, wires: usize, pins: usiz
 pub fn ring_of(passed: Passed, elements: usize) -> u16
     ensures { λ r. ⌜ r ≡ cond (ltb (passed .done) elements) (passed .next) 8192 ⌝ }
 {
-    if passed.done < elements { passed.next } else { 8192 }
+    if passed.done < elements {
+        passed.next
+    } else {
+        8192
+    }
 }
 
 // The first terminal that no element takes.

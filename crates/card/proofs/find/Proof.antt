@@ -43,8 +43,10 @@ returns c =
     let r = c .ring-of .ensures in
     let y = f .0 in (
       r ∙ sym y,
-      ((λ h. unread-answer (a .work .now) (a .elements) (a .wires) (a .pins) (s .pre) (omega arith) (both-marks (a .work .now) (a .elements) (a .wires) (a .pins) (s .pre) (f .1 .1 .0) (f .1 .1 .1 (all-done (a .work .now) (a .elements) (a .wires) (a .pins) (s .pre) d x (f .1 .0) (omega arith))) (c .before .before .before .before .before .before .before .before .before .mark-pins .ensures)) n (c .before .before .before .sweep .ensures .0)),
-      restored (a .work .now) (a .elements) (a .wires) (a .pins) (s .pre) o n (c .before .before .before .sweep .ensures .1)),
+      (
+        (λ h. unread-answer (a .work .now) (a .elements) (a .wires) (a .pins) (s .pre) (omega arith) (both-marks (a .work .now) (a .elements) (a .wires) (a .pins) (s .pre) (f .1 .1 .0) (f .1 .1 .1 (all-done (a .work .now) (a .elements) (a .wires) (a .pins) (s .pre) d x (f .1 .0) (omega arith))) (c .before .before .before .before .before .before .before .before .before .mark-pins .ensures)) n (c .before .before .before .sweep .ensures .0)),
+        restored (a .work .now) (a .elements) (a .wires) (a .pins) (s .pre) o n (c .before .before .before .sweep .ensures .1),
+      ),
     )
 
 pub find-spec : {M : Type 1} → statement M

@@ -1,8 +1,8 @@
 -- The invariant: the terminals that are still to be taken make the whole. Assumes nothing.
 use native.Mathlib.Omega.{arith}
 use native.Mathlib.Nat.{le-of-lt}
-use mathlib.Core.Path.{_≡_, refl, sym, ap, _∙_, subst}
-use mathlib.Core.List.{List, _∷_}
+use mathlib.Core.Path.{_≡_, refl, sym, ap, _∙_}
+use mathlib.Core.List.{List}
 use Prim.Native.Nat.{ℕ, _≤_, _<_, _-_, _+_}
 use lib.ListN.{length, getD, drop}
 use Rattle.memory.specs.Map.{elementsAt, region}

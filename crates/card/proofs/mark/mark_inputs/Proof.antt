@@ -1,6 +1,6 @@
 -- The invariant: the marks that are still to come make the whole. Assumes nothing.
 use native.Mathlib.Omega.{arith}
-use Prim.Native.Nat.{_≤_, _-_, _+_}
+use Prim.Native.Nat.{_≤_, _-_}
 use Rattle.card.proofs.MarkLaws.{Inputs, inputs-start, inputs-step, inputs-end, markable-stays}
 use Rattle.card.proofs.mark.mark_inputs.Statement.{statement}
 use Rattle.card.proofs.mark.mark_inputs.Tie as tie

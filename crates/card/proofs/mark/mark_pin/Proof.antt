@@ -3,11 +3,9 @@ use borrow.Author.Needs.{needs}
 use native.Mathlib.Omega.{arith}
 use mathlib.Core.Path.{_≡_, ap, sym, _∙_, subst}
 use mathlib.Core.List.{List}
-use Prim.Native.Nat.{ℕ, _<_, _+_}
-use lib.ListN.{length, getD}
+use Prim.Native.Nat.{ℕ, _<_}
 use Rattle.netlist.specs.Said.{saidTerminal}
 use Rattle.calculus.specs.Net.{Terminal, out}
-use Rattle.memory.specs.Map.{terminalOf}
 use Rattle.lean.specs.Table.{entry}
 use Rattle.card.specs.Marks.{PinFree, Free}
 use Rattle.card.proofs.MarkLaws.{pin-input, pin-output}

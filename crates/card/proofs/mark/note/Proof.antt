@@ -1,6 +1,6 @@
 -- By the number that stands there. Assumes nothing.
 use borrow.Author.Needs.{needs}
-use borrow.Author.Tests.{ne-eqb, eq-eqb}
+use borrow.Author.Tests.{ne-eqb}
 use Rattle.card.proofs.mark.note.Statement.{statement}
 use Rattle.card.proofs.mark.note.Tie as tie
 
