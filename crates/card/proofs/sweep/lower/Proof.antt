@@ -4,10 +4,10 @@ use Rattle.card.proofs.sweep.lower.Statement.{statement}
 use Rattle.card.proofs.sweep.lower.Tie as tie
 
 returns : tie.Need-returns
-returns c = rw (lt-ltb _ _ (c .if1 .taken))
+returns c = let x = c .before .args in rw (lt-ltb (x .a) (x .b) (c .if1 .taken))
 
 returns-2 : tie.Need-returns-2
-returns-2 c = rw (le-ltb _ _ (c .if1 .left))
+returns-2 c = let x = c .before .args in rw (le-ltb (x .a) (x .b) (c .if1 .left))
 
 pub lower-spec : {M : Type 1} → statement M
 lower-spec = tie.close (tie.spec returns returns-2)
