@@ -22,7 +22,7 @@ use Rattle.lean.proofs.LeanLaws.{kinds-low}
 use Rattle.ring_points.specs.Rings.{ringIn, ringFrom}
 use Rattle.card.specs.Marks.{readMark, unreadMark, markAll, sourcesIn, partSources, partOutputs, noted, partMarked}
 use Rattle.card.proofs.MarkLaws.{mark-at, mark-length, sources-stay, entry-stays}
-use Rattle.card.proofs.WholeLaws.{Among, among-next, among-out, among-in, output-free, among, sources-outs, outputs-out, has-append, has-all, Spares, spares-stays, spares-none, spares-all, spares-noted}
+use Rattle.card.proofs.WholeLaws.{OutputAmong, among-next, among-out, among-in, output-free, among, sources-outs, outputs-out, has-append, has-all, Spares, spares-stays, spares-none, spares-all, spares-noted}
 
 -- ---- one terminal: its number, once it is read or noted
 
