@@ -1,15 +1,12 @@
 //! Links the archive that `rt staticlib deltawobble` wrote, where it was made for the processor that
 //! this program is built for; elsewhere the program calls it through the host process (host.c). Either
-//! way the archive's own index says which calls there are. BENCH_ARCHIVE names another archive of
-//! that name (a whole path), to try this program on.
+//! way the program is told ARCHIVE_CALLS: the calls that the archive's own index has. BENCH_ARCHIVE names
+//! another archive of that name (a whole path), to try this program on.
 
 use std::path::{Path, PathBuf};
 
 /// The machine number in the header of an ELF file, by processor.
 const MACHINES: [(&str, u16); 2] = [("x86_64", 62), ("aarch64", 183)];
-
-/// The calls that an archive may be without, as long as their requests have not landed.
-const CALLS: [&str; 5] = ["batch", "verilog", "run", "check", "back"];
 
 fn main() {
     let here = std::env::var("CARGO_MANIFEST_DIR").expect("cargo names the folder");
@@ -30,13 +27,11 @@ fn main() {
         println!("cargo:rustc-link-search=native={}", folder.display());
         println!("cargo:rustc-link-lib=static=deltawobble");
     }
-    let names = names(&bytes).unwrap_or_default();
-    for call in CALLS {
-        println!("cargo:rustc-check-cfg=cfg(has_{call})");
-        if names.contains(&format!("deltawobble_{call}")) {
-            println!("cargo:rustc-cfg=has_{call}");
-        }
-    }
+    let names =
+        names(&bytes).expect("the archive has an index: rt staticlib deltawobble writes it");
+    let calls: Vec<&str> =
+        names.iter().filter_map(|name| name.strip_prefix("deltawobble_")).collect();
+    println!("cargo:rustc-env=ARCHIVE_CALLS={}", calls.join(" "));
 }
 
 /// The machine number of the first ELF file in an archive.

@@ -37,14 +37,11 @@ else
     echo "this machine is $(uname -m), the archive for $for_processor: running it under ${emulator##*/}" >&2
 fi
 
-# the calls that the archive has, as definitions for the C compiler: -DHAS_batch ..
-has=$(readelf -sW "$archive" | sed -n 's/.* GLOBAL DEFAULT *[0-9]* deltawobble_\([a-z]*\)$/-DHAS_\1/p' | sort -u)
-
 # the host process and the bench program
 build_bench() {
     (cd bench && cargo build --release --offline --quiet -j1)
     mkdir -p bench/target
     # -z now: the loader looks up the C library's functions before any call, and not on the stack that is measured
-    "$cc" -O2 -Wall -Wextra $static -Wl,-z,now $has -o bench/target/host bench/host.c "$archive"
+    "$cc" -O2 -Wall -Wextra $static -Wl,-z,now -o bench/target/host bench/host.c "$archive"
     export BENCH_HOST="$emulator bench/target/host"
 }

@@ -25,10 +25,10 @@ static const size_t memories[] = {32768, 32768, 32768, 32769, 32767, 0, 40000, 3
         } \
     } while (0)
 
-/* A slice of so many bytes, filled with 0xA5 and so are its guards, in one of three stretches of
+/* A slice of so many bytes, filled with 0xA5 and so are its guards, in one of five stretches of
    memory between two pages that nobody may touch: against the one or the other. */
 static uint8_t *slice(int which, size_t size, bool at_end) {
-    static uint8_t *stretches[3];
+    static uint8_t *stretches[5];
     if (!stretches[which]) {
         size_t page = sysconf(_SC_PAGESIZE);
         uint8_t *base = mmap(0, STRETCH + 2 * page, PROT_READ | PROT_WRITE, MAP_PRIVATE | MAP_ANONYMOUS, -1, 0);

@@ -1,11 +1,10 @@
 /* The host process: makes the calls of the archive on memory that it shares with the bench program.
    It is compiled for the archive's processor, and runs under an emulator where that isn't ours.
    Arguments: file descriptor, size, page size, then the offsets of the pages that nobody may touch.
-   Each request is twelve numbers of 64 bits: the call, by its place in the list below, and PAINTED more
+   Each request is fourteen numbers of 64 bits: the call, by its place in the list below, and PAINTED more
    for a call on a painted stack; for each slice its offset and its number of elements; and at the end
-   the node, the ticks, or the wishes, one bit each.
-   The answer is two numbers: what the call returned, and the bytes of stack it wrote on.
-   HAS_.. says of each later call that the archive has it. */
+   the node, the ticks, the pin, or the wishes, one bit each.
+   The answer is two numbers: what the call returned, and the bytes of stack it wrote on. */
 #define _GNU_SOURCE
 #include <stdbool.h>
 #include <stdint.h>
@@ -16,7 +15,6 @@
 #include <ucontext.h>
 
 #define SLICE(type) type *, size_t
-/* a translator from before L6 or L12 takes fewer wishes, and never looks at the last ones */
 #define WISHES bool, bool, bool
 uint64_t deltawobble_translate(SLICE(const uint8_t), SLICE(uint8_t), SLICE(uint16_t), WISHES);
 uint64_t deltawobble_stretch(SLICE(const uint8_t), size_t);
@@ -27,12 +25,16 @@ uint64_t deltawobble_run(SLICE(const uint8_t), SLICE(const uint8_t), SLICE(const
                          SLICE(uint16_t), uint16_t);
 uint64_t deltawobble_check(SLICE(const uint8_t), SLICE(uint16_t), bool);
 uint64_t deltawobble_back(SLICE(const uint8_t), SLICE(uint8_t), SLICE(uint16_t), bool);
+uint64_t deltawobble_lanes(SLICE(const uint8_t), SLICE(const uint16_t), SLICE(uint16_t), SLICE(uint16_t),
+                           SLICE(uint16_t), uint16_t);
+uint64_t deltawobble_never(SLICE(const uint8_t), SLICE(const uint8_t), SLICE(uint32_t), SLICE(uint32_t), SLICE(uint8_t),
+                           SLICE(uint16_t), uint16_t);
 
-enum { TRANSLATE, STRETCH, BATCH, VERILOG, RUN, CHECK, BACK, PAINTED = 16 };
+enum { TRANSLATE, STRETCH, BATCH, VERILOG, RUN, CHECK, BACK, LANES, NEVER, PAINTED = 16 };
 enum { STACK = 1 << 20, PAINT = 0xA5 };
 
 static uint8_t *base;
-static uint64_t request[12], answer[2];
+static uint64_t request[14], answer[2];
 static bool idle;
 static uint8_t stack[STACK] __attribute__((aligned(64)));
 static ucontext_t here, there;
@@ -41,28 +43,22 @@ static ucontext_t here, there;
 #define AT(i, type) (type *)(base + request[1 + 2 * (i)]), request[2 + 2 * (i)]
 
 static uint64_t call(void) {
-    uint64_t last = request[11];
+    uint64_t last = request[13];
     bool lean = last & 1, plain = last >> 1 & 1, card = last >> 2 & 1;
     switch (request[0] % PAINTED) {
     case TRANSLATE: return deltawobble_translate(AT(0, uint8_t), AT(1, uint8_t), AT(2, uint16_t), lean, plain, card);
     case STRETCH: return deltawobble_stretch(AT(0, uint8_t), last);
-#ifdef HAS_batch
     case BATCH:
         return deltawobble_batch(AT(0, uint8_t), AT(1, uint32_t), AT(2, uint8_t), AT(3, uint64_t), AT(4, uint16_t),
                                  lean, plain, card);
-#endif
-#ifdef HAS_verilog
     case VERILOG: return deltawobble_verilog(AT(0, uint8_t), AT(1, uint8_t), AT(2, uint16_t));
-#endif
-#ifdef HAS_run
     case RUN: return deltawobble_run(AT(0, uint8_t), AT(1, uint8_t), AT(2, uint8_t), AT(3, uint8_t), AT(4, uint16_t), last);
-#endif
-#ifdef HAS_check
     case CHECK: return deltawobble_check(AT(0, uint8_t), AT(1, uint16_t), lean);
-#endif
-#ifdef HAS_back
     case BACK: return deltawobble_back(AT(0, uint8_t), AT(1, uint8_t), AT(2, uint16_t), lean);
-#endif
+    case LANES: return deltawobble_lanes(AT(0, uint8_t), AT(1, uint16_t), AT(2, uint16_t), AT(3, uint16_t), AT(4, uint16_t), last);
+    case NEVER:
+        return deltawobble_never(AT(0, uint8_t), AT(1, uint8_t), AT(2, uint32_t), AT(3, uint32_t), AT(4, uint8_t),
+                                 AT(5, uint16_t), last);
     }
     fprintf(stderr, "the archive has no call %d\n", (int)request[0]);
     exit(2);

@@ -1,4 +1,4 @@
-//! What drives a sheet's module: trace_text bench FILE (for Icarus Verilog, with +ticks=N) or trace_text driver
+//! What drives a sheet's module: trace_text bench FILE (for Icarus Verilog, with +ticks=N and +seed=K) or trace_text driver
 //! FILE (C++ for Verilator, with N as its word, registers as the model starts them). Both draw the bits as
 //! trace_once.c does, and print its sum of the bits shown. trace_text counts FILE prints inputs, registers and
 //! outputs; trace_text sheets COUNT SEED FOLDER writes sheets that can be run.
@@ -73,7 +73,7 @@ fn bench(pins: &[bool], registers: &[u16]) -> String {
     format!(
         "module bench;\n  reg clock;\n  reg [{last}:0] given;\n  wire [{last}:0] shown;\n  reg [31:0] seed;\n  \
          reg [63:0] sum;\n  integer t, ticks;\n  circuit c (.clock(clock){ports});\n  initial begin\n    \
-         clock = 0; seed = 1; sum = 0; t = $value$plusargs(\"ticks=%d\", ticks);\n{starts}    \
+         clock = 0; seed = 1; sum = 0; t = $value$plusargs(\"ticks=%d\", ticks); t = $value$plusargs(\"seed=%d\", seed);\n{starts}    \
          for (t = 0; t < ticks; t = t + 1) begin\n{draws}      #1;\n{sums}      clock = 1; #1 clock = 0;\n    end\n    \
          $display(\"%0d\", sum);\n    $finish;\n  end\nendmodule\n"
     )

@@ -152,6 +152,14 @@ def proved(found, room, pairs):
         print("%s: Yosys does not prove it\n%s" % (pairs[done][1] if done < len(pairs) else "", (said + log)[-3000:]))
 
 
+def refused_by_both(found, name, refused, line):
+    """18 has to stand where the second program finds a kept ring point, at its input; a ring of gates is no reason for it."""
+    if refused.number == 18:
+        found.check(name, "refused 18: a kept ring point, the same one by both", line == "points %d" % refused.place, "18 at %d, and the second program says: %s" % (refused.place, line))
+    else:
+        found.check(name, "refused 2 to 16 by both", line == "refused", "%s, and the second program says: %s" % (refused, line))
+
+
 def main():
     room, seed = sys.argv[1:]
     found, pairs = Found(), []
@@ -164,12 +172,12 @@ def main():
         try:
             text = verilog(data)
         except Refused as refused:
-            found.counts["refused %s" % ("18: a ring of points" if refused.number == 18 else "2 to 16")] += 1
-            found.check(name, "refused by both", line == ("ring" if refused.number == 18 else "refused"), line)
+            refused_by_both(found, name, refused, line)
             continue
+        found.check(name, "modules of sheets that the second program exports too", line != "refused" and not line.startswith("points"), line)
         module = write(path[:-6] + ".v", text)
         compiled(found, name, module)
-        if line == "ring":
+        if line == "gates":
             found.counts["rings of gates"] += 1
             continue
         net = Netlist(translate(data, lean=False, plain=True))

@@ -1,7 +1,8 @@
 //! What the second program says of circuits that are to be simulated: verilog_bits sheets COUNT SEED FOLDER writes generated sheets that
 //! are accepted, FOLDER/000.sheet and on, until COUNT of them have a module; verilog_bits run SEED TICKS FILE.. prints a line for each sheet: its drawn starts,
-//! its drawn inputs tick after tick, and the outputs' bits that it then shows, `-` where there are none; or `ring`, where a
-//! ring passes through no register, or `refused`.
+//! its drawn inputs tick after tick, and the outputs' bits that it then shows, `-` where there are none. Where there is nothing to show,
+//! the line says why: `refused` (2 to 16); `points PLACE`, a kept ring point with its input (18); `gates`, a ring through no register
+//! that has gates in it (19, and no 18).
 
 use second::circuits;
 use second::lean::lean;
@@ -40,10 +41,17 @@ fn run(random: &mut Random, ticks: u16, file: &str) -> String {
     let (inputs, registers, outputs) = Circuit::of(lean(&made.full)).counts();
     let mut bits = |n: usize| -> Vec<u8> { (0..n).map(|_| random.below(2) as u8).collect() };
     let (starts, inputs) = (bits(registers), bits(inputs * usize::from(ticks)));
+    if let Err(refusal) = exported(&sheet, usize::MAX, MEMORY) {
+        assert_eq!(refusal.number, 18, "{file}: an accepted sheet has a module, or a kept ring point");
+        return format!("points {}", refusal.place);
+    }
     let trace = Trace { ticks, inputs: &inputs, starts: &starts };
     match ran(&sheet, trace, outputs * usize::from(ticks), MEMORY) {
         Ok(shown) => format!("{} {} {}", text(&starts), text(&inputs), text(&shown)),
-        Err(_) => "ring".to_string(),
+        Err(refusal) => {
+            assert_eq!(refusal.number, 19, "{file}: only a ring keeps an accepted sheet from running");
+            "gates".to_string()
+        }
     }
 }
 

@@ -1,8 +1,9 @@
 /* The host process: the proved calls over standard input and output, for a Python of another processor. It is linked with the
-   archive, and runs under an emulator. A request is eight numbers of 64 bits, low byte first: which call (in the order below), the
-   lengths of bytes, inputs, starts and list, the room, the wishes (1 lean, 2 plain, 4 card), the node or the ticks; then these
-   bytes. The answer is the call's word, how many bytes it wrote, these bytes, and a result for each number of the list. The call
-   behind the last one says which calls there are, a bit each. */
+   archive, and runs under an emulator. A request is ten numbers of 64 bits, low byte first: the request's own number, which call (in
+   the order below), the lengths of bytes, inputs, starts and list, the room, the wishes (1 lean, 2 plain, 4 card), the node, the ticks or
+   the pin, the numbers of trail and queue; then these bytes. The answer is the request's number, the call's word, how many bytes it wrote, how many bytes of state it
+   left, these bytes, and a result for each number of the list. Of lanes, the starts are the state, and inputs, starts and room are
+   16-bit numbers, all counted in bytes. Of a search that found a tick (40) the whole room is brought back. The call behind the last one says which calls there are, a bit each. */
 #include <stdbool.h>
 #include <stddef.h>
 #include <stdint.h>
@@ -20,14 +21,16 @@ CALL(verilog, LENT, OUT, WORK);
 CALL(run, LENT, LENT, LENT, OUT, WORK, uint16_t);
 CALL(check, LENT, WORK, bool);
 CALL(back, LENT, OUT, WORK, bool);
+CALL(lanes, LENT, const uint16_t *, size_t, WORK, WORK, WORK, uint16_t);
+CALL(never, LENT, LENT, uint32_t *, size_t, uint32_t *, size_t, OUT, WORK, uint16_t);
 
-enum { TRANSLATE, STRETCH, BATCH, VERILOG, RUN, CHECK, BACK, WHICH, MEMORY = 32768 };
-enum { CALLED, BYTES, INPUTS, STARTS, LIST, ROOM, WISHES, NUMBER, FIELDS };
+enum { TRANSLATE, STRETCH, BATCH, VERILOG, RUN, CHECK, BACK, LANES, NEVER, WHICH, MEMORY = 32768 };
+enum { ASKED, CALLED, BYTES, INPUTS, STARTS, LIST, ROOM, WISHES, NUMBER, STATES, FIELDS };
 
 static uint16_t work[MEMORY];
 static uint64_t asked[FIELDS];
 static uint8_t *bytes, *inputs, *starts, *out;
-static uint32_t *list;
+static uint32_t *list, *trail, *queue;
 static uint64_t *results;
 
 static void *lent(size_t size) {
@@ -45,7 +48,8 @@ static void *taken(size_t size) {
 static uint64_t which(void) {
     return (uint64_t)!!deltawobble_translate << TRANSLATE | (uint64_t)!!deltawobble_stretch << STRETCH |
            (uint64_t)!!deltawobble_batch << BATCH | (uint64_t)!!deltawobble_verilog << VERILOG |
-           (uint64_t)!!deltawobble_run << RUN | (uint64_t)!!deltawobble_check << CHECK | (uint64_t)!!deltawobble_back << BACK;
+           (uint64_t)!!deltawobble_run << RUN | (uint64_t)!!deltawobble_check << CHECK | (uint64_t)!!deltawobble_back << BACK |
+           (uint64_t)!!deltawobble_lanes << LANES | (uint64_t)!!deltawobble_never << NEVER;
 }
 
 static uint64_t called(void) {
@@ -59,8 +63,18 @@ static uint64_t called(void) {
     case RUN: return deltawobble_run(bytes, size, inputs, asked[INPUTS], starts, asked[STARTS], out, room, work, MEMORY, asked[NUMBER]);
     case CHECK: return deltawobble_check(bytes, size, work, MEMORY, lean);
     case BACK: return deltawobble_back(bytes, size, out, room, work, MEMORY, lean);
+    case LANES: return deltawobble_lanes(bytes, size, (uint16_t *)inputs, asked[INPUTS] / 2, (uint16_t *)starts, asked[STARTS] / 2,
+                                         (uint16_t *)out, room / 2, work, MEMORY, asked[NUMBER]);
+    case NEVER: return deltawobble_never(bytes, size, starts, asked[STARTS], trail, asked[STATES], queue, asked[STATES], out, room, work, MEMORY,
+                                         asked[NUMBER]);
     default: return which();
     }
+}
+
+static uint64_t written(uint64_t word) {
+    uint64_t wrote = word >> 32 ? 0 : asked[CALLED] == LANES ? 2 * word : word;
+    if (asked[CALLED] == NEVER) wrote = word >> 32 == 40 ? asked[ROOM] : 0;
+    return wrote > asked[ROOM] ? asked[ROOM] : wrote;
 }
 
 static void put(const void *from, size_t size) {
@@ -75,14 +89,16 @@ int main(void) {
         list = taken(4 * asked[LIST]);
         out = lent(asked[ROOM]);
         results = lent(8 * asked[LIST]);
-        uint64_t word = called();
-        uint64_t wrote = word >> 32 ? 0 : word < asked[ROOM] ? word : asked[ROOM];
-        put(&word, sizeof word);
-        put(&wrote, sizeof wrote);
+        trail = lent(4 * asked[STATES]);
+        queue = lent(4 * asked[STATES]);
+        uint64_t word = called(), wrote = written(word);
+        uint64_t head[] = {asked[ASKED], word, wrote, asked[CALLED] == LANES ? asked[STARTS] : 0};
+        put(head, sizeof head);
         put(out, wrote);
+        put(starts, head[3]);
         put(results, 8 * asked[LIST]);
         if (fflush(stdout)) return 2;
-        free(bytes), free(inputs), free(starts), free(list), free(out), free(results);
+        free(bytes), free(inputs), free(starts), free(list), free(out), free(results), free(trail), free(queue);
     }
     return 0;
 }

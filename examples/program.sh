@@ -7,37 +7,15 @@ there() {
     done
 }
 
-# crates NAME: the crates that NAME stands on, and itself, one to a line
-crates() {
-    awk -F: -v name="$1" '
-        function walk(crate, list, n, i) {
-            if (crate in seen || !(crate in deps)) return
-            seen[crate]
-            n = split(deps[crate], list, " ")
-            for (i = 1; i <= n; i++) walk(list[i])
-            print crate
-        }
-        /^[a-z]/ { deps[$1] = $2 }
-        END { walk(name) }' crates.txt
-}
-
 # on_program NAME: proves and builds target/bin/NAME of the present sources, and sets the array `run` to the words that run it.
-# The first time that takes minutes: each crate is told as it is proved.
+# The first time that takes minutes: desk/proving.py says where it is. What desk/build has proved is not proved again, nor the other way round.
 on_program() {
     program=target/bin/$1
     for tool in rt python3; do
         command -v "$tool" >/dev/null || { echo "this needs $tool on the PATH" >&2; exit 2; }
     done
-    first=no
-    if [ ! -x "$program" ]; then
-        first=yes
-        echo "proving and building $program: that takes minutes, the first time" >&2
-    fi
-    mkdir -p target
-    said=target/$1.said
-    rt check "$1" 2>&1 | tee "$said" | awk -v first="$first" -v total="$(crates "$1" | wc -l)" '
-        first == "yes" && /^rt: [a-z_]+ proved/ { print ++n " of " total ": " $2 " proved"; fflush() }' >&2 ||
-        { cat "$said" >&2; exit 1; }
+    [ -x "$program" ] || echo "proving and building $program: that takes minutes, the first time" >&2
+    python3 desk/proving.py "$1" || exit 1
     # The program is for x86-64. It runs as rt runs it: with the toolchain's loader and C library, and on
     # another processor under the emulator that stands beside the toolchain's compiler.
     kit=$(readlink -f "$(command -v rt)")

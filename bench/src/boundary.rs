@@ -1,9 +1,10 @@
 //! The C boundary of the archive: linked in, or called through the host process where the archive was
 //! made for another processor. A call is lent slices, in the order of its C signature, and told one
-//! number: the node, the ticks, or its wishes, one bit each.
+//! number: the node, the ticks, the pin, or its wishes, one bit each.
 
 use crate::fences::{Fences, Place};
 use second::Wish;
+use std::collections::BTreeSet;
 use std::io::{Read, Write};
 use std::process::{Child, ChildStdin, ChildStdout, Command, Stdio};
 
@@ -17,6 +18,8 @@ pub enum Call {
     Run,
     Check,
     Back,
+    Lanes,
+    Never,
 }
 
 /// What users are told there is.
@@ -32,36 +35,38 @@ impl Call {
             Call::Run => "run",
             Call::Check => "check",
             Call::Back => "back",
+            Call::Lanes => "lanes",
+            Call::Never => "never",
         }
     }
 
-    /// Whether the archive has it.
-    pub fn there(self) -> bool {
-        match self {
-            Call::Translate | Call::Stretch => true,
-            Call::Batch => cfg!(has_batch),
-            Call::Verilog => cfg!(has_verilog),
-            Call::Run => cfg!(has_run),
-            Call::Check => cfg!(has_check),
-            Call::Back => cfg!(has_back),
-        }
-    }
-
-    /// Its parameters, where the header declares it.
-    fn parameters(self) -> Option<&'static str> {
-        let (_, declared) = HEADER.split_once(&format!("deltawobble_{}(", self.name()))?;
-        declared.split(");").next()
-    }
-
-    pub fn declared(self) -> bool {
-        self.parameters().is_some()
+    /// Its parameters, as the header declares them.
+    fn parameters(self) -> &'static str {
+        let declared = HEADER.split_once(&format!("deltawobble_{}(", self.name()));
+        declared.and_then(|(_, after)| after.split(");").next()).expect("the header declares it")
     }
 }
 
-/// What a call can be asked for, as far as the header has it: L6 brings plain, L12 the card.
+/// What the header declares and what the archive has, held against each other: whether they agree.
+pub fn header_and_archive() -> bool {
+    let after = HEADER.split("uint64_t deltawobble_").skip(1);
+    let declared: BTreeSet<&str> = after.filter_map(|text| text.split('(').next()).collect();
+    let there: BTreeSet<&str> = env!("ARCHIVE_CALLS").split(' ').collect();
+    for name in declared.difference(&there) {
+        println!(
+            "NOT THERE: deltawobble.h declares deltawobble_{name}, and the archive has it not"
+        );
+    }
+    for name in there.difference(&declared) {
+        println!("NOT DECLARED: the archive has deltawobble_{name}, and deltawobble.h does not");
+    }
+    println!("header and archive: {} calls declared, {} there", declared.len(), there.len());
+    declared == there
+}
+
+/// What a call can be asked for, as its declaration has it.
 pub fn wishes(call: Call) -> Vec<Wish> {
-    let parameters = call.parameters().unwrap_or_default();
-    let told = |name: &str| parameters.contains(&format!("bool {name}"));
+    let told = |name: &str| call.parameters().contains(&format!("bool {name}"));
     let choices = |there: bool, otherwise: bool| match there {
         true => vec![false, true],
         false => vec![otherwise],
@@ -88,7 +93,6 @@ pub mod linked {
     use second::Wish;
 
     extern "C" {
-        // a translator from before L6 or L12 takes fewer wishes, and never looks at the last ones
         #[rustfmt::skip]
         fn deltawobble_translate(
             sheet: *const u8,
@@ -102,7 +106,6 @@ pub mod linked {
             card: bool,
         ) -> u64;
         fn deltawobble_stretch(sheet: *const u8, sheet_len: usize, node: usize) -> u64;
-        #[cfg(has_batch)]
         #[rustfmt::skip]
         fn deltawobble_batch(
             sheets: *const u8,
@@ -119,7 +122,6 @@ pub mod linked {
             plain: bool,
             card: bool,
         ) -> u64;
-        #[cfg(has_verilog)]
         #[rustfmt::skip]
         fn deltawobble_verilog(
             sheet: *const u8,
@@ -129,7 +131,6 @@ pub mod linked {
             work: *mut u16,
             work_len: usize,
         ) -> u64;
-        #[cfg(has_run)]
         #[rustfmt::skip]
         fn deltawobble_run(
             sheet: *const u8,
@@ -144,7 +145,6 @@ pub mod linked {
             work_len: usize,
             ticks: u16,
         ) -> u64;
-        #[cfg(has_check)]
         #[rustfmt::skip]
         fn deltawobble_check(
             net: *const u8,
@@ -153,7 +153,6 @@ pub mod linked {
             work_len: usize,
             lean: bool,
         ) -> u64;
-        #[cfg(has_back)]
         #[rustfmt::skip]
         fn deltawobble_back(
             net: *const u8,
@@ -163,6 +162,36 @@ pub mod linked {
             work: *mut u16,
             work_len: usize,
             lean: bool,
+        ) -> u64;
+        #[rustfmt::skip]
+        fn deltawobble_lanes(
+            sheet: *const u8,
+            sheet_len: usize,
+            inputs: *const u16,
+            inputs_len: usize,
+            state: *mut u16,
+            state_len: usize,
+            out: *mut u16,
+            out_len: usize,
+            work: *mut u16,
+            work_len: usize,
+            ticks: u16,
+        ) -> u64;
+        #[rustfmt::skip]
+        fn deltawobble_never(
+            sheet: *const u8,
+            sheet_len: usize,
+            starts: *const u8,
+            starts_len: usize,
+            trail: *mut u32,
+            trail_len: usize,
+            queue: *mut u32,
+            queue_len: usize,
+            out: *mut u8,
+            out_len: usize,
+            work: *mut u16,
+            work_len: usize,
+            pin: u16,
         ) -> u64;
     }
 
@@ -177,28 +206,31 @@ pub mod linked {
                 deltawobble_translate(sheet, n, out, m, work.cast(), k, lean, plain, card)
             }
             (Call::Stretch, &[(sheet, n)]) => deltawobble_stretch(sheet, n, last as usize),
-            #[cfg(has_batch)]
             #[rustfmt::skip]
             (Call::Batch, &[(sheets, n), (lengths, l), (out, m), (results, r), (work, k)]) => {
                 deltawobble_batch(sheets, n, lengths.cast(), l, out, m, results.cast(), r, work.cast(), k, lean, plain, card)
             },
-            #[cfg(has_verilog)]
             (Call::Verilog, &[(sheet, n), (out, m), (work, k)]) => {
                 deltawobble_verilog(sheet, n, out, m, work.cast(), k)
             }
-            #[cfg(has_run)]
             #[rustfmt::skip]
             (Call::Run, &[(sheet, n), (inputs, i), (starts, s), (out, m), (work, k)]) => {
                 deltawobble_run(sheet, n, inputs, i, starts, s, out, m, work.cast(), k, last as u16)
             },
-            #[cfg(has_check)]
             (Call::Check, &[(net, n), (work, k)]) => {
                 deltawobble_check(net, n, work.cast(), k, lean)
             }
-            #[cfg(has_back)]
             (Call::Back, &[(net, n), (out, m), (work, k)]) => {
                 deltawobble_back(net, n, out, m, work.cast(), k, lean)
             }
+            #[rustfmt::skip]
+            (Call::Lanes, &[(sheet, n), (inputs, i), (state, s), (out, m), (work, k)]) => {
+                deltawobble_lanes(sheet, n, inputs.cast(), i, state.cast(), s, out.cast(), m, work.cast(), k, last as u16)
+            },
+            #[rustfmt::skip]
+            (Call::Never, &[(sheet, n), (starts, s), (trail, t), (queue, q), (out, m), (work, k)]) => {
+                deltawobble_never(sheet, n, starts, s, trail.cast(), t, queue.cast(), q, out, m, work.cast(), k, last as u16)
+            },
             _ => unreachable!("{call:?} on {} slices", slices.len()),
         }
     }
@@ -214,7 +246,7 @@ pub mod linked {
     }
 }
 
-/// The host process: twelve numbers in, two numbers out.
+/// The host process: fourteen numbers in, two numbers out.
 pub struct Host {
     child: Child,
     to: ChildStdin,
@@ -246,13 +278,13 @@ impl Host {
     }
 
     fn ask(&mut self, what: u64, slices: &[Place], last: u64) -> Result<(u64, u64), String> {
-        let mut request = [0; 12];
+        let mut request = [0; 14];
         request[0] = what;
         for (index, slice) in slices.iter().enumerate() {
             request[1 + 2 * index] = slice.offset as u64;
             request[2 + 2 * index] = slice.count as u64;
         }
-        request[11] = last;
+        request[13] = last;
         let bytes: Vec<u8> = request.iter().flat_map(|number| number.to_le_bytes()).collect();
         let mut answer = [0; 16];
         let asked = self.to.write_all(&bytes).and_then(|()| self.to.flush());

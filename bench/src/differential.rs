@@ -1,7 +1,7 @@
 //! The proved calls against the second program, call by call: the answer, every slice from end to end,
 //! and the guard bytes.
 
-use crate::boundary::{Boundary, Call};
+use crate::boundary::{header_and_archive, Boundary};
 use crate::crash;
 use crate::fences::{Fences, Place};
 use crate::modes::{Mode, MODES};
@@ -93,6 +93,7 @@ fn run(mode: &Mode, count: usize, seed: u64) -> Result<Tally, String> {
     let mut attempt = |case: &dyn Case, random: &mut Random, tally: &mut Tally| {
         let request = case.request(random);
         if !request.fits() {
+            tally.too_long += 1;
             return Ok(());
         }
         let tried = lender.tried(&request, random.draw());
@@ -102,7 +103,11 @@ fn run(mode: &Mode, count: usize, seed: u64) -> Result<Tally, String> {
         Ok::<(), String>(())
     };
     for case in (mode.named)(&mut random) {
+        let before = tally.calls;
         attempt(&*case, &mut random, &mut tally)?;
+        if tally.calls == before {
+            return Err(format!("a named case of {} bytes was not tried: no room", case.size()));
+        }
         tally.named += 1;
     }
     for index in 0..mode.share(count) {
@@ -114,34 +119,20 @@ fn run(mode: &Mode, count: usize, seed: u64) -> Result<Tally, String> {
     Ok(tally)
 }
 
-/// All modes of the calls that are there, or those named: whether all is well.
+/// All modes, or those named; and that users are told of the calls that the archive has: whether all is well.
 pub fn differential(count: usize, seed: u64, only: &[String]) -> bool {
     crash::watch();
-    let mut well = true;
+    let mut well = header_and_archive();
     for mode in &MODES {
         let call = mode.call;
         if only.is_empty() || only.iter().any(|name| name == call.name()) {
-            well &= match (call.there(), call.declared()) {
-                (true, true) => report(mode, run(mode, count, seed)),
-                (there, declared) => absent(call, there, declared),
-            };
+            well &= report(mode, run(mode, count, seed));
         }
     }
     if only.is_empty() || only.iter().any(|name| name == "put-in") {
         well &= put_in::run(count / 10, seed);
     }
     well
-}
-
-/// A call that has not landed is told; one that users are told of must be there, and the reverse.
-fn absent(call: Call, there: bool, declared: bool) -> bool {
-    let name = call.name();
-    if there {
-        println!("NOT DECLARED: the archive has deltawobble_{name}, and deltawobble.h does not");
-    } else {
-        println!("NOT THERE: the archive has no deltawobble_{name}; nothing of it was tried");
-    }
-    !there && !declared
 }
 
 fn report(mode: &Mode, result: Result<Tally, String>) -> bool {

@@ -12,15 +12,19 @@ use std::ptr::NonNull;
 /// Cases above this size are slow under valgrind: of the named ones a few are taken.
 const LARGE: usize = 600;
 
-/// Whether all is well, for each call that is there.
+/// .. and above this one they take minutes: the fences of the differential run have to do.
+const HUGE: usize = 1 << 20;
+
+/// Whether all is well, for each call.
 pub fn exact(count: usize, seed: u64) -> bool {
-    MODES.iter().filter(|mode| mode.call.there()).all(|mode| sample(mode, count, seed))
+    MODES.iter().all(|mode| sample(mode, count, seed))
 }
 
 /// About COUNT named cases and COUNT generated ones.
 fn sample(mode: &Mode, count: usize, seed: u64) -> bool {
     let mut random = Random::new(seed);
-    let named = (mode.named)(&mut random);
+    let mut named = (mode.named)(&mut random);
+    named.retain(|case| case.size() <= HUGE);
     let every = (named.len() / count.max(1)).max(1);
     let small = named.iter().filter(|case| case.size() <= LARGE).step_by(every);
     let large = named.iter().filter(|case| case.size() > LARGE).step_by(8 * every);

@@ -24,10 +24,11 @@ const SHARED: c_int = 1;
 const PAGE_SIZE: c_int = 30;
 
 /// The most slices that a call is lent.
-const STRETCHES: usize = 5;
+const STRETCHES: usize = 6;
 
-/// How many bytes each stretch has. What is never touched costs nothing.
-const SIZE: usize = 1 << 20;
+/// How many bytes each stretch has: enough for 128 numbers at each of 65,535 ticks. What is never touched costs
+/// nothing.
+const SIZE: usize = 1 << 25;
 
 /// So many guard bytes lie at a slice's other end.
 pub const GUARD: usize = 4_096;

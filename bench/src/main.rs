@@ -24,6 +24,8 @@ mod timing;
 mod try_back;
 mod try_batch;
 mod try_check;
+mod try_lanes;
+mod try_never;
 mod try_run;
 mod try_translate;
 mod try_verilog;

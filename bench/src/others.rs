@@ -74,9 +74,6 @@ fn second(call: Call, bytes: &[u8], storage: &mut Storage) -> u64 {
 
 /// A call on each of some bytes: nanoseconds a call, by both programs.
 fn row(call: Call, name: &str, list: &[Vec<u8>]) {
-    if !call.there() {
-        return;
-    }
     let storage = Storage::new();
     let all = |each: fn(Call, &[u8], &mut Storage) -> u64| {
         let storage = &storage;

@@ -3,7 +3,6 @@
 //! same but for numbers and order: the same pins, parts matched by the constants that made them, the same
 //! bits on pins and parts, tick after tick.
 
-use crate::boundary::{wishes, Call};
 use crate::circuit::{Circuit, Source};
 use crate::differential::Lender;
 use crate::request::{told, Case};
@@ -60,11 +59,10 @@ impl Rewrites {
 
     /// The circuits that the proved translator makes of a sheet, or its answer where it refuses.
     fn translated(&mut self, sheet: &Rc<Bytes>) -> Result<Result<Both, u64>, String> {
-        // with nodes, where netlists can name them
-        let plain = wishes(Call::Translate).iter().all(|wish| wish.plain);
         let mut circuits = Vec::new();
         for lean in [false, true] {
-            let wish = Wish { lean, plain, card: false };
+            // with nodes: parts are matched by them
+            let wish = Wish { lean, plain: false, card: false };
             let case = Translation { sheet: sheet.clone(), room: ENOUGH, memory: MEMORY, wish };
             let (word, net) = self.call(&case)?;
             if word >> 32 != 0 {
@@ -96,8 +94,8 @@ impl Rewrites {
         let kind = if runs.is_some() { "run" } else { "with a ring" };
         self.tally.count(&[Key::new("same circuits", kind)]);
         match runs {
-            Some(run) if Call::Run.there() => self.same_run([sheet, &new_sheet], run),
-            _ => Ok(()),
+            Some(run) => self.same_run([sheet, &new_sheet], run),
+            None => Ok(()),
         }
     }
 
@@ -274,10 +272,5 @@ pub fn run(count: usize, seed: u64) -> bool {
     }
     rewrites.tally.print("put-in");
     println!("put-in: differences 0");
-    if !Call::Run.there() {
-        println!(
-            "NOT THERE: the archive has no deltawobble_run; run by the bench's own circuits only"
-        );
-    }
     true
 }

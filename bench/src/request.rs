@@ -19,7 +19,7 @@ pub type Cases = Vec<Box<dyn Case>>;
 pub struct Request {
     pub call: Call,
     pub slices: Vec<Slice>,
-    /// The node, the ticks, or the wishes.
+    /// The node, the ticks, the pin, or the wishes.
     pub last: u64,
     pub wanted: u64,
     /// What is counted once both programs agree.
@@ -72,11 +72,8 @@ pub struct Storage {
 impl Storage {
     pub fn new(random: &mut Random, room: usize, memory: usize) -> Storage {
         let salt = random.draw();
-        let mut before = (vec![0; room], vec![0; memory]);
+        let mut before = (vec![0; room], painted(random, memory));
         paint(&mut before.0, salt as u8);
-        for (index, number) in before.1.iter_mut().enumerate() {
-            *number = (index as u16).wrapping_mul(40_503).wrapping_add((salt >> 8) as u16);
-        }
         Storage { out: before.0.clone(), work: before.1.clone(), before }
     }
 
@@ -93,6 +90,12 @@ pub fn paint(bytes: &mut [u8], salt: u8) {
     for (index, byte) in bytes.iter_mut().enumerate() {
         *byte = (index as u8).wrapping_mul(31).wrapping_add(salt);
     }
+}
+
+/// So many numbers, of which none is like its neighbours.
+pub fn painted(random: &mut Random, count: usize) -> Vec<u16> {
+    let salt = random.draw() as u16;
+    (0..count).map(|index| (index as u16).wrapping_mul(40_503).wrapping_add(salt)).collect()
 }
 
 /// Numbers as they lie in memory.

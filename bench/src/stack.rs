@@ -10,12 +10,24 @@ use second::random::Random;
 use second::sheet::MEMORY;
 use second::Wish;
 
+/// The most that a call may take, and a translation of a sheet that is so deep (request L5, README).
+const MOST: u64 = 32_768;
+const MOST_AT: [(u8, u64); 1] = [(8, 6_144)];
+
+/// A high-water mark that is within its limit, or which one is not.
+fn within(what: &str, bytes: u64, most: u64) -> Result<u64, String> {
+    match bytes <= most {
+        true => Ok(bytes),
+        false => Err(format!("{what}: {bytes} bytes of stack, at most {most} are said")),
+    }
+}
+
 pub fn print() -> Result<(), String> {
     let mut fences = Fences::new();
     let mut host = Host::start(&fences);
     by_class(&mut fences, &mut host)?;
     by_depth(&mut fences, &mut host)?;
-    let others = |mode: &&Mode| mode.call != Call::Translate && mode.call.there();
+    let others = |mode: &&Mode| mode.call != Call::Translate;
     for mode in MODES.iter().filter(others) {
         by_call(mode, &mut fences, &mut host)?;
     }
@@ -35,7 +47,7 @@ fn by_call(mode: &Mode, fences: &mut Fences, host: &mut Host) -> Result<(), Stri
         }
     }
     println!("{:<27}{most:>9}  ({cases} named cases)", mode.call.name());
-    Ok(())
+    within(mode.call.name(), most, MOST).map(|_| ())
 }
 
 /// Functions one in the other, as deep as is said: the innermost is the variable with this number.
@@ -60,6 +72,8 @@ fn by_depth(fences: &mut Fences, host: &mut Host) -> Result<(), String> {
             }
         }
         println!("{depth:<27}{:>9}{:>11}{:>9}", most[0], most[1], most[2]);
+        let limit = MOST_AT.iter().find(|(at, _)| *at == depth).map_or(MOST, |(_, limit)| *limit);
+        within(&format!("depth {depth}"), most.into_iter().max().unwrap_or(0), limit)?;
     }
     Ok(())
 }
@@ -93,6 +107,7 @@ fn by_class(fences: &mut Fences, host: &mut Host) -> Result<(), String> {
             }
         }
         println!("{:<27}{:>9}{:>9}", class.name, most[0], most[1]);
+        within(class.name, most[0].max(most[1]), MOST)?;
     }
     Ok(())
 }

@@ -28,6 +28,8 @@ pub struct Tally {
     pub named: usize,
     pub generated: usize,
     pub calls: usize,
+    /// Left out, since a slice is longer than its stretch.
+    pub too_long: usize,
     counts: BTreeMap<Key, usize>,
 }
 
@@ -51,8 +53,11 @@ impl Tally {
 
     /// A line for the whole, then one for each group: `0` stands for accepted.
     pub fn print(&self, name: &str) {
-        let Tally { named, generated, calls, .. } = self;
+        let Tally { named, generated, calls, too_long, .. } = self;
         println!("{name}: {named} named and {generated} generated cases, {calls} calls");
+        if *too_long > 0 {
+            println!("  NOT TRIED: {too_long} calls with a slice too long for its stretch");
+        }
         let mut last = "";
         let mut line = String::new();
         for (key, count) in &self.counts {

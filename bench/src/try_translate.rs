@@ -58,7 +58,7 @@ impl Case for Stretch {
     }
 }
 
-const EDITIONS: [&str; 2] = ["first edition", "second edition"];
+pub const EDITIONS: [&str; 2] = ["first edition", "second edition"];
 const CAUSES: &str = "12 by the node's kind";
 
 /// The number by edition, and the cause of a 12.

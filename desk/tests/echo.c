@@ -53,6 +53,25 @@ uint64_t deltawobble_check(LENT(net), uint16_t *work, size_t numbers, bool lean)
     START(net);
     return answer(0, 0, work, numbers, lean);
 }
+uint64_t deltawobble_lanes(LENT(sheet), const uint16_t *inputs, size_t inputs_len, uint16_t *state, size_t state_len, uint16_t *out,
+                           size_t room, uint16_t *work, size_t numbers, uint16_t ticks) {
+    START(sheet);
+    add(inputs, 2 * inputs_len);
+    add(state, 2 * state_len);
+    for (size_t i = 0; i < state_len; i++) state[i] = (uint16_t)(sum >> i) ^ state[i];
+    uint8_t some[20] = {0};
+    uint64_t word = answer(some, room < 20 ? room : 20, work, numbers, ticks + 3 * room);
+    for (size_t i = 0; i < 20 && i < room; i++) out[i] = (uint16_t)(some[i] << 5);
+    return word;
+}
+uint64_t deltawobble_never(LENT(sheet), LENT(starts), uint32_t *trail, size_t trail_len, uint32_t *queue, size_t queue_len, OUT, uint16_t pin) {
+    START(sheet);
+    add(starts, starts_len);
+    add(trail, 4 * trail_len);
+    add(queue, 4 * queue_len);
+    uint64_t word = answer(out, room, work, numbers, pin);
+    return sum % 2 ? word : sum % 1000 | 40ull << 32;
+}
 #ifndef WITHOUT_BACK
 uint64_t deltawobble_back(LENT(net), OUT, bool lean) {
     START(net);

@@ -1,14 +1,14 @@
-"""What the tests share: the examples, the command run in this process, and tests that need a call which the library may not have."""
+"""What the tests share: the examples, and the command run in this process."""
 from __future__ import annotations
 
 import contextlib
 import io
+import signal
 import sys
-import unittest
 from pathlib import Path
 from typing import Iterator
 
-from deltawobble import calls, cli, engine
+from deltawobble import cli
 from deltawobble.files import read
 
 ROOT = Path(__file__).resolve().parents[2]
@@ -42,17 +42,6 @@ def command(*words: str, given: bytes = b"") -> tuple[int, str, str]:
     return status, out.buffer.getvalue().decode(), err.buffer.getvalue().decode()
 
 
-def needs(*calls: str):
-    """Skips a test, and says so, where the library has not these calls."""
-    missing = [name for name in calls if not engine.find().has(name)]
-    return unittest.skipIf(missing, "NOT RUN: this library has no %s yet" % ", ".join(missing))
-
-
-def needs_nodes():
-    """Skips a test where the library's netlists do not name nodes (document 02, L6)."""
-    return unittest.skipUnless(calls.names_nodes(), "NOT RUN: this library's netlists name no nodes yet")
-
-
-def needs_card():
-    """Skips a test where the library does not know the card's profile (document 02, L12)."""
-    return unittest.skipUnless(calls.knows_card(), "NOT RUN: this library knows no profile for the card yet")
+def unshielded() -> None:
+    """In a new process: Ctrl-C reaches it, also where these tests run behind a shell, which starts such processes with SIGINT ignored."""
+    signal.signal(signal.SIGINT, signal.SIG_DFL)

@@ -1,4 +1,4 @@
-"""Each command in README.md and docs/NOTATION.md runs as printed, and prints what stands below it."""
+"""Each command in README.md, docs/NOTATION.md and docs/DESK.md runs as printed, and prints what stands below it; README counts the lines to believe."""
 from __future__ import annotations
 
 import os
@@ -6,8 +6,6 @@ import re
 import subprocess
 import unittest
 from pathlib import Path
-
-from deltawobble import engine
 
 from .support import ROOT
 
@@ -32,10 +30,6 @@ class Pages(unittest.TestCase):
         cases = transcripts(ROOT / name)
         self.assertGreaterEqual(len(cases), least)
         for command, wanted in cases:
-            call = re.search(r"desk/deltawobble (\w+)", command)[1]
-            if call in engine.CALLS and not engine.find().has(call):
-                print("NOT RUN: this library has no %s yet: %s" % (call, command))
-                continue
             run = subprocess.run(["bash", "-c", command], cwd=ROOT, env=dict(os.environ, PYTHONIOENCODING="utf-8"), stdout=subprocess.PIPE, stderr=subprocess.STDOUT, text=True)
             self.assertEqual(run.stdout, wanted, command)
 
@@ -45,7 +39,23 @@ class Pages(unittest.TestCase):
     def test_notation(self):
         self.held("docs/NOTATION.md", 6)
 
+    def test_desk(self):
+        self.held("docs/DESK.md", 6)
+
     def test_the_notation_in_the_readme_is_the_example(self):
         text = (ROOT / "examples" / "sticky.dw").read_text()
         for page in ("README.md", "docs/NOTATION.md"):
             self.assertIn("".join("    " + line + "\n" for line in text.splitlines()), (ROOT / page).read_text())
+
+
+class Lines(unittest.TestCase):
+    def test_the_readme_has_the_lines_to_believe(self):
+        """README's table has the numbers of docs/lines in their order, and the rows behind it: each within a tenth."""
+        said = subprocess.run([str(ROOT / "docs" / "lines")], check=True, stdout=subprocess.PIPE, text=True).stdout
+        wanted = [int(line.split()[0]) for line in said.splitlines()]
+        page = (ROOT / "README.md").read_text()
+        table, after = page[page.index("| lines, about |"):].split("Beside them stand some ", 1)
+        found = re.findall(r"^\| ([\d,]+) \| ", table, re.M) + [after.split()[0]]
+        self.assertEqual(len(found), len(wanted))
+        for number, true in zip((int(word.replace(",", "")) for word in found), wanted):
+            self.assertAlmostEqual(number, true, delta=true / 10)

@@ -3,7 +3,6 @@ from __future__ import annotations
 
 import json
 import shutil
-import struct
 import tempfile
 import unittest
 import xml.etree.ElementTree as ElementTree
@@ -25,44 +24,56 @@ class Drawing(unittest.TestCase):
     def path(self, name: str) -> str:
         return str(Path(self.made.name) / name)
 
-    def test_dot_needs_no_graphviz(self):
+    def drawn(self, *words: str) -> ElementTree.Element:
+        status, _, err = command("draw", *words, "-o", self.path("x.svg"))
+        self.assertEqual(status, 0, err)
+        return ElementTree.parse(self.path("x.svg")).getroot()
+
+    def test_dot_and_svg_need_no_graphviz(self):
         with mock.patch("shutil.which", return_value=None):
-            status, out, _ = command("draw", "--lean", str(EXAMPLES / "full-adder.dw"))
+            status, out, _ = command("draw", str(EXAMPLES / "full-adder.dw"))
             self.assertEqual(status, 0)
             self.assertTrue(out.startswith("digraph circuit {") and out.endswith("}\n"))
             self.assertEqual(command("draw", str(EXAMPLES / "P3.hex"), "-o", self.path("p3.dot"))[0], 0)
-            status, _, err = command("draw", str(EXAMPLES / "P3.hex"), "-o", self.path("p3.svg"))
-        self.assertEqual(status, 2)
-        self.assertIn("Debian package graphviz", err)
-        self.assertIn(".dot", err)
+            self.assertEqual(command("draw", str(EXAMPLES / "P3.hex"), "-o", self.path("p3.svg"))[0], 0)
+            for name in ("P3", "P8"):
+                status, _, err = command("draw", str(EXAMPLES / (name + ".hex")), "-o", self.path("p3.png"))
+                self.assertEqual(status, 2)
+                self.assertIn("Debian package graphviz", err)
+                self.assertIn(".dot", err)
 
-    def test_wrong_kind(self):
-        self.assertEqual(command("draw", str(EXAMPLES / "P3.hex"), "-o", self.path("p3.jpg"))[0], 2)
+    def test_wrong_use(self):
+        sheet = str(EXAMPLES / "sticky.dw")
+        trace = str(EXAMPLES / "sticky.trace")
+        for words in (["-o", self.path("p3.jpg")], ["--full", "--lean"], ["--depth", "0"], ["--tick", "1"], ["--trace", trace], ["--starts", "1"],
+                      ["--trace", trace, "--tick", "1"], ["--trace", trace, "--tick", "1", "--full", "-o", self.path("x.svg")],
+                      ["--trace", trace, "--tick", "8", "-o", self.path("x.svg")], ["--trace", trace, "--tick", "-1", "-o", self.path("x.svg")]):
+            self.assertEqual(command("draw", sheet, *words)[0], 2, words)
 
-    def test_shapes_are_pictures(self):
-        for name in shapes.SHAPES:
-            data = shapes.png(name, 1)
-            self.assertEqual((data[:8], struct.unpack(">II", data[16:24])), (b"\x89PNG\r\n\x1a\n", (64, 40)))
+    def test_stored_pictures_are_what_make_draws(self):
+        """docs/pictures/make says which; here two of them are drawn again."""
+        for name in ("sticky", "bitonic-sorter-8"):
+            self.drawn(str(EXAMPLES / (name + ".dw")))
+            self.assertEqual(Path(self.path("x.svg")).read_text(), (ROOT / "docs" / "pictures" / (name + ".svg")).read_text(), name)
 
-    def test_stored_pictures_are_well_formed(self):
-        for name in ("sticky", "serial-adder", "accumulator", "lfsr-16", "bitonic-sorter-8"):
-            root = ElementTree.parse(ROOT / "docs" / "pictures" / (name + ".svg")).getroot()
-            self.assertEqual(root.tag, SVG + "svg")
-
-    @unittest.skipUnless(shutil.which("dot"), "NOT RUN: Graphviz is not installed (Debian package graphviz)")
-    def test_svg(self):
+    def test_each_part_has_its_shape(self):
         for name, gates in (("full-adder", 5), ("comparator-divergence", 8), ("chain-open", 0), ("P7", 0)):
-            for words in ([], ["--lean"]):
-                self.assertEqual(command("draw", *words, str(EXAMPLES / (name + ".dw")), "-o", self.path("x.svg"))[0], 0)
-                root = ElementTree.parse(self.path("x.svg")).getroot()
-                drawn = [p for p in root.iter(SVG + "path") if p.get("class") in shapes.SHAPES]
+            for words in ([], ["--full"], ["--lean"]):
+                root = self.drawn(*words, str(EXAMPLES / (name + ".dw")))
+                drawn = [g for g in root.iter(SVG + "g") if (g.get("class") or "").startswith("gate ") and g.get("class").split()[1] in shapes.SHAPES]
                 self.assertEqual(len(drawn), gates, name)
                 self.assertEqual(list(root.iter(SVG + "image")), [])
 
+    def test_lean_unless_asked_for_full(self):
+        # three inputs and three names are functions of one bit each
+        points = [sum(g.get("class") == "gate point" for g in self.drawn(str(EXAMPLES / "full-adder.dw"), *w).iter(SVG + "g")) for w in ([], ["--full"])]
+        self.assertEqual(points, [0, 6])
+
     @unittest.skipUnless(shutil.which("dot"), "NOT RUN: Graphviz is not installed (Debian package graphviz)")
     def test_png(self):
-        command("draw", "--lean", str(EXAMPLES / "sticky.dw"), "-o", self.path("x.png"))
-        self.assertEqual(Path(self.path("x.png")).read_bytes()[:8], b"\x89PNG\r\n\x1a\n")
+        for name in ("sticky.dw", "bitonic-sorter-8.dw", "P8.hex"):
+            self.assertIn(command("draw", str(EXAMPLES / name), "-o", self.path("x.png"))[0], (0, 1))
+            self.assertEqual(Path(self.path("x.png")).read_bytes()[:8], b"\x89PNG\r\n\x1a\n")
 
     def test_a_refused_term_has_its_node_marked(self):
         status, out, err = command("draw", str(EXAMPLES / "P8.hex"))

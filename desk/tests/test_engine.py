@@ -41,8 +41,10 @@ class BackEnds(unittest.TestCase):
         rng = random.Random(5)
         for name in engine.CALLS:
             for _ in range(40):
-                some = lambda most: bytes(rng.randrange(256) for _ in range(rng.randrange(most)))
-                request = Request(name, some(300), inputs=some(50), starts=some(9), room=rng.choice([0, 1, 19, 20, 500]), number=rng.randrange(65536),
+                unit = Request(name, b"").unit
+                some = lambda most, unit=1: bytes(rng.randrange(256) for _ in range(unit * rng.randrange(most)))
+                request = Request(name, some(300), inputs=some(50, unit), starts=some(9, unit), room=unit * rng.choice([0, 1, 19, 20, 500]), number=rng.randrange(65536),
+                                  states=rng.choice([0, 1, 4, 1024]),
                                   lean=rng.random() < 0.5, plain=rng.random() < 0.5, card=rng.random() < 0.5,
                                   lengths=[rng.randrange(1 << 32) for _ in range(rng.randrange(5))] if name == "batch" else [])
                 self.assertEqual(self.library.call(request), self.host.call(request), name)
@@ -53,7 +55,7 @@ class BackEnds(unittest.TestCase):
             self.assertEqual(self.less.has(name), name != "back")
         with mock.patch.object(engine, "_found", self.less), self.assertRaises(NoCall) as caught:
             calls.back(b"")
-        self.assertEqual(str(caught.exception), "this library has no back yet: build it again with desk/build")
+        self.assertEqual(str(caught.exception), "this library has no back: it is older than this desk, build it again with desk/build")
 
     def test_a_host_that_ends_is_told(self):
         gone = Host([str(Path(self.folder.name) / "host")])
@@ -74,7 +76,7 @@ class Proved(unittest.TestCase):
 
     def test_the_library_is_the_archive(self):
         how = engine.MADE / "how.json"
-        made = json.loads(how.read_text()).get("library") if how.exists() and not os.environ.get("DELTAWOBBLE_LIBRARY") else None
+        made = json.loads(how.read_text()).get("library") if how.exists() and not {"DELTAWOBBLE_LIBRARY", "DELTAWOBBLE_HOST"} & set(os.environ) else None
         if made is None:
             self.skipTest("NOT RUN: what is called is no library that desk/build has made")
         self.assertEqual(engine.find().name, "%s, in this process" % made)
@@ -91,9 +93,19 @@ class Missing(unittest.TestCase):
         with tempfile.TemporaryDirectory() as folder, mock.patch.object(engine, "MADE", Path(folder)), mock.patch.object(engine, "_found", None), \
                 mock.patch.dict("os.environ"):
             engine.os.environ.pop("DELTAWOBBLE_LIBRARY", None)
+            engine.os.environ.pop("DELTAWOBBLE_HOST", None)
             status, out, err = command("listing", str(EXAMPLES / "P3.hex"))
         self.assertEqual((status, out), (2, ""))
         self.assertIn("run desk/build", err)
+
+    def test_a_host_of_another_desk(self):
+        with tempfile.TemporaryDirectory() as folder, mock.patch.object(engine, "MADE", Path(folder)), mock.patch.object(engine, "_found", None), \
+                mock.patch.dict("os.environ"):
+            for name in ("DELTAWOBBLE_LIBRARY", "DELTAWOBBLE_HOST"):
+                engine.os.environ.pop(name, None)
+            (Path(folder) / "how.json").write_text('{"host": ["cat"]}')
+            status, _, err = command("listing", str(EXAMPLES / "P3.hex"))
+        self.assertEqual((status, err), (2, "deltawobble: the host process was built for another desk: build it again with desk/build\n"))
 
     def test_a_library_that_is_none(self):
         with mock.patch.object(engine, "_found", None), mock.patch.dict("os.environ", DELTAWOBBLE_LIBRARY=str(EXAMPLES / "P3.hex")):

@@ -142,7 +142,7 @@ class Explain(unittest.TestCase):
 
     def test_which_limit(self):
         edges = fault_reports.edges()
-        for name, words in (("nodes-2049", "the 2049th node"), ("depth-65", "depth 65"), ("size-129", "129 single bits"),
+        for name, words in (("nodes-2049", "the 2,049th node, and 2,048 are the limit"), ("depth-65", "depth 65, and 64 is the limit"), ("size-129", "129 single bits, and 128 are the limit"),
                             ("terminals-8448", "8448 terminals in all")):
             self.assertIn(words, deltawobble.explain(edges[name]), name)
 

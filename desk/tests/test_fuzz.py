@@ -80,13 +80,28 @@ def words_of(seed: int, name: str, out: str) -> list[list[str]]:
     some = lambda *words: [word for word in words if rng.random() < 0.4]
     number = str(rng.choice([0, 1, 2, 3, 7, 99, -1, 10 ** 12]))
     starts = rng.choice([[], [], ["--starts", rng.choice(["0", "1", "01", "2", "x", ""])]])
-    ticks = rng.choice([[], ["--ticks", rng.choice(["0", "3", "-1", "65536", str(10 ** 12)])]])
+    ticks = rng.choice([[], ["--ticks", rng.choice(["0", "3", "-1", "70000", str(10 ** 12)])]])
     return [["listing", name], ["translate", name, *some("--lean", "--plain", "--card")], ["explain", name, *some("--card")],
             ["where", name, number], ["batch", name, str(EXAMPLES / "P3.hex"), *some("--lean"), *rng.choice([[], ["-o", out]])], ["verilog", name],
             ["run", name, "-", *starts, *ticks, *some("--waves", "--period")], ["run", name, "--period", *starts],
             ["run", name, *ticks, *some("--waves")], ["check", name, *some("--lean")], ["back", name, *some("--lean", "--show")],
-            ["inline", name, *some("--all", "--show"), *rng.choice([[], ["--node", number]])], ["draw", name, *some("--lean")],
-            ["show", name], ["make", name]]
+            ["inline", name, *some("--all", "--show"), *rng.choice([[], ["--node", number]])], ["draw", name, *some("--lean", "--full")],
+            ["draw", name, *some("--lean", "--nodes"), *rng.choice([[], ["--depth", number]]), "-o", out + ".svg"],
+            ["report", name, *rng.choice([[], ["-"]]), *starts, "-o", out + ".html"], ["show", name], ["make", name], ["registers", name, *some("--all")],
+            *searches(rng, name)]
+
+
+def searches(rng: random.Random, name: str) -> list[list[str]]:
+    """The searches, of the first output pin or of the only one."""
+    pin = rng.choice([[], ["--pin", "out"], ["--pin", "out.0"], ["--pin", "x"]])
+    starts = rng.choice([[], ["--starts", rng.choice(["0", "2", "021", "either", "all=0", "all=either", "x", "3", ""])]])
+    other = rng.choice([name, str(EXAMPLES / "P3.hex"), str(EXAMPLES / "sticky.dw")])
+    return [["prove", name, *pin, *starts], ["reach", name, *pin, *starts], ["same", name, other, *starts, *rng.choice([[], ["--positions"]])]]
+
+
+ROWS = b"x,y,out\n0,0,0\n0,1,1\n1,1,x\n# c\n0,1,1\n"
+DUMP = (b"$timescale 1 ns $end\n$scope module t $end\n$var wire 1 ! x $end\n$var wire 1 \" y $end\n$var wire 1 c clk $end\n$upscope $end\n"
+        b"$enddefinitions $end\n#0\n$dumpvars\n0!\n1\"\n0c\n$end\n#5\n1c\n#10\n0c\n1!\n#15\n1c\n#20\n0c\n")
 
 
 class Fuzz(unittest.TestCase):
@@ -97,7 +112,7 @@ class Fuzz(unittest.TestCase):
         """One command, with --json and without: the same status, and something said; the status and the JSON."""
         status, out, err = command(*words, given=given_trace)
         self.assertIn(status, (0, 1, 2))
-        self.assertTrue(out or err, "nothing is said")
+        self.assertTrue(out or err or words[-2:-1] == ["-o"], "nothing is said, and nothing written")
         again, answer, err = command(*words, "--json", given=given_trace)
         self.assertEqual(again, status)
         if status == 2 and not answer:
@@ -105,14 +120,18 @@ class Fuzz(unittest.TestCase):
             return status, None
         said = json.loads(answer)
         if isinstance(said, dict):
-            self.assertIs(said["accepted"], status == 0)
-            self.assertEqual("number" in said and "place" in said, status == 1)
+            self.assertIs(said["accepted"], {0: True, 1: False, 2: None}[status])
+            # what can never be reached is no refusal
+            nowhere = words[0] == "reach" and said.get("never") is True
+            self.assertEqual("number" in said and "place" in said, status == 1 and not nowhere)
         return status, said
 
     def test_every_subcommand(self):
-        self.assertEqual({words[0] for words in words_of(1, "", "")}, set(cli.COMMANDS))
+        # of the other two one takes no file, and the other a plan (test_campaign)
+        on_sheets = set(cli.COMMANDS) - {"verify", "campaign"}
+        self.assertEqual({words[0] for words in words_of(1, "", "")}, on_sheets)
         seen: set[tuple[str, int]] = set()
-        with tempfile.TemporaryDirectory() as folder, mock.patch.object(period, "MOST", 1):
+        with tempfile.TemporaryDirectory() as folder, mock.patch.object(period, "MOST", 1), mock.patch.object(period, "MOST_HIDDEN", 16):
             for seed in range(self.COUNT):
                 name, data = given(seed)
                 path = Path(folder) / name
@@ -120,7 +139,25 @@ class Fuzz(unittest.TestCase):
                 for words in words_of(seed, str(path), folder + "/out"):
                     with self.subTest(words=words, data=data.hex()):
                         seen.add((words[0], self.held(words, trace(seed))[0]))
-        self.assertGreaterEqual(len(seen), 3 * len(cli.COMMANDS) - 3, seen)
+        self.assertGreaterEqual(len(seen), 3 * len(on_sheets) - 3, seen)
+
+    def test_traces(self):
+        # damaged rows and dumps: something is said, and no exception
+        seen: set[tuple[str, int]] = set()
+        with tempfile.TemporaryDirectory() as folder:
+            for seed in range(4 * self.COUNT):
+                rng = random.Random(seed)
+                kind, data = rng.choice([("csv", ROWS), ("vcd", DUMP)])
+                path = Path(folder) / ("given." + kind)
+                path.write_bytes(hurt(rng, data))
+                sampled = rng.choice([["--clock", "clk"], ["--every", "5ns"]]) if kind == "vcd" else []
+                words = ["run", str(EXAMPLES / "sticky.dw"), str(path), *sampled, *rng.choice([[], ["--starts", "either"], ["--json"], ["--waves"], ["--show", "s,set"]])]
+                with self.subTest(words=words, data=path.read_bytes()):
+                    status, out, err = command(*words)
+                    self.assertIn(status, (0, 1, 2))
+                    self.assertTrue(out or err, "nothing is said")
+                    seen.add((kind, status))
+        self.assertGreaterEqual(len(seen), 4, seen)
 
     def test_raw_bytes_have_the_proved_answer(self):
         with tempfile.TemporaryDirectory() as folder:

@@ -184,8 +184,9 @@ class Commands(unittest.TestCase):
             self.assertEqual(command("make", text, "-o", as_hex), (0, "", ""))
             self.assertEqual(Path(sheet).read_bytes(), make(STICKY).sheet)
             self.assertEqual(Path(as_hex).read_text(), command("make", text)[1])
-            shown = {command("show", name)[1] for name in (text, sheet, as_hex)}
+            shown = {command("show", name)[1] for name in (sheet, as_hex)}
             self.assertEqual(shown, {"edition 2\nmain = fun x y : 1. (fun z : 1. fix u : 1. or (z, reg u)) (xor (x, y))\n"})
+            self.assertEqual(command("show", text)[1], "edition 2\nmain = fun x y : 1. (fun set : 1. fix s : 1. or (set, reg s)) (xor (x, y))\n")
 
     def test_refused_and_wrong(self):
         self.assertEqual(command("show", str(EXAMPLES / "P8.hex"))[0], 1)

@@ -9,7 +9,7 @@ from deltawobble.answer import Refused
 from deltawobble.netlist import Netlist
 from deltawobble.words import PARTS
 
-from .support import examples, needs
+from .support import examples
 
 
 def drivers(net: Netlist) -> list[tuple[int, list[tuple[str, int]]]]:
@@ -49,7 +49,6 @@ def generated(chance: random.Random) -> bytes:
     return elements + wires + pins
 
 
-@needs("back")
 class RoundTrip(unittest.TestCase):
     def comes_back(self, net: bytes, lean: bool) -> None:
         sheet = calls.back(net, lean=lean)

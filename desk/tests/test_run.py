@@ -10,12 +10,12 @@ import tempfile
 import unittest
 from pathlib import Path
 
-from deltawobble import calls
+from deltawobble import calls, make
 from deltawobble.files import read
-from deltawobble.trace import Run, read_rows
+from deltawobble.trace import Run, period_of
 from deltawobble.vcd import vcd
 
-from .support import EXAMPLES, ROOT, command, needs
+from .support import EXAMPLES, ROOT, command
 
 ADDER = str(EXAMPLES / "full-adder.dw")
 
@@ -35,47 +35,33 @@ def read_vcd(text: str) -> tuple[dict[str, str], int]:
             while next(words) != "$end":
                 pass
         elif word.startswith("#"):
-            if time is not None:
+            if time is not None and now:
                 for code in names:
                     bits[code] += now[code] * (int(word[1:]) - time)
             time = int(word[1:])
         elif word[0] in "01" and word[1:] in names:
             now[word[1:]] = word[0]
+        elif word[0] == "b":
+            now[next(words)] = word[1:] + " "
     return {names[code]: bits[code] for code in names}, time
 
 
 class Traces(unittest.TestCase):
-    def rows(self, text: str) -> list[list[int]]:
-        return [list(row.bits) for row in read_rows("t", text)]
-
-    def test_forms(self):
-        for text in ("01\n10\n", "0 1\n1 0\n", "0,1\r\n1,0\r\n", "x,y\n0,1\n1,0", "# a\n\n  0 1 \n\t\n1;0 # b\n", "\ufeff"[:0] + "01\n\n\n10"):
-            self.assertEqual(self.rows(text), [[0, 1], [1, 0]], text)
-        self.assertEqual(self.rows(""), [])
-        self.assertEqual(self.rows("0 2\n"), [[0, 2]])
-
-    def test_what_is_no_bit(self):
-        from deltawobble.files import WrongUse
-        with self.assertRaises(WrongUse) as caught:
-            read_rows("t.csv", "0 1\n0 x\n")
-        self.assertEqual(str(caught.exception), "t.csv:2:3: 'x' is no bit")
-
     def test_a_dump_is_read_back(self):
         rng = random.Random(2)
         for pins in (1, 3, 120):
-            rows = [(bytes(rng.randrange(2) for _ in range(pins)), bytes(rng.randrange(2) for _ in range(2))) for _ in range(30)]
-            run = Run(["i%d" % i for i in range(pins)], ["o.0", "o.1"], rows)
-            found, ticks = read_vcd(vcd(run))
+            names = ["i%d" % i for i in range(pins)] + ["o", "q"]
+            run = Run(names[:-2], names[-2:], [bytes(rng.randrange(2) for _ in range(30)) for _ in names], 30)
+            found, ticks = read_vcd(b"".join(vcd(iter([run]), names)).decode())
             self.assertEqual(ticks, 30)
-            self.assertEqual(found, {name.replace(".", "_"): "".join(map(str, bits)) for name, bits in run.signals})
-        self.assertEqual(read_vcd(vcd(Run(["a"], [], [])))[1], 0)
+            self.assertEqual(found, {name: "".join(map(str, bits)) for name, bits in run.signals})
+        self.assertEqual(read_vcd(b"".join(vcd(iter([]), ["a"])).decode())[1], 0)
 
     def test_waves_go_on_below(self):
-        run = Run(["x"], ["out"], [(b"\1", b"\0")] * 25)
+        run = Run(["x"], ["out"], [b"\1" * 25, bytes(25)], 25)
         self.assertEqual(len(run.waves(16)), 3 * 3 + 2)
 
 
-@needs("run")
 class Running(unittest.TestCase):
     def given(self, text: str, *words: str) -> tuple[int, str, str]:
         return command("run", ADDER, "-", *words, given=text.encode())
@@ -93,7 +79,10 @@ class Running(unittest.TestCase):
 
     def test_no_tick_at_all(self):
         for text in ("", "\n", "# nothing\n", "a b c\n"):
-            self.assertEqual(self.given(text)[:2], (0, "tick  a b c | out.0 out.1\n"))
+            status, out, err = self.given(text)
+            self.assertEqual((status, out), (2, ""), text)
+            self.assertIn("-: the trace has no tick", err)
+        self.assertEqual(command("run", ADDER, "--ticks", "0")[:2], (0, "tick  a b c | out.0 out.1\n"))
 
     def test_bad_traces(self):
         status, _, err = self.given("110\n112\n")
@@ -107,8 +96,8 @@ class Running(unittest.TestCase):
         self.assertEqual(command("run", ADDER, "-", given=b"\x00\xff")[0], 2)
         self.assertEqual(command("run", ADDER)[0], 2)
         self.assertEqual(command("run", "-", "-")[0], 2)
-        self.assertEqual(command("run", ADDER, "--ticks", "65536")[0], 2)
-        self.assertEqual(command("run", ADDER, "--ticks", "-1")[0], 2)
+        status, _, err = command("run", ADDER, "--ticks", "-5")
+        self.assertEqual((status, err), (2, "deltawobble: --ticks takes 0 or more, and not -5\n"))
 
     def test_bad_starts(self):
         sticky = str(EXAMPLES / "sticky.dw")
@@ -120,14 +109,18 @@ class Running(unittest.TestCase):
         status, _, err = command("run", str(EXAMPLES / "P4.hex"), "--ticks", "3")
         self.assertEqual(status, 1)
         self.assertIn("refused 19 at terminal 0", err)
-        err = command("run", "-", "--ticks", "3", given=b"main = fix x : 1. inv (inv x)")[2]
-        self.assertRegex(err, r"look at: the ring inv \d+ -> inv \d+ -> inv \d+|refused 19")
+        ring = "main = fix x : 1. inv (inv x)"
+        pointed = "-:1:19: refused 19 at terminal 2: a ring without a register\n   1 | %s\n     | %s\n" % (ring, " " * 18 + "^^^")
+        self.assertEqual(command("run", "-", "--ticks", "3", given=ring.encode()), (1, "", pointed))
+        status, _, err = command("run", "-", "--ticks", "3", given=make(ring).sheet)
+        self.assertEqual(status, 1)
+        self.assertIn("look at: the ring inv 2 -> inv 4 -> inv 2\n", err)
 
     def test_the_dump_of_a_run(self):
         with tempfile.TemporaryDirectory() as folder:
             path = Path(folder) / "run.vcd"
             self.assertEqual(self.given("000\n011\n111\n", "--vcd", str(path))[0], 0)
-            self.assertEqual(read_vcd(path.read_text())[0], {"a": "001", "b": "011", "c": "011", "out_0": "001", "out_1": "011"})
+            self.assertEqual(read_vcd(path.read_text())[0], {"a": "001", "b": "011", "c": "011", "out": "00 10 11 "})
             if shutil.which("vcd2fst"):
                 subprocess.run(["vcd2fst", str(path), str(path) + ".fst"], check=True, capture_output=True)
 
@@ -146,7 +139,7 @@ class Running(unittest.TestCase):
         said = json.loads(command("run", lfsr, "--period", "--json", "--starts", "0000000000000001")[1])
         self.assertEqual((said["accepted"], said["period"], said["looked"], said["starts"]), (True, 65535, 65535, [0] * 15 + [1]))
         status, out, _ = command("run", "-", "--period", given=b"main = reg one")
-        self.assertEqual((status, out), (0, "no period found: in the 1114078 ticks looked through the registers do not show their starts again\n"))
+        self.assertEqual((status, out), (0, "no period found: in the 1048576 ticks looked through the registers do not show their starts again\n"))
         said = json.loads(command("run", "-", "--ticks", "7", "--period", "--json", "--starts", "1", given=b"main = fix x : 1. reg (inv x)")[1])
         self.assertEqual((said["period"], said["looked"], len(said["ticks"])), (2, 7, 7))
         self.assertIn("in the 7 ticks looked through", said["words"])
@@ -162,7 +155,7 @@ class Running(unittest.TestCase):
             bits = bytes(rng.randrange(2) for _ in range(rng.randrange(1, 9))) * rng.randrange(1, 4)
             bits = bits[:rng.randrange(1, len(bits) + 1)]
             wanted = next((p for p in range(1, len(bits)) if all(bits[t] == bits[t % p] for t in range(len(bits)))), None)
-            self.assertEqual(Run([], ["out"], [(b"", bytes([b])) for b in bits]).period().ticks, wanted, bits)
+            self.assertEqual(period_of(bits).ticks, wanted, bits)
 
     def test_ticks_and_a_trace(self):
         self.assertEqual(len(json.loads(self.given("110\n111\n000\n", "--ticks", "2", "--json")[1])["ticks"]), 2)
@@ -170,8 +163,6 @@ class Running(unittest.TestCase):
         self.assertEqual(status, 2)
         self.assertIn("-: the trace has 2 ticks, and --ticks asks for 3", err)
         self.assertEqual(self.given("110\n", "--ticks", "-1")[0], 2)
-        self.assertEqual(command("run", ADDER, "--ticks", str(10 ** 12))[0], 2)
-        self.assertEqual(self.given("000\n" * 65536)[0], 2)
         self.assertEqual(self.given("000\n" * 65536, "--ticks", "1")[0], 0)
         self.assertIn("the first N of the trace", " ".join(command("run", "--help")[1].split()))
 
@@ -190,7 +181,6 @@ class Running(unittest.TestCase):
             self.assertIn("refused %d" % number, err)
 
 
-@needs("run")
 class Examples(unittest.TestCase):
     def bits(self, name: str, rows: list[list[int]], registers: int = 0) -> bytes:
         return calls.run(read(str(EXAMPLES / (name + ".dw"))).bytes, bytes(b for row in rows for b in row), bytes(registers), len(rows))

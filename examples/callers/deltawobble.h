@@ -9,8 +9,8 @@
    Working memory of fewer than 32,768 numbers is refusal 1, and is not touched; otherwise its first 32,768
    numbers are 0 afterwards, and later ones never change. Any bytes will do, and any lengths: nothing in
    them need be checked first. What C cannot say and a caller keeps: a pointer has the memory of its length
-   behind it, aligned for its type, and what a call writes to (out, work, results) overlaps nothing else
-   that is lent. */
+   behind it, aligned for its type, and what a call writes to (out, state, work, results) overlaps nothing
+   else that is lent. */
 #ifndef DELTAWOBBLE_H
 #define DELTAWOBBLE_H
 #include <stdbool.h>
@@ -58,6 +58,28 @@ uint64_t deltawobble_stretch(const uint8_t *sheet, size_t sheet_len, size_t node
 uint64_t deltawobble_run(const uint8_t *sheet, size_t sheet_len, const uint8_t *inputs, size_t inputs_len,
                          const uint8_t *starts, size_t starts_len, uint8_t *out, size_t out_len,
                          uint16_t *work, size_t work_len, uint16_t ticks);
+
+/* Runs sixteen recorded traces at once, one in each bit of a number: bit k of every number of inputs, state and out
+   belongs to trace k. Lent are the numbers of the input pins, in pin order, tick after tick, and one for each register
+   by rising terminal, the bits that it shows at tick 0; written are the numbers of the output pins, and into state the
+   bits that the registers would show at the next tick, so that a call with that state goes on where this one ended.
+   Refusals as of deltawobble_run, and every 16-bit number will do; 17's place, the value and the lengths are counted in
+   numbers. On a refusal neither out nor state changes. A longer recording is run window by window: a tick count has 16
+   bits here too, and of a larger one C would leave the lowest 16. Nothing in a state says of which sheet it is. */
+uint64_t deltawobble_lanes(const uint8_t *sheet, size_t sheet_len, const uint16_t *inputs, size_t inputs_len,
+                           uint16_t *state, size_t state_len, uint16_t *out, size_t out_len,
+                           uint16_t *work, size_t work_len, uint16_t ticks);
+/* Searches all states of the registers of a sheet's lean netlist for a tick at which output pin `pin`, counted from 0
+   among the output pins, can show 1. starts: a byte for each register by rising terminal, 0 or 1 for that bit, 2 for
+   either. Accepted with k: it has 0 at every tick of every record, of any length and with any inputs, and k states were
+   met. Or 40 at the first tick t at which some record has 1; where the output has room for registers + (t + 1) · input
+   pins bytes, start bits and then input bits, tick after tick, of a trace that shows it: what deltawobble_run takes with
+   t + 1 ticks. After 16, 19 as above; 41: more than 20 registers, 42: more than 12 input pins, place how many; 43, place
+   0: start bytes not of the exact number, or one above 2; 44: no such output pin, place how many there are; 45: trail or
+   queue shorter than 2^registers numbers, which is the place. Both are left all 0, whatever is answered. */
+uint64_t deltawobble_never(const uint8_t *sheet, size_t sheet_len, const uint8_t *starts, size_t starts_len,
+                           uint32_t *trail, size_t trail_len, uint32_t *queue, size_t queue_len,
+                           uint8_t *out, size_t out_len, uint16_t *work, size_t work_len, uint16_t pin);
 
 /* Writes a first-edition sheet whose lean netlist has the parts of a netlist with the same drivers. The
    netlist has 1 to 16 parts, no points and at most 24 undriven inputs; lean says if it is a lean one.

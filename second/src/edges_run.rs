@@ -18,19 +18,19 @@ fn bits(text: &str) -> Bytes {
     text.bytes().filter(u8::is_ascii_digit).map(|digit| digit - b'0').collect()
 }
 
-const REG: &str = "01 030000 1A0101";
+pub const REG: &str = "01 030000 1A0101";
 /// Pins: two inputs, one output.
-const AND: &str = "01 030000 030001 1A0202";
+pub const AND: &str = "01 030000 030001 1A0202";
 /// fix x. inv (reg x)
-const TOGGLE: &str = "01 030000 1900 14 1A0501 14 1A0101 1100";
+pub const TOGGLE: &str = "01 030000 1900 14 1A0501 14 1A0101 1100";
 /// The sum of all inputs so far, by twos: x in, fix s. xor x (reg s) out
-const SUM: &str = "01 030000 030001 1301 1900 14 14 1A0402 1101 14 1A0101 1100";
+pub const SUM: &str = "01 030000 030001 1301 1900 14 14 1A0402 1101 14 1A0101 1100";
 /// reg (reg x): the outer register has the lower terminals
-const TWO: &str = "01 030000 1301 14 1A0101 14 1A0101 1100";
+pub const TWO: &str = "01 030000 1301 14 1A0101 14 1A0101 1100";
 /// x, y in; y, x out
-const SWAP: &str = "01 020000 030001 030002 1303 1302 1701 1100 1101";
+pub const SWAP: &str = "01 020000 030001 030002 1303 1302 1701 1100 1101";
 /// Two registers of each other's outputs
-const ROUND: &str = "01 020000 030000 1901 18 1100 1701 14 1A0102 1100 14 1A0102 1101";
+pub const ROUND: &str = "01 020000 030000 1901 18 1100 1701 14 1A0102 1100 14 1A0102 1101";
 
 /// Name, sheet, ticks, inputs, starts, and the bits written.
 #[rustfmt::skip]

@@ -17,7 +17,7 @@ pub struct Foreign {
 
 /// The call: the answer's value is 0.
 pub fn call(net: &[u8], memory: &mut [u16], lean: bool) -> u64 {
-    let result = lent(net, memory.len(), lean).map(|_| Vec::new());
+    let result = lent(net, memory.len(), lean).map(|_| Vec::<u8>::new());
     word(leave(result, &mut [], memory))
 }
 

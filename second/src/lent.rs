@@ -6,10 +6,10 @@ use crate::sheet::MEMORY;
 
 /// "Output bytes after them stay; on a refusal all output bytes stay. The first 32,768 working
 /// numbers are 0 after each call, refusals included, except that refusal 1 changes none; later ones
-/// never change." Gives the number of bytes written.
-pub fn leave(
-    result: Result<Vec<u8>, Refusal>,
-    output: &mut [u8],
+/// never change." Gives the number of bytes written, or of numbers where the output is of numbers.
+pub fn leave<T: Copy>(
+    result: Result<Vec<T>, Refusal>,
+    output: &mut [T],
     memory: &mut [u16],
 ) -> Result<usize, Refusal> {
     if memory.len() >= MEMORY {

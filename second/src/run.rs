@@ -33,15 +33,29 @@ pub fn call(
 
 /// Refusals 1, 2 to 16, 19, 20 and 17, in this order.
 pub fn ran(sheet: &[u8], trace: Trace, room: usize, memory: usize) -> Result<Vec<u8>, Refusal> {
-    need(memory >= MEMORY, 1, 0)?;
-    let circuit = Circuit::of(lean(&accepted(sheet)?.full));
-    if let Some(input) = circuit.lowest_on_a_ring() {
-        return Err(Refusal::new(19, input.0.into()));
-    }
+    let circuit = runnable(sheet, memory)?;
     need(circuit.fits(trace), 20, 0)?;
     let needed = usize::from(trace.ticks) * circuit.output_pins().count();
     need(needed <= room, 17, needed)?;
-    Ok(circuit.run(trace))
+    Ok(circuit.run(trace).shown)
+}
+
+/// Refusals 1, 2 to 16 and 19, in this order.
+pub fn runnable(sheet: &[u8], memory: usize) -> Result<Circuit, Refusal> {
+    need(memory >= MEMORY, 1, 0)?;
+    let circuit = Circuit::of(lean(&accepted(sheet)?.full));
+    match circuit.lowest_on_a_ring() {
+        Some(input) => Err(Refusal::new(19, input.0.into())),
+        None => Ok(circuit),
+    }
+}
+
+/// What a run shows, and what it leaves in the registers.
+pub struct Went {
+    /// The output pins' bits, in pin order, tick after tick.
+    pub shown: Vec<u8>,
+    /// The bit that each register would show at the next tick, by rising terminal.
+    pub held: Vec<u8>,
 }
 
 /// The lean netlist, where every input knows its driver and every output its element.
@@ -69,14 +83,14 @@ impl Circuit {
         (self.input_pins().count(), self.registers().count(), self.output_pins().count())
     }
 
-    fn input_pins(&self) -> impl Iterator<Item = Input> + '_ {
+    pub(crate) fn input_pins(&self) -> impl Iterator<Item = Input> + '_ {
         self.lean.pins.iter().filter_map(|pin| match pin {
             Terminal::Input(input) => Some(*input),
             Terminal::Output(_) => None,
         })
     }
 
-    fn output_pins(&self) -> impl Iterator<Item = Output> + '_ {
+    pub(crate) fn output_pins(&self) -> impl Iterator<Item = Output> + '_ {
         self.lean.pins.iter().filter_map(|pin| match pin {
             Terminal::Input(_) => None,
             Terminal::Output(output) => Some(*output),
@@ -84,7 +98,7 @@ impl Circuit {
     }
 
     /// Elements stand by rising terminal.
-    fn registers(&self) -> impl Iterator<Item = Element> + '_ {
+    pub(crate) fn registers(&self) -> impl Iterator<Item = Element> + '_ {
         self.lean.elements.iter().copied().filter(|element| is_register(*element))
     }
 
@@ -134,8 +148,8 @@ impl Circuit {
             && bits(trace.starts)
     }
 
-    /// The output pins' bits of the only possible record.
-    fn run(&self, trace: Trace) -> Vec<u8> {
+    /// The only possible record, as far as pins and registers show it.
+    pub fn run(&self, trace: Trace) -> Went {
         let order = self.order();
         let mut bits = vec![0u8; TERMINALS];
         for (register, &start) in self.registers().zip(trace.starts) {
@@ -153,11 +167,12 @@ impl Circuit {
             shown.extend(self.output_pins().map(|output| bits[usize::from(output.0)]));
             self.clock(&mut bits);
         }
-        shown
+        let held = self.registers().map(|register| bits[usize::from(register.output().0)]);
+        Went { shown, held: held.collect() }
     }
 
     /// The elements but for registers, each behind those that drive it.
-    fn order(&self) -> Vec<Element> {
+    pub(crate) fn order(&self) -> Vec<Element> {
         let mut order = Vec::new();
         let mut placed = vec![false; TERMINALS];
         for &element in &self.lean.elements {
@@ -180,7 +195,7 @@ impl Circuit {
 
     /// "both ends of each wire are equal, both ends of each point are equal, zero is 0, one is 1, the
     /// gates have their truth tables"
-    fn settle(&self, element: Element, bits: &mut [u8]) {
+    pub(crate) fn settle(&self, element: Element, bits: &mut [u8]) {
         self.feed(element, bits);
         let first = usize::from(element.first());
         let output = usize::from(element.output().0);
@@ -209,7 +224,7 @@ impl Circuit {
 
     /// "a reg's output at a tick is its input at the tick before": all inputs first, as a register
     /// may drive another.
-    fn clock(&self, bits: &mut [u8]) {
+    pub(crate) fn clock(&self, bits: &mut [u8]) {
         for register in self.registers() {
             self.feed(register, bits);
         }

@@ -8,3 +8,4 @@ pub mod SameDrivers
 pub mod Main
 pub mod Pins
 pub mod Worked
+pub mod Again

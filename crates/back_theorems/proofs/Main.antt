@@ -25,11 +25,11 @@ use Rattle.foreign_theorems.specs.Foreign.{Bytes, Accepts, check}
 use Rattle.foreign_theorems.proofs.Exact.{check-exact}
 use Rattle.back_theorems.specs.Back.{gates, openIns, backSheet, backNet}
 use Rattle.back_theorems.specs.Returned.{noPoint, within, returned}
-use Rattle.back_theorems.specs.Promises.{PartOnly, Returns, Back, LeanOf, SameParts}
+use Rattle.back_theorems.specs.Promises.{PartOnly, Returns, Back, BackWithin, LeanOf, SameParts}
 use Rattle.back_theorems.specs.Drivers.{SameDrivers}
 use Rattle.back_theorems.proofs.CameBack.{net-came-back}
 use Rattle.back_theorems.proofs.SameParts.{same-gates}
-use Rattle.back_theorems.proofs.SameDrivers.{drivers-same}
+use Rattle.back_theorems.proofs.SameDrivers.{open-counted, drivers-same}
 
 -- what is accepted is read
 pub accepts-read : (told : Bool) (s : List ℕ) (a : Accepts told s) → readNet s ≡ good (a .net)
@@ -107,3 +107,23 @@ same-drivers told s sheet b e m net r f = go (back-exact told s sheet b .0 e) (c
         let n : k .accepts .net ≡ m = good-inj (sym (accepts-read told s (k .accepts)) ∙ r) in
         let l : lean net ≡ backNet (openIns (gates m)) (gates m) = ap lean (good-inj (sym f ∙ c .accepted)) ∙ c .lean-is in
         drivers-same m (subst Returns n (k .returns)) (subst Formed n (k .accepts .formed)) (lean net) (formed-lean sheet net f) l
+
+-- ---- accepted exactly within the limits, the undriven inputs counted terminal by terminal
+
+pub back-within : (told : Bool) (s sheet : List ℕ) → Bytes s → (returned told s ≡ good sheet) ↔ BackWithin told s sheet
+back-within told s sheet b = ((λ e. there (back-exact told s sheet b .0 e)), (λ w. back-exact told s sheet b .1 (again w)))
+  where
+    there : Back told s sheet → BackWithin told s sheet
+    there k =
+        let a = k .accepts in
+        let r = k .returns in
+        record { accepts = a; parts = r .parts; some = r .some; most = r .most; undriven = omega (arith, r .inputs, open-counted (a .net) (r .parts) (a .formed)); is = k .is }
+
+    again : BackWithin told s sheet → Back told s sheet
+    again w =
+        let a = w .accepts in
+        record {
+          accepts = a;
+          returns = record { parts = w .parts; from = a .formed .from; some = w .some; most = w .most; inputs = omega (arith, w .undriven, open-counted (a .net) (w .parts) (a .formed)) };
+          is = w .is;
+        }

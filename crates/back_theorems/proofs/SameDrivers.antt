@@ -235,7 +235,7 @@ nth-of (part p i ∷ es) o a t =
     by-eqb (λ b. T (b || isOut es o) → (q : ℕ) × (j : ℕ) × NthPart (part p i ∷ es) (cond b 0 (suc (partBefore es o))) q j × (j + partAt q .inputs ≡ o)) (i + partAt p .inputs) o
     (λ e h. (p, i, this-part, e)) (λ d h. let r = nth-of es o (a .1) h in (r .0, r .1, past-part (r .2), r .3)) t
 
-module _ (m : Net) (ok : Returns m) where
+module _ (m : Net) (parts : All PartOnly (m .elements)) (from : All (λ w. T (isOut (m .elements) (w .from))) (m .wires)) where
   none-here : (x : ℕ) → (T (isUndriven m x) → ⊥) → undrivenBelow m (x + 1) ≡ undrivenBelow m x
   none-here x f =
       let z : 0 + undrivenBelow m x ≡ undrivenBelow m x = omega arith in
@@ -258,7 +258,7 @@ module _ (m : Net) (ok : Returns m) where
   from-part : (x : ℕ) → T (hasWire (m .wires) x) → FromPart m (partBefore (m .elements) (driver (m .wires) x 0)) x
   from-part x t =
       let h = driver-runs (m .wires) x t in
-      let r = nth-of (m .elements) (driver (m .wires) x 0) (ok .parts) (all-among (λ w. T (isOut (m .elements) (w .from))) (record { from = driver (m .wires) x 0; to = x }) (m .wires) (ok .from) h) in
+      let r = nth-of (m .elements) (driver (m .wires) x 0) parts (all-among (λ w. T (isOut (m .elements) (w .from))) (record { from = driver (m .wires) x 0; to = x }) (m .wires) from h) in
       (r .0, r .1, r .2, subst (λ (z : ℕ). RunsTo m z x) (sym (r .3)) h)
 
   is-open : (x : ℕ) → 1 ≤ madeAt (m .elements) x → hasWire (m .wires) x ≡ false → T (isUndriven m x)
@@ -303,6 +303,28 @@ module _ (m : Net) (ok : Returns m) where
         let last : undrivenBelow m (i + k + 1) ≡ j + undrivens (sources m k i j) =
         closed (i + k) (f (i + k) (omega arith) ∙ omega (arith, side-out k i (i + k) (omega arith), made-low es (i + k + 1) end (i + k) (r .1) (omega arith))) ∙ h .1 in
         (refl, sources-whole k i j, h .0, old-gated es (i + k + 1) (j + undrivens (sources m k i j)) (r .1) (a .1) last (λ x u. f x (omega arith) ∙ omega (arith, side-out k i x (omega arith))))
+
+    -- the undriven inputs of the parts from terminal n on
+    counted-from : (es : List Element) (n j : ℕ) → Rising es n end → All PartOnly es → undrivenBelow m n ≡ j → ((x : ℕ) → n ≤ x → madeAt (m .elements) x ≡ madeAt es x)
+        → undrivenBelow m end ≡ j + openIns (gatesFrom m es j)
+    counted-from [] n j r a e f =
+        let z : n + (end - n) ≡ end = omega arith in
+        ap (undrivenBelow m) (sym z) ∙ gap n (end - n) (λ x u v. f x u) ∙ omega (arith, e)
+    counted-from (point i ∷ es) n j r a e f = absurd (a .0)
+    counted-from (part p i ∷ es) n j r a e f =
+        let k = partAt p .inputs in
+        let l : n ≤ i = r .0 in
+        let z : n + (i - n) ≡ i = omega arith in
+        let first : undrivenBelow m i ≡ j = ap (undrivenBelow m) (sym z) ∙ gap n (i - n) (λ x u v. f x u ∙ made-low (part p i ∷ es) i end x (le-refl i, r .1) (omega arith)) ∙ e in
+        let h = old-ins k i j first (λ x u v. omega (arith, f x (omega arith), side-in k i x u v)) in
+        let last : undrivenBelow m (i + k + 1) ≡ j + undrivens (sources m k i j) =
+        closed (i + k) (f (i + k) (omega arith) ∙ omega (arith, side-out k i (i + k) (omega arith), made-low es (i + k + 1) end (i + k) (r .1) (omega arith))) ∙ h .1 in
+        counted-from es (i + k + 1) (j + undrivens (sources m k i j)) (r .1) (a .1) last (λ x u. f x (omega arith) ∙ omega (arith, side-out k i x (omega arith)))
+        ∙ omega arith
+
+-- the undriven inputs, terminal by terminal, are as many as the definition's
+pub open-counted : (m : Net) → All PartOnly (m .elements) → (f : Formed m) → undrivenBelow m (f .end) ≡ openIns (gates m)
+open-counted m parts f = counted-from m parts (f .from) (f .end) (m .elements) 0 0 (f .rising) parts refl (λ x h. refl) ∙ omega arith
 
 -- ---- the gates of the netlist that comes back
 
@@ -381,7 +403,7 @@ drivers-same m ok f b g e =
     let o : All (GateIn k q) gs = gates-in m ok q (omega arith) k (m .elements) 0 (ok .parts) (omega arith) in
     let l : length gs ≡ suc q = omega arith in
     let top = 2 * k + 2 * length gs in
-    let old : Gated (OldDriver m) (m .elements) gs = old-gated m ok (f .end) (m .elements) 0 0 (f .rising) (ok .parts) refl (λ x h. refl) in
+    let old : Gated (OldDriver m) (m .elements) gs = old-gated m (ok .parts) (ok .from) (f .end) (m .elements) 0 0 (f .rising) (ok .parts) refl (λ x h. refl) in
     let new : Gated (NewDriver b) (b .elements) gs =
     subst (λ (x : Net). Gated (NewDriver x) (x .elements) gs) (sym e) (gated-points (NewDriver (backNet k gs)) k 0 (partsFrom gs top) gs (new-gated k q gs l gs top [] o refl)) in
     record {

@@ -5,14 +5,17 @@ use mathlib.Core.Path.{_≡_}
 use mathlib.Core.Bool.{Bool}
 use mathlib.Core.List.{List, _++_}
 use lib.Dec.{T}
-use lib.ListN.{length}
+use lib.ListN.{length, take}
 use Rattle.calculus.specs.Answer.{good}
 use Rattle.calculus.specs.Net.{Element, point, part, Net}
 use Rattle.calculus.specs.Lean.{lean}
 use Rattle.calculus.specs.Inputs.{isOut}
 use Rattle.calculus.specs.Record.{All}
-use Rattle.calculus.specs.Translate.{full}
+use Rattle.calculus.specs.NetRead.{readNet}
+use Rattle.calculus.specs.Translate.{full, call}
+use Rattle.calculus.specs.Known.{leanPlain}
 use Rattle.foreign_theorems.specs.Foreign.{Accepts}
+use Rattle.back_theorems.specs.Drivers.{undrivenBelow, SameDrivers}
 use Rattle.back_theorems.specs.Back.{gates, openIns, backSheet, inputsFrom, outputsFrom, gatesSeen}
 
 -- ---- the netlists that return
@@ -35,6 +38,16 @@ pub record Back (told : Bool) (s sheet : List ℕ) : Type 0 where
   pub returns : Returns (accepts .net)
   pub is : backSheet (accepts .net) ≡ sheet
 
+-- the same without the definition's own count: "with 1 to 16 parts, no points and at most 24 undriven inputs", which are counted terminal
+-- by terminal
+pub record BackWithin (told : Bool) (s sheet : List ℕ) : Type 0 where
+  pub accepts : Accepts told s
+  pub parts : All PartOnly (accepts .net .elements)
+  pub some : 1 ≤ length (accepts .net .elements)
+  pub most : length (accepts .net .elements) ≤ 16
+  pub undriven : undrivenBelow (accepts .net) (accepts .formed .end) ≤ 24
+  pub is : backSheet (accepts .net) ≡ sheet
+
 -- ---- what the sheet's translation is
 
 -- the sheet is accepted, and m is its lean netlist
@@ -48,3 +61,13 @@ pub record LeanOf (sheet : List ℕ) (m : Net) : Type 0 where
 pub record SameParts (m b : Net) : Type 0 where
   pub gates-same : gatesSeen b (b .elements) ≡ gates m
   pub pins : b .pins ≡ inputsFrom (openIns (gates m)) 0 ++ outputsFrom (gates m) (2 * openIns (gates m) + 2 * length (gates m))
+
+-- what `translate` leaves of the sheet, asked for the lean netlist in plain kinds: it is accepted, and its bytes tell a netlist with the same
+-- parts in the same order, whose inputs have the same drivers
+pub record TranslatesBack (m : Net) (sheet out work : List ℕ) : Type 0 where
+  pub count : ℕ
+  pub said : call leanPlain sheet out work .said ≡ good count
+  pub net : Net
+  pub told : readNet (take count (call leanPlain sheet out work .out)) ≡ good net
+  pub same-parts : SameParts m net
+  pub same-drivers : SameDrivers m net

@@ -1,10 +1,11 @@
 -- Netlists whose sheets or refusals were worked out by hand from document 02, L11, for a program of its own (second/src/edges_back.rs).
 -- Assumes nothing.
 use Prim.Native.Nat.{ℕ}
-use mathlib.Core.Bool.{Bool, true, false}
+use Prim.Native.String.{String}
+use mathlib.Core.Bool.{Bool, true, false, cond}
 use mathlib.Core.List.{List, [], _∷_, _++_}
+use Rattle.calculus.specs.Texts.{hex, allBytes}
 use Rattle.calculus.specs.Answer.{Answer, good, refuse}
-use Rattle.foreign_theorems.specs.Worked.{partRecord, wireRecord, pinRecord}
 use Rattle.back_theorems.specs.Returned.{returned}
 
 -- a netlist's bytes, whether it is called lean, and the answer
@@ -13,53 +14,55 @@ pub record BackRow : Type 0 where
   pub lean : Bool
   pub sheet : Answer (List ℕ)
 
-abbrev row : List ℕ → Bool → Answer (List ℕ) → BackRow
-row s lean a = record { net = s; lean = lean; sheet = a }
+abbrev row : String → Bool → Answer (List ℕ) → BackRow
+row s lean a = record { net = hex s; lean = lean; sheet = a }
 
 -- 01, 03 00 00, 03 00 01, the types that follow, and the term
-abbrev sheet : List ℕ → List ℕ → Answer (List ℕ)
-sheet types term = good (0x01 ∷ 0x03 ∷ 0x00 ∷ 0x00 ∷ 0x03 ∷ 0x00 ∷ 0x01 ∷ (types ++ term))
+abbrev sheet : String → String → Answer (List ℕ)
+sheet types term = good (hex "01 03 00 00 03 00 01" ++ (hex types ++ hex term))
 
 abbrev came : List BackRow
 came =
-    row (partRecord 0 0) false (sheet [] (0x19 ∷ 0x00 ∷ 0x1A ∷ 0x00 ∷ 0x00 ∷ []))  -- zero
-    ∷ row (partRecord 6 0 ++ pinRecord 0 ++ pinRecord 0) false (sheet [] (0x19 ∷ 0x00 ∷ 0x1A ∷ 0x06 ∷ 0x00 ∷ []))  -- one, shown twice
-    ∷ row (partRecord 5 0 ++ pinRecord 0 ++ pinRecord 1) false (sheet [] (0x13 ∷ 0x01 ∷ 0x19 ∷ 0x00 ∷ 0x14 ∷ 0x1A ∷ 0x05 ∷ 0x01 ∷ 0x11 ∷ 0x01 ∷ []))  -- inv of a pin
-    ∷ row (partRecord 1 0 ++ wireRecord 1 0) false (sheet [] (0x19 ∷ 0x00 ∷ 0x14 ∷ 0x1A ∷ 0x01 ∷ 0x01 ∷ 0x11 ∷ 0x00 ∷ []))  -- reg of itself
-    ∷ row (partRecord 2 0 ++ pinRecord 1 ++ pinRecord 0) false (sheet [] (0x13 ∷ 0x02 ∷ 0x13 ∷ 0x01 ∷ 0x19 ∷ 0x00 ∷ 0x14 ∷ 0x14 ∷ 0x1A ∷ 0x02 ∷ 0x02 ∷ 0x11 ∷ 0x02 ∷ 0x11 ∷ 0x01 ∷ []))  -- and of two pins
-    ∷ row (partRecord 3 0 ++ wireRecord 2 1 ++ pinRecord 0) false (sheet [] (0x13 ∷ 0x01 ∷ 0x19 ∷ 0x00 ∷ 0x14 ∷ 0x14 ∷ 0x1A ∷ 0x03 ∷ 0x02 ∷ 0x11 ∷ 0x01 ∷ 0x11 ∷ 0x00 ∷ []))  -- or of a pin and itself
-    ∷ row (partRecord 4 0 ++ wireRecord 2 0 ++ pinRecord 1) false (sheet [] (0x13 ∷ 0x01 ∷ 0x19 ∷ 0x00 ∷ 0x14 ∷ 0x14 ∷ 0x1A ∷ 0x04 ∷ 0x02 ∷ 0x11 ∷ 0x00 ∷ 0x11 ∷ 0x01 ∷ []))  -- xor of itself and a pin
-    ∷ row (partRecord 4 0 ++ wireRecord 2 1 ++ wireRecord 2 0) false (sheet [] (0x19 ∷ 0x00 ∷ 0x14 ∷ 0x14 ∷ 0x1A ∷ 0x04 ∷ 0x02 ∷ 0x11 ∷ 0x00 ∷ 0x11 ∷ 0x00 ∷ []))  -- xor of itself twice
-    ∷ row (partRecord 0 0 ++ partRecord 5 1 ++ wireRecord 0 1) false (sheet (0x02 ∷ 0x00 ∷ 0x00 ∷ []) (0x19 ∷ 0x03 ∷ 0x18 ∷ 0x11 ∷ 0x00 ∷ 0x17 ∷ 0x03 ∷ 0x1A ∷ 0x00 ∷ 0x00 ∷ 0x14 ∷ 0x1A ∷ 0x05 ∷ 0x01 ∷ 0x11 ∷ 0x01 ∷ []))  -- inv of zero
-    ∷ row (partRecord 5 0 ++ partRecord 0 2 ++ wireRecord 2 0) false (sheet (0x02 ∷ 0x00 ∷ 0x00 ∷ []) (0x19 ∷ 0x03 ∷ 0x18 ∷ 0x11 ∷ 0x00 ∷ 0x17 ∷ 0x03 ∷ 0x14 ∷ 0x1A ∷ 0x05 ∷ 0x01 ∷ 0x11 ∷ 0x00 ∷ 0x1A ∷ 0x00 ∷ 0x00 ∷ []))  -- inv of what follows it
-    ∷ row (partRecord 5 0 ++ partRecord 5 2 ++ wireRecord 3 0 ++ wireRecord 1 2) false (sheet (0x02 ∷ 0x00 ∷ 0x00 ∷ []) (0x19 ∷ 0x03 ∷ 0x18 ∷ 0x11 ∷ 0x00 ∷ 0x17 ∷ 0x03 ∷ 0x14 ∷ 0x1A ∷ 0x05 ∷ 0x01 ∷ 0x11 ∷ 0x00 ∷ 0x14 ∷ 0x1A ∷ 0x05 ∷ 0x01 ∷ 0x11 ∷ 0x01 ∷ []))  -- two inverters round
-    ∷ row (partRecord 5 0 ++ partRecord 2 2 ++ pinRecord 3 ++ pinRecord 0 ++ pinRecord 2) false (sheet (0x02 ∷ 0x00 ∷ 0x00 ∷ 0x03 ∷ 0x00 ∷ 0x03 ∷ 0x03 ∷ 0x00 ∷ 0x04 ∷ 0x03 ∷ 0x00 ∷ 0x05 ∷ []) (0x13 ∷ 0x06 ∷ 0x13 ∷ 0x05 ∷ 0x13 ∷ 0x04 ∷ 0x19 ∷ 0x03 ∷ 0x18 ∷ 0x11 ∷ 0x00 ∷ 0x17 ∷ 0x03 ∷ 0x14 ∷ 0x1A ∷ 0x05 ∷ 0x01 ∷ 0x11 ∷ 0x05 ∷ 0x14 ∷ 0x14 ∷ 0x1A ∷ 0x02 ∷ 0x02 ∷ 0x11 ∷ 0x04 ∷ 0x11 ∷ 0x03 ∷ []))  -- inv and and, both open
-    ∷ row (partRecord 4 0 ++ partRecord 1 3 ++ partRecord 5 5 ++ wireRecord 2 3 ++ wireRecord 4 1 ++ wireRecord 4 5 ++ pinRecord 0) false (sheet (0x02 ∷ 0x00 ∷ 0x00 ∷ 0x02 ∷ 0x00 ∷ 0x03 ∷ 0x03 ∷ 0x00 ∷ 0x04 ∷ []) (0x13 ∷ 0x05 ∷ 0x19 ∷ 0x04 ∷ 0x18 ∷ 0x11 ∷ 0x00 ∷ 0x18 ∷ 0x11 ∷ 0x00 ∷ 0x17 ∷ 0x04 ∷ 0x14 ∷ 0x14 ∷ 0x1A ∷ 0x04 ∷ 0x02 ∷ 0x11 ∷ 0x05 ∷ 0x11 ∷ 0x01 ∷ 0x17 ∷ 0x03 ∷ 0x14 ∷ 0x1A ∷ 0x01 ∷ 0x01 ∷ 0x11 ∷ 0x03 ∷ 0x14 ∷ 0x1A ∷ 0x05 ∷ 0x01 ∷ 0x11 ∷ 0x01 ∷ []))  -- xor, reg and inv
-    ∷ row (partRecord 0 0 ++ partRecord 6 1 ++ partRecord 6 2 ++ partRecord 0 3) false (sheet (0x02 ∷ 0x00 ∷ 0x00 ∷ 0x02 ∷ 0x00 ∷ 0x03 ∷ 0x02 ∷ 0x00 ∷ 0x04 ∷ []) (0x19 ∷ 0x05 ∷ 0x18 ∷ 0x11 ∷ 0x00 ∷ 0x18 ∷ 0x11 ∷ 0x00 ∷ 0x18 ∷ 0x11 ∷ 0x00 ∷ 0x17 ∷ 0x05 ∷ 0x1A ∷ 0x00 ∷ 0x00 ∷ 0x17 ∷ 0x04 ∷ 0x1A ∷ 0x06 ∷ 0x00 ∷ 0x17 ∷ 0x03 ∷ 0x1A ∷ 0x06 ∷ 0x00 ∷ 0x1A ∷ 0x00 ∷ 0x00 ∷ []))  -- four zeros and ones
+    row "22 00 00 00" false (sheet "" "19 00 1A 00 00")  -- zero
+    ∷ row "22 06 00 00 24 00 00 24 00 00" false (sheet "" "19 00 1A 06 00")  -- one, shown twice
+    ∷ row "22 05 00 00 24 00 00 24 01 00" false (sheet "" "13 01 19 00 14 1A 05 01 11 01")  -- inv of a pin
+    ∷ row "22 01 00 00 23 01 00 00 00" false (sheet "" "19 00 14 1A 01 01 11 00")  -- reg of itself
+    ∷ row "22 02 00 00 24 01 00 24 00 00" false (sheet "" "13 02 13 01 19 00 14 14 1A 02 02 11 02 11 01")  -- and of two pins
+    ∷ row "22 03 00 00 23 02 00 01 00 24 00 00" false (sheet "" "13 01 19 00 14 14 1A 03 02 11 01 11 00")  -- or of a pin and itself
+    ∷ row "22 04 00 00 23 02 00 00 00 24 01 00" false (sheet "" "13 01 19 00 14 14 1A 04 02 11 00 11 01")  -- xor of itself and a pin
+    ∷ row "22 04 00 00 23 02 00 01 00 23 02 00 00 00" false (sheet "" "19 00 14 14 1A 04 02 11 00 11 00")  -- xor of itself twice
+    ∷ row "22 00 00 00 22 05 01 00 23 00 00 01 00" false (sheet "02 00 00" "19 03 18 11 00 17 03 1A 00 00 14 1A 05 01 11 01")  -- inv of zero
+    ∷ row "22 05 00 00 22 00 02 00 23 02 00 00 00" false (sheet "02 00 00" "19 03 18 11 00 17 03 14 1A 05 01 11 00 1A 00 00")  -- inv of what follows it
+    ∷ row "22 05 00 00 22 05 02 00 23 03 00 00 00 23 01 00 02 00" false (sheet "02 00 00" "19 03 18 11 00 17 03 14 1A 05 01 11 00 14 1A 05 01 11 01")  -- two inverters round
+    ∷ row "22 05 00 00 22 02 02 00 24 03 00 24 00 00 24 02 00" false (sheet "02 00 00 03 00 03 03 00 04 03 00 05" "13 06 13 05 13 04 19 03 18 11 00 17 03 14 1A 05 01 11 05 14 14 1A 02 02 11 04 11 03")  -- inv and and, both open
+    ∷ row "22 04 00 00 22 01 03 00 22 05 05 00 23 02 00 03 00 23 04 00 01 00 23 04 00 05 00 24 00 00" false (sheet "02 00 00 02 00 03 03 00 04" "13 05 19 04 18 11 00 18 11 00 17 04 14 14 1A 04 02 11 05 11 01 17 03 14 1A 01 01 11 03 14 1A 05 01 11 01")  -- xor, reg and inv
+    ∷ row "22 00 00 00 22 06 01 00 22 06 02 00 22 00 03 00" false (sheet "02 00 00 02 00 03 02 00 04" "19 05 18 11 00 18 11 00 18 11 00 17 05 1A 00 00 17 04 1A 06 00 17 03 1A 06 00 1A 00 00")  -- four zeros and ones
     ∷ []
 
 abbrev refusedRows : List BackRow
 refusedRows =
-    row [] false (refuse 26 0)  -- nothing
-    ∷ row [] true (refuse 26 0)  -- nothing, lean
-    ∷ row (0x21 ∷ 0x00 ∷ 0x00 ∷ 0x24 ∷ 0x00 ∷ 0x00 ∷ []) false (refuse 25 0)  -- one point
-    ∷ row (0x22 ∷ 0x00 ∷ 0x00 ∷ 0x00 ∷ 0x21 ∷ 0x01 ∷ 0x00 ∷ 0x23 ∷ 0x00 ∷ 0x00 ∷ 0x01 ∷ 0x00 ∷ []) false (refuse 25 4)  -- a point behind a part
-    ∷ row (0x22 ∷ 0x00 ∷ 0x00 ∷ 0x00 ∷ 0x21 ∷ 0x01 ∷ 0x00 ∷ 0x21 ∷ 0x03 ∷ 0x00 ∷ 0x23 ∷ 0x00 ∷ 0x00 ∷ 0x01 ∷ 0x00 ∷ 0x23 ∷ 0x00 ∷ 0x00 ∷ 0x03 ∷ 0x00 ∷ []) false (refuse 25 4)  -- the first of two points
-    ∷ row (0x21 ∷ 0x00 ∷ 0x00 ∷ 0x23 ∷ 0x01 ∷ 0x00 ∷ 0x00 ∷ 0x00 ∷ []) true (refuse 25 0)  -- a point in a ring
-    ∷ row (0x25 ∷ 0x00 ∷ 0x00 ∷ 0x00 ∷ 0x00 ∷ 0x24 ∷ 0x00 ∷ 0x00 ∷ []) false (refuse 21 0)  -- kind 25
-    ∷ row (partRecord 9 0) false (refuse 21 0)  -- a part of no number
-    ∷ row (partRecord 0 0 ++ partRecord 0 2) false (refuse 22 4)  -- a gap
-    ∷ row (partRecord 5 0) false (refuse 23 0)  -- no driver
-    ∷ row (partRecord 5 0 ++ wireRecord 1 0 ++ pinRecord 0) false (refuse 23 0)  -- two drivers
-    ∷ row (0x21 ∷ 0x00 ∷ 0x00 ∷ 0xFF ∷ []) false (refuse 21 3)  -- 21 before 25
-    ∷ row (0x21 ∷ 0x00 ∷ 0x00 ∷ []) false (refuse 23 0)  -- 23 before 25
-    ∷ row (partRecord 5 7 ++ partRecord 0 8191 ++ wireRecord 8191 7 ++ pinRecord 8191) true (sheet (0x02 ∷ 0x00 ∷ 0x00 ∷ []) (0x19 ∷ 0x03 ∷ 0x18 ∷ 0x11 ∷ 0x00 ∷ 0x17 ∷ 0x03 ∷ 0x14 ∷ 0x1A ∷ 0x05 ∷ 0x01 ∷ 0x11 ∷ 0x00 ∷ 0x1A ∷ 0x00 ∷ 0x00 ∷ []))  -- parts far apart
-    ∷ row (partRecord 5 7 ++ partRecord 0 8191 ++ wireRecord 8191 7 ++ pinRecord 8191) false (refuse 22 0)  -- .. and not called lean
+    row "" false (refuse 26 0)  -- nothing
+    ∷ row "" true (refuse 26 0)  -- nothing, lean
+    ∷ row "22 00 00 00 22 00 01 00 22 00 02 00 22 00 03 00 22 00 04 00 22 00 05 00 22 00 06 00 22 00 07 00 22 00 08 00 22 00 09 00 22 00 0A 00 22 00 0B 00 22 00 0C 00 22 00 0D 00 22 00 0E 00 22 00 0F 00 22 00 10 00" false (refuse 26 0)  -- seventeen parts
+    ∷ row "21 00 00 24 00 00" false (refuse 25 0)  -- one point
+    ∷ row "22 00 00 00 21 01 00 23 00 00 01 00" false (refuse 25 4)  -- a point behind a part
+    ∷ row "22 00 00 00 21 01 00 21 03 00 23 00 00 01 00 23 00 00 03 00" false (refuse 25 4)  -- the first of two points
+    ∷ row "21 00 00 23 01 00 00 00" true (refuse 25 0)  -- a point in a ring
+    ∷ row "25 00 00 00 00 24 00 00" false (refuse 21 0)  -- kind 25
+    ∷ row "22 09 00 00" false (refuse 21 0)  -- a part of no number
+    ∷ row "22 00 00 00 22 00 02 00" false (refuse 22 4)  -- a gap
+    ∷ row "22 05 00 00" false (refuse 23 0)  -- no driver
+    ∷ row "22 05 00 00 23 01 00 00 00 24 00 00" false (refuse 23 0)  -- two drivers
+    ∷ row "21 00 00 FF" false (refuse 21 3)  -- 21 before 25
+    ∷ row "21 00 00" false (refuse 23 0)  -- 23 before 25
+    ∷ row "22 00 00 00 22 00 01 00 22 00 02 00 22 00 03 00 22 00 04 00 22 00 05 00 22 00 06 00 22 00 07 00 22 00 08 00 22 00 09 00 22 00 0A 00 22 00 0B 00 22 00 0C 00 22 00 0D 00 22 00 0E 00 22 00 0F 00 21 10 00 24 10 00" false (refuse 25 64)  -- 25 before 26: sixteen zeros and a point
+    ∷ row "22 05 07 00 22 00 FF 1F 23 FF 1F 07 00 24 FF 1F" true (sheet "02 00 00" "19 03 18 11 00 17 03 14 1A 05 01 11 00 1A 00 00")  -- parts far apart
+    ∷ row "22 05 07 00 22 00 FF 1F 23 FF 1F 07 00 24 FF 1F" false (refuse 22 0)  -- .. and not called lean
     ∷ []
 
 unfoldable pub workedBack : List BackRow
 workedBack = came ++ refusedRows
 
--- what the definition answers
+-- what the definition answers; a row whose text is broken has no netlist
 abbrev pub backAnswers : BackRow → BackRow
-backAnswers r = row (r .net) (r .lean) (returned (r .lean) (r .net))
+backAnswers r = cond (allBytes (r .net)) (record { net = r .net; lean = r .lean; sheet = returned (r .lean) (r .net) }) (row "" false (refuse 0 0))

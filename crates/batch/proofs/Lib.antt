@@ -3,3 +3,5 @@ pub mod RowLaws
 pub mod BatchLaws
 pub mod Calls
 pub mod Determined
+pub mod Worked
+pub mod Refused

@@ -1,3 +1,4 @@
 pub mod Batch
 pub mod Left
 pub mod Promise
+pub mod Worked

@@ -1,5 +1,10 @@
 pub mod Answers
 pub mod Known
+pub mod KnownRefusals
+pub mod KnownLimits
+pub mod KnownEditions
+pub mod KnownListings
+pub mod Texts
 pub mod Parts
 pub mod Derivations
 pub mod Useless

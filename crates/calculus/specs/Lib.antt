@@ -1,3 +1,4 @@
+pub mod Texts
 pub mod Answer
 pub mod Types
 pub mod Terms
@@ -15,4 +16,8 @@ pub mod Translate
 pub mod Stretch
 pub mod Listing
 pub mod Known
+pub mod KnownRefusals
+pub mod KnownLimits
+pub mod KnownEditions
+pub mod KnownListings
 pub mod Useless

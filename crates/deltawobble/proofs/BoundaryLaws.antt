@@ -7,15 +7,17 @@ use mathlib.Core.List.{List}
 use native.Mathlib.Omega.{arith}
 use native.Mathlib.Decide.{decLt, decLe}
 use lib.Dec.{leb}
-use lib.ListN.{length}
+use lib.ListN.{length, drop, length-drop}
+use lib.Seq.{length-take-le}
 use Rattle.calculus.specs.Answer.{Answer, good, refused, need, _>>=_}
 use Rattle.calculus.specs.Terms.{nodes}
 use Rattle.calculus.specs.Read.{Sheet, readSheet}
-use Rattle.calculus.specs.Stretch.{stretchOf}
+use Rattle.calculus.specs.Stretch.{stretchOf, cut}
 use Rattle.calculus.specs.Translate.{Wish, Call}
 use Rattle.sheet_theorems.proofs.Laying.{opened}
 use Rattle.sheet_theorems.proofs.StretchHolds.{stretch-holds, stretch-past, stretch-refused}
 use Rattle.sheet_theorems.proofs.Judging.{Judged, value, refusal, Any}
+use Rattle.sheet.proofs.StretchLaws.{stretch-within}
 use Rattle.translator.specs.Word.{packed, FitsWord}
 use Rattle.translator.specs.Said.{saidAnswer, refusedAs, called}
 use Rattle.translator.specs.declared.Answer as code
@@ -27,6 +29,8 @@ use Rattle.verilog.proofs.Places.{verilog-places, verilog-fits}
 use Rattle.translation.proofs.Places.{CallPlace, CallCount, ProfilePlace, CardPlace, card-places}
 use Rattle.batch.specs.Batch.{Batch}
 use Rattle.batch.specs.Left.{left}
+use Rattle.trace_calculus.specs.Lanes.{LanesCall}
+use Rattle.trace.specs.Said.{lanesCalled}
 use Rattle.translator.specs.declared.Answer.the-variants as answer
 use Rattle.foreign_theorems.specs.Foreign.{Bytes, check, Checked, checkCall}
 use Rattle.foreign_theorems.proofs.Places.{CheckPlace, check-places}
@@ -35,7 +39,9 @@ use Rattle.back.proofs.Places.{back-places, back-fits}
 use Rattle.foreign.specs.Walk.{saidCheck, calledCheck as checked}
 use Rattle.foreign.specs.declared.Verdict.{Verdict}
 use Rattle.foreign.specs.declared.Verdict.the-variants as verdict
-use Rattle.deltawobble.specs.Boundary.{Packs, PacksBatch, checkedValue, PacksCheck}
+use Rattle.deltawobble.specs.Boundary.{Packs, PacksBatch, checkedValue, PacksCheck, PacksLanes, PacksNever}
+use Rattle.never_calculus.specs.Search.{NeverCall}
+use Rattle.never.specs.Told.{calledNever}
 
 -- ---- a call
 
@@ -47,12 +53,27 @@ answer-packs r o w c e = record {
   kept = ap (λ (x : Call). x .work) e;
 }
 
+pub never-packs : (r : code.Answer) (o w t q : List ℕ) (c : NeverCall) → calledNever r o w t q ≡ c → PacksNever (packed (saidAnswer r)) o w t q c
+never-packs r o w t q c e = record {
+  packs = answer-packs r o w (c .call) (ap (λ (x : NeverCall). x .call) e);
+  left-trail = ap (λ (x : NeverCall). x .trail) e;
+  left-queue = ap (λ (x : NeverCall). x .queue) e;
+}
+
 pub batch-packs : (r : code.Answer) (o p w : List ℕ) (b : Batch) → left r o p w ≡ b → PacksBatch (packed (saidAnswer r)) o p w b
 batch-packs r o p w b e = record {
   said = ap (λ (x : Batch). packed (x .said)) e;
   wrote = ap (λ (x : Batch). x .out) e;
   stored = ap (λ (x : Batch). x .results) e;
   kept = ap (λ (x : Batch). x .work) e;
+}
+
+pub lanes-packs : (r : code.Answer) (o s w : List ℕ) (c : LanesCall) → lanesCalled r o s w ≡ c → PacksLanes (packed (saidAnswer r)) o s w c
+lanes-packs r o s w c e = record {
+  said = ap (λ (x : LanesCall). packed (x .said)) e;
+  wrote = ap (λ (x : LanesCall). x .out) e;
+  left = ap (λ (x : LanesCall). x .state) e;
+  kept = ap (λ (x : LanesCall). x .work) e;
 }
 
 -- a verdict, as an answer that every call can give
@@ -123,3 +144,9 @@ stretch-in s k (good σ) e =
 -- where a stretch begins and its length are at most 16,384
 pub stretch-fits : (s : List ℕ) (k : ℕ) → stretchOf s k .start + stretchOf s k .size ≤ 16384
 stretch-fits s k = stretch-in s k (readSheet s) refl
+
+-- the part of the sheet that a stretch names has its length
+pub part-length : (s : List ℕ) (k : ℕ) → length (cut s (stretchOf s k)) ≡ stretchOf s k .size
+part-length s k =
+    let w = stretch-within s k in
+    length-take-le (stretchOf s k .size) (drop (stretchOf s k .start) s) (rw (length-drop (stretchOf s k .start) s) (omega (arith, w)))

@@ -14,6 +14,10 @@ use Rattle.deltawobble.proofs.deltawobble_check.Kinds as c-check
 use Rattle.deltawobble.proofs.deltawobble_check.Reads as c-check-reads
 use Rattle.deltawobble.proofs.deltawobble_run.Kinds as c-run
 use Rattle.deltawobble.proofs.deltawobble_run.Reads as c-run-reads
+use Rattle.deltawobble.proofs.deltawobble_lanes.Kinds as c-lanes
+use Rattle.deltawobble.proofs.deltawobble_lanes.Reads as c-lanes-reads
+use Rattle.deltawobble.proofs.deltawobble_never.Kinds as c-never
+use Rattle.deltawobble.proofs.deltawobble_never.Reads as c-never-reads
 use Rattle.deltawobble.proofs.deltawobble_verilog.Kinds as c-verilog
 use Rattle.deltawobble.proofs.deltawobble_verilog.Reads as c-verilog-reads
 use Rattle.deltawobble.proofs.deltawobble_back.Kinds as c-back
@@ -37,6 +41,22 @@ determined-deltawobble-check κs a x y s t f g = (f .said ∙ sym (g .said), f .
 pub determined-deltawobble-run : (κs : Lfts 5) (a : Dens κs c-run.ps) (x y : resT c-run.r κs .Denot) (s t : AtExit (endedOf 5 c-run.ps c-run.r) κs)
     → c-run-reads.Post κs a x s → c-run-reads.Post κs a y t → SameResult x y (s .1 .1 .1 .0 .now) (t .1 .1 .1 .0 .now) (s .1 .1 .1 .1 .0 .now) (t .1 .1 .1 .1 .0 .now)
 determined-deltawobble-run κs a x y s t f g = record { answer = f .said ∙ sym (g .said); out = f .wrote ∙ sym (g .wrote); work = f .kept ∙ sym (g .kept) }
+
+pub determined-deltawobble-lanes : (κs : Lfts 5) (a : Dens κs c-lanes.ps) (x y : resT c-lanes.r κs .Denot) (s t : AtExit (endedOf 5 c-lanes.ps c-lanes.r) κs)
+    → c-lanes-reads.Post κs a x s → c-lanes-reads.Post κs a y t
+    → SameResult x y (s .1 .1 .1 .0 .now) (t .1 .1 .1 .0 .now) (s .1 .1 .1 .1 .0 .now) (t .1 .1 .1 .1 .0 .now) × (s .1 .1 .0 .now ≡ t .1 .1 .0 .now)
+determined-deltawobble-lanes κs a x y s t f g =
+    (record { answer = f .said ∙ sym (g .said); out = f .wrote ∙ sym (g .wrote); work = f .kept ∙ sym (g .kept) }, f .left ∙ sym (g .left))
+
+pub determined-deltawobble-never : (κs : Lfts 6) (a : Dens κs c-never.ps) (x y : resT c-never.r κs .Denot) (s t : AtExit (endedOf 6 c-never.ps c-never.r) κs)
+    → c-never-reads.Post κs a x s → c-never-reads.Post κs a y t
+    → SameResult x y (s .1 .1 .1 .1 .0 .now) (t .1 .1 .1 .1 .0 .now) (s .1 .1 .1 .1 .1 .0 .now) (t .1 .1 .1 .1 .1 .0 .now)
+    × (s .1 .1 .0 .now ≡ t .1 .1 .0 .now) × (s .1 .1 .1 .0 .now ≡ t .1 .1 .1 .0 .now)
+determined-deltawobble-never κs a x y s t f g = (
+  record { answer = f .packs .said ∙ sym (g .packs .said); out = f .packs .wrote ∙ sym (g .packs .wrote); work = f .packs .kept ∙ sym (g .packs .kept) },
+  f .left-trail ∙ sym (g .left-trail),
+  f .left-queue ∙ sym (g .left-queue),
+)
 
 pub determined-deltawobble-verilog : (κs : Lfts 3) (a : Dens κs c-verilog.ps) (x y : resT c-verilog.r κs .Denot) (s t : AtExit (endedOf 3 c-verilog.ps c-verilog.r) κs)
     → c-verilog-reads.Post κs a x s → c-verilog-reads.Post κs a y t → SameResult x y (s .1 .0 .now) (t .1 .0 .now) (s .1 .1 .0 .now) (t .1 .1 .0 .now)

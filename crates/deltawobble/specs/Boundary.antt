@@ -8,6 +8,8 @@ use Rattle.calculus.specs.Translate.{Call}
 use Rattle.translator.specs.Word.{upperLower, packed}
 use Rattle.batch.specs.Batch.{Batch}
 use Rattle.foreign_theorems.specs.Foreign.{Checked}
+use Rattle.trace_calculus.specs.Lanes.{LanesCall}
+use Rattle.never_calculus.specs.Search.{NeverCall}
 
 -- where a stretch begins, and its length
 abbrev pub packedStretch : Stretch → ℕ
@@ -25,6 +27,19 @@ pub record PacksBatch (r : ℕ) (out results work : List ℕ) (b : Batch) : Type
   pub wrote : out ≡ b .out
   pub stored : results ≡ b .results
   pub kept : work ≡ b .work
+
+-- .. and the state, those of a run of sixteen traces
+pub record PacksLanes (r : ℕ) (out state work : List ℕ) (c : LanesCall) : Type 0 where
+  pub said : r ≡ packed (c .said)
+  pub wrote : out ≡ c .out
+  pub left : state ≡ c .state
+  pub kept : work ≡ c .work
+
+-- .. and the numbers lent for each state, those of a search
+pub record PacksNever (r : ℕ) (out work trail queue : List ℕ) (c : NeverCall) : Type 0 where
+  pub packs : Packs r out work (c .call)
+  pub left-trail : trail ≡ c .trail
+  pub left-queue : queue ≡ c .queue
 
 -- accepted is the value 0
 abbrev pub checkedValue : Answer (Unit {0}) → Answer ℕ

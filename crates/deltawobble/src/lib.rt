@@ -8,9 +8,11 @@ ghost use Rattle.batch.specs.Batch.{batchCall};
 ghost use Rattle.foreign_theorems.specs.Foreign.{checkCall};
 ghost use Rattle.export_calculus.specs.CardCall.{cardCall};
 ghost use Rattle.trace_calculus.specs.Trace.{runCall};
+ghost use Rattle.trace_calculus.specs.Lanes.{lanesCall};
+ghost use Rattle.never_calculus.specs.Search.{neverCall};
 ghost use Rattle.export_calculus.specs.Verilog.{verilogCall};
 ghost use Rattle.back_theorems.specs.Returned.{backCall};
-ghost use Rattle.deltawobble.specs.Boundary.{Packs, PacksBatch, PacksCheck, packedStretch};
+ghost use Rattle.deltawobble.specs.Boundary.{Packs, PacksBatch, PacksLanes, PacksCheck, PacksNever, packedStretch};
 
 // The netlist of a sheet. Bits 0 to 31 of the answer are the number of bytes written or the place, 32 to 39 the refusal's number, 0 for none,
 // 40 to 51 the type number wanted and 52 to 63 the one found.
@@ -83,6 +85,40 @@ pub extern "C" fn deltawobble_run(
     translator::word(answer)
 }
 
+// Sixteen traces at once, one in each bit of a number; the state is read, and left for the next call. The answer likewise, in numbers.
+#[no_mangle]
+pub extern "C" fn deltawobble_lanes(
+    sheet: &[u8],
+    inputs: &[u16],
+    state: &mut [u16],
+    out: &mut [u16],
+    work: &mut [u16],
+    ticks: u16,
+) -> u64
+    ensures { λ r. ⌜ PacksLanes r (now (out .exit)) (now (state .exit)) (now (work .exit)) (lanesCall (now (sheet .entry)) (now (inputs .entry)) (now (state .entry)) ticks (now (out .entry)) (now (work .entry))) ⌝ }
+{
+    let answer = trace::lanes(sheet, inputs, state, out, work, ticks);
+    translator::word(answer)
+}
+
+// No record of the lean netlist of a sheet has 1 at an output pin: the number of states that its registers can have. Or 40 at the first tick
+// at which one has, with a trace that shows it where the output has room; the answer likewise. `trail` and `queue` are left all 0.
+#[no_mangle]
+pub extern "C" fn deltawobble_never(
+    sheet: &[u8],
+    starts: &[u8],
+    trail: &mut [u32],
+    queue: &mut [u32],
+    out: &mut [u8],
+    work: &mut [u16],
+    pin: u16,
+) -> u64
+    ensures { λ r. ⌜ PacksNever r (now (out .exit)) (now (work .exit)) (now (trail .exit)) (now (queue .exit)) (neverCall (now (sheet .entry)) (now (starts .entry)) pin (now (trail .entry)) (now (queue .entry)) (now (out .entry)) (now (work .entry))) ⌝ }
+{
+    let answer = never::never(sheet, starts, trail, queue, out, work, pin);
+    translator::word(answer)
+}
+
 // The lean netlist of a sheet as a module of Verilog; the answer likewise.
 #[no_mangle]
 pub extern "C" fn deltawobble_verilog(sheet: &[u8], out: &mut [u8], work: &mut [u16]) -> u64
@@ -101,11 +137,13 @@ pub extern "C" fn deltawobble_back(net: &[u8], out: &mut [u8], work: &mut [u16],
     translator::word(answer)
 }
 
-// Where the stretch of a node begins, and its length; 0 where the sheet is refused or the number is too large.
+// Where the stretch of a node begins, and its length; 0 where the sheet is refused or the number is too large. The length is that of the part
+// itself, which `sheet::stretch` returns: C is told numbers, and no part of a slice.
 #[no_mangle]
 pub extern "C" fn deltawobble_stretch(sheet: &[u8], node: usize) -> u64
     ensures { λ r. ⌜ r ≡ packedStretch (stretchOf (now (sheet .entry)) node) ⌝ }
 {
     let b = sheet::stretch_bounds(sheet, node);
-    b.start as u64 * 4294967296 + b.size as u64
+    let part = sheet::stretch(sheet, node);
+    b.start as u64 * 4294967296 + part.len() as u64
 }

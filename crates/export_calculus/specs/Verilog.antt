@@ -2,22 +2,16 @@
 -- A terminal is the net t and four digits, a pin position the port p and four digits. A text is lines; a line is a form, in which X, Y
 -- and Z stand for numbers of four digits (no other capital letter is in any form), and its numbers.
 use Prim.Native.Nat.{ℕ, _+_, _/_, _%_}
-use Prim.Native.Char.{code}
-use Prim.Native.String.{String, [] as end, _∷_ as _then_}
 use mathlib.Core.Bool.{Bool, cond, _&&_}
 use mathlib.Core.List.{List, [], _∷_, _++_, map}
 use lib.Dec.{eqb, leb}
 use lib.ListN.{length, getD}
+use Rattle.calculus.specs.Texts.{ascii}
 use Rattle.calculus.specs.Answer.{Answer, good, _>>=_, need}
 use Rattle.calculus.specs.Net.{Terminal, inp, out, Interface, Element, point, part, Wire, Net}
 use Rattle.calculus.specs.Lean.{lean}
 use Rattle.calculus.specs.Translate.{full, saidOf, outOf, workOf, Call}
 use Rattle.export_calculus.specs.Card.{needAll, noRing, inputPlace}
-
--- a text's character codes
-abbrev pub ascii : String → List ℕ
-ascii end = []
-ascii (_then_ c s) = code c ∷ ascii s
 
 -- ---- the forms
 

@@ -7,9 +7,10 @@ use mathlib.Core.Option.{Option, none, some, bind as _>>=_}
 use mathlib.Core.List.{List, [], _∷_, _++_}
 use lib.Dec.{eqb, leb}
 use lib.ListN.{length, getD, drop}
+use Rattle.calculus.specs.Texts.{ascii}
 use Rattle.calculus.specs.Terms.{partAt}
 use Rattle.calculus.specs.Net.{Terminal, inp, out, Interface, Element, point, part, Wire, Net}
-use Rattle.export_calculus.specs.Verilog.{ascii, isMark, header, portsEnd, moduleEnd}
+use Rattle.export_calculus.specs.Verilog.{isMark, header, portsEnd, moduleEnd}
 
 -- ---- the words: not the writer's table, but built from the table of parts, so that a wrong word there would be seen here
 

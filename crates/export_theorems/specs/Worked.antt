@@ -3,7 +3,8 @@ use Prim.Native.Nat.{ℕ}
 use mathlib.Core.Option.{Option, none, some}
 use mathlib.Core.List.{List, [], _∷_, _++_}
 use Rattle.calculus.specs.Net.{Interface, inp, out, Element, point, part, Wire, Net}
-use Rattle.export_calculus.specs.Verilog.{ascii, moduleText}
+use Rattle.calculus.specs.Texts.{ascii}
+use Rattle.export_calculus.specs.Verilog.{moduleText}
 use Rattle.export_calculus.specs.VerilogRead.{readVerilog}
 
 -- ---- netlists and their modules

@@ -83,6 +83,12 @@ morePin t σ = record {
   next = σ .next;
 }
 
+-- one record more
+abbrev pub withItem : Item → Reading → Reading
+withItem (element e) σ = moreElement e σ
+withItem (wire w) σ = moreWire w σ
+withItem (pin t) σ = morePin t σ
+
 -- 21 where the record is misplaced, before 22 where its terminals are wrong. A pin is never misplaced
 abbrev pub judge : Bool → Item → Reading → ℕ → Answer Reading
 judge lean (element e) σ at = do

@@ -3,6 +3,7 @@ use Prim.Native.Nat.{ℕ, zero, suc, _+_}
 use mathlib.Core.Path.{_≡_, refl}
 use mathlib.Core.List.{List, [], _∷_}
 use native.Mathlib.Omega.{arith}
+use Rattle.calculus.specs.Texts.{hex}
 use Rattle.calculus.specs.Answer.{good}
 use Rattle.calculus.specs.Types.{Table, rec01, rec03, rec04}
 use Rattle.calculus.specs.Terms.{first}
@@ -23,11 +24,11 @@ types = rec01 ∷ rec03 0 0 ∷ rec04 1 0 ∷ []
 -- ---- P3
 
 abbrev P3 : List ℕ
-P3 = 0x01 ∷ 0x03 ∷ 0x00 ∷ 0x00 ∷ 0x04 ∷ 0x01 ∷ 0x00 ∷ 0x16 ∷ 0x15 ∷ 0x02 ∷ 0x14 ∷ 0x12 ∷ 0x00 ∷ 0x1A ∷ 0x00 ∷ 0x00 ∷ 0x1A ∷ 0x01 ∷ 0x01 ∷ []
+P3 = hex "01 03 00 00 04 01 00 16 15 02 14 12 00 1A 00 00 1A 01 01"
 
 -- the register put in for the variable: it is applied to the zero
 abbrev P3-put : List ℕ
-P3-put = 0x01 ∷ 0x03 ∷ 0x00 ∷ 0x00 ∷ 0x04 ∷ 0x01 ∷ 0x00 ∷ 0x14 ∷ 0x1A ∷ 0x01 ∷ 0x01 ∷ 0x1A ∷ 0x00 ∷ 0x00 ∷ []
+P3-put = hex "01 03 00 00 04 01 00 14 1A 01 01 1A 00 00"
 
 -- the zero is node 4 of P3 and the register node 5
 pub p3 : Rewritten P3 P3-put

@@ -5,6 +5,7 @@ use mathlib.Core.List.{List}
 use Rattle.calculus.specs.Answer.{Refusal}
 use Rattle.calculus.proofs.Answers.{refused≢good, good-inj, refused-inj}
 use Rattle.calculus.specs.Stretch.{Stretch}
+use Rattle.sheet.specs.Place.{PartOf}
 use Rattle.sheet.specs.Sheets.{SheetCounts, ReadSaid, saidSheet, saidReading}
 use Rattle.sheet.specs.declared.Verdict.{Verdict}
 use Rattle.sheet.specs.declared.Verdict.the-variants as verdict
@@ -50,15 +51,18 @@ determined-read κs a x y s t f g = same-reading x y (f ∙ sym g)
 pub determined-bounds : Result stretch-bounds.ps stretch-bounds.r stretch-bounds-reads.Post
 determined-bounds κs a x y s t f g = ap (λ (p : Stretch). record { start = p .start; size = p .size }) (f ∙ sym g)
 
--- the bytes of the part that is returned
-pub determined-stretch : (κs : Lfts 1) (a : Dens κs stretch.ps) (x y : resT stretch.r κs .Denot) (s t : AtExit (endedOf 1 stretch.ps stretch.r) κs)
-    → stretch-reads.Post κs a x s → stretch-reads.Post κs a y t → x .now ≡ y .now
-determined-stretch κs a x y s t f g = f ∙ sym g
+-- a part that is returned is one part: its bytes, and where it begins
+same-part : {lent : ℕ × ℕ} {start : ℕ} {wanted : List ℕ} {p q : ℕ × ℕ} {xs ys : List ℕ} → PartOf lent start wanted p xs → PartOf lent start wanted q ys → (xs ≡ ys) × (p ≡ q)
+same-part f g = (f .bytes ∙ sym (g .bytes), ap₂ (λ (b o : ℕ). (b, o)) (f .block ∙ sym (g .block)) (f .offset ∙ sym (g .offset)))
 
--- the edition, and the bytes of the records behind the opening
+pub determined-stretch : (κs : Lfts 1) (a : Dens κs stretch.ps) (x y : resT stretch.r κs .Denot) (s t : AtExit (endedOf 1 stretch.ps stretch.r) κs)
+    → stretch-reads.Post κs a x s → stretch-reads.Post κs a y t → (x .now ≡ y .now) × (x .ptr ≡ y .ptr)
+determined-stretch κs a x y s t f g = same-part f g
+
+-- the edition; the records behind the opening, their bytes and where they begin
 pub determined-second : Result is-second.ps is-second.r is-second-reads.Post
 determined-second κs a x y s t f g = f ∙ sym g
 
 pub determined-records : (κs : Lfts 1) (a : Dens κs records-of.ps) (x y : resT records-of.r κs .Denot) (s t : AtExit (endedOf 1 records-of.ps records-of.r) κs)
-    → records-of-reads.Post κs a x s → records-of-reads.Post κs a y t → x .now ≡ y .now
-determined-records κs a x y s t f g = f ∙ sym g
+    → records-of-reads.Post κs a x s → records-of-reads.Post κs a y t → (x .now ≡ y .now) × (x .ptr ≡ y .ptr)
+determined-records κs a x y s t f g = same-part f g

@@ -3,3 +3,4 @@ pub mod Keys
 pub mod Sheets
 pub mod Said
 pub mod Nodes
+pub mod Place

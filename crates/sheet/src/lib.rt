@@ -12,6 +12,8 @@ ghost use Rattle.records.specs.Editions.{editionBy};
 ghost use Rattle.sheet.specs.Nodes.{NodesFrom};
 ghost use Rattle.sheet.specs.Said.{spanned, endedOf};
 ghost use Rattle.sheet.specs.Sheets.{saidReading, noSheet, readingOf, saidBounds};
+ghost use Rattle.sheet.specs.Place.{PartOf};
+ghost use denote.Ref.{ptr};
 
 mod keys;
 mod term;
@@ -96,7 +98,7 @@ fn opening(s: &[u8]) -> usize
 
 // The records, behind the opening.
 pub fn records_of<'a>(s: &'a [u8]) -> &'a [u8]
-    ensures { λ r. ⌜ now r ≡ recordsOf (now (s .entry)) ⌝ }
+    ensures { λ r. ⌜ PartOf (ptr (s .entry)) (length (opening (editionOf (now (s .entry))))) (recordsOf (now (s .entry))) (ptr r) (now r) ⌝ }
 {
     let from = opening(s);
     let end = s.len();
@@ -174,7 +176,7 @@ pub fn stretch_bounds(s: &[u8], node: usize) -> Bounds
 
 // The part of the caller's own sheet that holds a node and its subterms.
 pub fn stretch<'a>(s: &'a [u8], node: usize) -> &'a [u8]
-    ensures { λ r. ⌜ now r ≡ cut (now (s .entry)) (stretchOf (now (s .entry)) node) ⌝ }
+    ensures { λ r. ⌜ PartOf (ptr (s .entry)) (stretchOf (now (s .entry)) node .start) (cut (now (s .entry)) (stretchOf (now (s .entry)) node)) (ptr r) (now r) ⌝ }
 {
     let b = stretch_bounds(s, node);
     let start = b.start;

@@ -16,7 +16,7 @@ use Rattle.sheet_theorems.specs.Laid.{Agrees, Below, TableOk, Ranged}
 use Rattle.sheet_theorems.specs.Numbers.{Numbers}
 use Rattle.laws.proofs.Tests.{and-of, T-is}
 use Rattle.sheet_theorems.proofs.Tables.{wider}
-use Rattle.sheet_theorems.proofs.Sound.{Step, step-end, step-shared, step-same, step-took}
+use Rattle.sheet_theorems.specs.Uses.{Uses, uses-end, uses-shared, uses-not, uses-it}
 
 -- ---- the two numbers of a record whose type has a form
 
@@ -50,17 +50,17 @@ module _ (Θ : Table) where
 
 -- ---- the stacks between two subterms
 
-between : {Θ : Table} {Γ Γ₁ Γ₂ : Ctx} {st st′ : Stack} → Split Γ Γ₁ Γ₂ → Step Θ st st′ Γ → (mid : Stack) × Step Θ st mid Γ₁ × Step Θ mid st′ Γ₂
-between split-end step-end = ([], step-end, step-end)
-between (split-many z) (step-shared s) = let (m, p, q) = between z s in (_, step-shared p, step-shared q)
-between (split-first z) (step-took s) = let (m, p, q) = between z s in (_, step-took p, step-same q)
-between (split-second z) (step-took s) = let (m, p, q) = between z s in (_, step-same p, step-took q)
-between (split-away z) (step-same s) = let (m, p, q) = between z s in (_, step-same p, step-same q)
+between : {Θ : Table} {Γ Γ₁ Γ₂ : Ctx} {st st′ : Stack} → Split Γ Γ₁ Γ₂ → Uses Θ st st′ Γ → (mid : Stack) × Uses Θ st mid Γ₁ × Uses Θ mid st′ Γ₂
+between split-end uses-end = ([], uses-end, uses-end)
+between (split-many z) (uses-shared s) = let (m, p, q) = between z s in (_, uses-shared p, uses-shared q)
+between (split-first z) (uses-it s) = let (m, p, q) = between z s in (_, uses-it p, uses-not q)
+between (split-second z) (uses-it s) = let (m, p, q) = between z s in (_, uses-not p, uses-it q)
+between (split-away z) (uses-not s) = let (m, p, q) = between z s in (_, uses-not p, uses-not q)
 
-idle-same : {Θ : Table} {Γ : Ctx} {st st′ : Stack} → NoLinear Γ → Step Θ st st′ Γ → st′ ≡ st
-idle-same none-end step-end = refl
-idle-same (none-many z) (step-shared {t = t} s) = ap (λ (r : Stack). shared t ∷ r) (idle-same z s)
-idle-same (none-away z) (step-same {t = t} {u = u} s) = ap (λ (r : Stack). linear t u ∷ r) (idle-same z s)
+idle-same : {Θ : Table} {Γ : Ctx} {st st′ : Stack} → NoLinear Γ → Uses Θ st st′ Γ → st′ ≡ st
+idle-same none-end uses-end = refl
+idle-same (none-many z) (uses-shared {t = t} s) = ap (λ (r : Stack). shared t ∷ r) (idle-same z s)
+idle-same (none-away z) (uses-not {t = t} {u = u} s) = ap (λ (r : Stack). linear t u ∷ r) (idle-same z s)
 
 -- ---- variables
 
@@ -70,21 +70,21 @@ pub record FoundAs (Θ : Table) (τ : Ty) (st : Stack) (a : Answer Found) : Type
   pub type-is : tree Θ type ≡ τ
   pub answer : a ≡ found type st
 
-shares : {Θ : Table} {Γ : Ctx} {i : ℕ} {θ : Ty} {st st′ : Stack} (n : ℕ) → InΓ Γ i θ → Step Θ st st′ Γ → Numbers st (length Θ) → FoundAs Θ θ st′ (useShared st i n)
-shares n (in-here z) (step-shared {t = t} s) k = record { type = t; type-in = k .0; type-is = refl; answer = rw (idle-same z s) }
-shares n (in-many x) (step-shared s) k = let r = shares n x s (k .1) in record { type = r .type; type-in = r .type-in; type-is = r .type-is; answer = rw (r .answer) }
-shares n (in-away x) (step-same s) k = let r = shares n x s (k .1) in record { type = r .type; type-in = r .type-in; type-is = r .type-is; answer = rw (r .answer) }
+shares : {Θ : Table} {Γ : Ctx} {i : ℕ} {θ : Ty} {st st′ : Stack} (n : ℕ) → InΓ Γ i θ → Uses Θ st st′ Γ → Numbers st (length Θ) → FoundAs Θ θ st′ (useShared st i n)
+shares n (in-here z) (uses-shared {t = t} s) k = record { type = t; type-in = k .0; type-is = refl; answer = rw (idle-same z s) }
+shares n (in-many x) (uses-shared s) k = let r = shares n x s (k .1) in record { type = r .type; type-in = r .type-in; type-is = r .type-is; answer = rw (r .answer) }
+shares n (in-away x) (uses-not s) k = let r = shares n x s (k .1) in record { type = r .type; type-in = r .type-in; type-is = r .type-is; answer = rw (r .answer) }
 
-takes : {Θ : Table} {Γ : Ctx} {i : ℕ} {κ : Ty} {st st′ : Stack} (n : ℕ) → IsΔ Γ i κ → Step Θ st st′ Γ → Numbers st (length Θ) → FoundAs Θ κ st′ (useLinear st i n)
-takes n (is-here z) (step-took {t = t} s) k = record { type = t; type-in = k .0; type-is = refl; answer = rw (idle-same z s) }
-takes n (is-many x) (step-shared s) k = let r = takes n x s (k .1) in record { type = r .type; type-in = r .type-in; type-is = r .type-is; answer = rw (r .answer) }
-takes n (is-away x) (step-same s) k = let r = takes n x s (k .1) in record { type = r .type; type-in = r .type-in; type-is = r .type-is; answer = rw (r .answer) }
+takes : {Θ : Table} {Γ : Ctx} {i : ℕ} {κ : Ty} {st st′ : Stack} (n : ℕ) → IsΔ Γ i κ → Uses Θ st st′ Γ → Numbers st (length Θ) → FoundAs Θ κ st′ (useLinear st i n)
+takes n (is-here z) (uses-it {t = t} s) k = record { type = t; type-in = k .0; type-is = refl; answer = rw (idle-same z s) }
+takes n (is-many x) (uses-shared s) k = let r = takes n x s (k .1) in record { type = r .type; type-in = r .type-in; type-is = r .type-is; answer = rw (r .answer) }
+takes n (is-away x) (uses-not s) k = let r = takes n x s (k .1) in record { type = r .type; type-in = r .type-in; type-is = r .type-is; answer = rw (r .answer) }
 
-numbers-step : {Θ : Table} {Γ : Ctx} {st st′ : Stack} (l : ℕ) → Step Θ st st′ Γ → Numbers st l → Numbers st′ l
-numbers-step l step-end k = k
-numbers-step l (step-shared s) k = (k .0, numbers-step l s (k .1))
-numbers-step l (step-same s) k = (k .0, numbers-step l s (k .1))
-numbers-step l (step-took s) k = (k .0, numbers-step l s (k .1))
+numbers-uses : {Θ : Table} {Γ : Ctx} {st st′ : Stack} (l : ℕ) → Uses Θ st st′ Γ → Numbers st l → Numbers st′ l
+numbers-uses l uses-end k = k
+numbers-uses l (uses-shared s) k = (k .0, numbers-uses l s (k .1))
+numbers-uses l (uses-not s) k = (k .0, numbers-uses l s (k .1))
+numbers-uses l (uses-it s) k = (k .0, numbers-uses l s (k .1))
 
 pub tyEq-refl : (τ : Ty) → T (tyEq τ τ)
 tyEq-refl bit = tt
@@ -155,34 +155,34 @@ module _ (E : Edition) (Θ : Table) (ok : TableOk Θ) where
   con-walk p t n st h hp e =
       record { type = t; type-in = h; type-is = e; answer = simp (lt-ltb p (length parts) hp, T-is (tyEq (tree Θ t) (partAt p .type E)) (rw e (tyEq-refl (partAt p .type E)))) }
 
-  pub complete : {Γ : Ctx} {e : Term} {τ : Ty} → Typed E Θ Γ e τ → Ranged E Θ e → (n : ℕ) {st st′ : Stack} → Step Θ st st′ Γ → Numbers st (length Θ) → FoundAs Θ τ st′ (walk E Θ e n st)
+  pub complete : {Γ : Ctx} {e : Term} {τ : Ty} → Typed E Θ Γ e τ → Ranged E Θ e → (n : ℕ) {st st′ : Stack} → Uses Θ st st′ Γ → Numbers st (length Θ) → FoundAs Θ τ st′ (walk E Θ e n st)
   complete (Var x) g n s k = shares n x s k
   complete (LVar x) g n s k = takes n x s k
   complete (→I {t = t} {e = e} {θ = θ} {τ = τ} eτ sh d) g n {st} {st′} s k =
       let p = parts-arrow t (g .0) eτ in
-      fun-walk t e n st st′ θ τ (g .0) eτ p (complete d (g .1) (n + 1) (rw (p .left-is) at (step-shared {t = p .left} s)) (p .left-in, k))
+      fun-walk t e n st st′ θ τ (g .0) eτ p (complete d (g .1) (n + 1) (rw (p .left-is) at (uses-shared {t = p .left} s)) (p .left-in, k))
   complete (→E {f = f} {a = a} {θ = θ} {τ = τ} z sh d c) g n {st} {st′} s k =
       let (m, p, q) = between z s in
-      app-walk f a n st m st′ θ τ (complete d (g .0) (n + 1) p k) (complete c (g .1) (n + 1 + nodes f) q (numbers-step (length Θ) p k))
+      app-walk f a n st m st′ θ τ (complete d (g .0) (n + 1) p k) (complete c (g .1) (n + 1 + nodes f) q (numbers-uses (length Θ) p k))
   complete (⊸I {t = t} {e = e} {κ = κ} {τ = τ} eτ ar d) g n {st} {st′} s k =
       let p = parts-lolli t (g .0) eτ in
-      lfun-walk t e n st st′ κ τ (g .0) eτ p (complete d (g .1) (n + 1) (rw (p .left-is) at (step-took {t = p .left} s)) (p .left-in, k))
+      lfun-walk t e n st st′ κ τ (g .0) eτ p (complete d (g .1) (n + 1) (rw (p .left-is) at (uses-it {t = p .left} s)) (p .left-in, k))
   complete (⊸E {f = f} {a = a} {κ = κ} {τ = τ} z ar d c) g n {st} {st′} s k =
       let (m, p, q) = between z s in
-      lapp-walk f a n st m st′ κ τ (complete d (g .0) (n + 1) p k) (complete c (g .1) (n + 1 + nodes f) q (numbers-step (length Θ) p k))
+      lapp-walk f a n st m st′ κ τ (complete d (g .0) (n + 1) p k) (complete c (g .1) (n + 1 + nodes f) q (numbers-uses (length Θ) p k))
   complete (×I {t = t} {a = a} {b = b} {θ₁ = θ₁} {θ₂ = θ₂} z eτ s₁ s₂ d c) g n {st} {st′} s k =
       let (m, p, q) = between z s in
-      pair-walk t a b n st m st′ θ₁ θ₂ (g .0) eτ (complete d (g .1) (n + 1) p k) (complete c (g .2) (n + 1 + nodes a) q (numbers-step (length Θ) p k))
+      pair-walk t a b n st m st′ θ₁ θ₂ (g .0) eτ (complete d (g .1) (n + 1) p k) (complete c (g .2) (n + 1 + nodes a) q (numbers-uses (length Θ) p k))
   complete (×E {a = a} {e = e} {θ₁ = θ₁} {θ₂ = θ₂} {τ = τ} z s₁ s₂ d c) g n {st} {st′} s k =
       let (m, p, q) = between z s in
       let x = complete d (g .0) (n + 1) p k in
       let o = parts-prod (x .type) (x .type-in) (x .type-is) in
-      proj-walk a e n st m st′ θ₁ θ₂ τ x o (complete c (g .1) (n + 1 + nodes a) (rw (o .left-is, o .right-is) at (step-shared {t = o .right} (step-shared {t = o .left} q))) (o .right-in, (o .left-in, numbers-step (length Θ) p k)))
+      proj-walk a e n st m st′ θ₁ θ₂ τ x o (complete c (g .1) (n + 1 + nodes a) (rw (o .left-is, o .right-is) at (uses-shared {t = o .right} (uses-shared {t = o .left} q))) (o .right-in, (o .left-in, numbers-uses (length Θ) p k)))
   complete (Fix {t = t} {e = e} {θ = θ} eτ sh d) g n {st} {st′} s k =
-      fix-walk t e n st st′ θ (g .0) eτ sh (complete d (g .1) (n + 1) (rw eτ at (step-shared {t = t} s)) (g .0, k))
+      fix-walk t e n st st′ θ (g .0) eτ sh (complete d (g .1) (n + 1) (rw eτ at (uses-shared {t = t} s)) (g .0, k))
   complete (Con {p = p} {t = t} h e z) g n {st} {st′} s k =
       rw (idle-same z s) (con-walk p t n st g h e)
   complete (×E′ {a = a} {e = e} {θ = θ} {τ = τ} eE z sh d c) g n {st} {st′} s k =
       let (m, p, q) = between z s in
       let x = complete d (g .1) (n + 1) p k in
-      name-walk a e n st m st′ θ τ sh x (complete c (g .2) (n + 1 + nodes a) (rw (x .type-is) at (step-shared {t = x .type} q)) (x .type-in, numbers-step (length Θ) p k))
+      name-walk a e n st m st′ θ τ sh x (complete c (g .2) (n + 1 + nodes a) (rw (x .type-is) at (uses-shared {t = x .type} q)) (x .type-in, numbers-uses (length Θ) p k))

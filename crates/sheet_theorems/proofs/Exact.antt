@@ -14,7 +14,8 @@ use Rattle.laws.proofs.Tests.{T-is, is-false, by-eqb}
 use Rattle.calculus.specs.Walk.{Found, walk}
 use Rattle.calculus.specs.Rules.{Typed}
 use Rattle.sheet_theorems.proofs.Laying.{laid}
-use Rattle.sheet_theorems.proofs.Sound.{sound, step-end, tyEq→eq}
+use Rattle.sheet_theorems.specs.Uses.{uses-end}
+use Rattle.sheet_theorems.proofs.Sound.{sound, tyEq→eq}
 use Rattle.sheet_theorems.proofs.OneType.{one-type}
 use Rattle.sheet_theorems.proofs.Complete.{complete, tyEq-refl}
 
@@ -24,7 +25,7 @@ pub exact : (s : List ℕ) (σ : Sheet) → readSheet s ≡ good σ
 exact s σ e =
     let l = laid s σ e in (
       (λ a. (tree (σ .table) (a .0 .type), sound (σ .edition) (σ .table) (l .table) (σ .term) (l .ranged) (a .0) (a .1))),
-      (λ a. let c = complete (σ .edition) (σ .table) (l .table) (a .1) (l .ranged) 0 step-end tt in (record { type = c .type; stack = [] }, c .answer)),
+      (λ a. let c = complete (σ .edition) (σ .table) (l .table) (a .1) (l .ranged) 0 uses-end tt in (record { type = c .type; stack = [] }, c .answer)),
     )
 
 -- and the type that the walk finds is the derivation's

@@ -9,6 +9,7 @@ use Rattle.calculus.specs.Answer.{Answer, good, refused}
 use Rattle.calculus.proofs.Answers.{refused≢good, good-inj, on-bind, on-require, on-need}
 use Rattle.calculus.specs.Types.{Ty, bit, prod, arrow, lolli, sharable, isArrow, tyEq, TyRec, rec01, rec02, rec03, rec04, Table, recAt, tree}
 use Rattle.calculus.specs.Terms.{Edition, second, Term, var, lvar, fun, app, lfun, lapp, pair, proj, fix, con, name, nodes, parts, partAt}
+use Rattle.sheet_theorems.specs.Uses.{Uses, uses-end, uses-shared, uses-not, uses-it}
 use Rattle.sheet_theorems.specs.Laid.{Agrees, TableOk, Ranged}
 use Rattle.laws.proofs.Tests.{and-both}
 use Rattle.calculus.specs.Walk.{Binder, shared, linear, Stack, Sides, product, sharableArrow, linearArrow, Found, under, useShared, useLinear, pop, topUsed, walk}
@@ -36,39 +37,33 @@ linear-good (rec04 a b) t n s e = ap (λ (s : Sides). rec04 (s .left) (s .right)
 
 -- ---- a stretch of the walk takes some linear binders: those are its Δ
 
-pub data Step (Θ : Table) : Stack → Stack → Ctx → Type 0 where
-  step-end : Step Θ [] [] []
-  step-shared : {t : ℕ} {st st′ : Stack} {Γ : Ctx} → Step Θ st st′ Γ → Step Θ (shared t ∷ st) (shared t ∷ st′) (many (tree Θ t) ∷ Γ)
-  step-same : {t : ℕ} {u : Bool} {st st′ : Stack} {Γ : Ctx} → Step Θ st st′ Γ → Step Θ (linear t u ∷ st) (linear t u ∷ st′) (away ∷ Γ)
-  step-took : {t : ℕ} {st st′ : Stack} {Γ : Ctx} → Step Θ st st′ Γ → Step Θ (linear t false ∷ st) (linear t true ∷ st′) (once (tree Θ t) ∷ Γ)
-
 -- nothing taken
-idle : (Θ : Table) (st : Stack) → (Γ : Ctx) × Step Θ st st Γ × NoLinear Γ
-idle Θ [] = ([], step-end, none-end)
-idle Θ (shared t ∷ st) = let (Γ, s, z) = idle Θ st in (many (tree Θ t) ∷ Γ, step-shared s, none-many z)
-idle Θ (linear t u ∷ st) = let (Γ, s, z) = idle Θ st in (away ∷ Γ, step-same s, none-away z)
+idle : (Θ : Table) (st : Stack) → (Γ : Ctx) × Uses Θ st st Γ × NoLinear Γ
+idle Θ [] = ([], uses-end, none-end)
+idle Θ (shared t ∷ st) = let (Γ, s, z) = idle Θ st in (many (tree Θ t) ∷ Γ, uses-shared s, none-many z)
+idle Θ (linear t u ∷ st) = let (Γ, s, z) = idle Θ st in (away ∷ Γ, uses-not s, none-away z)
 
 -- one stretch and then another
-both : {Θ : Table} {a b c : Stack} {Γ₁ Γ₂ : Ctx} → Step Θ a b Γ₁ → Step Θ b c Γ₂ → (Γ : Ctx) × Step Θ a c Γ × Split Γ Γ₁ Γ₂
-both step-end step-end = ([], step-end, split-end)
-both (step-shared p) (step-shared q) = let (Γ, s, z) = both p q in (_, step-shared s, split-many z)
-both (step-same p) (step-same q) = let (Γ, s, z) = both p q in (_, step-same s, split-away z)
-both (step-same p) (step-took q) = let (Γ, s, z) = both p q in (_, step-took s, split-second z)
-both (step-took p) (step-same q) = let (Γ, s, z) = both p q in (_, step-took s, split-first z)
+both : {Θ : Table} {a b c : Stack} {Γ₁ Γ₂ : Ctx} → Uses Θ a b Γ₁ → Uses Θ b c Γ₂ → (Γ : Ctx) × Uses Θ a c Γ × Split Γ Γ₁ Γ₂
+both uses-end uses-end = ([], uses-end, split-end)
+both (uses-shared p) (uses-shared q) = let (Γ, s, z) = both p q in (_, uses-shared s, split-many z)
+both (uses-not p) (uses-not q) = let (Γ, s, z) = both p q in (_, uses-not s, split-away z)
+both (uses-not p) (uses-it q) = let (Γ, s, z) = both p q in (_, uses-it s, split-second z)
+both (uses-it p) (uses-not q) = let (Γ, s, z) = both p q in (_, uses-it s, split-first z)
 
 -- leaving a binder's scope
-pop-shared : {Θ : Table} {t : ℕ} {st st′ : Stack} {Γ′ : Ctx} → Step Θ (shared t ∷ st) st′ Γ′ → (Γ : Ctx) × (Γ′ ≡ many (tree Θ t) ∷ Γ) × Step Θ st (pop st′) Γ
-pop-shared (step-shared s) = (_, refl, s)
+pop-shared : {Θ : Table} {t : ℕ} {st st′ : Stack} {Γ′ : Ctx} → Uses Θ (shared t ∷ st) st′ Γ′ → (Γ : Ctx) × (Γ′ ≡ many (tree Θ t) ∷ Γ) × Uses Θ st (pop st′) Γ
+pop-shared (uses-shared s) = (_, refl, s)
 
-pop-linear : {Θ : Table} {t : ℕ} {st st′ : Stack} {Γ′ : Ctx} → Step Θ (linear t false ∷ st) st′ Γ′ → T (topUsed st′) → (Γ : Ctx) × (Γ′ ≡ once (tree Θ t) ∷ Γ) × Step Θ st (pop st′) Γ
-pop-linear (step-same s) u = absurd u
-pop-linear (step-took s) u = (_, refl, s)
+pop-linear : {Θ : Table} {t : ℕ} {st st′ : Stack} {Γ′ : Ctx} → Uses Θ (linear t false ∷ st) st′ Γ′ → T (topUsed st′) → (Γ : Ctx) × (Γ′ ≡ once (tree Θ t) ∷ Γ) × Uses Θ st (pop st′) Γ
+pop-linear (uses-not s) u = absurd u
+pop-linear (uses-it s) u = (_, refl, s)
 
 -- ---- soundness
 
 pub record Derived (E : Edition) (Θ : Table) (st : Stack) (e : Term) (r : Found) : Type 0 where
   pub ctx : Ctx
-  pub step : Step Θ st (r .stack) ctx
+  pub uses : Uses Θ st (r .stack) ctx
   pub typed : Typed E Θ ctx e (tree Θ (r .type))
 
 -- an answer under one more binder
@@ -79,7 +74,7 @@ under-good b (refused why) r e = absurd (refused≢good e)
 -- a sharable variable
 pub record Shares (Θ : Table) (st : Stack) (i : ℕ) (r : Found) : Type 0 where
   pub ctx : Ctx
-  pub step : Step Θ st (r .stack) ctx
+  pub uses : Uses Θ st (r .stack) ctx
   pub at : InΓ ctx i (tree Θ (r .type))
 
 shares : (Θ : Table) (st : Stack) (i n : ℕ) (r : Found) → useShared st i n ≡ good r → Shares Θ st i r
@@ -87,23 +82,23 @@ shares Θ [] i n r e = absurd (refused≢good e)
 shares Θ (shared t ∷ st) zero n r e =
     let (Γ, s, z) = idle Θ st in
     subst (λ (r : Found). Shares Θ (shared t ∷ st) zero r) (good-inj e)
-    (record { ctx = many (tree Θ t) ∷ Γ; step = step-shared s; at = in-here z })
+    (record { ctx = many (tree Θ t) ∷ Γ; uses = uses-shared s; at = in-here z })
 shares Θ (linear t u ∷ st) zero n r e = absurd (refused≢good e)
 shares Θ (shared t ∷ st) (suc i) n r e =
     let (q, e₁, e₂) = under-good (shared t) (useShared st i n) r e in
     let h = shares Θ st i n q e₁ in
     subst (λ (r : Found). Shares Θ (shared t ∷ st) (suc i) r) e₂
-    (record { ctx = many (tree Θ t) ∷ h .ctx; step = step-shared (h .step); at = in-many (h .at) })
+    (record { ctx = many (tree Θ t) ∷ h .ctx; uses = uses-shared (h .uses); at = in-many (h .at) })
 shares Θ (linear t u ∷ st) (suc i) n r e =
     let (q, e₁, e₂) = under-good (linear t u) (useShared st i n) r e in
     let h = shares Θ st i n q e₁ in
     subst (λ (r : Found). Shares Θ (linear t u ∷ st) (suc i) r) e₂
-    (record { ctx = away ∷ h .ctx; step = step-same (h .step); at = in-away (h .at) })
+    (record { ctx = away ∷ h .ctx; uses = uses-not (h .uses); at = in-away (h .at) })
 
 -- a linear variable
 pub record Takes (Θ : Table) (st : Stack) (i : ℕ) (r : Found) : Type 0 where
   pub ctx : Ctx
-  pub step : Step Θ st (r .stack) ctx
+  pub uses : Uses Θ st (r .stack) ctx
   pub at : IsΔ ctx i (tree Θ (r .type))
 
 takes : (Θ : Table) (st : Stack) (i n : ℕ) (r : Found) → useLinear st i n ≡ good r → Takes Θ st i r
@@ -113,17 +108,17 @@ takes Θ (linear t true ∷ st) zero n r e = absurd (refused≢good e)
 takes Θ (linear t false ∷ st) zero n r e =
     let (Γ, s, z) = idle Θ st in
     subst (λ (r : Found). Takes Θ (linear t false ∷ st) zero r) (good-inj e)
-    (record { ctx = once (tree Θ t) ∷ Γ; step = step-took s; at = is-here z })
+    (record { ctx = once (tree Θ t) ∷ Γ; uses = uses-it s; at = is-here z })
 takes Θ (shared t ∷ st) (suc i) n r e =
     let (q, e₁, e₂) = under-good (shared t) (useLinear st i n) r e in
     let h = takes Θ st i n q e₁ in
     subst (λ (r : Found). Takes Θ (shared t ∷ st) (suc i) r) e₂
-    (record { ctx = many (tree Θ t) ∷ h .ctx; step = step-shared (h .step); at = is-many (h .at) })
+    (record { ctx = many (tree Θ t) ∷ h .ctx; uses = uses-shared (h .uses); at = is-many (h .at) })
 takes Θ (linear t u ∷ st) (suc i) n r e =
     let (q, e₁, e₂) = under-good (linear t u) (useLinear st i n) r e in
     let h = takes Θ st i n q e₁ in
     subst (λ (r : Found). Takes Θ (linear t u ∷ st) (suc i) r) e₂
-    (record { ctx = away ∷ h .ctx; step = step-same (h .step); at = is-away (h .at) })
+    (record { ctx = away ∷ h .ctx; uses = uses-not (h .uses); at = is-away (h .at) })
 
 -- ---- the test of equal types
 
@@ -160,68 +155,68 @@ module _ (E : Edition) (Θ : Table) (st : Stack) where
   fun-rule : (t a b : ℕ) (e : Term) (q : Found) → tree Θ t ≡ arrow (tree Θ a) (tree Θ b) → T (sharable (tree Θ a)) → q .type ≡ b
       → Derived E Θ (shared a ∷ st) e q → Derived E Θ st (fun t e) (at-type t (pop (q .stack)))
   fun-rule t a b e q eτ sh eb d =
-      let (Γ, eΓ, s) = pop-shared (d .step) in
-      record { ctx = Γ; step = s; typed = rw eτ (→I eτ sh (rw (eΓ, eb) at (d .typed))) }
+      let (Γ, eΓ, s) = pop-shared (d .uses) in
+      record { ctx = Γ; uses = s; typed = rw eτ (→I eτ sh (rw (eΓ, eb) at (d .typed))) }
 
   lfun-rule : (t a b : ℕ) (e : Term) (q : Found) → tree Θ t ≡ lolli (tree Θ a) (tree Θ b) → T (isArrow (tree Θ a)) → T (topUsed (q .stack)) → q .type ≡ b
       → Derived E Θ (linear a false ∷ st) e q → Derived E Θ st (lfun t e) (at-type t (pop (q .stack)))
   lfun-rule t a b e q eτ ar u eb d =
-      let (Γ, eΓ, s) = pop-linear (d .step) u in
-      record { ctx = Γ; step = s; typed = rw eτ (⊸I eτ ar (rw (eΓ, eb) at (d .typed))) }
+      let (Γ, eΓ, s) = pop-linear (d .uses) u in
+      record { ctx = Γ; uses = s; typed = rw eτ (⊸I eτ ar (rw (eΓ, eb) at (d .typed))) }
 
   app-rule : (l r : ℕ) (f a : Term) (x y : Found) → tree Θ (x .type) ≡ arrow (tree Θ l) (tree Θ r) → T (sharable (tree Θ l)) → y .type ≡ l
       → Derived E Θ st f x → Derived E Θ (x .stack) a y → Derived E Θ st (app f a) (at-type r (y .stack))
   app-rule l r f a x y eτ sh el d c =
-      let (Γ, s, z) = both (d .step) (c .step) in
-      record { ctx = Γ; step = s; typed = →E z sh (rw eτ at (d .typed)) (rw el at (c .typed)) }
+      let (Γ, s, z) = both (d .uses) (c .uses) in
+      record { ctx = Γ; uses = s; typed = →E z sh (rw eτ at (d .typed)) (rw el at (c .typed)) }
 
   lapp-rule : (l r : ℕ) (f a : Term) (x y : Found) → tree Θ (x .type) ≡ lolli (tree Θ l) (tree Θ r) → T (isArrow (tree Θ l)) → y .type ≡ l
       → Derived E Θ st f x → Derived E Θ (x .stack) a y → Derived E Θ st (lapp f a) (at-type r (y .stack))
   lapp-rule l r f a x y eτ ar el d c =
-      let (Γ, s, z) = both (d .step) (c .step) in
-      record { ctx = Γ; step = s; typed = ⊸E z ar (rw eτ at (d .typed)) (rw el at (c .typed)) }
+      let (Γ, s, z) = both (d .uses) (c .uses) in
+      record { ctx = Γ; uses = s; typed = ⊸E z ar (rw eτ at (d .typed)) (rw el at (c .typed)) }
 
   pair-rule : (t l r : ℕ) (a b : Term) (x y : Found) → tree Θ t ≡ prod (tree Θ l) (tree Θ r) → T (sharable (tree Θ l)) → T (sharable (tree Θ r)) → x .type ≡ l → y .type ≡ r
       → Derived E Θ st a x → Derived E Θ (x .stack) b y → Derived E Θ st (pair t a b) (at-type t (y .stack))
   pair-rule t l r a b x y eτ s₁ s₂ el er d c =
-      let (Γ, s, z) = both (d .step) (c .step) in
-      record { ctx = Γ; step = s; typed = rw eτ (×I z eτ s₁ s₂ (rw el at (d .typed)) (rw er at (c .typed))) }
+      let (Γ, s, z) = both (d .uses) (c .uses) in
+      record { ctx = Γ; uses = s; typed = rw eτ (×I z eτ s₁ s₂ (rw el at (d .typed)) (rw er at (c .typed))) }
 
   proj-rule : (l r : ℕ) (a e : Term) (x y : Found) → tree Θ (x .type) ≡ prod (tree Θ l) (tree Θ r) → T (sharable (tree Θ l)) → T (sharable (tree Θ r))
       → Derived E Θ st a x → Derived E Θ (shared r ∷ shared l ∷ x .stack) e y → Derived E Θ st (proj a e) (at-type (y .type) (pop (pop (y .stack))))
   proj-rule l r a e x y eτ p q d c =
-      let (Γ₁, e₁, s₁) = pop-shared (c .step) in
+      let (Γ₁, e₁, s₁) = pop-shared (c .uses) in
       let (Γ₂, e₂, s₂) = pop-shared s₁ in
-      let (Γ, s, z) = both (d .step) s₂ in
-      record { ctx = Γ; step = s; typed = ×E z p q (rw eτ at (d .typed)) (rw (e₁, e₂) at (c .typed)) }
+      let (Γ, s, z) = both (d .uses) s₂ in
+      record { ctx = Γ; uses = s; typed = ×E z p q (rw eτ at (d .typed)) (rw (e₁, e₂) at (c .typed)) }
 
   fix-rule : (t : ℕ) (e : Term) (q : Found) → T (sharable (tree Θ t)) → q .type ≡ t
       → Derived E Θ (shared t ∷ st) e q → Derived E Θ st (fix t e) (at-type t (pop (q .stack)))
   fix-rule t e q sh eb d =
-      let (Γ, eΓ, s) = pop-shared (d .step) in
-      record { ctx = Γ; step = s; typed = Fix refl sh (rw (eΓ, eb) at (d .typed)) }
+      let (Γ, eΓ, s) = pop-shared (d .uses) in
+      record { ctx = Γ; uses = s; typed = Fix refl sh (rw (eΓ, eb) at (d .typed)) }
 
   con-rule : (p t : ℕ) → T (ltb p (length parts)) → T (tyEq (tree Θ t) (partAt p .type E)) → Derived E Θ st (con p t) (at-type t st)
   con-rule p t h k =
       let (Γ, s, z) = idle Θ st in
       let e = tyEq→eq (tree Θ t) (partAt p .type E) k in
-      record { ctx = Γ; step = s; typed = rw e (Con (ltb→lt p (length parts) h) e z) }
+      record { ctx = Γ; uses = s; typed = rw e (Con (ltb→lt p (length parts) h) e z) }
 
   name-rule : (a e : Term) (x y : Found) → E ≡ second → T (sharable (tree Θ (x .type)))
       → Derived E Θ st a x → Derived E Θ (shared (x .type) ∷ x .stack) e y → Derived E Θ st (name a e) (at-type (y .type) (pop (y .stack)))
   name-rule a e x y eE sh d c =
-      let (Γ₂, e₂, s₂) = pop-shared (c .step) in
-      let (Γ, s, z) = both (d .step) s₂ in
-      record { ctx = Γ; step = s; typed = ×E′ eE z sh (d .typed) (rw e₂ at (c .typed)) }
+      let (Γ₂, e₂, s₂) = pop-shared (c .uses) in
+      let (Γ, s, z) = both (d .uses) s₂ in
+      record { ctx = Γ; uses = s; typed = ×E′ eE z sh (d .typed) (rw e₂ at (c .typed)) }
 
 -- the walk
 pub derived : (E : Edition) (Θ : Table) → TableOk Θ → (e : Term) → Ranged E Θ e → (n : ℕ) (st : Stack) (r : Found) → walk E Θ e n st ≡ good r → Derived E Θ st e r
 derived E Θ ok (var i) g n st r h =
     let s = shares Θ st i n r h in
-    record { ctx = s .ctx; step = s .step; typed = Var (s .at) }
+    record { ctx = s .ctx; uses = s .uses; typed = Var (s .at) }
 derived E Θ ok (lvar i) g n st r h =
     let s = takes Θ st i n r h in
-    record { ctx = s .ctx; step = s .step; typed = LVar (s .at) }
+    record { ctx = s .ctx; uses = s .uses; typed = LVar (s .at) }
 derived E Θ ok (fun t e) g n st r h =
     on-bind (sharableArrow (recAt Θ t) t n) _ r h λ τ h₁ k₁.
     on-bind (walk E Θ e (n + 1) (shared (τ .left) ∷ st)) _ r k₁ λ q h₂ k₂.
@@ -279,10 +274,10 @@ derived E Θ ok (name a e) g n st r h =
     rw (← good-inj k₃) (name-rule E Θ st a e x y (g .0) h₂ (derived E Θ ok a (g .1) (n + 1) st x h₁) (derived E Θ ok e (g .2) _ _ y h₃))
 
 -- from the empty stack: a derivation in the empty context
-closed : {Θ : Table} {st : Stack} {Γ : Ctx} → Step Θ [] st Γ → Γ ≡ []
-closed step-end = refl
+closed : {Θ : Table} {st : Stack} {Γ : Ctx} → Uses Θ [] st Γ → Γ ≡ []
+closed uses-end = refl
 
 pub sound : (E : Edition) (Θ : Table) → TableOk Θ → (e : Term) → Ranged E Θ e → (r : Found) → walk E Θ e 0 [] ≡ good r → Typed E Θ [] e (tree Θ (r .type))
 sound E Θ ok e g r h =
     let d = derived E Θ ok e g 0 [] r h in
-    rw (closed (d .step)) at (d .typed)
+    rw (closed (d .uses)) at (d .typed)

@@ -3,3 +3,4 @@ pub mod Subterms
 pub mod Clash
 pub mod Numbers
 pub mod Records
+pub mod Uses

@@ -1,10 +1,11 @@
 -- What a call answers, by what its stages found. Assumes nothing.
 use Prim.Native.Nat.{ℕ, _≤_}
 use mathlib.Core.Path.{_≡_, refl, subst, _∙_}
+use mathlib.Core.Bool.{Bool, true, false}
 use mathlib.Core.List.{List}
 use lib.Dec.{leb}
 use lib.ListN.{length}
-use Rattle.calculus.specs.Answer.{Answer, good, refused, _>>=_}
+use Rattle.calculus.specs.Answer.{Answer, good, refused, _>>=_, need}
 use Rattle.calculus.specs.Net.{Net}
 use Rattle.calculus.specs.Lean.{lean}
 use Rattle.calculus.specs.Translate.{full, workOf}
@@ -14,6 +15,8 @@ use Rattle.typing.specs.Verdicts.{saidWhy}
 use Rattle.lean.specs.Table.{Rooted}
 use Rattle.translator.specs.Made.{lent, Keeps}
 use Rattle.trace_calculus.specs.Trace.{ran, trace, runCall}
+use Rattle.trace_calculus.specs.Lanes.{LanesEnd, lanesRan, lanesTrace, lanesCall}
+use Rattle.trace.specs.Said.{LanesSay, lanesCalled}
 use Rattle.translator.specs.Said.{AnswerSays, called}
 use Rattle.translator.proofs.Lent.{need-first}
 use Rattle.translator.specs.declared.Answer as code
@@ -47,3 +50,33 @@ pub call-run : (s bits starts out work : List ℕ) (n : ℕ) (r : code.Answer) (
     → AnswerSays r out after (trace (length work) s n bits starts (length out)) → Keeps work mid → called r after (workOf mid) ≡ runCall s bits starts n out work
 unfolding runCall
 call-run s bits starts out work n r after mid a k = rw (a .said, a .wrote, k)
+
+-- ---- the same for sixteen traces at once
+
+need-next : (t : Bool) (a : Answer Net) (f : Net → Answer LanesEnd) → (need t 1 0 >>= λ _. a >>= f) ≡ ((need t 1 0 >>= λ _. a) >>= f)
+need-next true a f = refl
+need-next false a f = refl
+
+pub rooted-lanes : (u v w : List ℕ) (e k p n : ℕ) (bits state₀ out state after : List ℕ) (r : code.Answer) → memorySize ≤ length u → Rooted u v e k p
+    → LanesSay r out after state₀ state (lanesRan (lean (netIn v e k p)) n bits state₀ (length out)) × Keeps v w → LanesSay r out after state₀ state (lanesRan (lean (netIn u e k p)) n bits state₀ (length out)) × Keeps u w
+rooted-lanes u v w e k p n bits state₀ out state after r l q h = (
+  subst (λ (m : Net). LanesSay r out after state₀ state (lanesRan (lean m) n bits state₀ (length out))) (q .net) (h .0),
+  h .1 ∙ above-keeps u v l (above-within (q .within)),
+)
+
+module _ (s bits state out : List ℕ) (n memory : ℕ) where
+  lanes-lent : lanesTrace memory s n bits state (length out) ≡ (lent memory s >>= λ m. lanesRan (lean m) n bits state (length out))
+  unfolding lanesTrace lent
+  lanes-lent = need-next (leb memorySize memory) (full s) (λ m. lanesRan (lean m) n bits state (length out))
+
+  pub refused-lanes : (why : Refusal) → refused (saidWhy why) ≡ lent memory s → LanesSay (answer.Refused why) out out state state (lanesTrace memory s n bits state (length out))
+  refused-lanes why e = rw (lanes-lent, ← e) (record { answer = record { said = refl; wrote = refl }; left = refl })
+
+  pub net-lanes : (r : code.Answer) (after left : List ℕ) (m : Net) → good m ≡ lent memory s → LanesSay r out after state left (lanesRan (lean m) n bits state (length out))
+      → LanesSay r out after state left (lanesTrace memory s n bits state (length out))
+  net-lanes r after left m e h = rw (lanes-lent, ← e) h
+
+pub call-lanes : (s bits state out work : List ℕ) (n : ℕ) (r : code.Answer) (after left mid : List ℕ)
+    → LanesSay r out after state left (lanesTrace (length work) s n bits state (length out)) → Keeps work mid → lanesCalled r after left (workOf mid) ≡ lanesCall s bits state n out work
+unfolding lanesCall
+call-lanes s bits state out work n r after left mid a k = rw (a .answer .said, a .answer .wrote, a .left, k)

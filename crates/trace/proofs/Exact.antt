@@ -16,7 +16,7 @@ use Rattle.laws.proofs.Tests.{or-elim, or-left, or-right}
 use Rattle.calculus.specs.Terms.{partAt}
 use Rattle.calculus.specs.Net.{Interface, inp, out, Element, point, part, Net}
 use Rattle.calculus.specs.Lean.{kept, keep, leanPin, lean}
-use Rattle.calculus.specs.Translate.{full, saidOf, outOf}
+use Rattle.calculus.specs.Translate.{full, saidOf, outOf, Call}
 use Rattle.calculus.specs.Record.{Among}
 use Rattle.circuit_theorems.specs.Terminals.{has}
 use Rattle.circuit_theorems.specs.Formed.{Rising}
@@ -29,9 +29,12 @@ use Rattle.translator.specs.Word.{packed, FitsWord}
 use Rattle.translator.proofs.WordLaws.{word-tells}
 use Rattle.translator.proofs.Places.{names-small, full-places}
 use Rattle.trace_calculus.specs.Trace.{OnRing, upFrom, inputs, outPins, ran, trace, runCall}
+use Rattle.trace_calculus.specs.Lanes.{lane, lanesCall}
+use Rattle.trace_calculus.specs.LanesPromise.{LanesAreRuns, laneCall}
 use Rattle.trace_calculus.specs.Promise.{Traced, Ringless, LowestOnRing, ExactBits, Needs, OfSheet, RunPromise}
 use Rattle.trace_theorems.proofs.Lists.{in-has}
 use Rattle.trace_theorems.proofs.Sources.{has-left, has-right, has-append, has-up}
+use Rattle.trace_theorems.proofs.LaneCalls.{lanes-are-runs}
 use Rattle.trace_theorems.proofs.Outcome.{Came, by-ring, by-bits, by-room, to-end, came}
 use Rattle.trace.proofs.FreeLaws.{mul-few}
 
@@ -56,17 +59,17 @@ kept-input m (part p i ∷ es) x t =
     ⊎-elim (λ u. has-left (upFrom (partAt p .inputs) i) (inputs es) x u) (λ u. has-right (upFrom (partAt p .inputs) i) (inputs es) x (kept-input m es x u))
     (has-append (upFrom (partAt p .inputs) i) (inputs (keep m es)) x t)
 
-outs-length : (ps : Interface) → length (outPins ps) ≤ length ps
+pub outs-length : (ps : Interface) → length (outPins ps) ≤ length ps
 outs-length [] = omega arith
 outs-length (inp i ∷ ps) = omega (arith, outs-length ps)
 outs-length (out o ∷ ps) = omega (arith, outs-length ps)
 
 module _ (s : List ℕ) (m : Net) (e : full s ≡ good m) where
-  ring-low : (x : ℕ) → Among x (inputs (lean m .elements)) → x < 8192
+  pub ring-low : (x : ℕ) → Among x (inputs (lean m .elements)) → x < 8192
   unfolding lean
   ring-low x h = let f = formed s m e in omega (arith, input-low (m .elements) 0 (f .net .end) x (f .net .rising) (kept-input m (m .elements) x (in-has h)), f .few)
 
-  lean-pins : length (lean m .pins) ≡ length (m .pins)
+  pub lean-pins : length (lean m .pins) ≡ length (m .pins)
   unfolding lean
   lean-pins = length-map (m .pins) (leanPin m)
 
@@ -268,3 +271,25 @@ unfolding runCall
 run-tells s s′ bits bits′ starts starts′ n n′ output output′ work work′ h h′ e =
     word-tells _ _ (fits s bits starts n (length output) work h (ends s bits starts n (length output) work))
     (fits s′ bits′ starts′ n′ (length output′) work′ h′ (ends s′ bits′ starts′ n′ (length output′) work′)) e
+
+-- ---- sixteen traces at once
+
+-- the same promise holds of each lane, refusals too: what is written in it are the bits of the only possible record with the lane's inputs and starts
+pub lanes-promise : (s bits state : List ℕ) (n : ℕ) (output work : List ℕ) (k : ℕ) → k < 16
+    → RunPromise s (lane k bits) (lane k state) n (lane k output) work (laneCall k (lanesCall s bits state n output work))
+lanes-promise s bits state n output work k h =
+    let r = lanes-are-runs s bits state n output work k h in
+    subst (RunPromise s (lane k bits) (lane k state) n (lane k output) work) (sym (same (r .said) (r .out) (r .cleared))) (run-promise s (lane k bits) (lane k state) n (lane k output) work)
+  where
+    same : {c d : Call} → c .said ≡ d .said → c .out ≡ d .out → c .work ≡ d .work → c ≡ d
+    same p q r = λ i. record { said = p i; out = q i; work = r i }
+
+-- two calls for C that answer the same number said the same
+pub lanes-tells : (s s′ bits bits′ state state′ : List ℕ) (n n′ : ℕ) (output output′ work work′ : List ℕ) → n ≤ 65535 → n′ ≤ 65535
+    → packed (lanesCall s bits state n output work .said) ≡ packed (lanesCall s′ bits′ state′ n′ output′ work′ .said) → lanesCall s bits state n output work .said ≡ lanesCall s′ bits′ state′ n′ output′ work′ .said
+lanes-tells s s′ bits bits′ state state′ n n′ output output′ work work′ h h′ e =
+    let p = lanes-are-runs s bits state n output work 0 (omega arith) .said in
+    let q = lanes-are-runs s′ bits′ state′ n′ output′ work′ 0 (omega arith) .said in
+    p
+    ∙ run-tells s s′ (lane 0 bits) (lane 0 bits′) (lane 0 state) (lane 0 state′) n n′ (lane 0 output) (lane 0 output′) work work′ h h′ (sym (ap packed p) ∙ e ∙ ap packed q)
+    ∙ sym q

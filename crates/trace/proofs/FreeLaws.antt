@@ -19,15 +19,19 @@ use Rattle.circuit_theorems.specs.Terminals.{has}
 use Rattle.memory.specs.Map.{memorySize}
 use Rattle.lean.specs.Table.{Within, entry}
 use Rattle.lean.proofs.TableLaws.{within-none, within-then, within-set, entry-same, entry-other}
-use Rattle.trace_calculus.specs.Trace.{terminals, OnRing, run, inPins, outPins, registers, place, givenBits, startBits, bitByte, row, rows, allBits}
+use Rattle.trace_calculus.specs.Trace.{terminals, OnRing, run, inPins, outPins, registers, place, givenBits, startBits, row, rows, allBits}
+use Rattle.trace_calculus.specs.Lanes.{laneBit, lane}
+use Rattle.trace_calculus.proofs.LaneBits.{lane-zero, lane-ones, lane-at, lane-bytes}
 use Rattle.trace_theorems.proofs.Lending.{rows-length}
 use Rattle.trace_theorems.proofs.Sources.{out-terminal}
 use Rattle.trace_theorems.proofs.Owners.{last}
 use Rattle.trace_steps.specs.Map.{registersAt, orderAt, pinsAt, bitsAt, registerEntry, inverterEntry, oneEntry}
 use Rattle.trace_steps.specs.Turns.{takeTurns, Looped}
-use Rattle.trace_steps.specs.Steps.{lit, firstIn, Looks, Ordered, Registers, wakeOne, beginOne}
+use Rattle.trace_steps.specs.Steps.{lit, firstIn, Looks, Ordered, wakeOne}
+use Rattle.trace_steps.specs.Words.{everyLane, wordBegin, laneZero, laneMem}
 use Rattle.trace_steps.specs.Pins.{counted, inPinCount, outPinCount, PinsLow, RegistersListed}
 use Rattle.trace_steps.specs.Ticks.{sizes, lighted, ticked, shownBits, Runs, Running, running, tickOne, Ran, TraceFits, InOrder}
+use Rattle.trace_steps.proofs.LaneLaws.{mem-within, lit-lane, run-lane}
 use Rattle.trace_steps.proofs.Laws.{first-low}
 use Rattle.trace_steps.proofs.SweepLaws.{looks-table}
 use Rattle.trace_steps.proofs.TickLaws.{ordered-within, registers-within, pins-within, ins-within, outs-within}
@@ -42,7 +46,7 @@ use Rattle.trace.proofs.ElementLaws.{in-out}
 use Rattle.trace.proofs.PinLists.{upTo, upto-is, ins-length, outs-length, ins-outs}
 use Rattle.trace.proofs.RegisterLists.{Collected, collect, element-entry, registers-length, register-at, register-number, registers-apart}
 use Rattle.trace.proofs.RunLaws.{RunStood, State, state-next, row-stored}
-use Rattle.trace.proofs.StageLaws.{above-then, above-within, tabled-same}
+use Rattle.trace.proofs.StageLaws.{tabled-same}
 
 -- a test, and what it says
 pub said-no : {x : Bool} (r : Bool) → r ≡ x → not r ≡ true → x ≡ false
@@ -79,6 +83,15 @@ module _ (bits starts : List ℕ) (reads regs : ℕ) where
       by true false p q e = absurd (subst T (sym e) tt)
       by false b p q e = absurd (subst T (sym e) tt)
 
+  pub lent-bits : lentIn bits starts reads regs ≡ true → (allBits bits ≡ true) × (allBits starts ≡ true)
+  lent-bits e = by (eqb (length bits) reads && eqb (length starts) regs) (allBits bits) (allBits starts) refl refl e
+    where
+      by : (a c d : Bool) → allBits bits ≡ c → allBits starts ≡ d → a && (c && d) ≡ true → (allBits bits ≡ true) × (allBits starts ≡ true)
+      by true true true p q e = (p, q)
+      by true true false p q e = absurd (subst T (sym e) tt)
+      by true false d p q e = absurd (subst T (sym e) tt)
+      by false c d p q e = absurd (subst T (sym e) tt)
+
 pub mul-few : (a b : ℕ) → a ≤ 65535 → b ≤ 128 → a * b ≤ 8388480
 mul-few a b h l = omega (arith, mul-le-mul-right {m = a} {n = 65535} b h)
 
@@ -103,14 +116,14 @@ module _ (b : List ℕ) (m : Net) (end pins total regs : ℕ) (s : RunStood b m 
   abbrev β : Bits
   β = run m (givenBits (m .pins) bits) (startBits (m .elements) starts)
 
-  record Going (n : ℕ) (r : Running) : Type 0 where
+  pub record Going (n : ℕ) (r : Running) : Type 0 where
     pub state : State b m end pins total regs s free bits starts n (r .mem)
     pub wrote : r .out ≡ sets out₀ 0 (rows β (outPins (m .pins)) 0 n)
 
   pub all-ticks : (w : List ℕ) (i o N : ℕ) → i ≡ length (inPins (m .pins)) → o ≡ length (outPins (m .pins)) → State b m end pins total regs s free bits starts 0 w
-      → takeTurns (tickOne (sizes total regs pins) bits i o) N 0 (running w out₀) .out ≡ sets out₀ 0 (rows β (outPins (m .pins)) 0 N)
+      → Going N (takeTurns (tickOne (sizes total regs pins) bits i o) N 0 (running w out₀))
   unfolding lighted ticked shownBits
-  all-ticks w i o N ei eo c = turns-keep (tickOne (sizes total regs pins) bits i o) Going (running w out₀) (record { state = c; wrote = refl }) N step .wrote
+  all-ticks w i o N ei eo c = turns-keep (tickOne (sizes total regs pins) bits i o) Going (running w out₀) (record { state = c; wrote = refl }) N step
     where
       step : (n : ℕ) (r : Running) → n < N → Going n r → Going (suc n) (tickOne (sizes total regs pins) bits i o n r)
       step n r l q = record {
@@ -235,26 +248,29 @@ module _ (u : List ℕ) (m : Net) (end settled pins : ℕ) (rn : Runnable u m en
 
   record Begun (j : ℕ) (w : List ℕ) : Type 0 where
     pub within : Within w₁ w
-    pub done : (x : ℕ) → x < j → entry w x ≡ bitByte (eqb (getD w₁ x 0) oneEntry)
+    pub done : (x : ℕ) → x < j → entry w x ≡ everyLane (eqb (getD w₁ x 0) oneEntry)
 
-  begin-all : (n : ℕ) → n ≤ 8192 → Begun n (takeTurns beginOne n 0 w₁)
-  begin-all n few = turns-keep beginOne Begun w₁ (record { within = within-none w₁; done = λ x l. absurd (omega arith) }) n step
+  begin-all : (n : ℕ) → n ≤ 8192 → Begun n (takeTurns wordBegin n 0 w₁)
+  begin-all n few = turns-keep wordBegin Begun w₁ (record { within = within-none w₁; done = λ x l. absurd (omega arith) }) n step
     where
-      step : (j : ℕ) (w : List ℕ) → j < n → Begun j w → Begun (suc j) (beginOne j w)
+      step : (j : ℕ) (w : List ℕ) → j < n → Begun j w → Begun (suc j) (wordBegin j w)
       step j w l q =
           let e = q .within .below j (omega arith) in
           let z = q .within .size in
           let y = tabled₁ .size in
-          let v = bitByte (eqb (getD w j 0) oneEntry) in
+          let v = everyLane (eqb (getD w j 0) oneEntry) in
           record {
             within = within-then (q .within) (within-set w j v (omega arith));
             done = λ x h. elim (ℕ-discrete x j) [
-              | yes a ↦ ap (entry (beginOne j w)) a ∙ entry-same w j v (omega arith) (omega arith) ∙ ap (λ (k : ℕ). bitByte (eqb k oneEntry)) e ∙ ap (λ (k : ℕ). bitByte (eqb (getD w₁ k 0) oneEntry)) (sym a)
+              | yes a ↦ ap (entry (wordBegin j w)) a ∙ entry-same w j v (omega arith) (omega arith) ∙ ap (λ (k : ℕ). everyLane (eqb k oneEntry)) e ∙ ap (λ (k : ℕ). everyLane (eqb (getD w₁ k 0) oneEntry)) (sym a)
               | no d ↦ entry-other w j x v d ∙ q .done x (omega arith)
             ];
           }
 
-  module _ (starts : List ℕ) (w₂ : List ℕ) (bg : Looped beginOne end w₁ w₂) (w₃ : List ℕ) (wk : Looped (wakeOne starts) regs w₂ w₃) where
+  pub begun-bits : (w₂ : List ℕ) → Looped wordBegin end w₁ w₂ → (x : ℕ) → x < end → entry w₂ x ≡ everyLane (eqb (getD w₁ x 0) oneEntry)
+  begun-bits w₂ bg = subst (Begun end) (sym (bg .whole)) (begin-all end (t .few)) .done
+
+  module _ (starts : List ℕ) (w₂ : List ℕ) (bg : Looped wordBegin end w₁ w₂) (w₃ : List ℕ) (wk : Looped (wakeOne starts) regs w₂ w₃) where
     begun : Begun end w₂
     begun = subst (Begun end) (sym (bg .whole)) (begin-all end (t .few))
 
@@ -301,33 +317,55 @@ module _ (u : List ℕ) (m : Net) (end settled pins : ℕ) (rn : Runnable u m en
     woken = subst (Woken regs) (sym (wk .whole)) wake-all
 
     -- a constant's output
-    still : (a : Element) → Among a (m .elements) → (getD w₁ (last a) 0 ≡ registerEntry → ⊥) → entry w₃ (last a) ≡ bitByte (eqb (getD w₁ (last a) 0) oneEntry)
+    still : (a : Element) → Among a (m .elements) → (getD w₁ (last a) 0 ≡ registerEntry → ⊥) → entry w₃ (last a) ≡ everyLane (eqb (getD w₁ (last a) 0) oneEntry)
     still a h d =
         woken .others (last a) (λ k l e. d (ap (λ (z : ℕ). getD w₁ z 0) (sym e) ∙ element-entry w₁ m end pins tabled₁ (part 1 (getD rs k 0)) (stood .register-at k l .0)))
         ∙ begun .done (last a) (t .low (last a) (out-terminal (m .elements) (last a) (in-out a h)))
 
-    pub state₀ : (bits : List ℕ) → State w₁ m end pins settled regs stood (rn .free) bits starts 0 w₃
-    state₀ bits = record {
-      within = within-then (bg .within) (wk .within);
-      holds = λ i h. (let r = stood .register-number i h in ap (λ (x : ℕ). eqb x 1) (subst (λ (x : ℕ). entry w₃ (x + 1) ≡ getD starts (place rs i) 0) (r .1) (woken .done (place rs i) (r .0))));
+    out-low : (x : ℕ) → (a : Element) → Among a (m .elements) → last a ≡ x → x < 8192
+    out-low x a h e = let l = t .low (last a) (out-terminal (m .elements) (last a) (in-out a h)) in let f = t .few in omega arith
+
+    -- each lane begins with its own bits
+    pub state₀ : (k : ℕ) → k < 16 → (bits : List ℕ) → State w₁ m end pins settled regs stood (rn .free) (lane k bits) (lane k starts) 0 (laneMem k w₃)
+    state₀ k l bits = record {
+      within = within-then (within-then (bg .within) (wk .within)) (mem-within k w₃);
+      holds = λ i h.
+          let r = stood .register-number i h in
+          lit-lane k w₃ (i + 1) (out-low (i + 1) (part 1 i) h refl)
+          ∙ ap (λ (x : ℕ). eqb x 1) (ap (laneBit k) (subst (λ (x : ℕ). entry w₃ (x + 1) ≡ getD starts (place rs i) 0) (r .1) (woken .done (place rs i) (r .0))) ∙ sym (lane-at k starts (place rs i)));
       zeros = λ i h.
           let z : i + 0 ≡ i = omega arith in
           let e = element-entry w₁ m end pins tabled₁ (part 0 i) h in
-          subst (λ (x : ℕ). lit w₃ x ≡ false) z (ap (λ (x : ℕ). eqb x 1) (still (part 0 i) h (λ d. omega arith) ∙ ap (λ (x : ℕ). bitByte (eqb x oneEntry)) e));
+          subst (λ (x : ℕ). lit (laneMem k w₃) x ≡ false) z
+          (lit-lane k w₃ (i + 0) (out-low (i + 0) (part 0 i) h refl) ∙ ap (λ (x : ℕ). eqb x 1) (ap (laneBit k) (still (part 0 i) h (λ d. omega arith) ∙ ap (λ (x : ℕ). everyLane (eqb x oneEntry)) e) ∙ lane-zero k));
       ones = λ i h.
           let z : i + 0 ≡ i = omega arith in
           let e = element-entry w₁ m end pins tabled₁ (part 6 i) h in
-          subst (λ (x : ℕ). lit w₃ x ≡ true) z (ap (λ (x : ℕ). eqb x 1) (still (part 6 i) h (λ d. omega arith) ∙ ap (λ (x : ℕ). bitByte (eqb x oneEntry)) e));
+          subst (λ (x : ℕ). lit (laneMem k w₃) x ≡ true) z
+          (lit-lane k w₃ (i + 0) (out-low (i + 0) (part 6 i) h refl) ∙ ap (λ (x : ℕ). eqb x 1) (ap (laneBit k) (still (part 6 i) h (λ d. omega arith) ∙ ap (λ (x : ℕ). everyLane (eqb x oneEntry)) e) ∙ lane-ones k l));
     }
 
-    -- all ticks
-    pub ran-bytes : (bits out₀ : List ℕ) (i o n : ℕ) → i ≡ length (inPins (m .pins)) → o ≡ length (outPins (m .pins)) → (w₄ out : List ℕ) → Ran (sizes settled regs pins) bits i o n w₃ out₀ w₄ out
-        → out ≡ sets out₀ 0 (rows (run m (givenBits (m .pins) bits) (startBits (m .elements) starts)) (outPins (m .pins)) 0 n)
-    ran-bytes bits out₀ i o n ei eo w₄ out r = ap (λ (x : Running). x .out) (r .whole) ∙ all-ticks w₁ m end pins settled regs stood (rn .free) bits starts out₀ w₃ i o n ei eo (state₀ bits)
+    -- all ticks, as lane k sees them: of a number v that is written as `g v`, `L` of what is written shows bit k
+    module _ (runs : Runs w₃ settled regs pins) (bits out₀ : List ℕ) (i o n : ℕ) (ei : i ≡ length (inPins (m .pins))) (eo : o ≡ length (outPins (m .pins))) (w₄ out : List ℕ) where
+      pub ran-lane : (g : ℕ → ℕ) → Ran g (sizes settled regs pins) bits i o n w₃ out₀ w₄ out → (k : ℕ) → k < 16
+          → (L : List ℕ → List ℕ) → ((xs : List ℕ) (j v : ℕ) → L (set xs j (g v)) ≡ set (L xs) j (laneBit k v))
+          → Going w₁ m end pins settled regs stood (rn .free) (lane k bits) (lane k starts) (L out₀) n (running (laneMem k w₄) (L out))
+      ran-lane g r k l L put =
+          subst (Going w₁ m end pins settled regs stood (rn .free) (lane k bits) (lane k starts) (L out₀) n)
+          (sym (ap (λ (x : Running). running (laneMem k (x .mem)) (L (x .out))) (r .whole) ∙ run-lane k g L put l bits w₃ settled regs pins runs i o n out₀))
+          (all-ticks w₁ m end pins settled regs stood (rn .free) (lane k bits) (lane k starts) (L out₀) (laneMem k w₃) i o n ei eo (state₀ k l bits))
+
+      -- of bits, lane 0 is all
+      pub ran-bytes : allBits bits ≡ true → allBits starts ≡ true → Ran laneZero (sizes settled regs pins) bits i o n w₃ out₀ w₄ out
+          → out ≡ sets out₀ 0 (rows (run m (givenBits (m .pins) bits) (startBits (m .elements) starts)) (outPins (m .pins)) 0 n)
+      ran-bytes a c r =
+          ran-lane laneZero r 0 (omega arith) (λ xs. xs) (λ xs j v. refl) .wrote
+          ∙ ap (λ (xs : List ℕ). sets out₀ 0 (rows (run m (givenBits (m .pins) xs) (startBits (m .elements) (lane 0 starts))) (outPins (m .pins)) 0 n)) (lane-bytes bits a)
+          ∙ ap (λ (xs : List ℕ). sets out₀ 0 (rows (run m (givenBits (m .pins) bits) (startBits (m .elements) xs)) (outPins (m .pins)) 0 n)) (lane-bytes starts c)
 
 -- ---- as code has it
 
-listed-above : (u : List ℕ) (end : ℕ) (w₁ : List ℕ) (regs : ℕ) → RegistersListed u end w₁ regs → Above u w₁
+pub listed-above : (u : List ℕ) (end : ℕ) (w₁ : List ℕ) (regs : ℕ) → RegistersListed u end w₁ regs → Above u w₁
 listed-above u end w₁ regs ls = record { size = ls .size; above = λ j l. ls .above j (omega arith) }
 
 module _ (u : List ℕ) (end settled pins n : ℕ) (bits starts out : List ℕ) (sf : Safe u end settled pins n) (w₁ : List ℕ) (regs : ℕ) (ls : RegistersListed u end w₁ regs) (i : ℕ) (ei : i ≡ inPinCount w₁ pins) where
@@ -340,6 +378,13 @@ module _ (u : List ℕ) (end settled pins n : ℕ) (bits starts out : List ℕ) 
 
   pub ins-few₁ : i ≤ pins
   ins-few₁ = omega (arith, ins-outs w₁ pins)
+
+  pub order-ready : Ordered w₁ settled
+  order-ready = let f = sf .order .few in record {
+    size = let a = ls .size in let c = sf .size in omega arith;
+    few = sf .order .few;
+    looks = λ j l. subst (λ (x : ℕ). Looks w₁ x) (sym (ls .above (orderAt + j) (omega arith))) (looks-table (ls .size) (ls .table) (sf .order .looks j l));
+  }
 
   pub freed-20 : lentIn bits starts (n * i) regs ≡ false → Freed u end settled pins n bits starts out w₁ out (refusedAs 20 0)
   freed-20 e = record {
@@ -359,39 +404,31 @@ module _ (u : List ℕ) (end settled pins n : ℕ) (bits starts out : List ℕ) 
     says = λ m rn. says-17 m n bits starts out (n * i) (n * (pins - i)) regs (ap (λ (k : ℕ). n * k) (ei ∙ ins-are u m end settled pins rn w₁ regs ls)) (ap (λ (k : ℕ). n * k) (ap (λ (k : ℕ). pins - k) ei ∙ outs-are u m end settled pins rn w₁ regs ls)) (regs-are u m end settled pins rn w₁ regs ls) e l;
   }
 
-  module _ (e : lentIn bits starts (n * i) regs ≡ true) (room : n * (pins - i) ≤ length out) where
-    pub wake-ready : (w₂ : List ℕ) → Looped beginOne end w₁ w₂ → Registers w₂ regs × (regs ≤ length starts)
-    wake-ready w₂ bg = (registers-within (bg .within) (ls .registers), let c = lent-counts bits starts (n * i) regs e .1 in omega arith)
+  module _ (w₂ : List ℕ) (bg : Looped wordBegin end w₁ w₂) (w₃ : List ℕ) (wk : Looped (wakeOne starts) regs w₂ w₃) where
+    pub all₃ : Within w₁ w₃
+    all₃ = within-then (bg .within) (wk .within)
 
-    module _ (w₂ : List ℕ) (bg : Looped beginOne end w₁ w₂) (w₃ : List ℕ) (wk : Looped (wakeOne starts) regs w₂ w₃) where
-      order-ready : Ordered w₁ settled
-      order-ready = let f = sf .order .few in record {
-        size = let a = ls .size in let c = sf .size in omega arith;
-        few = sf .order .few;
-        looks = λ j l. subst (λ (x : ℕ). Looks w₁ x) (sym (ls .above (orderAt + j) (omega arith))) (looks-table (ls .size) (ls .table) (sf .order .looks j l));
-      }
+    pub runs-ready : length bits ≡ n * i → n * (pins - i) ≤ length out → Runs w₃ settled regs pins × TraceFits w₃ (length bits) (length out) pins i (pins - i) n
+    runs-ready c room = (
+      record { order = ordered-within all₃ order-ready; registers = registers-within all₃ (ls .registers); pins = pins-within all₃ pins₁ },
+      record {
+        reads = ei ∙ sym (ins-within w₁ w₃ all₃ pins (sf .pins-low .few));
+        writes = (let a = ins-outs w₁ pins in let c = outs-within w₁ w₃ all₃ pins (sf .pins-low .few) in omega arith);
+        few = sf .short;
+        lent = omega arith;
+        room = room;
+      },
+    )
 
-      all₃ : Within w₁ w₃
-      all₃ = within-then (bg .within) (wk .within)
+  module _ (e : lentIn bits starts (n * i) regs ≡ true) (room : n * (pins - i) ≤ length out) (w₂ : List ℕ) (bg : Looped wordBegin end w₁ w₂) (w₃ : List ℕ) (wk : Looped (wakeOne starts) regs w₂ w₃) where
+    run-ready : Runs w₃ settled regs pins × TraceFits w₃ (length bits) (length out) pins i (pins - i) n
+    run-ready = runs-ready w₂ bg w₃ wk (lent-counts bits starts (n * i) regs e .0) room
 
-      pub run-ready : Runs w₃ settled regs pins × TraceFits w₃ (length bits) (length out) pins i (pins - i) n
-      run-ready = (
-        record { order = ordered-within all₃ order-ready; registers = registers-within all₃ (ls .registers); pins = pins-within all₃ pins₁ },
-        record {
-          reads = ei ∙ sym (ins-within w₁ w₃ all₃ pins (sf .pins-low .few));
-          writes = (let a = ins-outs w₁ pins in let c = outs-within w₁ w₃ all₃ pins (sf .pins-low .few) in omega arith);
-          few = sf .short;
-          lent = (let c = lent-counts bits starts (n * i) regs e .0 in omega arith);
-          room = room;
-        },
-      )
-
-      pub freed-written : (w₄ after : List ℕ) → Ran (sizes settled regs pins) bits i (pins - i) n w₃ out w₄ after → Freed u end settled pins n bits starts out w₄ after (answer.Written (n * (pins - i)))
-      freed-written w₄ after r = record {
-        kept = above-then (listed-above u end w₁ regs ls) (above-within (within-then all₃ (r .within)));
-        says = λ m rn.
-            let a = ei ∙ ins-are u m end settled pins rn w₁ regs ls in
-            let c = ap (λ (k : ℕ). pins - k) ei ∙ outs-are u m end settled pins rn w₁ regs ls in
-            says-written m n bits starts out (n * i) (n * (pins - i)) regs (ap (λ (k : ℕ). n * k) a) (ap (λ (k : ℕ). n * k) c) (regs-are u m end settled pins rn w₁ regs ls) e room after
-            (ran-bytes u m end settled pins rn w₁ regs ls starts w₂ bg w₃ wk bits out i (pins - i) n a c w₄ after r);
-      }
+    pub ran-says : (w₄ after : List ℕ) → Ran laneZero (sizes settled regs pins) bits i (pins - i) n w₃ out w₄ after → (m : Net) → Runnable u m end settled pins
+        → AnswerSays (answer.Written (n * (pins - i))) out after (freed m n bits starts (length out))
+    ran-says w₄ after r m rn =
+        let a = ei ∙ ins-are u m end settled pins rn w₁ regs ls in
+        let c = ap (λ (k : ℕ). pins - k) ei ∙ outs-are u m end settled pins rn w₁ regs ls in
+        let q = lent-bits bits starts (n * i) regs e in
+        says-written m n bits starts out (n * i) (n * (pins - i)) regs (ap (λ (k : ℕ). n * k) a) (ap (λ (k : ℕ). n * k) c) (regs-are u m end settled pins rn w₁ regs ls) e room after
+        (ran-bytes u m end settled pins rn w₁ regs ls starts w₂ bg w₃ wk (run-ready .0) bits out i (pins - i) n a c w₄ after (q .0) (q .1) r)

@@ -7,9 +7,12 @@ pub mod OrderLaws
 pub mod RingLaws
 pub mod PinLists
 pub mod RegisterLists
+pub mod PartBounds
 pub mod RunLaws
 pub mod StageLaws
 pub mod FreeLaws
+pub mod LanesLaws
+pub mod FlatLaws
 pub mod CallLaws
 pub mod Exact
 pub mod Determined

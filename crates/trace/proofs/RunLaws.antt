@@ -44,6 +44,10 @@ use Rattle.trace_theorems.proofs.Lending.{row-length}
 use Rattle.trace.proofs.PinLists.{pinAt, upTo, upto-is, outs-length, pin-number, number-pin, place-is, pins-apart, row-snoc, out-last, out-same, out-shown}
 use Rattle.trace.proofs.RegisterLists.{element-entry}
 
+and-same : (b : Bool) → b && b ≡ b
+and-same true = refl
+and-same false = refl
+
 -- what stands below the bits during a run
 pub record RunStood (b : List ℕ) (m : Net) (end pins total regs : ℕ) : Type 0 where
   pub tabled : Tabled b m end pins
@@ -69,7 +73,7 @@ module _ (b : List ℕ) (m : Net) (end pins total regs : ℕ) (s : RunStood b m 
   abbrev rs : List ℕ
   rs = registers (m .elements)
 
-  shown : upTo b pins ≡ m .pins
+  pub shown : upTo b pins ≡ m .pins
   shown = let a = t .few-pins in let c = t .size in upto-is b pins (omega arith) ∙ t .shown
 
   low : (x : ℕ) → T (has (terminals es) x) → x < 8192
@@ -89,13 +93,13 @@ module _ (b : List ℕ) (m : Net) (end pins total regs : ℕ) (s : RunStood b m 
     pub done : (j : ℕ) → j < k → pinIsIn b j ≡ true → entry (c .mem) (pinAt b j) ≡ getD bits (at + inPinCount b j) 0
     pub others : (x : ℕ) → ((j : ℕ) → j < k → pinIsIn b j ≡ true → pinAt b j ≡ x → ⊥) → entry (c .mem) x ≡ entry w x
 
-  pin-is : (j : ℕ) → j < pins → pinIsIn b j ≡ true → T (isPin (m .pins) (pinAt b j))
+  pub pin-is : (j : ℕ) → j < pins → pinIsIn b j ≡ true → T (isPin (m .pins) (pinAt b j))
   pin-is j l e = subst (λ (ps : Interface). T (isPin ps (pinAt b j))) shown (number-pin b pins j l e)
 
-  pin-made : (x : ℕ) → T (isPin (m .pins) x) → 1 ≤ madeAt es x
+  pub pin-made : (x : ℕ) → T (isPin (m .pins) x) → 1 ≤ madeAt es x
   pin-made x h = let a = pin-ins (m .pins) x h in let c = ok .reached x in omega arith
 
-  made-terminal : (z : ℕ) → 1 ≤ madeAt es z → T (has (terminals es) z)
+  pub made-terminal : (z : ℕ) → 1 ≤ madeAt es z → T (has (terminals es) z)
   made-terminal z h = let g = made-within es z h in in-terminal (g .0) z (g .1) (g .2) (let k = g .3 in omega arith)
 
   pin-low : (j : ℕ) → j < pins → pinIsIn b j ≡ true → pinAt b j < 8192
@@ -322,7 +326,7 @@ module _ (b : List ℕ) (m : Net) (end pins total regs : ℕ) (s : RunStood b m 
           go (of-wire y a d o) e = on (from y) a (β-in x d ∙ ap (lit v) (sym e) ∙ sym (β-out y o))
           go (of-point i a q) e =
               on (from i) (subst (λ (z : ℕ). source m z ≡ from i) q (at-point m ok a))
-              (β-out x (subst (λ (z : ℕ). T (isOut es z)) q (in-out (point i) a)) ∙ due-at x h (inl (sym e)) ∙ due-one v x i 7 (sym e) (omega arith) q ∙ sym (made-in i (within-made (point i) i a (omega arith) (omega arith))))
+              (β-out x (subst (λ (z : ℕ). T (isOut es z)) q (in-out (point i) a)) ∙ due-at x h (inl (sym e)) ∙ due-one v x i 7 (sym e) (omega arith) q ∙ and-same (lit v (getD b i 0)) ∙ sym (made-in i (within-made (point i) i a (omega arith) (omega arith))))
           go (of-part p i a q l) e =
               on (made-by p i) (subst (λ (z : ℕ). source m z ≡ made-by p i) q (at-part m ok a))
               (β-out x (subst (λ (z : ℕ). T (isOut es z)) q (in-out (part p i) a)) ∙ ap (lit v) (sym q) ∙ part-bit p i a l)

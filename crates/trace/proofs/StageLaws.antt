@@ -29,6 +29,7 @@ use Rattle.lean.specs.Table.{Within, Leaned}
 use Rattle.lean.proofs.TableLaws.{within-none, within-then, within-set, entry-same, entry-other}
 use Rattle.lean.proofs.LeanLaws.{kinds-low}
 use Rattle.trace_calculus.specs.Trace.{terminals, inputs, noneOnRing, bitByte, ran}
+use Rattle.trace_calculus.specs.Lanes.{LanesEnd, lanesRan, outs, stateOf}
 use Rattle.trace_theorems.proofs.TraceRings.{accepted}
 use Rattle.trace_steps.specs.Turns.{takeTurns, Looped}
 use Rattle.trace_steps.specs.Steps.{firstIn, freeIn, markOne, Looks, Register}
@@ -44,7 +45,9 @@ use Rattle.trace.specs.Tables.{TableEntry, Tabled, KeptRoots, Looking}
 use Rattle.translator.specs.Made.{Keeps}
 use Rattle.translator.proofs.Keeping.{later-keeps}
 use Rattle.translator.specs.Said.{AnswerSays, refusedAs}
-use Rattle.trace.specs.Said.{Above, TablesMade, freed, Runnable, Safe, Freed}
+use Rattle.trace.specs.Said.{Above, TablesMade, freed, Runnable, Safe, Freed, lanesFree, LanesSay, LanesFreed}
+use Rattle.trace.specs.Ordering.{PutInOrder}
+use Rattle.trace.specs.declared.ordering.Ordered.the-variants as ordered
 use Rattle.translator.specs.declared.Answer as code
 use Rattle.trace.proofs.Turning.{turns-keep}
 use Rattle.trace.proofs.GateLaws.{gate-at, gate-looks, looks-looking, looking-looks, input-low}
@@ -64,7 +67,7 @@ pub above-then : {u v w : List ℕ} → Above u v → Above v w → Above u w
 above-then a b = record { size = b .size ∙ a .size; above = λ j l. b .above j l ∙ a .above j l }
 
 pub above-within : {u w : List ℕ} → Within u w → Above u w
-above-within i = record { size = i .size; above = i .above }
+above-within i = record { size = i .size; above = λ j l. i .above j (omega arith) }
 
 above-later : (u w : List ℕ) → Above u w → drop memorySize w ≡ drop memorySize u
 above-later u w h =
@@ -203,7 +206,7 @@ module _ (w₃ : List ℕ) (m : Net) (end pins : ℕ) (t : Tabled w₃ m end pin
       sweepable = record { size = tabled-u .size; few = let f = c .few in omega arith; some = omega arith; looks = start u m end pins total ground .looks }
 
       pub above-u : Above w₃ u
-      above-u = record { size = l .within .size ∙ c .size; above = λ j a. l .within .above j a ∙ c .above j (omega arith) }
+      above-u = record { size = l .within .size ∙ c .size; above = λ j a. l .within .above j (omega arith) ∙ c .above j (omega arith) }
 
 -- ---- after the sweeps
 
@@ -212,7 +215,7 @@ module _ (u : List ℕ) (m : Net) (end pins total : ℕ) (g : Ground u m end pin
   ended = settled-end u total (start u m end pins total g) w left (s .whole)
 
   pub above-w : Above u w
-  above-w = record { size = ended .stage .size; above = ended .stage .above }
+  above-w = record { size = ended .stage .size; above = λ j a. ended .stage .above j (omega arith) }
 
   tabled-w : Tabled w m end pins
   tabled-w = tabled-same u w m end pins (ended .stage .size) (ended .stage .table) (ended .stage .pins) (g .tabled)
@@ -332,6 +335,19 @@ pub ran-freed : (m : Net) (n : ℕ) (bits starts : List ℕ) (room : ℕ) → no
 unfolding ran freed
 ran-freed m n bits starts room e = go-on (noneOnRing m (inputs (m .elements))) _ e
 
+pub lanes-ring : (m : Net) (n : ℕ) (bits state out : List ℕ) (x : ℕ) → noneOnRing m (inputs (m .elements)) ≡ refuse 19 x → LanesSay (refusedAs 19 x) out out state state (lanesRan m n bits state (length out))
+unfolding lanesRan
+lanes-ring m n bits state out x e =
+    let f = stop (noneOnRing m (inputs (m .elements))) _ 19 x e in
+    record {
+      answer = record { said = sym (ap (λ (a : Answer LanesEnd). saidOf (outs a)) f); wrote = sym (ap (λ (a : Answer LanesEnd). outOf (outs a) out) f) };
+      left = sym (ap (λ (a : Answer LanesEnd). stateOf a state) f);
+    }
+
+pub lanes-free : (m : Net) (n : ℕ) (bits state : List ℕ) (room : ℕ) → noneOnRing m (inputs (m .elements)) ≡ good tt → lanesRan m n bits state room ≡ lanesFree m n bits state room
+unfolding lanesRan lanesFree
+lanes-free m n bits state room e = go-on (noneOnRing m (inputs (m .elements))) _ e
+
 -- ---- all stages
 
 module _ (u : List ℕ) (e k p : ℕ) (w₃ : List ℕ) (end : ℕ) (md : TablesMade u e k p w₃ end) (w₄ : List ℕ) (total : ℕ) (ch : Chosen w₃ end w₄ total) (w₅ : List ℕ) (mk : Looped markOne end w₄ w₅) where
@@ -347,9 +363,6 @@ module _ (u : List ℕ) (e k p : ℕ) (w₃ : List ℕ) (end : ℕ) (md : Tables
   pub settle-ready : Sweepable w₅ total total
   settle-ready = sweepable w₃ L end p (md .tabled) (md .roots) w₄ total ch w₅ mk
 
-  large : memorySize ≤ length u
-  large = let a = md .tabled .size in let b = md .kept .size in omega arith
-
   module _ (w₆ : List ℕ) (left : ℕ) (st : AllSwept w₅ total w₆ left) where
     kept₆ : Above u w₆
     kept₆ = above-then (md .kept) (above-then (above-u w₃ L end p (md .tabled) (md .roots) w₄ total ch w₅ mk) (above-w w₅ L end p total grounded w₆ left st))
@@ -357,17 +370,32 @@ module _ (u : List ℕ) (e k p : ℕ) (w₃ : List ℕ) (end : ℕ) (md : Tables
     pub lowest-ready : 1 ≤ left → Rest w₆ left × Fresh w₆ 2
     lowest-ready l = rest-ready w₅ L end p total grounded w₆ left st l
 
-    pub ring-ran : 1 ≤ left → (w₇ : List ℕ) (x : ℕ) → RingFound w₆ left w₇ x → (n : ℕ) (bits starts out : List ℕ) → AnswerSays (refusedAs 19 x) out out (ran L n bits starts (length out)) × Keeps u w₇
-    ring-ran l w₇ x f n bits starts out = (
-      ring-says L n bits starts out x (ring-found w₅ L end p total grounded w₆ left st l w₇ x f),
-      above-keeps u w₇ large (above-then kept₆ (record { size = f .kept .size; above = f .kept .above })),
-    )
+    pub ring-ordered : 1 ≤ left → (w₇ : List ℕ) (x : ℕ) → RingFound w₆ left w₇ x → PutInOrder u e k p w₇ (ordered.OnRing x)
+    ring-ordered l w₇ x f = record { kept = above-then kept₆ (record { size = f .kept .size; above = λ j a. f .kept .above j (omega arith) }); says = ring-found w₅ L end p total grounded w₆ left st l w₇ x f }
 
-    pub free-ready : left ≡ 0 → (n : ℕ) → n ≤ 65535 → Safe w₆ end total p n
-    free-ready z n h = safe w₅ L end p total grounded w₆ left st z n h
+    pub free-ordered : left ≡ 0 → PutInOrder u e k p w₆ (ordered.Free end total)
+    free-ordered z = record { kept = kept₆; says = (no-ring w₅ L end p total grounded w₆ left st z, runnable w₅ L end p total grounded w₆ left st z, safe w₅ L end p total grounded w₆ left st z) }
 
-    pub free-ran : left ≡ 0 → (n : ℕ) (bits starts out₀ w₇ out : List ℕ) (r : code.Answer) → Freed w₆ end total p n bits starts out₀ w₇ out r → AnswerSays r out₀ out (ran L n bits starts (length out₀)) × Keeps u w₇
-    free-ran z n bits starts out₀ w₇ out r f = (
-      subst (AnswerSays r out₀ out) (sym (ran-freed L n bits starts (length out₀) (no-ring w₅ L end p total grounded w₆ left st z))) (f .says L (runnable w₅ L end p total grounded w₆ left st z)),
-      above-keeps u w₇ large (above-then kept₆ (f .kept)),
-    )
+-- ---- put in order, the netlist is run
+
+module _ (u : List ℕ) (e k p : ℕ) (large : memorySize ≤ length u) (n : ℕ) (bits starts out₀ : List ℕ) where
+  pub ring-ran : (w : List ℕ) (x : ℕ) → PutInOrder u e k p w (ordered.OnRing x) → AnswerSays (refusedAs 19 x) out₀ out₀ (ran (lean (netIn u e k p)) n bits starts (length out₀)) × Keeps u w
+  ring-ran w x o = (ring-says (lean (netIn u e k p)) n bits starts out₀ x (o .says), above-keeps u w large (o .kept))
+
+  pub free-ran : (w : List ℕ) (end total : ℕ) → PutInOrder u e k p w (ordered.Free end total) → (w₇ out : List ℕ) (r : code.Answer) → Freed w end total p n bits starts out₀ w₇ out r
+      → AnswerSays r out₀ out (ran (lean (netIn u e k p)) n bits starts (length out₀)) × Keeps u w₇
+  free-ran w end total o w₇ out r f = (
+    subst (AnswerSays r out₀ out) (sym (ran-freed (lean (netIn u e k p)) n bits starts (length out₀) (o .says .0))) (f .says (lean (netIn u e k p)) (o .says .1)),
+    above-keeps u w₇ large (above-then (o .kept) (f .kept)),
+  )
+
+module _ (u : List ℕ) (e k p : ℕ) (large : memorySize ≤ length u) (n : ℕ) (bits state₀ out₀ : List ℕ) where
+  pub lanes-ring-ran : (w : List ℕ) (x : ℕ) → PutInOrder u e k p w (ordered.OnRing x) → LanesSay (refusedAs 19 x) out₀ out₀ state₀ state₀ (lanesRan (lean (netIn u e k p)) n bits state₀ (length out₀)) × Keeps u w
+  lanes-ring-ran w x o = (lanes-ring (lean (netIn u e k p)) n bits state₀ out₀ x (o .says), above-keeps u w large (o .kept))
+
+  pub lanes-free-ran : (w : List ℕ) (end total : ℕ) → PutInOrder u e k p w (ordered.Free end total) → (w₇ state out : List ℕ) (r : code.Answer) → LanesFreed w end total p n bits state₀ out₀ w₇ state out r
+      → LanesSay r out₀ out state₀ state (lanesRan (lean (netIn u e k p)) n bits state₀ (length out₀)) × Keeps u w₇
+  lanes-free-ran w end total o w₇ state out r f = (
+    subst (LanesSay r out₀ out state₀ state) (sym (lanes-free (lean (netIn u e k p)) n bits state₀ (length out₀) (o .says .0))) (f .says (lean (netIn u e k p)) (o .says .1)),
+    above-keeps u w₇ large (above-then (o .kept) (f .kept)),
+  )

@@ -3,11 +3,11 @@ use Prim.Native.Nat.{ℕ, _+_, _≤_, _<_}
 use mathlib.Core.Path.{_≡_}
 use mathlib.Core.Logic.{_⊎_}
 use mathlib.Core.Bool.{false}
-use mathlib.Core.List.{List, map}
+use mathlib.Core.List.{List, [], _∷_, map}
 use lib.ListN.{length, getD}
 use lib.Dec.{T}
 use Rattle.calculus.specs.Terms.{partAt}
-use Rattle.calculus.specs.Net.{point, part, Net}
+use Rattle.calculus.specs.Net.{Element, point, part, Net}
 use Rattle.calculus.specs.Lean.{isPin}
 use Rattle.calculus.specs.Inputs.{isOut}
 use Rattle.calculus.specs.Record.{Among}
@@ -23,6 +23,16 @@ pub data TableEntry (m : Net) (x : ℕ) : ℕ → Type 0 where
   of-wire : (y : ℕ) → source m x ≡ from y → isOut (m .elements) x ≡ false → T (isOut (m .elements) y) → TableEntry m x y
   of-point : (i : ℕ) → Among (point i) (m .elements) → i + 1 ≡ x → TableEntry m x pointEntry
   of-part : (p i : ℕ) → Among (part p i) (m .elements) → i + partAt p .inputs ≡ x → p < 7 → TableEntry m x (kindsFrom + p)
+
+-- the outputs of the parts, in making order
+abbrev pub partEnds : List Element → List ℕ
+partEnds [] = []
+partEnds (point i ∷ es) = partEnds es
+partEnds (part p i ∷ es) = (i + partAt p .inputs) ∷ partEnds es
+
+-- each is a constant of a term of at most 2,048 nodes, so a leaf of it
+abbrev pub FewParts : Net → Type 0
+FewParts m = length (partEnds (m .elements)) ≤ 1024
 
 -- an entry of an output that looks at something: a point's, or a gate's
 abbrev pub Looking : ℕ → Type 0

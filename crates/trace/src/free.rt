@@ -1,9 +1,11 @@
 // A netlist without rings is run, where the bits lent and the room are right.
+use trace_flat::bits;
+use trace_flat::layout;
 use trace_steps::pins;
 use trace_steps::ticks;
 use translator::Answer;
 ghost use mathlib.Core.Path.{_≡_};
-ghost use Rattle.trace.specs.Said.{lentIn, Safe, Freed};
+ghost use Rattle.trace.specs.Said.{lentIn, Safe, Roomy, Freed};
 
 // The input and start bits are of the exact number, and bits.
 fn lent(inputs: &[u8], starts: &[u8], reads: usize, regs: usize) -> bool
@@ -32,7 +34,7 @@ pub fn run(
     pins: usize,
     ticks: usize,
 ) -> Answer
-    requires { ⌜ Safe (now work) end settled pins ticks ⌝ }
+    requires { ⌜ (Safe (now work) end settled pins ticks) × (Roomy (now work) end settled) ⌝ }
     ensures { λ r. ⌜ Freed (now (work .entry)) end settled pins ticks (now (inputs .entry)) (now (starts .entry)) (now (out .entry)) (now (work .exit)) (now (out .exit)) r ⌝ }
 {
     let regs = ticks::registers(work, end);
@@ -46,8 +48,8 @@ pub fn run(
     if out.len() < writes {
         return translator::refused(17, writes);
     }
-    ticks::begin(work, end);
-    ticks::wake(work, starts, regs);
-    ticks::run(work, inputs, out, settled, regs, pins, ins, outs, ticks);
+    layout::lay(work, end, settled, regs, pins);
+    bits::wake(work, starts, regs);
+    bits::run(work, inputs, out, settled, regs, ins, outs, ticks);
     Answer::Written(writes)
 }

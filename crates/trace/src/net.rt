@@ -1,10 +1,8 @@
 // A recorded trace run through the lean netlist that stands in the working memory. What stands where during a run is said in
 // trace_steps/specs/Map.
 use crate::free;
-use crate::tables;
-use trace_rings::list;
-use trace_rings::ring;
-use trace_steps::order;
+use crate::ordering;
+use crate::ordering::Ordered;
 use translator::Answer;
 use wiring::Counts;
 ghost use Prim.Native.Nat.{_≤_};
@@ -17,6 +15,7 @@ ghost use Rattle.memory.specs.Map.{netIn, Ready};
 ghost use Rattle.translator.specs.Made.{Keeps};
 ghost use Rattle.trace_calculus.specs.Trace.{ran};
 ghost use Rattle.translator.specs.Said.{AnswerSays};
+ghost use Rattle.trace.specs.Tables.{FewParts};
 
 // With its roots, the lean netlist is run for so many ticks: 19, 20, 17.
 fn run_lean(
@@ -29,19 +28,16 @@ fn run_lean(
     pins: usize,
     ticks: usize,
 ) -> Answer
-    requires { ⌜ (Leaned (now work) elements wires pins) × (ticks ≤ 65535) ⌝ }
+    requires { ⌜ (Leaned (now work) elements wires pins) × (ticks ≤ 65535) × (FewParts (netIn (now work) elements wires pins)) ⌝ }
     ensures { λ r. ⌜ (AnswerSays r (now (out .entry)) (now (out .exit)) (ran (lean (netIn (now (work .entry)) elements wires pins)) ticks (now (inputs .entry)) (now (starts .entry)) (length (now (out .entry)))))
         × (Keeps (now (work .entry)) (now (work .exit))) ⌝ }
 {
-    let end = tables::make(work, elements, wires, pins);
-    let total = list::list(work, end);
-    order::mark_free(work, end);
-    let left = order::settle(work, total);
-    if left > 0 {
-        let place = ring::lowest(work, left);
-        return translator::refused(19, place);
+    match ordering::put_in_order(work, elements, wires, pins) {
+        Ordered::OnRing(place) => translator::refused(19, place),
+        Ordered::Free(end, total) => {
+            free::run(work, inputs, starts, out, end, total, pins, ticks)
+        }
     }
-    free::run(work, inputs, starts, out, end, total, pins, ticks)
 }
 
 // The roots are found, and the lean netlist is run.
@@ -53,7 +49,7 @@ pub fn run_net(
     counts: Counts,
     ticks: usize,
 ) -> Answer
-    requires { ⌜ (Ready (now work) (counts .elements) (counts .wires) (counts .pins)) × (All Known (netIn (now work) (counts .elements) (counts .wires) (counts .pins) .elements)) × (ticks ≤ 65535) ⌝ }
+    requires { ⌜ (Ready (now work) (counts .elements) (counts .wires) (counts .pins)) × (All Known (netIn (now work) (counts .elements) (counts .wires) (counts .pins) .elements)) × (ticks ≤ 65535) × (FewParts (netIn (now work) (counts .elements) (counts .wires) (counts .pins))) ⌝ }
     ensures { λ r. ⌜ (AnswerSays r (now (out .entry)) (now (out .exit)) (ran (lean (netIn (now (work .entry)) (counts .elements) (counts .wires) (counts .pins))) ticks (now (inputs .entry)) (now (starts .entry)) (length (now (out .entry)))))
         × (Keeps (now (work .entry)) (now (work .exit))) ⌝ }
 {

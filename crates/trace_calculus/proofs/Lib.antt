@@ -1,2 +1,4 @@
 pub mod Worked
 pub mod Bytes
+pub mod LaneBits
+pub mod LaneRefused

@@ -2,8 +2,13 @@
 use mathlib.Core.Path.{_≡_, refl}
 use mathlib.Core.List.{map}
 use Rattle.trace_calculus.specs.Trace.{ran, run, onRing, source}
-use Rattle.trace_calculus.specs.Worked.{runs, workedRuns}
+use Rattle.trace_calculus.specs.Lanes.{word, lanesRan}
+use Rattle.trace_calculus.specs.Worked.{runs, workedRuns, lanesRuns, lanesWorked}
 
 pub worked-runs : map (map runs) workedRuns ≡ workedRuns
 unfolding ran run onRing source
 worked-runs = refl
+
+pub worked-lanes : lanesRuns ≡ lanesWorked
+unfolding lanesRan word run onRing source
+worked-lanes = refl

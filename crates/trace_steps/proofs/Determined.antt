@@ -41,6 +41,18 @@ use Rattle.trace_steps.proofs.ticks.registers.Kinds as registers
 use Rattle.trace_steps.proofs.ticks.registers.Reads as registers-reads
 use Rattle.trace_steps.proofs.ticks.run.Kinds as run
 use Rattle.trace_steps.proofs.ticks.run.Reads as run-reads
+use Rattle.trace_steps.proofs.table.fed.Kinds as fed
+use Rattle.trace_steps.proofs.table.fed.Reads as fed-reads
+use Rattle.trace_steps.proofs.table.all.Kinds as all
+use Rattle.trace_steps.proofs.table.all.Reads as all-reads
+use Rattle.trace_steps.proofs.table.pick.Kinds as pick
+use Rattle.trace_steps.proofs.table.pick.Reads as pick-reads
+use Rattle.trace_steps.proofs.ticks.pass.Kinds as pass
+use Rattle.trace_steps.proofs.ticks.pass.Reads as pass-reads
+use Rattle.trace_steps.proofs.ticks.hold.Kinds as hold
+use Rattle.trace_steps.proofs.ticks.hold.Reads as hold-reads
+use Rattle.trace_steps.proofs.ticks.turn.Kinds as turn
+use Rattle.trace_steps.proofs.ticks.turn.Reads as turn-reads
 
 pub at-determined : Result at.ps at.r at-reads.Post
 at-determined κs a x y s t f g = f ∙ sym g
@@ -94,3 +106,21 @@ registers-determined κs a x y s t f g = let e = f .whole ∙ sym (g .whole) in 
 pub run-determined : (κs : Lfts 3) (a : Dens κs run.ps) (x y : resT run.r κs .Denot) (s t : AtExit (endedOf 3 run.ps run.r) κs)
     → run-reads.Post κs a x s → run-reads.Post κs a y t → (s .0 .now ≡ t .0 .now) × (s .1 .1 .0 .now ≡ t .1 .1 .0 .now)
 run-determined κs a x y s t f g = let e = f .whole ∙ sym (g .whole) in (ap (λ (z : Running). z .mem) e, ap (λ (z : Running). z .out) e)
+
+pub fed-determined : Result fed.ps fed.r fed-reads.Post
+fed-determined κs a x y s t f g = f ∙ sym g
+
+pub all-determined : Result all.ps all.r all-reads.Post
+all-determined κs a x y s t f g = f ∙ sym g
+
+pub pick-determined : Result pick.ps pick.r pick-reads.Post
+pick-determined κs a x y s t f g = f ∙ sym g
+
+pub pass-determined : Left pass.ps pass.r pass-reads.Post (λ κs s. s .0 .now)
+pass-determined κs a x y s t f g = f .whole ∙ sym (g .whole)
+
+pub hold-determined : Left hold.ps hold.r hold-reads.Post (λ κs s. s .0 .now)
+hold-determined κs a x y s t f g = f .whole ∙ sym (g .whole)
+
+pub turn-determined : Left turn.ps turn.r turn-reads.Post (λ κs s. s .0 .now)
+turn-determined κs a x y s t f g = f .whole ∙ sym (g .whole)

@@ -2,19 +2,21 @@
 use Prim.Native.Nat.{ℕ, zero, suc, _+_, _-_, _≤_, _<_}
 use mathlib.Core.Path.{_≡_, refl, sym, ap, _∙_, subst}
 use mathlib.Core.Logic.{_≢_}
-use mathlib.Core.Bool.{Bool, true, false, cond, not, _&&_, _||_, xor, Bool·beq}
+use mathlib.Core.Bool.{Bool, true, false, cond, _&&_, _||_}
 use mathlib.Core.List.{List}
 use native.Mathlib.Omega.{arith}
 use native.Mathlib.Numerals.{add-one}
 use lib.ListN.{getD, set}
 use lib.Seq.{getD-set-other}
-use lib.Dec.{ltb}
+use lib.Bits.{bitAnd, bitOr, bitXor}
+use lib.Dec.{eqb, ltb}
 use borrow.Author.Tests.{lt-ltb, le-ltb, eq-eqb, ne-eqb}
+use native.Mathlib.Decide.{ℕ-discrete}
 use Rattle.lean.specs.Table.{Within}
-use Rattle.trace_calculus.specs.Trace.{bitByte}
 use Rattle.trace_steps.specs.Map.{registersAt, orderAt, bitsAt, kindsFrom, inverterEntry}
 use Rattle.trace_steps.specs.Turns.{takeTurns}
-use Rattle.trace_steps.specs.Steps.{firstIn, inputBit, readyIn, stepIn, gateBit, Looks, Ordered, Register, Registers, holdOne, turnOne, wakeOne, passOne}
+use Rattle.trace_steps.specs.Steps.{firstIn, inputBit, readyIn, Looks, Ordered, Register, Registers, holdOne, turnOne, wakeOne}
+use Rattle.trace_steps.specs.Words.{chosenWord, inputWord, gateWord, wordStep, wordPass}
 use Rattle.lean.proofs.TableLaws.{within-then, within-set}
 
 -- a store elsewhere
@@ -80,33 +82,6 @@ first-two w o h = rw (lt-ltb (getD w o 0) inverterEntry h)
 pub first-one : (w : List ℕ) (o : ℕ) → inverterEntry ≤ getD w o 0 → o - 1 ≡ firstIn w o
 first-one w o h = rw (le-ltb (getD w o 0) inverterEntry h)
 
--- ---- a gate's bit
-
-pub and-yes : (k : ℕ) (a b : Bool) → k ≡ 2 → a ≡ true → b ≡ gateBit k a b
-and-yes k a b e f = rw (eq-eqb k 2 e, f)
-
-pub and-no : (k : ℕ) (a b : Bool) → k ≡ 2 → a ≡ false → a ≡ gateBit k a b
-and-no k a b e f = rw (eq-eqb k 2 e, f)
-
-pub or-yes : (k : ℕ) (a b : Bool) → k ≡ 3 → a ≡ true → a ≡ gateBit k a b
-or-yes k a b e f = let d : k ≡ 2 → ⊥ = λ z. omega arith in rw (ne-eqb k 2 d, eq-eqb k 3 e, f)
-
-pub or-no : (k : ℕ) (a b : Bool) → k ≡ 3 → a ≡ false → b ≡ gateBit k a b
-or-no k a b e f = let d : k ≡ 2 → ⊥ = λ z. omega arith in rw (ne-eqb k 2 d, eq-eqb k 3 e, f)
-
-pub xor-is : (k : ℕ) (a b : Bool) → k ≡ 4 → xor a b ≡ gateBit k a b
-xor-is k a b e = let d : k ≡ 2 → ⊥ = λ z. omega arith in let f : k ≡ 3 → ⊥ = λ z. omega arith in rw (ne-eqb k 2 d, ne-eqb k 3 f, eq-eqb k 4 e)
-
-pub not-is : (k : ℕ) (a b : Bool) → k ≡ 5 → not a ≡ gateBit k a b
-not-is k a b e =
-    let d : k ≡ 2 → ⊥ = λ z. omega arith in
-    let f : k ≡ 3 → ⊥ = λ z. omega arith in
-    let g : k ≡ 4 → ⊥ = λ z. omega arith in
-    rw (ne-eqb k 2 d, ne-eqb k 3 f, ne-eqb k 4 g, eq-eqb k 5 e)
-
-pub same-is : (k : ℕ) (a b : Bool) → (k ≡ 2 → ⊥) → (k ≡ 3 → ⊥) → (k ≡ 4 → ⊥) → (k ≡ 5 → ⊥) → a ≡ gateBit k a b
-same-is k a b d f g h = rw (ne-eqb k 2 d, ne-eqb k 3 f, ne-eqb k 4 g, ne-eqb k 5 h)
-
 -- ---- a conjunction
 
 pub all-yes : (a b : Bool) → a ≡ true → b ≡ a && b
@@ -118,10 +93,23 @@ all-no a b e = rw e
 pub both-fed : (w : List ℕ) (o x : ℕ) (a b : Bool) → x ≡ firstIn w o → a ≡ inputBit w x → b ≡ inputBit w (o - 1) → a && b ≡ readyIn w o
 both-fed w o x a b e f g = rw (f, g, e)
 
--- the bit that output o gets
-pub step-is : (w : List ℕ) (o x : ℕ) (a b v : Bool) (n : ℕ) → x ≡ firstIn w o → a ≡ inputBit w x → b ≡ inputBit w (o - 1) → v ≡ gateBit (getD w o 0 - kindsFrom) a b → n ≡ bitByte v
-    → set w (bitsAt + o) n ≡ stepIn w o
-step-is w o x a b v n e f g h k = rw (k, h, f, g, e)
+-- a gate's number, chosen kind after kind; the kinds stand from `kindsFrom` on
+kind-is : (e c : ℕ) → kindsFrom ≤ e → eqb e (kindsFrom + c) ≡ eqb (e - kindsFrom) c
+kind-is e c l = elim (ℕ-discrete e (kindsFrom + c)) [
+  | yes q ↦ eq-eqb e (kindsFrom + c) q ∙ sym (eq-eqb (e - kindsFrom) c (omega arith))
+  | no d ↦ ne-eqb e (kindsFrom + c) d ∙ sym (ne-eqb (e - kindsFrom) c (λ z. d (omega arith)))
+]
+
+pub value-is : (e a b p q r : ℕ) → kindsFrom ≤ e → p ≡ chosenWord (eqb e 65525) (bitXor a 65535) (bitAnd a b) → q ≡ chosenWord (eqb e 65524) (bitXor a b) p → r ≡ chosenWord (eqb e 65523) (bitOr a b) q
+    → r ≡ gateWord (e - kindsFrom) a b
+value-is e a b p q r l f g h =
+    h ∙ ap (λ (t : Bool). cond t (bitOr a b) q) (kind-is e 3 l)
+    ∙ ap (cond (eqb (e - kindsFrom) 3) (bitOr a b)) (g ∙ ap (λ (t : Bool). cond t (bitXor a b) p) (kind-is e 4 l)
+    ∙ ap (cond (eqb (e - kindsFrom) 4) (bitXor a b)) (f ∙ ap (λ (t : Bool). cond t (bitXor a 65535) (bitAnd a b)) (kind-is e 5 l)))
+
+-- the number that output o gets
+pub step-is : (w : List ℕ) (o x a b v : ℕ) → x ≡ firstIn w o → a ≡ inputWord w x → b ≡ inputWord w (o - 1) → v ≡ gateWord (getD w o 0 - kindsFrom) a b → set w (bitsAt + o) v ≡ wordStep w o
+step-is w o x a b v e f g h = rw (h, f, g, e)
 
 -- ---- one of four
 
@@ -136,13 +124,6 @@ or-third a b c d e f g = rw (e, f, g)
 
 pub or-fourth : (a b c d : Bool) → a ≡ false → b ≡ false → c ≡ false → d ≡ a || (b || (c || d))
 or-fourth a b c d e f g = rw (e, f, g)
-
-pub differ : (a b : Bool) → not (Bool·beq a b) ≡ xor a b
-unfolding xor
-differ true true = refl
-differ true false = refl
-differ false true = refl
-differ false false = refl
 
 -- ---- loops over a memory of which only the marks and bits change
 
@@ -159,5 +140,5 @@ turn-within w j r = within-set w (getD w (registersAt + j) 0) _ (r .low)
 pub wake-within : (starts w : List ℕ) (j : ℕ) → Register w (getD w (registersAt + j) 0) → Within w (wakeOne starts j w)
 wake-within starts w j r = within-set w (getD w (registersAt + j) 0) _ (r .low)
 
-pub pass-within : (w : List ℕ) (j : ℕ) → Looks w (getD w (orderAt + j) 0) → Within w (passOne j w)
+pub pass-within : (w : List ℕ) (j : ℕ) → Looks w (getD w (orderAt + j) 0) → Within w (wordPass j w)
 pass-within w j r = within-set w (getD w (orderAt + j) 0) _ (r .low)

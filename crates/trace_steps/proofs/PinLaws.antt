@@ -11,11 +11,11 @@ use lib.ListN.{length, getD, set, drop, length-set}
 use lib.Seq.{drop-cons}
 use borrow.Author.Tests.{eq-eqb, ne-eqb, le-leb, lt-leb}
 use Rattle.laws.proofs.Regions.{drop-past}
-use Rattle.trace_calculus.specs.Trace.{bitByte, allBits}
+use Rattle.trace_calculus.specs.Trace.{allBits}
 use Rattle.lean.proofs.TableLaws.{within-then, within-set}
 use Rattle.trace_steps.specs.Map.{pinsAt, bitsAt}
-use Rattle.trace_steps.specs.Steps.{lit}
-use Rattle.trace_steps.specs.Pins.{Loading, Storing, counted, pinIsIn, inPinCount, outPinCount, PinsLow, loadOne, storeOne}
+use Rattle.trace_steps.specs.Words.{wordAt}
+use Rattle.trace_steps.specs.Pins.{Loading, Storing, counted, pinIsIn, inPinCount, outPinCount, PinsLow, loadOne, wordStore}
 use Rattle.trace_steps.proofs.Laws.{turns-next}
 
 -- ---- counts
@@ -86,32 +86,32 @@ load-room bits u w from at k n c few h room l q e =
 
 -- ---- the output pins, one after the other
 
-pub store-yes : (w out₀ out : List ℕ) (from at k c b : ℕ) → Storing w out₀ from k out at → c ≡ getD w (pinsAt + k) 0 → (c % 2 ≡ 0 → ⊥) → b ≡ bitByte (lit w (c / 2))
-    → Storing w out₀ from (k + 1) (set out at b) (at + 1)
-store-yes w out₀ out from at k c b l q e f =
+pub store-yes : (g : ℕ → ℕ) (w out₀ out : List ℕ) (from at k c b : ℕ) → Storing g w out₀ from k out at → c ≡ getD w (pinsAt + k) 0 → (c % 2 ≡ 0 → ⊥) → b ≡ g (wordAt w (c / 2))
+    → Storing g w out₀ from (k + 1) (set out at b) (at + 1)
+store-yes g w out₀ out from at k c b l q e f =
     let odd : getD w (pinsAt + k) 0 % 2 ≡ 0 → ⊥ = λ z. e (ap (λ (x : ℕ). x % 2) q ∙ z) in
     record {
       size = length-set out at b ∙ l .size;
       whole =
-          ap (λ (x : ℕ). counted (set out at x) (at + 1)) (f ∙ ap (λ (x : ℕ). bitByte (lit w (x / 2))) q)
-          ∙ sym (ap (λ (t : Bool). cond t (counted out at) (counted (set out at (bitByte (lit w (getD w (pinsAt + k) 0 / 2)))) (at + 1))) (ne-eqb (getD w (pinsAt + k) 0 % 2) 0 odd))
-          ∙ turns-next (storeOne w) k (counted out₀ from) (counted out at) (l .whole);
+          ap (λ (x : ℕ). counted (set out at x) (at + 1)) (f ∙ ap (λ (x : ℕ). g (wordAt w (x / 2))) q)
+          ∙ sym (ap (λ (t : Bool). cond t (counted out at) (counted (set out at (g (wordAt w (getD w (pinsAt + k) 0 / 2)))) (at + 1))) (ne-eqb (getD w (pinsAt + k) 0 % 2) 0 odd))
+          ∙ turns-next (wordStore g w) k (counted out₀ from) (counted out at) (l .whole);
       written = let r = l .written in let i = outs-yes w k odd in omega arith;
     }
 
-pub store-no : (w out₀ out : List ℕ) (from at k c : ℕ) → Storing w out₀ from k out at → c ≡ getD w (pinsAt + k) 0 → c % 2 ≡ 0 → Storing w out₀ from (k + 1) out at
-store-no w out₀ out from at k c l q e =
+pub store-no : (g : ℕ → ℕ) (w out₀ out : List ℕ) (from at k c : ℕ) → Storing g w out₀ from k out at → c ≡ getD w (pinsAt + k) 0 → c % 2 ≡ 0 → Storing g w out₀ from (k + 1) out at
+store-no g w out₀ out from at k c l q e =
     let even : getD w (pinsAt + k) 0 % 2 ≡ 0 = rw q at e in
     record {
       size = l .size;
       whole =
-          sym (ap (λ (t : Bool). cond t (counted out at) (counted (set out at (bitByte (lit w (getD w (pinsAt + k) 0 / 2)))) (at + 1))) (eq-eqb (getD w (pinsAt + k) 0 % 2) 0 even))
-          ∙ turns-next (storeOne w) k (counted out₀ from) (counted out at) (l .whole);
+          sym (ap (λ (t : Bool). cond t (counted out at) (counted (set out at (g (wordAt w (getD w (pinsAt + k) 0 / 2)))) (at + 1))) (eq-eqb (getD w (pinsAt + k) 0 % 2) 0 even))
+          ∙ turns-next (wordStore g w) k (counted out₀ from) (counted out at) (l .whole);
       written = let r = l .written in let i = outs-no w k even in omega arith;
     }
 
-pub store-room : (w out₀ out : List ℕ) (from at k n c : ℕ) → k < n → from + outPinCount w n ≤ length out₀ → Storing w out₀ from k out at → c ≡ getD w (pinsAt + k) 0 → (c % 2 ≡ 0 → ⊥) → at < length out
-store-room w out₀ out from at k n c h room l q e =
+pub store-room : (g : ℕ → ℕ) (w out₀ out : List ℕ) (from at k n c : ℕ) → k < n → from + outPinCount w n ≤ length out₀ → Storing g w out₀ from k out at → c ≡ getD w (pinsAt + k) 0 → (c % 2 ≡ 0 → ⊥) → at < length out
+store-room g w out₀ out from at k n c h room l q e =
     let odd : getD w (pinsAt + k) 0 % 2 ≡ 0 → ⊥ = λ z. e (ap (λ (x : ℕ). x % 2) q ∙ z) in
     let r = l .written in
     let s = l .size in
@@ -143,12 +143,6 @@ ins-few w (suc n) = by (pinIsIn w n) (ins-few w n)
     by : (b : Bool) → inPinCount w n ≤ n → inPinCount w n + cond b 1 0 ≤ suc n
     by true r = omega arith
     by false r = omega arith
-
-pub lit-yes : (w : List ℕ) (x : ℕ) → getD w (bitsAt + x) 0 ≡ 1 → 1 ≡ bitByte (lit w x)
-lit-yes w x e = rw (eq-eqb (getD w (bitsAt + x) 0) 1 e)
-
-pub lit-no : (w : List ℕ) (x : ℕ) → (getD w (bitsAt + x) 0 ≡ 1 → ⊥) → 0 ≡ bitByte (lit w x)
-lit-no w x d = rw (ne-eqb (getD w (bitsAt + x) 0) 1 d)
 
 pub ins-step : (w : List ℕ) (k c n : ℕ) → c ≡ getD w (pinsAt + k) 0 → c % 2 ≡ 0 → n ≡ inPinCount w k → n + 1 ≡ inPinCount w (k + 1)
 ins-step w k c n q e i = let r = ins-yes w k (rw q at e) in omega arith

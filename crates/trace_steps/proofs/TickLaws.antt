@@ -11,9 +11,10 @@ use Rattle.lean.specs.Table.{Within}
 use Rattle.lean.proofs.TableLaws.{within-then}
 use Rattle.trace_steps.specs.Map.{pinsAt}
 use Rattle.trace_steps.specs.Turns.{takeTurns, Looped}
-use Rattle.trace_steps.specs.Steps.{Ordered, Registers, passOne, holdOne, turnOne}
-use Rattle.trace_steps.specs.Pins.{Counted, counted, inPinCount, outPinCount, PinsLow, loadOne, storeOne, Loading, Storing}
-use Rattle.trace_steps.specs.Ticks.{Sizes, sizes, lighted, ticked, shownBits, Runs, Ticked, running, tickOne, Ran}
+use Rattle.trace_steps.specs.Steps.{Ordered, Registers, holdOne, turnOne}
+use Rattle.trace_steps.specs.Words.{wordPass}
+use Rattle.trace_steps.specs.Pins.{Counted, counted, inPinCount, outPinCount, PinsLow, loadOne, wordStore, Loading, Storing}
+use Rattle.trace_steps.specs.Ticks.{Sizes, sizes, wordLighted, wordTicked, wordShown, Runs, Ticked, running, wordTick, Ran}
 use Rattle.trace_steps.proofs.Laws.{ordered-at, register-at, turns-next}
 
 -- ---- what stays where nothing below the bits changes
@@ -50,29 +51,29 @@ outs-within u w i (suc n) h =
 
 -- ---- a tick
 
-pub tick-is : (s r p : ℕ) (bits : List ℕ) (from to : ℕ) (u out₀ a b c d out : List ℕ) (i o : ℕ)
-    → Loading bits u from p a i → Looped passOne s a b → Storing b out₀ to p out o → Looped holdOne r b c → Looped turnOne r c d
-    → Ticked (sizes s r p) bits from to u out₀ d out
-unfolding lighted ticked shownBits
-tick-is s r p bits from to u out₀ a b c d out i o l m q h t =
-    let e : b ≡ takeTurns passOne s 0 (takeTurns (loadOne bits) p 0 (counted u from) .mem) = m .whole ∙ ap (λ (x : Counted). takeTurns passOne s 0 (x .mem)) (l .whole) in
+pub tick-is : (g : ℕ → ℕ) (s r p : ℕ) (bits : List ℕ) (from to : ℕ) (u out₀ a b c d out : List ℕ) (i o : ℕ)
+    → Loading bits u from p a i → Looped wordPass s a b → Storing g b out₀ to p out o → Looped holdOne r b c → Looped turnOne r c d
+    → Ticked g (sizes s r p) bits from to u out₀ d out
+unfolding wordLighted wordTicked wordShown
+tick-is g s r p bits from to u out₀ a b c d out i o l m q h t =
+    let e : b ≡ takeTurns wordPass s 0 (takeTurns (loadOne bits) p 0 (counted u from) .mem) = m .whole ∙ ap (λ (x : Counted). takeTurns wordPass s 0 (x .mem)) (l .whole) in
     record {
       within = within-then (within-then (within-then (l .within) (m .within)) (h .within)) (t .within);
       memory = t .whole ∙ ap (takeTurns turnOne r 0) (h .whole ∙ ap (takeTurns holdOne r 0) e);
       size = q .size;
-      bytes = ap (λ (x : Counted). x .mem) (q .whole) ∙ ap (λ (x : List ℕ). takeTurns (storeOne x) p 0 (counted out₀ to) .mem) e;
+      bytes = ap (λ (x : Counted). x .mem) (q .whole) ∙ ap (λ (x : List ℕ). takeTurns (wordStore g x) p 0 (counted out₀ to) .mem) e;
     }
 
 -- ---- ticks one after the other
 
-pub ran-next : (z : Sizes) (bits : List ℕ) (i o t from to : ℕ) (u out₀ w out v w′ : List ℕ) → from ≡ t * i → to ≡ t * o → Ran z bits i o t u out₀ w out → Ticked z bits from to w out w′ v
-    → Ran z bits i o (t + 1) u out₀ w′ v
-ran-next z bits i o t from to u out₀ w out v w′ e f r k = record {
+pub ran-next : (g : ℕ → ℕ) (z : Sizes) (bits : List ℕ) (i o t from to : ℕ) (u out₀ w out v w′ : List ℕ) → from ≡ t * i → to ≡ t * o → Ran g z bits i o t u out₀ w out → Ticked g z bits from to w out w′ v
+    → Ran g z bits i o (t + 1) u out₀ w′ v
+ran-next g z bits i o t from to u out₀ w out v w′ e f r k = record {
   within = within-then (r .within) (k .within);
   size = k .size ∙ r .size;
   whole =
-      both (k .memory ∙ ap (λ (x : ℕ). ticked z bits x w) e) (k .bytes ∙ ap (λ (x : ℕ). shownBits z bits x to w out) e ∙ ap (λ (y : ℕ). shownBits z bits (t * i) y w out) f)
-      ∙ turns-next (tickOne z bits i o) t (running u out₀) (running w out) (r .whole);
+      both (k .memory ∙ ap (λ (x : ℕ). wordTicked z bits x w) e) (k .bytes ∙ ap (λ (x : ℕ). wordShown g z bits x to w out) e ∙ ap (λ (y : ℕ). wordShown g z bits (t * i) y w out) f)
+      ∙ turns-next (wordTick g z bits i o) t (running u out₀) (running w out) (r .whole);
 }
   where
     both : {a a′ b b′ : List ℕ} → a ≡ a′ → b ≡ b′ → running a b ≡ running a′ b′

@@ -6,7 +6,7 @@
 --   registersAt           .. and afterwards the registers' outputs by rising number
 --   orderAt      5,120    the order: the outputs that are settled, each behind those that it looks at; in the search, those that are met
 --   pinsAt       128      the pins, an input i as 2 i and an output o as 2 o + 1, each output pin's root in its place
---   bitsAt       8,192    by terminal a mark, and then its bit; before, the roots. They end at `bitsEnd`
+--   bitsAt       8,192    by terminal a mark, and then a number with its bit in each lane (specs/Words); before, the roots. They end at `bitsEnd`
 use Prim.Native.Nat.{ℕ, _+_}
 use Rattle.memory.specs.Map.{targetsAt, elementsAt, stackAt, rootsAt, rootsEnd}
 

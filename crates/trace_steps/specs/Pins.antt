@@ -11,6 +11,7 @@ use Rattle.lean.specs.Table.{Within}
 use Rattle.trace_steps.specs.Map.{registersAt, orderAt, pinsAt, bitsAt, registerEntry}
 use Rattle.trace_steps.specs.Turns.{takeTurns}
 use Rattle.trace_steps.specs.Steps.{lit, Register, Registers}
+use Rattle.trace_steps.specs.Words.{wordAt}
 
 -- numbers, and a count
 pub record Counted : Type 0 where
@@ -47,6 +48,10 @@ loadOne bits k s = cond (pinIsIn (s .mem) k) (counted (set (s .mem) (bitsAt + ge
 abbrev pub storeOne : List ℕ → ℕ → Counted → Counted
 storeOne w k s = cond (pinIsIn w k) s (counted (set (s .mem) (s .count) (bitByte (lit w (getD w (pinsAt + k) 0 / 2)))) (s .count + 1))
 
+-- the same over whole numbers: what `g` makes of an output pin's is the next
+abbrev pub wordStore : (ℕ → ℕ) → List ℕ → ℕ → Counted → Counted
+wordStore g w k s = cond (pinIsIn w k) s (counted (set (s .mem) (s .count) (g (wordAt w (getD w (pinsAt + k) 0 / 2)))) (s .count + 1))
+
 -- the outputs of registers
 abbrev pub registerOne : ℕ → Counted → Counted
 registerOne x s = cond (eqb (getD (s .mem) x 0) registerEntry) (counted (set (s .mem) (registersAt + s .count) x) (s .count + 1)) s
@@ -58,9 +63,9 @@ pub record Loading (bits u : List ℕ) (from k : ℕ) (w : List ℕ) (at : ℕ) 
   pub read : at ≡ from + inPinCount u k
 
 -- the first k output pins are written
-pub record Storing (w out₀ : List ℕ) (from k : ℕ) (out : List ℕ) (at : ℕ) : Type 0 where
+pub record Storing (g : ℕ → ℕ) (w out₀ : List ℕ) (from k : ℕ) (out : List ℕ) (at : ℕ) : Type 0 where
   pub size : length out ≡ length out₀
-  pub whole : counted out at ≡ takeTurns (storeOne w) k 0 (counted out₀ from)
+  pub whole : counted out at ≡ takeTurns (wordStore g w) k 0 (counted out₀ from)
   pub written : at ≡ from + outPinCount w k
 
 -- ---- the registers' outputs, by rising number

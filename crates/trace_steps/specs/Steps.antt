@@ -34,9 +34,9 @@ pub record Looks (w : List ℕ) (o : ℕ) : Type 0 where
 abbrev pub readyIn : List ℕ → ℕ → Bool
 readyIn w o = inputBit w (firstIn w o) && inputBit w (o - 1)
 
--- 2 and, 3 or, 4 xor, 5 inv, 7 a point; the last two have their one input twice
+-- 3 or, 4 xor, 5 inv; else and: 2, and 7, a point. The inverter and a point have their one input twice
 abbrev pub gateBit : ℕ → Bool → Bool → Bool
-gateBit k a b = cond (eqb k 2) (a && b) (cond (eqb k 3) (a || b) (cond (eqb k 4) (xor a b) (cond (eqb k 5) (not a) a)))
+gateBit k a b = cond (eqb k 3) (a || b) (cond (eqb k 4) (xor a b) (cond (eqb k 5) (not a) (a && b)))
 
 -- output o gets its bit
 abbrev pub stepIn : List ℕ → ℕ → List ℕ

@@ -8,7 +8,8 @@ use Rattle.lean.specs.Table.{Within}
 use Rattle.trace_steps.specs.Map.{orderAt, bitsAt, kindsFrom}
 use Rattle.trace_steps.specs.Turns.{takeTurns}
 use Rattle.trace_steps.specs.Steps.{lit, firstIn, gateBit, Ordered, Registers, passOne, holdOne, turnOne}
-use Rattle.trace_steps.specs.Pins.{counted, PinsLow, inPinCount, outPinCount, loadOne, storeOne}
+use Rattle.trace_steps.specs.Pins.{counted, PinsLow, inPinCount, outPinCount, loadOne, storeOne, wordStore}
+use Rattle.trace_steps.specs.Words.{wordPass, keepOne}
 
 -- how many outputs the order has, how many registers and pins there are
 pub record Sizes : Type 0 where
@@ -31,6 +32,17 @@ ticked z bits from w = takeTurns turnOne (z .registers) 0 (takeTurns holdOne (z 
 unfoldable pub shownBits : Sizes → List ℕ → ℕ → ℕ → List ℕ → List ℕ → List ℕ
 shownBits z bits from to w out = takeTurns (storeOne (lighted z bits from w)) (z .pins) 0 (counted out to) .mem
 
+-- ---- the same over whole numbers, of which `g` is written
+
+unfoldable pub wordLighted : Sizes → List ℕ → ℕ → List ℕ → List ℕ
+wordLighted z bits from w = takeTurns wordPass (z .settled) 0 (takeTurns (loadOne bits) (z .pins) 0 (counted w from) .mem)
+
+unfoldable pub wordTicked : Sizes → List ℕ → ℕ → List ℕ → List ℕ
+wordTicked z bits from w = takeTurns turnOne (z .registers) 0 (takeTurns holdOne (z .registers) 0 (wordLighted z bits from w))
+
+unfoldable pub wordShown : (ℕ → ℕ) → Sizes → List ℕ → ℕ → ℕ → List ℕ → List ℕ → List ℕ
+wordShown g z bits from to w out = takeTurns (wordStore g (wordLighted z bits from w)) (z .pins) 0 (counted out to) .mem
+
 -- what a run asks of the memory
 pub record Runs (w : List ℕ) (s r p : ℕ) : Type 0 where
   pub order : Ordered w s
@@ -38,11 +50,11 @@ pub record Runs (w : List ℕ) (s r p : ℕ) : Type 0 where
   pub pins : PinsLow w p
 
 -- after a tick
-pub record Ticked (z : Sizes) (bits : List ℕ) (from to : ℕ) (u out₀ w out : List ℕ) : Type 0 where
+pub record Ticked (g : ℕ → ℕ) (z : Sizes) (bits : List ℕ) (from to : ℕ) (u out₀ w out : List ℕ) : Type 0 where
   pub within : Within u w
-  pub memory : w ≡ ticked z bits from u
+  pub memory : w ≡ wordTicked z bits from u
   pub size : length out ≡ length out₀
-  pub bytes : out ≡ shownBits z bits from to u out₀
+  pub bytes : out ≡ wordShown g z bits from to u out₀
 
 -- ---- ticks one after the other, each with so many bytes read and written
 
@@ -56,10 +68,18 @@ running w out = record { mem = w; out = out }
 abbrev pub tickOne : Sizes → List ℕ → ℕ → ℕ → ℕ → Running → Running
 tickOne z bits i o t s = running (ticked z bits (t * i) (s .mem)) (shownBits z bits (t * i) (t * o) (s .mem) (s .out))
 
-pub record Ran (z : Sizes) (bits : List ℕ) (i o n : ℕ) (u out₀ w out : List ℕ) : Type 0 where
+abbrev pub wordTick : (ℕ → ℕ) → Sizes → List ℕ → ℕ → ℕ → ℕ → Running → Running
+wordTick g z bits i o t s = running (wordTicked z bits (t * i) (s .mem)) (wordShown g z bits (t * i) (t * o) (s .mem) (s .out))
+
+pub record Ran (g : ℕ → ℕ) (z : Sizes) (bits : List ℕ) (i o n : ℕ) (u out₀ w out : List ℕ) : Type 0 where
   pub within : Within u w
   pub size : length out ≡ length out₀
-  pub whole : running w out ≡ takeTurns (tickOne z bits i o) n 0 (running u out₀)
+  pub whole : running w out ≡ takeTurns (wordTick g z bits i o) n 0 (running u out₀)
+
+-- what the first n registers hold is kept
+pub record StateKept (w : List ℕ) (n : ℕ) (state₀ state : List ℕ) : Type 0 where
+  pub size : length state ≡ length state₀
+  pub whole : state ≡ takeTurns (keepOne w) n 0 state₀
 
 -- there are bytes for so many ticks
 pub record TraceFits (w : List ℕ) (a b p i o n : ℕ) : Type 0 where

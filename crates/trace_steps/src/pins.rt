@@ -6,9 +6,9 @@ ghost use mathlib.Core.Path.{_≡_};
 ghost use Prim.Native.Nat.{_+_, _≤_, _<_};
 ghost use lib.ListN.{length, set};
 ghost use Rattle.memory.specs.Map.{memorySize};
-ghost use Rattle.trace_calculus.specs.Trace.{bitByte as bit, allBits};
+ghost use Rattle.trace_calculus.specs.Trace.{allBits};
 ghost use Rattle.trace_steps.specs.Map.{bitsAt};
-ghost use Rattle.trace_steps.specs.Steps.{lit};
+ghost use Rattle.trace_steps.specs.Words.{wordAt, laneZero};
 ghost use Rattle.trace_steps.specs.Pins.{inPinCount, outPinCount, PinsLow, Loading, Storing};
 
 // How many pins are inputs.
@@ -67,18 +67,18 @@ pub fn load(work: &mut [u16], inputs: &[u8], pins: usize, from: usize) -> usize
     at
 }
 
-// The bit of terminal x.
+// The bit that terminal x has in lane 0.
 fn bit_of(work: &[u16], x: usize) -> u8
     requires { ⌜ (memorySize ≤ length (now work)) × (x < 8192) ⌝ }
-    ensures { λ r. ⌜ r ≡ bit (lit (now (work .entry)) x) ⌝ }
+    ensures { λ r. ⌜ r ≡ laneZero (wordAt (now (work .entry)) x) ⌝ }
 {
-    if work[BITS + x] == 1 { 1 } else { 0 }
+    (work[BITS + x] % 2) as u8
 }
 
 // The output pins' bits of a tick, from byte `from` on; the next byte.
 pub fn store(work: &[u16], out: &mut [u8], pins: usize, from: usize) -> usize
     requires { ⌜ (PinsLow (now work) pins) × (from + outPinCount (now work) pins ≤ length (now out)) ⌝ }
-    ensures { λ r. ⌜ Storing (now (work .entry)) (now (out .entry)) from pins (now (out .exit)) r ⌝ }
+    ensures { λ r. ⌜ Storing laneZero (now (work .entry)) (now (out .entry)) from pins (now (out .exit)) r ⌝ }
 {
     let mut at = from;
     let mut k: usize = 0;

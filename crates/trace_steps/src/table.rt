@@ -5,6 +5,7 @@ ghost use lib.ListN.{length, getD};
 ghost use Rattle.memory.specs.Map.{memorySize};
 ghost use Rattle.trace_calculus.specs.Trace.{bitByte as bit};
 ghost use Rattle.trace_steps.specs.Steps.{Looks, firstIn, inputBit};
+ghost use Rattle.trace_steps.specs.Words.{everyLane, inputWord, chosenWord as chosen};
 
 // What stands where during a run is said in specs/Map.
 pub const REST: usize = memory::TARGETS;
@@ -23,6 +24,10 @@ pub const KIND: u16 = 65520;
 pub const ZERO_ENTRY: u16 = KIND;
 
 pub const REGISTER_ENTRY: u16 = KIND + 1;
+
+pub const OR_ENTRY: u16 = KIND + 3;
+
+pub const XOR_ENTRY: u16 = KIND + 4;
 
 // A gate of two inputs has a lower one.
 pub const INVERTER_ENTRY: u16 = KIND + 5;
@@ -63,4 +68,26 @@ pub fn byte(b: bool) -> u16
     ensures { λ r. ⌜ r ≡ bit b ⌝ }
 {
     if b { 1 } else { 0 }
+}
+
+// The bits of the source of input x.
+pub fn fed(work: &[u16], x: usize) -> u16
+    requires { ⌜ (memorySize ≤ length (now work)) × ((x < 8192) × (getD (now work) x 0 < 8192)) ⌝ }
+    ensures { λ r. ⌜ r ≡ inputWord (now (work .entry)) x ⌝ }
+{
+    work[BITS + work[x] as usize]
+}
+
+// All bits, or none.
+pub fn all(b: bool) -> u16
+    ensures { λ r. ⌜ r ≡ everyLane b ⌝ }
+{
+    if b { 65535 } else { 0 }
+}
+
+// One of two numbers.
+pub fn pick(b: bool, x: u16, y: u16) -> u16
+    ensures { λ r. ⌜ r ≡ chosen b x y ⌝ }
+{
+    if b { x } else { y }
 }

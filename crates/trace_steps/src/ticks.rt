@@ -1,27 +1,28 @@
-// The run, tick after tick, over the order. By terminal its bit.
+// The run, tick after tick, over the order. By terminal a number of 16 bits, one for each lane; a run of one trace looks at lane 0 alone.
 use crate::pins;
 use crate::table;
 use crate::table::BITS;
-use crate::table::KIND;
 use crate::table::ORDER;
 use crate::table::REGISTERS;
 ghost use mathlib.Core.Path.{_≡_};
-ghost use Prim.Native.Nat.{_+_, _≤_, _<_};
+ghost use Prim.Native.Nat.{_+_, _-_, _≤_, _<_};
 ghost use lib.ListN.{length};
 ghost use Rattle.memory.specs.Map.{memorySize};
-ghost use Rattle.trace_steps.specs.Steps.{Looks, gateBit, stepIn, Ordered, passOne, Register, Registers, holdAt, turnAt, wakeOne, holdOne, turnOne, beginOne};
+ghost use Rattle.trace_steps.specs.Map.{kindsFrom};
+ghost use Rattle.trace_steps.specs.Steps.{Looks, Ordered, Register, Registers, holdAt, turnAt, wakeOne, holdOne, turnOne};
+ghost use Rattle.trace_steps.specs.Words.{gateWord, wordStep, wordPass, wordBegin, laneZero};
 ghost use Rattle.trace_steps.specs.Turns.{Looped};
 ghost use Rattle.trace_steps.specs.Pins.{inPinCount, outPinCount, Listable, RegistersListed};
 ghost use Rattle.trace_steps.specs.Ticks.{sizes, Runs, Ticked, TraceFits, Ran};
 
-// Every bit is 0, but that of a part one.
+// Every bit is 0, but those of a part one.
 pub fn begin(work: &mut [u16], end: usize)
     requires { ⌜ (memorySize ≤ length (now work)) × (end ≤ 8192) ⌝ }
-    ensures { λ _. ⌜ Looped beginOne end (now (work .entry)) (now (work .exit)) ⌝ }
+    ensures { λ _. ⌜ Looped wordBegin end (now (work .entry)) (now (work .exit)) ⌝ }
 {
     let mut x: usize = 0;
     while x < end {
-        work[BITS + x] = table::byte(work[x] == table::ONE_ENTRY);
+        work[BITS + x] = table::all(work[x] == table::ONE_ENTRY);
         x = x + 1;
     }
 }
@@ -39,40 +40,32 @@ pub fn wake(work: &mut [u16], starts: &[u8], regs: usize)
     }
 }
 
-// A gate's or a point's output bit; a point and an inverter have their one input twice.
-fn value(kind: u16, a: bool, b: bool) -> bool
-    ensures { λ r. ⌜ r ≡ gateBit kind a b ⌝ }
+// The output, bit by bit, of the gate or point with this entry; a point and an inverter have their one input twice. Without a branch: which kind
+// comes next is hard to foretell.
+fn value(entry: u16, a: u16, b: u16) -> u16
+    requires { ⌜ kindsFrom ≤ entry ⌝ }
+    ensures { λ r. ⌜ r ≡ gateWord (entry - kindsFrom) a b ⌝ }
 {
-    if kind == 2 {
-        return a && b;
-    }
-    if kind == 3 {
-        return a || b;
-    }
-    if kind == 4 {
-        return a != b;
-    }
-    if kind == 5 {
-        return !a;
-    }
-    a
+    let other = table::pick(entry == table::INVERTER_ENTRY, a ^ 65535, a & b);
+    let odd = table::pick(entry == table::XOR_ENTRY, a ^ b, other);
+    table::pick(entry == table::OR_ENTRY, a | b, odd)
 }
 
-// Output o gets its bit.
+// Output o gets its bits.
 fn step(work: &mut [u16], o: usize)
     requires { ⌜ Looks (now work) o ⌝ }
-    ensures { λ _. ⌜ now (work .exit) ≡ stepIn (now (work .entry)) o ⌝ }
+    ensures { λ _. ⌜ now (work .exit) ≡ wordStep (now (work .entry)) o ⌝ }
 {
-    let kind = work[o] - KIND;
+    let entry = work[o];
     let x = table::first_of(&work[..], o);
-    let a = table::is_fed(&work[..], x);
-    let b = table::is_fed(&work[..], o - 1);
-    work[BITS + o] = table::byte(value(kind, a, b));
+    let a = table::fed(&work[..], x);
+    let b = table::fed(&work[..], o - 1);
+    work[BITS + o] = value(entry, a, b);
 }
 
-fn pass(work: &mut [u16], settled: usize)
+pub fn pass(work: &mut [u16], settled: usize)
     requires { ⌜ Ordered (now work) settled ⌝ }
-    ensures { λ _. ⌜ Looped passOne settled (now (work .entry)) (now (work .exit)) ⌝ }
+    ensures { λ _. ⌜ Looped wordPass settled (now (work .entry)) (now (work .exit)) ⌝ }
 {
     let mut j: usize = 0;
     while j < settled {
@@ -100,7 +93,7 @@ fn turn_one(work: &mut [u16], o: usize)
 }
 
 // Each register's input terminal gets its bit ..
-fn hold(work: &mut [u16], regs: usize)
+pub fn hold(work: &mut [u16], regs: usize)
     requires { ⌜ Registers (now work) regs ⌝ }
     ensures { λ _. ⌜ Looped holdOne regs (now (work .entry)) (now (work .exit)) ⌝ }
 {
@@ -113,7 +106,7 @@ fn hold(work: &mut [u16], regs: usize)
 }
 
 // .. and then its output that of its input.
-fn turn(work: &mut [u16], regs: usize)
+pub fn turn(work: &mut [u16], regs: usize)
     requires { ⌜ Registers (now work) regs ⌝ }
     ensures { λ _. ⌜ Looped turnOne regs (now (work .entry)) (now (work .exit)) ⌝ }
 {
@@ -137,7 +130,7 @@ fn tick(
     to: usize,
 )
     requires { ⌜ (Runs (now work) settled regs pins) × ((from + inPinCount (now work) pins ≤ length (now inputs)) × (to + outPinCount (now work) pins ≤ length (now out))) ⌝ }
-    ensures { λ _. ⌜ Ticked (sizes settled regs pins) (now (inputs .entry)) from to (now (work .entry)) (now (out .entry)) (now (work .exit)) (now (out .exit)) ⌝ }
+    ensures { λ _. ⌜ Ticked laneZero (sizes settled regs pins) (now (inputs .entry)) from to (now (work .entry)) (now (out .entry)) (now (work .exit)) (now (out .exit)) ⌝ }
 {
     let read = pins::load(work, inputs, pins, from);
     pass(work, settled);
@@ -159,7 +152,7 @@ pub fn run(
     ticks: usize,
 )
     requires { ⌜ (Runs (now work) settled regs pins) × (TraceFits (now work) (length (now inputs)) (length (now out)) pins reads writes ticks) ⌝ }
-    ensures { λ _. ⌜ Ran (sizes settled regs pins) (now (inputs .entry)) reads writes ticks (now (work .entry)) (now (out .entry)) (now (work .exit)) (now (out .exit)) ⌝ }
+    ensures { λ _. ⌜ Ran laneZero (sizes settled regs pins) (now (inputs .entry)) reads writes ticks (now (work .entry)) (now (out .entry)) (now (work .exit)) (now (out .exit)) ⌝ }
 {
     let mut from: usize = 0;
     let mut to: usize = 0;

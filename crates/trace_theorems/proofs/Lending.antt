@@ -35,7 +35,7 @@ pub rows-length : (β : Bits) (os : List ℕ) (t n : ℕ) → length (rows β os
 rows-length β os t zero = let z : 0 ≡ 0 * length os = omega arith in z
 rows-length β os t (suc n) = length-append (row β t os) (rows β os (t + 1) n) ∙ (let a = row-length β t os in let b = rows-length β os (t + 1) n in let c = suc-mul n (length os) in omega arith)
 
-row-at : (β : Bits) (t : ℕ) (os : List ℕ) (k : ℕ) → k < length os → getD (row β t os) k 0 ≡ bitByte (β (getD os k 0) t)
+pub row-at : (β : Bits) (t : ℕ) (os : List ℕ) (k : ℕ) → k < length os → getD (row β t os) k 0 ≡ bitByte (β (getD os k 0) t)
 row-at β t [] k l = absurd (omega arith)
 row-at β t (o ∷ os) zero l = refl
 row-at β t (o ∷ os) (suc k) l = row-at β t os k (omega arith)
@@ -129,7 +129,7 @@ pub pin-order : (m : Net) → Formed m → (bits : List ℕ) (k t : ℕ) → k <
 pin-order m ok bits k t h =
     ap (λ (z : ℕ). eqb (getD bits (t * length (inPins (m .pins)) + z) 0) 1) (place-at (inPins (m .pins)) (pins-once (m .pins) (λ x. omega (arith, ok .reached x, input-once m ok x))) k h)
 
-pin-has : (ps : Interface) (x : ℕ) → T (isPin ps x) → T (has (inPins ps) x)
+pub pin-has : (ps : Interface) (x : ℕ) → T (isPin ps x) → T (has (inPins ps) x)
 pin-has [] x t = absurd t
 pin-has (inp i ∷ ps) x t = or-elim (eqb i x) (isPin ps x) t (λ u. or-left (eqb i x) (has (inPins ps) x) u) (λ u. or-right (eqb i x) (has (inPins ps) x) (pin-has ps x u))
 pin-has (out o ∷ ps) x t = pin-has ps x t

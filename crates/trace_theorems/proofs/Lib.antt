@@ -6,3 +6,6 @@ pub mod TraceRun
 pub mod Lending
 pub mod Outcome
 pub mod Owners
+pub mod LaneRuns
+pub mod LaneJoin
+pub mod LaneCalls

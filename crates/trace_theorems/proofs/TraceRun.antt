@@ -105,7 +105,7 @@ module _ (m : Net) (ok : Formed m) (free : (x : ℕ) → OnRing m x → ⊥) whe
     abbrev β₀ : Bits
     β₀ = run m given starts
 
-    solved : (t x : ℕ) → β₀ x t ≡ bit (source m x) x (λ y. given y t) (heldAt starts β₀ t) (λ y. β₀ y t)
+    pub solved : (t x : ℕ) → β₀ x t ≡ bit (source m x) x (λ y. given y t) (heldAt starts β₀ t) (λ y. β₀ y t)
     unfolding run
     solved zero x = steady (λ y. given y 0) starts x
     solved (suc t) x = steady (λ y. given y (suc t)) (λ i. tick m given starts t i) x

@@ -1,6 +1,8 @@
 -- The three demands hold of what a call leaves. Assumes nothing.
 use Prim.Native.Nat.{ℕ, _+_, _≤_, _<_}
 use mathlib.Core.Path.{_≡_, refl, sym, ap, ap₂, subst, _∙_}
+use mathlib.Core.Logic.{inl, inr}
+use mathlib.Core.Bool.{Bool, true, false}
 use mathlib.Core.List.{List, [], _++_}
 use native.Mathlib.Omega.{arith}
 use lib.Dec.{leb, leb→le}
@@ -21,7 +23,9 @@ use Rattle.memory.proofs.Zeroed.{zeroed-length, zeroed-zeros, zeroed-later}
 use Rattle.translator.proofs.Keeping.{work-small}
 use Rattle.translation.specs.Demands.{Wrote, Cleared, Demand1, Derivable, Demand2, OneDriver, Circuit, Demand3}
 use Rattle.sheet_theorems.proofs.Judging.{Judged, value, refusal}
-use Rattle.translation.proofs.Places.{CallPlace, CallBytes, answer-places}
+use Rattle.export_calculus.specs.CardCall.{cardAnswer, cardCall}
+use Rattle.translation.proofs.Places.{CallPlace, CallBytes, answer-places, CardPlace, card-answer-places}
+use Rattle.translation.proofs.CardCall.{card-unasked}
 
 -- ---- demand 1
 
@@ -47,9 +51,14 @@ went b s memory room bytes e =
       fits = subst (λ (x : List ℕ). length x ≤ room) (good-inj e₃) (leb→le (length (askedBytes b m (makersOf s))) room h₃);
     }
 
-wrote : (s out : List ℕ) {a : Answer (List ℕ)} → Judged (CallPlace s (length out)) (CallBytes (length out)) a → Wrote (saidOf a) out (outOf a out)
+wrote : (s out : List ℕ) {a : Answer (List ℕ)} → Judged (CallPlace s (length out)) (CallBytes (length out)) a → Wrote false (saidOf a) out (outOf a out)
 wrote s out (value {a} h) = (a, refl, h .1, refl)
-wrote s out (refusal h) = (h .from, h .to, h .few, h .more, refl)
+wrote s out (refusal h) = ((h .from, h .to), h .few, h .more, refl)
+
+asked-wrote : (s out : List ℕ) {a : Answer (List ℕ)} → Judged (CardPlace s (length out)) (CallBytes (length out)) a → Wrote true (saidOf a) out (outOf a out)
+asked-wrote s out (value {a} h) = (a, refl, h .1, refl)
+asked-wrote s out (refusal (inl h)) = (inl (h .from, h .to), h .few, h .more, refl)
+asked-wrote s out (refusal (inr h)) = let f = h .from in (inr (h .from, h .to), omega (arith, h .low), (λ e. absurd (omega arith)), refl)
 
 pub too-small : (b : Wish) (s : List ℕ) (memory room : ℕ) → memory < 32768 → answer memory b s room ≡ refuse 1 0
 unfolding answer
@@ -62,11 +71,26 @@ work-clears : (work : List ℕ) → 32768 ≤ length work → Cleared 32768 work
 unfolding workOf
 work-clears work h = rw (le-leb 32768 (length work) h) (zeroed-clears 32768 work h)
 
-pub demand-1 : (b : Wish) (s out work : List ℕ) → Demand1 b s out work (call b s out work)
+-- every call begins with its memory
+too-small-asked : (b : Wish) (s : List ℕ) (memory room : ℕ) → memory < 32768 → cardAnswer true memory b s room ≡ refuse 1 0
+unfolding cardAnswer
+too-small-asked b s memory room h = rw (lt-leb 32768 memory h)
+
+call-1 : (b : Wish) (s out work : List ℕ) → Demand1 false b s out work (call b s out work)
 unfolding call
-demand-1 b s out work = record {
+call-1 b s out work = record {
   wrote = wrote s out (answer-places (length work) b s (length out));
   small = λ h. let e = too-small b s (length work) (length out) h in (ap saidOf e, ap (λ (a : Answer (List ℕ)). outOf a out) e, work-small work h);
+  cleared = λ h. work-clears work h;
+}
+
+-- demand 1 of the public call, with the card's profile asked for or not
+pub demand-1 : (card : Bool) (b : Wish) (s out work : List ℕ) → Demand1 card b s out work (cardCall card b s out work)
+unfolding cardCall
+demand-1 false b s out work = subst (Demand1 false b s out work) (sym (card-unasked b s out work)) (call-1 b s out work)
+demand-1 true b s out work = record {
+  wrote = asked-wrote s out (card-answer-places true (length work) b s (length out));
+  small = λ h. let e = too-small-asked b s (length work) (length out) h in (ap saidOf e, ap (λ (a : Answer (List ℕ)). outOf a out) e, work-small work h);
   cleared = λ h. work-clears work h;
 }
 

@@ -7,3 +7,5 @@ pub mod CardLaws
 pub mod CardCall
 pub mod Written
 pub mod Nodes
+pub mod ShutOut
+pub mod NodesTold

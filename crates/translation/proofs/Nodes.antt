@@ -10,11 +10,16 @@ use lib.Seq.{take-at}
 use Rattle.calculus.specs.Answer.{good}
 use Rattle.calculus.proofs.Answers.{good-inj}
 use Rattle.calculus.specs.Net.{Net, make, netOf, netBytes}
-use Rattle.calculus.specs.Makers.{makersOf, dropNodes}
-use Rattle.calculus.specs.Translate.{Wish, asked, askedMakers, askedBytes, call}
+use Rattle.calculus.specs.Lean.{lean}
+use Rattle.calculus.specs.Makers.{makersOf, leanMakers, dropNodes}
+use Rattle.calculus.specs.Translate.{full, Wish, asked, askedMakers, askedBytes, call}
+use Rattle.circuit_theorems.proofs.Main.{accepts}
+use Rattle.circuit_theorems.proofs.Makers.{each-length, node-made-lean, as-many}
 use Rattle.circuit_theorems.proofs.NodeBytes.{written-dropped, node-bytes}
 use Rattle.translation.specs.Demands.{Conditions, Circuit}
+use Rattle.translation.specs.NodesTold.{readNodes}
 use Rattle.translation.proofs.Demands.{demand-2, demand-3}
+use Rattle.translation.proofs.NodesTold.{nodes-told}
 
 abbrev pub withNodes : Bool → Wish
 withNodes lean = record { lean = lean; plain = false }
@@ -25,6 +30,11 @@ inPlain lean = record { lean = lean; plain = true }
 -- the bytes written are the netlist's
 front : (w : Wish) (s out : List ℕ) (n : ℕ) (after : List ℕ) (c : Circuit w s out n after) → take n after ≡ askedBytes w (c .net) (makersOf s)
 front w s out n after c = ap (take n) (c .wrote) ∙ take-at (askedBytes w (c .net) (makersOf s)) (drop n out) n (c .needs)
+
+-- as many nodes as elements, for both netlists
+as-many-asked : (b : Bool) (s : List ℕ) (m : Net) → full s ≡ good m → length (askedMakers b m (makersOf s)) ≡ length (asked b m .elements)
+as-many-asked false s m e = let a = accepts s m e in as-many s m e (a .sheet) (a .reads)
+as-many-asked true s m e = let a = accepts s m e in each-length _ (lean m .elements) (leanMakers m (makersOf s)) (node-made-lean s m e (a .sheet) (a .reads))
 
 module _ (lean : Bool) (s : List ℕ) where
   -- whatever room and memory the two calls are lent, where both write
@@ -47,3 +57,10 @@ module _ (lean : Bool) (s : List ℕ) where
       let l : k ≤ n = omega (arith, node-bytes (asked lean m) (askedMakers lean m (makersOf s)), c .needs) in
       let q : Conditions (inPlain lean) s out work σ k = record { memory = c .memory; reads = c .reads; terminals = c .terminals; needs = refl; room = omega (arith, c .room) } in
       (k, demand-2 (inPlain lean) s out work .accepted k .1 (record { sheet = σ; conditions = q; type = d .type; typed = d .typed }), l)
+
+  -- the node numbers are read back from the bytes: those that made the elements of the netlist asked for
+  pub call-nodes-told : (out work : List ℕ) (n : ℕ) (e : call (withNodes lean) s out work .said ≡ good n)
+      → readNodes (take n (call (withNodes lean) s out work .out)) ≡ askedMakers lean (demand-3 (withNodes lean) s out work .circuit n e .net) (makersOf s)
+  call-nodes-told out work n e =
+      let c = demand-3 (withNodes lean) s out work .circuit n e in
+      ap readNodes (front (withNodes lean) s out n _ c) ∙ nodes-told (asked lean (c .net)) (askedMakers lean (c .net) (makersOf s)) (as-many-asked lean s (c .net) (c .of-sheet))

@@ -123,7 +123,7 @@ module _ (s : List ℕ) (room : ℕ) (m : Net) (e : full s ≡ good m) where
       by (good tt) q = value tt
       by (refused why) q = refusal (inr (broken-place (root-of s m e .type) why (card-refused s m e why q)))
 
-card-answer-places : (card : Bool) (memory : ℕ) (b : Wish) (s : List ℕ) (room : ℕ) → Judged (CardPlace s room) (CallBytes room) (cardAnswer card memory b s room)
+pub card-answer-places : (card : Bool) (memory : ℕ) (b : Wish) (s : List ℕ) (room : ℕ) → Judged (CardPlace s room) (CallBytes room) (cardAnswer card memory b s room)
 unfolding cardAnswer
 card-answer-places card memory b s room =
     of-require (leb 32768 memory) (numbered 1 0) _ (λ _. inl (no-memory s room)) λ _.

@@ -1,7 +1,8 @@
 -- The demands, as statements about what a call leaves. Assumes nothing.
 use Prim.Native.Nat.{ℕ, _+_, _≤_, _<_}
 use mathlib.Core.Path.{_≡_}
-use mathlib.Core.Logic.{_↔_}
+use mathlib.Core.Logic.{_↔_, _⊎_}
+use mathlib.Core.Bool.{Bool, true, false}
 use mathlib.Core.List.{List, [], _++_}
 use lib.ListN.{length, getD, take, drop}
 use Rattle.calculus.specs.Answer.{Answer, good, refused, refuse}
@@ -18,11 +19,16 @@ use Rattle.calculus.specs.Translate.{full, Wish, asked, askedBytes, Call}
 
 -- ---- demand 1
 
--- a success wrote bytes to the front of the output and left the rest; a refusal has a number from 1 to 17 and a place, and wrote nothing;
+-- the numbers of the refusals: 1 to 17, and 27 to 29 where the card's profile is asked for
+abbrev pub RefusalNumber : Bool → ℕ → Type 0
+RefusalNumber false k = (1 ≤ k) × (k ≤ 17)
+RefusalNumber true k = ((1 ≤ k) × (k ≤ 17)) ⊎ ((27 ≤ k) × (k ≤ 29))
+
+-- a success wrote bytes to the front of the output and left the rest; a refusal has one of these numbers and a place, and wrote nothing;
 -- 17's place is the length needed, so more than the output has
-abbrev pub Wrote : Answer ℕ → List ℕ → List ℕ → Type 0
-Wrote (good n) out after = (bytes : List ℕ) × (length bytes ≡ n) × (n ≤ length out) × (after ≡ bytes ++ drop n out)
-Wrote (refused why) out after = (1 ≤ why .number) × (why .number ≤ 17) × (why .place ≤ 57728) × (why .number ≡ 17 → length out < why .place) × (after ≡ out)
+abbrev pub Wrote : Bool → Answer ℕ → List ℕ → List ℕ → Type 0
+Wrote card (good n) out after = (bytes : List ℕ) × (length bytes ≡ n) × (n ≤ length out) × (after ≡ bytes ++ drop n out)
+Wrote card (refused why) out after = RefusalNumber card (why .number) × (why .place ≤ 57728) × (why .number ≡ 17 → length out < why .place) × (after ≡ out)
 
 -- the first n numbers are 0, the later ones as they were
 pub record Cleared (n : ℕ) (work after : List ℕ) : Type 0 where
@@ -30,8 +36,9 @@ pub record Cleared (n : ℕ) (work after : List ℕ) : Type 0 where
   pub zeros : (i : ℕ) → i < n → getD after i 0 ≡ 0
   pub later : drop n after ≡ drop n work
 
-pub record Demand1 (w : Wish) (s out work : List ℕ) (c : Call) : Type 0 where
-  pub wrote : Wrote (c .said) out (c .out)
+-- of a call with the card's profile asked for or not
+pub record Demand1 (card : Bool) (w : Wish) (s out work : List ℕ) (c : Call) : Type 0 where
+  pub wrote : Wrote card (c .said) out (c .out)
   -- too little working memory: refusal 1, and nothing is touched
   pub small : length work < 32768 → (c .said ≡ refuse 1 0) × (c .out ≡ out) × (c .work ≡ work)
   pub cleared : 32768 ≤ length work → Cleared 32768 work (c .work)

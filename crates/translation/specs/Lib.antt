@@ -1,2 +1,4 @@
 pub mod Demands
 pub mod Wished
+pub mod ShutOut
+pub mod NodesTold

@@ -6,3 +6,4 @@ pub mod SaidLaws
 pub mod WordLaws
 pub mod Places
 pub mod Determined
+pub mod WorkedWords

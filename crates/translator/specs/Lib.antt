@@ -2,3 +2,4 @@ pub mod Made
 pub mod Said
 pub mod Stages
 pub mod Word
+pub mod WorkedWords

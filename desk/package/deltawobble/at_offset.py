@@ -18,6 +18,15 @@ def at_offset(data: bytes, refused: Refused) -> list[str]:
     return [_term_record(data, place, number, len(known))]
 
 
+def limit(data: bytes, refused: Refused) -> str:
+    """Refusal 8 in a sentence: which limit, and how far."""
+    return "This record passes a limit: %s." % at_offset(data, refused)[-1]
+
+
+def _past(count: int, what: str, most: int) -> str:
+    return "it would be the {:,}th {}, and {:,} are the limit".format(count, what, most)
+
+
 def _type_record(data: bytes, place: int, number: int, known: list[Type]) -> list[str]:
     kind = {1: "a single bit", 2: "a product", 3: "a sharable arrow", 4: "a linear arrow"}[data[place]]
     sides = data[place + 1:place + 3] if data[place] > 1 else b""
@@ -29,8 +38,8 @@ def _type_record(data: bytes, place: int, number: int, known: list[Type]) -> lis
         same = [t for t in known if t.kind == data[place] and (t.kind == 1 or (known.index(t.left), known.index(t.right)) == tuple(sides))]
         said += ["type %d is the same record" % known.index(same[0])] if same else []
     if number == 8:
-        over = len(known) == 256
-        said.append("256 types stand before it" if over else "it would have %d single bits" % sum(known[side].size for side in sides))
+        said.append(_past(257, "type", 256) if len(known) == 256 else
+                    "it would have %d single bits, and 128 are the limit" % sum(known[side].size for side in sides))
     return said
 
 
@@ -48,7 +57,7 @@ def _term_record(data: bytes, place: int, number: int, types: int) -> str:
     if number == 5:
         return "the sheet has %d types, 0 to %d" % (types, types - 1) if types else "the sheet has no types"
     if number == 8:
-        return "it would be the 2049th node" if len(nodes) >= 2048 else "it would have depth 65"
+        return _past(2049, "node", 2048) if len(nodes) >= 2048 else "it would have depth 65, and 64 is the limit"
     if number == 9:
         return "the term has %d nodes, the last at offset %d" % (len(nodes), nodes[-1][0]) if nodes else ""
     return ""

@@ -7,18 +7,22 @@ from __future__ import annotations
 import argparse
 import functools
 import importlib
-import io
-import os
+import json
+import signal
 import sys
+import threading
 from typing import Optional, Sequence
 
+from . import outputs, streams
 from .answer import Refused
 from .engine import NoLibrary
 from .files import WrongUse
 from .notation import NotationError
 from .terminal import paint
+from .version import Version
 
-COMMANDS = ("listing", "translate", "explain", "where", "batch", "verilog", "run", "check", "back", "inline", "draw", "show", "make")
+COMMANDS = ("listing", "translate", "explain", "where", "batch", "verilog", "run", "registers", "check", "back", "inline", "draw", "report", "show",
+            "make", "prove", "reach", "same", "campaign", "verify")
 
 
 @functools.cache
@@ -27,6 +31,7 @@ def parser() -> argparse.ArgumentParser:
     top = argparse.ArgumentParser(
         prog="deltawobble", description="Sheets of the linear lambda calculus, their netlists, and what is wrong with them.",
         epilog="Exit status: 0 accepted, 1 refused, 2 wrong use. 'deltawobble COMMAND --help' shows an example.")
+    top.add_argument("--version", action=Version, help="say the version, the commit, and the hashes of archive and toolchain")
     commands = top.add_subparsers(dest="command", metavar="COMMAND", required=True)
     for name in COMMANDS:
         module = importlib.import_module(".commands." + name, __package__)
@@ -40,37 +45,37 @@ def parser() -> argparse.ArgumentParser:
 
 def main(words: Optional[Sequence[str]] = None) -> int:
     """Runs the command and gives its exit status."""
-    given = parser().parse_args(words)
-    # a name of a file, or a line of a notation, may have signs that the terminal has not
-    if isinstance(sys.stdout, io.TextIOWrapper):
-        sys.stdout.reconfigure(errors="backslashreplace")
     try:
-        if given.json and "-" in (getattr(given, "output", None), getattr(given, "vcd", None)):
-            raise WrongUse("--json and the file - would both go to standard output")
+        # this loads the subcommands. Until it is done Ctrl-C is the script's: an interrupt in the middle of a class comes out as another error
+        known = parser()
+        if threading.current_thread() is threading.main_thread() and signal.getsignal(signal.SIGINT) != signal.SIG_IGN:
+            signal.signal(signal.SIGINT, signal.default_int_handler)
+        streams.ready()
+        given = known.parse_args(words)
+        outputs.settled(given)
         status = given.run(given)
         sys.stdout.flush()
         return status
     except Refused as refused:
-        print(paint(str(refused), "red", sys.stderr), file=sys.stderr)
+        streams.tell(paint(str(refused), "red", sys.stderr))
         return 1
     except NotationError as error:
-        print(error, file=sys.stderr)
+        if given.json:
+            print(json.dumps(error.as_json()))
+        else:
+            streams.tell(str(error))
         return 2
     except (WrongUse, NoLibrary) as error:
-        print("deltawobble: %s" % error, file=sys.stderr)
+        streams.tell("deltawobble: %s" % error)
         return 2
     except KeyboardInterrupt:
-        print("deltawobble: stopped", file=sys.stderr)
+        streams.drop_output()
+        streams.tell("deltawobble: stopped")
         return 130
     except BrokenPipeError:
-        drop_output()
+        streams.drop_output()
         return 141
     except OSError as error:
-        print("deltawobble: %s" % error, file=sys.stderr)
-        drop_output()
+        streams.tell("deltawobble: %s" % error)
+        streams.drop_output()
         return 2
-
-
-def drop_output() -> None:
-    """Nobody takes standard output any more: what is left in the buffer goes nowhere."""
-    os.dup2(os.open(os.devnull, os.O_WRONLY), sys.stdout.fileno())

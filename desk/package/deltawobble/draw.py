@@ -1,21 +1,17 @@
-"""Pictures by Graphviz: the netlist of an accepted sheet, or the term of a refused one with the node marked."""
+"""DOT: the netlist of an accepted sheet, for who lays it out otherwise; and the term of a refused one with the node marked, which Graphviz draws."""
 from __future__ import annotations
 
-import re
 import shutil
 import subprocess
-import tempfile
-from pathlib import Path
 from typing import Optional
 
-from . import shapes
 from .files import WrongUse
 from .naming import names_of
 from .netlist import Element, Netlist
 from .sheet import Node, Sheet
 from .tree import label, shown
 
-#: what stands in a box where no shape can be drawn: the rectangular signs of IEC 60617
+#: what stands in a part's box: the rectangular signs of IEC 60617
 SIGNS = {"and": "&amp;", "or": "≥1", "xor": "=1", "inv": "1 o", "reg": "D", "zero": "0", "one": "1"}
 
 #: a table that shows nothing of itself
@@ -28,11 +24,11 @@ def q(text: str) -> str:
 
 # ---- netlists
 
-def netlist_dot(net: Netlist, names: list[str], title: str, images: bool = False) -> str:
-    """The netlist in DOT: parts with their shapes, points, pins at the sides. `images` names a picture for each part."""
+def netlist_dot(net: Netlist, names: list[str], title: str) -> str:
+    """The netlist in DOT: parts in boxes, points, pins at the sides."""
     lines = ["digraph circuit {", "  rankdir=LR; ranksep=0.35; nodesep=0.2; fontname=Helvetica; fontsize=12; labelloc=t; label=%s;" % q(title),
              "  node [fontname=Helvetica fontsize=9 shape=none margin=0]; edge [arrowsize=0.45 penwidth=0.9 fontname=Helvetica fontsize=7];"]
-    lines += [element_dot(e, images) for e in net.elements]
+    lines += [element_dot(e) for e in net.elements]
     inputs = set(net.input_pins)
     sides: dict[str, list[str]] = {"source": [], "sink": []}
     for position, (pin, name) in enumerate(zip(net.pins, names)):
@@ -56,7 +52,7 @@ def terminal_ports(e: Element) -> list[tuple[int, str]]:
     return [(i, "e%d:i%d:w" % (e.first, k)) for k, i in enumerate(e.inputs)] + [(e.output, "e%d:o:e" % e.first)]
 
 
-def element_dot(e: Element, images: bool) -> str:
+def element_dot(e: Element) -> str:
     """A point is a dot; a part is a table with its inputs left, its shape, its output right, and its numbers below."""
     node = "" if e.node is None else "node %d" % e.node
     if e.part is None:
@@ -64,13 +60,11 @@ def element_dot(e: Element, images: bool) -> str:
         rows = '<TR><TD PORT="p" FIXEDSIZE="TRUE" WIDTH="9" HEIGHT="9">%s</TD></TR><TR><TD>%s</TD></TR>' % (dot, small("point %d" % e.first, node))
         return "  e%d [label=<<TABLE %s>%s</TABLE>>];" % (e.first, BARE, rows)
     inputs = len(e.inputs) or 1
-    sign = '<IMG SRC="%s.png"/>' % e.name if images else SIGNS[e.name]
-    border = 0 if images else 1
     cells = []
     for k in range(inputs):
         cells.append('<TR><TD PORT="i%d" FIXEDSIZE="TRUE" WIDTH="1" HEIGHT="%d"></TD>' % (k, 40 // inputs))
         if k == 0:
-            cells[-1] += '<TD ROWSPAN="%d" BORDER="%d" FIXEDSIZE="TRUE" WIDTH="%d" HEIGHT="40">%s</TD>' % (inputs, border, 64 if images else 36, sign)
+            cells[-1] += '<TD ROWSPAN="%d" BORDER="1" FIXEDSIZE="TRUE" WIDTH="36" HEIGHT="40">%s</TD>' % (inputs, SIGNS[e.name])
             cells[-1] += '<TD PORT="o" ROWSPAN="%d" FIXEDSIZE="TRUE" WIDTH="1" HEIGHT="40"></TD>' % inputs
         cells[-1] += "</TR>"
     cells.append('<TR><TD COLSPAN="3">%s</TD></TR>' % small("%s %d" % (e.name, e.first), node))
@@ -102,24 +96,12 @@ def tree_dot(sheet: Sheet, mark: Optional[Node], title: str) -> str:
 
 # ---- Graphviz
 
-def rendered(net_dot, kind: str) -> bytes:
-    """A picture, svg or png. `net_dot` gives the DOT, with pictures of the parts or without."""
+def rendered(dot: str, kind: str) -> bytes:
+    """A tree as svg or png."""
     if shutil.which("dot") is None:
-        raise WrongUse("a picture needs Graphviz (Debian package graphviz); '-o FILE.dot' writes the DOT without it")
-    with tempfile.TemporaryDirectory() as folder:
-        for name in shapes.SHAPES:
-            (Path(folder) / (name + ".png")).write_bytes(shapes.png(name))
-        words = ["dot", "-T" + kind] + (["-Gdpi=110"] if kind == "png" else [])
-        done = subprocess.run(words, input=net_dot(True).encode(), capture_output=True, cwd=folder)
+        raise WrongUse("the picture of a term needs Graphviz (Debian package graphviz); '-o FILE.dot' writes the DOT without it")
+    words = ["dot", "-T" + kind] + (["-Gdpi=110"] if kind == "png" else [])
+    done = subprocess.run(words, input=dot.encode(), capture_output=True)
     if done.returncode:
         raise WrongUse("Graphviz could not draw this: %s" % done.stderr.decode(errors="replace").strip()[:300])
-    return svg_shapes(done.stdout.decode()).encode() if kind == "svg" else done.stdout
-
-
-def svg_shapes(text: str) -> str:
-    """Paths in the place of the pictures that an SVG only points to."""
-    def shape(found: re.Match) -> str:
-        value = dict(re.findall(r'([\w:]+)="([^"]*)"', found[0]))
-        size = [float(value[key].removesuffix("px").removesuffix("pt")) for key in ("x", "y", "width", "height")]
-        return shapes.path(Path(value["xlink:href"]).stem, *size)
-    return re.sub(r"<image [^>]*/>", shape, text)
+    return done.stdout

@@ -32,24 +32,26 @@ def report(sheet: bytes, *, card: bool = False, own: Optional[Own] = None) -> tu
 
 # ---- accepted
 
-def accepted_lines(data: bytes, plain_full: bytes) -> list[str]:
+def counts(sheet: Sheet, plain_full: bytes) -> dict[str, int]:
     """Counts of an accepted sheet. Netlists are counted in plain kinds."""
-    sheet, full = Sheet.parse(data), Netlist.parse(plain_full)
-    plain_lean = calls.translate(data, lean=True, plain=True)
+    full, plain_lean = Netlist.parse(plain_full), calls.translate(sheet.data, lean=True, plain=True)
     lean = Netlist.parse(plain_lean)
-    root = Typed(sheet).root()
-    counts = [("nodes", len(sheet.nodes)), ("depth", sheet.depth), ("types", len(sheet.types)), ("parts", len(full.parts)),
+    return dict([("nodes", len(sheet.nodes)), ("depth", sheet.depth), ("types", len(sheet.types)), ("parts", len(full.parts)),
               ("points", len(full.points)), ("kept points", len(lean.points)), ("wires", len(full.wires)), ("pins", len(full.pins)),
               ("full netlist bytes", len(plain_full)), ("lean netlist bytes", len(plain_lean)),
-              ("registers", len(lean.registers)), ("input pins", len(lean.input_pins)), ("output pins", len(lean.output_pins))]
-    lines = ["accepted"] + ["%s %d" % count for count in counts]
+              ("registers", len(lean.registers)), ("input pins", len(lean.input_pins)), ("output pins", len(lean.output_pins))])
+
+
+def accepted_lines(data: bytes, plain_full: bytes) -> list[str]:
+    sheet = Sheet.parse(data)
+    root = Typed(sheet).root()
+    lines = ["accepted"] + ["%s %d" % count for count in counts(sheet, plain_full).items()]
     lines.append("root type %d: %s" % (sheet.types.index(root), root))
-    if calls.knows_card():
-        try:
-            calls.translate(data, card=True)
-            lines.append("card: the profile holds")
-        except Refused as refused:
-            lines.append("card: %s" % refused)
+    try:
+        calls.translate(data, card=True)
+        lines.append("card: the profile holds")
+    except Refused as refused:
+        lines.append("card: %s" % refused)
     return lines
 
 

@@ -2,7 +2,6 @@
 from __future__ import annotations
 
 import re
-import sys
 from dataclasses import dataclass
 from pathlib import Path
 from typing import TYPE_CHECKING, Optional
@@ -54,7 +53,7 @@ def raw(name: str) -> bytes:
     """The bytes of a file, or of standard input for `-`."""
     try:
         if name == "-":
-            data = sys.stdin.buffer.read(MOST + 1)
+            data = _standard_input().read(MOST + 1)
         else:
             with open(name, "rb") as file:
                 data = file.read(MOST + 1)
@@ -63,6 +62,11 @@ def raw(name: str) -> bytes:
     if len(data) > MOST:
         raise WrongUse("%s: the desk reads no more than %d bytes of a file, and here are more" % (name, MOST))
     return data
+
+
+def _standard_input():
+    from .streams import given
+    return given()
 
 
 def text_of(data: bytes) -> Optional[str]:
@@ -132,6 +136,7 @@ def read(name: str) -> Source:
         return Source(name, data)
     if form is HEX:
         return Source(name, hex_bytes(name, need_text(name, data)))
-    from .notation import make
+    from .notation import check_unused, make
     made = make(need_text(name, data), name)
+    check_unused(made)
     return Source(name, made.sheet, made)

@@ -47,7 +47,9 @@ class Netlist:
     @staticmethod
     def parse(data: bytes) -> "Netlist":
         """The netlist in these bytes. ValueError, with the offset, at a record that is none."""
-        net, at = Netlist(), 0
+        if not isinstance(data, (bytes, bytearray, memoryview)):
+            raise TypeError("a netlist is bytes, and not %s" % type(data).__name__)
+        net, at, data = Netlist(), 0, bytes(data)
         while at < len(data):
             kind = data[at]
             body = data[at + 1:at + 1 + BODY.get(kind, 0)]
@@ -95,6 +97,30 @@ class Netlist:
     def element_of(self, terminal: int) -> Optional[Element]:
         """The element that has this terminal."""
         return next((e for e in self.elements if terminal in e.terminals), None)
+
+    def nodes(self) -> list[tuple[str, dict]]:
+        """Elements and pins as networkx takes them: a name, and what is known of it.
+
+            >>> net = Netlist([Element(0, 5)], [], [0, 1])
+            >>> [name for name, _ in net.nodes()], [edge[:2] for edge in net.edges()]
+            (['inv 0', 'pin 0', 'pin 1'], [('pin 0', 'inv 0'), ('inv 0', 'pin 1')])
+        """
+        inputs = set(self.input_pins)
+        found: list[tuple[str, dict]] = [(self._name(e), {"kind": e.name, "node": e.node, "terminals": e.terminals}) for e in self.elements]
+        return found + [("pin %d" % i, {"kind": "input pin" if pin in inputs else "output pin", "terminals": [pin]}) for i, pin in enumerate(self.pins)]
+
+    def edges(self) -> list[tuple[str, str, dict]]:
+        """Wires from element to element, and from and to pins: for a networkx.MultiDiGraph, by add_edges_from."""
+        at, inputs = {t: self._name(e) for e in self.elements for t in e.terminals}, set(self.input_pins)
+        found: list[tuple[str, str, dict]] = [(at[a], at[b], {"source": a, "target": b}) for a, b in self.wires]
+        for i, pin in enumerate(self.pins):
+            ends = ("pin %d" % i, at[pin]) if pin in inputs else (at[pin], "pin %d" % i)
+            found.append((*ends, {"source": pin, "target": pin}))
+        return found
+
+    @staticmethod
+    def _name(e: Element) -> str:
+        return "%s %d" % (e.name, e.first)
 
     def lines(self) -> list[str]:
         """The netlist as the listing has it."""

@@ -1,9 +1,7 @@
-"""The shapes of gates, as lines in a box of 64 by 40: for SVG as paths, for PNG as small pictures."""
+"""The shapes of gates, as lines in a box of 64 by 40."""
 from __future__ import annotations
 
 import math
-import struct
-import zlib
 
 WIDE, HIGH = 64, 40
 Line = list[tuple[float, float]]
@@ -41,37 +39,8 @@ SHAPES: dict[str, list[Line]] = {
     "one": [_arc(32, 20, 14, 14, 0, 360), [(28, 16), (33, 12), (33, 28)], [(46, 20), (64, 20)]]}
 
 
-def path(name: str, x: float, y: float, width: float, height: float) -> str:
-    """An SVG path of a shape in a box."""
-    def words(line: Line) -> str:
-        return "M" + " L".join("%.1f,%.1f" % (x + px * width / WIDE, y + py * height / HIGH) for px, py in line)
-    return '<path class="%s" fill="none" stroke="black" stroke-width="1.2" d="%s"/>' % (name, " ".join(words(line) for line in SHAPES[name]))
-
-
-def png(name: str, scale: int = 3) -> bytes:
-    """A picture of a shape, black lines on white."""
-    wide, high = WIDE * scale, HIGH * scale
-    shade = [bytearray([255]) * wide for _ in range(high)]
-    for line in SHAPES[name]:
-        for (ax, ay), (bx, by) in zip(line, line[1:]):
-            _stroke(shade, ax * scale, ay * scale, bx * scale, by * scale, 0.65 * scale)
-    raw = b"".join(b"\0" + bytes(row) for row in shade)
-    head = struct.pack(">IIBBBBB", wide, high, 8, 0, 0, 0, 0)
-    # so many dots a metre that the picture is as wide as its box, in points
-    dots = struct.pack(">IIB", *[round(72 * scale / 0.0254)] * 2, 1)
-    chunks = [(b"IHDR", head), (b"pHYs", dots), (b"IDAT", zlib.compress(raw)), (b"IEND", b"")]
-    return b"\x89PNG\r\n\x1a\n" + b"".join(struct.pack(">I", len(d)) + k + d + struct.pack(">I", zlib.crc32(k + d)) for k, d in chunks)
-
-
-def _stroke(shade: list[bytearray], ax: float, ay: float, bx: float, by: float, half: float) -> None:
-    """Darkens what is near a stretch of line."""
-    dx, dy = bx - ax, by - ay
-    square = dx * dx + dy * dy or 1.0
-    for row in range(max(int(min(ay, by) - half - 1), 0), min(int(max(ay, by) + half + 2), len(shade))):
-        for column in range(max(int(min(ax, bx) - half - 1), 0), min(int(max(ax, bx) + half + 2), len(shade[0]))):
-            px, py = column + 0.5 - ax, row + 0.5 - ay
-            along = min(max((px * dx + py * dy) / square, 0), 1)
-            far = math.hypot(px - along * dx, py - along * dy)
-            if far < half + 0.5:
-                dark = int(255 * min(max(far - half + 0.5, 0), 1))
-                shade[row][column] = min(shade[row][column], dark)
+def line(name: str, x: float, y: float, width: float, height: float) -> str:
+    """The data of an SVG path: a shape in a box."""
+    def words(points: Line) -> str:
+        return "M" + " L".join("%.1f,%.1f" % (x + px * width / WIDE, y + py * height / HIGH) for px, py in points)
+    return " ".join(words(points) for points in SHAPES[name])

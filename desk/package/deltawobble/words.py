@@ -42,15 +42,21 @@ RULES: dict[int, str] = {
     26: "Too many or too few: 1 to 16 parts and at most 24 undriven inputs go back to a sheet.",
     27: "The root's type is no chain of sharable arrows that ends in a sharable type.",
     28: "A point is kept that drives itself: nothing on the card would set its bit.",
-    29: "Nobody reads this part's output: it drives no wire of the lean netlist and is no pin of it."}
+    29: "Nobody reads this part's output: it drives no wire of the lean netlist and is no pin of it.",
+    40: "The pin can be 1.",
+    41: "A search goes through the states of at most 20 registers, and there are more.",
+    42: "A search tries all inputs of at most 12 input pins, and there are more.",
+    43: "The start bytes do not fit: one for each register, 0, 1, or 2 for either.",
+    44: "There is no such output pin.",
+    45: "The trail or the queue has fewer than 2^registers numbers."}
 
 
 def place_word(number: int) -> str:
-    """What the place of a refusal counts: an offset, a node, a terminal, a length, or nothing."""
+    """What the place of a refusal counts: an offset, a node, a terminal, a length, a tick, or nothing."""
     if 3 <= number <= 9 or number in (21, 22, 25):
         return "offset"
     if 10 <= number <= 15:
         return "node"
     if number in (18, 19, 23, 28, 29):
         return "terminal"
-    return "length" if number == 17 else ""
+    return {17: "length", 40: "tick"}.get(number, "")

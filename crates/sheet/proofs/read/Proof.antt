@@ -35,7 +35,7 @@ add-no-sheet c =
     let r = c .before .before .before .before in
     let i = r .before in
     let a = i .before .before in
-    let w = read-within (a .before .before .args .s .now) (a .if1 .left) _ (i .is-second .ensures) (i .before .records-of .ensures) (r .read-records .ensures) (c .before .before .verdict .given .1) in
+    let w = read-within (a .before .before .args .s .now) (a .if1 .left) _ (i .is-second .ensures) (i .before .records-of .ensures .bytes) (r .read-records .ensures) (c .before .before .verdict .given .1) in
     let o = opening-small (a .before .before .args .s .now) in
     record { fits = omega (arith, c .opening .ensures) }
 
@@ -47,7 +47,7 @@ returns-2 c =
     let r = c .before .before in
     let i = r .before in
     let a = i .before .before in
-    read-good (a .before .before .args .s .now) (a .if1 .left) _ (i .is-second .ensures) (i .before .records-of .ensures) (r .read-records .ensures) (c .enum-told .given .1)
+    read-good (a .before .before .args .s .now) (a .if1 .left) _ (i .is-second .ensures) (i .before .records-of .ensures .bytes) (r .read-records .ensures) (c .enum-told .given .1)
 
 returns-3 : tie.Need-returns-3
 returns-3 c =
@@ -55,7 +55,7 @@ returns-3 c =
     let r = o .before .before .before .before in
     let i = r .before in
     let a = i .before .before in
-    c .no-sheet2 .ensures ∙ rw (o .opening .ensures) (read-bad (a .before .before .args .s .now) (a .if1 .left) _ (i .is-second .ensures) (i .before .records-of .ensures) (r .read-records .ensures) (o .before .before .verdict .given .1))
+    c .no-sheet2 .ensures ∙ rw (o .opening .ensures) (read-bad (a .before .before .args .s .now) (a .if1 .left) _ (i .is-second .ensures) (i .before .records-of .ensures .bytes) (r .read-records .ensures) (o .before .before .verdict .given .1))
 
 pub read-spec : {M : Type 1} → statement M
 read-spec =

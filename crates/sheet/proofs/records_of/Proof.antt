@@ -1,4 +1,5 @@
 -- `sheet::records_of` meets its contract: the opening lies within the sheet. Assumes nothing.
+use mathlib.Core.Path.{refl}
 use native.Mathlib.Omega.{arith}
 use Rattle.calculus.specs.Read.{recordsOf}
 use Rattle.sheet.proofs.ReadLaws.{opening-within, take-rest}
@@ -20,7 +21,9 @@ part-result-end c = search needs
 
 returns : tie.Need-returns
 unfolding recordsOf
-returns c = rw (c .before .opening .ensures) (take-rest _ (c .before .before .before .args .s .now))
+returns c =
+    let e = c .before .opening .ensures in
+    record { bytes = rw e (take-rest _ (c .before .before .before .args .s .now)); block = refl; offset = omega (arith, e) }
 
 pub records-of-spec : {M : Type 1} → statement M
 records-of-spec =

@@ -1,6 +1,6 @@
 -- `sheet::stretch` meets its contract: the stretch lies within the sheet. Assumes nothing.
 use Prim.Native.Nat.{_+_, _-_}
-use mathlib.Core.Path.{_≡_}
+use mathlib.Core.Path.{_≡_, refl}
 use native.Mathlib.Omega.{arith}
 use borrow.Author.Needs.{needs}
 use Rattle.sheet.proofs.StretchLaws.{stretch-within}
@@ -32,7 +32,7 @@ returns : tie.Need-returns
 returns c =
     let b = c .before .before .stretch-bounds in
     let e : b .result .start + b .result .size - b .result .start ≡ b .result .size = omega arith in
-    rw (e, ← b .ensures)
+    rw (← b .ensures) (record { bytes = rw e; block = refl; offset = omega arith })
 
 pub stretch-spec : {M : Type 1} → statement M
 stretch-spec =

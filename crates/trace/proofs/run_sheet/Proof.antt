@@ -4,6 +4,7 @@ use mathlib.Core.Bool.{true}
 use native.Mathlib.Omega.{arith}
 use Rattle.translator.proofs.Lent.{net-stands, net-lent, refusal-lent}
 use Rattle.trace.proofs.CallLaws.{refused-says, net-says}
+use Rattle.trace.proofs.PartBounds.{lent-parts}
 use borrow.Author.Needs.{needs}
 use Rattle.trace.proofs.run_sheet.Statement.{statement}
 use Rattle.trace.proofs.run_sheet.Tie as tie
@@ -16,7 +17,7 @@ run-net-requires c κs =
     let a = s .args in
     let h = net-stands true (m .make .result) (a .sheet .now) (a .work .now) _ (m .make .ensures) _ (v .counts .given .1) in
     let f = s .fits .ticks in
-    (h .0, h .1, omega arith)
+    (h .0, h .1, omega arith, lent-parts _ (a .sheet .now) _ (net-lent true (m .make .result) (a .sheet .now) (a .work .now) _ (m .make .ensures) _ (v .counts .given .1)))
 
 returns : tie.Need-returns
 returns c =

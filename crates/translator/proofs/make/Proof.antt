@@ -45,7 +45,7 @@ checked-requires c κs =
     let r = v .before .before in
     let x = r .before in
     let a = x .before .before .before .args in
-    (x .if1 .left, record { read = record { whole = a .sheet .now; behind = i .records-of .ensures; types = _; told = told (a .sheet .now) (r .read .result) _ _ _ (r .read .ensures) (v .verdict2 .given .1) }; count = refl; edition = ap editionBy (i .before .is-second .ensures) ∙ edition-by (editionOf (a .sheet .now)) })
+    (x .if1 .left, record { read = record { whole = a .sheet .now; behind = i .records-of .ensures .bytes; types = _; told = told (a .sheet .now) (r .read .result) _ _ _ (r .read .ensures) (v .verdict2 .given .1) }; count = refl; edition = ap editionBy (i .before .is-second .ensures) ∙ edition-by (editionOf (a .sheet .now)) })
 
 returns-2 : tie.Need-returns-2
 returns-2 c =
@@ -66,7 +66,7 @@ returns-3 c =
     let r = v .before .before in
     let x = r .before in
     let a = x .before .before .before .args in
-    d .checked .ensures (record { read = record { whole = a .sheet .now; behind = i .records-of .ensures; types = _; told = told (a .sheet .now) (r .read .result) _ _ _ (r .read .ensures) (v .verdict2 .given .1) }; count = refl; edition = ap editionBy (i .before .is-second .ensures) ∙ edition-by (editionOf (a .sheet .now)) })
+    d .checked .ensures (record { read = record { whole = a .sheet .now; behind = i .records-of .ensures .bytes; types = _; told = told (a .sheet .now) (r .read .result) _ _ _ (r .read .ensures) (v .verdict2 .given .1) }; count = refl; edition = ap editionBy (i .before .is-second .ensures) ∙ edition-by (editionOf (a .sheet .now)) })
 
 pub make-spec : {M : Type 1} → statement M
 make-spec =

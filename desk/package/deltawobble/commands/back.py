@@ -12,6 +12,7 @@ from ..hexes import sheet_hex
 from ..nets import say_net
 from ..notation import show
 from ..output import put
+from ..outputs import ending
 
 WORDS = "make a sheet from a netlist of 1 to 16 parts"
 EXAMPLE = "deltawobble translate --lean --plain examples/P6.hex -o p6.net\ndeltawobble back --lean --show p6.net"
@@ -25,6 +26,7 @@ def add(parser: argparse.ArgumentParser) -> None:
 
 
 def run(given: argparse.Namespace) -> int:
+    ending(given.output, ".sheet", ".hex")
     source = read_net(given.netlist)
     try:
         sheet = calls.back(source.bytes, lean=given.lean)

@@ -12,6 +12,7 @@ from .. import calls
 from ..answer import Refused
 from ..files import Source, WrongUse, read
 from ..output import write
+from ..outputs import apart
 from ..terminal import Progress, paint
 from .translate import wishes
 
@@ -94,6 +95,7 @@ def make_folder(folder: str, names: list[str]) -> None:
         net = net_name(folder, name)
         if net in taken:
             raise WrongUse("%s and %s would both be written to %s: nothing is done" % (taken[net], name, net))
+        apart(net, names)
         taken[net] = name
     try:
         Path(folder).mkdir(parents=True, exist_ok=True)

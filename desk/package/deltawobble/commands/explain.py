@@ -4,11 +4,13 @@ from __future__ import annotations
 import argparse
 import json
 
+from .. import calls
 from ..at_node import type_words, wanted_form
-from ..explain import report
+from ..explain import counts, report
 from ..files import read
 from ..sheet import Sheet
 from ..terminal import paint
+from ..typed import Typed
 from ..words import FORM
 
 WORDS = "say in words what is wrong with a sheet, or what it holds"
@@ -26,7 +28,7 @@ def run(given: argparse.Namespace) -> int:
     if refused and source.made:
         lines += source.made.place_lines(source.bytes, refused)
     if given.json:
-        said = refused.as_json() if refused else {"accepted": True}
+        said = refused.as_json() if refused else {"accepted": True, **numbers(source.bytes)}
         if refused and refused.number == 12:
             sheet = Sheet.parse(source.bytes)
             said["wanted_words"] = wanted_form(sheet, sheet.nodes[refused.place]) if refused.wanted == FORM else type_words(sheet, refused.wanted)
@@ -40,3 +42,11 @@ def run(given: argparse.Namespace) -> int:
             line = paint(line, "yellow")
         print(line)
     return int(bool(refused))
+
+
+def numbers(data: bytes) -> dict:
+    """What an accepted sheet holds, for programs."""
+    sheet = Sheet.parse(data)
+    root = Typed(sheet).root()
+    return {"counts": {name.replace(" ", "_"): count for name, count in counts(sheet, calls.translate(data, plain=True)).items()},
+            "root_type": sheet.types.index(root), "root_words": str(root)}

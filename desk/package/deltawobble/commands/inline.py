@@ -12,6 +12,7 @@ from ..hexes import sheet_hex
 from ..inline import applications, put_in
 from ..notation import show
 from ..output import put
+from ..outputs import ending
 from ..refusing import say
 from ..sheet import Sheet
 
@@ -29,6 +30,7 @@ def add(parser: argparse.ArgumentParser) -> None:
 
 
 def run(given: argparse.Namespace) -> int:
+    ending(given.output, ".sheet", ".hex")
     source = read(given.sheet)
     try:
         calls.translate(source.bytes)

@@ -8,8 +8,9 @@ from .. import calls
 from ..answer import Refused
 from ..files import Source, need_text, raw
 from ..hexes import sheet_hex
-from ..notation import make
+from ..notation import check_unused, make
 from ..output import put
+from ..outputs import ending
 from ..refusing import say
 
 WORDS = "make a sheet from a text in the notation (docs/NOTATION.md)"
@@ -22,7 +23,9 @@ def add(parser: argparse.ArgumentParser) -> None:
 
 
 def run(given: argparse.Namespace) -> int:
+    ending(given.output, ".sheet", ".hex")
     made = make(need_text(given.text, raw(given.text)), given.text)
+    check_unused(made)
     try:
         calls.translate(made.sheet)
     except Refused as refused:

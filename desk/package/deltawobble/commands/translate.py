@@ -9,6 +9,7 @@ from ..answer import Refused
 from ..files import read
 from ..hexes import netlist_hex
 from ..output import put
+from ..outputs import ending
 from ..refusing import say
 
 WORDS = "translate a sheet to its full or lean netlist"
@@ -28,6 +29,7 @@ def wishes(parser: argparse.ArgumentParser) -> None:
 
 
 def run(given: argparse.Namespace) -> int:
+    ending(given.output, ".net", ".hex")
     source = read(given.sheet)
     try:
         net = calls.translate(source.bytes, lean=given.lean, plain=given.plain, card=given.card)
@@ -36,5 +38,5 @@ def run(given: argparse.Namespace) -> int:
     if given.json:
         print(json.dumps({"accepted": True, "bytes": len(net), "netlist": net.hex()}))
     if given.output or not given.json:
-        put(given.output, net, netlist_hex)
+        put(given.output, net, netlist_hex, ".net")
     return 0

@@ -6,7 +6,6 @@ import json
 
 from .. import calls
 from ..answer import Refused
-from ..engine import NoCall
 from ..at_node import node_line
 from ..at_terminal import element_words
 from ..files import WrongUse, read
@@ -33,8 +32,7 @@ def run(given: argparse.Namespace) -> int:
     element = full.element_of(given.terminal)
     if element is None:
         raise WrongUse("%s: there is no terminal %d: they are 0 to %d" % (given.sheet, given.terminal, full.elements[-1].output))
-    if element.node is None:
-        raise NoCall("netlist that names nodes")
+    assert element.node is not None  # a netlist that was not asked for in plain kinds names its nodes (L6)
     sheet = Sheet.parse(source.bytes)
     node = sheet.nodes[element.node]
     start, size = calls.stretch(source.bytes, node.number)

@@ -1,6 +1,6 @@
 """The notation in which a person writes a sheet with names (docs/NOTATION.md)."""
-from .made import Made, make
+from .made import Made, check_unused, make
 from .shower import show
 from .syntax import NotationError
 
-__all__ = ["make", "show", "Made", "NotationError"]
+__all__ = ["check_unused", "make", "show", "Made", "NotationError"]

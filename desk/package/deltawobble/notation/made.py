@@ -5,17 +5,19 @@ import sys
 from typing import Optional
 
 from ..answer import Refused
+from ..at_offset import limit
+from ..files import WrongUse
 from ..netlist import Netlist
 from ..sheet import Own, Sheet
 from ..types import BIT, Type, written
 from ..words import FORM, place_word
 from .maker import Maker, Record, encode
 from .parser import parse
-from .syntax import File, Span, Text
+from .syntax import File, NotationError, Span, Text
 
 #: the rules in a few words
 SHORT = {2: "the sheet is too long", 6: "a pair holds single bits and pairs alone, and an arrow has an arrow left only if it is -o",
-         8: "a limit is passed: 256 types, 128 single bits in a type, 2048 nodes, depth 64", 12: "the types do not fit",
+         12: "the types do not fit",
          13: "a circuit is used again", 14: "a circuit is not used", 16: "the full netlist has more than 8192 terminals",
          18: "a ring of points alone", 19: "a ring without a register", 27: "the root's type is not for the card",
          28: "a ring of points alone", 29: "nobody reads this part's output"}
@@ -27,6 +29,8 @@ class Made:
     def __init__(self, file: File, root: Record):
         self.file = file
         self.sheet, self.origins, self.nodes = encode(file, root)
+        #: the definitions that main does not use, each as if it were main
+        self.unused: list[Made] = []
 
     def own(self) -> Own:
         """The text's own names; a variable that it does not name is called rest."""
@@ -57,7 +61,8 @@ class Made:
             return []
         word = place_word(refused.number)
         where = " at %s %d" % (word, refused.place) if word in ("node", "terminal") else ""
-        head = "refused %d%s: %s" % (refused.number, where, SHORT.get(refused.number, refused.sentence))
+        rule = limit(data, refused) if refused.number == 8 else SHORT.get(refused.number, refused.sentence)
+        head = "refused %d%s: %s" % (refused.number, where, rule)
         if isinstance(origin, Span):
             return self.file.text.shown(origin, head)
         lines = self.file.text.shown(origin.mark, head, self._word(refused, origin))
@@ -98,12 +103,33 @@ def misfit(record: Record, sharable: bool, found: str, wanted: str) -> str:
     return "wants %s, and gets %s" % (wanted or "another form", found)
 
 
+#: bytes of a text; the longest that `show` writes has fewer
+MOST_BYTES = 65535
+
+
 def make(text: str, name: str = "text") -> Made:
-    """The sheet of a text in the notation. NotationError where it cannot be read."""
+    """The sheet of a text in the notation. NotationError where it cannot be read; the definitions that main does not use are read too."""
+    size = len(text.encode(errors="surrogatepass"))
+    if size > MOST_BYTES:
+        raise WrongUse("%s: a text in the notation has at most %d bytes, and this one has %d" % (name, MOST_BYTES, size))
     kept = sys.getrecursionlimit()
     sys.setrecursionlimit(max(kept, 20000))
     try:
         file = parse(Text(name, text.splitlines()))
-        return Made(file, Maker(file).main())
+        maker = Maker(file)
+        made = Made(file, maker.main())
+        made.unused = [Made(file, Maker(file, name).main()) for name in file.definitions if name not in maker.used]
+        return made
     finally:
         sys.setrecursionlimit(kept)
+
+
+def check_unused(made: Made) -> None:
+    """NotationError at the first definition that main does not use and whose term, taken alone, the proved call refuses."""
+    from ..calls import translate
+    for alone in made.unused:
+        try:
+            translate(alone.sheet)
+        except Refused as refused:
+            lines = alone.place_lines(alone.sheet, refused) or ["%s: %s" % (made.file.text.name, refused)]
+            raise NotationError.of(lines + ["     | in a definition that main does not use"]) from None

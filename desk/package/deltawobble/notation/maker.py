@@ -42,15 +42,16 @@ class Record:
 
 
 class Maker:
-    """Makes the records of a file's main."""
+    """Makes the records of a file's main, or of another definition; `used` are the definitions met on the way."""
 
-    def __init__(self, file: File):
+    def __init__(self, file: File, name: str = "main"):
         self.file, self.deep, self.count = file, 0, 0
         self.through: tuple[Span, ...] = ()
-        self.inside: list[str] = ["main"]
+        self.inside: list[str] = [name]
+        self.used = {name}
 
     def main(self) -> Record:
-        return self.record(self.file.definitions["main"], [])
+        return self.record(self.file.definitions[self.inside[0]], [])
 
     def node(self, kind: int, body: list, subterms: list[Record], t: Optional[Type], mark: Span, binds: list[Binder] = []) -> Record:
         self.count += 1
@@ -88,6 +89,7 @@ class Maker:
             hint = "did you mean %s?" % near[0] if near and not later else ""
             raise NotationError(self.file.text, term.span, "%s is not defined%s" % (term.name, later), hint)
         kept = self.through
+        self.used.add(term.name)
         self.inside.append(term.name)
         self.through = kept + (term.span,)
         made = self.record(self.file.definitions[term.name], [])

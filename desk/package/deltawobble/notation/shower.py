@@ -5,7 +5,7 @@ from dataclasses import dataclass, field
 from typing import Optional
 
 from ..naming import names_of
-from ..sheet import Node, Sheet, part_name
+from ..sheet import Node, Own, Sheet, part_name
 from ..types import BIT, Type, written
 
 WIDE = 100
@@ -51,10 +51,17 @@ class Shower:
         lines = []
         for number, t in enumerate(self.sheet.types):
             if t in needed and len(written(t, self.type_names)) > LONG:
-                name = "t%d" % number
+                name = self.sheet.own.types.get(t) or self._fresh(number)
                 lines.append("type %s = %s" % (name, written(t, self.type_names)))
                 self.type_names[t] = name
         return lines + wrapped("table ", [self.type(t) for t in listed])
+
+    def _fresh(self, number: int) -> str:
+        """A type's name that the text has not given to another one."""
+        name, taken = "t%d" % number, set(self.sheet.own.types.values())
+        while name in taken:
+            name += "_"
+        return name
 
     def type(self, t: Optional[Type]) -> str:
         return written(t, self.type_names) if t else "?"
@@ -199,8 +206,19 @@ def canonical(sheet: Sheet) -> list[Type]:
     return list(found)
 
 
-def show(sheet: bytes) -> str:
-    """The text of an accepted sheet. What is refused has no text: Refused."""
+def show(sheet: bytes, own: Optional[Own] = None) -> str:
+    """The text of an accepted sheet, with names of its own where it has some. What is refused has no text: Refused."""
     from ..calls import translate
     translate(sheet)
-    return Shower(Sheet.parse(sheet)).text()
+    text = Shower(Sheet.parse(sheet, own)).text()
+    # a name may stand for two binders where definitions were put into one another: then all are named anew
+    return text if own is None or _makes(text, sheet) else Shower(Sheet.parse(sheet)).text()
+
+
+def _makes(text: str, sheet: bytes) -> bool:
+    from .made import make
+    from .syntax import NotationError
+    try:
+        return make(text).sheet == sheet
+    except NotationError:
+        return False

@@ -1,6 +1,7 @@
 """What a text in the notation says: terms with the stretch of text that each stands in, and errors at a line and column."""
 from __future__ import annotations
 
+import re
 from dataclasses import dataclass, field
 from typing import Optional
 
@@ -44,6 +45,21 @@ class NotationError(WrongUse):
     def __init__(self, text: Text, span: Span, what: str, word: str = ""):
         self.span, self.what = span, what
         super().__init__("\n".join(text.shown(span, what, word)))
+
+    @classmethod
+    def of(cls, lines: list[str]) -> "NotationError":
+        """One whose lines are at hand: the first has the file's name, line and column."""
+        error = cls.__new__(cls)
+        Exception.__init__(error, "\n".join(lines))
+        return error
+
+
+    def as_json(self) -> dict:
+        """File, line and column, what is wrong there, and all lines that are said."""
+        lines = str(self).split("\n")
+        found = re.fullmatch(r"(.*):(\d+):(\d+): (.*)", lines[0])
+        where = {"file": found[1], "line": int(found[2]), "column": int(found[3]), "wrong": found[4]} if found else {"wrong": lines[0]}
+        return {"accepted": None, **where, "lines": lines}
 
 
 @dataclass

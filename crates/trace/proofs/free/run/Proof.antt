@@ -1,10 +1,11 @@
 -- The tests, and then one stage after the other. Assumes nothing.
 use native.Mathlib.Omega.{arith}
 use mathlib.Core.Path.{refl}
-use Prim.Native.Nat.{_-_}
+use Prim.Native.Nat.{_-_, _*_}
 use borrow.Author.Needs.{needs}
 use Rattle.trace_steps.specs.Pins.{inPinCount}
-use Rattle.trace.proofs.FreeLaws.{said-no, said-yes, mul-few, pins₁, ins-few₁, freed-20, freed-17, wake-ready, run-ready, freed-written}
+use Rattle.trace.proofs.FreeLaws.{said-no, said-yes, mul-few, lent-counts, pins₁, ins-few₁, freed-20, freed-17}
+use Rattle.trace.proofs.FlatLaws.{layable, flat-wake-ready, flat-run-ready, flat-written}
 use Rattle.trace.proofs.free.run.Statement.{statement}
 use Rattle.trace.proofs.free.run.Tie as tie
 
@@ -13,7 +14,7 @@ input-pins-requires c κs =
     let s = c .before .before .before .before .before .before .before .before .before in
     let a = s .args in
     let g = c .before .before .before .registers in
-    pins₁ (a .work .now) (a .end) (a .settled) (a .pins) (a .ticks) (a .inputs .now) (a .starts .now) (a .out .now) (s .pre) (g .last .0) (g .result) (g .ensures) (inPinCount (g .last .0) (a .pins)) refl
+    pins₁ (a .work .now) (a .end) (a .settled) (a .pins) (a .ticks) (a .inputs .now) (a .starts .now) (a .out .now) (s .pre .0) (g .last .0) (g .result) (g .ensures) (inPinCount (g .last .0) (a .pins)) refl
 
 sub-outs : tie.Need-sub-outs
 sub-outs c =
@@ -21,7 +22,7 @@ sub-outs c =
     let a = s .args in
     let g = c .before .before .before .before .registers in
     let i = c .input-pins in
-    ins-few₁ (a .work .now) (a .end) (a .settled) (a .pins) (a .ticks) (a .inputs .now) (a .starts .now) (a .out .now) (s .pre) (g .last .0) (g .result) (g .ensures) (i .result) (i .ensures)
+    ins-few₁ (a .work .now) (a .end) (a .settled) (a .pins) (a .ticks) (a .inputs .now) (a .starts .now) (a .out .now) (s .pre .0) (g .last .0) (g .result) (g .ensures) (i .result) (i .ensures)
 
 mul-reads : tie.Need-mul-reads
 mul-reads c =
@@ -29,9 +30,9 @@ mul-reads c =
     let a = s .args in
     let g = c .before .before .before .before .registers in
     let i = c .input-pins in
-    let f = s .pre .pins-low .few in
-    let h = ins-few₁ (a .work .now) (a .end) (a .settled) (a .pins) (a .ticks) (a .inputs .now) (a .starts .now) (a .out .now) (s .pre) (g .last .0) (g .result) (g .ensures) (i .result) (i .ensures) in
-    omega (arith, mul-few (a .ticks) (i .result) (s .pre .short) (omega arith))
+    let f = s .pre .0 .pins-low .few in
+    let h = ins-few₁ (a .work .now) (a .end) (a .settled) (a .pins) (a .ticks) (a .inputs .now) (a .starts .now) (a .out .now) (s .pre .0) (g .last .0) (g .result) (g .ensures) (i .result) (i .ensures) in
+    omega (arith, mul-few (a .ticks) (i .result) (s .pre .0 .short) (omega arith))
 
 mul-writes : tie.Need-mul-writes
 mul-writes c =
@@ -39,30 +40,38 @@ mul-writes c =
     let a = s .args in
     let g = c .before .before .before .before .registers in
     let i = c .input-pins in
-    let f = s .pre .pins-low .few in
-    let h = ins-few₁ (a .work .now) (a .end) (a .settled) (a .pins) (a .ticks) (a .inputs .now) (a .starts .now) (a .out .now) (s .pre) (g .last .0) (g .result) (g .ensures) (i .result) (i .ensures) in
-    omega (arith, mul-few (a .ticks) (a .pins - i .result) (s .pre .short) (omega arith))
+    let f = s .pre .0 .pins-low .few in
+    let h = ins-few₁ (a .work .now) (a .end) (a .settled) (a .pins) (a .ticks) (a .inputs .now) (a .starts .now) (a .out .now) (s .pre .0) (g .last .0) (g .result) (g .ensures) (i .result) (i .ensures) in
+    omega (arith, mul-few (a .ticks) (a .pins - i .result) (s .pre .0 .short) (omega arith))
 
 returns : tie.Need-returns
 returns c =
-    let x = c .before in
-    let s = x .before .before .before .before .before .before .before .before .before .before .before .before in
+    let s = c .before .before .before .before .before .before .before .before .before .before .before .before .before in
     let a = s .args in
-    let g = x .before .before .before .before .before .before .registers in
-    let i = x .before .before .input-pins in
-    let t = x .before .lent in
-    rw (c .refused .ensures) (freed-20 (a .work .now) (a .end) (a .settled) (a .pins) (a .ticks) (a .inputs .now) (a .starts .now) (a .out .now) (s .pre) (g .last .0) (g .result) (g .ensures) (i .result) (i .ensures) (said-no (t .result) (t .ensures) (x .if1 .taken)))
+    let g = c .before .before .before .before .before .before .before .registers in
+    let i = c .before .before .before .input-pins in
+    let t = c .before .before .lent in
+    rw (c .refused .ensures) (freed-20 (a .work .now) (a .end) (a .settled) (a .pins) (a .ticks) (a .inputs .now) (a .starts .now) (a .out .now) (s .pre .0) (g .last .0) (g .result) (g .ensures) (i .result) (i .ensures) (said-no (t .result) (t .ensures) (c .before .if1 .taken)))
 
 returns-2 : tie.Need-returns-2
 returns-2 c =
-    let x = c .before in
-    let s = x .before .before .before .before .before .before .before .before .before .before .before .before .before in
+    let s = c .before .before .before .before .before .before .before .before .before .before .before .before .before .before in
     let a = s .args in
-    let g = x .before .before .before .before .before .before .before .registers in
-    let i = x .before .before .before .input-pins in
-    let t = x .before .before .lent in
-    let e = said-yes (t .result) (t .ensures) (x .before .if1 .left) in
-    rw (c .refused2 .ensures) (freed-17 (a .work .now) (a .end) (a .settled) (a .pins) (a .ticks) (a .inputs .now) (a .starts .now) (a .out .now) (s .pre) (g .last .0) (g .result) (g .ensures) (i .result) (i .ensures) e (x .if2 .taken))
+    let g = c .before .before .before .before .before .before .before .before .registers in
+    let i = c .before .before .before .before .input-pins in
+    let t = c .before .before .before .lent in
+    let e = said-yes (t .result) (t .ensures) (c .before .before .if1 .left) in
+    rw (c .refused2 .ensures) (freed-17 (a .work .now) (a .end) (a .settled) (a .pins) (a .ticks) (a .inputs .now) (a .starts .now) (a .out .now) (s .pre .0) (g .last .0) (g .result) (g .ensures) (i .result) (i .ensures) e (c .before .if2 .taken))
+
+lay-requires : tie.Need-lay-requires
+lay-requires c κs =
+    let s = c .before .before .before .before .before .before .before .before .before .before .before .before .before .before in
+    let a = s .args in
+    let g = c .before .before .before .before .before .before .before .before .registers in
+    let i = c .before .before .before .before .input-pins in
+    let t = c .before .before .before .lent in
+    let e = said-yes (t .result) (t .ensures) (c .before .before .if1 .left) in
+    layable (a .work .now) (a .end) (a .settled) (a .pins) (a .ticks) (a .inputs .now) (a .starts .now) (a .out .now) (s .pre .0) (g .last .0) (g .result) (g .ensures) (i .result) (i .ensures) (s .pre .1 .gates, s .pre .1 .registers (g .last .0) (g .result) (g .ensures))
 
 wake-requires : tie.Need-wake-requires
 wake-requires c κs =
@@ -72,8 +81,8 @@ wake-requires c κs =
     let i = c .before .before .before .before .before .before .before .before .input-pins in
     let t = c .before .before .before .before .before .before .before .lent in
     let e = said-yes (t .result) (t .ensures) (c .before .before .before .before .before .before .if1 .left) in
-    let n = c .before .before .before .begin in
-    wake-ready (a .work .now) (a .end) (a .settled) (a .pins) (a .ticks) (a .inputs .now) (a .starts .now) (a .out .now) (s .pre) (g .last .0) (g .result) (g .ensures) (i .result) (i .ensures) e (c .before .before .before .before .before .if2 .left) (n .last .0) (n .ensures)
+    let d = c .before .before .before .lay in
+    flat-wake-ready (a .work .now) (a .end) (a .settled) (a .pins) (a .ticks) (a .inputs .now) (a .starts .now) (a .out .now) (s .pre .0) (g .last .0) (g .result) (g .ensures) (i .result) (i .ensures) (s .pre .1 .gates, s .pre .1 .registers (g .last .0) (g .result) (g .ensures)) (d .last .0) (d .ensures) (lent-counts (a .inputs .now) (a .starts .now) (a .ticks * i .result) (g .result) e .1)
 
 run-requires : tie.Need-run-requires
 run-requires c κs =
@@ -83,9 +92,9 @@ run-requires c κs =
     let i = c .before .before .before .before .before .before .before .before .before .before .before .before .before .input-pins in
     let t = c .before .before .before .before .before .before .before .before .before .before .before .before .lent in
     let e = said-yes (t .result) (t .ensures) (c .before .before .before .before .before .before .before .before .before .before .before .if1 .left) in
-    let n = c .before .before .before .before .before .before .before .before .begin in
+    let d = c .before .before .before .before .before .before .before .before .lay in
     let k = c .before .before .before .before .wake in
-    run-ready (a .work .now) (a .end) (a .settled) (a .pins) (a .ticks) (a .inputs .now) (a .starts .now) (a .out .now) (s .pre) (g .last .0) (g .result) (g .ensures) (i .result) (i .ensures) e (c .before .before .before .before .before .before .before .before .before .before .if2 .left) (n .last .0) (n .ensures) (k .last .0) (k .ensures)
+    flat-run-ready (a .work .now) (a .end) (a .settled) (a .pins) (a .ticks) (a .inputs .now) (a .starts .now) (a .out .now) (s .pre .0) (g .last .0) (g .result) (g .ensures) (i .result) (i .ensures) (s .pre .1 .gates, s .pre .1 .registers (g .last .0) (g .result) (g .ensures)) (d .last .0) (d .ensures) (k .last .0) (k .ensures) (lent-counts (a .inputs .now) (a .starts .now) (a .ticks * i .result) (g .result) e .0) (c .before .before .before .before .before .before .before .before .before .before .if2 .left)
 
 returns-3 : tie.Need-returns-3
 returns-3 c =
@@ -95,10 +104,12 @@ returns-3 c =
     let i = c .before .before .before .before .before .before .before .before .before .before .before .before .before .before .before .before .before .before .input-pins in
     let t = c .before .before .before .before .before .before .before .before .before .before .before .before .before .before .before .before .before .lent in
     let e = said-yes (t .result) (t .ensures) (c .before .before .before .before .before .before .before .before .before .before .before .before .before .before .before .before .if1 .left) in
-    let n = c .before .before .before .before .before .before .before .before .before .before .before .before .before .begin in
+    let d = c .before .before .before .before .before .before .before .before .before .before .before .before .before .lay in
     let k = c .before .before .before .before .before .before .before .before .before .wake in
     let r = c .before .before .before .before .run in
-    freed-written (a .work .now) (a .end) (a .settled) (a .pins) (a .ticks) (a .inputs .now) (a .starts .now) (a .out .now) (s .pre) (g .last .0) (g .result) (g .ensures) (i .result) (i .ensures) e (c .before .before .before .before .before .before .before .before .before .before .before .before .before .before .before .if2 .left) (n .last .0) (n .ensures) (k .last .0) (k .ensures) (r .last .0) (r .last .1 .1 .0) (r .ensures)
+    let bits = c .before .before .before .before .before .before .before .before .before .before .before .before .before .before .before .before .before .before .before .before .before .before .before .before .before .before .shared-slice-known in
+    let shown = c .before .before .before .before .before .before .before .slice-known5 in
+    flat-written (a .work .now) (a .end) (a .settled) (a .pins) (a .ticks) (a .inputs .now) (a .starts .now) (a .out .now) (s .pre .0) (g .last .0) (g .result) (g .ensures) (i .result) (i .ensures) (s .pre .1 .gates, s .pre .1 .registers (g .last .0) (g .result) (g .ensures)) (d .last .0) (d .ensures) (k .last .0) (k .ensures) e (c .before .before .before .before .before .before .before .before .before .before .before .before .before .before .before .if2 .left) (r .last .0) (r .last .1 .1 .0) (r .ensures) (λ j. omega (arith, bits .given j .fits)) (λ j. shown .given j .fits)
 
 pub run-spec : {M : Type 1} → statement M
 run-spec =
@@ -116,7 +127,7 @@ run-spec =
     (λ c κs. search needs)
     (λ c. search needs)
     returns-2
-    (λ c κs. search needs)
+    lay-requires
     wake-requires
     run-requires
     (λ c. search needs)

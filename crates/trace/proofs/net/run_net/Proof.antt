@@ -4,6 +4,7 @@ use Rattle.calculus.specs.Net.{Net}
 use Rattle.calculus.specs.NetRead.{Known}
 use Rattle.calculus.specs.Record.{All}
 use Rattle.trace.proofs.CallLaws.{rooted-ran}
+use Rattle.trace.specs.Tables.{FewParts}
 use borrow.Author.Needs.{needs}
 use Rattle.trace.proofs.net.run_net.Statement.{statement}
 use Rattle.trace.proofs.net.run_net.Tie as tie
@@ -15,6 +16,7 @@ run-lean-requires c κs =
     let w = r .roots .ensures in (
       record { whole = w .whole; known = subst (λ (m : Net). All Known (m .elements)) (sym (w .net)) (p .1) },
       p .2,
+      subst FewParts (sym (w .net)) (p .3),
     )
 
 returns : tie.Need-returns

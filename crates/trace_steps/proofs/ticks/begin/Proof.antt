@@ -8,13 +8,13 @@ use Rattle.lean.specs.Table.{Within}
 use Rattle.lean.proofs.TableLaws.{within-none, within-then, within-set}
 use Rattle.trace_steps.specs.Map.{bitsAt}
 use Rattle.trace_steps.specs.Turns.{takeTurns}
-use Rattle.trace_steps.specs.Steps.{beginOne}
+use Rattle.trace_steps.specs.Words.{wordBegin}
 use Rattle.trace_steps.proofs.Laws.{turns-next, turns-all}
 use Rattle.trace_steps.proofs.ticks.begin.Statement.{statement}
 use Rattle.trace_steps.proofs.ticks.begin.Tie as tie
 
 abbrev Inv-loop : tie.InvT-loop
-Inv-loop work₀ end x₀ work x = (x ≤ end) × (Within work₀ work × (work ≡ takeTurns beginOne x 0 work₀))
+Inv-loop work₀ end x₀ work x = (x ≤ end) × (Within work₀ work × (work ≡ takeTurns wordBegin x 0 work₀))
 
 abbrev μ-loop : tie.MeasureT-loop
 μ-loop work₀ end x₀ work x = end - x
@@ -22,14 +22,14 @@ abbrev μ-loop : tie.MeasureT-loop
 loop-holds : tie.Need-loop-holds Inv-loop μ-loop
 loop-holds c = (omega arith, (within-none _, refl))
 
-mul-byte : tie.Need-mul-byte Inv-loop μ-loop
-mul-byte c = omega arith
+mul-all : tie.Need-mul-all Inv-loop μ-loop
+mul-all c = omega arith
 
-slice-read-byte : tie.Need-slice-read-byte Inv-loop μ-loop
-slice-read-byte c = let z = c .before .before .loop .inv .1 .0 .size in omega arith
+slice-read-all : tie.Need-slice-read-all Inv-loop μ-loop
+slice-read-all c = let z = c .before .before .loop .inv .1 .0 .size in omega arith
 
-byte-requires : tie.Need-byte-requires Inv-loop μ-loop
-byte-requires c κs = search needs
+all-requires : tie.Need-all-requires Inv-loop μ-loop
+all-requires c κs = search needs
 
 add-work : tie.Need-add-work Inv-loop μ-loop
 add-work c = omega arith
@@ -53,8 +53,8 @@ loop-again c =
     let z = l .inv .1 .0 .size in (
       omega arith,
       (
-        within-then (l .inv .1 .0) (within-set (l .work) (l .x) (c .byte .result) (omega arith)),
-        ap (λ (v : ℕ). set (l .work) (bitsAt + l .x) v) (c .byte .ensures) ∙ turns-next beginOne (l .x) (a .work .now) (l .work) (l .inv .1 .1),
+        within-then (l .inv .1 .0) (within-set (l .work) (l .x) (c .all .result) (omega arith)),
+        ap (λ (v : ℕ). set (l .work) (bitsAt + l .x) v) (c .all .ensures) ∙ turns-next wordBegin (l .x) (a .work .now) (l .work) (l .inv .1 .1),
       ),
     )
 
@@ -65,7 +65,7 @@ returns : tie.Need-returns Inv-loop μ-loop
 returns c =
     let l = c .before .loop in
     let a = c .before .before .before .args in
-    record { within = l .inv .1 .0; whole = turns-all beginOne (l .x) (a .end) (a .work .now) (l .work) (omega arith) (l .inv .1 .1) }
+    record { within = l .inv .1 .0; whole = turns-all wordBegin (l .x) (a .end) (a .work .now) (l .work) (omega arith) (l .inv .1 .1) }
 
 pub begin-spec : {M : Type 1} → statement M
 begin-spec =
@@ -74,9 +74,9 @@ begin-spec =
     Inv-loop
     μ-loop
     loop-holds
-    mul-byte
-    slice-read-byte
-    byte-requires
+    mul-all
+    slice-read-all
+    all-requires
     add-work
     mul-work
     slice-write-work

@@ -5,13 +5,14 @@ use Prim.Native.Nat.{ℕ, _≤_, _-_}
 use Rattle.lean.specs.Table.{Within}
 use Rattle.lean.proofs.TableLaws.{within-none}
 use Rattle.trace_steps.specs.Turns.{takeTurns}
-use Rattle.trace_steps.specs.Steps.{passOne, stepIn, Looks}
+use Rattle.trace_steps.specs.Steps.{Looks}
+use Rattle.trace_steps.specs.Words.{wordPass, wordStep}
 use Rattle.trace_steps.proofs.Laws.{loop-step, pass-within, turns-all, ordered-at}
 use Rattle.trace_steps.proofs.ticks.pass.Statement.{statement}
 use Rattle.trace_steps.proofs.ticks.pass.Tie as tie
 
 abbrev Inv-loop : tie.InvT-loop
-Inv-loop work₀ settled j₀ work j = (j ≤ settled) × (Within work₀ work × (work ≡ takeTurns passOne j 0 work₀))
+Inv-loop work₀ settled j₀ work j = (j ≤ settled) × (Within work₀ work × (work ≡ takeTurns wordPass j 0 work₀))
 
 abbrev μ-loop : tie.MeasureT-loop
 μ-loop work₀ settled j₀ work j = settled - j
@@ -45,8 +46,8 @@ loop-again c =
     let s = c .before .before .before .before .before .before .before .before .before in
     let l = c .before .before .before .before .before .before .before .loop in
     let h = c .before .before .before .before .before .before .loop-test .taken in
-    loop-step passOne (s .args .work .now) (l .work) (c .before .before .step .last .0) (l .j) (s .args .settled) h (l .inv .1 .0) (l .inv .1 .1)
-    (c .before .before .step .ensures ∙ ap (stepIn (l .work)) (c .before .before .before .before .at .ensures)) (pass-within (l .work) (l .j) (ordered-at (l .inv .1 .0) (s .pre) (l .j) h))
+    loop-step wordPass (s .args .work .now) (l .work) (c .before .before .step .last .0) (l .j) (s .args .settled) h (l .inv .1 .0) (l .inv .1 .1)
+    (c .before .before .step .ensures ∙ ap (wordStep (l .work)) (c .before .before .before .before .at .ensures)) (pass-within (l .work) (l .j) (ordered-at (l .inv .1 .0) (s .pre) (l .j) h))
 
 same-length : tie.Need-same-length Inv-loop μ-loop
 same-length c = c .before .loop .inv .1 .0 .size
@@ -55,7 +56,7 @@ returns : tie.Need-returns Inv-loop μ-loop
 returns c =
     let l = c .before .loop in
     let a = c .before .before .before .args in
-    record { within = l .inv .1 .0; whole = turns-all passOne (l .j) (a .settled) (a .work .now) (l .work) (omega arith) (l .inv .1 .1) }
+    record { within = l .inv .1 .0; whole = turns-all wordPass (l .j) (a .settled) (a .work .now) (l .work) (omega arith) (l .inv .1 .1) }
 
 pub pass-spec : {M : Type 1} → statement M
 pass-spec =

@@ -3,6 +3,7 @@ use native.Mathlib.Omega.{arith}
 use mathlib.Core.Path.{_≡_, refl, ap, _∙_, subst}
 use Prim.Native.Nat.{ℕ, _+_, _*_, _-_, _≤_}
 use Rattle.lean.proofs.TableLaws.{within-none}
+use Rattle.trace_steps.specs.Words.{laneZero}
 use Rattle.trace_steps.specs.Ticks.{sizes, Ran}
 use Rattle.trace_steps.proofs.TickLaws.{runs-within, ins-within, outs-within, ran-next, fits-next, next-mul, zero-mul}
 use Rattle.trace_steps.proofs.ticks.run.Statement.{statement}
@@ -10,7 +11,7 @@ use Rattle.trace_steps.proofs.ticks.run.Tie as tie
 
 abbrev Inv-loop : tie.InvT-loop
 Inv-loop work₀ inputs out₀ settled regs pins reads writes ticks from₀ to₀ t₀ work out from to t =
-    (t ≤ ticks) × ((from ≡ t * reads) × ((to ≡ t * writes) × Ran (sizes settled regs pins) inputs reads writes t work₀ out₀ work out))
+    (t ≤ ticks) × ((from ≡ t * reads) × ((to ≡ t * writes) × Ran laneZero (sizes settled regs pins) inputs reads writes t work₀ out₀ work out))
 
 abbrev μ-loop : tie.MeasureT-loop
 μ-loop work₀ inputs out₀ settled regs pins reads writes ticks from₀ to₀ t₀ work out from to t = ticks - t
@@ -76,7 +77,7 @@ loop-again c =
         ap (λ (x : ℕ). x + r) a ∙ next-mul (l .t) r,
         (
           ap (λ (x : ℕ). x + w) d ∙ next-mul (l .t) w,
-          ran-next (sizes (s .args .settled) (s .args .regs) (s .args .pins)) (s .args .inputs .now) r w (l .t) (l .from) (l .to) _ _ _ _ _ _ a d (l .inv .1 .1 .1) (c .before .before .before .before .tick .ensures),
+          ran-next laneZero (sizes (s .args .settled) (s .args .regs) (s .args .pins)) (s .args .inputs .now) r w (l .t) (l .from) (l .to) _ _ _ _ _ _ a d (l .inv .1 .1 .1) (c .before .before .before .before .tick .ensures),
         ),
       ),
     )
@@ -92,7 +93,7 @@ returns c =
     let s = c .before .before .before .before .before in
     let l = c .before .loop in
     let e : l .t ≡ s .args .ticks = omega arith in
-    subst (λ (k : ℕ). Ran (sizes (s .args .settled) (s .args .regs) (s .args .pins)) (s .args .inputs .now) (s .args .reads) (s .args .writes) k (s .args .work .now) (s .args .out .now) (l .work) (l .out)) e (l .inv .1 .1 .1)
+    subst (λ (k : ℕ). Ran laneZero (sizes (s .args .settled) (s .args .regs) (s .args .pins)) (s .args .inputs .now) (s .args .reads) (s .args .writes) k (s .args .work .now) (s .args .out .now) (l .work) (l .out)) e (l .inv .1 .1 .1)
 
 pub run-spec : {M : Type 1} → statement M
 run-spec =

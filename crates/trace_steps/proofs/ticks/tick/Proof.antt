@@ -1,6 +1,7 @@
 -- Each step where the one before left off. Assumes nothing.
 use native.Mathlib.Omega.{arith}
 use Rattle.lean.proofs.TableLaws.{within-then}
+use Rattle.trace_steps.specs.Words.{laneZero}
 use Rattle.trace_steps.proofs.TickLaws.{ordered-within, registers-within, pins-within, outs-within, tick-is}
 use borrow.Author.Needs.{needs}
 use Rattle.trace_steps.proofs.ticks.tick.Statement.{statement}
@@ -38,7 +39,7 @@ same-length-2 c = search needs
 returns : tie.Need-returns
 returns c =
     let a = c .before .before .before .before .before .before .before .before .before .before .before .before .before .before .before .before .before .before .before .before .before .before .before .before .args in
-    tick-is (a .settled) (a .regs) (a .pins) (a .inputs .now) (a .from) (a .to) (a .work .now) (a .out .now) _ _ _ _ _ _ _
+    tick-is laneZero (a .settled) (a .regs) (a .pins) (a .inputs .now) (a .from) (a .to) (a .work .now) (a .out .now) _ _ _ _ _ _ _
     (c .before .before .before .before .before .before .before .before .before .before .before .before .before .before .before .before .before .before .before .load .ensures) (c .before .before .before .before .before .before .before .before .before .before .before .before .before .before .before .pass .ensures) (c .before .before .before .before .before .before .before .before .before .before .store .ensures) (c .before .before .before .before .before .before .hold .ensures) (c .before .before .turn .ensures)
 
 pub tick-spec : {M : Type 1} → statement M

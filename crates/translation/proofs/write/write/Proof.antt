@@ -19,7 +19,7 @@ same-length-2 c = search needs
 returns : tie.Need-returns
 returns c =
     let a = c .before .before .before .before .before .before .before .before .before .before .before .before .args in
-    (check-asked (a .wish .card) (a .sheet .now) _ (a .root) _ (c .before .before .before .before .write-card .result) _ _ _ (c .before .before .before .before .before .before .before .before .if1 .taken) (c .before .before .before .before .before .before .before .records-of .ensures) (c .before .before .before .before .write-card .ensures .0), c .before .before .before .before .write-card .ensures .1)
+    (check-asked (a .wish .card) (a .sheet .now) _ (a .root) _ (c .before .before .before .before .write-card .result) _ _ _ (c .before .before .before .before .before .before .before .before .if1 .taken) (c .before .before .before .before .before .before .before .records-of .ensures .bytes) (c .before .before .before .before .write-card .ensures .0), c .before .before .before .before .write-card .ensures .1)
 
 write-plain-requires : tie.Need-write-plain-requires
 write-plain-requires c κs = search needs

@@ -1,0 +1,9 @@
+pub mod EndLaws
+pub mod LoopLaws
+pub mod StepLaws
+pub mod SkipLaws
+pub mod TypeLaws
+pub mod NameLaws
+pub mod HeadLaws
+pub mod TermLaws
+pub mod ItemLaws

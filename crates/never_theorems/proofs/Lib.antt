@@ -1,0 +1,12 @@
+pub mod Ways
+pub mod Rounds
+pub mod Search
+pub mod Codes
+pub mod States
+pub mod Starts
+pub mod Exact
+pub mod Outcome
+pub mod Main
+pub mod Same
+pub mod Against
+pub mod WorkedAgainst

@@ -1,0 +1,17 @@
+pub mod Answering
+pub mod Closed
+pub mod Growing
+pub mod TypesMean
+pub mod NodesMean
+pub mod TermsMean
+pub mod MeansOne
+pub mod Counting
+pub mod Reading
+pub mod Sorting
+pub mod Treeing
+pub mod Wording
+pub mod Walking
+pub mod Translating
+pub mod TextCircuit
+pub mod TypesMade
+pub mod TermsMade

@@ -1,0 +1,11 @@
+pub mod Passing
+pub mod Refusing
+pub mod WalkExact
+pub mod RuleChains
+pub mod Reading
+pub mod ReadExact
+pub mod OneSheet
+pub mod CallExact
+pub mod Worked
+pub mod CardExact
+pub mod OtherCalls

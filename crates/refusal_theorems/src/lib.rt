@@ -1,0 +1,1 @@
+// Theorems on the refusals, in proofs/; there is no code here.

@@ -1,0 +1,30 @@
+// The lean netlist that stands in the working memory, put in order. What stands where is said in trace_steps/specs/Map.
+use crate::tables;
+use trace_rings::list;
+use trace_rings::ring;
+use trace_steps::order;
+ghost use Rattle.lean.specs.Table.{Leaned};
+ghost use Rattle.trace.specs.Ordering.{PutInOrder};
+
+// The lowest input on a ring that passes through no register; or there is none: the first terminal that no element takes, and how many
+// outputs stand in the order.
+pub enum Ordered {
+    OnRing(usize),
+    Free(usize, usize),
+}
+
+// With its roots, the lean netlist is put in order.
+pub fn put_in_order(work: &mut [u16], elements: usize, wires: usize, pins: usize) -> Ordered
+    requires { ⌜ Leaned (now work) elements wires pins ⌝ }
+    ensures { λ r. ⌜ PutInOrder (now (work .entry)) elements wires pins (now (work .exit)) r ⌝ }
+{
+    let end = tables::make(work, elements, wires, pins);
+    let total = list::list(work, end);
+    order::mark_free(work, end);
+    let left = order::settle(work, total);
+    if left > 0 {
+        let place = ring::lowest(work, left);
+        return Ordered::OnRing(place);
+    }
+    Ordered::Free(end, total)
+}

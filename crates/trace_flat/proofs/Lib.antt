@@ -1,0 +1,12 @@
+pub mod Laws
+pub mod FormLaws
+pub mod ShowLaws
+pub mod CellLaws
+pub mod LayLaws
+pub mod PlaceLaws
+pub mod TurnLaws
+pub mod PinShows
+pub mod RunShows
+pub mod ReadyLaws
+pub mod StartLaws
+pub mod Determined

@@ -1,0 +1,3 @@
+pub mod Flat
+pub mod Shows
+pub mod FlatTicks

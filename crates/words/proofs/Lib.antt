@@ -1,0 +1,4 @@
+pub mod WordLaws
+pub mod TableLaws
+pub mod FoundLaws
+pub mod LexLaws

@@ -1,0 +1,53 @@
+"""The transliteration of the notation's definitions gives every known result that the definitions are proved to give."""
+from __future__ import annotations
+
+import ast
+import re
+import unittest
+
+from .notation_reference import make_by_definition
+from .support import ROOT
+
+TEXT = r'"((?:[^"\\]|\\.)*)"'
+MAKES = re.compile(r"makes " + TEXT + r"\s*\(([^)]*)\[\]\)")
+REFUSES = re.compile(r"refuses " + TEXT + r" (\d+) (\d+)")
+SAMPLES = "crates/notation_calculus/specs/Samples.antt"
+LARGER = ("crates/notation_samples/specs/Limits.antt", "crates/notation_samples/specs/Examples.antt")
+
+
+def written(quoted: str) -> bytes:
+    """The bytes of a text as the definitions' files quote it."""
+    return ast.literal_eval('"' + quoted + '"').encode()
+
+
+def listed(bytes_shown: str) -> bytes:
+    """0x01 ∷ 0x1A ∷ .."""
+    return bytes(int(word, 16) for word in re.findall(r"0x[0-9A-F]{2}", bytes_shown))
+
+
+class KnownResults(unittest.TestCase):
+    def made(self, name: str) -> int:
+        rows = MAKES.findall((ROOT / name).read_text())
+        for text, sheet in rows:
+            answer = make_by_definition(written(text))
+            self.assertEqual(answer[:2], ("made", listed(sheet)), text)
+            self.assertTrue(all(place < len(written(text)) for place in answer[2]), text)
+        return len(rows)
+
+    def refused(self, name: str) -> int:
+        rows = REFUSES.findall((ROOT / name).read_text())
+        for text, number, place in rows:
+            self.assertEqual(make_by_definition(written(text)), ("refused", int(number), int(place)), text)
+        return len(rows)
+
+    def test_short_texts(self) -> None:
+        self.assertGreaterEqual(self.made(SAMPLES), 14)
+        self.assertGreaterEqual(self.refused(SAMPLES), 29)
+
+    def test_larger_texts(self) -> None:
+        self.assertGreaterEqual(sum(map(self.made, LARGER)), 32)
+        self.assertGreaterEqual(sum(map(self.refused, LARGER)), 3)
+
+
+if __name__ == "__main__":
+    unittest.main()
