@@ -11,12 +11,14 @@ import signal
 import subprocess
 import time
 import unittest
+from concurrent.futures import CancelledError
 from pathlib import Path
 from unittest import mock
 
 import deltawobble
 from deltawobble import WrongUse, calls, campaign, cli, jobs, make
 from deltawobble.plan import line_of, read_plan
+from deltawobble.workers import Dask, Lost
 
 from .support import EXAMPLES, ROOT, command
 from .test_commands import DESK, Folder
@@ -300,6 +302,58 @@ class BrokenOff(Planned):
     def test_wrong_words(self):
         for words in (["--jobs", "0"], ["--pages", "-1"], ["--parcel", "0"], ["--tls-key", "x"]):
             self.assertEqual(command("campaign", self.text, "-o", self.path("none"), *words)[0], 2, words)
+
+
+class Forgetful:
+    """A client of Dask as far as a campaign uses it; the results of its first jobs are lost with their workers."""
+
+    def __init__(self, lost: int):
+        self.lost, self.count = lost, 0
+
+    def submit(self, work, parcel, pure):
+        self.count += 1
+        return Settled(self.count, CancelledError() if self.count <= self.lost else work(parcel))
+
+
+class Settled:
+    """A job of that client, which has ended."""
+
+    def __init__(self, key: int, what):
+        self.key, self.what = key, what
+
+    def add_done_callback(self, told):
+        told(self)
+
+    def result(self):
+        if isinstance(self.what, Exception):
+            raise self.what
+        return self.what
+
+
+class LostResults(unittest.TestCase):
+    """Dask says "cancelled" of a result that is lost with its worker before it was fetched."""
+
+    def all_of(self, client: Forgetful, parcels: list[int]) -> list:
+        there = Dask(lambda parcel: [parcel * parcel], client, 2)
+        for parcel in parcels:
+            there.send(parcel)
+        found = []
+        while there.flying:
+            found += there.ended(0.1)
+        return found
+
+    def test_they_are_asked_for_again(self):
+        self.assertEqual(sorted(self.all_of(Forgetful(5), [1, 2, 3, 4])), [(1, [1]), (2, [4]), (3, [9]), (4, [16])])
+
+    def test_but_not_for_ever(self):
+        back = self.all_of(Forgetful(1000), [1, 2])
+        self.assertEqual([(parcel, type(what)) for parcel, what in sorted(back, key=lambda b: b[0])], [(1, Lost), (2, Lost)])
+
+    def test_what_a_worker_raised_is_handed_on(self):
+        there = Dask(lambda parcel: ValueError(parcel), Forgetful(0), 2)
+        there.send(7)
+        (parcel, what), = there.ended(0.1)
+        self.assertEqual((parcel, str(what)), (7, "7"))
 
 
 def kill_a_child(pid: int, parts: Path) -> bool:

@@ -142,7 +142,15 @@ def _serve(work: Work, pipe: connection.Connection, others: list[connection.Conn
 class Dask:
     """The workers of a scheduler, each with a deltawobble of its own."""
 
-    def __init__(self, work: Work, address: str, ca: Optional[str] = None, cert: Optional[str] = None, key: Optional[str] = None):
+    def __init__(self, work: Work, client: Any, window: int):
+        self.work, self.client, self.window = work, client, window
+        self.settled: SimpleQueue = SimpleQueue()
+        self.lost = 0
+        self.flying: dict[Any, tuple[Any, Any]] = {}
+
+    @classmethod
+    def at(cls, work: Work, address: str, ca: Optional[str] = None, cert: Optional[str] = None, key: Optional[str] = None) -> Dask:
+        """The workers of the scheduler at an address."""
         try:
             from distributed import Client
             from distributed.security import Security
@@ -154,12 +162,10 @@ class Dask:
             raise WrongUse("%s: tls:// goes with --tls-ca-file, --tls-cert and --tls-key" % address)
         security = Security(require_encryption=True, **words) if any(words.values()) else None
         try:
-            self.client = Client(address, security=security, timeout=10, set_as_default=False)
+            client = Client(address, security=security, timeout=10, set_as_default=False)
         except (OSError, ValueError, TypeError) as error:
             raise WrongUse("%s: no scheduler answers there (%s)" % (address, str(error).split("\n")[0])) from None
-        self.work, self.settled, self.lost = work, SimpleQueue(), 0
-        self.window = 2 * AHEAD * max(sum(self.client.nthreads().values()), 1)
-        self.flying: dict[str, tuple[Any, Any]] = {}
+        return cls(work, client, 2 * AHEAD * max(sum(client.nthreads().values()), 1))
 
     def send(self, parcel: Any) -> None:
         future = self.client.submit(self.work, parcel, pure=False)

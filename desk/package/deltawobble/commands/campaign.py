@@ -70,7 +70,7 @@ def run(given: argparse.Namespace) -> int:
 
 def workers_of(given: argparse.Namespace) -> Workers:
     if given.scheduler:
-        return Dask(done, given.scheduler, given.tls_ca_file, given.tls_cert, given.tls_key)
+        return Dask.at(done, given.scheduler, given.tls_ca_file, given.tls_cert, given.tls_key)
     if given.tls_ca_file or given.tls_cert or given.tls_key:
         raise WrongUse("--tls-ca-file, --tls-cert and --tls-key go with --scheduler")
     return Local(done, given.jobs or cores())
