@@ -1,5 +1,5 @@
 -- What a call answers, by what its stages found. Assumes nothing.
-use Prim.Native.Nat.{ℕ, _<_, _≤_}
+use Prim.Native.Nat.{ℕ, _*_, _<_, _≤_}
 use mathlib.Core.Path.{_≡_, refl, sym, ap, subst, _∙_}
 use mathlib.Core.Bool.{Bool, true, false}
 use mathlib.Core.List.{List}
@@ -21,14 +21,14 @@ use Rattle.foreign.specs.declared.Verdict.the-variants as verdict
 use Rattle.back_theorems.specs.Back.{gates, openIns, backSheet}
 use Rattle.back_theorems.specs.Returned.{noPoint, within, returned, backAnswer, backCall}
 use Rattle.back_theorems.proofs.Main.{accepts-read, parts-of}
-use Rattle.back.specs.Gates.{netHere, AcceptedNet, OfParts, partsOr25}
+use Rattle.back.specs.Gates.{netHere, AcceptedNet, OfParts, PartsTo, partsOr25}
 use Rattle.translator.specs.Said.{inRoom, AnswerSays, called, refusedAs}
 use Rattle.translator.specs.declared.Answer as code
 use Rattle.back.specs.Said.{saidParts}
 use Rattle.back.specs.Answered.{limitAnswer, netAnswer}
 use Rattle.back.specs.declared.gates.Parts.{Parts}
 use Rattle.back.specs.declared.gates.Parts.the-variants as parts
-use Rattle.back.proofs.GateLaws.{here-is}
+use Rattle.back.proofs.GateLaws.{parts-to, here-is}
 
 -- ---- 26
 
@@ -73,25 +73,29 @@ module _ (s : List ℕ) (a : AcceptedNet s) (p : Parts) (e : saidParts p ≡ par
   unfolding netAnswer
   says-25 out at q = by (noPoint (netHere s .elements) 0) (sym (ap saidParts q) ∙ e)
     where
-      by : (x : Answer (Unit {0})) → refuse 25 at ≡ (x >>= λ _. good (length (netHere s .elements))) → AnswerSays (refusedAs 25 at) out out (x >>= λ _. limitAnswer (netHere s) (length out))
+      by : (x : Answer (Unit {0})) → refuse 25 at ≡ (x >>= λ _. good (parts-to (length (netHere s .elements)))) → AnswerSays (refusedAs 25 at) out out (x >>= λ _. limitAnswer (netHere s) (length out))
       by (good u) z = absurd (refused≢good z)
       by (refused why) z = rw (← refused-inj z) (record { said = refl; wrote = refl })
 
-  no-point-here : (n : ℕ) → p ≡ parts.All n → (noPoint (netHere s .elements) 0 ≡ good tt) × (n ≡ length (netHere s .elements))
-  no-point-here n q = by (noPoint (netHere s .elements) 0) (sym (ap saidParts q) ∙ e)
+  no-point-here : (n w : ℕ) → p ≡ parts.All n w → (noPoint (netHere s .elements) 0 ≡ good tt) × (n ≡ length (netHere s .elements)) × (w ≡ 4 * n)
+  no-point-here n w q = by (noPoint (netHere s .elements) 0) (sym (ap saidParts q) ∙ e)
     where
-      by : (x : Answer (Unit {0})) → good n ≡ (x >>= λ _. good (length (netHere s .elements))) → (x ≡ good tt) × (n ≡ length (netHere s .elements))
-      by (good u) z = (refl, good-inj z)
+      by : (x : Answer (Unit {0})) → good (record { parts = n; wires = w }) ≡ (x >>= λ _. good (parts-to (length (netHere s .elements)))) → (x ≡ good tt) × (n ≡ length (netHere s .elements)) × (w ≡ 4 * n)
+      by (good u) z =
+          let k = good-inj z in
+          let m : n ≡ length (netHere s .elements) = ap (λ (y : PartsTo). y .parts) k in
+          (refl, m, ap (λ (y : PartsTo). y .wires) k ∙ ap (λ (y : ℕ). 4 * y) (sym m))
       by (refused why) z = absurd (refused≢good (sym z))
 
-  pub parts-here : (n : ℕ) → p ≡ parts.All n → OfParts s n
-  parts-here n q =
+  pub parts-here : (n w : ℕ) → p ≡ parts.All n w → OfParts s n × (w ≡ 4 * n)
+  parts-here n w q =
       let k : All Known (netHere s .elements) = subst (λ (m : Net). All Known (m .elements)) (sym (here-is s a)) (a .accepts .known) in
-      record { accepted = a; parts = parts-of (netHere s .elements) 0 k (no-point-here n q .0); count = no-point-here n q .1 }
+      let z = no-point-here n w q in
+      (record { accepted = a; parts = parts-of (netHere s .elements) 0 k (z .0); count = z .1 }, z .2)
 
-  pub says-parts : (n : ℕ) → p ≡ parts.All n → (r : code.Answer) (out after : List ℕ) → AnswerSays r out after (limitAnswer (netHere s) (length out)) → AnswerSays r out after (netAnswer (netHere s) (length out))
+  pub says-parts : (n w : ℕ) → p ≡ parts.All n w → (r : code.Answer) (out after : List ℕ) → AnswerSays r out after (limitAnswer (netHere s) (length out)) → AnswerSays r out after (netAnswer (netHere s) (length out))
   unfolding netAnswer
-  says-parts n q r out after w = rw (no-point-here n q .0) w
+  says-parts n w q r out after z = rw (no-point-here n w q .0) z
 
 -- ---- the call
 

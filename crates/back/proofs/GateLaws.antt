@@ -18,7 +18,9 @@ use Rattle.foreign_theorems.proofs.Standing.{item-inj}
 use Rattle.back_theorems.specs.Returned.{noPoint}
 use Rattle.back_theorems.specs.Promises.{PartOnly}
 use Rattle.back_theorems.proofs.Main.{accepts-read}
-use Rattle.back.specs.Gates.{orNone, netHere, AcceptedNet, OfParts, partsOr25, partsEnd}
+use Rattle.back.specs.Said.{SaidGate}
+use Rattle.back.specs.declared.gates.Gate.{Gate}
+use Rattle.back.specs.Gates.{orNone, netHere, AcceptedNet, OfParts, PartsTo, partsOr25, partsEnd}
 
 -- ---- the netlist that stands in the bytes
 
@@ -93,6 +95,10 @@ module _ (s : List ℕ) (at : ℕ) where
 
 -- ---- the parts, until a point or the end
 
+-- n parts, and the offset behind them
+abbrev pub parts-to : ℕ → PartsTo
+parts-to n = record { parts = n; wires = 4 * n }
+
 pub record PartsLeft (s : List ℕ) (n : ℕ) : Type 0 where
   pub left : List Element
   pub here : drop (4 * n) s ≡ elementBytes left ++ (wireBytes (netHere s .wires) ++ pinBytes (netHere s .pins))
@@ -129,24 +135,24 @@ module _ (s : List ℕ) (a : AcceptedNet s) (n : ℕ) where
   pub parts-done : PartsLeft s n → NotPart (itemAt s (4 * n)) → partsEnd (itemAt s (4 * n)) n (4 * n) ≡ partsOr25 (netHere s .elements)
   parts-done l v = by (l .left) (l .here) (l .fits) (l .count) (l .same)
     where
-      ends : (f : Front) → NotElement f → n ≡ length (netHere s .elements) → partsEnd f n (4 * n) ≡ good (length (netHere s .elements))
+      ends : (f : Front) → NotElement f → n ≡ length (netHere s .elements) → partsEnd f n (4 * n) ≡ good (parts-to (length (netHere s .elements)))
       ends (item (element e)) x c = absurd x
-      ends (item (wire w)) x c = ap good c
-      ends (item (pin t)) x c = ap good c
-      ends ended x c = ap good c
-      ends broken x c = ap good c
+      ends (item (wire w)) x c = ap (λ (k : ℕ). good (parts-to k)) c
+      ends (item (pin t)) x c = ap (λ (k : ℕ). good (parts-to k)) c
+      ends ended x c = ap (λ (k : ℕ). good (parts-to k)) c
+      ends broken x c = ap (λ (k : ℕ). good (parts-to k)) c
 
       by : (left : List Element) → drop (4 * n) s ≡ elementBytes left ++ (wireBytes (netHere s .wires) ++ pinBytes (netHere s .pins)) → All Fits (map element left) → n + length left ≡ length (netHere s .elements)
           → noPoint left (4 * n) ≡ noPoint (netHere s .elements) 0 → partsEnd (itemAt s (4 * n)) n (4 * n) ≡ partsOr25 (netHere s .elements)
       by [] h f c z =
           ends (itemAt s (4 * n)) (tail-front s (4 * n) (netHere s .wires) (netHere s .pins) (wire-fits s a) (pin-fits s a) h) (let d : n + 0 ≡ length (netHere s .elements) = c in omega arith)
-          ∙ ap (λ (x : Answer (Unit {0})). x >>= λ _. good (length (netHere s .elements))) z
+          ∙ ap (λ (x : Answer (Unit {0})). x >>= λ _. good (parts-to (length (netHere s .elements)))) z
       by (point j ∷ left) h f c z =
           ap (λ (x : Front). partsEnd x n (4 * n)) (item-here s _ (4 * n) (element (point j)) (f .0) (h ∙ append-assoc (itemBytes (element (point j))) (elementBytes left) _))
-          ∙ ap (λ (x : Answer (Unit {0})). x >>= λ _. good (length (netHere s .elements))) z
+          ∙ ap (λ (x : Answer (Unit {0})). x >>= λ _. good (parts-to (length (netHere s .elements)))) z
       by (part q j ∷ left) h f c z = absurd (subst NotPart (item-here s _ (4 * n) (element (part q j)) (f .0) (h ∙ append-assoc (itemBytes (element (part q j))) (elementBytes left) _)) v)
 
-  pub parts-ended : PartsLeft s n → length s ≤ 4 * n → good n ≡ partsOr25 (netHere s .elements)
+  pub parts-ended : PartsLeft s n → length s ≤ 4 * n → good (parts-to n) ≡ partsOr25 (netHere s .elements)
   parts-ended l h =
       let e = ends-here s (4 * n) h in
       sym (ap (λ (x : Front). partsEnd x n (4 * n)) e) ∙ parts-done l (rw e tt)
@@ -173,6 +179,13 @@ part-at-place s n r o h =
     let z : 0 + 4 * r ≡ 4 * r = omega arith in
     let c = o .count in
     rw z at (part-here (netHere s .elements) s _ 0 r (o .parts) (element-fits s a) (laid-out s a) (omega arith))
+
+-- the part that was found there, and the offset of the next one
+pub gate-place : (s : List ℕ) (n r at : ℕ) → OfParts s n → r < n → at ≡ 4 * r → (g : Gate) → SaidGate g s at → (part (g .part) (g .first) ≡ getD (netHere s .elements) r (point 0)) × (g .past ≡ 4 * (r + 1))
+gate-place s n r at o h e g f = (element-inj (f .found-is ∙ ap (itemAt s) e ∙ part-at-place s n r o h .0), omega (arith, f .past-is))
+  where
+    element-inj : {x y : Element} → item (element x) ≡ item (element y) → x ≡ y
+    element-inj q = cc
 
 -- what stands there is a part
 pub part-known : (s : List ℕ) (n r : ℕ) → OfParts s n → r < n → NotPart (itemAt s (4 * r)) → ⊥

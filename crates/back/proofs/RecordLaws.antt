@@ -1,10 +1,7 @@
 -- A record that is no part, and one that is no wire. Assumes nothing.
-use mathlib.Core.Path.{_≡_}
 use mathlib.Core.List.{[], _∷_}
 use denote.Enum.Declared.{tagOf}
 use types.Run.{OneOf, miss}
-use Rattle.calculus.specs.Net.{Element, element}
-use Rattle.calculus.specs.NetRead.{item}
 use Rattle.net_reader.specs.Said.{saidRecord}
 use Rattle.net_reader.specs.declared.Record.{Record}
 use Rattle.net_reader.specs.declared.Record.the-variants as rec
@@ -26,6 +23,3 @@ no-wire (rec.Wire from to) o = absurd (miss (0 ∷ 1 ∷ 3 ∷ 4 ∷ 5 ∷ []) 2
 no-wire (rec.Pin t) o = tt
 no-wire rec.End o = tt
 no-wire rec.Broken o = tt
-
-pub element-inj : {x y : Element} → item (element x) ≡ item (element y) → x ≡ y
-element-inj e = cc

@@ -1,5 +1,5 @@
 -- What a caller knows of the bytes of a netlist that was checked (document 02, L11). Assumes nothing.
-use Prim.Native.Nat.{ℕ, _+_, _<_, _≤_}
+use Prim.Native.Nat.{ℕ, _+_, _*_, _<_, _≤_}
 use mathlib.Core.Path.{_≡_}
 use mathlib.Core.Bool.{Bool}
 use mathlib.Core.List.{List, [], _∷_}
@@ -33,26 +33,39 @@ pub record OfParts (s : List ℕ) (n : ℕ) : Type 0 where
   pub parts : All PartOnly (netHere s .elements)
   pub count : n ≡ length (netHere s .elements)
 
--- .. one of them at place r
-pub record PartHere (s : List ℕ) (r : ℕ) : Type 0 where
+-- .. one of them, at place r among them, stands at an offset: a part's record has four bytes
+pub record PartHere (s : List ℕ) (at : ℕ) : Type 0 where
   pub n : ℕ
+  pub r : ℕ
   pub of : OfParts s n
   pub low : r < n
+  pub there : at ≡ 4 * r
+
+-- .. and behind all of them the wires begin
+pub record WiresHere (s : List ℕ) (at : ℕ) : Type 0 where
+  pub n : ℕ
+  pub of : OfParts s n
+  pub there : at ≡ 4 * n
+
+-- so many parts, and the offset behind them
+pub record PartsTo : Type 0 where
+  pub parts : ℕ
+  pub wires : ℕ
 
 -- the parts, or 25 for the first point
-abbrev pub partsOr25 : List Element → Answer ℕ
+abbrev pub partsOr25 : List Element → Answer PartsTo
 partsOr25 es = do
   _ ← noPoint es 0
-  good (length es)
+  good (record { parts = length es; wires = 4 * length es })
 
 -- what stands behind n parts, at an offset, ends them
-abbrev pub partsEnd : Front → ℕ → ℕ → Answer ℕ
+abbrev pub partsEnd : Front → ℕ → ℕ → Answer PartsTo
 partsEnd (item (element (point i))) n at = refuse 25 at
-partsEnd (item (element (part p i))) n at = good n
-partsEnd (item (wire w)) n at = good n
-partsEnd (item (pin t)) n at = good n
-partsEnd ended n at = good n
-partsEnd broken n at = good n
+partsEnd (item (element (part p i))) n at = good (record { parts = n; wires = at })
+partsEnd (item (wire w)) n at = good (record { parts = n; wires = at })
+partsEnd (item (pin t)) n at = good (record { parts = n; wires = at })
+partsEnd ended n at = good (record { parts = n; wires = at })
+partsEnd broken n at = good (record { parts = n; wires = at })
 
 -- the inputs of all elements
 abbrev pub inputTotal : List Element → ℕ

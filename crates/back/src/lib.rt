@@ -7,6 +7,7 @@ use gates::Counts;
 use gates::Parts;
 use translator::Answer;
 ghost use mathlib.Core.Path.{_≡_};
+ghost use Prim.Native.Nat.{_*_};
 ghost use lib.ListN.{length};
 ghost use Rattle.back_theorems.specs.Back.{backSheet};
 ghost use Rattle.back_theorems.specs.Returned.{backCall};
@@ -15,8 +16,8 @@ ghost use Rattle.translator.specs.Said.{inRoom, AnswerSays, called};
 ghost use Rattle.back.specs.Answered.{limitAnswer, netAnswer};
 
 // 17 where the output is shorter than the sheet; else the sheet is written.
-fn fitted(net: &[u8], out: &mut [u8], parts: usize, counts: Counts) -> Answer
-    requires { ⌜ Limited (now net) parts (counts .undriven) × CountedNet (now net) (counts .undriven) (counts .inputs) ⌝ }
+fn fitted(net: &[u8], out: &mut [u8], parts: usize, wires: usize, counts: Counts) -> Answer
+    requires { ⌜ Limited (now net) parts (counts .undriven) × CountedNet (now net) (counts .undriven) (counts .inputs) × (wires ≡ 4 * parts) ⌝ }
     ensures { λ r. ⌜ AnswerSays r (now (out .entry)) (now (out .exit)) (inRoom (backSheet (netHere (now (net .entry)))) (length (now (out .entry)))) ⌝ }
 {
     let undriven = counts.undriven;
@@ -24,13 +25,13 @@ fn fitted(net: &[u8], out: &mut [u8], parts: usize, counts: Counts) -> Answer
     if out.len() < n {
         return translator::refused(17, n);
     }
-    write::sheet(net, out, parts, undriven);
+    write::sheet(net, out, parts, wires, undriven);
     Answer::Written(n)
 }
 
 // 26 where there are too few or too many parts, or too many undriven inputs.
-fn limited(net: &[u8], out: &mut [u8], parts: usize) -> Answer
-    requires { ⌜ OfParts (now net) parts ⌝ }
+fn limited(net: &[u8], out: &mut [u8], parts: usize, wires: usize) -> Answer
+    requires { ⌜ OfParts (now net) parts × (wires ≡ 4 * parts) ⌝ }
     ensures { λ r. ⌜ AnswerSays r (now (out .entry)) (now (out .exit)) (limitAnswer (netHere (now (net .entry))) (length (now (out .entry)))) ⌝ }
 {
     if parts == 0 {
@@ -39,11 +40,11 @@ fn limited(net: &[u8], out: &mut [u8], parts: usize) -> Answer
     if 16 < parts {
         return translator::refused(26, 0);
     }
-    let counts = gates::count_inputs(net, parts);
+    let counts = gates::count_inputs(net, parts, wires);
     if 24 < counts.undriven {
         return translator::refused(26, 0);
     }
-    fitted(net, out, parts, counts)
+    fitted(net, out, parts, wires, counts)
 }
 
 // Of a netlist that has been checked: 25 for a point, then 26, then 17.
@@ -53,7 +54,7 @@ fn returned(net: &[u8], out: &mut [u8]) -> Answer
 {
     match gates::count_parts(net) {
         Parts::Point(at) => translator::refused(25, at),
-        Parts::All(n) => limited(net, out, n),
+        Parts::All(n, wires) => limited(net, out, n, wires),
     }
 }
 

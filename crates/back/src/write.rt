@@ -12,10 +12,11 @@ ghost use Rattle.back.specs.Gates.{netHere};
 ghost use Rattle.back.specs.Rows.{rowsUpTo, productRow, arrowRow, functionRow, projectionRow, applicationRow, pairRow, headRow, sourceRows, gateRow, gateOf, arrowLength, sheetLength};
 ghost use Rattle.back.specs.Room.{SourceRoom, SourcesRoom, PartRoom, PartsRoom, SheetRoom};
 
-// Past what was written, and the undriven inputs so far.
+// Past what was written, the undriven inputs so far, and where the next part stands in the netlist.
 struct Next {
     at: usize,
     before: usize,
+    gate: usize,
 }
 
 // The bytes of the arrows. One part has at most two undriven inputs, and their arrows are among the first three types.
@@ -159,14 +160,15 @@ fn put_source(
     at: usize,
     i: usize,
     parts: usize,
+    wires: usize,
     undriven: usize,
     before: usize,
 ) -> usize
-    requires { ⌜ SourceRoom (now net) (length (now out)) at parts undriven before ⌝ }
+    requires { ⌜ SourceRoom (now net) (length (now out)) at parts wires undriven before ⌝ }
     ensures { λ r. ⌜ (r ≡ before + undrivens (sources (netHere (now (net .entry))) 1 i before))
         × (now (out .exit) ≡ sets (now (out .entry)) at (sourceRows undriven (parts - 1) (sources (netHere (now (net .entry))) 1 i before))) ⌝ }
 {
-    let d = gates::driver(net, parts, i);
+    let d = gates::driver(net, wires, i);
     if d == memory::NONE {
         put_two(out, at, 0x11, open_binder(parts, undriven, before));
         return before + 1;
@@ -184,21 +186,22 @@ fn put_sources(
     first: usize,
     inputs: usize,
     parts: usize,
+    wires: usize,
     undriven: usize,
     before: usize,
 ) -> usize
-    requires { ⌜ SourcesRoom (now net) (length (now out)) at first inputs parts undriven before ⌝ }
+    requires { ⌜ SourcesRoom (now net) (length (now out)) at first inputs parts wires undriven before ⌝ }
     ensures { λ r. ⌜ (r ≡ before + undrivens (sources (netHere (now (net .entry))) inputs first before))
         × (now (out .exit) ≡ sets (now (out .entry)) at (sourceRows undriven (parts - 1) (sources (netHere (now (net .entry))) inputs first before))) ⌝ }
 {
     if inputs == 0 {
         return before;
     }
-    let one = put_source(net, out, at, first, parts, undriven, before);
+    let one = put_source(net, out, at, first, parts, wires, undriven, before);
     if inputs == 1 {
         return one;
     }
-    put_source(net, out, at + 2, first + 1, parts, undriven, one)
+    put_source(net, out, at + 2, first + 1, parts, wires, undriven, one)
 }
 
 // A pair, where more than one part is left; past it.
@@ -235,24 +238,25 @@ fn put_head(out: &mut [u8], at: usize, part: u8, inputs: usize) -> usize
     at + inputs + 3
 }
 
-// The part at a place, applied to its drivers.
+// The part at a place, applied to its drivers: its record stands at `here.gate`, and it is written from `here.at` on.
 fn put_part(
     net: &[u8],
     out: &mut [u8],
-    at: usize,
+    here: Next,
     r: usize,
     parts: usize,
+    wires: usize,
     undriven: usize,
-    before: usize,
 ) -> Next
-    requires { ⌜ PartRoom (now net) (length (now out)) at r parts undriven before ⌝ }
-    ensures { λ n. ⌜ (n .at ≡ at + length (gateRow undriven (parts - 1) (parts - r) (gateOf (netHere (now (net .entry))) (getD (netHere (now (net .entry)) .elements) r (point 0)) before)))
-        × (n .before ≡ before + undrivens (gateOf (netHere (now (net .entry))) (getD (netHere (now (net .entry)) .elements) r (point 0)) before .ins))
-        × (now (out .exit) ≡ sets (now (out .entry)) at (gateRow undriven (parts - 1) (parts - r) (gateOf (netHere (now (net .entry))) (getD (netHere (now (net .entry)) .elements) r (point 0)) before))) ⌝ }
+    requires { ⌜ PartRoom (now net) (length (now out)) (here .at) (here .gate) r parts wires undriven (here .before) ⌝ }
+    ensures { λ n. ⌜ (n .at ≡ here .at + length (gateRow undriven (parts - 1) (parts - r) (gateOf (netHere (now (net .entry))) (getD (netHere (now (net .entry)) .elements) r (point 0)) (here .before))))
+        × (n .before ≡ here .before + undrivens (gateOf (netHere (now (net .entry))) (getD (netHere (now (net .entry)) .elements) r (point 0)) (here .before) .ins))
+        × (n .gate ≡ here .gate + 4)
+        × (now (out .exit) ≡ sets (now (out .entry)) (here .at) (gateRow undriven (parts - 1) (parts - r) (gateOf (netHere (now (net .entry))) (getD (netHere (now (net .entry)) .elements) r (point 0)) (here .before)))) ⌝ }
 {
-    let g = gates::gate_at(net, r);
+    let g = gates::gate_at(net, here.gate);
     let inputs = netlist::inputs_of(g.part) as usize;
-    let head = put_pair(out, at, parts - r);
+    let head = put_pair(out, here.at, parts - r);
     let mid = put_head(out, head, g.part, inputs);
     let then = put_sources(
         net,
@@ -261,34 +265,38 @@ fn put_part(
         g.first as usize,
         inputs,
         parts,
+        wires,
         undriven,
-        before,
+        here.before,
     );
+    let end = mid + 2 * inputs;
     Next {
-        at: mid + 2 * inputs,
+        at: end,
         before: then,
+        gate: g.past,
     }
 }
 
 // All parts, as pairs nested to the right.
-fn put_parts(net: &[u8], out: &mut [u8], from: usize, parts: usize, undriven: usize)
-    requires { ⌜ PartsRoom (now net) (length (now out)) from parts undriven ⌝ }
+fn put_parts(net: &[u8], out: &mut [u8], from: usize, parts: usize, wires: usize, undriven: usize)
+    requires { ⌜ PartsRoom (now net) (length (now out)) from parts wires undriven ⌝ }
     ensures { λ _. ⌜ now (out .exit) ≡ sets (now (out .entry)) from (termBytes (tupleTerm undriven (parts - 1) (gatesOf (netHere (now (net .entry)))))) ⌝ }
 {
     let mut next = Next {
         at: from,
         before: 0,
+        gate: 0,
     };
     let mut r: usize = 0;
     while r < parts {
-        next = put_part(net, out, next.at, r, parts, undriven, next.before);
+        next = put_part(net, out, next, r, parts, wires, undriven);
         r = r + 1;
     }
 }
 
 // The whole sheet, from the start of the output.
-pub fn sheet(net: &[u8], out: &mut [u8], parts: usize, undriven: usize)
-    requires { ⌜ SheetRoom (now net) (length (now out)) parts undriven ⌝ }
+pub fn sheet(net: &[u8], out: &mut [u8], parts: usize, wires: usize, undriven: usize)
+    requires { ⌜ SheetRoom (now net) (length (now out)) parts wires undriven ⌝ }
     ensures { λ _. ⌜ now (out .exit) ≡ sets (now (out .entry)) 0 (backSheet (netHere (now (net .entry)))) ⌝ }
 {
     let q = parts - 1;
@@ -298,5 +306,5 @@ pub fn sheet(net: &[u8], out: &mut [u8], parts: usize, undriven: usize)
     let at = functions + 2 * undriven;
     put_two(out, at, 0x19, whole as u8);
     put_projections(out, at + 2, q);
-    put_parts(net, out, at + 2 + 3 * q, parts, undriven);
+    put_parts(net, out, at + 2 + 3 * q, parts, wires, undriven);
 }

@@ -14,8 +14,8 @@ use Rattle.foreign_theorems.proofs.Standing.{Stood, item-stood, ended-stood}
 use Rattle.circuit_theorems.proofs.NetRead.{item-some, ends-here}
 use Rattle.foreign_theorems.specs.Refused.{ReadAs}
 use Rattle.foreign_theorems.proofs.Sound.{read-more, read-none, more-taken}
-use Rattle.net_reader.specs.Said.{saidRecord, frontSize}
-use Rattle.net_reader.specs.declared.Record.{Record}
+use Rattle.net_reader.specs.Said.{saidRecord, frontSize, SaidStep}
+use Rattle.net_reader.specs.declared.Step.{Step}
 use Rattle.foreign.specs.Table.{cellOf, TableHolds, LaterKept, TableClear}
 use Rattle.foreign.specs.Take.{Took, next, wrong, saidTaken, took}
 use Rattle.foreign.specs.Walk.{Gone, on, off, saidWent, goneTo}
@@ -28,12 +28,15 @@ use Rattle.foreign.proofs.SimLaws.{Matches, sim, keeps-same}
 
 -- ---- one record
 
-module _ (x : Record) (f : Front) (lean : Bool) (stage n at : ℕ) (t : Taken) (w v : List ℕ) (e : saidRecord x ≡ f) (h : saidTaken t v ≡ took lean stage n (saidRecord x) w) where
-  pub one-on : (s : State) (k : ℕ) → t ≡ taken.Next s → k ≡ frontSize (saidRecord x) → on (s .stage) (s .next) (at + k) v ≡ goneTo (took lean stage n f w) (at + frontSize f)
-  one-on s k g q = ap₂ goneTo (ap (λ (y : Taken). saidTaken y v) (sym g) ∙ h ∙ ap (λ (y : Front). took lean stage n y w) e) (ap (λ (y : ℕ). at + y) (q ∙ ap frontSize e))
+module _ (x : Step) (s : List ℕ) (lean : Bool) (stage n at : ℕ) (t : Taken) (w v : List ℕ) (e : SaidStep x s at) (h : saidTaken t v ≡ took lean stage n (saidRecord (x .found)) w) where
+  took-there : {y : Taken} → t ≡ y → saidTaken y v ≡ took lean stage n (itemAt s at) w
+  took-there g = ap (λ (z : Taken). saidTaken z v) (sym g) ∙ h ∙ ap (λ (z : Front). took lean stage n z w) (e .found-is)
 
-  pub one-off : (k : ℕ) → t ≡ taken.Refused k → off k v ≡ goneTo (took lean stage n f w) (at + frontSize f)
-  one-off k g = ap (λ (y : Took). goneTo y (at + frontSize f)) (ap (λ (y : Taken). saidTaken y v) (sym g) ∙ h ∙ ap (λ (y : Front). took lean stage n y w) e)
+  pub one-on : (u : State) → t ≡ taken.Next u → on (u .stage) (u .next) (x .past) v ≡ goneTo (took lean stage n (itemAt s at) w) (at + frontSize (itemAt s at))
+  one-on u g = ap₂ goneTo (took-there g) (e .past-is)
+
+  pub one-off : (k : ℕ) → t ≡ taken.Refused k → off k v ≡ goneTo (took lean stage n (itemAt s at) w) (at + frontSize (itemAt s at))
+  one-off k g = ap (λ (y : Took). goneTo y (at + frontSize (itemAt s at))) (took-there g)
 
 -- ---- all records
 
@@ -47,7 +50,6 @@ pub record WalkGoing (lean : Bool) (s w₀ w : List ℕ) (stage n at : ℕ) : Ty
   pub holds : TableHolds w (reading .net)
   pub keeps : LaterKept w₀ w
   pub enough : length s ≤ at + left
-  pub within : at ≤ length s
   pub rest : readOn left lean s at reading ≡ readOn (length s) lean s 0 begin
 
 pub going-first : (lean : Bool) (s w : List ℕ) → TableClear w → WalkGoing lean s w w 0 0 0
@@ -61,7 +63,6 @@ going-first lean s w c = record {
   holds = c .zeros;
   keeps = keeps-same w;
   enough = omega arith;
-  within = omega arith;
   rest = refl;
 }
 
@@ -97,7 +98,6 @@ module _ (lean : Bool) (s w₀ w : List ℕ) (b : Bytes s) (size : memorySize �
       holds = m .2;
       keeps = keeps-on w₀ w v (g .keeps) (m .3);
       enough = omega (arith, item-some r);
-      within = st .room;
       rest = p;
     },
     omega (arith, item-some r),

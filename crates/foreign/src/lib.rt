@@ -26,7 +26,7 @@ enum Walked {
     Refused(u8, usize),
 }
 
-// One record further: how far it went, and the offset past it; or a refusal.
+// One record further: how far it went, and where the reader stands next; or a refusal.
 enum Went {
     On(State, usize),
     Refused(u8),
@@ -34,17 +34,18 @@ enum Went {
 
 // The record at an offset is read and taken.
 fn one(net: &[u8], work: &mut [u16], lean: bool, st: State, at: usize) -> Went
-    requires { ⌜ (8192 ≤ length (now work)) × (at ≤ length (now net)) ⌝ }
+    requires { ⌜ 8192 ≤ length (now work) ⌝ }
     ensures { λ r. ⌜ saidWent r (now (work .exit)) ≡ goneTo (took lean (st .stage) (st .next) (itemAt (now (net .entry)) at) (now (work .entry))) (at + frontSize (itemAt (now (net .entry)) at)) ⌝ }
 {
-    let r = net_reader::read(net, at);
-    match take::take(work, lean, st, r) {
-        Taken::Next(t) => Went::On(t, at + net_reader::size_of(r)),
+    let x = net_reader::read(net, at);
+    let found = x.found;
+    match take::take(work, lean, st, found) {
+        Taken::Next(t) => Went::On(t, x.past),
         Taken::Refused(n) => Went::Refused(n),
     }
 }
 
-// All records in byte order, over a table that is clear.
+// All records in byte order, as the reader hands them out, over a table that is clear.
 fn walk(net: &[u8], work: &mut [u16], lean: bool) -> Walked
     requires { ⌜ TableClear (now work) ⌝ }
     ensures { λ r. ⌜ WalkAgrees r (now (work .exit)) (readOn (length (now (net .entry))) lean (now (net .entry)) 0 begin) × LaterKept (now (work .entry)) (now (work .exit)) ⌝ }

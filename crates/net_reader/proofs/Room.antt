@@ -21,6 +21,3 @@ front-ends s b at n l h = by (itemAt s at) refl
     by (item r) q = omega (arith, item-stood s b at r q .room)
     by ended q = omega arith
     by broken q = omega arith
-
-pub front-room : (s : List ℕ) → Bytes s → (at : ℕ) → at ≤ length s → at + frontSize (itemAt s at) ≤ length s
-front-room s b at l = omega (arith, front-ends s b at (length s + 1) (omega arith) (omega arith))

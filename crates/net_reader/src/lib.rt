@@ -6,7 +6,7 @@ ghost use lib.ListN.{length};
 ghost use Rattle.calculus.specs.Read.{byte};
 ghost use Rattle.calculus.specs.Net.{point, wireOf, element, wire, pin};
 ghost use Rattle.calculus.specs.NetRead.{item, twoAt, uncut, knownPart, itemAt};
-ghost use Rattle.net_reader.specs.Said.{saidRecord, frontSize};
+ghost use Rattle.net_reader.specs.Said.{saidRecord, frontSize, SaidStep};
 
 // What stands at an offset: a record of kind 21 to 24, the end, or no record (kind unknown, body cut short, part unknown). Terminals
 // are bare numbers here: which are inputs and which outputs the elements tell, and not the record.
@@ -93,7 +93,7 @@ fn record_at(s: &[u8], at: usize) -> Record
 }
 
 // The bytes of a record.
-pub fn size_of(r: Record) -> usize
+fn size_of(r: Record) -> usize
     ensures { λ n. ⌜ n ≡ frontSize (saidRecord r) ⌝ }
 {
     match r {
@@ -106,11 +106,19 @@ pub fn size_of(r: Record) -> usize
     }
 }
 
-// The offset past the record at an offset; the offset itself where no record stands.
-fn past_at(s: &[u8], at: usize) -> usize
-    ensures { λ n. ⌜ n ≡ at + frontSize (itemAt (now (s .entry)) at) ⌝ }
+// A record, and where the next one stands: the offset past it, or the same offset where no record stands.
+pub struct Step {
+    pub found: Record,
+    pub past: usize,
+}
+
+// The step from an offset.
+fn step_at(s: &[u8], at: usize) -> Step
+    ensures { λ x. ⌜ SaidStep x (now (s .entry)) at ⌝ }
 {
-    at + size_of(record_at(s, at))
+    let found = record_at(s, at);
+    let past = at + size_of(found);
+    Step { found, past }
 }
 
 // A reader: the lent bytes, and where the next record stands.
@@ -126,27 +134,16 @@ pub fn new<'a>(bytes: &'a [u8], at: usize) -> Reader<'a>
     Reader { bytes, at }
 }
 
-// The record at the reader's place.
-pub fn next<'a>(r: Reader<'a>) -> Record
-    ensures { λ x. ⌜ saidRecord x ≡ itemAt (now (r .entry .bytes)) (r .entry .at) ⌝ }
+// The reader hands out the record at its place, and where it stands next.
+pub fn next<'a>(r: Reader<'a>) -> Step
+    ensures { λ x. ⌜ SaidStep x (now (r .entry .bytes)) (r .entry .at) ⌝ }
 {
-    record_at(r.bytes, r.at)
+    step_at(r.bytes, r.at)
 }
 
-// The reader past that record.
-pub fn past<'a>(r: Reader<'a>) -> Reader<'a>
-    ensures { λ q. ⌜ (q .bytes ≡ r .entry .bytes) × (q .at ≡ r .entry .at + frontSize (itemAt (now (r .entry .bytes)) (r .entry .at))) ⌝ }
-{
-    let n = past_at(r.bytes, r.at);
-    Reader {
-        bytes: r.bytes,
-        at: n,
-    }
-}
-
-// A record through the reader, for callers that have the bytes and an offset.
-pub fn read(bytes: &[u8], at: usize) -> Record
-    ensures { λ x. ⌜ saidRecord x ≡ itemAt (now (bytes .entry)) at ⌝ }
+// A step of the reader, for callers that go from record to record: each is called with the offset that the last one gave.
+pub fn read(bytes: &[u8], at: usize) -> Step
+    ensures { λ x. ⌜ SaidStep x (now (bytes .entry)) at ⌝ }
 {
     next(new(bytes, at))
 }

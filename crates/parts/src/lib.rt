@@ -24,6 +24,21 @@ pub struct Name {
     pub count: u8,
 }
 
+// The numbers of the parts: the rows of the table, by name.
+pub const ZERO: u16 = 0;
+
+pub const REG: u16 = 1;
+
+pub const AND: u16 = 2;
+
+pub const OR: u16 = 3;
+
+pub const XOR: u16 = 4;
+
+pub const INV: u16 = 5;
+
+pub const ONE: u16 = 6;
+
 const PARTS: [Part; 7] = [
     // 0 zero
     Part {

@@ -18,21 +18,21 @@ pub const PINS: usize = memory::STACK;
 
 pub const BITS: usize = memory::ROOTS;
 
-// An output's entry is KIND and its element's kind.
+// An output's entry is KIND and its element's kind: a part's number in the table of parts, or a point's.
 pub const KIND: u16 = 65520;
 
-pub const ZERO_ENTRY: u16 = KIND;
+pub const ZERO_ENTRY: u16 = KIND + parts::ZERO;
 
-pub const REGISTER_ENTRY: u16 = KIND + 1;
+pub const REGISTER_ENTRY: u16 = KIND + parts::REG;
 
-pub const OR_ENTRY: u16 = KIND + 3;
+pub const OR_ENTRY: u16 = KIND + parts::OR;
 
-pub const XOR_ENTRY: u16 = KIND + 4;
+pub const XOR_ENTRY: u16 = KIND + parts::XOR;
 
 // A gate of two inputs has a lower one.
-pub const INVERTER_ENTRY: u16 = KIND + 5;
+pub const INVERTER_ENTRY: u16 = KIND + parts::INV;
 
-pub const ONE_ENTRY: u16 = KIND + 6;
+pub const ONE_ENTRY: u16 = KIND + parts::ONE;
 
 pub const POINT_ENTRY: u16 = KIND + memory::POINT;
 

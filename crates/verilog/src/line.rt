@@ -9,7 +9,7 @@ ghost use Rattle.calculus.specs.Net.{wireOf};
 ghost use Rattle.netlist.specs.Said.{saidTerminal};
 ghost use Rattle.lines.specs.Wrote.{WroteText};
 
-// An element of a kind whose first terminal is given: its nets, and what drives its output.
+// An element of a kind whose first terminal is given: its nets, and what drives its output. A kind that is no part's number is a point's.
 pub fn put_element(out: &mut [u8], at: usize, kind: u16, first: u16) -> usize
     requires { ⌜ (kind < 8) × (first ≤ 8192) × (at ≤ 4294967296) ⌝ }
     ensures { λ r. ⌜ WroteText (now (out .entry)) at (lineText elementForms (kindLine kind first)) (now (out .exit)) r ⌝ }
@@ -18,8 +18,8 @@ pub fn put_element(out: &mut [u8], at: usize, kind: u16, first: u16) -> usize
     let y = n + 1;
     let z = n + 2;
     match kind {
-        0 => form::put_form(out, at, b"wire tX;\nassign tX = 1'b0;\n", n, y, z),
-        1 => form::put_form(
+        parts::ZERO => form::put_form(out, at, b"wire tX;\nassign tX = 1'b0;\n", n, y, z),
+        parts::REG => form::put_form(
             out,
             at,
             b"wire tX;\nreg tY;\nalways @(posedge clock) tY <= tX;\n",
@@ -27,11 +27,11 @@ pub fn put_element(out: &mut [u8], at: usize, kind: u16, first: u16) -> usize
             y,
             z,
         ),
-        2 => form::put_form(out, at, b"wire tX, tY, tZ;\nand (tZ, tX, tY);\n", n, y, z),
-        3 => form::put_form(out, at, b"wire tX, tY, tZ;\nor (tZ, tX, tY);\n", n, y, z),
-        4 => form::put_form(out, at, b"wire tX, tY, tZ;\nxor (tZ, tX, tY);\n", n, y, z),
-        5 => form::put_form(out, at, b"wire tX, tY;\nnot (tY, tX);\n", n, y, z),
-        6 => form::put_form(out, at, b"wire tX;\nassign tX = 1'b1;\n", n, y, z),
+        parts::AND => form::put_form(out, at, b"wire tX, tY, tZ;\nand (tZ, tX, tY);\n", n, y, z),
+        parts::OR => form::put_form(out, at, b"wire tX, tY, tZ;\nor (tZ, tX, tY);\n", n, y, z),
+        parts::XOR => form::put_form(out, at, b"wire tX, tY, tZ;\nxor (tZ, tX, tY);\n", n, y, z),
+        parts::INV => form::put_form(out, at, b"wire tX, tY;\nnot (tY, tX);\n", n, y, z),
+        parts::ONE => form::put_form(out, at, b"wire tX;\nassign tX = 1'b1;\n", n, y, z),
         _ => form::put_form(out, at, b"wire tX, tY;\nassign tY = tX;\n", n, y, z),
     }
 }

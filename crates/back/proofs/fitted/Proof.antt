@@ -30,7 +30,7 @@ sheet-requires c κs =
     let x = c .before .before .before .before .before in
     let a = x .args in
     let e = c .before .before .length .ensures ∙ sheet-length (a .net .now) (a .parts) (a .counts .undriven) (a .counts .inputs) (x .pre .0) (x .pre .1 .all) in
-    record { limited = x .pre .0; fits = omega arith }
+    record { limited = x .pre .0; behind = x .pre .2; fits = omega arith }
 
 returns-2 : tie.Need-returns-2
 returns-2 c =

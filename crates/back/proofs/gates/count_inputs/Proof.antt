@@ -10,28 +10,32 @@ use Rattle.back_theorems.specs.Back.{sources, undrivens, gatesFrom, gates, open
 use Rattle.back_theorems.proofs.Typing.{few}
 use Rattle.back.specs.Gates.{netHere, inputTotal}
 use Rattle.laws.proofs.Regions.{drop-past}
+use Rattle.back.proofs.GateLaws.{gate-place}
 use Rattle.back.proofs.SourceLaws.{undrivens-few, opens-more, inputs-more}
 use Rattle.back.proofs.gates.count_inputs.Statement.{statement}
 use Rattle.back.proofs.gates.count_inputs.Tie as tie
 
 abbrev Inv-loop : tie.InvT-loop
-Inv-loop net parts undriven₀ inputs₀ r₀ undriven inputs r =
-    (r ≤ parts) × ((undriven ≤ 2 * r) × ((inputs ≤ 2 * r) × ((undriven + openIns (gatesFrom (netHere net) (drop r (netHere net .elements)) undriven) ≡ openIns (gates (netHere net)))
+Inv-loop net parts wires undriven₀ inputs₀ r₀ at₀ undriven inputs r at =
+    (at ≡ 4 * r) × (r ≤ parts) × ((undriven ≤ 2 * r) × ((inputs ≤ 2 * r) × ((undriven + openIns (gatesFrom (netHere net) (drop r (netHere net .elements)) undriven) ≡ openIns (gates (netHere net)))
     × (inputs + inputTotal (drop r (netHere net .elements)) ≡ inputTotal (netHere net .elements)))))
 
 abbrev μ-loop : tie.MeasureT-loop
-μ-loop net parts undriven₀ inputs₀ r₀ undriven inputs r = parts - r
+μ-loop net parts wires undriven₀ inputs₀ r₀ at₀ undriven inputs r at = parts - r
 
 loop-holds : tie.Need-loop-holds Inv-loop μ-loop
-loop-holds c = (omega arith, (omega arith, (omega arith, (omega arith, omega arith))))
+loop-holds c = (omega arith, omega arith, (omega arith, (omega arith, (omega arith, omega arith))))
 
 gate-at-requires : tie.Need-gate-at-requires Inv-loop μ-loop
-gate-at-requires c κs = record { n = c .before .before .before .args .parts; of = c .before .before .before .pre .0; low = omega arith }
+gate-at-requires c κs =
+    let a = c .before .before .before in
+    let l = c .before .loop in
+    record { n = a .args .parts; r = l .r; of = a .pre .0; low = omega arith; there = l .inv .0 }
 
 open-of-requires : tie.Need-open-of-requires Inv-loop μ-loop
 open-of-requires c κs =
     let a = c .before .before .before .before .before .before in
-    (a .pre .0, search needs, omega (arith, c .before .inputs-of .ensures, few (c .before .before .gate-at .result .part)))
+    (record { n = a .args .parts; of = a .pre .0; there = a .pre .2 }, search needs, omega (arith, c .before .inputs-of .ensures, few (c .before .before .gate-at .result .part)))
 
 -- at most two more
 add-undriven : tie.Need-add-undriven Inv-loop μ-loop
@@ -58,16 +62,18 @@ loop-again c =
     let u = undrivens-few m (c .before .before .inputs-of .result) (p .first) 0 in
     let t = few (p .part) in
     let e : c .open-of .result ≡ undrivens (sources m (c .before .before .inputs-of .result) (p .first) 0) = c .open-of .ensures in
-    let lt = g .before .loop-test .taken in (
+    let lt = g .before .loop-test .taken in
+    let h = gate-place (a .args .net .now) (a .args .parts) (l .r) (l .at) (a .pre .0) lt (l .inv .0) p (g .gate-at .ensures) in (
+      h .1,
       omega arith,
       (
         omega arith,
         (
           omega arith,
           (
-            opens-more (m .elements) (l .r) (p .part) (p .first) (omega arith) (g .gate-at .ensures) m (l .undriven) (c .open-of .result) _ (e ∙ ap (λ (k : ℕ). undrivens (sources m k (p .first) 0)) i) (l .inv .1 .1 .1 .0),
+            opens-more (m .elements) (l .r) (p .part) (p .first) (omega arith) (h .0) m (l .undriven) (c .open-of .result) _ (e ∙ ap (λ (k : ℕ). undrivens (sources m k (p .first) 0)) i) (l .inv .2 .1 .1 .0),
             ap (λ (k : ℕ). l .inputs + k + inputTotal (drop (l .r + 1) (m .elements))) i
-                ∙ inputs-more (m .elements) (l .r) (p .part) (p .first) (omega arith) (g .gate-at .ensures) (l .inputs) _ (l .inv .1 .1 .1 .1),
+                ∙ inputs-more (m .elements) (l .r) (p .part) (p .first) (omega arith) (h .0) (l .inputs) _ (l .inv .2 .1 .1 .1),
           ),
         ),
       ),
@@ -83,8 +89,8 @@ returns c =
     let u : l .undriven + 0 ≡ l .undriven = omega arith in
     let v : l .inputs + 0 ≡ l .inputs = omega arith in
     record {
-      undriven = sym u ∙ ap (λ (x : List Element). l .undriven + openIns (gatesFrom m x (l .undriven))) (sym z) ∙ l .inv .1 .1 .1 .0;
-      all = sym v ∙ ap (λ (x : List Element). l .inputs + inputTotal x) (sym z) ∙ l .inv .1 .1 .1 .1;
+      undriven = sym u ∙ ap (λ (x : List Element). l .undriven + openIns (gatesFrom m x (l .undriven))) (sym z) ∙ l .inv .2 .1 .1 .0;
+      all = sym v ∙ ap (λ (x : List Element). l .inputs + inputTotal x) (sym z) ∙ l .inv .2 .1 .1 .1;
     }
 
 pub count-inputs-spec : {M : Type 1} → statement M

@@ -3,27 +3,31 @@ use borrow.Author.Needs.{needs}
 use native.Mathlib.Omega.{arith}
 use mathlib.Core.Path.{_≡_, ap, sym, _∙_}
 use mathlib.Core.List.{List}
-use Prim.Native.Nat.{_-_, _+_, _≤_}
+use Prim.Native.Nat.{_-_, _+_, _*_, _≤_}
 use lib.ListN.{drop}
 use Rattle.calculus.specs.Net.{Element}
 use Rattle.back_theorems.specs.Back.{partBefore}
 use Rattle.back.specs.Gates.{netHere}
 use Rattle.laws.proofs.Regions.{drop-past}
+use Rattle.back.proofs.GateLaws.{gate-place}
 use Rattle.back.proofs.SourceLaws.{before-here, before-more}
 use Rattle.back.proofs.gates.part_before.Statement.{statement}
 use Rattle.back.proofs.gates.part_before.Tie as tie
 
 abbrev Inv-loop : tie.InvT-loop
-Inv-loop net parts o r₀ r = (r ≤ parts) × (r + partBefore (drop r (netHere net .elements)) o ≡ partBefore (netHere net .elements) o)
+Inv-loop net parts o r₀ at₀ r at = (r ≤ parts) × (r + partBefore (drop r (netHere net .elements)) o ≡ partBefore (netHere net .elements) o) × (at ≡ 4 * r)
 
 abbrev μ-loop : tie.MeasureT-loop
-μ-loop net parts o r₀ r = parts - r
+μ-loop net parts o r₀ at₀ r at = parts - r
 
 loop-holds : tie.Need-loop-holds Inv-loop μ-loop
-loop-holds c = (omega arith, omega arith)
+loop-holds c = (omega arith, omega arith, omega arith)
 
 gate-at-requires : tie.Need-gate-at-requires Inv-loop μ-loop
-gate-at-requires c κs = record { n = c .before .before .before .args .parts; of = c .before .before .before .pre; low = omega arith }
+gate-at-requires c κs =
+    let a = c .before .before .before in
+    let l = c .before .loop in
+    record { n = a .args .parts; r = l .r; of = a .pre; low = omega arith; there = l .inv .2 }
 
 returns : tie.Need-returns Inv-loop μ-loop
 returns c =
@@ -31,7 +35,8 @@ returns c =
     let l = g .before .before .loop in
     let a = g .before .before .before .before in
     let n = a .pre .count in
-    before-here (netHere (a .args .net .now) .elements) (l .r) _ _ (omega arith) (g .gate-at .ensures) (a .args .o) (l .inv .1) (omega (arith, c .before .inputs-of .ensures))
+    let p = gate-place (a .args .net .now) (a .args .parts) (l .r) (l .at) (a .pre) (omega arith) (l .inv .2) (g .gate-at .result) (g .gate-at .ensures) in
+    before-here (netHere (a .args .net .now) .elements) (l .r) _ _ (omega arith) (p .0) (a .args .o) (l .inv .1) (omega (arith, c .before .inputs-of .ensures))
 
 loop-again : tie.Need-loop-again Inv-loop μ-loop
 loop-again c =
@@ -39,7 +44,8 @@ loop-again c =
     let l = g .before .before .loop in
     let a = g .before .before .before .before in
     let n = a .pre .count in
-    (omega arith, before-more (netHere (a .args .net .now) .elements) (l .r) _ _ (omega arith) (g .gate-at .ensures) (a .args .o) (l .inv .1) (λ e. omega (arith, c .before .inputs-of .ensures)))
+    let p = gate-place (a .args .net .now) (a .args .parts) (l .r) (l .at) (a .pre) (omega arith) (l .inv .2) (g .gate-at .result) (g .gate-at .ensures) in
+    (omega arith, before-more (netHere (a .args .net .now) .elements) (l .r) _ _ (omega arith) (p .0) (a .args .o) (l .inv .1) (λ e. omega (arith, c .before .inputs-of .ensures)), p .1)
 
 returns-2 : tie.Need-returns-2 Inv-loop μ-loop
 returns-2 c =

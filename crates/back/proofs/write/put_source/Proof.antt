@@ -12,6 +12,9 @@ use Rattle.back.proofs.WriteLaws.{open-row, wired-row}
 use Rattle.back.proofs.write.put_source.Statement.{statement}
 use Rattle.back.proofs.write.put_source.Tie as tie
 
+driver-requires : tie.Need-driver-requires
+driver-requires c κs = let x = c .before .before in record { n = x .args .parts; of = x .pre .limited .of; there = x .pre .behind }
+
 returns : tie.Need-returns
 returns c =
     let x = c .before .before .before .before .before .before .before .before .before in
@@ -41,4 +44,4 @@ returns-2 c =
 pub put-source-spec : {M : Type 1} → statement M
 put-source-spec =
     tie.close
-    (tie.spec (λ c κs. search needs) (λ c κs. search needs) (λ c κs. search needs) (λ c. search needs) (λ c. search needs) returns (λ c. search needs) (λ c κs. search needs) output-binder-requires (λ c κs. search needs) (λ c. search needs) returns-2)
+    (tie.spec driver-requires (λ c κs. search needs) (λ c κs. search needs) (λ c. search needs) (λ c. search needs) returns (λ c. search needs) (λ c κs. search needs) output-binder-requires (λ c κs. search needs) (λ c. search needs) returns-2)

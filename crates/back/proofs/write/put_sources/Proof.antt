@@ -17,7 +17,7 @@ put-source-requires c κs =
     let x = c .before .before .before .before in
     let f = x .pre .fits in
     let l = x .pre .low in
-    record { limited = x .pre .limited; fits = omega arith; low = omega arith }
+    record { limited = x .pre .limited; behind = x .pre .behind; fits = omega arith; low = omega arith }
 
 returns-2 : tie.Need-returns-2
 returns-2 c =
@@ -35,7 +35,7 @@ put-source-requires-2 c κs =
     let e : a .inputs ≡ 2 = omega arith in
     let l : a .before + undrivens (sources (netHere (a .net .now)) 2 (a .first) (a .before)) ≤ a .undriven = rw e at (x .pre .low) in
     let k = p .kept .0 in
-    record { limited = x .pre .limited; fits = omega arith; low = omega (arith, two-undriven (netHere (a .net .now)) (a .undriven) (a .parts - 1) (a .first) (a .before) (p .result) (p .ensures .0)) }
+    record { limited = x .pre .limited; behind = x .pre .behind; fits = omega arith; low = omega (arith, two-undriven (netHere (a .net .now)) (a .undriven) (a .parts - 1) (a .first) (a .before) (p .result) (p .ensures .0)) }
 
 returns-3 : tie.Need-returns-3
 returns-3 c =

@@ -109,7 +109,7 @@ put-parts-requires c κs =
     let y = c .before .before .before .before .before .before .before .before .before .before .before .put-functions .kept .0 in
     let v = c .before .before .before .before .before .before .before .put-two .kept .0 in
     let p = c .before .before .before .put-projections .kept .0 in
-    record { limited = x .pre .limited; fits = omega arith }
+    record { limited = x .pre .limited; behind = x .pre .behind; fits = omega arith }
 
 returns : tie.Need-returns
 returns c =
