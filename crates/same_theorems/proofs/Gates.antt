@@ -52,7 +52,7 @@ gateType first = arrow bit (arrow bit bit)
 gateType second = arrow (prod bit bit) bit
 
 -- .. and the gate of what two terms make
-abbrev gated : Edition → ℕ → ℕ → Made → Made → Made
+abbrev pub gated : Edition → ℕ → ℕ → Made → Made → Made
 gated first p i x y = madeApp (madeApp (gateMade (gateType first) p i) x) y
 gated second p i x y = madeApp (gateMade (gateType second) p i) (madePair (prod bit bit) x y)
 
@@ -68,7 +68,7 @@ or-gate = record { makes = λ τ i. refl; types = types }
     types first = refl
     types second = refl
 
-xor-gate : IsGate 4
+pub xor-gate : IsGate 4
 xor-gate = record { makes = λ τ i. refl; types = types }
   where
     types : (E : Edition) → partAt 4 .type E ≡ gateType E
@@ -79,24 +79,24 @@ module _ (Φ : Table) (ok : TableOk Φ) (p : ℕ) (g : IsGate p) where
   con-made : (E : Edition) (i : ℕ) → typeNumber Φ (partAt p .type E) < length Φ → madeCon (tree Φ (typeNumber Φ (partAt p .type E))) p i ≡ gateMade (gateType E) p i
   con-made E i l = ap (λ (τ : Ty). madeCon τ p i) (number-tree Φ ok (partAt p .type E) l ∙ g .types E) ∙ g .makes (gateType E) i
 
-  gate-made : (E : Edition) (a b : Term) (env : List Bound) (i : ℕ) → Ranged E Φ (gateOf E Φ p a b)
+  pub gate-made : (E : Edition) (a b : Term) (env : List Bound) (i : ℕ) → Ranged E Φ (gateOf E Φ p a b)
       → let x = make Φ a env (i + 2 + 1) in make Φ (gateOf E Φ p a b) env i ≡ gated E p i x (make Φ b env (x .next))
   gate-made first a b env i r =
       ap (λ (c : Made). madeApp (madeApp c (make Φ a env (c .next))) (make Φ b env (make Φ a env (c .next) .next))) (con-made first i (r .0 .0))
   gate-made second a b env i r =
       ap₂ (λ (c : Made) (τ : Ty). madeApp c (madePair τ (make Φ a env (c .next)) (make Φ b env (make Φ a env (c .next) .next)))) (con-made second i (r .0)) (number-tree Φ ok (prod bit bit) (r .1 .0))
 
-  gate-ranged : (E : Edition) (a b : Term) → Ranged E Φ (gateOf E Φ p a b) → Ranged E Φ a × Ranged E Φ b
+  pub gate-ranged : (E : Edition) (a b : Term) → Ranged E Φ (gateOf E Φ p a b) → Ranged E Φ a × Ranged E Φ b
   gate-ranged first a b r = (r .0 .1, r .1)
   gate-ranged second a b r = (r .1 .1, r .1 .2)
 
 -- what a record of a gate with its two arguments has
-record GateRuns (p i : ℕ) (x y : Made) (u v n : ℕ) (β : Bits) : Type 0 where
-  works : Works partLaw n β (part p i)
-  of-first : Running n β x
-  of-second : Running n β y
-  first-fed : Same n β u i
-  second-fed : Same n β v (i + 1)
+pub record GateRuns (p i : ℕ) (x y : Made) (u v n : ℕ) (β : Bits) : Type 0 where
+  pub works : Works partLaw n β (part p i)
+  pub of-first : Running n β x
+  pub of-second : Running n β y
+  pub first-fed : Same n β u i
+  pub second-fed : Same n β v (i + 1)
 
 -- one wire, from the only output of an interface
 one-fed : (n : ℕ) (β : Bits) (s : Interface) (u i : ℕ) → s ≡ out u ∷ [] → All (Joined n β) (join s (inp i ∷ [])) → Same n β u i
@@ -107,7 +107,7 @@ both-fed n β s s′ u v i e f a =
     let b = subst (λ (r : Interface). All (Joined n β) (join r (inp i ∷ inp (i + 1) ∷ []))) (ap₂ _++_ e f) a in
     (b .0, b .1 .0)
 
-gate-runs : (E : Edition) (p i : ℕ) (x y : Made) (u v n : ℕ) (β : Bits) → x .side ≡ out u ∷ [] → y .side ≡ out v ∷ [] → Running n β (gated E p i x y) → GateRuns p i x y u v n β
+pub gate-runs : (E : Edition) (p i : ℕ) (x y : Made) (u v n : ℕ) (β : Bits) → x .side ≡ out u ∷ [] → y .side ≡ out v ∷ [] → Running n β (gated E p i x y) → GateRuns p i x y u v n β
 gate-runs first p i x y u v n β ex ey r =
     let jx = join (x .side) (inp i ∷ []) in
     let jy = join (y .side) (inp (i + 1) ∷ []) in
@@ -143,7 +143,7 @@ xor-shows i x y u v n β g t l =
     let e : i + 1 + 1 ≡ i + 2 = omega arith in
     ap (λ (z : ℕ). β z t) e ∙ g .works t l ∙ ap₂ xor (sym (g .first-fed t l)) (sym (g .second-fed t l))
 
-gated-side : (E : Edition) (p i : ℕ) (x y : Made) → gated E p i x y .side ≡ out (i + 1 + 1) ∷ []
+pub gated-side : (E : Edition) (p i : ℕ) (x y : Made) → gated E p i x y .side ≡ out (i + 1 + 1) ∷ []
 gated-side first p i x y = refl
 gated-side second p i x y = refl
 
@@ -159,7 +159,7 @@ registers-append (part p i ∷ es) fs = by (eqb p 1) (registers-append es fs)
     by false e = e
 
 -- a gate is none
-gated-registers : (E : Edition) (p i : ℕ) (x y : Made) → eqb p 1 ≡ false → registers (gated E p i x y .elements) ≡ registers (x .elements) ++ registers (y .elements)
+pub gated-registers : (E : Edition) (p i : ℕ) (x y : Made) → eqb p 1 ≡ false → registers (gated E p i x y .elements) ≡ registers (x .elements) ++ registers (y .elements)
 gated-registers first p i x y e = rw e (registers-append (x .elements) (y .elements))
 gated-registers second p i x y e = rw e (registers-append (x .elements) (y .elements))
 
@@ -195,7 +195,7 @@ pub record Compared (m : Made) (s s′ : Interface) : Type 0 where
   pub no-registers : registers (m .elements) ≡ []
   pub off : (n : ℕ) (β : Bits) → Running n β m → (t : ℕ) → t < n → (β output t ≡ false) ↔ (sideRow β t s ≡ sideRow β t s′)
 
-bits-compared : (i u v : ℕ) (s s′ : Interface) (E : Edition) (x y : Made) → s ≡ out u ∷ [] → s′ ≡ out v ∷ [] → x .side ≡ s → y .side ≡ s′
+pub bits-compared : (i u v : ℕ) (s s′ : Interface) (E : Edition) (x y : Made) → s ≡ out u ∷ [] → s′ ≡ out v ∷ [] → x .side ≡ s → y .side ≡ s′
     → (n : ℕ) (β : Bits) → Running n β (gated E 4 i x y) → (t : ℕ) → t < n → (β (i + 1 + 1) t ≡ false) ↔ (sideRow β t s ≡ sideRow β t s′)
 bits-compared i u v s s′ E x y e f ex ey n β r t l =
     let h = xor-shows i x y u v n β (gate-runs E 4 i x y u v n β (ex ∙ e) (ey ∙ f) r) t l in

@@ -1,2 +1,4 @@
 pub mod Moved
 pub mod Gates
+pub mod Applying
+pub mod Joining
