@@ -121,10 +121,10 @@ fedMade θ τ f a = record {
 app-fed : (f a : Made) (θ τ : Ty) → f .type ≡ arrow θ τ → madeApp f a ≡ fedMade θ τ f a
 app-fed f a θ τ e = ap (λ (σ : Ty). fedMade (leftOf σ) (rightOf σ) f a) e
 
-dirs-take : (θ : Ty) (rest : List Bool) (s : Interface) → dirs s ≡ turns true θ ++ rest → dirs (take (size θ) s) ≡ turns true θ
+pub dirs-take : (θ : Ty) (rest : List Bool) (s : Interface) → dirs s ≡ turns true θ ++ rest → dirs (take (size θ) s) ≡ turns true θ
 dirs-take θ rest s e = map-take dir (size θ) s ∙ ap (take (size θ)) e ∙ take-at (turns true θ) rest (size θ) (turns-size true θ)
 
-dirs-drop : (θ : Ty) (rest : List Bool) (s : Interface) → dirs s ≡ turns true θ ++ rest → dirs (drop (size θ) s) ≡ rest
+pub dirs-drop : (θ : Ty) (rest : List Bool) (s : Interface) → dirs s ≡ turns true θ ++ rest → dirs (drop (size θ) s) ≡ rest
 dirs-drop θ rest s e = map-drop dir (size θ) s ∙ ap (drop (size θ)) e ∙ drop-at (turns true θ) rest (size θ) (turns-size true θ)
 
 module _ (Φ : Table) where

@@ -2,3 +2,5 @@ pub mod Moved
 pub mod Gates
 pub mod Applying
 pub mod Joining
+pub mod Pins
+pub mod Standing
