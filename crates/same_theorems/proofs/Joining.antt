@@ -184,19 +184,19 @@ shown-sharable (prod a b) h = h
 shown-sharable (arrow a b) h = shown-sharable b (and-both (sharable a) (takesBits b) h .1)
 shown-sharable (lolli a b) h = absurd h
 
+-- a closed term of the type θs → θ
+pub record ClosedOf (θs : List Ty) (θ : Ty) (Θ : Table) (e : Term) : Type 0 where
+  pub scoped : Scoped 0 e
+  pub type : make Θ e [] 0 .type ≡ arrows θs θ
+  pub dirs : dirs (make Θ e [] 0 .side) ≡ turns false (arrows θs θ)
+
 module _ (E : Edition) (Φ : Table) (ok : TableOk Φ) where
   applied-ranged : (k d : ℕ) (e : Term) → Ranged E Φ (appliedTo e k d) → Ranged E Φ e
   applied-ranged zero d e r = r
   applied-ranged (suc k) d e r = applied-ranged k d (app e (var (k + d))) r .0
 
   module _ (θs : List Ty) (θ : Ty) where
-    -- a closed term of the type θs → θ
-    pub record ClosedOf (Θ : Table) (e : Term) : Type 0 where
-      pub scoped : Scoped 0 e
-      pub type : make Θ e [] 0 .type ≡ arrows θs θ
-      pub dirs : dirs (make Θ e [] 0 .side) ≡ turns false (arrows θs θ)
-
-    applied-moved : (Θ : Table) (e : Term) → ClosedOf Θ e → (d at : ℕ) (env : List Bound) → BoundIn θs 0 d env → Ranged E Φ (appliedTo (renumbered Θ Φ e) (length θs) d)
+    applied-moved : (Θ : Table) (e : Term) → ClosedOf θs θ Θ e → (d at : ℕ) (env : List Bound) → BoundIn θs 0 d env → Ranged E Φ (appliedTo (renumbered Θ Φ e) (length θs) d)
         → AppliedAs θs 0 θ (movedMade at (make Θ e [] 0)) (make Φ (appliedTo (renumbered Θ Φ e) (length θs) d) env at)
     applied-moved Θ e c d at env v r =
         let q = closed-moved E Θ Φ ok e at env (c .scoped) (applied-ranged (length θs) d (renumbered Θ Φ e) r) in

@@ -4,3 +4,4 @@ pub mod Applying
 pub mod Joining
 pub mod Pins
 pub mod Standing
+pub mod Main
