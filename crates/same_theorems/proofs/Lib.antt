@@ -5,3 +5,4 @@ pub mod Joining
 pub mod Pins
 pub mod Standing
 pub mod Main
+pub mod Worked

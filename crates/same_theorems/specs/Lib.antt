@@ -1,2 +1,3 @@
 pub mod Joint
 pub mod Joined
+pub mod Worked
