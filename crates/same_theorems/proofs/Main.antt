@@ -1,11 +1,11 @@
 -- The joint sheet never shows 1 exactly when the two sheets have the same outputs in all runs. Assumes nothing.
-use Prim.Native.Nat.{ℕ}
+use Prim.Native.Nat.{ℕ, _≤_}
 use mathlib.Core.Path.{_≡_, refl, sym, ap, _∙_, subst}
 use mathlib.Core.Logic.{_↔_}
 use mathlib.Core.List.{List, [], _∷_, _++_}
 use lib.Dec.{T}
 use lib.ListN.{length, getD}
-use Rattle.calculus.specs.Answer.{good}
+use Rattle.calculus.specs.Answer.{good, refuse}
 use Rattle.calculus.proofs.Answers.{good-inj}
 use Rattle.calculus.specs.Types.{Ty, Table, tree}
 use Rattle.calculus.specs.Terms.{Term}
@@ -24,10 +24,12 @@ use Rattle.circuit_theorems.proofs.Main.{AcceptedAs, accepts, formed, formed-le
 use Rattle.trace_calculus.specs.Trace.{outPins, registers}
 use Rattle.trace_calculus.specs.Promise.{Ringless}
 use Rattle.never_calculus.specs.Never.{Never, FirstShown}
-use Rattle.never_calculus.specs.Promise.{outputPin}
+use Rattle.never_calculus.specs.Search.{neverCall}
+use Rattle.never_calculus.specs.Promise.{outputPin, Asked}
 use Rattle.never_theorems.specs.Against.{SameRuns, FirstApart, Against}
 use Rattle.never_theorems.proofs.Against.{against-never, against-first}
-use Rattle.same_theorems.specs.Joint.{takesBits, takenTypes, shownType, arrows, rootOf, renumbered, jointTerm, againstOver}
+use Rattle.never.proofs.Against.{against-exact, against-at}
+use Rattle.same_theorems.specs.Joint.{takesBits, takenTypes, shownType, arrows, rootOf, against, againstOver}
 use Rattle.same_theorems.specs.Joined.{JoinsSheets}
 use Rattle.same_theorems.proofs.Moved.{typed-scoped}
 use Rattle.same_theorems.proofs.Joining.{ClosedOf, arrows-taken, shown-sharable, JointOf, joint-made}
@@ -99,3 +101,36 @@ module _ {s a b : List ℕ} {m k l : Net} (j : JoinsSheets s a b m k l) where
     pub same-never : Never (lean m) (starts ++ starts′) (outputPin (lean m) 0) ↔ SameRuns (lean k) starts (lean l) starts′
     same-never =
         against-never (lean m) (lean k) (lean l) (outputPin (lean m) 0) (formed-lean s m (j .of-joint)) free (formed-lean a k (j .of-one)) freeₖ (formed-lean b l (j .of-other)) freeₗ joined-sheets starts starts′ count
+
+    -- it first shows 1 where the two can first differ
+    pub same-never-first : (t : ℕ) → FirstShown (lean m) (starts ++ starts′) (outputPin (lean m) 0) t ↔ FirstApart (lean k) starts (lean l) starts′ t
+    same-never-first =
+        against-first (lean m) (lean k) (lean l) (outputPin (lean m) 0) (formed-lean s m (j .of-joint)) free (formed-lean a k (j .of-one)) freeₖ (formed-lean b l (j .of-other)) freeₗ joined-sheets starts starts′ count
+
+  -- a search of the joint sheet: accepted exactly when the two have the same outputs in all runs, 40 exactly at the first tick at which they
+  -- can differ
+  module _ (freeₖ : Ringless (lean k)) (freeₗ : Ringless (lean l)) (starts starts′ : List ℕ) (count : length starts ≡ length (registers (lean k .elements)))
+      (trail queue output work : List ℕ) (large : 32768 ≤ length work) (asked : Asked (lean m) (starts ++ starts′) 0 (length trail) (length queue)) where
+    pub same-call : ((n : ℕ) × (neverCall s (starts ++ starts′) 0 trail queue output work .call .said ≡ good n)) ↔ SameRuns (lean k) starts (lean l) starts′
+    same-call = against-exact s a b m k l (j .of-joint) (j .of-one) (j .of-other) freeₖ freeₗ starts starts′ count 0 trail queue output work large asked joined-sheets
+
+    pub same-call-at : (t : ℕ) → (neverCall s (starts ++ starts′) 0 trail queue output work .call .said ≡ refuse 40 t) ↔ FirstApart (lean k) starts (lean l) starts′ t
+    same-call-at = against-at s a b m k l (j .of-joint) (j .of-one) (j .of-other) freeₖ freeₗ starts starts′ count 0 trail queue output work large asked joined-sheets
+
+-- the sheet that `against` names, over the table that it names, is such a joint one
+pub joins-against : (s a b : List ℕ) (m k l : Net) (σ σ′ : Sheet) → readSheet a ≡ good σ → readSheet b ≡ good σ′ → readSheet s ≡ good (against σ σ′) → full s ≡ good m → full a ≡ good k → full b ≡ good l
+    → rootOf σ ≡ rootOf σ′ → T (takesBits (rootOf σ)) → JoinsSheets s a b m k l
+unfolding against
+joins-against s a b m k l σ σ′ ra rb rs fs fa fb e h = record {
+  one = σ;
+  other = σ′;
+  reads-one = ra;
+  reads-other = rb;
+  table = against σ σ′ .table;
+  reads = rs;
+  of-joint = fs;
+  of-one = fa;
+  of-other = fb;
+  one-type = e;
+  of-bits = h;
+}
