@@ -19,7 +19,7 @@ use Rattle.circuit_theorems.proofs.Drivers.{turns-size, binder-fits, opposite}
 use Rattle.linear_theorems.proofs.Meaning.{lines}
 use Rattle.linear_theorems.proofs.Lines.{lines-append, points-lines, join-lines}
 use Rattle.trace_calculus.specs.Trace.{registers}
-use Rattle.same_theorems.specs.Joint.{arrows, appliedTo, functionOf}
+use Rattle.same_theorems.specs.Joint.{arrowsTo, appliedTo, functionOf}
 use Rattle.same_theorems.proofs.Moved.{number-tree}
 use Rattle.same_theorems.proofs.Gates.{Running, registers-append}
 
@@ -39,20 +39,20 @@ abbrev pub bindersOf : List Ty → ℕ → List Bound → List Bound
 bindersOf [] i env = env
 bindersOf (θ ∷ θs) i env = bindersOf θs (i + 2 * size θ) (binder θ i ∷ env)
 
-abbrev pub bodyAt : List Ty → ℕ → ℕ
-bodyAt [] i = i
-bodyAt (θ ∷ θs) i = bodyAt θs (i + 2 * size θ)
+abbrev pub bodyFrom : List Ty → ℕ → ℕ
+bodyFrom [] i = i
+bodyFrom (θ ∷ θs) i = bodyFrom θs (i + 2 * size θ)
 
 abbrev pub madeFuns : List Ty → ℕ → Made → Made
 madeFuns [] i m = m
-madeFuns (θ ∷ θs) i m = madeFun (arrows (θ ∷ θs) bit) i (madeFuns θs (i + 2 * size θ) m)
+madeFuns (θ ∷ θs) i m = madeFun (arrowsTo (θ ∷ θs) bit) i (madeFuns θs (i + 2 * size θ) m)
 
 pub funs-made : (E : Edition) (Φ : Table) → TableOk Φ → (θs : List Ty) (e : Term) (env : List Bound) (i : ℕ) → Ranged E Φ (functionOf Φ θs e)
-    → (make Φ (functionOf Φ θs e) env i ≡ madeFuns θs i (make Φ e (bindersOf θs i env) (bodyAt θs i))) × Ranged E Φ e
+    → (make Φ (functionOf Φ θs e) env i ≡ madeFuns θs i (make Φ e (bindersOf θs i env) (bodyFrom θs i))) × Ranged E Φ e
 funs-made E Φ ok [] e env i r = (refl, r)
 funs-made E Φ ok (θ ∷ θs) e env i r =
     let h = funs-made E Φ ok θs e (binder θ i ∷ env) (i + 2 * size θ) (r .1) in
-    (rw (number-tree Φ ok (arrows (θ ∷ θs) bit) (r .0)) (ap (madeFun (arrows (θ ∷ θs) bit) i) (h .0)), h .1)
+    (rw (number-tree Φ ok (arrowsTo (θ ∷ θs) bit) (r .0)) (ap (madeFun (arrowsTo (θ ∷ θs) bit) i) (h .0)), h .1)
 
 pub funs-side : (θs : List Ty) (i : ℕ) (m : Made) → madeFuns θs i m .side ≡ inSides θs i ++ m .side
 funs-side [] i m = refl
@@ -75,12 +75,11 @@ funs-run n β (θ ∷ θs) i m r =
     let ts = turns false θ in
     let k = i + 2 * size θ in
     let es = madeFuns θs k m .elements in
-    let h = funs-run n β θs k m (record { elements = all-right (Works partLaw n β) (points ts i) es (r .elements); wires = r .wires }) in
-    (
+    let h = funs-run n β θs k m (record { elements = all-right (Works partLaw n β) (points ts i) es (r .elements); wires = r .wires }) in (
       h .0,
       lines-append n β (inSide ts i) (inSides θs k)
-      ∙ ap₂ _++_ (points-lines partLaw n β ts i (all-left (Works partLaw n β) (points ts i) es (r .elements))) (h .1)
-      ∙ sym (lines-append n β (outSide ts i) (outSides θs k)),
+          ∙ ap₂ _++_ (points-lines partLaw n β ts i (all-left (Works partLaw n β) (points ts i) es (r .elements))) (h .1)
+          ∙ sym (lines-append n β (outSide ts i) (outSides θs k)),
     )
 
 -- ---- a term applied to binders
@@ -128,7 +127,7 @@ pub dirs-drop : (θ : Ty) (rest : List Bool) (s : Interface) → dirs s ≡ turn
 dirs-drop θ rest s e = map-drop dir (size θ) s ∙ ap (drop (size θ)) e ∙ drop-at (turns true θ) rest (size θ) (turns-size true θ)
 
 module _ (Φ : Table) where
-  pub applied-so : (θs : List Ty) (τ : Ty) (i d : ℕ) (e : Term) (env : List Bound) (at : ℕ) → BoundIn θs i d env → make Φ e env at .type ≡ arrows θs τ → dirs (make Φ e env at .side) ≡ turns false (arrows θs τ)
+  pub applied-so : (θs : List Ty) (τ : Ty) (i d : ℕ) (e : Term) (env : List Bound) (at : ℕ) → BoundIn θs i d env → make Φ e env at .type ≡ arrowsTo θs τ → dirs (make Φ e env at .side) ≡ turns false (arrowsTo θs τ)
       → AppliedAs θs i τ (make Φ e env at) (make Φ (appliedTo e (length θs) d) env at)
   applied-so [] τ i d e env at v et ed = record { elements = refl; next = refl; type = et; side = refl; dirs = ed; runs = λ n β r. (r, refl) }
   applied-so (θ ∷ θs) τ i d e env at v et ed =
@@ -138,10 +137,10 @@ module _ (Φ : Table) where
       let k = i + 2 * size θ in
       let s = drop (size θ) (x .side) in
       let f = take (size θ) (x .side) in
-      let is : madeApp x y ≡ fedMade θ (arrows θs τ) x y = app-fed x y θ (arrows θs τ) et in
-      let h : AppliedAs θs k τ (fedMade θ (arrows θs τ) x y) (make Φ (appliedTo (app e (var (length θs + d))) (length θs) d) env at) =
+      let is : madeApp x y ≡ fedMade θ (arrowsTo θs τ) x y = app-fed x y θ (arrowsTo θs τ) et in
+      let h : AppliedAs θs k τ (fedMade θ (arrowsTo θs τ) x y) (make Φ (appliedTo (app e (var (length θs + d))) (length θs) d) env at) =
       subst (λ (z : Made). AppliedAs θs k τ z (make Φ (appliedTo (app e (var (length θs + d))) (length θs) d) env at)) is
-      (applied-so θs τ k d (app e (var (length θs + d))) env at (v .1) (ap (λ (z : Made). z .type) is) (ap (λ (z : Made). dirs (z .side)) is ∙ dirs-drop θ (turns false (arrows θs τ)) (x .side) ed)) in
+      (applied-so θs τ k d (app e (var (length θs + d))) env at (v .1) (ap (λ (z : Made). z .type) is) (ap (λ (z : Made). dirs (z .side)) is ∙ dirs-drop θ (turns false (arrowsTo θs τ)) (x .side) ed)) in
       record {
         elements = h .elements ∙ append-nil (x .elements);
         next = h .next;
@@ -152,9 +151,8 @@ module _ (Φ : Table) where
             let q = h .runs n β r in
             let ws = q .0 .wires in
             let w : lines n β (b .side) ≡ lines n β f =
-            join-lines n β (b .side) f (opposite θ (b .side) f (ap (λ (c : Bound). dirs (c .side)) (v .0) ∙ binder-fits θ i .dirs) (dirs-take θ (turns false (arrows θs τ)) (x .side) ed))
-            (all-right (Joined n β) (x .wires ++ []) (join (b .side) f) ws) in
-            (
+            join-lines n β (b .side) f (opposite θ (b .side) f (ap (λ (c : Bound). dirs (c .side)) (v .0) ∙ binder-fits θ i .dirs) (dirs-take θ (turns false (arrowsTo θs τ)) (x .side) ed))
+            (all-right (Joined n β) (x .wires ++ []) (join (b .side) f) ws) in (
               record { elements = all-left (Works partLaw n β) (x .elements) [] (q .0 .elements); wires = all-left (Joined n β) (x .wires) [] (all-left (Joined n β) (x .wires ++ []) (join (b .side) f) ws) },
               lines-append n β f (inputsOf θs s) ∙ ap₂ _++_ (sym w ∙ ap (λ (c : Bound). lines n β (c .side)) (v .0)) (q .1) ∙ sym (lines-append n β (outSide (turns false θ) i) (outSides θs k)),
             );

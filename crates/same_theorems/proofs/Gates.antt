@@ -21,7 +21,7 @@ use Rattle.circuit_theorems.proofs.Drivers.{halves}
 use Rattle.trace_calculus.specs.Trace.{registers, bitByte, row}
 use Rattle.never_theorems.proofs.Same.{xor-alike, alike-xor}
 use Rattle.never_theorems.proofs.Against.{append-parts, row-append, byte-only, or-off, off-or}
-use Rattle.same_theorems.specs.Joint.{gateOf, binderUnder, differing}
+use Rattle.same_theorems.specs.Joint.{gateOver, binderUnder, differing}
 use Rattle.same_theorems.proofs.Moved.{number-tree}
 
 -- ---- the bits that are seen at an interface at a tick
@@ -79,14 +79,14 @@ module _ (Φ : Table) (ok : TableOk Φ) (p : ℕ) (g : IsGate p) where
   con-made : (E : Edition) (i : ℕ) → typeNumber Φ (partAt p .type E) < length Φ → madeCon (tree Φ (typeNumber Φ (partAt p .type E))) p i ≡ gateMade (gateType E) p i
   con-made E i l = ap (λ (τ : Ty). madeCon τ p i) (number-tree Φ ok (partAt p .type E) l ∙ g .types E) ∙ g .makes (gateType E) i
 
-  pub gate-made : (E : Edition) (a b : Term) (env : List Bound) (i : ℕ) → Ranged E Φ (gateOf E Φ p a b)
-      → let x = make Φ a env (i + 2 + 1) in make Φ (gateOf E Φ p a b) env i ≡ gated E p i x (make Φ b env (x .next))
+  pub gate-made : (E : Edition) (a b : Term) (env : List Bound) (i : ℕ) → Ranged E Φ (gateOver E Φ p a b)
+      → let x = make Φ a env (i + 2 + 1) in make Φ (gateOver E Φ p a b) env i ≡ gated E p i x (make Φ b env (x .next))
   gate-made first a b env i r =
       ap (λ (c : Made). madeApp (madeApp c (make Φ a env (c .next))) (make Φ b env (make Φ a env (c .next) .next))) (con-made first i (r .0 .0))
   gate-made second a b env i r =
       ap₂ (λ (c : Made) (τ : Ty). madeApp c (madePair τ (make Φ a env (c .next)) (make Φ b env (make Φ a env (c .next) .next)))) (con-made second i (r .0)) (number-tree Φ ok (prod bit bit) (r .1 .0))
 
-  pub gate-ranged : (E : Edition) (a b : Term) → Ranged E Φ (gateOf E Φ p a b) → Ranged E Φ a × Ranged E Φ b
+  pub gate-ranged : (E : Edition) (a b : Term) → Ranged E Φ (gateOver E Φ p a b) → Ranged E Φ a × Ranged E Φ b
   gate-ranged first a b r = (r .0 .1, r .1)
   gate-ranged second a b r = (r .1 .1, r .1 .2)
 
@@ -216,8 +216,7 @@ either-compared E i k k′ s s′ x y l a b = record {
       let h = or-shows i x y (a .output) (b .output) n β g t q in
       let w = halves-same β t k k′ s s′ l in
       let u = a .off n β (g .of-first) t q in
-      let v = b .off n β (g .of-second) t q in
-      (
+      let v = b .off n β (g .of-second) t q in (
         (λ z. let f = or-off (β (a .output) t) (β (b .output) t) (sym h ∙ z) in w .0 (u .0 (f .0), v .0 (f .1))),
         (λ z. let f = w .1 z in h ∙ off-or (β (a .output) t) (β (b .output) t) (u .1 (f .0)) (v .1 (f .1))),
       );
@@ -235,7 +234,7 @@ module _ (E : Edition) (Φ : Table) (ok : TableOk Φ) where
   halves-by : (θ₁ θ₂ : Ty) (x y : Made) (env : List Bound) (at : ℕ) (a b : Term) → Suits (prod θ₁ θ₂) (wholeOf x) → Suits (prod θ₁ θ₂) (wholeOf y)
       → ((at : ℕ) → Suits θ₁ (firstHalf x) → Suits θ₁ (firstHalf y) → Ranged E Φ a → Compared (make Φ a (parted x y env) at) (firstHalf x .side) (firstHalf y .side))
       → ((at : ℕ) → Suits θ₂ (secondHalf x) → Suits θ₂ (secondHalf y) → Ranged E Φ b → Compared (make Φ b (parted x y env) at) (secondHalf x .side) (secondHalf y .side))
-      → Ranged E Φ (gateOf E Φ 3 a b) → Compared (make Φ (gateOf E Φ 3 a b) (parted x y env) at) (x .side) (y .side)
+      → Ranged E Φ (gateOver E Φ 3 a b) → Compared (make Φ (gateOver E Φ 3 a b) (parted x y env) at) (x .side) (y .side)
   halves-by θ₁ θ₂ x y env at a b sx sy ca cb r =
       let rs = gate-ranged Φ ok 3 or-gate E a b r in
       let fx = halves θ₁ θ₂ x (sx .type) (sx .dirs) in
@@ -272,8 +271,8 @@ module _ (E : Edition) (Φ : Table) (ok : TableOk Φ) where
   vars-compared (lolli θ₁ θ₂) h env i j at q si sj r = absurd h
 
   pub halves-compared : (θ₁ θ₂ : Ty) → T (sharable θ₁ && sharable θ₂) → (x y : Made) (env : List Bound) (at : ℕ) → Suits (prod θ₁ θ₂) (wholeOf x) → Suits (prod θ₁ θ₂) (wholeOf y)
-      → Ranged E Φ (gateOf E Φ 3 (differing E Φ θ₁ (var 3) (binderUnder 1)) (differing E Φ θ₂ (var 2) (binderUnder 0)))
-      → Compared (make Φ (gateOf E Φ 3 (differing E Φ θ₁ (var 3) (binderUnder 1)) (differing E Φ θ₂ (var 2) (binderUnder 0))) (parted x y env) at) (x .side) (y .side)
+      → Ranged E Φ (gateOver E Φ 3 (differing E Φ θ₁ (var 3) (binderUnder 1)) (differing E Φ θ₂ (var 2) (binderUnder 0)))
+      → Compared (make Φ (gateOver E Φ 3 (differing E Φ θ₁ (var 3) (binderUnder 1)) (differing E Φ θ₂ (var 2) (binderUnder 0))) (parted x y env) at) (x .side) (y .side)
   halves-compared θ₁ θ₂ h x y env at sx sy r =
       halves-by θ₁ θ₂ x y env at (differing E Φ θ₁ (var 3) (binderUnder 1)) (differing E Φ θ₂ (var 2) (binderUnder 0)) sx sy
       (λ at sx sy r. vars-compared θ₁ (and-both (sharable θ₁) (sharable θ₂) h .0) (parted x y env) 3 1 at (λ b c. refl) sx sy r)

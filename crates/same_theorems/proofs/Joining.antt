@@ -22,14 +22,14 @@ use Rattle.linear_theorems.proofs.Lines.{cut-at}
 use Rattle.trace_calculus.specs.Trace.{registers, bitByte, row}
 use Rattle.never_theorems.specs.Against.{readAt, MovesWhole, movedBy, Inside}
 use Rattle.never_theorems.proofs.Against.{inside-possible}
-use Rattle.same_theorems.specs.Joint.{takesBits, takenTypes, shownType, arrows, renumbered, gateOf, appliedTo, binderUnder, differing, functionOf, jointTerm}
-use Rattle.same_theorems.proofs.Moved.{Scoped, further, movedEnd, movedWire, movedMade, closed-moved}
+use Rattle.same_theorems.specs.Joint.{takesBits, takenTypes, shownType, arrowsTo, renumbered, gateOver, appliedTo, binderUnder, differing, functionOf, jointTerm}
+use Rattle.same_theorems.proofs.Moved.{Scoped, furtherBy, movedEnd, movedWire, movedMade, closed-moved}
 use Rattle.same_theorems.proofs.Gates.{sideRow, Running, proj-runs, registers-append, gated, GateRuns, xor-gate, gate-made, gate-ranged, gate-runs, gated-side, gated-registers, bits-compared, one-out, Compared, halves-compared}
-use Rattle.same_theorems.proofs.Applying.{inSides, outSides, bindersOf, bodyAt, madeFuns, funs-made, funs-side, funs-registers, funs-run, inputsOf, behindInputs, BoundIn, AppliedAs, applied-so, bound-in, bound-under}
+use Rattle.same_theorems.proofs.Applying.{inSides, outSides, bindersOf, bodyFrom, madeFuns, funs-made, funs-side, funs-registers, funs-run, inputsOf, behindInputs, BoundIn, AppliedAs, applied-so, bound-in, bound-under}
 
 -- ---- what stands d further, read there
 
-row-further : (β : Bits) (d t : ℕ) (s : Interface) → sideRow (readAt β (further d)) t s ≡ sideRow β t (map (movedEnd d) s)
+row-further : (β : Bits) (d t : ℕ) (s : Interface) → sideRow (readAt β (furtherBy d)) t s ≡ sideRow β t (map (movedEnd d) s)
 row-further β d t [] = refl
 row-further β d t (inp i ∷ s) = ap (λ (r : List ℕ). bitByte (β (i + d) t) ∷ r) (row-further β d t s)
 row-further β d t (out o ∷ s) = ap (λ (r : List ℕ). bitByte (β (o + d) t) ∷ r) (row-further β d t s)
@@ -44,17 +44,17 @@ behind-further : (θs : List Ty) (d : ℕ) (s : Interface) → behindInputs θs 
 behind-further [] d s = refl
 behind-further (θ ∷ θs) d s = ap (behindInputs θs) (sym (map-drop (movedEnd d) (size θ) s)) ∙ behind-further θs d (drop (size θ) s)
 
-registers-further : (d : ℕ) (es : List Element) → registers (map (movedBy (further d)) es) ≡ map (further d) (registers es)
+registers-further : (d : ℕ) (es : List Element) → registers (map (movedBy (furtherBy d)) es) ≡ map (furtherBy d) (registers es)
 registers-further d [] = refl
 registers-further d (point i ∷ es) = registers-further d es
 registers-further d (part p i ∷ es) = by (eqb p 1) (registers-further d es)
   where
-    by : (b : Bool) → registers (map (movedBy (further d)) es) ≡ map (further d) (registers es)
-        → cond b ((i + d) ∷ registers (map (movedBy (further d)) es)) (registers (map (movedBy (further d)) es)) ≡ map (further d) (cond b (i ∷ registers es) (registers es))
+    by : (b : Bool) → registers (map (movedBy (furtherBy d)) es) ≡ map (furtherBy d) (registers es)
+        → cond b ((i + d) ∷ registers (map (movedBy (furtherBy d)) es)) (registers (map (movedBy (furtherBy d)) es)) ≡ map (furtherBy d) (cond b (i ∷ registers es) (registers es))
     by true e = ap (λ (r : List ℕ). (i + d) ∷ r) e
     by false e = e
 
-moves-whole : (d : ℕ) (e : Element) → MovesWhole (further d) e
+moves-whole : (d : ℕ) (e : Element) → MovesWhole (furtherBy d) e
 moves-whole d (point i) = omega arith
 moves-whole d (part p i) = λ j l. omega arith
 
@@ -62,11 +62,11 @@ each-moved : {A B : Type 0} (f : A → B) (xs : List A) → All (λ x. Among (f 
 each-moved f [] = tt
 each-moved f (x ∷ xs) = (here, all-map (λ y. Among (f y) (map f xs)) (λ y. Among (f y) (map f (x ∷ xs))) (λ y h. there h) xs (each-moved f xs))
 
-runs-further : (n d : ℕ) (β : Bits) (m : Made) → Running n β (movedMade d m) → Running n (readAt β (further d)) m
+runs-further : (n d : ℕ) (β : Bits) (m : Made) → Running n β (movedMade d m) → Running n (readAt β (furtherBy d)) m
 runs-further n d β m r =
-    inside-possible (further d) (netOf m) (netOf (movedMade d m)) (record {
-      elements = all-map (λ e. Among (movedBy (further d) e) (map (movedBy (further d)) (m .elements))) (λ e. MovesWhole (further d) e × Among (movedBy (further d) e) (map (movedBy (further d)) (m .elements)))
-          (λ e h. (moves-whole d e, h)) (m .elements) (each-moved (movedBy (further d)) (m .elements));
+    inside-possible (furtherBy d) (netOf m) (netOf (movedMade d m)) (record {
+      elements = all-map (λ e. Among (movedBy (furtherBy d) e) (map (movedBy (furtherBy d)) (m .elements))) (λ e. MovesWhole (furtherBy d) e × Among (movedBy (furtherBy d) e) (map (movedBy (furtherBy d)) (m .elements)))
+          (λ e h. (moves-whole d e, h)) (m .elements) (each-moved (movedBy (furtherBy d)) (m .elements));
       wires = each-moved (movedWire d) (m .wires);
     }) n β r
 
@@ -126,14 +126,14 @@ pub record JointOf (θs : List Ty) (x y m : Made) : Type 0 where
   pub of-second : ℕ
   pub output : ℕ
   pub side : m .side ≡ inSides θs 0 ++ out output ∷ []
-  pub registers-are : registers (m .elements) ≡ map (further of-first) (registers (x .elements)) ++ map (further of-second) (registers (y .elements))
-  pub first-half : (n : ℕ) (β : Bits) → Running n β m → HalfRuns θs x (inSides θs 0) n β (readAt β (further of-first))
-  pub second-half : (n : ℕ) (β : Bits) → Running n β m → HalfRuns θs y (inSides θs 0) n β (readAt β (further of-second))
+  pub registers-are : registers (m .elements) ≡ map (furtherBy of-first) (registers (x .elements)) ++ map (furtherBy of-second) (registers (y .elements))
+  pub first-half : (n : ℕ) (β : Bits) → Running n β m → HalfRuns θs x (inSides θs 0) n β (readAt β (furtherBy of-first))
+  pub second-half : (n : ℕ) (β : Bits) → Running n β m → HalfRuns θs y (inSides θs 0) n β (readAt β (furtherBy of-second))
   pub off : (n : ℕ) (β : Bits) → Running n β m → (t : ℕ) → t < n
-      → (β output t ≡ false) ↔ (sideRow (readAt β (further of-first)) t (behindInputs θs (x .side)) ≡ sideRow (readAt β (further of-second)) t (behindInputs θs (y .side)))
+      → (β output t ≡ false) ↔ (sideRow (readAt β (furtherBy of-first)) t (behindInputs θs (x .side)) ≡ sideRow (readAt β (furtherBy of-second)) t (behindInputs θs (y .side)))
 
 half-runs : (θs : List Ty) (τ : Ty) (x a : Made) (d : ℕ) → AppliedAs θs 0 τ (movedMade d x) a → (n : ℕ) (β : Bits) → Running n β a → lines n β (inSides θs 0) ≡ lines n β (outSides θs 0)
-    → HalfRuns θs x (inSides θs 0) n β (readAt β (further d))
+    → HalfRuns θs x (inSides θs 0) n β (readAt β (furtherBy d))
 half-runs θs τ x a d h n β r e =
     let q = h .runs n β r in
     record {
@@ -143,7 +143,7 @@ half-runs θs τ x a d h n β r e =
           ∙ seen-row n β t l (inputsOf θs (map (movedEnd d) (x .side))) (inSides θs 0) (q .1 ∙ sym e);
     }
 
-behind-row : (θs : List Ty) (τ : Ty) (x a : Made) (d : ℕ) → AppliedAs θs 0 τ (movedMade d x) a → (β : Bits) (t : ℕ) → sideRow β t (a .side) ≡ sideRow (readAt β (further d)) t (behindInputs θs (x .side))
+behind-row : (θs : List Ty) (τ : Ty) (x a : Made) (d : ℕ) → AppliedAs θs 0 τ (movedMade d x) a → (β : Bits) (t : ℕ) → sideRow β t (a .side) ≡ sideRow (readAt β (furtherBy d)) t (behindInputs θs (x .side))
 behind-row θs τ x a d h β t = ap (sideRow β t) (h .side ∙ behind-further θs d (x .side)) ∙ sym (row-further β d t (behindInputs θs (x .side)))
 
 -- from what is applied and compared, and the function around it
@@ -172,7 +172,7 @@ dirs-moved d [] = refl
 dirs-moved d (inp i ∷ s) = ap (λ (r : List Bool). true ∷ r) (dirs-moved d s)
 dirs-moved d (out o ∷ s) = ap (λ (r : List Bool). false ∷ r) (dirs-moved d s)
 
-pub arrows-taken : (τ : Ty) → arrows (takenTypes τ) (shownType τ) ≡ τ
+pub arrows-taken : (τ : Ty) → arrowsTo (takenTypes τ) (shownType τ) ≡ τ
 arrows-taken bit = refl
 arrows-taken (prod a b) = refl
 arrows-taken (arrow a b) = ap (arrow a) (arrows-taken b)
@@ -187,8 +187,8 @@ shown-sharable (lolli a b) h = absurd h
 -- a closed term of the type θs → θ
 pub record ClosedOf (θs : List Ty) (θ : Ty) (Θ : Table) (e : Term) : Type 0 where
   pub scoped : Scoped 0 e
-  pub type : make Θ e [] 0 .type ≡ arrows θs θ
-  pub dirs : dirs (make Θ e [] 0 .side) ≡ turns false (arrows θs θ)
+  pub type : make Θ e [] 0 .type ≡ arrowsTo θs θ
+  pub dirs : dirs (make Θ e [] 0 .side) ≡ turns false (arrowsTo θs θ)
 
 module _ (E : Edition) (Φ : Table) (ok : TableOk Φ) where
   applied-ranged : (k d : ℕ) (e : Term) → Ranged E Φ (appliedTo e k d) → Ranged E Φ e
@@ -212,11 +212,11 @@ module _ (E : Edition) (Φ : Table) (ok : TableOk Φ) where
 
     body-joint : (θs : List Ty) (θ : Ty) → T (sharable θ) → ClosedOf θs θ Θ e → ClosedOf θs θ Θ′ e′
         → Ranged E Φ (differing E Φ θ (appliedTo a (length θs) 0) (appliedTo b (length θs)))
-        → JointOf θs (make Θ e [] 0) (make Θ′ e′ [] 0) (madeFuns θs 0 (make Φ (differing E Φ θ (appliedTo a (length θs) 0) (appliedTo b (length θs))) (bindersOf θs 0 []) (bodyAt θs 0)))
+        → JointOf θs (make Θ e [] 0) (make Θ′ e′ [] 0) (madeFuns θs 0 (make Φ (differing E Φ θ (appliedTo a (length θs) 0) (appliedTo b (length θs))) (bindersOf θs 0 []) (bodyFrom θs 0)))
     body-joint θs bit h c c′ r =
         let n = length θs in
         let env = bindersOf θs 0 [] in
-        let i = bodyAt θs 0 in
+        let i = bodyFrom θs 0 in
         let x = make Φ (appliedTo a n 0) env (i + 2 + 1) in
         let y = make Φ (appliedTo b n 0) env (x .next) in
         let rs = gate-ranged Φ ok 4 xor-gate E (appliedTo a n 0) (appliedTo b n 0) r in
@@ -227,7 +227,7 @@ module _ (E : Edition) (Φ : Table) (ok : TableOk Φ) where
     body-joint θs (prod θ₁ θ₂) h c c′ r =
         let n = length θs in
         let env = bindersOf θs 0 [] in
-        let i = bodyAt θs 0 in
+        let i = bodyFrom θs 0 in
         let x = make Φ (appliedTo a n 0) env i in
         let y = make Φ (appliedTo b n 2) (secondHalf x ∷ firstHalf x ∷ env) (x .next) in
         let f = applied-moved θs (prod θ₁ θ₂) Θ e c 0 i env (bound-in θs 0 []) (r .0) in

@@ -29,7 +29,7 @@ use Rattle.never_calculus.specs.Promise.{outputPin, Asked}
 use Rattle.never_theorems.specs.Against.{SameRuns, FirstApart, Against}
 use Rattle.never_theorems.proofs.Against.{against-never, against-first}
 use Rattle.never.proofs.Against.{against-exact, against-at}
-use Rattle.same_theorems.specs.Joint.{takesBits, takenTypes, shownType, arrows, rootOf, against, againstOver}
+use Rattle.same_theorems.specs.Joint.{takesBits, takenTypes, shownType, arrowsTo, rootOf, against, againstOver}
 use Rattle.same_theorems.specs.Joined.{JoinsSheets}
 use Rattle.same_theorems.proofs.Moved.{typed-scoped}
 use Rattle.same_theorems.proofs.Joining.{ClosedOf, arrows-taken, shown-sharable, JointOf, joint-made}
@@ -60,7 +60,7 @@ module _ (s : List ℕ) (σ : Sheet) (m : Net) (reads : readSheet s ≡ good σ)
   unfolding rootOf
   closed-as τ e =
       let d = term-driven (typed-as .1) [] env-end 0 in
-      let t : typed-as .0 ≡ arrows (takenTypes τ) (shownType τ) = sym (d .type) ∙ e ∙ sym (arrows-taken τ) in
+      let t : typed-as .0 ≡ arrowsTo (takenTypes τ) (shownType τ) = sym (d .type) ∙ e ∙ sym (arrows-taken τ) in
       record { scoped = typed-scoped (typed-as .1); type = d .type ∙ t; dirs = d .dirs ∙ ap (turns false) t }
 
 -- ---- three sheets

@@ -85,8 +85,8 @@ typed-scoped (×E′ {a = a} {e = e} q z s d c) = let r = split-same z in (subst
 
 -- ---- all terminals d further
 
-abbrev pub further : ℕ → ℕ → ℕ
-further d x = x + d
+abbrev pub furtherBy : ℕ → ℕ → ℕ
+furtherBy d x = x + d
 
 abbrev pub movedEnd : ℕ → Terminal → Terminal
 movedEnd d (inp i) = inp (i + d)
@@ -97,7 +97,7 @@ movedWire d w = wireOf (w .from + d) (w .to + d)
 
 abbrev pub movedMade : ℕ → Made → Made
 movedMade d m = record {
-  elements = map (movedBy (further d)) (m .elements);
+  elements = map (movedBy (furtherBy d)) (m .elements);
   wires = map (movedWire d) (m .wires);
   type = m .type;
   side = map (movedEnd d) (m .side);
@@ -114,7 +114,7 @@ made-same : {es es′ : List Element} {ws ws′ : List Wire} {τ : Ty} {s s′ :
 made-same a b c e = cc
 
 module _ (d : ℕ) where
-  points-moved : (ts : List Bool) (i j : ℕ) → j ≡ i + d → points ts j ≡ map (movedBy (further d)) (points ts i)
+  points-moved : (ts : List Bool) (i j : ℕ) → j ≡ i + d → points ts j ≡ map (movedBy (furtherBy d)) (points ts i)
   points-moved [] i j e = refl
   points-moved (t ∷ ts) i j e = ap₂ (λ (x : ℕ) (r : List Element). point x ∷ r) e (points-moved ts (i + 2) (j + 2) (omega arith))
 
@@ -150,7 +150,7 @@ module _ (d : ℕ) where
   fun-moved τ i j e m =
       let ts = turns false (leftOf τ) in
       made-same
-      (ap (λ (r : List Element). r ++ map (movedBy (further d)) (m .elements)) (points-moved ts i j e) ∙ sym (map-append (movedBy (further d)) (points ts i) (m .elements)))
+      (ap (λ (r : List Element). r ++ map (movedBy (furtherBy d)) (m .elements)) (points-moved ts i j e) ∙ sym (map-append (movedBy (furtherBy d)) (points ts i) (m .elements)))
       refl
       (ap (λ (r : Interface). r ++ map (movedEnd d) (m .side)) (in-moved ts i j e) ∙ sym (map-append (movedEnd d) (inSide ts i) (m .side)))
       refl
@@ -160,7 +160,7 @@ module _ (d : ℕ) where
       let k = size (leftOf (x .type)) in
       let g = join (y .side) (take k (x .side)) in
       made-same
-      (sym (map-append (movedBy (further d)) (x .elements) (y .elements)))
+      (sym (map-append (movedBy (furtherBy d)) (x .elements) (y .elements)))
       (ap₂ _++_ (sym (map-append (movedWire d) (x .wires) (y .wires))) (ap (join (map (movedEnd d) (y .side))) (sym (map-take (movedEnd d) k (x .side))) ∙ join-moved (y .side) (take k (x .side)))
       ∙ sym (map-append (movedWire d) (x .wires ++ y .wires) g))
       (sym (map-drop (movedEnd d) k (x .side)))
@@ -168,18 +168,18 @@ module _ (d : ℕ) where
 
   pair-moved : (τ : Ty) (x y : Made) → madePair τ (movedMade d x) (movedMade d y) ≡ movedMade d (madePair τ x y)
   pair-moved τ x y =
-      made-same (sym (map-append (movedBy (further d)) (x .elements) (y .elements))) (sym (map-append (movedWire d) (x .wires) (y .wires)))
+      made-same (sym (map-append (movedBy (furtherBy d)) (x .elements) (y .elements))) (sym (map-append (movedWire d) (x .wires) (y .wires)))
       (sym (map-append (movedEnd d) (x .side) (y .side))) refl
 
   proj-moved : (x y : Made) → madeProj (movedMade d x) (movedMade d y) ≡ movedMade d (madeProj x y)
   proj-moved x y =
-      made-same (sym (map-append (movedBy (further d)) (x .elements) (y .elements))) (sym (map-append (movedWire d) (x .wires) (y .wires))) refl refl
+      made-same (sym (map-append (movedBy (furtherBy d)) (x .elements) (y .elements))) (sym (map-append (movedWire d) (x .wires) (y .wires))) refl refl
 
   fix-moved : (τ : Ty) (i j : ℕ) → j ≡ i + d → (m : Made) → madeFix τ j (movedMade d m) ≡ movedMade d (madeFix τ i m)
   fix-moved τ i j e m =
       let ts = turns false τ in
       made-same
-      (ap (λ (r : List Element). r ++ map (movedBy (further d)) (m .elements)) (points-moved ts i j e) ∙ sym (map-append (movedBy (further d)) (points ts i) (m .elements)))
+      (ap (λ (r : List Element). r ++ map (movedBy (furtherBy d)) (m .elements)) (points-moved ts i j e) ∙ sym (map-append (movedBy (furtherBy d)) (points ts i) (m .elements)))
       (ap (λ (r : List Wire). map (movedWire d) (m .wires) ++ r) (ap (join (map (movedEnd d) (m .side))) (in-moved ts i j e) ∙ join-moved (m .side) (inSide ts i))
       ∙ sym (map-append (movedWire d) (m .wires) (join (m .side) (inSide ts i))))
       refl refl

@@ -28,7 +28,7 @@ use Rattle.circuit_theorems.proofs.Same.{from-lean}
 use Rattle.linear_theorems.proofs.Lines.{side-length}
 use Rattle.linear_theorems.proofs.Heard.{in-length}
 use Rattle.trace_calculus.specs.Trace.{inPins, outPins, registers, bitByte, row}
-use Rattle.same_theorems.specs.Joint.{takesBits, takenTypes, arrows}
+use Rattle.same_theorems.specs.Joint.{takesBits, takenTypes, arrowsTo}
 use Rattle.same_theorems.proofs.Applying.{inSides, inputsOf, behindInputs, dirs-take, dirs-drop}
 
 -- ---- input and output pins of interfaces
@@ -79,22 +79,22 @@ taken-sharable (lolli a b) h = tt
 -- ---- an interface of the type θs → θ
 
 module _ (θ : Ty) (h : T (sharable θ)) where
-  typed-pins : (θs : List Ty) → AllSharable θs → (s : Interface) → dirs s ≡ turns false (arrows θs θ) → PinsOf s (map number (inputsOf θs s)) (map number (behindInputs θs s))
+  typed-pins : (θs : List Ty) → AllSharable θs → (s : Interface) → dirs s ≡ turns false (arrowsTo θs θ) → PinsOf s (map number (inputsOf θs s)) (map number (behindInputs θs s))
   typed-pins [] hs s e = all-outs s (subst (All (λ b. b ≡ false)) (sym e) (same-turns false θ h))
   typed-pins (α ∷ θs) hs s e =
       let f = take (size α) s in
       let r = drop (size α) s in
-      let p = all-ins f (subst (All (λ b. b ≡ true)) (sym (dirs-take α (turns false (arrows θs θ)) s e)) (same-turns true α (hs .0))) in
-      let q = typed-pins θs (hs .1) r (dirs-drop α (turns false (arrows θs θ)) s e) in
+      let p = all-ins f (subst (All (λ b. b ≡ true)) (sym (dirs-take α (turns false (arrowsTo θs θ)) s e)) (same-turns true α (hs .0))) in
+      let q = typed-pins θs (hs .1) r (dirs-drop α (turns false (arrowsTo θs θ)) s e) in
       record {
         are-ins = ap inPins (sym (take-append-drop (size α) s)) ∙ in-append f r ∙ ap₂ _++_ (p .are-ins) (q .are-ins) ∙ sym (map-append number f (inputsOf θs r));
         are-outs = ap outPins (sym (take-append-drop (size α) s)) ∙ out-append f r ∙ ap₂ _++_ (p .are-outs) (q .are-outs);
       }
 
-  pub typed-ins : (θs : List Ty) → AllSharable θs → (s : Interface) → dirs s ≡ turns false (arrows θs θ) → inPins s ≡ map number (inputsOf θs s)
+  pub typed-ins : (θs : List Ty) → AllSharable θs → (s : Interface) → dirs s ≡ turns false (arrowsTo θs θ) → inPins s ≡ map number (inputsOf θs s)
   typed-ins θs hs s e = typed-pins θs hs s e .are-ins
 
-  pub typed-outs : (θs : List Ty) → AllSharable θs → (s : Interface) → dirs s ≡ turns false (arrows θs θ) → outPins s ≡ map number (behindInputs θs s)
+  pub typed-outs : (θs : List Ty) → AllSharable θs → (s : Interface) → dirs s ≡ turns false (arrowsTo θs θ) → outPins s ≡ map number (behindInputs θs s)
   typed-outs θs hs s e = typed-pins θs hs s e .are-outs
 
   -- as many inputs as the types have bits
@@ -102,17 +102,17 @@ module _ (θ : Ty) (h : T (sharable θ)) where
   sizes [] = 0
   sizes (α ∷ θs) = size α + sizes θs
 
-  inputs-count : (θs : List Ty) (s : Interface) → dirs s ≡ turns false (arrows θs θ) → length (inputsOf θs s) ≡ sizes θs
+  inputs-count : (θs : List Ty) (s : Interface) → dirs s ≡ turns false (arrowsTo θs θ) → length (inputsOf θs s) ≡ sizes θs
   inputs-count [] s e = refl
   inputs-count (α ∷ θs) s e =
       length-append (take (size α) s) (inputsOf θs (drop (size α) s))
-      ∙ ap₂ _+_ (side-length α true (take (size α) s) (dirs-take α (turns false (arrows θs θ)) s e)) (inputs-count θs (drop (size α) s) (dirs-drop α (turns false (arrows θs θ)) s e))
+      ∙ ap₂ _+_ (side-length α true (take (size α) s) (dirs-take α (turns false (arrowsTo θs θ)) s e)) (inputs-count θs (drop (size α) s) (dirs-drop α (turns false (arrowsTo θs θ)) s e))
 
   sides-count : (θs : List Ty) (i : ℕ) → length (inSides θs i) ≡ sizes θs
   sides-count [] i = refl
   sides-count (α ∷ θs) i = length-append (inSide (turns false α) i) (inSides θs (i + 2 * size α)) ∙ ap₂ _+_ (in-length α i) (sides-count θs (i + 2 * size α))
 
-  pub as-many-inputs : (θs : List Ty) (s : Interface) (i : ℕ) → dirs s ≡ turns false (arrows θs θ) → length (inputsOf θs s) ≡ length (inSides θs i)
+  pub as-many-inputs : (θs : List Ty) (s : Interface) (i : ℕ) → dirs s ≡ turns false (arrowsTo θs θ) → length (inputsOf θs s) ≡ length (inSides θs i)
   as-many-inputs θs s i e = inputs-count θs s e ∙ sym (sides-count θs i)
 
 -- ---- the inputs of a function's points are inputs

@@ -24,8 +24,8 @@ use Rattle.trace_calculus.specs.Trace.{inPins, outPins, registers, bitByte, row
 use Rattle.trace_calculus.specs.Promise.{registerOutputs}
 use Rattle.never_theorems.specs.Against.{readAt, StandsIn, Against}
 use Rattle.never_theorems.proofs.Against.{row-append, row-moved, rows-same, registers-count}
-use Rattle.same_theorems.specs.Joint.{arrows}
-use Rattle.same_theorems.proofs.Moved.{further}
+use Rattle.same_theorems.specs.Joint.{arrowsTo}
+use Rattle.same_theorems.proofs.Moved.{furtherBy}
 use Rattle.same_theorems.proofs.Gates.{sideRow, Running}
 use Rattle.same_theorems.proofs.Applying.{inSides, inputsOf, behindInputs}
 use Rattle.same_theorems.proofs.Joining.{HalfRuns, JointOf}
@@ -70,9 +70,9 @@ module _ (m : Net) (ok : Formed m) (n : ℕ) (β : Bits) (p : Possible partLaw (
   pin-stays i u c t l =
       ⊎-elim
       (λ h.
-          let r = pin-root m i u in
-          let e : standIn m i ≡ i + 1 = rw (T-is (pointIn (m .elements) i) h) r in
-          ap (λ (x : ℕ). β x t) e ∙ sym (kept-point (m .elements) i h r (p .elements) t l))
+      let r = pin-root m i u in
+      let e : standIn m i ≡ i + 1 = rw (T-is (pointIn (m .elements) i) h) r in
+      ap (λ (x : ℕ). β x t) e ∙ sym (kept-point (m .elements) i h r (p .elements) t l))
       (λ h. ap (λ (x : ℕ). β x t) (part-stays (m .elements) (wired-net m ok .clear) i h)) c
 
   pins-stay : (ps : Interface) → All (PinOk m) ps → ((i : ℕ) → T (isPin ps i) → T (isPin (m .pins) i)) → (t : ℕ) → t < n → row (readAt β (standIn m)) t (inPins ps) ≡ row β t (inPins ps)
@@ -111,7 +111,7 @@ pub record OfBits (θs : List Ty) (θ : Ty) : Type 0 where
 module _ (θs : List Ty) (θ : Ty) (bits : OfBits θs θ) (m : Made) (o : ℕ) (side : m .side ≡ inSides θs 0 ++ out o ∷ []) (ok : Formed (netOf m)) where
   -- where a terminal that stands d further in m has its bits in a record of the lean netlist
   abbrev pub leanAt : ℕ → ℕ → ℕ
-  leanAt d x = standIn (netOf m) (further d x)
+  leanAt d x = standIn (netOf m) (furtherBy d x)
 
   pins-in : inPins (lean (netOf m) .pins) ≡ map number (inSides θs 0)
   unfolding lean
@@ -124,7 +124,7 @@ module _ (θs : List Ty) (θ : Ty) (bits : OfBits θs θ) (m : Made) (o : ℕ) (
   output-root : standIn (netOf m) o ≡ root (netOf m) o
   output-root = shown-root (netOf m) ok (inSides θs 0) o (subst (All (PinOk (netOf m))) side (wired-net (netOf m) ok .pins-ok))
 
-  module _ (x : Made) (d : ℕ) (okₓ : Formed (netOf x)) (ed : dirs (x .side) ≡ turns false (arrows θs θ)) (half : (n : ℕ) (β : Bits) → Running n β m → HalfRuns θs x (inSides θs 0) n β (readAt β (further d))) where
+  module _ (x : Made) (d : ℕ) (okₓ : Formed (netOf x)) (ed : dirs (x .side) ≡ turns false (arrowsTo θs θ)) (half : (n : ℕ) (β : Bits) → Running n β m → HalfRuns θs x (inSides θs 0) n β (readAt β (furtherBy d))) where
     half-in : inPins (lean (netOf x) .pins) ≡ map number (inputsOf θs (x .side))
     unfolding lean
     half-in = lean-ins (netOf x) (x .side) ∙ typed-ins θ (bits .shown) θs (bits .taken) (x .side) ed
@@ -156,7 +156,7 @@ module _ (θs : List Ty) (θ : Ty) (bits : OfBits θs θ) (m : Made) (o : ℕ) (
     half-shows n β p t l = ap (row (readAt β (leanAt d)) t) half-out ∙ roots-row n (readAt β (leanAt d)) (netOf x) (half-runs n β p .running) t l (map number (behindInputs θs (x .side)))
 
     -- the registers' outputs, where they are some of m's
-    woken-half : (β : Bits) (rs : List ℕ) → All (λ r. standIn (netOf m) (r + 1) ≡ r + 1) (map (further d) rs) → row β 0 (map (λ r. r + 1) (map (further d) rs)) ≡ row (readAt β (leanAt d)) 0 (map (λ r. r + 1) rs)
+    woken-half : (β : Bits) (rs : List ℕ) → All (λ r. standIn (netOf m) (r + 1) ≡ r + 1) (map (furtherBy d) rs) → row β 0 (map (λ r. r + 1) (map (furtherBy d) rs)) ≡ row (readAt β (leanAt d)) 0 (map (λ r. r + 1) rs)
     woken-half β [] a = refl
     woken-half β (r ∷ rs) a =
         let e : r + 1 + d ≡ r + d + 1 = omega arith in
@@ -170,7 +170,7 @@ registers-kept : (m : Made) → registers (lean (netOf m) .elements) ≡ registe
 unfolding lean
 registers-kept m = lean-registers (netOf m) (m .elements)
 
-module _ (θs : List Ty) (θ : Ty) (bits : OfBits θs θ) (x y m : Made) (okₓ : Formed (netOf x)) (okᵧ : Formed (netOf y)) (ok : Formed (netOf m)) (ex : dirs (x .side) ≡ turns false (arrows θs θ)) (ey : dirs (y .side) ≡ turns false (arrows θs θ)) (j : JointOf θs x y m) where
+module _ (θs : List Ty) (θ : Ty) (bits : OfBits θs θ) (x y m : Made) (okₓ : Formed (netOf x)) (okᵧ : Formed (netOf y)) (ok : Formed (netOf m)) (ex : dirs (x .side) ≡ turns false (arrowsTo θs θ)) (ey : dirs (y .side) ≡ turns false (arrowsTo θs θ)) (j : JointOf θs x y m) where
   abbrev d : ℕ
   d = j .of-first
 
@@ -178,10 +178,10 @@ module _ (θs : List Ty) (θ : Ty) (bits : OfBits θs θ) (x y m : Made) (okₓ 
   d′ = j .of-second
 
   abbrev rs : List ℕ
-  rs = map (further d) (registers (x .elements))
+  rs = map (furtherBy d) (registers (x .elements))
 
   abbrev ss : List ℕ
-  ss = map (further d′) (registers (y .elements))
+  ss = map (furtherBy d′) (registers (y .elements))
 
   all-stay : All (λ r. standIn (netOf m) (r + 1) ≡ r + 1) (rs ++ ss)
   all-stay = subst (All (λ r. standIn (netOf m) (r + 1) ≡ r + 1)) (j .registers-are) (register-stays (netOf m) ok (m .elements) (wired-net (netOf m) ok .clear))
@@ -194,7 +194,7 @@ module _ (θs : List Ty) (θ : Ty) (bits : OfBits θs θ) (x y m : Made) (okₓ 
     right = half-stands θs θ bits m (j .output) (j .side) ok y d′ okᵧ ey (j .second-half);
     count =
         ap length (registers-kept m ∙ j .registers-are) ∙ length-append rs ss
-        ∙ ap₂ _+_ (length-map (registers (x .elements)) (further d) ∙ ap length (sym (registers-kept x))) (length-map (registers (y .elements)) (further d′) ∙ ap length (sym (registers-kept y)));
+        ∙ ap₂ _+_ (length-map (registers (x .elements)) (furtherBy d) ∙ ap length (sym (registers-kept x))) (length-map (registers (y .elements)) (furtherBy d′) ∙ ap length (sym (registers-kept y)));
     woken = λ n β p q.
         ap (row β 0) (outputs-kept m ∙ ap (map (λ r. r + 1)) (j .registers-are) ∙ map-append (λ r. r + 1) rs ss) ∙ row-append β 0 (map (λ r. r + 1) rs) (map (λ r. r + 1) ss)
         ∙ ap₂ _++_

@@ -31,9 +31,9 @@ shownType (prod a b) = prod a b
 shownType (arrow a b) = shownType b
 shownType (lolli a b) = lolli a b
 
-abbrev pub arrows : List Ty → Ty → Ty
-arrows [] τ = τ
-arrows (θ ∷ θs) τ = arrow θ (arrows θs τ)
+abbrev pub arrowsTo : List Ty → Ty → Ty
+arrowsTo [] τ = τ
+arrowsTo (θ ∷ θs) τ = arrow θ (arrowsTo θs τ)
 
 -- the type of an accepted sheet's term
 unfoldable pub rootOf : Sheet → Ty
@@ -56,9 +56,9 @@ renumbered Θ Φ (con p t) = con p (typeNumber Φ (tree Θ t))
 renumbered Θ Φ (name a e) = name (renumbered Θ Φ a) (renumbered Θ Φ e)
 
 -- a two-input gate of two terms: one after the other, or in the second edition a pair
-abbrev pub gateOf : Edition → Table → ℕ → Term → Term → Term
-gateOf first Φ p a b = app (app (con p (typeNumber Φ (partAt p .type first))) a) b
-gateOf second Φ p a b = app (con p (typeNumber Φ (partAt p .type second))) (pair (typeNumber Φ (prod bit bit)) a b)
+abbrev pub gateOver : Edition → Table → ℕ → Term → Term → Term
+gateOver first Φ p a b = app (app (con p (typeNumber Φ (partAt p .type first))) a) b
+gateOver second Φ p a b = app (con p (typeNumber Φ (partAt p .type second))) (pair (typeNumber Φ (prod bit bit)) a b)
 
 -- a closed term applied to the k binders that stand d further out, the outermost first
 abbrev pub appliedTo : Term → ℕ → ℕ → Term
@@ -72,16 +72,16 @@ binderUnder j d = var (d + j)
 -- 1 where some bit of two terms of type θ differs: an xor of two bits (4), an or of the two halves (3). The second term is given by the
 -- number of binders that it stands under. A type that is not sharable is never asked for
 abbrev pub differing : Edition → Table → Ty → Term → (ℕ → Term) → Term
-differing E Φ bit a b = gateOf E Φ 4 a (b 0)
+differing E Φ bit a b = gateOver E Φ 4 a (b 0)
 differing E Φ (prod θ₁ θ₂) a b =
-    proj a (proj (b 2) (gateOf E Φ 3 (differing E Φ θ₁ (var 3) (binderUnder 1)) (differing E Φ θ₂ (var 2) (binderUnder 0))))
+    proj a (proj (b 2) (gateOver E Φ 3 (differing E Φ θ₁ (var 3) (binderUnder 1)) (differing E Φ θ₂ (var 2) (binderUnder 2))))
 differing E Φ (arrow θ₁ θ₂) a b = a
 differing E Φ (lolli θ₁ θ₂) a b = a
 
 -- a function of the types θs around a body of type **1**
 abbrev pub functionOf : Table → List Ty → Term → Term
 functionOf Φ [] e = e
-functionOf Φ (θ ∷ θs) e = fun (typeNumber Φ (arrows (θ ∷ θs) bit)) (functionOf Φ θs e)
+functionOf Φ (θ ∷ θs) e = fun (typeNumber Φ (arrowsTo (θ ∷ θs) bit)) (functionOf Φ θs e)
 
 -- two closed terms of the type τ
 abbrev pub jointTerm : Edition → Table → Ty → Term → Term → Term
@@ -119,4 +119,4 @@ againstOver Φ σ σ′ = record {
 -- over the first one's types, those of the second, and those that comparing asks for
 unfoldable pub against : Sheet → Sheet → Sheet
 against σ σ′ =
-    againstOver (tableOver (σ .table) (tysFrom [] (σ′ .table) ++ partAt 4 .type (σ .edition) ∷ arrows (takenTypes (rootOf σ)) bit ∷ [])) σ σ′
+    againstOver (tableOver (σ .table) (tysFrom [] (σ′ .table) ++ partAt 4 .type (σ .edition) ∷ arrowsTo (takenTypes (rootOf σ)) bit ∷ [])) σ σ′
