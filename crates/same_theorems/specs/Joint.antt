@@ -74,7 +74,7 @@ binderUnder j d = var (d + j)
 abbrev pub differing : Edition → Table → Ty → Term → (ℕ → Term) → Term
 differing E Φ bit a b = gateOver E Φ 4 a (b 0)
 differing E Φ (prod θ₁ θ₂) a b =
-    proj a (proj (b 2) (gateOver E Φ 3 (differing E Φ θ₁ (var 3) (binderUnder 1)) (differing E Φ θ₂ (var 2) (binderUnder 2))))
+    proj a (proj (b 2) (gateOver E Φ 3 (differing E Φ θ₁ (var 3) (binderUnder 1)) (differing E Φ θ₂ (var 2) (binderUnder 0))))
 differing E Φ (arrow θ₁ θ₂) a b = a
 differing E Φ (lolli θ₁ θ₂) a b = a
 
