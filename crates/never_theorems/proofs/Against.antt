@@ -36,7 +36,7 @@ uncons {x} {y} {xs} {ys} e = (ap (λ (l : List ℕ). getD l 0 0) e, ap rest e)
     rest [] = []
     rest (z ∷ zs) = zs
 
-append-parts : (xs ys bs ds : List ℕ) → length xs ≡ length ys → xs ++ bs ≡ ys ++ ds → (xs ≡ ys) × (bs ≡ ds)
+pub append-parts : (xs ys bs ds : List ℕ) → length xs ≡ length ys → xs ++ bs ≡ ys ++ ds → (xs ≡ ys) × (bs ≡ ds)
 append-parts [] [] bs ds l e = (refl, e)
 append-parts [] (c ∷ ys) bs ds l e = absurd (omega arith)
 append-parts (a ∷ xs) [] bs ds l e = absurd (omega arith)
@@ -79,7 +79,7 @@ outputs-only k ok free n bits starts β γ b c t l = row-same β γ t (outPins (
         let h = out-terminal (k .elements) (getD (outPins (k .pins)) j 0) (pin-shown (k .elements) (k .pins) (ok .shown) j q) in
         only β b (getD (outPins (k .pins)) j 0) h ∙ sym (only γ c (getD (outPins (k .pins)) j 0) h)
 
-registers-row : (k : Net) (β : Bits) → length (row β 0 (registerOutputs k)) ≡ length (registers (k .elements))
+pub registers-row : (k : Net) (β : Bits) → length (row β 0 (registerOutputs k)) ≡ length (registers (k .elements))
 registers-row k β = row-length β 0 (registerOutputs k) ∙ length-map (registers (k .elements)) _
 
 module _ (m k l : Net) (o : ℕ) (ok : Formed m) (free : Ringless m) (a : Against m k l o) (starts starts′ : List ℕ) where
@@ -216,15 +216,15 @@ inside-possible f k m s n β p = record {
         subst (λ (xs : List Stream). partLaw q n xs (β (f (i + partAt q .inputs)))) (sym (streams-moved f (partAt q .inputs) i β (f i) (λ j l. a .0 j (omega arith))))
         (subst (λ (x : ℕ). partLaw q n (streams (partAt q .inputs) (f i) β) (β x)) (sym (a .0 (partAt q .inputs) (le-refl (partAt q .inputs)))) (in-all (Works partLaw n β) (a .1) (p .elements)))
 
-row-moved : (β : Bits) (f : ℕ → ℕ) (t : ℕ) (os : List ℕ) → row (readAt β f) t os ≡ row β t (map f os)
+pub row-moved : (β : Bits) (f : ℕ → ℕ) (t : ℕ) (os : List ℕ) → row (readAt β f) t os ≡ row β t (map f os)
 row-moved β f t [] = refl
 row-moved β f t (o ∷ os) = ap (λ (r : List ℕ). bitByte (β (f o) t) ∷ r) (row-moved β f t os)
 
-row-append : (β : Bits) (t : ℕ) (xs ys : List ℕ) → row β t (xs ++ ys) ≡ row β t xs ++ row β t ys
+pub row-append : (β : Bits) (t : ℕ) (xs ys : List ℕ) → row β t (xs ++ ys) ≡ row β t xs ++ row β t ys
 row-append β t [] ys = refl
 row-append β t (x ∷ xs) ys = ap (λ (r : List ℕ). bitByte (β x t) ∷ r) (row-append β t xs ys)
 
-rows-same : (β γ : Bits) (os ps : List ℕ) (end t n : ℕ) → ((u : ℕ) → u < end → row β u os ≡ row γ u ps) → t + n ≤ end → rows β os t n ≡ rows γ ps t n
+pub rows-same : (β γ : Bits) (os ps : List ℕ) (end t n : ℕ) → ((u : ℕ) → u < end → row β u os ≡ row γ u ps) → t + n ≤ end → rows β os t n ≡ rows γ ps t n
 rows-same β γ os ps end t zero f l = refl
 rows-same β γ os ps end t (suc n) f l = ap₂ _++_ (f t (omega arith)) (rows-same β γ os ps end (t + 1) n f (omega arith))
 
@@ -234,14 +234,14 @@ lead-length m [] (x ∷ xs) a = absurd a
 lead-length m (p ∷ ps) [] a = absurd a
 lead-length m (p ∷ ps) (x ∷ xs) a = ap suc (lead-length m ps xs (a .1))
 
-byte-only : (a b : Bool) → bitByte a ≡ bitByte b → a ≡ b
+pub byte-only : (a b : Bool) → bitByte a ≡ bitByte b → a ≡ b
 byte-only a b e = sym (byte-bit a) ∙ ap (λ (v : ℕ). eqb v 1) e ∙ byte-bit b
 
-or-off : (a b : Bool) → (a || b) ≡ false → (a ≡ false) × (b ≡ false)
+pub or-off : (a b : Bool) → (a || b) ≡ false → (a ≡ false) × (b ≡ false)
 or-off true b e = absurd (subst T e tt)
 or-off false b e = (refl, e)
 
-off-or : (a b : Bool) → a ≡ false → b ≡ false → (a || b) ≡ false
+pub off-or : (a b : Bool) → a ≡ false → b ≡ false → (a || b) ≡ false
 off-or a b e f = ap₂ _||_ e f
 
 module _ (m : Net) (n : ℕ) (β : Bits) (p : Possible partLaw m n β) (t : ℕ) (l : t < n) where
@@ -285,7 +285,7 @@ module _ (m k : Net) (f : ℕ → ℕ) (s : Inside f k m) (pins : LeadAll m (inP
     inputs = λ n β p. rows-same (readAt β f) β (inPins (k .pins)) (inPins (m .pins)) n 0 n (λ u l. row-moved β f u (inPins (k .pins)) ∙ led-row m n β p u l (inPins (m .pins)) (map f (inPins (k .pins))) pins) (omega arith);
   }
 
-registers-count : (m : Net) → length (registerOutputs m) ≡ length (registers (m .elements))
+pub registers-count : (m : Net) → length (registerOutputs m) ≡ length (registers (m .elements))
 registers-count m = length-map (registers (m .elements)) _
 
 pub joined-against : (m k l : Net) (o : ℕ) (f g : ℕ → ℕ) → JoinedBy m k l o f g → Against m k l o

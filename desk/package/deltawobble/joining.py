@@ -1,7 +1,9 @@
 """Two sheets with the same pins joined into one: both take the same inputs, and its one output pin is 1 where some output differs.
 
-The joined sheet is translated by the proved call. That it holds both circuits, and compares them, is then looked at on the three lean
-netlists: each part of the two, each wire, each pin, the registers of the one and then of the other, and an or of xors.
+The joined sheet of two sheets of one edition is the one that `against` names (crates/same_theorems/specs/Joint), over a table of types of its own: what
+a search of it says of the two is a theorem (`same-call`). It is translated by the proved call. That it holds both circuits, and compares them, is
+looked at on the three lean netlists all the same: each part of the two, each wire, each pin, the registers of the one and then of the other, and ors
+of xors. Where the two are of different editions, the one of the first is written in the second, and this look is all that there is.
 """
 from __future__ import annotations
 
@@ -77,7 +79,7 @@ class Joining:
             inputs.append(Binder(names[len(inputs)] if len(inputs) < len(names) else "in%d" % (len(inputs) + 1), root.left))
             root = root.right
         values = [self._applied(which, inputs) for which in (0, 1)]
-        term = self._apart([], [], values[0], values[1])
+        term = self._differing(values[0], values[1])
         for binder in reversed(inputs):
             term = function(binder, term)
         data, _, nodes = encode(_File(self.edition), term)  # type: ignore[arg-type]
@@ -116,40 +118,25 @@ class Joining:
         return function(a, function(b, apply(made, node(0x17, [pair], [variable(a), variable(b)], pair))))
 
     def _gate(self, part: int, one: Record, other: Record) -> Record:
-        return apply(apply(self._constant(part, None, True), one), other)
+        """A gate of two bits: one after the other, or in the second edition a pair."""
+        if self.edition == 1:
+            return apply(apply(self._constant(part, None, True), one), other)
+        both = product(BIT, BIT)
+        return apply(self._constant(part, None, False), node(0x17, [both], [one, other], both))
 
-    def _apart(self, ones: list[Record], others: list[Record], one: Record, other: Record) -> Record:
-        """Both values are taken apart, the rightmost rest last; then all bits are compared."""
+    def _differing(self, one: Record, other: Record) -> Record:
+        """1 where some bit of two values differs: an xor of two bits, an or of the two halves."""
         t = one.type
         assert t is not None
         if t.kind == 1:
-            return self._compared(ones + [one], others + [other])
-        if t.left.kind == 1:
-            mine, theirs = ([Binder("%s%d" % (sign, len(ones)), t.left), Binder("rest", t.right)] for sign in "uv")
-            body = self._apart(ones + [variable(mine[0])], others + [variable(theirs[0])], variable(mine[1]), variable(theirs[1]))
-            return self._projected(one, mine, self._projected(other, theirs, body))
-        return self._left_apart(ones, others, one, other, t)
-
-    def _left_apart(self, ones: list[Record], others: list[Record], one: Record, other: Record, t: Type) -> Record:
-        """A value whose left half is a pair: (l, r) * rest is taken apart as l * (r * rest)."""
-        turned = product(t.left.left, product(t.left.right, t.right))
-        found = []
-        for value in (one, other):
-            halves = [Binder("left", t.left), Binder("rest", t.right)]
-            pair = [Binder("l", t.left.left), Binder("r", t.left.right)]
-            rest = node(0x17, [turned.right], [variable(pair[1]), variable(halves[1])], turned.right)
-            whole = node(0x17, [turned], [variable(pair[0]), rest], turned)
-            found.append(self._projected(value, halves, self._projected(variable(halves[0]), pair, whole)))
-        return self._apart(ones, others, found[0], found[1])
+            return self._gate(XOR, one, other)
+        mine, theirs = ([Binder("%s_left" % sign, t.left), Binder("%s_right" % sign, t.right)] for sign in "uv")
+        halves = [self._differing(variable(mine[half]), variable(theirs[half])) for half in (0, 1)]
+        return self._projected(one, mine, self._projected(other, theirs, self._gate(OR, halves[0], halves[1])))
 
     @staticmethod
     def _projected(value: Record, binders: list[Binder], body: Record) -> Record:
         return node(0x18, [], [value, body], body.type, *binders)
-
-    def _compared(self, ones: list[Record], others: list[Record]) -> Record:
-        """An xor of one pair; or an or of the first pair's and that of the others."""
-        first = self._gate(XOR, ones[0], others[0])
-        return first if len(ones) == 1 else self._gate(OR, first, self._compared(ones[1:], others[1:]))
 
 
 def _heads(sheet: Sheet) -> list:
@@ -253,22 +240,23 @@ def looked(joint: Netlist, nets: list[Netlist], origin: dict[int, tuple[int, int
 
 
 def _compares(joint: Netlist, at: int, ones: list[int], others: list[int]) -> int:
-    """An xor of one pair, or an or of the first pair's and that of the others: how many gates it has."""
+    """An xor of one pair, or an or of two that compare the pairs in their order: how many gates it has."""
     fed = {target: source for source, target in joint.wires}
     made = {e.output: e for e in joint.parts}
+    pairs, ors = list(zip(ones, others)), [len(ones) - 1]
 
-    def gate(part: int, output: int) -> tuple[int, int]:
+    def gates(output: int) -> int:
         found = made.get(output)
-        need(found is not None and found.part == part, "terminal %d is no %s" % (output, PARTS[part][0]))
+        need(found is not None and found.part in (OR, XOR), "terminal %d is no or and no xor" % output)
         assert found is not None
-        return fed.get(found.inputs[0], -1), fed.get(found.inputs[1], -1)
+        drivers = fed.get(found.inputs[0], -1), fed.get(found.inputs[1], -1)
+        if found.part == OR:
+            ors[0] -= 1
+            need(ors[0] >= 0, "there are ors too many")
+            return gates(drivers[0]) + gates(drivers[1]) + 1
+        need(bool(pairs) and drivers == pairs.pop(0), "an output is not compared where it should be")
+        return 1
 
-    gates = 0
-    for k, pair in enumerate(zip(ones, others)):
-        first = at
-        if k < len(ones) - 1:
-            first, at = gate(OR, at)
-            gates += 1
-        need(gate(XOR, first) == pair, "output %d is not compared" % k)
-        gates += 1
-    return gates
+    found = gates(at)
+    need(not pairs, "an output is not compared")
+    return found

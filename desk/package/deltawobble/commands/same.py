@@ -65,7 +65,7 @@ def compare(circuits: list[Circuit], given: argparse.Namespace) -> int:
     apart = None if found.holds else Apart(circuits, again(joint, found, 0, given.by), given.by)
     if apart and given.output:
         write(given.output, apart.written())
-    answer = Answer(given, found, parts, starts, apart)
+    answer = Answer(given, found, parts, starts, apart, circuits[0].sheet.edition == circuits[1].sheet.edition)
     print(json.dumps(answer.as_json()) if given.json else "\n".join(answer.lines()), file=sys.stderr if given.output == "-" else sys.stdout)
     return int(not found.holds)
 
@@ -117,8 +117,8 @@ class Apart:
 class Answer:
     """What was found, in words and as JSON."""
 
-    def __init__(self, given: argparse.Namespace, found: Searched, parts: Looked, starts: list[bytes], apart: Apart | None):
-        self.given, self.found, self.parts, self.starts, self.apart = given, found, parts, starts, apart
+    def __init__(self, given: argparse.Namespace, found: Searched, parts: Looked, starts: list[bytes], apart: Apart | None, one_edition: bool):
+        self.given, self.found, self.parts, self.starts, self.apart, self.one_edition = given, found, parts, starts, apart, one_edition
 
     def lines(self) -> list[str]:
         theirs = self.given.by == searching.YOSYS
@@ -138,8 +138,9 @@ class Answer:
 
     def rests(self) -> str:
         """What the answer rests on beside the proved call."""
-        return ("(the theorem against-exact asks that the joined netlist holds both; that is not proved, the desk looked: %d parts of the first, %d of the "
-                "second, %d that compare)" % (self.parts.one, self.parts.other, self.parts.comparing))
+        by = ("the joined sheet is as the theorem same-call asks" if self.one_edition else
+              "the theorem same-call is of two sheets in one edition; that one of these was written in the other is not proved")
+        return "(%s; the desk looked: %d parts of the first, %d of the second, %d that compare)" % (by, self.parts.one, self.parts.other, self.parts.comparing)
 
     def as_json(self) -> dict:
         said: dict = {"accepted": self.found.holds, "files": self.given.sheets, "by": self.given.by, "asked": [list(s) for s in self.starts],

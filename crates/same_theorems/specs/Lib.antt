@@ -1,0 +1,3 @@
+pub mod Joint
+pub mod Joined
+pub mod Worked
