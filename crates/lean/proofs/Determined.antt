@@ -8,21 +8,16 @@ use native.Mathlib.Omega.{arith}
 use native.Mathlib.Decide.{decLe}
 use lib.ListN.{getD}
 use lib.Seq.{ext-getD}
-use Rattle.laws.proofs.OneResult.{Result, Results, Left}
+use Rattle.laws.proofs.OneResult.{Result, Results}
 use Rattle.calculus.specs.Net.{Net}
 use Rattle.calculus.specs.Lean.{root}
 use Rattle.calculus.specs.Inputs.{isOut}
 use Rattle.memory.specs.Map.{rootsAt, rootsEnd}
-use Rattle.netlist.proofs.Determined.{one-terminal}
 use Rattle.lean.specs.Table.{entry, Rooted}
 use Rattle.lean.proofs.roots.Kinds as roots
 use Rattle.lean.proofs.roots.Reads as roots-reads
 use Rattle.lean.proofs.lean_length.Kinds as lean-length
 use Rattle.lean.proofs.lean_length.Reads as lean-length-reads
-use Rattle.lean.proofs.table.is_kept.Kinds as is-kept
-use Rattle.lean.proofs.table.is_kept.Reads as is-kept-reads
-use Rattle.lean.proofs.write.lean_pin.Kinds as lean-pin
-use Rattle.lean.proofs.write.lean_pin.Reads as lean-pin-reads
 use Rattle.lean.proofs.write_lean.Kinds as write-lean
 use Rattle.lean.proofs.write_lean.Reads as write-lean-reads
 
@@ -44,17 +39,11 @@ one-memory w u v e k p a b = ext-getD 0 u v (a .within .size ∙ sym (b .within 
           ]
         ]
 
-pub roots-determined : Left roots.ps roots.r roots-reads.Post (λ κs s. s .0 .now)
-roots-determined κs a x y s t f g = one-memory _ _ _ _ _ _ f g
+pub roots-determined : Results roots.ps roots.r roots-reads.Post (λ κs s. s .0 .now)
+roots-determined κs a x y s t f g = (f .0 ∙ sym (g .0), one-memory _ _ _ _ _ _ (f .1) (g .1))
 
 pub lean-length-determined : Result lean-length.ps lean-length.r lean-length-reads.Post
 lean-length-determined κs a x y s t f g = f ∙ sym g
 
 pub write-lean-determined : Results write-lean.ps write-lean.r write-lean-reads.Post (λ κs s. s .1 .0 .now)
 write-lean-determined κs a x y s t f g = (f .0 ∙ sym (g .0), f .1 ∙ sym (g .1))
-
-pub is-kept-determined : Result is-kept.ps is-kept.r is-kept-reads.Post
-is-kept-determined κs a x y s t f g = f ∙ sym g
-
-pub lean-pin-determined : Result lean-pin.ps lean-pin.r lean-pin-reads.Post
-lean-pin-determined κs a x y s t f g = one-terminal x y (f ∙ sym g)

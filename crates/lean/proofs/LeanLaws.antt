@@ -9,24 +9,17 @@ use lib.ListN.{length, getD, drop, length-append, length-map}
 use borrow.Author.Tests.{eqb-false}
 use Rattle.laws.proofs.Tests.{or-elim, or-left, or-right, T-is}
 use Rattle.calculus.specs.Terms.{partAt}
-use Rattle.calculus.specs.Net.{Terminal, inp, out, Element, point, part, wireOf, Net, partSide, wireBytes, pinBytes, netBytes}
-use Rattle.calculus.specs.Makers.{maker, keepMakers, leanMakers, netNodeBytes, written}
+use Rattle.calculus.specs.Net.{Terminal, inp, out, Element, point, part, wireOf, Net, partSide}
 use Rattle.calculus.specs.Lean.{driver, isPin, root, keep, toInputs, toElement, leanWires, leanPin, lean}
 use Rattle.calculus.specs.Record.{All}
 use Rattle.calculus.specs.Inputs.{tally, ins, madeAt, isOut}
 use Rattle.circuit_theorems.specs.Formed.{Shown}
 use Rattle.memory.specs.Map.{elementsAt, stackAt, makersAt, region, elementsFrom, terminalOf, netIn}
 use Rattle.netlist.specs.Elements.{afterAll}
-use Rattle.laws.proofs.Regions.{region-length, region-at}
-use Rattle.netlist.specs.Elements.{elementRecords}
-use Rattle.netlist.proofs.Elements.{records-are}
-use Rattle.circuit_theorems.proofs.Counts.{pin-bytes}
 use Rattle.lean.specs.Table.{entry, Whole}
-use Rattle.lean.specs.InMemory.{undriven, keepIn, keepMakersIn, inputIn, inputsIn, elementIn, leanWiresIn, pinIn, keptRow, wireRow, pinRow}
-use Rattle.lean.specs.Fitting.{DriversLow, LowPin}
+use Rattle.lean.specs.InMemory.{undriven, keepIn, inputIn, inputsIn, elementIn, leanWiresIn, pinIn}
+use Rattle.lean.specs.Fitting.{DriversLow}
 use Rattle.lean.proofs.KindLaws.{tiled-after}
-use Rattle.lean.proofs.RowLaws.{kept-any}
-use Rattle.lean.proofs.SumLaws.{rowsSize}
 use Rattle.lean.proofs.DriverLaws.{output-below, input-below, driver-out, pin-none, driver-in}
 
 is-self : (i : ℕ) → tally i i ≡ 1
@@ -48,14 +41,6 @@ module _ (w : List ℕ) (e k p : ℕ) (q : Whole w e k p) where
       let a : entry w (i + 1) ≡ root m (i + 1) = entry-root (i + 1) (f (i + 1) (or-left (eqb (i + 1) (i + 1)) (isOut es (i + 1)) (eqb-refl (i + 1)))) in
       rw (a, keep-in es (λ x t. f x (or-right (eqb (i + 1) x) (isOut es x) t)))
   keep-in (part r i ∷ es) f = ap (λ (xs : List Element). part r i ∷ xs) (keep-in es (λ x t. f x (or-right (eqb (i + partAt r .inputs) x) (isOut es x) t)))
-
-  makers-in : (es : List Element) (js : List ℕ) → ((x : ℕ) → T (isOut es x) → T (isOut (m .elements) x)) → keepMakersIn w es js ≡ keepMakers m es js
-  makers-in [] js f = refl
-  makers-in (point i ∷ es) js f =
-      let a : entry w (i + 1) ≡ root m (i + 1) = entry-root (i + 1) (f (i + 1) (or-left (eqb (i + 1) (i + 1)) (isOut es (i + 1)) (eqb-refl (i + 1)))) in
-      rw (a, makers-in es (drop 1 js) (λ x t. f x (or-right (eqb (i + 1) x) (isOut es x) t)))
-  makers-in (part r i ∷ es) js f =
-      ap (λ (xs : List ℕ). maker js ∷ xs) (makers-in es (drop 1 js) (λ x t. f x (or-right (eqb (i + partAt r .inputs) x) (isOut es x) t)))
 
   -- ---- wires
 
@@ -120,36 +105,13 @@ module _ (w : List ℕ) (e k p : ℕ) (q : Whole w e k p) where
   abbrev ks : List ℕ
   ks = region w elementsAt e
 
-  abbrev js : List ℕ
-  js = region w makersAt e
-
   -- the lean netlist is what the tables tell
   pub lean-net : lean m ≡ record { elements = keepIn w (elementsFrom ks 0); wires = leanWiresIn w (elementsFrom ks 0); pins = map (λ c. pinIn w (terminalOf c)) (region w stackAt p) }
   unfolding lean netIn
   lean-net =
       rw (← keep-in (m .elements) (λ x t. t), ← wires-in (m .elements) (λ y h. h) (λ y t. t), ← pins-in (region w stackAt p) (q .ready .formed .shown))
 
-  -- the rows, over the definition's elements, wires and pins
-  rows-are : (plain : Bool) → written plain (lean m) (leanMakers m js) ≡ elementRecords plain (lean m .elements) (leanMakers m js) ++ (wireBytes (lean m .wires) ++ pinBytes (lean m .pins))
-  unfolding netBytes netNodeBytes
-  rows-are true = ap (λ (x : List ℕ). x ++ (wireBytes (lean m .wires) ++ pinBytes (lean m .pins))) (sym (records-are true (lean m .elements) (leanMakers m js)))
-  rows-are false = ap (λ (x : List ℕ). x ++ (wireBytes (lean m .wires) ++ pinBytes (lean m .pins))) (sym (records-are false (lean m .elements) (leanMakers m js)))
-
-  pub lean-bytes : (plain : Bool) → written plain (lean m) (leanMakers m js) ≡ keptRow plain w ks js 0 ++ (wireRow w ks 0 ++ pinRow w (region w stackAt p))
-  unfolding lean keptRow wireRow pinRow netIn
-  lean-bytes plain =
-      rows-are plain
-      ∙ rw (← keep-in (m .elements) (λ x t. t), ← makers-in (m .elements) js (λ x t. t), ← wires-in (m .elements) (λ y h. h) (λ y t. t), ← pins-in (region w stackAt p) (q .ready .formed .shown))
-
-  pub pins-length : stackAt + p ≤ length w → length (pinRow w (region w stackAt p)) ≡ 3 * p
-  unfolding pinRow
-  pins-length h = pin-bytes (map (λ c. pinIn w (terminalOf c)) (region w stackAt p)) ∙ ap (λ (x : ℕ). 3 * x) (length-map (region w stackAt p) (λ c. pinIn w (terminalOf c)) ∙ region-length w stackAt p h)
-
-  pub lean-length : (plain : Bool) → stackAt + p ≤ length w → length (written plain (lean m) (leanMakers m js)) ≡ 3 * p + rowsSize plain w ks 0
-  lean-length plain h =
-      omega (arith, ap length (lean-bytes plain), length-append (keptRow plain w ks js 0) (wireRow w ks 0 ++ pinRow w (region w stackAt p)), kept-any plain w ks js [] 0, length-append (wireRow w ks 0) (pinRow w (region w stackAt p)), pins-length h)
-
-  -- ---- what the writers ask
+  -- ---- what is asked of the tables
 
   pub driven : DriversLow w
   driven = record { size = q .ready .size; low = λ i l d. output-below w e k p (q .ready) (getD w i 0) (driver-out w e k p (q .ready) i l d) }
@@ -157,21 +119,3 @@ module _ (w : List ℕ) (e k p : ℕ) (q : Whole w e k p) where
   pub kinds-low : afterAll ks 0 ≤ 8192
   unfolding netIn
   kinds-low = let z = tiled-after ks 0 (q .ready .end) (q .ready .tiled) in let b = q .ready .below in omega arith
-
-  low-pin : (t : Terminal) → Shown (m .elements) t → LowPin t
-  low-pin (inp i) s = tt
-  low-pin (out o) s = output-below w e k p (q .ready) o s
-
-  pub pins-low : (i : ℕ) → i < p → LowPin (terminalOf (getD w (stackAt + i) 0))
-  unfolding netIn
-  pins-low i h =
-      let z = q .ready .size in
-      let f = q .ready .few-pins in
-      let l : length (region w stackAt p) ≡ p = region-length w stackAt p (omega arith) in
-      subst (λ (x : ℕ). LowPin (terminalOf x)) (region-at w stackAt p i h)
-      (by (region w stackAt p) i (q .ready .formed .shown) (omega arith))
-    where
-      by : (cs : List ℕ) (j : ℕ) → All (Shown (m .elements)) (map terminalOf cs) → j < length cs → LowPin (terminalOf (getD cs j 0))
-      by [] j a l = absurd (omega arith)
-      by (c ∷ cs) zero a l = low-pin (terminalOf c) (a .0)
-      by (c ∷ cs) (suc j) a l = by cs j (a .1) (omega arith)

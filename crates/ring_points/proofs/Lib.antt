@@ -1,2 +1,3 @@
 pub mod RingLaws
+pub mod LowestLaws
 pub mod Determined

@@ -17,6 +17,7 @@ use Rattle.calculus.specs.Translate.{Wish, asked, askedMakers, askedBytes}
 use Rattle.laws.proofs.Regions.{region-ext}
 use Rattle.memory.specs.Map.{makersAt, region, netIn}
 use Rattle.lean.specs.Table.{Within, Whole, Rooted}
+use Rattle.lean.specs.Layout.{Around}
 use Rattle.export_calculus.specs.Card.{profiled}
 use Rattle.root_type.specs.Chains.{chainIn}
 use Rattle.translator.specs.Made.{Keeps}
@@ -42,6 +43,12 @@ within-later w w′ h =
 
 pub within-keeps : (w w′ : List ℕ) → 32768 ≤ length w → Within w w′ → Keeps w w′
 within-keeps w w′ l h = later-keeps w w′ l (subst (λ (n : ℕ). 32768 ≤ n) (sym (h .size)) l) (within-later w w′ h)
+
+-- so does the making of the lean netlist
+pub around-keeps : (w w′ : List ℕ) → 32768 ≤ length w → Around w w′ → Keeps w w′
+around-keeps w w′ l h = later-keeps w w′ l (subst (λ (n : ℕ). 32768 ≤ n) (sym (h .size)) l)
+    (ext-getD 0 (drop 32768 w′) (drop 32768 w) (length-drop 32768 w′ ∙ ap (λ (n : ℕ). n - 32768) (h .size) ∙ sym (length-drop 32768 w))
+    (λ i l. getD-drop 32768 w′ i 0 ∙ h .above (32768 + i) (omega arith) ∙ sym (getD-drop 32768 w i 0)))
 
 -- once the roots are found, and whatever was looked up since without a change
 module _ {u v x : List ℕ} {e k p : ℕ} (z : 32768 ≤ length u) (l : e ≤ 5120) (r : Rooted u v e k p) (j : x ≡ v) where

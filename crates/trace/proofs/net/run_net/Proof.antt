@@ -13,7 +13,7 @@ run-lean-requires : tie.Need-run-lean-requires
 run-lean-requires c κs =
     let r = c .before .before .before .before in
     let p = r .before .before .before .before .before .before .pre in
-    let w = r .roots .ensures in (
+    let w = r .roots .ensures .1 in (
       record { whole = w .whole; known = subst (λ (m : Net). All Known (m .elements)) (sym (w .net)) (p .1) },
       p .2,
       subst FewParts (sym (w .net)) (p .3),
@@ -26,7 +26,7 @@ returns c =
     let s = r .before .before .before .before .before .before in
     let a = s .args in
     rooted-ran (a .work .now) (r .roots .last .0) (k .run-lean .last .0) (a .counts .elements) (a .counts .wires) (a .counts .pins) (a .ticks) (a .inputs .now) (a .starts .now) (a .out .now)
-    (k .run-lean .last .1 .1 .1 .0) (k .run-lean .result) (s .pre .0 .size) (r .roots .ensures) (k .run-lean .ensures)
+    (k .run-lean .last .1 .1 .1 .0) (k .run-lean .result) (s .pre .0 .size) (r .roots .ensures .1) (k .run-lean .ensures)
 
 pub run-net-spec : {M : Type 1} → statement M
 run-net-spec =

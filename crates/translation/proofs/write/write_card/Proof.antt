@@ -32,12 +32,12 @@ refused-requires c κs = search needs
 enum-told : tie.Need-enum-told
 enum-told c = search needs
 
-write-rooted-requires : tie.Need-write-rooted-requires
-write-rooted-requires c κs =
+write-plain-requires : tie.Need-write-plain-requires
+write-plain-requires c κs =
     let s = c .before .before .before .before .before .before .before .before .before .before .before .before .before .before .before in
-    let r = c .before .before .before .before .before .before .before .before .before .before .roots .ensures in
+    let r = c .before .before .before .before .before .before .before .before .before .before .roots .ensures .1 in
     let j = c .before .before .before .before .before .before .judge .ensures .1 in
-    (rooted-whole (s .pre .0 .size) (s .pre .0 .few-elements) r j, rooted-known (s .pre .0 .size) (s .pre .0 .few-elements) r j (s .pre .1))
+    (rooted-whole (s .pre .0 .size) (s .pre .0 .few-elements) r j .ready, rooted-known (s .pre .0 .size) (s .pre .0 .few-elements) r j (s .pre .1))
 
 same-length : tie.Need-same-length
 same-length c = search needs
@@ -47,7 +47,7 @@ returns c =
     let x = c .before in
     let s = x .before .before .before .before .before .before .before .before .before .before .before .before .before .before in
     let a = s .args in
-    let r = x .before .before .before .before .before .before .before .before .before .roots .ensures in
+    let r = x .before .before .before .before .before .before .before .before .before .roots .ensures .1 in
     let j = x .before .before .before .before .before .judge .ensures in (
       rw (c .refused .ensures) (check-refused _ _ _ _ (inRoom (askedBytes (saidWish (a .wish)) (netIn (a .work .now) (a .counts .elements) (a .counts .wires) (a .counts .pins)) (region (a .work .now) makersAt (a .counts .elements))) (length (a .out .now))) (ap saidJudged (sym (x .before .number .given .1)) ∙ j .0 ∙ ap (λ (m : Net). profiled (chainIn (a .records .now) 256 (a .root)) (lean m)) (r .net))),
       rooted-keeps (s .pre .0 .size) (s .pre .0 .few-elements) r (j .1),
@@ -61,13 +61,13 @@ same-length-3 c = search needs
 
 returns-2 : tie.Need-returns-2
 returns-2 c =
-    let s = c .before .before .before .before .before .before .before .before .before .before .before .before .before .before .before .before .before .before in
+    let s = c .before .before .before .before .before .before .before .before .before .before .before .before .before .before .before .before .before .before .before .before in
     let a = s .args in
-    let r = c .before .before .before .before .before .before .before .before .before .before .before .before .before .roots .ensures in
-    let j = c .before .before .before .before .before .before .before .before .before .judge .ensures in (
-      check-passed _ _ _ _ _ _ (ap saidJudged (sym (c .before .before .before .before .before .enum-told .given .1)) ∙ j .0 ∙ ap (λ (m : Net). profiled (chainIn (a .records .now) 256 (a .root)) (lean m)) (r .net))
-          (ap (λ (b : List ℕ). inRoom b (length (a .out .now))) (rooted-bytes (s .pre .0 .size) (s .pre .0 .few-elements) r (j .1) (saidWish (a .wish)))) (c .before .before .write-rooted .ensures),
-      rooted-keeps (s .pre .0 .size) (s .pre .0 .few-elements) r (j .1),
+    let r = c .before .before .before .before .before .before .before .before .before .before .before .before .before .before .before .roots .ensures .1 in
+    let j = c .before .before .before .before .before .before .before .before .before .before .before .judge .ensures in (
+      check-passed _ _ _ _ _ _ (ap saidJudged (sym (c .before .before .before .before .before .before .before .enum-told .given .1)) ∙ j .0 ∙ ap (λ (m : Net). profiled (chainIn (a .records .now) 256 (a .root)) (lean m)) (r .net))
+          (ap (λ (b : List ℕ). inRoom b (length (a .out .now))) (rooted-bytes (s .pre .0 .size) (s .pre .0 .few-elements) r (j .1) (saidWish (a .wish)))) (c .before .before .before .before .write-plain .ensures .0),
+      c .before .before .before .before .write-plain .ensures .1 ∙ rooted-keeps (s .pre .0 .size) (s .pre .0 .few-elements) r (j .1),
     )
 
 pub write-card-spec : {M : Type 1} → statement M
@@ -79,7 +79,7 @@ write-card-spec =
     enum-known-number
     refused-requires
     enum-told
-    write-rooted-requires
+    write-plain-requires
     same-length
     returns
     same-length-2
