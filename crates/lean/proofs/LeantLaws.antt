@@ -24,7 +24,6 @@ use Rattle.circuit_theorems.proofs.Outputs.{EndHolds}
 use Rattle.circuit_theorems.proofs.Wiring.{pins-show}
 use Rattle.circuit_theorems.proofs.BackLaws.{backs-out, point-root}
 use Rattle.circuit_theorems.proofs.RootLaws.{root-reached}
-use Rattle.circuit_theorems.proofs.Drive.{driver-none}
 use Rattle.circuit_theorems.proofs.NetRead.{out-not-made}
 use Rattle.circuit_theorems.proofs.Terminals.{pointIn, made-high, out-high, driver-any, point-made}
 use Rattle.memory.specs.Map.{elementsAt, stackAt, rootsAt, bindersAt, makersAt, memorySize, region, elementsFrom, terminalOf, netIn, Ready}
@@ -34,9 +33,9 @@ use Rattle.memory.proofs.NetStays.{ready-same}
 use Rattle.lean.specs.Table.{entry, Within, Whole, Rooted}
 use Rattle.lean.specs.Layout.{leanPinsAt, kindsFrom, makersIn, leanIn, LeanReady, Around, Leant, linkIn, Source, Linkable, Linked, rootedIn, Rootable, Pinned, named}
 use Rattle.lean.proofs.KindLaws.{tiled-after}
-use Rattle.lean.proofs.DriverLaws.{rising, output-below, input-below, driver-out, fed, pin-none, driver-in}
+use Rattle.lean.proofs.DriverLaws.{rising, output-below, output-free, input-below, driver-out, fed, pin-none, driver-in}
 use Rattle.lean.proofs.LeanLaws.{entry-root}
-use Rattle.lean.proofs.MakeLaws.{span, tiled-span, named-within, sourceOf, Fresh, Here, Roots, Laid, all-laid, elements-are, wires-are, makers-are, Fits, all-fit}
+use Rattle.lean.proofs.MakeLaws.{span, tiled-span, named-within, sourceOf, Fresh, Here, Roots, Laid, named-past, all-laid, elements-are, wires-are, makers-are, Fits, all-fit}
 
 pin-at : (P : Terminal → Type 0) (cs : List ℕ) (j : ℕ) → All P (map terminalOf cs) → j < length cs → P (terminalOf (getD cs j 0))
 pin-at P [] j a l = absurd (omega arith)
@@ -111,13 +110,6 @@ module _ (u : List ℕ) (e k p : ℕ) (q : Whole u e k p) (known : All Known (ne
       let (j, _, z) = root-reached m o in
       subst (λ (x : ℕ). x < 8192) (sym z) (output-below u e k p r _ (backs-out m (r .formed) j o t))
 
-  -- no wire goes to an output
-  output-free : (o : ℕ) → Is o → getD u o 0 ≡ 65535
-  output-free o t =
-      let z = r .formed .reached o in
-      let n = out-not-made (m .elements) 0 (r .end) o (rising u e k p r) t in
-      r .table o (output-below u e k p r o t) ∙ driver-none (m .wires) o 65535 (omega arith)
-
   made-before : (x : ℕ) → 1 ≤ madeAt (m .elements) x → x < end
   made-before x h = elim (decLe (r .end) x) [ yes l ↦ absurd (omega (arith, made-high (m .elements) 0 (r .end) x (rising u e k p r) l)) | no l ↦ omega (arith, end-is) ]
 
@@ -127,7 +119,7 @@ module _ (u : List ℕ) (e k p : ℕ) (q : Whole u e k p) (known : All Known (ne
   source : (x : ℕ) → x < end → (getD u x 0 ≡ 65535 → ⊥) → Source u (getD u x 0)
   source x l d =
       let t = driver-out u e k p r x (omega (arith, end-low)) d in
-      record { low = output-below u e k p r (getD u x 0) t; none = output-free (getD u x 0) t; root = subst (λ (y : ℕ). y < 8192) (sym (entry-root u e k p q (getD u x 0) t)) (root-low (getD u x 0) t) }
+      record { low = output-below u e k p r (getD u x 0) t; none = output-free u e k p r (getD u x 0) t; root = subst (λ (y : ℕ). y < 8192) (sym (entry-root u e k p q (getD u x 0) t)) (root-low (getD u x 0) t) }
 
   roots : Roots m
   roots = record {
@@ -227,7 +219,7 @@ module _ (u : List ℕ) (e k p : ℕ) (q : Whole u e k p) (known : All Known (ne
 
       out-entry : (o : ℕ) → Is o → entry w o ≡ root m o
       out-entry o t =
-          let z = output-free o t in
+          let z = output-free u e k p r o t in
           let b = out-high (m .elements) 0 (r .end) o (rising u e k p r) t in
           linked-at o (omega (arith, end-is)) (inr z) ∙ rw (eq-eqb (getD u o 0) 65535 z) (entry-root u e k p q o t)
 
@@ -304,7 +296,12 @@ module _ (u : List ℕ) (e k p : ℕ) (q : Whole u e k p) (known : All Known (ne
             ready = ready;
             net = rw (← elements-are m x roots (m .elements) 0 end tiled here known laid, ← wires-are m x roots (m .elements) 0 end tiled here known laid, ← shown, ← g);
             makers = λ js. rw (← makers-are m x roots (m .elements) 0 end js tiled here known laid, ← g);
+            left = λ y h. all-fit m x roots (m .elements) 0 end tiled here known laid y (omega arith) h .left;
+            past = λ y h b. named-past (m .elements) 0 end w y tiled h ∙ l .others y h b ∙ low-same y b ∙ q .table y b ∙ ap (λ (b : Bool). cond b (root m y) 0) (none-past y h);
           }
+        where
+          none-past : (y : ℕ) → end ≤ y → isOut (m .elements) y ≡ false
+          none-past y h = is-false (isOut (m .elements) y) (λ t. omega (arith, out-high (m .elements) 0 (r .end) y (rising u e k p r) t, end-is))
 
 -- ---- from the full netlist in w, whose roots stand in u
 
@@ -352,6 +349,8 @@ module _ (w u : List ℕ) (e k p end : ℕ) (ready : Ready w e k p) (known : All
             ready = g .ready;
             net = g .net ∙ ap lean (o .net);
             makers = λ js. g .makers js ∙ ap (λ (m : Net). leanMakers m js) (o .net);
+            left = λ a b c. subst (λ (m : Net). T (isOut (m .elements) a)) (o .net) (g .left a b c);
+            past = g .past;
           })
 
 -- ---- the bytes of what was made are those of the definition

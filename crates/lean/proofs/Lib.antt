@@ -10,5 +10,6 @@ pub mod Rows
 pub mod PassLaws
 pub mod MakeLaws
 pub mod LeantLaws
+pub mod EntryLaws
 pub mod PutLaws
 pub mod Determined

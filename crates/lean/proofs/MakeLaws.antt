@@ -105,6 +105,16 @@ named-below (part r i ∷ es) n e w y t h =
     named-below es (n + partAt r .inputs + 1) e (nameOne w (part r i)) y (t .1) (omega arith)
     ∙ name-other w (part r i) n (n + partAt r .inputs + 1) y (t .0, refl) (λ a b. omega arith)
 
+pub named-past : (es : List Element) (n e : ℕ) (w : List ℕ) (y : ℕ) → Tiled es n e → e ≤ y → entry (named w es) y ≡ entry w y
+named-past [] n e w y t h = refl
+named-past (point i ∷ es) n e w y t h =
+    let g = tiled-up es (n + 2) e (t .1) in
+    named-past es (n + 2) e (nameOne w (point i)) y (t .1) h ∙ name-other w (point i) n (n + 2) y (t .0, refl) (λ a b. omega arith)
+named-past (part r i ∷ es) n e w y t h =
+    let g = tiled-up es (n + partAt r .inputs + 1) e (t .1) in
+    named-past es (n + partAt r .inputs + 1) e (nameOne w (part r i)) y (t .1) h
+    ∙ name-other w (part r i) n (n + partAt r .inputs + 1) y (t .0, refl) (λ a b. omega arith)
+
 module _ (m : Net) where
   -- what stands at an input that is made
   abbrev pub sourceOf : ℕ → ℕ
@@ -288,6 +298,7 @@ module _ (m : Net) where
       pub input : entry w x < kindsFrom → entry w x ≤ 8192
       pub output : kindsFrom ≤ entry w x → entry w x < leftOut → outputOf (entry w x - kindsFrom) 0 ≤ x
       pub point : entry w x ≡ kindsFrom + 7 → isPin (m .pins) (x - 1) ≡ eqb (entry w (x - 1)) 0
+      pub left : leftOut ≤ entry w x → T (isOut (m .elements) x)
 
     source-none : (x : ℕ) → isPin (m .pins) x ≡ eqb (sourceOf x) 0
     source-none x = by (isPin (m .pins) x)
@@ -297,13 +308,14 @@ module _ (m : Net) where
         by false = sym (ne-eqb (root m (driver (m .wires) x 0) + 1) 0 (λ z. omega arith))
 
     fits-input : (x : ℕ) → entry w x ≤ 8192 → Fits x
-    fits-input x h = record { input = λ l. h; output = λ l g. absurd (omega arith); point = λ l. absurd (omega arith) }
+    fits-input x h = record { input = λ l. h; output = λ l g. absurd (omega arith); point = λ l. absurd (omega arith); left = λ l. absurd (omega arith) }
 
-    fits-output : (x k : ℕ) → entry w x ≡ kindsFrom + k → outputOf k 0 ≤ x → (k ≡ 7 → isPin (m .pins) (x - 1) ≡ eqb (entry w (x - 1)) 0) → Fits x
-    fits-output x k e h g = record {
+    fits-output : (x k : ℕ) → k < 8 → entry w x ≡ kindsFrom + k → outputOf k 0 ≤ x → (k ≡ 7 → isPin (m .pins) (x - 1) ≡ eqb (entry w (x - 1)) 0) → Fits x
+    fits-output x k b e h g = record {
       input = λ l. absurd (omega arith);
       output = λ l g. let z : entry w x - kindsFrom ≡ k = omega arith in subst (λ (y : ℕ). outputOf y 0 ≤ x) (sym z) h;
       point = λ l. g (omega arith);
+      left = λ l. absurd (omega arith);
     }
 
     pub all-fit : (es : List Element) (n e : ℕ) → Tiled es n e → All Here es → All Known es → All (Laid w) es → (x : ℕ) → n ≤ x → x < e → Fits x
@@ -323,14 +335,14 @@ module _ (m : Net) where
 
         second : (b : Bool) → LaidPoint w i b → Fits (i + 1)
         second true l =
-            fits-output (i + 1) 7 (l .1) (omega arith) (λ _. let z : i + 1 - 1 ≡ i = omega arith in rw (z, l .0) (source-none i))
-        second false l = record { input = λ g. absurd (omega (arith, l .1)); output = λ f g. absurd (omega (arith, l .1)); point = λ g. absurd (omega (arith, l .1)) }
+            fits-output (i + 1) 7 (omega arith) (l .1) (omega arith) (λ _. let z : i + 1 - 1 ≡ i = omega arith in rw (z, l .0) (source-none i))
+        second false l = record { input = λ g. absurd (omega (arith, l .1)); output = λ f g. absurd (omega (arith, l .1)); point = λ g. absurd (omega (arith, l .1)); left = λ g. k .0 .1 .0 }
     all-fit (part r i ∷ es) n e t k s l x a b =
         let o = t .0 in
         elim (decLe (n + partAt r .inputs + 1) x) [
           | yes g ↦ all-fit es (n + partAt r .inputs + 1) e (t .1) (k .1) (s .1) (l .1) x g b
           | no g ↦ elim (ℕ-discrete x (i + partAt r .inputs)) [
-            | yes z ↦ (let d = s .0 in fits-output x r (ap (entry w) z ∙ l .0 .1) (rw (ne-eqb r 7 (λ y. omega arith)) (omega arith)) (λ y. absurd (omega arith)))
+            | yes z ↦ (let d = s .0 in fits-output x r (omega arith) (ap (entry w) z ∙ l .0 .1) (rw (ne-eqb r 7 (λ y. omega arith)) (omega arith)) (λ y. absurd (omega arith)))
             | no z ↦ fits-input x (subst (λ (y : ℕ). y ≤ 8192) (sym (l .0 .0 x (omega arith) (omega arith))) (source-low x (k .0 x (omega arith) (omega arith))))
           ]
         ]

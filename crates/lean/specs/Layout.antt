@@ -5,11 +5,12 @@ use Prim.Native.Nat.{ℕ, zero, suc, _+_, _-_, _*_, _/_, _%_, _≤_, _<_}
 use mathlib.Core.Path.{_≡_}
 use mathlib.Core.Bool.{Bool, cond}
 use mathlib.Core.List.{List, [], _∷_, _++_, map}
-use lib.Dec.{eqb, ltb}
+use lib.Dec.{T, eqb, ltb}
 use lib.ListN.{length, getD, set, drop}
 use Rattle.calculus.specs.Terms.{partAt}
 use Rattle.calculus.specs.Net.{Element, point, part, Wire, wireOf, Net}
 use Rattle.calculus.specs.Lean.{isPin, lean}
+use Rattle.calculus.specs.Inputs.{isOut}
 use Rattle.calculus.specs.Makers.{maker, leanMakers}
 use Rattle.memory.specs.Map.{stackAt, rootsAt, rootsEnd, bindersAt, makersAt, memorySize, region, elementsFrom, terminalOf, netIn}
 use Rattle.netlist.specs.Elements.{outputOf}
@@ -91,6 +92,9 @@ pub record Leant (u : List ℕ) (elements wires pins : ℕ) (w : List ℕ) (end 
   pub ready : LeanReady w end pins
   pub net : leanIn w end pins ≡ lean (netIn u elements wires pins)
   pub makers : (js : List ℕ) → makersIn w end 0 js ≡ leanMakers (netIn u elements wires pins) js
+  -- what is left out is an output of the full netlist, and past the terminals there is nothing
+  pub left : (x : ℕ) → x < end → leftOut ≤ entry w x → T (isOut (netIn u elements wires pins .elements) x)
+  pub past : (x : ℕ) → end ≤ x → x < 8192 → entry w x ≡ 0
 
 -- ---- the inputs: each that has a driver gets the driver's root
 
