@@ -1,5 +1,5 @@
 -- What an entry of the lean netlist by terminal says of the netlist that stands there, and the netlist of its entries. Assumes nothing.
-use Prim.Native.Nat.{ℕ, zero, suc, _+_, _-_, _≤_, _<_}
+use Prim.Native.Nat.{ℕ, zero, suc, _+_, _-_, _/_, _%_, _≤_, _<_}
 use mathlib.Core.Path.{_≡_, refl, sym, ap, _∙_, subst}
 use mathlib.Core.Logic.{_⊎_, inl, inr, ⊎-elim}
 use mathlib.Core.Bool.{Bool, true, false, cond}
@@ -7,20 +7,24 @@ use mathlib.Core.List.{List, [], _∷_, _++_}
 use native.Mathlib.Omega.{arith}
 use native.Mathlib.Decide.{ℕ-discrete, decLe}
 use lib.Dec.{T, eqb, eqb→eq}
-use lib.ListN.{getD}
+use lib.ListN.{length, getD}
 use borrow.Author.Tests.{ne-eqb, eq-eqb}
 use Rattle.laws.proofs.Tests.{or-elim, or-left, or-right}
+use Rattle.laws.proofs.Regions.{region-length, region-at}
 use Rattle.calculus.specs.Terms.{partAt}
-use Rattle.calculus.specs.Net.{Element, point, part, Wire, wireOf, Net}
+use Rattle.calculus.specs.Net.{inp, out, Element, point, part, Wire, wireOf, Net}
 use Rattle.calculus.specs.Lean.{kept, keep, lean}
 use Rattle.calculus.specs.Inputs.{isOut}
-use Rattle.calculus.specs.Record.{Among, here, there}
-use Rattle.memory.specs.Map.{rootsAt, elementsFrom, netIn, Ready}
+use Rattle.calculus.specs.Record.{All, Among, here, there}
+use Rattle.circuit_theorems.specs.Formed.{Shown, Formed}
+use Rattle.circuit_theorems.proofs.Forming.{lean-formed}
+use Rattle.memory.specs.Map.{rootsAt, region, elementsFrom, terminalOf, netIn, Ready}
 use Rattle.netlist.specs.Elements.{outputOf}
 use Rattle.lean.specs.Table.{entry}
-use Rattle.lean.specs.Layout.{kindsFrom, leftOut, firstOf, elementAt, wireAt, rowIn, leanIn, LeanReady, Leant}
+use Rattle.lean.specs.Layout.{leanPinsAt, kindsFrom, leftOut, firstOf, elementAt, wireAt, rowIn, leanIn, LeanReady, Leant}
 use Rattle.lean.proofs.DriverLaws.{output-free}
 use Rattle.lean.proofs.MakeLaws.{element-input, element-left, element-here, wire-none, wire-output, wire-here}
+use Rattle.lean.proofs.LeantLaws.{pin-at}
 
 -- ---- members of a row
 
@@ -44,6 +48,10 @@ module _ {A : Type 0} where
   in-second : {a : A} (xs ys : List A) → Among a ys → Among a (xs ++ ys)
   in-second [] ys h = h
   in-second (x ∷ xs) ys h = there (in-second xs ys h)
+
+every : {A : Type 0} (F : A → Type 0) {x : A} {xs : List A} → Among x xs → All F xs → F x
+every F here a = a .0
+every F (there h) a = every F h (a .1)
 
 module _ {A : Type 0} (f : ℕ → ℕ → List A) (at : ℕ) (w : List ℕ) where
   row-in : {a : A} (c x : ℕ) → Among a (rowIn f at w c x) → (y : ℕ) × (y < x + c) × Among a (f (getD w (at + y) 0) y)
@@ -152,6 +160,23 @@ module _ (u : List ℕ) (e k p : ℕ) (ready : Ready u e k p) (w : List ℕ) (en
   pub lean-out : (o : ℕ) → T (isOut (leanIn w end p .elements) o) → T (isOut (netIn u e k p .elements) o)
   unfolding lean
   lean-out o t = out-keep (netIn u e k p) (netIn u e k p .elements) o (subst (λ (m : Net). T (isOut (m .elements) o)) (l .net) t)
+
+  lean-ok : Formed (leanIn w end p)
+  lean-ok = subst Formed (sym (l .net)) (lean-formed (netIn u e k p) (ready .formed))
+
+  -- where a wire comes from, and what a pin shows
+  pub source-out : (x : ℕ) → x < end → (entry w x ≡ 0 → ⊥) → entry w x < kindsFrom → T (isOut (leanIn w end p .elements) (entry w x - 1))
+  source-out x b d h = every (λ v. T (isOut (leanIn w end p .elements) (v .from))) (entry-wire w end p (l .ready) x b d h) (lean-ok .from)
+
+  pub pin-out : (j : ℕ) → j < p → (getD w (leanPinsAt + j) 0 % 2 ≡ 0 → ⊥) → T (isOut (leanIn w end p .elements) (getD w (leanPinsAt + j) 0 / 2))
+  unfolding leanIn
+  pin-out j h d =
+      let z = l .ready .size in
+      let f = l .ready .few-pins in
+      let n : length (region w leanPinsAt p) ≡ p = region-length w leanPinsAt p (omega arith) in
+      let c = getD w (leanPinsAt + j) 0 in
+      subst (λ (b : Bool). Shown (leanIn w end p .elements) (cond b (inp (c / 2)) (out (c / 2)))) (ne-eqb (c % 2) 0 d)
+      (subst (λ (x : ℕ). Shown (leanIn w end p .elements) (terminalOf x)) (region-at w leanPinsAt p j h) (pin-at (Shown (leanIn w end p .elements)) (region w leanPinsAt p) j (lean-ok .shown) (omega arith)))
 
   pub lean-free : (o : ℕ) → T (isOut (leanIn w end p .elements) o) → (o < end) × (getD w o 0 ≡ 65535)
   lean-free o t =

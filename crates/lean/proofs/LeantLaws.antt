@@ -37,7 +37,7 @@ use Rattle.lean.proofs.DriverLaws.{rising, output-below, output-free, i
 use Rattle.lean.proofs.LeanLaws.{entry-root}
 use Rattle.lean.proofs.MakeLaws.{span, tiled-span, named-within, sourceOf, Fresh, Here, Roots, Laid, named-past, all-laid, elements-are, wires-are, makers-are, Fits, all-fit}
 
-pin-at : (P : Terminal → Type 0) (cs : List ℕ) (j : ℕ) → All P (map terminalOf cs) → j < length cs → P (terminalOf (getD cs j 0))
+pub pin-at : (P : Terminal → Type 0) (cs : List ℕ) (j : ℕ) → All P (map terminalOf cs) → j < length cs → P (terminalOf (getD cs j 0))
 pin-at P [] j a l = absurd (omega arith)
 pin-at P (c ∷ cs) zero a l = a .0
 pin-at P (c ∷ cs) (suc j) a l = pin-at P cs j (a .1) (omega arith)
