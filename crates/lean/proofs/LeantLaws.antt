@@ -34,7 +34,6 @@ use Rattle.lean.specs.Table.{entry, Within, Whole, Rooted}
 use Rattle.lean.specs.Layout.{leanPinsAt, kindsFrom, makersIn, leanIn, LeanReady, Around, Leant, linkIn, Source, Linkable, Linked, rootedIn, Rootable, Pinned, named}
 use Rattle.lean.proofs.KindLaws.{tiled-after}
 use Rattle.lean.proofs.DriverLaws.{rising, output-below, output-free, input-below, driver-out, fed, pin-none, driver-in}
-use Rattle.lean.proofs.LeanLaws.{entry-root}
 use Rattle.lean.proofs.MakeLaws.{span, tiled-span, named-within, sourceOf, Fresh, Here, Roots, Laid, named-past, all-laid, elements-are, wires-are, makers-are, Fits, all-fit}
 
 pub pin-at : (P : Terminal → Type 0) (cs : List ℕ) (j : ℕ) → All P (map terminalOf cs) → j < length cs → P (terminalOf (getD cs j 0))
@@ -98,6 +97,10 @@ module _ (u : List ℕ) (e k p : ℕ) (q : Whole u e k p) (known : All Known (ne
   abbrev end : ℕ
   end = afterAll (region u elementsAt e) 0
 
+  -- the entry of an output is its root
+  entry-root : (o : ℕ) → Is o → entry u o ≡ root m o
+  entry-root o t = q .table o (output-below u e k p r o t) ∙ ap (λ (b : Bool). cond b (root m o) 0) (T-is (isOut (m .elements) o) t)
+
   end-is : end ≡ r .end
   unfolding netIn
   end-is = tiled-after (region u elementsAt e) 0 (r .end) (r .tiled)
@@ -119,7 +122,7 @@ module _ (u : List ℕ) (e k p : ℕ) (q : Whole u e k p) (known : All Known (ne
   source : (x : ℕ) → x < end → (getD u x 0 ≡ 65535 → ⊥) → Source u (getD u x 0)
   source x l d =
       let t = driver-out u e k p r x (omega (arith, end-low)) d in
-      record { low = output-below u e k p r (getD u x 0) t; none = output-free u e k p r (getD u x 0) t; root = subst (λ (y : ℕ). y < 8192) (sym (entry-root u e k p q (getD u x 0) t)) (root-low (getD u x 0) t) }
+      record { low = output-below u e k p r (getD u x 0) t; none = output-free u e k p r (getD u x 0) t; root = subst (λ (y : ℕ). y < 8192) (sym (entry-root (getD u x 0) t)) (root-low (getD u x 0) t) }
 
   roots : Roots m
   roots = record {
@@ -173,7 +176,7 @@ module _ (u : List ℕ) (e k p : ℕ) (q : Whole u e k p) (known : All Known (ne
       by false z s =
           let y = entry u (c / 2) in
           let g : (2 * y + 1) / 2 ≡ y = omega arith in
-          ap (λ (t : Bool). cond t (inp ((2 * y + 1) / 2)) (out ((2 * y + 1) / 2))) (ne-eqb ((2 * y + 1) % 2) 0 (λ f. omega arith)) ∙ ap out (g ∙ entry-root u e k p q (c / 2) s)
+          ap (λ (t : Bool). cond t (inp ((2 * y + 1) / 2)) (out ((2 * y + 1) / 2))) (ne-eqb ((2 * y + 1) % 2) 0 (λ f. omega arith)) ∙ ap out (g ∙ entry-root (c / 2) s)
 
   rooted-low : (c : ℕ) → c / 2 < 8192 → rootedIn u c < 16384
   rooted-low c l = by (eqb (c % 2) 0)
@@ -214,14 +217,14 @@ module _ (u : List ℕ) (e k p : ℕ) (q : Whole u e k p) (known : All Known (ne
             | yes z ↦ linked-at x (made-before x h) (inr z) ∙ rw (pin-none u e k p r x h, eq-eqb (getD u x 0) 65535 z) (q .table x (input-below u e k p r x h) ∙ rw (made-not-out x h))
             | no z ↦ (let f = pin-none u e k p r x h ∙ ne-eqb (getD u x 0) 65535 z in
                 linked-at x (made-before x h) (inl z) ∙ rw (f, ne-eqb (getD u x 0) 65535 z, driver-in u e k p r x 0 h f)
-                (ap (λ (y : ℕ). y + 1) (entry-root u e k p q (getD u x 0) (driver-out u e k p r x (input-below u e k p r x h) z))))
+                (ap (λ (y : ℕ). y + 1) (entry-root (getD u x 0) (driver-out u e k p r x (input-below u e k p r x h) z))))
           ]
 
       out-entry : (o : ℕ) → Is o → entry w o ≡ root m o
       out-entry o t =
           let z = output-free u e k p r o t in
           let b = out-high (m .elements) 0 (r .end) o (rising u e k p r) t in
-          linked-at o (omega (arith, end-is)) (inr z) ∙ rw (eq-eqb (getD u o 0) 65535 z) (entry-root u e k p q o t)
+          linked-at o (omega (arith, end-is)) (inr z) ∙ rw (eq-eqb (getD u o 0) 65535 z) (entry-root o t)
 
       fresh : Fresh m w 0
       fresh = record { size = (let z = linkable .size in let y = l .within .size in omega arith); inputs = λ x g h. made-entry x h; outputs = λ o g t. out-entry o t }

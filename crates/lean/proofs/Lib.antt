@@ -4,7 +4,6 @@ pub mod DriverLaws
 pub mod StartLaws
 pub mod SettleLaws
 pub mod RoundLaws
-pub mod LeanLaws
 pub mod Writing
 pub mod Rows
 pub mod PassLaws

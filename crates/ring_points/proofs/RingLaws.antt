@@ -1,119 +1,87 @@
--- The search for a kept ring point, element by element; and that it finds what the definition's test refuses. Assumes nothing.
-use Prim.Native.Nat.{ℕ, _+_, _≤_, _<_}
+-- The search finds what the definition's test refuses. Assumes nothing.
+use Prim.Native.Nat.{ℕ, zero, suc, _+_, _-_, _≤_, _<_}
 use mathlib.Core.Path.{_≡_, refl, sym, ap, _∙_, subst}
-use mathlib.Core.Bool.{Bool, true, false, cond, not, _&&_}
-use mathlib.Core.List.{List, [], _∷_, map}
+use mathlib.Core.Bool.{Bool, true, false, cond, not}
+use mathlib.Core.List.{List, [], _∷_, _++_, map}
 use native.Mathlib.Omega.{arith}
-use native.Mathlib.Decide.{ℕ-discrete}
-use lib.Dec.{eqb, eqb-refl}
-use lib.ListN.{length, getD, drop}
+use native.Mathlib.Decide.{ℕ-discrete, decLe}
+use lib.Dec.{T, eqb}
 use borrow.Author.Tests.{ne-eqb, eq-eqb, lt-ltb}
-use Rattle.laws.proofs.Tests.{T-is}
 use Rattle.calculus.specs.Answer.{Answer}
-use Rattle.calculus.specs.Terms.{partAt}
-use Rattle.calculus.specs.Net.{Terminal, inp, out, Interface, Element, point, Net}
-use Rattle.calculus.specs.Lean.{isPin, lean}
-use Rattle.calculus.specs.Inputs.{tally, madeAt}
+use Rattle.calculus.specs.Net.{Interface, Element, point, part}
+use Rattle.calculus.specs.Lean.{isPin}
 use Rattle.export_calculus.specs.Card.{needAll, noRing, inputPlace}
-use Rattle.memory.specs.Map.{elementsAt, stackAt, region, elementsFrom, terminalOf, netIn}
-use Rattle.netlist.specs.Elements.{after, afterAll}
-use Rattle.netlist.proofs.Elements.{after-rises}
-use Rattle.lean.specs.Table.{Whole}
-use Rattle.lean.specs.InMemory.{undriven, keptIn, keepIn, pinIn}
-use Rattle.lean.proofs.KindLaws.{region-next, region-end, first-low}
-use Rattle.lean.proofs.DriverLaws.{pin-none}
-use Rattle.lean.proofs.LeanLaws.{lean-net}
-use Rattle.ring_points.specs.Rings.{ringIn, ringFrom, answerOf}
+use Rattle.memory.specs.Map.{rootsAt, region, elementsFrom, terminalOf}
+use Rattle.netlist.specs.Elements.{outputOf}
+use Rattle.lean.specs.Table.{entry}
+use Rattle.lean.specs.Layout.{leanPinsAt, kindsFrom, leftOut, firstOf, elementAt, rowIn, leanIn, LeanReady}
+use Rattle.lean.proofs.MakeLaws.{element-input, element-left, element-here}
+use Rattle.ring_points.specs.Rings.{ringAt, lowestFrom, answerOf}
 
--- ---- i elements are done, n is the next free terminal, and the first ring point is still to come
+-- one more is done
+pub lowest-next : (w : List ℕ) (end x : ℕ) → x < end → lowestFrom w (end - x) x ≡ cond (ringAt w x) (x - 1) (lowestFrom w (end - (x + 1)) (x + 1))
+lowest-next w end x h = let e : end - x ≡ suc (end - (x + 1)) = omega arith in ap (λ (c : ℕ). lowestFrom w c x) e
 
-pub record Searching (w : List ℕ) (elements n i : ℕ) : Type 0 where
-  pub low : afterAll (drop i (region w elementsAt elements)) n ≤ 8192
-  pub same : ringFrom w (drop i (region w elementsAt elements)) n ≡ ringFrom w (region w elementsAt elements) 0
+pub lowest-end : (w : List ℕ) (end x : ℕ) → end ≤ x → lowestFrom w (end - x) x ≡ 8192
+lowest-end w end x h = let e : end - x ≡ 0 = omega arith in ap (λ (c : ℕ). lowestFrom w c x) e
 
-module _ {w : List ℕ} {elements n i : ℕ} (size : elementsAt + elements ≤ length w) (s : Searching w elements n i) where
-  abbrev ks : List ℕ
-  ks = region w elementsAt elements
+pub lowest-start : (w : List ℕ) (end : ℕ) → lowestFrom w (end - 0) 0 ≡ lowestFrom w end 0
+lowest-start w end = let e : end - 0 ≡ end = omega arith in ap (λ (c : ℕ). lowestFrom w c 0) e
 
-  pub searching-end : elements ≤ i → 8192 ≡ ringFrom w ks 0
-  searching-end h = ap (λ (x : List ℕ). ringFrom w x n) (sym (region-end w elementsAt elements i size h)) ∙ s .same
+-- a point's output has its input before it
+pub point-up : (w : List ℕ) (end pins : ℕ) → LeanReady w end pins → (x : ℕ) → x < end → entry w x ≡ kindsFrom + 7 → 1 ≤ x
+point-up w end pins r x h z =
+    let k : entry w x - kindsFrom ≡ 7 = omega arith in
+    let u = r .outputs x h (omega arith) (omega arith) in
+    subst (λ (y : ℕ). outputOf y 0 ≤ x) k u
 
-  module _ (lt : i < elements) where
-    abbrev k : ℕ
-    k = getD w (elementsAt + i) 0
+pub ring-up : (w : List ℕ) (end pins : ℕ) → LeanReady w end pins → (x : ℕ) → x < end → ringAt w x ≡ true → 1 ≤ x
+ring-up w end pins r x h e = elim (ℕ-discrete (entry w x) (kindsFrom + 7)) [
+  | yes z ↦ point-up w end pins r x h z
+  | no d ↦ absurd (subst T (rw (ne-eqb (entry w x) (kindsFrom + 7) d) at (sym e)) tt)
+]
 
-    next : drop i ks ≡ k ∷ drop (i + 1) ks
-    next = region-next w elementsAt elements i size lt
+pub no-point : (w : List ℕ) (x : ℕ) → (entry w x ≡ kindsFrom + 7 → ⊥) → false ≡ ringAt w x
+no-point w x d = rw (ne-eqb (entry w x) (kindsFrom + 7) d)
 
-    low-next : afterAll (drop (i + 1) ks) (after k n) ≤ 8192
-    low-next = subst (λ (xs : List ℕ). afterAll xs n ≤ 8192) next (s .low)
+pub by-wire : (w : List ℕ) (x : ℕ) → entry w x ≡ kindsFrom + 7 → not (eqb (entry w (x - 1)) 0) ≡ ringAt w x
+by-wire w x e = rw (eq-eqb (entry w x) (kindsFrom + 7) e)
 
-    pub searching-low : after k n ≤ 8192
-    searching-low = omega (arith, after-rises (drop (i + 1) ks) (after k n), low-next)
+module _ (w : List ℕ) (end pins : ℕ) (r : LeanReady w end pins) (number : ℕ) where
+  abbrev ps : Interface
+  ps = map terminalOf (region w leanPinsAt pins)
 
-    here : cond (ringIn w k n) n (ringFrom w (drop (i + 1) ks) (after k n)) ≡ ringFrom w ks 0
-    here = ap (λ (x : List ℕ). ringFrom w x n) (sym next) ∙ s .same
+  abbrev test : List Element → Answer (Unit {0})
+  test es = needAll (noRing ps) number inputPlace es
 
-    pub searching-found : ringIn w k n ≡ true → n ≡ ringFrom w ks 0
-    searching-found h = ap (λ (b : Bool). cond b n (ringFrom w (drop (i + 1) ks) (after k n))) (sym h) ∙ here
+  -- an element of kind k that is no point passes
+  part-passes : (k n : ℕ) (es : List Element) → (k ≡ 7 → ⊥) → test (elementsFrom (k ∷ []) n ++ es) ≡ test es
+  part-passes k n es d = rw (ne-eqb k 7 d)
 
-    pub searching-step : {n₁ : ℕ} → ringIn w k n ≡ false → n₁ ≡ after k n → Searching w elements n₁ (i + 1)
-    searching-step h e = record {
-      low = rw e low-next;
-      same = rw e (ap (λ (b : Bool). cond b n (ringFrom w (drop (i + 1) ks) (after k n))) (sym h) ∙ here);
-    }
-
--- ---- what the definition's test answers, under any number: 18 of L1, 28 of L12
-
-module _ (w : List ℕ) (e k p : ℕ) (q : Whole w e k p) where
-  abbrev m : Net
-  m = netIn w e k p
-
-  abbrev pinsIn : List ℕ → Interface
-  pinsIn cs = map (λ c. pinIn w (terminalOf c)) cs
-
-  pins-same : (cs : List ℕ) (i : ℕ) → isPin (pinsIn cs) i ≡ isPin (map terminalOf cs) i
-  pins-same [] i = refl
-  pins-same (c ∷ cs) i = by (terminalOf c) (pins-same cs i)
+  point-test : (x : ℕ) (es : List Element) (rest : ℕ) → x < 8192 → isPin ps (x - 1) ≡ eqb (entry w (x - 1)) 0 → test es ≡ answerOf number rest
+      → test (point (x - 1) ∷ es) ≡ answerOf number (cond (not (eqb (entry w (x - 1)) 0)) (x - 1) rest)
+  point-test x es rest l h e = by (eqb (entry w (x - 1)) 0) h
     where
-      by : (t : Terminal) → isPin (pinsIn cs) i ≡ isPin (map terminalOf cs) i → isPin (pinIn w t ∷ pinsIn cs) i ≡ isPin (t ∷ map terminalOf cs) i
-      by (inp j) h = rw h
-      by (out o) h = h
+      by : (b : Bool) → isPin ps (x - 1) ≡ b → test (point (x - 1) ∷ es) ≡ answerOf number (cond (not b) (x - 1) rest)
+      by true z = rw z e
+      by false z = rw (z, lt-ltb (x - 1) 8192 (omega arith))
 
-  pin-here : (i : ℕ) → 1 ≤ madeAt (m .elements) i → isPin (pinsIn (region w stackAt p)) i ≡ undriven w i
-  unfolding netIn
-  pin-here i h = pins-same (region w stackAt p) i ∙ pin-none w e k p (q .ready) i h
+  search : (c x : ℕ) → x + c ≤ end → test (rowIn elementAt rootsAt w c x) ≡ answerOf number (lowestFrom w c x)
+  search zero x h = refl
+  search (suc c) x h =
+      let b = r .below in
+      let next = search c (x + 1) (omega arith) in
+      elim (ℕ-discrete (entry w x) (kindsFrom + 7)) [
+        | yes z ↦ rw (z) (point-test x (rowIn elementAt rootsAt w c (x + 1)) (lowestFrom w c (x + 1)) (omega arith) (r .points x (omega arith) z) next)
+        | no d ↦ rw (ne-eqb (entry w x) (kindsFrom + 7) d) (elim (decLe kindsFrom (entry w x)) [
+          | no l ↦ rw (element-input (entry w x) x (omega arith)) next
+          | yes l ↦ elim (decLe leftOut (entry w x)) [
+            | yes g ↦ rw (element-left (entry w x) x g) next
+            | no g ↦ rw (element-here (entry w x) x l (omega arith)) (part-passes (entry w x - kindsFrom) (firstOf (entry w x - kindsFrom) x) (rowIn elementAt rootsAt w c (x + 1)) (λ z. d (omega arith)) ∙ next)
+          ]
+        ])
+      ]
 
-  module _ (number : ℕ) where
-    abbrev test : List Element → Answer (Unit {0})
-    test es = needAll (noRing (pinsIn (region w stackAt p))) number inputPlace es
-
-    one-made : (n : ℕ) (es : List Element) → 1 ≤ madeAt (point n ∷ es) n
-    one-made n es = let h : tally n n ≡ 1 = ap (λ (b : Bool). cond b 1 0) (T-is (eqb n n) (eqb-refl n)) in omega arith
-
-    search : (ks : List ℕ) (n : ℕ) → ((x : ℕ) → 1 ≤ madeAt (elementsFrom ks n) x → 1 ≤ madeAt (m .elements) x) → afterAll ks n ≤ 8192
-        → test (keepIn w (elementsFrom ks n)) ≡ answerOf number (ringFrom w ks n)
-    search [] n f l = refl
-    search (c ∷ ks) n f l =
-        elim (ℕ-discrete c 7) [
-          | yes z ↦
-              let g : (x : ℕ) → 1 ≤ madeAt (point n ∷ elementsFrom ks (n + 2)) x → 1 ≤ madeAt (m .elements) x = λ x h. f x (rw (eq-eqb c 7 z) h) in
-              let low : n < 8192 = first-low c n 8192 (omega (arith, after-rises ks (after c n))) in
-              let r = search ks (n + 2) (λ x h. g x (omega arith)) (rw (eq-eqb c 7 z) at l) in
-              rw (eq-eqb c 7 z) (points (keptIn w (point n)) (undriven w n) (pin-here n (g n (one-made n (elementsFrom ks (n + 2))))) low r)
-          | no d ↦
-              let r = search ks (n + partAt c .inputs + 1) (λ x h. f x (rw (ne-eqb c 7 d) (omega arith))) (rw (ne-eqb c 7 d) at l) in
-              rw (ne-eqb c 7 d) r
-        ]
-      where
-        points : (b u : Bool) → isPin (pinsIn (region w stackAt p)) n ≡ u → n < 8192 → test (keepIn w (elementsFrom ks (n + 2))) ≡ answerOf number (ringFrom w ks (n + 2))
-            → test (cond b (point n ∷ keepIn w (elementsFrom ks (n + 2))) (keepIn w (elementsFrom ks (n + 2)))) ≡ answerOf number (cond (not u && b) n (ringFrom w ks (n + 2)))
-        points true true h l r = rw h r
-        points true false h l r = rw (h, lt-ltb n 8192 l)
-        points false true h l r = r
-        points false false h l r = r
-
-    pub ring-answer : afterAll (region w elementsAt e) 0 ≤ 8192
-        → needAll (noRing (lean m .pins)) number inputPlace (lean m .elements) ≡ answerOf number (ringFrom w (region w elementsAt e) 0)
-    unfolding netIn
-    ring-answer l = rw (lean-net w e k p q) (search (region w elementsAt e) 0 (λ x h. h) l)
+  pub lowest-answer : needAll (noRing (leanIn w end pins .pins)) number inputPlace (leanIn w end pins .elements) ≡ answerOf number (lowestFrom w end 0)
+  unfolding leanIn
+  lowest-answer = search end 0 (omega arith)

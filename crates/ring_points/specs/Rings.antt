@@ -1,21 +1,20 @@
--- The kept ring points of the lean netlist, as the tables of drivers and roots in the working memory tell them. Assumes nothing.
-use Prim.Native.Nat.{ℕ}
+-- The kept ring points of the lean netlist that stands in the working memory by terminal. Assumes nothing.
+use Prim.Native.Nat.{ℕ, zero, suc, _+_, _-_}
 use mathlib.Core.Bool.{Bool, not, _&&_, cond}
-use mathlib.Core.List.{List, [], _∷_}
+use mathlib.Core.List.{List}
 use lib.Dec.{eqb, ltb}
 use Rattle.calculus.specs.Answer.{Answer, good, refuse}
-use Rattle.calculus.specs.Net.{point}
-use Rattle.netlist.specs.Elements.{after}
-use Rattle.lean.specs.InMemory.{undriven, keptIn}
+use Rattle.lean.specs.Table.{entry}
+use Rattle.lean.specs.Layout.{kindsFrom}
 
--- an element of kind k that starts at n is a kept ring point
-abbrev pub ringIn : List ℕ → ℕ → ℕ → Bool
-ringIn w k n = eqb k 7 && (not (undriven w n) && keptIn w (point n))
+-- x is the output of one: a point's, whose input has a wire
+abbrev pub ringAt : List ℕ → ℕ → Bool
+ringAt w x = eqb (entry w x) (kindsFrom + 7) && not (eqb (entry w (x - 1)) 0)
 
--- the input of the first; 8,192 where there is none
-abbrev pub ringFrom : List ℕ → List ℕ → ℕ → ℕ
-ringFrom w [] n = 8192
-ringFrom w (k ∷ ks) n = cond (ringIn w k n) n (ringFrom w ks (after k n))
+-- the input of the first, among c outputs from x on; 8,192 where there is none
+abbrev pub lowestFrom : List ℕ → ℕ → ℕ → ℕ
+lowestFrom w zero x = 8192
+lowestFrom w (suc c) x = cond (ringAt w x) (x - 1) (lowestFrom w c (x + 1))
 
 -- refused at a terminal; 8,192 is none
 abbrev pub answerOf : ℕ → ℕ → Answer (Unit {0})

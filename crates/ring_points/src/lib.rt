@@ -1,32 +1,11 @@
-// The kept ring points of the lean netlist that stands in the working memory with its roots (18 of L1, 28 of L12).
-use memory::NONE;
+// The kept ring points of the lean netlist that stands in the working memory by terminal (18 of L1, 28 of L12).
 use memory::POINT;
-use memory::ROOTS;
 ghost use mathlib.Core.Path.{_≡_};
-ghost use Prim.Native.Nat.{_≤_, _<_};
-ghost use lib.ListN.{length};
-ghost use Rattle.memory.specs.Map.{memorySize};
-ghost use Rattle.netlist.specs.Elements.{after};
+ghost use Prim.Native.Nat.{_<_};
 ghost use Rattle.lean.specs.Layout.{LeanReady};
-ghost use Rattle.ring_points.specs.Rings.{ringIn};
-ghost use Rattle.ring_points.specs.Lowest.{ringAt, lowestFrom};
+ghost use Rattle.ring_points.specs.Rings.{ringAt, lowestFrom};
 
-// The element of this kind that starts at terminal n is a kept ring point: its output is its own root, and its input has a driver.
-pub fn is_ring(work: &[u16], kind: u16, n: u16) -> bool
-    requires { ⌜ (memorySize ≤ length (now work)) × (after kind n ≤ 8192) ⌝ }
-    ensures { λ r. ⌜ r ≡ ringIn (now (work .entry)) kind n ⌝ }
-{
-    if kind != POINT {
-        return false;
-    }
-    let o = n + 1;
-    if work[ROOTS + o as usize] != o {
-        return false;
-    }
-    work[n as usize] != NONE
-}
-
-// x is the output of a kept ring point of the lean netlist by terminal.
+// x is the output of one: a point's, whose input has a wire.
 fn is_ring_at(work: &[u16], end: usize, pins: usize, x: usize) -> bool
     requires { ⌜ LeanReady (now work) end pins × (x < end) ⌝ }
     ensures { λ r. ⌜ r ≡ ringAt (now (work .entry)) x ⌝ }

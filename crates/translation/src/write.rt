@@ -68,7 +68,7 @@ fn write_plain(work: &mut [u16], out: &mut [u8], counts: Counts, wish: Wish) -> 
     write_full(&work[..], out, elements, wires, pins, plain)
 }
 
-// The card's profile is judged, then the netlist that is wished is written.
+// The card's profile is judged over the lean netlist, then the one that is wished is written: making the lean one leaves the full one.
 fn write_card(
     records: &[u8],
     work: &mut [u16],
@@ -85,10 +85,16 @@ fn write_card(
     let elements = counts.elements;
     let wires = counts.wires;
     let pins = counts.pins;
-    lean::roots(work, elements, wires, pins);
-    match card::judge(records, root, work, elements, wires, pins) {
+    let plain = wish.plain;
+    let end = lean::make_lean(work, elements, wires, pins);
+    match card::judge(records, root, work, end, pins) {
         Judged::Refused(number, place) => translator::refused(number, place),
-        Judged::Passes => write_plain(work, out, counts, wish),
+        Judged::Passes => {
+            if wish.lean {
+                return write_lean(&work[..], out, end, pins, plain);
+            }
+            write_full(&work[..], out, elements, wires, pins, plain)
+        }
     }
 }
 

@@ -1,22 +1,19 @@
 -- What is answered where a ring point is kept, where the text does not fit the output, and where it does. Assumes nothing.
-use Prim.Native.Nat.{ℕ, _+_, _-_, _≤_, _<_}
+use Prim.Native.Nat.{ℕ, _+_, _≤_, _<_}
 use mathlib.Core.Path.{_≡_, refl, sym, ap, _∙_, subst}
 use mathlib.Core.List.{List}
 use native.Mathlib.Omega.{arith}
-use lib.ListN.{length, drop, length-drop}
-use lib.Seq.{ext-getD, getD-drop}
+use lib.ListN.{length}
 use borrow.Author.Tests.{lt-ltb, le-ltb}
 use Rattle.calculus.specs.Answer.{Answer, refuse}
 use Rattle.calculus.specs.Net.{Net}
 use Rattle.calculus.specs.Lean.{lean}
 use Rattle.calculus.specs.Translate.{saidOf, outOf}
 use Rattle.export_calculus.specs.Verilog.{moduleText, exported}
-use Rattle.lean.specs.Layout.{leanIn, LeanReady, Around}
+use Rattle.lean.specs.Layout.{leanIn, LeanReady}
 use Rattle.lines.specs.Wrote.{WroteText}
-use Rattle.ring_points.specs.Lowest.{lowestFrom}
-use Rattle.ring_points.proofs.LowestLaws.{lowest-answer}
-use Rattle.translator.specs.Made.{Keeps}
-use Rattle.translator.proofs.Keeping.{later-keeps}
+use Rattle.ring_points.specs.Rings.{lowestFrom}
+use Rattle.ring_points.proofs.RingLaws.{lowest-answer}
 use Rattle.translator.specs.Said.{refusedAs, inRoom, AnswerSays}
 use Rattle.translator.specs.declared.Answer.the-variants as answer
 use Rattle.translator.proofs.SaidLaws.{says-short, says-fits}
@@ -26,12 +23,6 @@ use Rattle.verilog.specs.InMemory.{leanExported}
 pub exported-lean : (m : Net) (room : ℕ) → leanExported (lean m) room ≡ exported m room
 unfolding leanExported exported
 exported-lean m room = refl
-
--- what lies behind the working memory stays
-pub around-keeps : (w w′ : List ℕ) → 32768 ≤ length w → Around w w′ → Keeps w w′
-around-keeps w w′ l h = later-keeps w w′ l (subst (λ (n : ℕ). 32768 ≤ n) (sym (h .size)) l)
-    (ext-getD 0 (drop 32768 w′) (drop 32768 w) (length-drop 32768 w′ ∙ ap (λ (n : ℕ). n - 32768) (h .size) ∙ sym (length-drop 32768 w))
-    (λ i l. getD-drop 32768 w′ i 0 ∙ h .above (32768 + i) (omega arith) ∙ sym (getD-drop 32768 w i 0)))
 
 module _ (w : List ℕ) (end p : ℕ) (q : LeanReady w end p) (place : ℕ) (is : place ≡ lowestFrom w end 0) (o : List ℕ) where
   abbrev m : Net

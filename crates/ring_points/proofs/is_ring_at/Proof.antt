@@ -1,7 +1,7 @@
 -- The two tests. Assumes nothing.
 use borrow.Author.Needs.{needs}
 use native.Mathlib.Omega.{arith}
-use Rattle.ring_points.proofs.LowestLaws.{point-up, no-point, by-wire}
+use Rattle.ring_points.proofs.RingLaws.{point-up, no-point, by-wire}
 use Rattle.ring_points.proofs.is_ring_at.Statement.{statement}
 use Rattle.ring_points.proofs.is_ring_at.Tie as tie
 

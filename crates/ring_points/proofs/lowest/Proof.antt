@@ -3,8 +3,8 @@ use native.Mathlib.Omega.{arith}
 use mathlib.Core.Path.{_≡_, refl, sym, ap, _∙_}
 use mathlib.Core.Bool.{Bool, cond}
 use Prim.Native.Nat.{ℕ, _≤_, _-_, _+_}
-use Rattle.ring_points.specs.Lowest.{lowestFrom}
-use Rattle.ring_points.proofs.LowestLaws.{lowest-start, lowest-next, lowest-end, ring-up}
+use Rattle.ring_points.specs.Rings.{lowestFrom}
+use Rattle.ring_points.proofs.RingLaws.{lowest-start, lowest-next, lowest-end, ring-up}
 use Rattle.ring_points.proofs.lowest.Statement.{statement}
 use Rattle.ring_points.proofs.lowest.Tie as tie
 

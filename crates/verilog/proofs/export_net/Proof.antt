@@ -1,10 +1,12 @@
 -- `verilog::export_net` meets its contract: the lean netlist is made, which changes nothing of the full one. Assumes nothing.
 use mathlib.Core.Path.{_∙_, ap, subst}
 use lib.ListN.{length}
+use native.Mathlib.Omega.{arith}
 use Rattle.calculus.specs.Net.{Net}
 use Rattle.translator.specs.Said.{AnswerSays}
+use Rattle.translator.proofs.Keeping.{above-keeps}
 use Rattle.verilog.specs.InMemory.{leanExported}
-use Rattle.verilog.proofs.ExportLaws.{exported-lean, around-keeps}
+use Rattle.verilog.proofs.ExportLaws.{exported-lean}
 use borrow.Author.Needs.{needs}
 use Rattle.verilog.proofs.export_net.Statement.{statement}
 use Rattle.verilog.proofs.export_net.Tie as tie
@@ -17,7 +19,7 @@ returns c =
     let w = r .make-lean .ensures in
     let o = q .args .out .now in (
       subst (AnswerSays (k .export-lean .result) o (k .export-lean .last .1 .0)) (ap (λ (m : Net). leanExported m (length o)) (w .net) ∙ exported-lean _ (length o)) (k .export-lean .ensures),
-      around-keeps _ _ (q .pre .0 .size) (w .around),
+      above-keeps _ _ (q .pre .0 .size) (w .around .size) (λ j h. w .around .above j (omega arith)),
     )
 
 pub export-net-spec : {M : Type 1} → statement M

@@ -7,7 +7,7 @@ use mathlib.Core.Bool.{true, false}
 use Rattle.translation.specs.Wished.{saidWish}
 use Rattle.translator.specs.Said.{inRoom, AnswerSays}
 use Rattle.lean.proofs.LeantLaws.{made-bytes}
-use Rattle.translation.proofs.WriteLaws.{wished-says, around-keeps}
+use Rattle.translation.proofs.WriteLaws.{wished-says, made-keeps}
 use borrow.Author.Needs.{needs}
 use Rattle.translation.proofs.write.write_plain.Statement.{statement}
 use Rattle.translation.proofs.write.write_plain.Tie as tie
@@ -33,7 +33,7 @@ returns c =
     let l = m .make-lean .ensures in (
       wished-says (saidWish (a .wish)) true (a .out .now) _ (t .write-lean .result) _ _ (m .before .before .if1 .taken)
           (subst (λ (b : List ℕ). AnswerSays (t .write-lean .result) (a .out .now) (t .write-lean .last .1 .0) (inRoom b (length (a .out .now)))) (made-bytes (a .work .now) (m .make-lean .last .0) (a .counts .elements) (a .counts .wires) (a .counts .pins) (m .make-lean .result) (s .pre .0) l (a .wish .plain)) (t .write-lean .ensures)),
-      around-keeps _ _ (s .pre .0 .size) (l .around),
+      made-keeps _ _ (a .counts .elements) (a .counts .wires) (a .counts .pins) _ (s .pre .0) l,
     )
 
 write-full-requires : tie.Need-write-full-requires
