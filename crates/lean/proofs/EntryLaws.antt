@@ -161,7 +161,7 @@ module _ (u : List ℕ) (e k p : ℕ) (ready : Ready u e k p) (w : List ℕ) (en
   unfolding lean
   lean-out o t = out-keep (netIn u e k p) (netIn u e k p .elements) o (subst (λ (m : Net). T (isOut (m .elements) o)) (l .net) t)
 
-  lean-ok : Formed (leanIn w end p)
+  pub lean-ok : Formed (leanIn w end p)
   lean-ok = subst Formed (sym (l .net)) (lean-formed (netIn u e k p) (ready .formed))
 
   -- where a wire comes from, and what a pin shows

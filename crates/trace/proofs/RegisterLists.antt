@@ -21,7 +21,8 @@ use Rattle.memory.specs.Map.{memorySize, kindNumber}
 use Rattle.trace_theorems.proofs.Lists.{has-at, place-at, at-place, Up, up-low, up-weaken, up-once}
 use Rattle.trace_theorems.proofs.Lending.{registers-in, in-registers, registers-up}
 use Rattle.trace_theorems.proofs.Owners.{start, last, same-owner}
-use Rattle.trace_steps.specs.Map.{registersAt, kindsFrom, registerEntry, pointEntry}
+use Rattle.lean.specs.Layout.{leftOut}
+use Rattle.trace_steps.specs.Map.{registersAt, kindsFrom, registerEntry}
 use Rattle.trace_steps.specs.Turns.{takeTurns}
 use Rattle.trace_steps.specs.Pins.{Counted, counted, registerOne}
 use Rattle.trace_steps.proofs.Laws.{set-other}
@@ -159,7 +160,7 @@ module _ (u : List ℕ) (m : Net) (end pins : ℕ) (t : Tabled u m end pins) whe
   register-of x l e = go (t .entries x terminal) refl
     where
       terminal : T (has (terminals (m .elements)) x)
-      terminal = ⊎-elim (λ h. h) (λ h. absurd (⊎-elim (λ (a : getD u x 0 < 8192). omega arith) (λ (a : getD u x 0 ≡ pointEntry). omega arith) h)) (t .others x l)
+      terminal = ⊎-elim (λ h. h) (λ h. absurd (⊎-elim (λ (a : getD u x 0 < 8192). omega arith) (λ (a : leftOut ≤ getD u x 0). omega arith) h)) (t .others x l)
 
       go : {v : ℕ} → TableEntry m x v → v ≡ getD u x 0 → (i : ℕ) × Among (part 1 i) (m .elements) × (i + 1 ≡ x)
       go (of-pin a b) q = absurd (let f = t .few in omega arith)

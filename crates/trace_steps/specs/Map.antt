@@ -5,8 +5,9 @@
 --   restAt       5,120    the outputs that are not settled yet ..
 --   registersAt           .. and afterwards the registers' outputs by rising number
 --   orderAt      5,120    the order: the outputs that are settled, each behind those that it looks at; in the search, those that are met
---   pinsAt       128      the pins, an input i as 2 i and an output o as 2 o + 1, each output pin's root in its place
---   bitsAt       8,192    by terminal a mark, and then a number with its bit in each lane (specs/Words); before, the roots. They end at `bitsEnd`
+--   pinsAt       128      the pins, an input i as 2 i and an output o as 2 o + 1
+--   bitsAt       8,192    by terminal a mark, and then a number with its bit in each lane (specs/Words); before, the lean netlist by
+--                         terminal (lean/specs/Layout), whose pins stand at `bitsEnd`
 use Prim.Native.Nat.{ℕ, _+_}
 use Rattle.memory.specs.Map.{targetsAt, elementsAt, stackAt, rootsAt, rootsEnd}
 
