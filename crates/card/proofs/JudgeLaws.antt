@@ -6,7 +6,7 @@ use borrow.Author.Tests.{lt-ltb, le-ltb}
 use Rattle.calculus.specs.Answer.{good, refuse}
 use Rattle.calculus.specs.Net.{Net}
 use Rattle.export_calculus.specs.Card.{needAll, noRing, isRead, inputPlace, outputPlace, profiled}
-use Rattle.ring_points.specs.Rings.{answerOf}
+use Rattle.card.specs.Rings.{answerOf}
 
 module _ (chained : Bool) (m : Net) where
   pub no-chain : chained ≡ false → refuse 27 0 ≡ profiled chained m

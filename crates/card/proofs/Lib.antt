@@ -1,3 +1,5 @@
+pub mod ChainLaws
+pub mod RingLaws
 pub mod MarkLaws
 pub mod JudgeLaws
 pub mod Determined

@@ -18,13 +18,13 @@ use Rattle.export_calculus.specs.Card.{needAll, drives, isOutPin, isRead, outpu
 use Rattle.memory.specs.Map.{rootsAt, memorySize, region, elementsFrom, terminalOf, Ready}
 use Rattle.netlist.specs.Elements.{outputOf}
 use Rattle.lean.specs.Table.{entry}
-use Rattle.lean.specs.Layout.{leanPinsAt, kindsFrom, leftOut, firstOf, elementAt, wireAt, rowIn, leanIn, LeanReady, Leant}
+use Rattle.lean.specs.Layout.{leanPinsAt, kindsFrom, leftOut, firstTerminal, elementAt, wireAt, rowIn, leanIn, LeanReady, Leant}
 use Rattle.lean.proofs.DriverLaws.{output-below, driver-out}
 use Rattle.lean.proofs.EntryLaws.{source-out, pin-out, lean-free}
 use Rattle.lean.proofs.Rows.{row-more}
 use Rattle.lean.proofs.MakeLaws.{element-input, element-left, element-here, wire-none, wire-output, wire-here}
-use Rattle.ring_points.specs.Rings.{answerOf}
-use Rattle.card.specs.Marks.{readMark, markWire, markPin, Free, Markable, Marked, unreadAt, unreadFrom, cleaned, Cleaned}
+use Rattle.card.specs.Rings.{answerOf}
+use Rattle.card.specs.Marks.{readMark, markWire, markPin, Free, Markable, MarkedWhere, unreadAt, unreadFrom, cleaned, Cleaned}
 
 or-none : (b : Bool) → (b || false) ≡ b
 or-none true = refl
@@ -49,10 +49,10 @@ pins-append (out o ∷ xs) ys j = by (eqb o j) (pins-append xs ys j)
 
 -- ---- marks
 
-pub marked-none : (w : List ℕ) (end : ℕ) → Marked w end (λ j. false) w
+pub marked-none : (w : List ℕ) (end : ℕ) → MarkedWhere w end (λ j. false) w
 marked-none w end = record { size = refl; low = λ j l. refl; high = λ j l. refl; free = λ j e. absurd (subst T (sym e) tt) }
 
-pub marked-same : {w w′ : List ℕ} {end : ℕ} {P Q : ℕ → Bool} → ((j : ℕ) → P j ≡ Q j) → Marked w end P w′ → Marked w end Q w′
+pub marked-same : {w w′ : List ℕ} {end : ℕ} {P Q : ℕ → Bool} → ((j : ℕ) → P j ≡ Q j) → MarkedWhere w end P w′ → MarkedWhere w end Q w′
 marked-same {w} h m = record {
   size = m .size;
   low = λ j l. m .low j l ∙ ap (λ (b : Bool). cond b readMark (getD w j 0)) (h j);
@@ -60,7 +60,7 @@ marked-same {w} h m = record {
   free = λ j e. m .free j (h j ∙ e);
 }
 
-marked-one : {w w′ : List ℕ} {end : ℕ} {P : ℕ → Bool} (o : ℕ) → end ≤ 8192 → 8192 ≤ length w → Free w end o → Marked w end P w′ → Marked w end (λ j. P j || eqb o j) (set w′ o readMark)
+marked-one : {w w′ : List ℕ} {end : ℕ} {P : ℕ → Bool} (o : ℕ) → end ≤ 8192 → 8192 ≤ length w → Free w end o → MarkedWhere w end P w′ → MarkedWhere w end (λ j. P j || eqb o j) (set w′ o readMark)
 marked-one {w} {w′} {end} {P} o l z f m =
     let s = m .size in
     let u = f .0 in
@@ -91,7 +91,7 @@ module _ (w : List ℕ) (end pins : ℕ) (p : Markable w end pins) where
   wired-more : (x j : ℕ) → Wired (x + 1) j ≡ (Wired x j || drives (wireAt (entry w x) x) j)
   wired-more x j = ap (λ (ws : List Wire). drives ws j) (row-more wireAt rootsAt w x) ∙ drives-append (rowIn wireAt rootsAt w x 0) (wireAt (entry w x) x) j
 
-  pub wires-next : {w′ : List ℕ} (x : ℕ) → x < end → Marked w end (Wired x) w′ → Marked w end (Wired (x + 1)) (markWire w′ (entry w x))
+  pub wires-next : {w′ : List ℕ} (x : ℕ) → x < end → MarkedWhere w end (Wired x) w′ → MarkedWhere w end (Wired (x + 1)) (markWire w′ (entry w x))
   wires-next {w′} x h m =
       let v = entry w x in
       elim (ℕ-discrete v 0) [
@@ -121,7 +121,7 @@ module _ (w : List ℕ) (end pins : ℕ) (p : Markable w end pins) where
       by true b c = refl
       by false b c = refl
 
-  pub pins-next : {w′ : List ℕ} (i : ℕ) → i < pins → Marked w end (Read i) w′ → Marked w end (Read (i + 1)) (markPin w′ (getD w (leanPinsAt + i) 0))
+  pub pins-next : {w′ : List ℕ} (i : ℕ) → i < pins → MarkedWhere w end (Read i) w′ → MarkedWhere w end (Read (i + 1)) (markPin w′ (getD w (leanPinsAt + i) 0))
   pins-next {w′} i h m =
       let c = getD w (leanPinsAt + i) 0 in
       elim (ℕ-discrete (c % 2) 0) [
@@ -130,12 +130,12 @@ module _ (w : List ℕ) (end pins : ℕ) (p : Markable w end pins) where
             (marked-one (c / 2) (p .ready .below) big (p .shown i h d) m))
       ]
 
-  pub pins-start : {w′ : List ℕ} → Marked w end (Wired end) w′ → Marked w end (Read 0) w′
+  pub pins-start : {w′ : List ℕ} → MarkedWhere w end (Wired end) w′ → MarkedWhere w end (Read 0) w′
   pins-start m = marked-same (λ j. sym (or-none (Wired end j))) m
 
   -- ---- once all marks stand: the first part's output without one is where the definition refuses
 
-  module _ (w′ : List ℕ) (m : Marked w end (Read pins) w′) where
+  module _ (w′ : List ℕ) (m : MarkedWhere w end (Read pins) w′) where
     mark-is : (j : ℕ) → j < 8192 → eqb (getD w′ j 0) readMark ≡ Read pins j
     mark-is j l = by (Read pins j) (m .low j l)
       where

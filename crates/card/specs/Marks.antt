@@ -33,7 +33,7 @@ pub record Markable (w : List ℕ) (end pins : ℕ) : Type 0 where
   pub shown : (j : ℕ) → j < pins → (getD w (leanPinsAt + j) 0 % 2 ≡ 0 → ⊥) → Free w end (getD w (leanPinsAt + j) 0 / 2)
 
 -- w′ is w with marks where the test passes
-pub record Marked (w : List ℕ) (end : ℕ) (P : ℕ → Bool) (w′ : List ℕ) : Type 0 where
+pub record MarkedWhere (w : List ℕ) (end : ℕ) (P : ℕ → Bool) (w′ : List ℕ) : Type 0 where
   pub size : length w′ ≡ length w
   pub low : (j : ℕ) → j < 8192 → getD w′ j 0 ≡ cond (P j) readMark (getD w j 0)
   pub high : (j : ℕ) → 8192 ≤ j → getD w′ j 0 ≡ getD w j 0
@@ -43,11 +43,11 @@ pub record Marked (w : List ℕ) (end : ℕ) (P : ℕ → Bool) (w′ : List ℕ
 pub record WiresMarked (w : List ℕ) (end pins : ℕ) : Type 0 where
   pub before : List ℕ
   pub markable : Markable before end pins
-  pub marked : Marked before end (λ j. drives (rowIn wireAt rootsAt before end 0) j) w
+  pub marked : MarkedWhere before end (λ j. drives (rowIn wireAt rootsAt before end 0) j) w
 
 -- .. and those of the pins too
 abbrev pub PinsMarked : List ℕ → ℕ → ℕ → List ℕ → Type 0
-PinsMarked w end pins w′ = (o : WiresMarked w end pins) → Marked (o .before) end (λ j. drives (rowIn wireAt rootsAt (o .before) end 0) j || isOutPin (map terminalOf (region (o .before) leanPinsAt pins)) j) w′
+PinsMarked w end pins w′ = (o : WiresMarked w end pins) → MarkedWhere (o .before) end (λ j. drives (rowIn wireAt rootsAt (o .before) end 0) j || isOutPin (map terminalOf (region (o .before) leanPinsAt pins)) j) w′
 
 -- ---- one terminal after the other: the first output of a part that has no mark
 

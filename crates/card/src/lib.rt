@@ -1,12 +1,14 @@
 // The card's profile (document 02, L12), over the root's type and the lean netlist that stands in the working memory by terminal: a pass for 28,
 // and three for 29, whose marks are taken away again.
+mod chain;
 mod mark;
+pub mod rings;
 
 ghost use mathlib.Core.Path.{_≡_};
 ghost use Rattle.export_calculus.specs.Card.{needAll, isRead, outputPlace, profiled};
 ghost use Rattle.lean.specs.Layout.{leanIn};
-ghost use Rattle.root_type.specs.Chains.{chainIn};
-ghost use Rattle.ring_points.specs.Rings.{answerOf};
+ghost use Rattle.card.specs.Chains.{chainIn};
+ghost use Rattle.card.specs.Rings.{answerOf};
 ghost use Rattle.card.specs.Judged.{saidJudged};
 ghost use Rattle.card.specs.Marks.{Markable};
 
@@ -33,10 +35,10 @@ pub fn judge(records: &[u8], root: u8, work: &mut [u16], end: usize, pins: usize
     ensures { λ r. ⌜ (saidJudged r ≡ profiled (chainIn (now (records .entry)) 256 root) (leanIn (now (work .entry)) end pins))
         × (now (work .exit) ≡ now (work .entry)) ⌝ }
 {
-    if !root_type::is_chain(records, root) {
+    if !chain::is_chain(records, root) {
         return Judged::Refused(27, 0);
     }
-    let ring = ring_points::lowest(&work[..], end, pins);
+    let ring = rings::lowest(&work[..], end, pins);
     if ring < 8192 {
         return Judged::Refused(28, ring);
     }

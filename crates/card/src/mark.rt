@@ -10,7 +10,7 @@ ghost use mathlib.Core.Bool.{cond};
 ghost use lib.Dec.{ltb};
 ghost use Rattle.export_calculus.specs.Card.{drives};
 ghost use Rattle.lean.specs.Layout.{kindsFrom, wireAt, rowIn};
-ghost use Rattle.card.specs.Marks.{markWire, markPin, Markable, Marked, WiresMarked, PinsMarked, unreadAt, unreadFrom, cleaned, Cleaned};
+ghost use Rattle.card.specs.Marks.{markWire, markPin, Markable, MarkedWhere, WiresMarked, PinsMarked, unreadAt, unreadFrom, cleaned, Cleaned};
 
 // No output's number, and not NONE.
 pub const READ: u16 = 65534;
@@ -32,7 +32,7 @@ fn mark_wire(work: &mut [u16], v: u16)
 // For all wires.
 pub fn mark_wires(work: &mut [u16], end: usize, pins: usize)
     requires { ⌜ Markable (now work) end pins ⌝ }
-    ensures { λ _. ⌜ Marked (now (work .entry)) end (λ j. drives (rowIn wireAt rootsAt (now (work .entry)) end 0) j) (now (work .exit)) ⌝ }
+    ensures { λ _. ⌜ MarkedWhere (now (work .entry)) end (λ j. drives (rowIn wireAt rootsAt (now (work .entry)) end 0) j) (now (work .exit)) ⌝ }
 {
     let mut x: usize = 0;
     while x < end {

@@ -21,7 +21,7 @@ use Rattle.circuit_theorems.proofs.Forming.{lean-formed}
 use Rattle.memory.specs.Map.{rootsAt, region, elementsFrom, terminalOf, netIn, Ready}
 use Rattle.netlist.specs.Elements.{outputOf}
 use Rattle.lean.specs.Table.{entry}
-use Rattle.lean.specs.Layout.{leanPinsAt, kindsFrom, leftOut, firstOf, elementAt, wireAt, rowIn, leanIn, LeanReady, Leant}
+use Rattle.lean.specs.Layout.{leanPinsAt, kindsFrom, leftOut, firstTerminal, elementAt, wireAt, rowIn, leanIn, LeanReady, Leant}
 use Rattle.lean.proofs.DriverLaws.{output-free}
 use Rattle.lean.proofs.MakeLaws.{element-input, element-left, element-here, wire-none, wire-output, wire-here}
 use Rattle.lean.proofs.LeantLaws.{pin-at}
@@ -69,9 +69,9 @@ module _ {A : Type 0} (f : ℕ → ℕ → List A) (at : ℕ) (w : List ℕ) whe
 -- ---- one entry
 
 -- v is the entry of element a, whose output is x
-abbrev pub Tells : Element → ℕ → ℕ → Type 0
-Tells (point i) v x = (i + 1 ≡ x) × (v ≡ kindsFrom + 7)
-Tells (part p i) v x = (i + partAt p .inputs ≡ x) × (v ≡ kindsFrom + p) × (p < 7)
+abbrev pub EntryTells : Element → ℕ → ℕ → Type 0
+EntryTells (point i) v x = (i + 1 ≡ x) × (v ≡ kindsFrom + 7)
+EntryTells (part p i) v x = (i + partAt p .inputs ≡ x) × (v ≡ kindsFrom + p) × (p < 7)
 
 wire-tells : (v x : ℕ) {a : Wire} → Among a (wireAt v x) → (a .to ≡ x) × (v ≡ a .from + 1)
 wire-tells v x {a} h =
@@ -84,12 +84,12 @@ wire-tells v x {a} h =
     ]
 
 -- the element that entry v of terminal x tells
-told : (v x : ℕ) → kindsFrom ≤ v → v < leftOut → outputOf (v - kindsFrom) 0 ≤ x → (a : Element) × (elementAt v x ≡ a ∷ []) × Tells a v x
+told : (v x : ℕ) → kindsFrom ≤ v → v < leftOut → outputOf (v - kindsFrom) 0 ≤ x → (a : Element) × (elementAt v x ≡ a ∷ []) × EntryTells a v x
 told v x h l o =
     elim (ℕ-discrete (v - kindsFrom) 7) [
       | yes e ↦ (
         point (x - 1),
-        element-here v x h l ∙ ap (λ (k : ℕ). elementsFrom (k ∷ []) (firstOf k x)) e,
+        element-here v x h l ∙ ap (λ (k : ℕ). elementsFrom (k ∷ []) (firstTerminal k x)) e,
         ((let b = subst (λ (k : ℕ). outputOf k 0 ≤ x) e o in omega arith), omega arith),
       )
       | no d ↦ (
@@ -99,20 +99,20 @@ told v x h l o =
       )
     ]
 
-element-tells : (v x : ℕ) {a : Element} → (kindsFrom ≤ v → v < leftOut → outputOf (v - kindsFrom) 0 ≤ x) → Among a (elementAt v x) → Tells a v x
+element-tells : (v x : ℕ) {a : Element} → (kindsFrom ≤ v → v < leftOut → outputOf (v - kindsFrom) 0 ≤ x) → Among a (elementAt v x) → EntryTells a v x
 element-tells v x {a} o h =
     elim (decLe kindsFrom v) [
       | no g ↦ absurd (none (subst (Among a) (element-input v x (omega arith)) h))
       | yes g ↦ elim (decLe leftOut v) [
         | yes l ↦ absurd (none (subst (Among a) (element-left v x l) h))
-        | no l ↦ (let t = told v x g (omega arith) (o g (omega arith)) in subst (λ (b : Element). Tells b v x) (sym (one (subst (Among a) (t .1) h))) (t .2))
+        | no l ↦ (let t = told v x g (omega arith) (o g (omega arith)) in subst (λ (b : Element). EntryTells b v x) (sym (one (subst (Among a) (t .1) h))) (t .2))
       ]
     ]
 
 -- ---- the netlist
 
 module _ (w : List ℕ) (end pins : ℕ) (r : LeanReady w end pins) where
-  pub element-entry : {a : Element} → Among a (leanIn w end pins .elements) → (x : ℕ) × (x < end) × Tells a (entry w x) x
+  pub element-entry : {a : Element} → Among a (leanIn w end pins .elements) → (x : ℕ) × (x < end) × EntryTells a (entry w x) x
   unfolding leanIn
   element-entry h =
       let y = row-in elementAt rootsAt w end 0 h in
@@ -130,7 +130,7 @@ module _ (w : List ℕ) (end pins : ℕ) (r : LeanReady w end pins) where
   unfolding leanIn
   entry-wire x l d h = in-row wireAt rootsAt w end 0 x (omega arith) (omega arith) (subst (Among (wireOf (entry w x - 1) x)) (sym (wire-here (entry w x) x d h)) here)
 
-  pub entry-element : (x : ℕ) → x < end → kindsFrom ≤ entry w x → entry w x < leftOut → (a : Element) × Among a (leanIn w end pins .elements) × Tells a (entry w x) x
+  pub entry-element : (x : ℕ) → x < end → kindsFrom ≤ entry w x → entry w x < leftOut → (a : Element) × Among a (leanIn w end pins .elements) × EntryTells a (entry w x) x
   unfolding leanIn
   entry-element x l h g =
       let t = told (entry w x) x h g (r .outputs x l h g) in
@@ -149,7 +149,7 @@ out-keep m (part p i ∷ es) x t =
     or-elim (eqb (i + partAt p .inputs) x) (isOut (keep m es) x) t (or-left (eqb (i + partAt p .inputs) x) (isOut es x)) (λ u. or-right (eqb (i + partAt p .inputs) x) (isOut es x) (out-keep m es x u))
 
 -- an output has an element
-out-among : (es : List Element) (x : ℕ) → T (isOut es x) → (a : Element) × Among a es × ((v y : ℕ) → Tells a v y → y ≡ x)
+out-among : (es : List Element) (x : ℕ) → T (isOut es x) → (a : Element) × Among a es × ((v y : ℕ) → EntryTells a v y → y ≡ x)
 out-among [] x t = absurd t
 out-among (point i ∷ es) x t =
     or-elim (eqb (i + 1) x) (isOut es x) t (λ u. (point i, here, λ v y g. sym (g .0) ∙ eqb→eq (i + 1) x u)) (λ u. let r = out-among es x u in (r .0, there (r .1), r .2))

@@ -31,7 +31,7 @@ use Rattle.netlist.specs.Elements.{afterAll}
 use Rattle.netlist.proofs.InMemory.{kind-here, elements-here}
 use Rattle.memory.proofs.NetStays.{ready-same}
 use Rattle.lean.specs.Table.{entry, Within, Whole, Rooted}
-use Rattle.lean.specs.Layout.{leanPinsAt, kindsFrom, makersIn, leanIn, LeanReady, Around, Leant, linkIn, Source, Linkable, Linked, rootedIn, Rootable, Pinned, named}
+use Rattle.lean.specs.Layout.{leanPinsAt, kindsFrom, leanMakersIn, leanIn, LeanReady, Around, Leant, linkIn, RootedDriver, Linkable, Linked, rootedIn, Rootable, Pinned, namedAll}
 use Rattle.lean.proofs.KindLaws.{tiled-after}
 use Rattle.lean.proofs.DriverLaws.{rising, output-below, output-free, input-below, driver-out, fed, pin-none, driver-in}
 use Rattle.lean.proofs.MakeLaws.{span, tiled-span, named-within, sourceOf, Fresh, Here, Roots, Laid, named-past, all-laid, elements-are, wires-are, makers-are, Fits, all-fit}
@@ -119,7 +119,7 @@ module _ (u : List ℕ) (e k p : ℕ) (q : Whole u e k p) (known : All Known (ne
   made-not-out : (x : ℕ) → 1 ≤ madeAt (m .elements) x → isOut (m .elements) x ≡ false
   made-not-out x h = is-false (isOut (m .elements) x) (λ t. omega (arith, out-not-made (m .elements) 0 (r .end) x (rising u e k p r) t))
 
-  source : (x : ℕ) → x < end → (getD u x 0 ≡ 65535 → ⊥) → Source u (getD u x 0)
+  source : (x : ℕ) → x < end → (getD u x 0 ≡ 65535 → ⊥) → RootedDriver u (getD u x 0)
   source x l d =
       let t = driver-out u e k p r x (omega (arith, end-low)) d in
       record { low = output-below u e k p r (getD u x 0) t; none = output-free u e k p r (getD u x 0) t; root = subst (λ (y : ℕ). y < 8192) (sym (entry-root (getD u x 0) t)) (root-low (getD u x 0) t) }
@@ -195,7 +195,7 @@ module _ (u : List ℕ) (e k p : ℕ) (q : Whole u e k p) (known : All Known (ne
     linkable = record {
       size = let z = r .size in let y = s .size in omega arith;
       below = end-low;
-      sources = λ x l. subst (λ (d : ℕ). (d ≡ 65535 → ⊥) → Source v d) (sym (s .below x (omega (arith, end-low)))) (λ d.
+      sources = λ x l. subst (λ (d : ℕ). (d ≡ 65535 → ⊥) → RootedDriver v d) (sym (s .below x (omega (arith, end-low)))) (λ d.
           let o = source x l d in
           let h = o .low in
           record { low = h; none = s .below (getD u x 0) (omega arith) ∙ o .none; root = subst (λ (y : ℕ). y < 8192) (sym (low-same (getD u x 0) h)) (o .root) });
@@ -246,7 +246,7 @@ module _ (u : List ℕ) (e k p : ℕ) (q : Whole u e k p) (known : All Known (ne
       tiled = subst (Tiled (m .elements) 0) (sym end-is) (r .tiled)
 
       abbrev x : List ℕ
-      x = named w (m .elements)
+      x = namedAll w (m .elements)
 
       here : All (Here m) (m .elements)
       here = here-of m (m .elements) (λ y h. h) (λ y t. t) (λ y t. t)
@@ -336,11 +336,11 @@ module _ (w u : List ℕ) (e k p end : ℕ) (ready : Ready w e k p) (known : All
       pub names-asked : (memorySize ≤ length x) × ((e ≤ 5120) × ((afterAll (region x elementsAt e) 0 ≤ 8192) × ((i : ℕ) → i < e → getD x (elementsAt + i) 0 < 8)))
       names-asked = namable u e k p (o .whole) known-there v s x l-there
 
-      pub made : (y : List ℕ) → y ≡ named x (elementsFrom (region x elementsAt e) 0) → Leant w e k p y end
+      pub made : (y : List ℕ) → y ≡ namedAll x (elementsFrom (region x elementsAt e) 0) → Leant w e k p y end
       unfolding netIn
       made y f =
           let g = leant u e k p (o .whole) known-there v s x l-there in
-          let h : y ≡ named x (netIn u e k p .elements) = f ∙ ap (λ (ks : List ℕ). named x (elementsFrom ks 0)) (kinds-same u e k p (o .whole) known-there v s x l-there) in
+          let h : y ≡ namedAll x (netIn u e k p .elements) = f ∙ ap (λ (ks : List ℕ). namedAll x (elementsFrom ks 0)) (kinds-same u e k p (o .whole) known-there v s x l-there) in
           subst (λ (n : ℕ). Leant w e k p y n) (sym end-there)
           (subst (λ (b : List ℕ). Leant w e k p b (afterAll (region u elementsAt e) 0)) (sym h)
           record {
@@ -364,7 +364,7 @@ makers-same m [] js ls h = refl
 makers-same m (e ∷ es) js ls h = rw (h 0 (omega arith), makers-same m es (drop 1 js) (drop 1 ls) (λ j l. getD-drop 1 js j 0 ∙ h (1 + j) (omega arith) ∙ sym (getD-drop 1 ls j 0)))
 
 pub made-bytes : (w x : List ℕ) (e k p end : ℕ) → Ready w e k p → Leant w e k p x end → (plain : Bool)
-    → written plain (leanIn x end p) (makersIn x end 0 (drop makersAt x)) ≡ written plain (lean (netIn w e k p)) (leanMakers (netIn w e k p) (region w makersAt e))
+    → written plain (leanIn x end p) (leanMakersIn x end 0 (drop makersAt x)) ≡ written plain (lean (netIn w e k p)) (leanMakers (netIn w e k p) (region w makersAt e))
 made-bytes w x e k p end r l plain =
     let c = elements-here w e k p r in
     let f = r .few-elements in

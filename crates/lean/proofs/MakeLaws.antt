@@ -21,7 +21,7 @@ use Rattle.circuit_theorems.proofs.Terminals.{pointIn, part-made, point-made}
 use Rattle.memory.specs.Map.{rootsAt, memorySize, elementsFrom}
 use Rattle.netlist.specs.Elements.{outputOf}
 use Rattle.lean.specs.Table.{entry, Within}
-use Rattle.lean.specs.Layout.{kindsFrom, leftOut, firstOf, elementAt, wireAt, rowIn, leftAfter, makerAt, makersIn, nameOne, named}
+use Rattle.lean.specs.Layout.{kindsFrom, leftOut, firstTerminal, elementAt, wireAt, rowIn, leftAfter, makerAt, leanMakersIn, nameOne, namedAll}
 use Rattle.lean.proofs.TableLaws.{within-none, within-then, entry-same, entry-other}
 use Rattle.lean.proofs.Rows.{row-append, row-none}
 use Rattle.lean.proofs.PassLaws.{Own, name-within}
@@ -42,7 +42,7 @@ pub wire-output : (v x : ℕ) → kindsFrom ≤ v → wireAt v x ≡ []
 wire-output v x h = rw (ne-eqb v 0 (λ z. omega arith), le-ltb v kindsFrom h)
 
 -- one
-pub element-here : (v x : ℕ) → kindsFrom ≤ v → v < leftOut → elementAt v x ≡ elementsFrom ((v - kindsFrom) ∷ []) (firstOf (v - kindsFrom) x)
+pub element-here : (v x : ℕ) → kindsFrom ≤ v → v < leftOut → elementAt v x ≡ elementsFrom ((v - kindsFrom) ∷ []) (firstTerminal (v - kindsFrom) x)
 element-here v x h g = rw (le-ltb v kindsFrom h, lt-ltb v leftOut g)
 
 pub wire-here : (v x : ℕ) → (v ≡ 0 → ⊥) → v < kindsFrom → wireAt v x ≡ wireOf (v - 1) x ∷ []
@@ -87,7 +87,7 @@ name-other w (point i) n c y o h = by (eqb (entry w (i + 1)) (i + 1))
         entry-other (set w (rootsAt + i) 0) (i + 1) y leftOut (λ z. h (omega (arith, o .0, o .1)) (omega (arith, o .0, o .1)))
         ∙ entry-other w i y 0 (λ z. h (omega (arith, o .0, o .1)) (omega (arith, o .0, o .1)))
 
-pub named-within : (es : List Element) (n e : ℕ) (w : List ℕ) → Tiled es n e → e ≤ 8192 → Within w (named w es)
+pub named-within : (es : List Element) (n e : ℕ) (w : List ℕ) → Tiled es n e → e ≤ 8192 → Within w (namedAll w es)
 named-within [] n e w t h = within-none w
 named-within (point i ∷ es) n e w t h =
     let g = tiled-up es (n + 2) e (t .1) in
@@ -97,7 +97,7 @@ named-within (part r i ∷ es) n e w t h =
     let g = tiled-up es c e (t .1) in
     within-then (name-within w (part r i) n c (omega arith) (omega arith) (t .0, refl)) (named-within es c e (nameOne w (part r i)) (t .1) h)
 
-named-below : (es : List Element) (n e : ℕ) (w : List ℕ) (y : ℕ) → Tiled es n e → y < n → entry (named w es) y ≡ entry w y
+named-below : (es : List Element) (n e : ℕ) (w : List ℕ) (y : ℕ) → Tiled es n e → y < n → entry (namedAll w es) y ≡ entry w y
 named-below [] n e w y t h = refl
 named-below (point i ∷ es) n e w y t h =
     named-below es (n + 2) e (nameOne w (point i)) y (t .1) (omega arith) ∙ name-other w (point i) n (n + 2) y (t .0, refl) (λ a b. omega arith)
@@ -105,7 +105,7 @@ named-below (part r i ∷ es) n e w y t h =
     named-below es (n + partAt r .inputs + 1) e (nameOne w (part r i)) y (t .1) (omega arith)
     ∙ name-other w (part r i) n (n + partAt r .inputs + 1) y (t .0, refl) (λ a b. omega arith)
 
-pub named-past : (es : List Element) (n e : ℕ) (w : List ℕ) (y : ℕ) → Tiled es n e → e ≤ y → entry (named w es) y ≡ entry w y
+pub named-past : (es : List Element) (n e : ℕ) (w : List ℕ) (y : ℕ) → Tiled es n e → e ≤ y → entry (namedAll w es) y ≡ entry w y
 named-past [] n e w y t h = refl
 named-past (point i ∷ es) n e w y t h =
     let g = tiled-up es (n + 2) e (t .1) in
@@ -181,14 +181,14 @@ module _ (m : Net) where
       by true l = (s i (omega (arith, o .0, o .1)) ∙ l .0, s (i + 1) (omega (arith, o .0, o .1)) ∙ l .1)
       by false l = (s i (omega (arith, o .0, o .1)) ∙ l .0, s (i + 1) (omega (arith, o .0, o .1)) ∙ l .1)
 
-  pub all-laid : (es : List Element) (n e : ℕ) (w : List ℕ) → Tiled es n e → e ≤ 8192 → All Here es → Fresh w n → All (Laid (named w es)) es
+  pub all-laid : (es : List Element) (n e : ℕ) (w : List ℕ) → Tiled es n e → e ≤ 8192 → All Here es → Fresh w n → All (Laid (namedAll w es)) es
   all-laid [] n e w t h k f = tt
   all-laid (point i ∷ es) n e w t h k f =
       let c = n + 2 in
       let g = tiled-up es c e (t .1) in
       let v = nameOne w (point i) in
       let own : Own (point i) n c = (t .0, refl) in (
-        laid-stays v (named v es) (point i) n c own (λ y l. named-below es c e v y (t .1) l) (one-laid w (point i) n c own (omega arith) (k .0) f),
+        laid-stays v (namedAll v es) (point i) n c own (λ y l. named-below es c e v y (t .1) l) (one-laid w (point i) n c own (omega arith) (k .0) f),
         all-laid es c e v (t .1) h (k .1) (fresh-next w (point i) n c (omega arith) (omega arith) own f),
       )
   all-laid (part r i ∷ es) n e w t h k f =
@@ -196,7 +196,7 @@ module _ (m : Net) where
       let g = tiled-up es c e (t .1) in
       let v = nameOne w (part r i) in
       let own : Own (part r i) n c = (t .0, refl) in (
-        laid-stays v (named v es) (part r i) n c own (λ y l. named-below es c e v y (t .1) l) (one-laid w (part r i) n c own (omega arith) (k .0) f),
+        laid-stays v (namedAll v es) (part r i) n c own (λ y l. named-below es c e v y (t .1) l) (one-laid w (part r i) n c own (omega arith) (k .0) f),
         all-laid es c e v (t .1) h (k .1) (fresh-next w (part r i) n c (omega arith) (omega arith) own f),
       )
 
@@ -276,18 +276,18 @@ module _ (m : Net) where
         rw (row-append wireAt rootsAt w c (suc (span es)) n, ← t .0, inputs-laid c i (λ y a b. (k .0 y a b, l .0 .0 y a b)), l .0 .1, wire-output (kindsFrom + r) (i + c) (omega arith), wires-are es (i + c + 1) e (rw (t .0) (t .1)) (k .1) (s .1) (l .1))
 
     -- inputs take no maker
-    makers-past : (c b x : ℕ) (js : List ℕ) → ((y : ℕ) → x ≤ y → y < x + c → entry w y < kindsFrom) → makersIn w (c + b) x js ≡ makersIn w b (x + c) js
+    makers-past : (c b x : ℕ) (js : List ℕ) → ((y : ℕ) → x ≤ y → y < x + c → entry w y < kindsFrom) → leanMakersIn w (c + b) x js ≡ leanMakersIn w b (x + c) js
     makers-past zero b x js h = let e : 0 + b ≡ b = omega arith in let g : x + 0 ≡ x = omega arith in rw (e, g)
     makers-past (suc c) b x js h =
         let e : suc c + b ≡ suc (c + b) = omega arith in
         let g : x + suc c ≡ x + 1 + c = omega arith in
         rw (e, g, lt-ltb (entry w x) kindsFrom (h x (omega arith) (omega arith))) (makers-past c b (x + 1) js (λ y l k. h y (omega arith) (omega arith)))
 
-    pub makers-are : (es : List Element) (n e : ℕ) (js : List ℕ) → Tiled es n e → All Here es → All Known es → All (Laid w) es → makersIn w (span es) n js ≡ keepMakers m es js
+    pub makers-are : (es : List Element) (n e : ℕ) (js : List ℕ) → Tiled es n e → All Here es → All Known es → All (Laid w) es → leanMakersIn w (span es) n js ≡ keepMakers m es js
     makers-are [] n e js t k s l = refl
     makers-are (point i ∷ es) n e js t k s l =
         let g : n + 1 + 1 ≡ n + 2 = omega arith in
-        rw (g, ← t .0, ← makers-are es (i + 2) e (drop 1 js) (rw (t .0) (t .1)) (k .1) (s .1) (l .1)) (point-makers js i (kept m (point i)) (k .0) (l .0) (makersIn w (span es) (i + 2)))
+        rw (g, ← t .0, ← makers-are es (i + 2) e (drop 1 js) (rw (t .0) (t .1)) (k .1) (s .1) (l .1)) (point-makers js i (kept m (point i)) (k .0) (l .0) (leanMakersIn w (span es) (i + 2)))
     makers-are (part r i ∷ es) n e js t k s l =
         let c = partAt r .inputs in
         let b = s .0 in

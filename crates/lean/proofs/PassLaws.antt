@@ -17,7 +17,7 @@ use Rattle.memory.specs.Map.{elementsAt, stackAt, rootsAt, memorySize, region, 
 use Rattle.netlist.specs.Elements.{outputOf, after, afterAll}
 use Rattle.netlist.proofs.Elements.{after-rises}
 use Rattle.lean.specs.Table.{entry, Within}
-use Rattle.lean.specs.Layout.{kindsFrom, leftOut, leanPinsAt, linkIn, Source, Linkable, Linked, rootedIn, Rootable, Pinned, nameOne, named}
+use Rattle.lean.specs.Layout.{kindsFrom, leftOut, leanPinsAt, linkIn, RootedDriver, Linkable, Linked, rootedIn, Rootable, Pinned, nameOne, namedAll}
 use Rattle.lean.proofs.KindLaws.{region-next, output-low, first-low}
 use Rattle.lean.proofs.TableLaws.{within-none, within-then, within-set, entry-same, entry-other}
 
@@ -37,7 +37,7 @@ module _ (u w : List ℕ) (end x : ℕ) (p : Linkable u end) (h : x < end) (l : 
   here = let b = p .below in l .within .below x (omega arith)
 
   -- a driver's entry stays
-  source-same : (d : ℕ) → Source u d → entry w d ≡ entry u d
+  source-same : (d : ℕ) → RootedDriver u d → entry w d ≡ entry u d
   source-same d s =
       elim (decLe x d) [
         | yes g ↦ l .others d g (s .low)
@@ -124,18 +124,18 @@ name-kept w n e = rw (eq-eqb (entry w (n + 1)) (n + 1) e)
 pub name-left : (w : List ℕ) (n : ℕ) → (entry w (n + 1) ≡ n + 1 → ⊥) → set (set w (rootsAt + n) 0) (rootsAt + (n + 1)) leftOut ≡ nameOne w (point n)
 name-left w n d = rw (ne-eqb (entry w (n + 1)) (n + 1) d)
 
-pub name-point : (w : List ℕ) (k n : ℕ) → k ≡ 7 → (n + 2 ≡ after k n) × (nameOne w (point n) ≡ named w (elementsFrom (k ∷ []) n))
+pub name-point : (w : List ℕ) (k n : ℕ) → k ≡ 7 → (n + 2 ≡ after k n) × (nameOne w (point n) ≡ namedAll w (elementsFrom (k ∷ []) n))
 name-point w k n e = rw (eq-eqb k 7 e) (refl, refl)
 
-pub name-part : (w : List ℕ) (k n : ℕ) → (k ≡ 7 → ⊥) → set w (rootsAt + outputOf k n) (kindsFrom + k) ≡ named w (elementsFrom (k ∷ []) n)
+pub name-part : (w : List ℕ) (k n : ℕ) → (k ≡ 7 → ⊥) → set w (rootsAt + outputOf k n) (kindsFrom + k) ≡ namedAll w (elementsFrom (k ∷ []) n)
 name-part w k n d = rw (ne-eqb k 7 d)
 
-pub name-first : (w : List ℕ) (k : ℕ) (ks : List ℕ) (n : ℕ) → named w (elementsFrom (k ∷ ks) n) ≡ named (named w (elementsFrom (k ∷ []) n)) (elementsFrom ks (after k n))
+pub name-first : (w : List ℕ) (k : ℕ) (ks : List ℕ) (n : ℕ) → namedAll w (elementsFrom (k ∷ ks) n) ≡ namedAll (namedAll w (elementsFrom (k ∷ []) n)) (elementsFrom ks (after k n))
 name-first w k ks n = by (eqb k 7)
   where
     by : (b : Bool)
-        → named w (cond b (point n ∷ elementsFrom ks (n + 2)) (part k n ∷ elementsFrom ks (n + partAt k .inputs + 1)))
-        ≡ named (named w (cond b (point n ∷ []) (part k n ∷ []))) (elementsFrom ks (cond b (n + 2) (n + partAt k .inputs + 1)))
+        → namedAll w (cond b (point n ∷ elementsFrom ks (n + 2)) (part k n ∷ elementsFrom ks (n + partAt k .inputs + 1)))
+        ≡ namedAll (namedAll w (cond b (point n ∷ []) (part k n ∷ []))) (elementsFrom ks (cond b (n + 2) (n + partAt k .inputs + 1)))
     by true = refl
     by false = refl
 
@@ -157,7 +157,7 @@ name-within w (point i) n c h g o = by (eqb (entry w (i + 1)) (i + 1))
 pub record Naming (w₀ : List ℕ) (elements : ℕ) (w : List ℕ) (at i : ℕ) : Type 0 where
   pub within : Within w₀ w
   pub end : afterAll (drop i (region w₀ elementsAt elements)) at ≡ afterAll (region w₀ elementsAt elements) 0
-  pub whole : named w (elementsFrom (drop i (region w₀ elementsAt elements)) at) ≡ named w₀ (elementsFrom (region w₀ elementsAt elements) 0)
+  pub whole : namedAll w (elementsFrom (drop i (region w₀ elementsAt elements)) at) ≡ namedAll w₀ (elementsFrom (region w₀ elementsAt elements) 0)
 
 module _ (w₀ w : List ℕ) (elements at i : ℕ) (size : memorySize ≤ length w₀) (count : elements ≤ 5120) (few : afterAll (region w₀ elementsAt elements) 0 ≤ 8192) (lt : i < elements) (s : Naming w₀ elements w at i) where
   abbrev ks : List ℕ
@@ -175,14 +175,14 @@ module _ (w₀ w : List ℕ) (elements at i : ℕ) (size : memorySize ≤ length
   pub naming-low : after k at ≤ 8192
   naming-low = omega (arith, after-rises (drop (i + 1) ks) (after k at), end-next)
 
-  one-within : Within w (named w (elementsFrom (k ∷ []) at))
-  one-within = by-eqb (λ b. cond b (at + 2) (at + partAt k .inputs + 1) ≤ 8192 → Within w (named w (cond b (point at ∷ []) (part k at ∷ [])))) k 7
+  one-within : Within w (namedAll w (elementsFrom (k ∷ []) at))
+  one-within = by-eqb (λ b. cond b (at + 2) (at + partAt k .inputs + 1) ≤ 8192 → Within w (namedAll w (cond b (point at ∷ []) (part k at ∷ [])))) k 7
       (λ e h. name-within w (point at) at (at + 2) (omega arith) h (refl, refl))
       (λ d h. name-within w (part k at) at (at + partAt k .inputs + 1) (omega arith) h (refl, refl)) naming-low
 
-  pub naming-next : Naming w₀ elements (named w (elementsFrom (k ∷ []) at)) (after k at) (i + 1)
+  pub naming-next : Naming w₀ elements (namedAll w (elementsFrom (k ∷ []) at)) (after k at) (i + 1)
   naming-next = record {
     within = within-then (s .within) one-within;
     end = end-next;
-    whole = sym (name-first w k (drop (i + 1) ks) at) ∙ subst (λ (xs : List ℕ). named w (elementsFrom xs at) ≡ named w₀ (elementsFrom ks 0)) next (s .whole);
+    whole = sym (name-first w k (drop (i + 1) ks) at) ∙ subst (λ (xs : List ℕ). namedAll w (elementsFrom xs at) ≡ namedAll w₀ (elementsFrom ks 0)) next (s .whole);
   }

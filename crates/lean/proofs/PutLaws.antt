@@ -18,8 +18,8 @@ use Rattle.netlist.specs.Elements.{elementSize, nodeSize, elementRecords}
 use Rattle.netlist.proofs.Elements.{records-are, records-append, records-length, kinds-length, kind-size}
 use Rattle.netlist.proofs.Records.{wires-append}
 use Rattle.lean.specs.Table.{entry}
-use Rattle.lean.specs.Layout.{leanPinsAt, kindsFrom, leftOut, firstOf, elementAt, wireAt, rowIn, leftAfter, makerAt, makersIn, leanIn, LeanReady}
-use Rattle.lean.specs.Rows.{recordAt, wireBytesAt, pinBytesAt, recordsIn, sizeAt, sizesIn}
+use Rattle.lean.specs.Layout.{leanPinsAt, kindsFrom, leftOut, firstTerminal, elementAt, wireAt, rowIn, leftAfter, makerAt, leanMakersIn, leanIn, LeanReady}
+use Rattle.lean.specs.Rows.{recordBytesAt, wireBytesAt, pinBytesAt, recordsIn, entrySize, sizesIn}
 use Rattle.lean.proofs.KindLaws.{region-next, region-end}
 use Rattle.lean.proofs.Rows.{row-text, row-few}
 use Rattle.lean.proofs.MakeLaws.{element-input, element-left, element-here, wire-none, wire-output, wire-here}
@@ -27,19 +27,19 @@ use Rattle.lean.proofs.MakeLaws.{element-input, element-left, element-h
 -- ---- one entry
 
 module _ (plain : Bool) (node v x : ℕ) where
-  pub no-record : v < kindsFrom → recordAt plain node v x ≡ []
+  pub no-record : v < kindsFrom → recordBytesAt plain node v x ≡ []
   no-record h = ap (λ (es : List Element). elementRecords plain es (node ∷ [])) (element-input v x h)
 
-  pub left-record : leftOut ≤ v → recordAt plain node v x ≡ []
+  pub left-record : leftOut ≤ v → recordBytesAt plain node v x ≡ []
   left-record h = ap (λ (es : List Element). elementRecords plain es (node ∷ [])) (element-left v x h)
 
-  pub one-record : kindsFrom ≤ v → v < leftOut → recordAt plain node v x ≡ elementRecords plain (elementsFrom ((v - kindsFrom) ∷ []) (firstOf (v - kindsFrom) x)) (node ∷ [])
+  pub one-record : kindsFrom ≤ v → v < leftOut → recordBytesAt plain node v x ≡ elementRecords plain (elementsFrom ((v - kindsFrom) ∷ []) (firstTerminal (v - kindsFrom) x)) (node ∷ [])
   one-record h g = ap (λ (es : List Element). elementRecords plain es (node ∷ [])) (element-here v x h g)
 
-  pub one-size : kindsFrom ≤ v → v < leftOut → length (recordAt plain node v x) ≡ elementSize (v - kindsFrom) + nodeSize plain 1
+  pub one-size : kindsFrom ≤ v → v < leftOut → length (recordBytesAt plain node v x) ≡ elementSize (v - kindsFrom) + nodeSize plain 1
   one-size h g =
       let k = v - kindsFrom in
-      let n = firstOf k x in
+      let n = firstTerminal k x in
       ap length (one-record h g) ∙ records-length plain (elementsFrom (k ∷ []) n) (node ∷ [])
       ∙ ap (λ (i : ℕ). i + nodeSize plain (length (elementsFrom (k ∷ []) n))) (kind-size k n) ∙ ap (λ (i : ℕ). elementSize k + nodeSize plain i) (kinds-length (k ∷ []) n)
 
@@ -73,7 +73,7 @@ module _ (plain : Bool) (w : List ℕ) (end : ℕ) (js : List ℕ) where
   pub records-start : recordsIn plain w (end - 0) 0 (drop 0 js) ≡ recordsIn plain w end 0 js
   records-start = let e : end - 0 ≡ end = omega arith in ap (λ (n : ℕ). recordsIn plain w n 0 js) e
 
-  pub records-first : (x i : ℕ) → x < end → recordsIn plain w (end - x) x (drop i js) ≡ recordAt plain (maker (drop i js)) (entry w x) x ++ recordsIn plain w (end - (x + 1)) (x + 1) (leftAfter (entry w x) (drop i js))
+  pub records-first : (x i : ℕ) → x < end → recordsIn plain w (end - x) x (drop i js) ≡ recordBytesAt plain (maker (drop i js)) (entry w x) x ++ recordsIn plain w (end - (x + 1)) (x + 1) (leftAfter (entry w x) (drop i js))
   records-first x i h = let e : end - x ≡ suc (end - (x + 1)) = omega arith in ap (λ (n : ℕ). recordsIn plain w n x (drop i js)) e
 
   pub records-end : (x i : ℕ) → end ≤ x → recordsIn plain w (end - x) x (drop i js) ≡ []
@@ -82,7 +82,7 @@ module _ (plain : Bool) (w : List ℕ) (end : ℕ) (js : List ℕ) where
 -- ---- all
 
 module _ (plain : Bool) (w : List ℕ) where
-  records-in : (c x : ℕ) (js : List ℕ) → elementRecords plain (rowIn elementAt rootsAt w c x) (makersIn w c x js) ≡ recordsIn plain w c x js
+  records-in : (c x : ℕ) (js : List ℕ) → elementRecords plain (rowIn elementAt rootsAt w c x) (leanMakersIn w c x js) ≡ recordsIn plain w c x js
   records-in zero x js = refl
   records-in (suc c) x js =
       let v = entry w x in
@@ -92,30 +92,30 @@ module _ (plain : Bool) (w : List ℕ) where
           | yes g ↦ rw (le-ltb v kindsFrom l, le-ltb v leftOut g) (records-in c (x + 1) (drop 1 js))
           | no g ↦ (let k = v - kindsFrom in
               rw (le-ltb v kindsFrom l, lt-ltb v leftOut (omega arith))
-              (records-append plain (elementsFrom (k ∷ []) (firstOf k x)) (rowIn elementAt rootsAt w c (x + 1)) (maker js ∷ []) (makersIn w c (x + 1) (drop 1 js)) (sym (kinds-length (k ∷ []) (firstOf k x)))
-              ∙ ap (λ (t : List ℕ). elementRecords plain (elementsFrom (k ∷ []) (firstOf k x)) (maker js ∷ []) ++ t) (records-in c (x + 1) (drop 1 js))))
+              (records-append plain (elementsFrom (k ∷ []) (firstTerminal k x)) (rowIn elementAt rootsAt w c (x + 1)) (maker js ∷ []) (leanMakersIn w c (x + 1) (drop 1 js)) (sym (kinds-length (k ∷ []) (firstTerminal k x)))
+              ∙ ap (λ (t : List ℕ). elementRecords plain (elementsFrom (k ∷ []) (firstTerminal k x)) (maker js ∷ []) ++ t) (records-in c (x + 1) (drop 1 js))))
         ]
       ]
 
-  pub size-none : (v : ℕ) → v < kindsFrom → v ≡ 0 → 0 ≡ sizeAt plain v
+  pub size-none : (v : ℕ) → v < kindsFrom → v ≡ 0 → 0 ≡ entrySize plain v
   size-none v h e = rw (lt-ltb v kindsFrom h, eq-eqb v 0 e)
 
-  pub size-wire : (v : ℕ) → v < kindsFrom → (v ≡ 0 → ⊥) → 5 ≡ sizeAt plain v
+  pub size-wire : (v : ℕ) → v < kindsFrom → (v ≡ 0 → ⊥) → 5 ≡ entrySize plain v
   size-wire v h d = rw (lt-ltb v kindsFrom h, ne-eqb v 0 d)
 
-  pub size-left : (v : ℕ) → leftOut ≤ v → 0 ≡ sizeAt plain v
+  pub size-left : (v : ℕ) → leftOut ≤ v → 0 ≡ entrySize plain v
   size-left v h = rw (le-ltb v kindsFrom (omega arith), le-ltb v leftOut h)
 
-  pub size-here : (v : ℕ) → kindsFrom ≤ v → v < leftOut → elementSize (v - kindsFrom) + nodeSize plain 1 ≡ sizeAt plain v
+  pub size-here : (v : ℕ) → kindsFrom ≤ v → v < leftOut → elementSize (v - kindsFrom) + nodeSize plain 1 ≡ entrySize plain v
   size-here v h g = rw (le-ltb v kindsFrom h, lt-ltb v leftOut g)
 
-  pub size-point : (v : ℕ) → v ≡ kindsFrom + 7 → 3 + nodeSize plain 1 ≡ sizeAt plain v
+  pub size-point : (v : ℕ) → v ≡ kindsFrom + 7 → 3 + nodeSize plain 1 ≡ entrySize plain v
   size-point v e = rw e
 
-  pub size-part : (v : ℕ) → kindsFrom ≤ v → v < leftOut → (v ≡ kindsFrom + 7 → ⊥) → 4 + nodeSize plain 1 ≡ sizeAt plain v
+  pub size-part : (v : ℕ) → kindsFrom ≤ v → v < leftOut → (v ≡ kindsFrom + 7 → ⊥) → 4 + nodeSize plain 1 ≡ entrySize plain v
   size-part v h g d = ap (λ (b : Bool). cond b 3 4 + nodeSize plain 1) (sym (ne-eqb (v - kindsFrom) 7 (λ z. d (omega arith)))) ∙ size-here v h g
 
-  size-one : (v x node : ℕ) → sizeAt plain v ≡ length (recordAt plain node v x) + length (wireBytesAt v x)
+  size-one : (v x node : ℕ) → entrySize plain v ≡ length (recordBytesAt plain node v x) + length (wireBytesAt v x)
   size-one v x node =
       elim (decLe kindsFrom v) [
         | no l ↦ elim (ℕ-discrete v 0) [
@@ -132,10 +132,10 @@ module _ (plain : Bool) (w : List ℕ) where
   sizes-are zero x js = refl
   sizes-are (suc c) x js =
       let v = entry w x in
-      omega (arith, size-one v x (maker js), sizes-are c (x + 1) (leftAfter v js), length-append (recordAt plain (maker js) v x) (recordsIn plain w c (x + 1) (leftAfter v js)), length-append (wireBytesAt v x) (rowIn wireBytesAt rootsAt w c (x + 1)))
+      omega (arith, size-one v x (maker js), sizes-are c (x + 1) (leftAfter v js), length-append (recordBytesAt plain (maker js) v x) (recordsIn plain w c (x + 1) (leftAfter v js)), length-append (wireBytesAt v x) (rowIn wireBytesAt rootsAt w c (x + 1)))
 
 -- a size is small
-pub size-small : (plain : Bool) (v : ℕ) → sizeAt plain v ≤ 6
+pub size-small : (plain : Bool) (v : ℕ) → entrySize plain v ≤ 6
 size-small plain v = by (ltb v kindsFrom) (eqb v 0) (ltb v leftOut) (eqb (v - kindsFrom) 7) plain
   where
     by : (a b c d p : Bool) → cond a (cond b 0 5) (cond c (cond d 3 4 + cond p 0 2) 0) ≤ 6
@@ -165,7 +165,7 @@ module _ (plain : Bool) (w : List ℕ) (end p : ℕ) (r : LeanReady w end p) (js
   abbrev pub third : List ℕ
   third = rowIn pinBytesAt leanPinsAt w p 0
 
-  pub table-bytes : written plain (leanIn w end p) (makersIn w end 0 js) ≡ first ++ (second ++ third)
+  pub table-bytes : written plain (leanIn w end p) (leanMakersIn w end 0 js) ≡ first ++ (second ++ third)
   unfolding leanIn netBytes netNodeBytes
   table-bytes =
       let z = r .size in
@@ -173,19 +173,19 @@ module _ (plain : Bool) (w : List ℕ) (end p : ℕ) (r : LeanReady w end p) (js
       either plain
       ∙ rw (records-in plain w end 0 js, ← row-text wireAt rootsAt w wireBytes refl wires-append end 0, ← pins-are w leanPinsAt p (omega arith) p 0 (omega arith))
     where
-      either : (b : Bool) → written b (leanIn w end p) (makersIn w end 0 js) ≡ elementRecords b (leanIn w end p .elements) (makersIn w end 0 js) ++ (wireBytes (leanIn w end p .wires) ++ pinBytes (leanIn w end p .pins))
-      either true = ap (λ (t : List ℕ). t ++ (wireBytes (leanIn w end p .wires) ++ pinBytes (leanIn w end p .pins))) (sym (records-are true (leanIn w end p .elements) (makersIn w end 0 js)))
-      either false = ap (λ (t : List ℕ). t ++ (wireBytes (leanIn w end p .wires) ++ pinBytes (leanIn w end p .pins))) (sym (records-are false (leanIn w end p .elements) (makersIn w end 0 js)))
+      either : (b : Bool) → written b (leanIn w end p) (leanMakersIn w end 0 js) ≡ elementRecords b (leanIn w end p .elements) (leanMakersIn w end 0 js) ++ (wireBytes (leanIn w end p .wires) ++ pinBytes (leanIn w end p .pins))
+      either true = ap (λ (t : List ℕ). t ++ (wireBytes (leanIn w end p .wires) ++ pinBytes (leanIn w end p .pins))) (sym (records-are true (leanIn w end p .elements) (leanMakersIn w end 0 js)))
+      either false = ap (λ (t : List ℕ). t ++ (wireBytes (leanIn w end p .wires) ++ pinBytes (leanIn w end p .pins))) (sym (records-are false (leanIn w end p .elements) (leanMakersIn w end 0 js)))
 
-  pub table-size : length (written plain (leanIn w end p) (makersIn w end 0 js)) ≡ sizesIn plain w end 0 + 3 * p
+  pub table-size : length (written plain (leanIn w end p) (leanMakersIn w end 0 js)) ≡ sizesIn plain w end 0 + 3 * p
   table-size = omega (arith, ap length table-bytes, length-append first (second ++ third), length-append second third, sizes-are plain w end 0 js, pins-size w leanPinsAt p 0)
 
   -- each group fits where the whole does
-  pub fits : (room : ℕ) → length (written plain (leanIn w end p) (makersIn w end 0 js)) ≤ room → length first + (length second + length third) ≤ room
+  pub fits : (room : ℕ) → length (written plain (leanIn w end p) (leanMakersIn w end 0 js)) ≤ room → length first + (length second + length third) ≤ room
   fits room h = omega (arith, ap length table-bytes, length-append first (second ++ third), length-append second third)
 
   pub three : (o o₁ o₂ o₃ : List ℕ) (a b c : ℕ) → a ≡ 0 + length first → o₁ ≡ sets o 0 first → b ≡ a + length second → o₂ ≡ sets o₁ a second → c ≡ b + length third → o₃ ≡ sets o₂ b third
-      → (c ≡ length (written plain (leanIn w end p) (makersIn w end 0 js))) × (o₃ ≡ sets o 0 (written plain (leanIn w end p) (makersIn w end 0 js)))
+      → (c ≡ length (written plain (leanIn w end p) (leanMakersIn w end 0 js))) × (o₃ ≡ sets o 0 (written plain (leanIn w end p) (leanMakersIn w end 0 js)))
   three o o₁ o₂ o₃ a b c a₁ a₂ b₁ b₂ c₁ c₂ = (
     omega (arith, ap length table-bytes, length-append first (second ++ third), length-append second third),
     c₂ ∙ ap (λ (t : List ℕ). sets t b third) (b₂ ∙ ap (λ (t : List ℕ). sets t a second) a₂ ∙ written-more o first second 0 a a₁)
@@ -194,7 +194,7 @@ module _ (plain : Bool) (w : List ℕ) (end p : ℕ) (r : LeanReady w end p) (js
 
 -- ---- a sum of sizes, of which those from x on are still to come
 
-pub sizes-first : (plain : Bool) (w : List ℕ) (end x : ℕ) → x < end → sizesIn plain w (end - x) x ≡ sizeAt plain (entry w x) + sizesIn plain w (end - (x + 1)) (x + 1)
+pub sizes-first : (plain : Bool) (w : List ℕ) (end x : ℕ) → x < end → sizesIn plain w (end - x) x ≡ entrySize plain (entry w x) + sizesIn plain w (end - (x + 1)) (x + 1)
 sizes-first plain w end x h = let e : end - x ≡ suc (end - (x + 1)) = omega arith in ap (λ (n : ℕ). sizesIn plain w n x) e
 
 pub sizes-end : (plain : Bool) (w : List ℕ) (end x : ℕ) → end ≤ x → sizesIn plain w (end - x) x ≡ 0

@@ -31,12 +31,12 @@ leftOut = 65528
 -- ---- what entry v says of terminal x
 
 -- the first terminal of the element of kind k whose output is x
-abbrev pub firstOf : ℕ → ℕ → ℕ
-firstOf k x = x - outputOf k 0
+abbrev pub firstTerminal : ℕ → ℕ → ℕ
+firstTerminal k x = x - outputOf k 0
 
 -- of an output that is kept, its element
 abbrev pub elementAt : ℕ → ℕ → List Element
-elementAt v x = cond (ltb v kindsFrom) [] (cond (ltb v leftOut) (elementsFrom ((v - kindsFrom) ∷ []) (firstOf (v - kindsFrom) x)) [])
+elementAt v x = cond (ltb v kindsFrom) [] (cond (ltb v leftOut) (elementsFrom ((v - kindsFrom) ∷ []) (firstTerminal (v - kindsFrom) x)) [])
 
 -- of an input that is no pin, its wire
 abbrev pub wireAt : ℕ → ℕ → List Wire
@@ -55,9 +55,9 @@ leftAfter v js = cond (ltb v kindsFrom) js (drop 1 js)
 abbrev pub makerAt : ℕ → List ℕ → List ℕ
 makerAt v js = cond (ltb v kindsFrom) [] (cond (ltb v leftOut) (maker js ∷ []) [])
 
-abbrev pub makersIn : List ℕ → ℕ → ℕ → List ℕ → List ℕ
-makersIn w zero x js = []
-makersIn w (suc c) x js = makerAt (entry w x) js ++ makersIn w c (x + 1) (leftAfter (entry w x) js)
+abbrev pub leanMakersIn : List ℕ → ℕ → ℕ → List ℕ → List ℕ
+leanMakersIn w zero x js = []
+leanMakersIn w (suc c) x js = makerAt (entry w x) js ++ leanMakersIn w c (x + 1) (leftAfter (entry w x) js)
 
 -- the lean netlist of so many terminals and pins
 unfoldable pub leanIn : List ℕ → ℕ → ℕ → Net
@@ -91,7 +91,7 @@ pub record Leant (u : List ℕ) (elements wires pins : ℕ) (w : List ℕ) (end 
   pub around : Around u w
   pub ready : LeanReady w end pins
   pub net : leanIn w end pins ≡ lean (netIn u elements wires pins)
-  pub makers : (js : List ℕ) → makersIn w end 0 js ≡ leanMakers (netIn u elements wires pins) js
+  pub makers : (js : List ℕ) → leanMakersIn w end 0 js ≡ leanMakers (netIn u elements wires pins) js
   -- what is left out is an output of the full netlist, and past the terminals there is nothing
   pub left : (x : ℕ) → x < end → leftOut ≤ entry w x → T (isOut (netIn u elements wires pins .elements) x)
   pub past : (x : ℕ) → end ≤ x → x < 8192 → entry w x ≡ 0
@@ -102,7 +102,7 @@ abbrev pub linkIn : List ℕ → ℕ → ℕ
 linkIn w x = cond (eqb (getD w x 0) 65535) (entry w x) (entry w (getD w x 0) + 1)
 
 -- a driver is an output, so has no driver, and has a root
-pub record Source (w : List ℕ) (d : ℕ) : Type 0 where
+pub record RootedDriver (w : List ℕ) (d : ℕ) : Type 0 where
   pub low : d < 8192
   pub none : getD w d 0 ≡ 65535
   pub root : entry w d < 8192
@@ -110,7 +110,7 @@ pub record Source (w : List ℕ) (d : ℕ) : Type 0 where
 pub record Linkable (w : List ℕ) (end : ℕ) : Type 0 where
   pub size : memorySize ≤ length w
   pub below : end ≤ 8192
-  pub sources : (x : ℕ) → x < end → (getD w x 0 ≡ 65535 → ⊥) → Source w (getD w x 0)
+  pub sources : (x : ℕ) → x < end → (getD w x 0 ≡ 65535 → ⊥) → RootedDriver w (getD w x 0)
 
 pub record Linked (w : List ℕ) (end : ℕ) (w′ : List ℕ) : Type 0 where
   pub within : Within w w′
@@ -140,6 +140,6 @@ nameOne w (part p i) = set w (rootsAt + (i + partAt p .inputs)) (kindsFrom + p)
 nameOne w (point i) =
     cond (eqb (entry w (i + 1)) (i + 1)) (set w (rootsAt + (i + 1)) (kindsFrom + 7)) (set (set w (rootsAt + i) 0) (rootsAt + (i + 1)) leftOut)
 
-abbrev pub named : List ℕ → List Element → List ℕ
-named w [] = w
-named w (e ∷ es) = named (nameOne w e) es
+abbrev pub namedAll : List ℕ → List Element → List ℕ
+namedAll w [] = w
+namedAll w (e ∷ es) = namedAll (nameOne w e) es

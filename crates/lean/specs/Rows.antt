@@ -11,8 +11,8 @@ use Rattle.lean.specs.Table.{entry}
 use Rattle.lean.specs.Layout.{kindsFrom, leftOut, elementAt, wireAt, leftAfter}
 
 -- of entry v of terminal x: its element's record, plain or with the node that made it; its wire's
-abbrev pub recordAt : Bool → ℕ → ℕ → ℕ → List ℕ
-recordAt plain node v x = elementRecords plain (elementAt v x) (node ∷ [])
+abbrev pub recordBytesAt : Bool → ℕ → ℕ → ℕ → List ℕ
+recordBytesAt plain node v x = elementRecords plain (elementAt v x) (node ∷ [])
 
 abbrev pub wireBytesAt : ℕ → ℕ → List ℕ
 wireBytesAt v x = wireBytes (wireAt v x)
@@ -24,12 +24,12 @@ pinBytesAt v x = pinBytes (terminalOf v ∷ [])
 -- the elements' records, of c terminals from x on
 abbrev pub recordsIn : Bool → List ℕ → ℕ → ℕ → List ℕ → List ℕ
 recordsIn plain w zero x js = []
-recordsIn plain w (suc c) x js = recordAt plain (maker js) (entry w x) x ++ recordsIn plain w c (x + 1) (leftAfter (entry w x) js)
+recordsIn plain w (suc c) x js = recordBytesAt plain (maker js) (entry w x) x ++ recordsIn plain w c (x + 1) (leftAfter (entry w x) js)
 
 -- the bytes of both
-abbrev pub sizeAt : Bool → ℕ → ℕ
-sizeAt plain v = cond (ltb v kindsFrom) (cond (eqb v 0) 0 5) (cond (ltb v leftOut) (elementSize (v - kindsFrom) + nodeSize plain 1) 0)
+abbrev pub entrySize : Bool → ℕ → ℕ
+entrySize plain v = cond (ltb v kindsFrom) (cond (eqb v 0) 0 5) (cond (ltb v leftOut) (elementSize (v - kindsFrom) + nodeSize plain 1) 0)
 
 abbrev pub sizesIn : Bool → List ℕ → ℕ → ℕ → ℕ
 sizesIn plain w zero x = 0
-sizesIn plain w (suc c) x = sizeAt plain (entry w x) + sizesIn plain w c (x + 1)
+sizesIn plain w (suc c) x = entrySize plain (entry w x) + sizesIn plain w c (x + 1)

@@ -8,7 +8,7 @@ ghost use Rattle.calculus.specs.NetRead.{Known};
 ghost use Rattle.calculus.specs.Record.{All};
 ghost use Rattle.memory.specs.Map.{elementsAt, makersAt, region, netIn, Ready};
 ghost use Rattle.netlist.specs.Elements.{afterAll};
-ghost use Rattle.lean.specs.Layout.{leanIn, makersIn, LeanReady, Leant};
+ghost use Rattle.lean.specs.Layout.{leanIn, leanMakersIn, LeanReady, Leant};
 ghost use Rattle.lean.specs.Table.{Rooted};
 
 mod pass;
@@ -52,16 +52,16 @@ pub fn make_lean(work: &mut [u16], elements: usize, wires: usize, pins: usize) -
 // The length of the lean netlist that stands in the working memory by terminal, with its makers where they are wished.
 pub fn lean_length(work: &[u16], end: usize, pins: usize, plain: bool) -> usize
     requires { ⌜ LeanReady (now work) end pins ⌝ }
-    ensures { λ r. ⌜ r ≡ length (written plain (leanIn (now (work .entry)) end pins) (makersIn (now (work .entry)) end 0 (drop makersAt (now (work .entry))))) ⌝ }
+    ensures { λ r. ⌜ r ≡ length (written plain (leanIn (now (work .entry)) end pins) (leanMakersIn (now (work .entry)) end 0 (drop makersAt (now (work .entry))))) ⌝ }
 {
     put::size(work, end, pins, plain) + 3 * pins
 }
 
 // Its bytes, from the start of the output; their number.
 pub fn write_lean(work: &[u16], out: &mut [u8], end: usize, pins: usize, plain: bool) -> usize
-    requires { ⌜ LeanReady (now work) end pins × (length (written plain (leanIn (now work) end pins) (makersIn (now work) end 0 (drop makersAt (now work)))) ≤ length (now out)) ⌝ }
-    ensures { λ r. ⌜ (r ≡ length (written plain (leanIn (now (work .entry)) end pins) (makersIn (now (work .entry)) end 0 (drop makersAt (now (work .entry))))))
-        × (now (out .exit) ≡ sets (now (out .entry)) 0 (written plain (leanIn (now (work .entry)) end pins) (makersIn (now (work .entry)) end 0 (drop makersAt (now (work .entry)))))) ⌝ }
+    requires { ⌜ LeanReady (now work) end pins × (length (written plain (leanIn (now work) end pins) (leanMakersIn (now work) end 0 (drop makersAt (now work)))) ≤ length (now out)) ⌝ }
+    ensures { λ r. ⌜ (r ≡ length (written plain (leanIn (now (work .entry)) end pins) (leanMakersIn (now (work .entry)) end 0 (drop makersAt (now (work .entry))))))
+        × (now (out .exit) ≡ sets (now (out .entry)) 0 (written plain (leanIn (now (work .entry)) end pins) (leanMakersIn (now (work .entry)) end 0 (drop makersAt (now (work .entry)))))) ⌝ }
 {
     let first = put::put_elements(work, end, pins, out, 0, plain);
     let second = put::put_wires(work, end, pins, out, first);

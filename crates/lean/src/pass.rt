@@ -12,7 +12,7 @@ ghost use Rattle.calculus.specs.Net.{point};
 ghost use Rattle.memory.specs.Map.{elementsAt, memorySize, region, elementsFrom};
 ghost use Rattle.netlist.specs.Elements.{outputOf, after, afterAll};
 ghost use Rattle.lean.specs.Table.{entry};
-ghost use Rattle.lean.specs.Layout.{firstOf, Source, linkIn, Linkable, Linked, rootedIn, Rootable, Pinned, nameOne, named};
+ghost use Rattle.lean.specs.Layout.{firstTerminal, RootedDriver, linkIn, Linkable, Linked, rootedIn, Rootable, Pinned, nameOne, namedAll};
 
 // By terminal, what the pass says of it.
 pub const LEAN: usize = ROOTS;
@@ -90,7 +90,7 @@ fn name_point(work: &mut [u16], n: u16)
 // The element of this kind that starts at terminal n; the next free terminal.
 fn name_one(work: &mut [u16], kind: u16, n: u16) -> u16
     requires { ⌜ (memorySize ≤ length (now work)) × ((kind < 8) × (after kind n ≤ 8192)) ⌝ }
-    ensures { λ r. ⌜ (r ≡ after kind n) × (now (work .exit) ≡ named (now (work .entry)) (elementsFrom (kind ∷ []) n)) ⌝ }
+    ensures { λ r. ⌜ (r ≡ after kind n) × (now (work .exit) ≡ namedAll (now (work .entry)) (elementsFrom (kind ∷ []) n)) ⌝ }
 {
     if kind == POINT {
         name_point(work, n);
@@ -105,7 +105,7 @@ fn name_one(work: &mut [u16], kind: u16, n: u16) -> u16
 pub fn name(work: &mut [u16], elements: usize)
     requires { ⌜ (memorySize ≤ length (now work)) × ((elements ≤ 5120) × ((afterAll (region (now work) elementsAt elements) 0 ≤ 8192)
         × ((i : ℕ) → i < elements → getD (now work) (elementsAt + i) 0 < 8))) ⌝ }
-    ensures { λ _. ⌜ now (work .exit) ≡ named (now (work .entry)) (elementsFrom (region (now (work .entry)) elementsAt elements) 0) ⌝ }
+    ensures { λ _. ⌜ now (work .exit) ≡ namedAll (now (work .entry)) (elementsFrom (region (now (work .entry)) elementsAt elements) 0) ⌝ }
 {
     let mut n: u16 = 0;
     let mut i: usize = 0;
@@ -119,7 +119,7 @@ pub fn name(work: &mut [u16], elements: usize)
 // The first terminal of the element of this kind whose output is x.
 pub fn first_of(kind: u16, x: usize) -> u16
     requires { ⌜ (outputOf kind 0 ≤ x) × (x < 8192) ⌝ }
-    ensures { λ r. ⌜ r ≡ firstOf kind x ⌝ }
+    ensures { λ r. ⌜ r ≡ firstTerminal kind x ⌝ }
 {
     let inputs = netlist::output_of(kind, 0);
     x as u16 - inputs.0

@@ -16,7 +16,7 @@ ghost use lib.ListN.{length, getD, drop};
 ghost use Rattle.memory.specs.Map.{rootsAt, makersAt};
 ghost use Rattle.lean.specs.Table.{entry};
 ghost use Rattle.lean.specs.Layout.{leanPinsAt, rowIn, leftAfter, LeanReady};
-ghost use Rattle.lean.specs.Rows.{recordAt, wireBytesAt, pinBytesAt, recordsIn, sizeAt, sizesIn};
+ghost use Rattle.lean.specs.Rows.{recordBytesAt, wireBytesAt, pinBytesAt, recordsIn, entrySize, sizesIn};
 
 // The i-th maker; 0 past the memory's end.
 fn maker_at(work: &[u16], i: usize) -> u16
@@ -40,9 +40,9 @@ fn put_element(
     at: usize,
     plain: bool,
 ) -> usize
-    requires { ⌜ LeanReady (now work) end pins × ((x < end) × (at + length (recordAt plain node (entry (now work) x) x) ≤ length (now out))) ⌝ }
-    ensures { λ r. ⌜ (r ≡ at + length (recordAt plain node (entry (now (work .entry)) x) x))
-        × (now (out .exit) ≡ sets (now (out .entry)) at (recordAt plain node (entry (now (work .entry)) x) x)) ⌝ }
+    requires { ⌜ LeanReady (now work) end pins × ((x < end) × (at + length (recordBytesAt plain node (entry (now work) x) x) ≤ length (now out))) ⌝ }
+    ensures { λ r. ⌜ (r ≡ at + length (recordBytesAt plain node (entry (now (work .entry)) x) x))
+        × (now (out .exit) ≡ sets (now (out .entry)) at (recordBytesAt plain node (entry (now (work .entry)) x) x)) ⌝ }
 {
     let v = work[LEAN + x];
     if v < KIND {
@@ -137,7 +137,7 @@ pub fn put_pins(work: &[u16], end: usize, pins: usize, out: &mut [u8], from: usi
 // The bytes that terminal x gives: of its wire, or of its element.
 fn size_at(work: &[u16], end: usize, pins: usize, x: usize, plain: bool) -> usize
     requires { ⌜ LeanReady (now work) end pins × (x < end) ⌝ }
-    ensures { λ r. ⌜ (r ≡ sizeAt plain (entry (now (work .entry)) x)) × (r ≤ 6) ⌝ }
+    ensures { λ r. ⌜ (r ≡ entrySize plain (entry (now (work .entry)) x)) × (r ≤ 6) ⌝ }
 {
     let v = work[LEAN + x];
     if v < KIND {

@@ -21,13 +21,13 @@ use Rattle.circuit_theorems.proofs.Terminals.{each-target, pin-ins}
 use Rattle.circuit_theorems.proofs.Wiring.{input-once}
 use Rattle.memory.specs.Map.{rootsAt, region, terminalOf, netIn, Ready}
 use Rattle.lean.specs.Table.{entry}
-use Rattle.lean.specs.Layout.{leanPinsAt, leftOut, leanIn, Leant}
+use Rattle.lean.specs.Layout.{leanPinsAt, leftOut, leanIn, Leant, kindsFrom}
 use Rattle.lean.proofs.DriverLaws.{rising}
-use Rattle.lean.proofs.EntryLaws.{Tells, element-entry, wire-entry, entry-wire, entry-element, lean-ok}
+use Rattle.lean.proofs.EntryLaws.{EntryTells, element-entry, wire-entry, entry-wire, entry-element, lean-ok}
 use Rattle.trace_calculus.specs.Trace.{Source, from, source, terminals}
 use Rattle.trace_theorems.proofs.Sources.{in-all, Decided, is-pin, is-wire, is-point, is-part, decided, at-wire, out-terminal, out-not-made, not-out}
 use Rattle.trace_theorems.proofs.Owners.{start, last, keep-in}
-use Rattle.trace_steps.specs.Map.{pinsAt, kindsFrom}
+use Rattle.trace_steps.specs.Map.{pinsAt}
 use Rattle.trace_steps.specs.Copied.{TableCopied, PinsCopied}
 use Rattle.trace_steps.proofs.CopyLaws.{copied-none, copied-wire, copied-kind}
 use Rattle.trace.specs.Tables.{TableEntry, of-pin, of-wire, of-point, of-part, Tabled}
@@ -42,7 +42,7 @@ lean-in m h = keep-in m (m .elements) h
 lean-made : (m : Net) (x : ℕ) → 1 ≤ madeAt (lean m .elements) x → 1 ≤ madeAt (m .elements) x
 lean-made m x h = let g = made-within (lean m .elements) x h in within-made (g .0) x (lean-in m (g .1) .0) (g .2) (g .3)
 
-tells-last : (a : Element) (v x : ℕ) → Tells a v x → last a ≡ x
+tells-last : (a : Element) (v x : ℕ) → EntryTells a v x → last a ≡ x
 tells-last (point i) v x t = t .0
 tells-last (part p i) v x t = t .0
 
@@ -83,17 +83,19 @@ module _ (u : List ℕ) (e k p : ℕ) (r : Ready u e k p) (v : List ℕ) (end : 
   pin-none x t =
       let i = pin-ins (M .pins) x t in
       let m : 1 ≤ madeAt es x = omega (arith, ok .reached x) in
-      let h = made-low x m in
-      (m, elim (ℕ-discrete (entry v x) 0) [
-        | yes z ↦ z
-        | no z ↦ absurd (elim (decLe kindsFrom (entry v x)) [
-          | no a ↦ omega (arith, in-all (λ y. 1 ≤ targets (M .wires) (y .to)) (entry-wire v end p (l .ready) x h z (omega arith)) (each-target (M .wires)), ok .reached x, input-once M ok x)
-          | yes a ↦ elim (decLe leftOut (entry v x)) [
-            | yes b ↦ left-not-made x h b m
-            | no b ↦ (let g = kind-out x h a (omega arith) in not-out M ok x m (subst (λ (y : ℕ). T (isOut es y)) (g .2) (in-out (g .0) (g .1))))
-          ]
-        ])
-      ])
+      let h = made-low x m in (
+        m,
+        elim (ℕ-discrete (entry v x) 0) [
+          | yes z ↦ z
+          | no z ↦ absurd (elim (decLe kindsFrom (entry v x)) [
+            | no a ↦ omega (arith, in-all (λ y. 1 ≤ targets (M .wires) (y .to)) (entry-wire v end p (l .ready) x h z (omega arith)) (each-target (M .wires)), ok .reached x, input-once M ok x)
+            | yes a ↦ elim (decLe leftOut (entry v x)) [
+              | yes b ↦ left-not-made x h b m
+              | no b ↦ (let g = kind-out x h a (omega arith) in not-out M ok x m (subst (λ (y : ℕ). T (isOut es y)) (g .2) (in-out (g .0) (g .1))))
+            ]
+          ])
+        ],
+      )
 
   module _ (w₁ : List ℕ) (c : TableCopied v end w₁) (w : List ℕ) (d : PinsCopied w₁ p w) where
     size : length w ≡ length v
@@ -122,7 +124,7 @@ module _ (u : List ℕ) (e k p : ℕ) (r : Ready u e k p) (v : List ℕ) (end : 
         let q : getD w x 0 ≡ y .from = (let s = wire-at x (made-low x m) (λ n. omega arith) (omega arith) in omega arith) in
         subst (TableEntry M x) (sym q) (of-wire (y .from) (subst (λ (z : ℕ). source M z ≡ from (y .from)) g (at-wire M ok h)) (input x m) o)
 
-    kind-of : (a : Element) (x n : ℕ) → Among a es → last a ≡ x → ((y : ℕ) → Tells a (entry v y) y → entry v y ≡ kindsFrom + n) → getD w x 0 ≡ kindsFrom + n
+    kind-of : (a : Element) (x n : ℕ) → Among a es → last a ≡ x → ((y : ℕ) → EntryTells a (entry v y) y → entry v y ≡ kindsFrom + n) → getD w x 0 ≡ kindsFrom + n
     kind-of a x n h g f =
         let y = element-entry v end p (l .ready) h in
         let q : y .0 ≡ x = sym (tells-last a (entry v (y .0)) (y .0) (y .2)) ∙ g in

@@ -21,8 +21,8 @@ use Rattle.memory.specs.Map.{memorySize, kindNumber}
 use Rattle.trace_theorems.proofs.Lists.{has-at, place-at, at-place, Up, up-low, up-weaken, up-once}
 use Rattle.trace_theorems.proofs.Lending.{registers-in, in-registers, registers-up}
 use Rattle.trace_theorems.proofs.Owners.{start, last, same-owner}
-use Rattle.lean.specs.Layout.{leftOut}
-use Rattle.trace_steps.specs.Map.{registersAt, kindsFrom, registerEntry}
+use Rattle.lean.specs.Layout.{leftOut, kindsFrom}
+use Rattle.trace_steps.specs.Map.{registersAt, registerEntry}
 use Rattle.trace_steps.specs.Turns.{takeTurns}
 use Rattle.trace_steps.specs.Pins.{Counted, counted, registerOne}
 use Rattle.trace_steps.proofs.Laws.{set-other}

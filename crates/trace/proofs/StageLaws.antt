@@ -19,12 +19,12 @@ use Rattle.calculus.specs.Record.{All}
 use Rattle.calculus.specs.Inputs.{madeAt}
 use Rattle.circuit_theorems.specs.Formed.{Shown}
 use Rattle.trace_theorems.proofs.Sources.{out-terminal}
-use Rattle.trace_steps.specs.Map.{restAt, pinsAt, bitsAt, kindsFrom, registerEntry, inverterEntry, oneEntry, pointEntry}
+use Rattle.lean.specs.Layout.{kindsFrom, leftOut}
+use Rattle.trace_steps.specs.Map.{restAt, pinsAt, bitsAt, registerEntry, inverterEntry, oneEntry, pointEntry}
 use Rattle.trace_steps.specs.Pins.{pinIsIn}
 use Rattle.memory.specs.Map.{rootsAt, memorySize, terminalOf, netIn}
 use Rattle.circuit_theorems.specs.Terminals.{has}
 use Rattle.lean.specs.Table.{Within}
-use Rattle.lean.specs.Layout.{leftOut}
 use Rattle.lean.proofs.TableLaws.{within-none, within-then, within-set, entry-same, entry-other}
 use Rattle.trace_calculus.specs.Trace.{terminals, inputs, noneOnRing, bitByte, ran}
 use Rattle.trace_calculus.specs.Lanes.{LanesEnd, lanesRan, outs, stateOf}

@@ -15,8 +15,8 @@ use Rattle.circuit_theorems.specs.Terminals.{has}
 use Rattle.circuit_theorems.specs.Formed.{Formed}
 use Rattle.trace_calculus.specs.Trace.{pin, from, source, terminals}
 use Rattle.memory.specs.Map.{memorySize, region, terminalOf}
-use Rattle.lean.specs.Layout.{leftOut}
-use Rattle.trace_steps.specs.Map.{pinsAt, kindsFrom, registerEntry, oneEntry, pointEntry}
+use Rattle.lean.specs.Layout.{leftOut, kindsFrom}
+use Rattle.trace_steps.specs.Map.{pinsAt, registerEntry, oneEntry, pointEntry}
 
 -- the entry of terminal x: a pin has itself, another input the output that its wire comes from, an output its element's kind, from `kindsFrom` on
 pub data TableEntry (m : Net) (x : ℕ) : ℕ → Type 0 where

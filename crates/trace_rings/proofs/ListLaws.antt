@@ -9,7 +9,8 @@ use lib.ListN.{length, getD, set, length-set}
 use lib.Seq.{getD-set-same}
 use lib.Dec.{T, eqb, ltb, eqb→eq}
 use borrow.Author.Tests.{ltb-true, eq-eqb, ne-eqb, lt-ltb, le-ltb}
-use Rattle.trace_steps.specs.Map.{restAt, orderAt, kindsFrom, registerEntry, oneEntry, pointEntry}
+use Rattle.lean.specs.Layout.{kindsFrom}
+use Rattle.trace_steps.specs.Map.{restAt, orderAt, registerEntry, oneEntry, pointEntry}
 use Rattle.trace_steps.proofs.Laws.{set-other}
 use Rattle.trace_rings.specs.Lists.{looksAt, looksIn, Choosable, Chosen}
 

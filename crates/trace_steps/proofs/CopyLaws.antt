@@ -11,8 +11,8 @@ use lib.Dec.{ltb}
 use borrow.Author.Tests.{eq-eqb, ne-eqb, lt-ltb, le-ltb}
 use Rattle.memory.specs.Map.{rootsAt, memorySize}
 use Rattle.lean.specs.Table.{entry}
-use Rattle.lean.specs.Layout.{leanPinsAt}
-use Rattle.trace_steps.specs.Map.{pinsAt, kindsFrom}
+use Rattle.lean.specs.Layout.{leanPinsAt, kindsFrom}
+use Rattle.trace_steps.specs.Map.{pinsAt}
 use Rattle.trace_steps.specs.Copied.{copied, TableCopied, PinsCopied}
 use Rattle.trace_steps.proofs.Laws.{set-other}
 

@@ -6,8 +6,8 @@ use mathlib.Core.List.{List}
 use lib.ListN.{length, getD}
 use lib.Dec.{eqb, ltb}
 use Rattle.lean.specs.Table.{entry}
-use Rattle.lean.specs.Layout.{leanPinsAt}
-use Rattle.trace_steps.specs.Map.{pinsAt, kindsFrom}
+use Rattle.lean.specs.Layout.{leanPinsAt, kindsFrom}
+use Rattle.trace_steps.specs.Map.{pinsAt}
 
 -- of entry v of terminal x: an input has the output that its wire comes from, or itself where there is none; an output's entry stays
 abbrev pub copied : ℕ → ℕ → ℕ

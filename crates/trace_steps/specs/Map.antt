@@ -9,6 +9,7 @@
 --   bitsAt       8,192    by terminal a mark, and then a number with its bit in each lane (specs/Words); before, the lean netlist by
 --                         terminal (lean/specs/Layout), whose pins stand at `bitsEnd`
 use Prim.Native.Nat.{ℕ, _+_}
+use Rattle.lean.specs.Layout.{kindsFrom}
 use Rattle.memory.specs.Map.{targetsAt, elementsAt, stackAt, rootsAt, rootsEnd}
 
 abbrev pub restAt : ℕ
@@ -29,10 +30,7 @@ bitsAt = rootsAt
 abbrev pub bitsEnd : ℕ
 bitsEnd = rootsEnd
 
--- ---- the entry of an output: this and its element's kind, a part's number or 7 for a point
-
-abbrev pub kindsFrom : ℕ
-kindsFrom = 65520
+-- ---- the entry of an output: `kindsFrom` and its element's kind, a part's number or 7 for a point
 
 abbrev pub zeroEntry : ℕ
 zeroEntry = kindsFrom + 0

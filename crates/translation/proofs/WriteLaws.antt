@@ -18,7 +18,7 @@ use Rattle.memory.specs.Map.{makersAt, region, netIn, Ready}
 use Rattle.memory.proofs.NetStays.{net-same}
 use Rattle.lean.specs.Layout.{Leant}
 use Rattle.export_calculus.specs.Card.{profiled}
-use Rattle.root_type.specs.Chains.{chainIn}
+use Rattle.card.specs.Chains.{chainIn}
 use Rattle.translator.specs.Made.{Keeps}
 use Rattle.translator.proofs.Keeping.{above-keeps}
 use Rattle.translator.specs.Said.{refusedAs, inRoom, AnswerSays}

@@ -11,9 +11,9 @@ ghost use Rattle.calculus.specs.Makers.{written};
 ghost use Rattle.calculus.specs.Translate.{askedBytes};
 ghost use Rattle.memory.specs.Map.{makersAt, region, netIn, Ready};
 ghost use Rattle.calculus.specs.NetRead.{Known};
-ghost use Rattle.lean.specs.Layout.{makersIn, leanIn, LeanReady};
+ghost use Rattle.lean.specs.Layout.{leanMakersIn, leanIn, LeanReady};
 ghost use Rattle.export_calculus.specs.Card.{profiled};
-ghost use Rattle.root_type.specs.Chains.{chainIn};
+ghost use Rattle.card.specs.Chains.{chainIn};
 ghost use Rattle.translator.specs.Made.{Keeps};
 ghost use Rattle.translator.specs.Said.{AnswerSays, inRoom};
 ghost use Rattle.translation.specs.Wished.{saidWish, cardBy, onPass};
@@ -41,7 +41,7 @@ fn write_full(
 // The lean netlist, likewise, where it stands in the working memory by terminal.
 fn write_lean(work: &[u16], out: &mut [u8], end: usize, pins: usize, plain: bool) -> Answer
     requires { ⌜ LeanReady (now work) end pins ⌝ }
-    ensures { λ r. ⌜ AnswerSays r (now (out .entry)) (now (out .exit)) (inRoom (written plain (leanIn (now (work .entry)) end pins) (makersIn (now (work .entry)) end 0 (drop makersAt (now (work .entry))))) (length (now (out .entry)))) ⌝ }
+    ensures { λ r. ⌜ AnswerSays r (now (out .entry)) (now (out .exit)) (inRoom (written plain (leanIn (now (work .entry)) end pins) (leanMakersIn (now (work .entry)) end 0 (drop makersAt (now (work .entry))))) (length (now (out .entry)))) ⌝ }
 {
     let n = lean::lean_length(work, end, pins, plain);
     if out.len() < n {

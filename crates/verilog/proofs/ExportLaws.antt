@@ -12,8 +12,8 @@ use Rattle.calculus.specs.Translate.{saidOf, outOf}
 use Rattle.export_calculus.specs.Verilog.{moduleText, exported}
 use Rattle.lean.specs.Layout.{leanIn, LeanReady}
 use Rattle.lines.specs.Wrote.{WroteText}
-use Rattle.ring_points.specs.Rings.{lowestFrom}
-use Rattle.ring_points.proofs.RingLaws.{lowest-answer}
+use Rattle.card.specs.Rings.{lowestFrom}
+use Rattle.card.proofs.RingLaws.{lowest-answer}
 use Rattle.translator.specs.Said.{refusedAs, inRoom, AnswerSays}
 use Rattle.translator.specs.declared.Answer.the-variants as answer
 use Rattle.translator.proofs.SaidLaws.{says-short, says-fits}

@@ -11,12 +11,12 @@ use Rattle.laws.proofs.Below.{all, below}
 use Rattle.calculus.specs.Net.{Element, point, part, Wire, wireOf}
 use Rattle.export_calculus.specs.Verilog.{elementForms, portForms, assignForms, header, portsEnd, moduleEnd, filled, letter, Line, lineText, linesText, lineOfElement, lineOfWire, lineOfPin, lineOfPort, linesOfPins, linesOfPorts, moduleText}
 use Rattle.memory.specs.Map.{rootsAt, region, elementsFrom, terminalOf}
-use Rattle.lean.specs.Layout.{leanPinsAt, kindsFrom, leftOut, firstOf, elementAt, wireAt, rowIn, leanIn, LeanReady}
+use Rattle.lean.specs.Layout.{leanPinsAt, kindsFrom, leftOut, firstTerminal, elementAt, wireAt, rowIn, leanIn, LeanReady}
 use Rattle.lean.proofs.KindLaws.{region-next, region-end}
 use Rattle.lean.proofs.Rows.{row-text, row-few}
 use Rattle.lines.specs.Wrote.{WroteText}
 use Rattle.lines.proofs.Stores.{wrote-two}
-use Rattle.verilog.specs.InMemory.{elementText, wireText, elementLines, wireLines, pinLines, portLines, elementsText, wiresText, pinsText, portsText}
+use Rattle.verilog.specs.InMemory.{elementText, wireText, elementLineAt, wireLineAt, pinLineAt, portLineAt, elementsText, wiresText, pinsText, portsText}
 use Rattle.verilog.proofs.Filling.{filled-few}
 use Rattle.verilog.proofs.TextRows.{elements-append, wires-append}
 
@@ -54,7 +54,7 @@ line-few : (fs : List (List ℕ)) → Short fs → (l : Line) → length (lineTe
 unfolding lineText
 line-few fs h l = omega (arith, filled-few (l .x) (l .y) (l .z) (getD fs (l .form) []), h (l .form))
 
-pub elements-few : (v x : ℕ) → length (elementLines v x) ≤ 256
+pub elements-few : (v x : ℕ) → length (elementLineAt v x) ≤ 256
 unfolding elementText
 elements-few v x = omega (arith, texts-few elementForms elements-short (map lineOfElement (elementAt v x)), length-map (elementAt v x) lineOfElement, by (ltb v kindsFrom) (ltb v leftOut))
   where
@@ -65,12 +65,12 @@ elements-few v x = omega (arith, texts-few elementForms elements-short (map line
         either true = omega arith
         either false = omega arith
 
-    by : (a b : Bool) → length {A = Element} (cond a [] (cond b (elementsFrom ((v - kindsFrom) ∷ []) (firstOf (v - kindsFrom) x)) [])) ≤ 1
+    by : (a b : Bool) → length {A = Element} (cond a [] (cond b (elementsFrom ((v - kindsFrom) ∷ []) (firstTerminal (v - kindsFrom) x)) [])) ≤ 1
     by true b = omega arith
-    by false true = one (v - kindsFrom) (firstOf (v - kindsFrom) x)
+    by false true = one (v - kindsFrom) (firstTerminal (v - kindsFrom) x)
     by false false = omega arith
 
-pub wires-few : (v x : ℕ) → length (wireLines v x) ≤ 256
+pub wires-few : (v x : ℕ) → length (wireLineAt v x) ≤ 256
 unfolding wireText
 wires-few v x = omega (arith, texts-few assignForms assigns-short (map lineOfWire (wireAt v x)), length-map (wireAt v x) lineOfWire, by (eqb v 0) (ltb v kindsFrom))
   where
@@ -79,10 +79,10 @@ wires-few v x = omega (arith, texts-few assignForms assigns-short (map lineOfWir
     by false true = omega arith
     by false false = omega arith
 
-pub pins-few : (v x : ℕ) → length (pinLines v x) ≤ 256
+pub pins-few : (v x : ℕ) → length (pinLineAt v x) ≤ 256
 pins-few v x = line-few assignForms assigns-short (lineOfPin x (terminalOf v))
 
-pub ports-few : (v x : ℕ) → length (portLines v x) ≤ 256
+pub ports-few : (v x : ℕ) → length (portLineAt v x) ≤ 256
 ports-few v x = line-few portForms ports-short (lineOfPort x (terminalOf v))
 
 -- ---- the seven pieces
@@ -110,11 +110,11 @@ closing-length = ap length closing-is
 -- ---- the pins from the j-th on
 
 module _ (w : List ℕ) (at p : ℕ) (size : at + p ≤ length w) where
-  pins-are : (c j : ℕ) → j + c ≡ p → linesText assignForms (linesOfPins j (map terminalOf (drop j (region w at p)))) ≡ rowIn pinLines at w c j
+  pins-are : (c j : ℕ) → j + c ≡ p → linesText assignForms (linesOfPins j (map terminalOf (drop j (region w at p)))) ≡ rowIn pinLineAt at w c j
   pins-are zero j h = rw (region-end w at p j size (omega arith))
   pins-are (suc c) j h = rw (region-next w at p j size (omega arith)) (ap (λ (t : List ℕ). lineText assignForms (lineOfPin j (terminalOf (getD w (at + j) 0))) ++ t) (pins-are c (j + 1) (omega arith)))
 
-  ports-are : (c j : ℕ) → j + c ≡ p → linesText portForms (linesOfPorts j (map terminalOf (drop j (region w at p)))) ≡ rowIn portLines at w c j
+  ports-are : (c j : ℕ) → j + c ≡ p → linesText portForms (linesOfPorts j (map terminalOf (drop j (region w at p)))) ≡ rowIn portLineAt at w c j
   ports-are zero j h = rw (region-end w at p j size (omega arith))
   ports-are (suc c) j h = rw (region-next w at p j size (omega arith)) (ap (λ (t : List ℕ). lineText portForms (lineOfPort j (terminalOf (getD w (at + j) 0))) ++ t) (ports-are c (j + 1) (omega arith)))
 
@@ -133,19 +133,19 @@ module _ (w : List ℕ) (end p : ℕ) (f : LeanReady w end p) where
   opening-low q = omega (arith, q .offset, opening-length)
 
   pub ports-low : {o o₁ : List ℕ} {a b : ℕ} → a ≤ 30 → WroteText o a (portsText w p) o₁ b → b ≤ 100000
-  ports-low h q = let l = f .few-pins in omega (arith, q .offset, row-few portLines leanPinsAt w 256 ports-few p 0)
+  ports-low h q = let l = f .few-pins in omega (arith, q .offset, row-few portLineAt leanPinsAt w 256 ports-few p 0)
 
   pub closing-low : {o o₁ : List ℕ} {b c : ℕ} → b ≤ 100000 → WroteText o b (filled portsEnd 0 0 0) o₁ c → c ≤ 100004
   closing-low h q = omega (arith, q .offset, closing-length)
 
   pub elements-low : {o o₁ : List ℕ} {c d : ℕ} → c ≤ 100004 → WroteText o c (elementsText w end) o₁ d → d ≤ 3000000
-  elements-low h q = let l = f .below in omega (arith, q .offset, row-few elementLines rootsAt w 256 elements-few end 0)
+  elements-low h q = let l = f .below in omega (arith, q .offset, row-few elementLineAt rootsAt w 256 elements-few end 0)
 
   pub wires-low : {o o₁ : List ℕ} {d t : ℕ} → d ≤ 3000000 → WroteText o d (wiresText w end) o₁ t → t ≤ 6000000
-  wires-low h q = let l = f .below in omega (arith, q .offset, row-few wireLines rootsAt w 256 wires-few end 0)
+  wires-low h q = let l = f .below in omega (arith, q .offset, row-few wireLineAt rootsAt w 256 wires-few end 0)
 
   pub pins-low : {o o₁ : List ℕ} {t l : ℕ} → t ≤ 6000000 → WroteText o t (pinsText w p) o₁ l → l ≤ 16777216
-  pins-low h q = let l = f .few-pins in omega (arith, q .offset, row-few pinLines leanPinsAt w 256 pins-few p 0)
+  pins-low h q = let l = f .few-pins in omega (arith, q .offset, row-few pinLineAt leanPinsAt w 256 pins-few p 0)
 
   pub module-wrote : {o o₁ o₂ o₃ o₄ o₅ o₆ o₇ : List ℕ} {a b c d t l r : ℕ} → WroteText o 0 (filled header 0 0 0) o₁ a → WroteText o₁ a (portsText w p) o₂ b → WroteText o₂ b (filled portsEnd 0 0 0) o₃ c
       → WroteText o₃ c (elementsText w end) o₄ d → WroteText o₄ d (wiresText w end) o₅ t → WroteText o₅ t (pinsText w p) o₆ l → WroteText o₆ l (filled moduleEnd 0 0 0) o₇ r

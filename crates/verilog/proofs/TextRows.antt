@@ -11,10 +11,10 @@ use Rattle.export_calculus.specs.Verilog.{elementForms, assignForms, kindLine, 
 use Rattle.memory.specs.Map.{elementsFrom}
 use Rattle.lines.specs.Wrote.{WroteText}
 use Rattle.lines.proofs.Stores.{wrote-two}
-use Rattle.lean.specs.Layout.{kindsFrom, leftOut, firstOf, rowIn}
+use Rattle.lean.specs.Layout.{kindsFrom, leftOut, firstTerminal, rowIn}
 use Rattle.lean.proofs.Rows.{row-more, row-few}
 use Rattle.lean.proofs.MakeLaws.{element-input, element-left, element-here, wire-none, wire-output, wire-here}
-use Rattle.verilog.specs.InMemory.{elementText, wireText, elementLines, wireLines}
+use Rattle.verilog.specs.InMemory.{elementText, wireText, elementLineAt, wireLineAt}
 
 pub elements-append : (xs ys : List Element) → elementText (xs ++ ys) ≡ elementText xs ++ elementText ys
 unfolding elementText
@@ -32,11 +32,11 @@ wires-append (x ∷ xs) ys =
 
 -- ---- one entry
 
-pub no-element : (v x : ℕ) → v < kindsFrom → elementLines v x ≡ []
+pub no-element : (v x : ℕ) → v < kindsFrom → elementLineAt v x ≡ []
 unfolding elementText
 no-element v x h = ap elementText (element-input v x h)
 
-pub left-element : (v x : ℕ) → leftOut ≤ v → elementLines v x ≡ []
+pub left-element : (v x : ℕ) → leftOut ≤ v → elementLineAt v x ≡ []
 unfolding elementText
 left-element v x h = ap elementText (element-left v x h)
 
@@ -45,18 +45,18 @@ unfolding elementText
 kind-lines k n = by-eqb (λ b. linesText elementForms (map lineOfElement (cond b (point n ∷ []) (part k n ∷ []))) ≡ lineText elementForms (kindLine k n)) k 7
     (λ e. append-nil (lineText elementForms (kindLine 7 n)) ∙ ap (λ (j : ℕ). lineText elementForms (kindLine j n)) (sym e)) (λ d. append-nil (lineText elementForms (kindLine k n)))
 
-pub one-element : (v x : ℕ) → kindsFrom ≤ v → v < leftOut → elementLines v x ≡ lineText elementForms (kindLine (v - kindsFrom) (firstOf (v - kindsFrom) x))
-one-element v x h g = ap elementText (element-here v x h g) ∙ kind-lines (v - kindsFrom) (firstOf (v - kindsFrom) x)
+pub one-element : (v x : ℕ) → kindsFrom ≤ v → v < leftOut → elementLineAt v x ≡ lineText elementForms (kindLine (v - kindsFrom) (firstTerminal (v - kindsFrom) x))
+one-element v x h g = ap elementText (element-here v x h g) ∙ kind-lines (v - kindsFrom) (firstTerminal (v - kindsFrom) x)
 
-pub no-wire : (v x : ℕ) → v ≡ 0 → wireLines v x ≡ []
+pub no-wire : (v x : ℕ) → v ≡ 0 → wireLineAt v x ≡ []
 unfolding wireText
 no-wire v x e = ap wireText (wire-none v x e)
 
-pub output-wire : (v x : ℕ) → kindsFrom ≤ v → wireLines v x ≡ []
+pub output-wire : (v x : ℕ) → kindsFrom ≤ v → wireLineAt v x ≡ []
 unfolding wireText
 output-wire v x h = ap wireText (wire-output v x h)
 
-pub one-wire : (v x : ℕ) → (v ≡ 0 → ⊥) → v < kindsFrom → wireLines v x ≡ lineText assignForms (lineOfWire (wireOf (v - 1) x))
+pub one-wire : (v x : ℕ) → (v ≡ 0 → ⊥) → v < kindsFrom → wireLineAt v x ≡ lineText assignForms (lineOfWire (wireOf (v - 1) x))
 unfolding wireText
 one-wire v x d h = ap wireText (wire-here v x d h) ∙ append-nil (lineText assignForms (lineOfWire (wireOf (v - 1) x)))
 

@@ -18,31 +18,31 @@ wireText ws = linesText assignForms (map lineOfWire ws)
 
 -- ---- of entry v of terminal x, and of the pin of code v at position x
 
-abbrev pub elementLines : ℕ → ℕ → List ℕ
-elementLines v x = elementText (elementAt v x)
+abbrev pub elementLineAt : ℕ → ℕ → List ℕ
+elementLineAt v x = elementText (elementAt v x)
 
-abbrev pub wireLines : ℕ → ℕ → List ℕ
-wireLines v x = wireText (wireAt v x)
+abbrev pub wireLineAt : ℕ → ℕ → List ℕ
+wireLineAt v x = wireText (wireAt v x)
 
-abbrev pub pinLines : ℕ → ℕ → List ℕ
-pinLines v x = lineText assignForms (lineOfPin x (terminalOf v))
+abbrev pub pinLineAt : ℕ → ℕ → List ℕ
+pinLineAt v x = lineText assignForms (lineOfPin x (terminalOf v))
 
-abbrev pub portLines : ℕ → ℕ → List ℕ
-portLines v x = lineText portForms (lineOfPort x (terminalOf v))
+abbrev pub portLineAt : ℕ → ℕ → List ℕ
+portLineAt v x = lineText portForms (lineOfPort x (terminalOf v))
 
 -- ---- of the first so many
 
 abbrev pub elementsText : List ℕ → ℕ → List ℕ
-elementsText w c = rowIn elementLines rootsAt w c 0
+elementsText w c = rowIn elementLineAt rootsAt w c 0
 
 abbrev pub wiresText : List ℕ → ℕ → List ℕ
-wiresText w c = rowIn wireLines rootsAt w c 0
+wiresText w c = rowIn wireLineAt rootsAt w c 0
 
 abbrev pub pinsText : List ℕ → ℕ → List ℕ
-pinsText w c = rowIn pinLines leanPinsAt w c 0
+pinsText w c = rowIn pinLineAt leanPinsAt w c 0
 
 abbrev pub portsText : List ℕ → ℕ → List ℕ
-portsText w c = rowIn portLines leanPinsAt w c 0
+portsText w c = rowIn portLineAt leanPinsAt w c 0
 
 -- ---- 18 for a kept ring point, then 17
 

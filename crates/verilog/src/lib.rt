@@ -39,7 +39,7 @@ fn export_lean(work: &[u16], out: &mut [u8], end: usize, pins: usize) -> Answer
     requires { ⌜ LeanReady (now work) end pins ⌝ }
     ensures { λ r. ⌜ AnswerSays r (now (out .entry)) (now (out .exit)) (leanExported (leanIn (now (work .entry)) end pins) (length (now (out .entry)))) ⌝ }
 {
-    let place = ring_points::lowest(work, end, pins);
+    let place = card::rings::lowest(work, end, pins);
     if place < 8192 {
         return translator::refused(18, place);
     }

@@ -11,12 +11,12 @@ ghost use Prim.Native.Nat.{_≤_, _<_};
 ghost use Rattle.lean.specs.Table.{entry};
 ghost use Rattle.lean.specs.Layout.{LeanReady};
 ghost use Rattle.lines.specs.Wrote.{WroteText};
-ghost use Rattle.verilog.specs.InMemory.{elementLines, wireLines, elementsText, wiresText, pinsText, portsText};
+ghost use Rattle.verilog.specs.InMemory.{elementLineAt, wireLineAt, elementsText, wiresText, pinsText, portsText};
 
 // The lines of the element whose output is x. As each function that follows, it answers the offset past what it wrote.
 fn put_element(work: &[u16], end: usize, pins: usize, x: usize, out: &mut [u8], at: usize) -> usize
     requires { ⌜ LeanReady (now work) end pins × ((x < end) × (at ≤ 4294967296)) ⌝ }
-    ensures { λ r. ⌜ WroteText (now (out .entry)) at (elementLines (entry (now (work .entry)) x) x) (now (out .exit)) r ⌝ }
+    ensures { λ r. ⌜ WroteText (now (out .entry)) at (elementLineAt (entry (now (work .entry)) x) x) (now (out .exit)) r ⌝ }
 {
     let v = work[LEAN + x];
     if v < KIND {
@@ -32,7 +32,7 @@ fn put_element(work: &[u16], end: usize, pins: usize, x: usize, out: &mut [u8], 
 // The line of the wire to input x.
 fn put_wire(work: &[u16], end: usize, pins: usize, x: usize, out: &mut [u8], at: usize) -> usize
     requires { ⌜ LeanReady (now work) end pins × ((x < end) × (at ≤ 4294967296)) ⌝ }
-    ensures { λ r. ⌜ WroteText (now (out .entry)) at (wireLines (entry (now (work .entry)) x) x) (now (out .exit)) r ⌝ }
+    ensures { λ r. ⌜ WroteText (now (out .entry)) at (wireLineAt (entry (now (work .entry)) x) x) (now (out .exit)) r ⌝ }
 {
     let v = work[LEAN + x];
     if v == 0 {

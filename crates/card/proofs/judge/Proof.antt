@@ -7,8 +7,8 @@ use mathlib.Core.List.{List}
 use Prim.Native.Nat.{ℕ}
 use Rattle.export_calculus.specs.Card.{needAll, noRing, inputPlace, profiled}
 use Rattle.lean.specs.Layout.{leanIn, LeanReady}
-use Rattle.ring_points.specs.Rings.{lowestFrom, answerOf}
-use Rattle.ring_points.proofs.RingLaws.{lowest-answer}
+use Rattle.card.specs.Rings.{lowestFrom, answerOf}
+use Rattle.card.proofs.RingLaws.{lowest-answer}
 use Rattle.card.proofs.JudgeLaws.{no-chain, ring-there, unread-there, passes}
 use Rattle.card.proofs.judge.Statement.{statement}
 use Rattle.card.proofs.judge.Tie as tie

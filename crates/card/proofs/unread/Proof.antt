@@ -1,7 +1,7 @@
 -- Wires and pins are marked before the marks are looked at and taken away. Assumes nothing.
 use borrow.Author.Needs.{needs}
 use mathlib.Core.Path.{sym, ap, _∙_}
-use Rattle.ring_points.specs.Rings.{answerOf}
+use Rattle.card.specs.Rings.{answerOf}
 use Rattle.card.proofs.MarkLaws.{unread-answer, clean-same}
 use Rattle.card.proofs.unread.Statement.{statement}
 use Rattle.card.proofs.unread.Tie as tie

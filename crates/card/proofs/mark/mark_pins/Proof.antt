@@ -9,13 +9,13 @@ use lib.ListN.{getD}
 use Rattle.export_calculus.specs.Card.{drives, isOutPin}
 use Rattle.memory.specs.Map.{rootsAt, region, terminalOf}
 use Rattle.lean.specs.Layout.{leanPinsAt, wireAt, rowIn}
-use Rattle.card.specs.Marks.{WiresMarked, Marked, markPin}
+use Rattle.card.specs.Marks.{WiresMarked, MarkedWhere, markPin}
 use Rattle.card.proofs.MarkLaws.{pins-start, pins-next}
 use Rattle.card.proofs.mark.mark_pins.Statement.{statement}
 use Rattle.card.proofs.mark.mark_pins.Tie as tie
 
 abbrev Inv-loop : tie.InvT-loop
-Inv-loop work₀ end pins i₀ work i = (i ≤ pins) × ((o : WiresMarked work₀ end pins) → Marked (o .before) end (λ j. drives (rowIn wireAt rootsAt (o .before) end 0) j || isOutPin (map terminalOf (region (o .before) leanPinsAt i)) j) work)
+Inv-loop work₀ end pins i₀ work i = (i ≤ pins) × ((o : WiresMarked work₀ end pins) → MarkedWhere (o .before) end (λ j. drives (rowIn wireAt rootsAt (o .before) end 0) j || isOutPin (map terminalOf (region (o .before) leanPinsAt i)) j) work)
 
 abbrev μ-loop : tie.MeasureT-loop
 μ-loop work₀ end pins i₀ work i = pins - i
@@ -47,7 +47,7 @@ loop-again c =
     let l = r .before .before .before .before .loop in
     let end = a .end in
     let i = l .i + 1 in
-    (omega arith, λ o. subst (Marked (o .before) end (λ j. drives (rowIn wireAt rootsAt (o .before) end 0) j || isOutPin (map terminalOf (region (o .before) leanPinsAt i)) j)) (sym (r .mark-pin .ensures)) (subst (λ (v : ℕ). Marked (o .before) end (λ j. drives (rowIn wireAt rootsAt (o .before) end 0) j || isOutPin (map terminalOf (region (o .before) leanPinsAt i)) j) (markPin (l .work) v)) (sym (l .inv .1 o .high (leanPinsAt + l .i) (omega arith))) (pins-next (o .before) end (a .pins) (o .markable) (l .i) (r .before .before .before .loop-test .taken) (l .inv .1 o))))
+    (omega arith, λ o. subst (MarkedWhere (o .before) end (λ j. drives (rowIn wireAt rootsAt (o .before) end 0) j || isOutPin (map terminalOf (region (o .before) leanPinsAt i)) j)) (sym (r .mark-pin .ensures)) (subst (λ (v : ℕ). MarkedWhere (o .before) end (λ j. drives (rowIn wireAt rootsAt (o .before) end 0) j || isOutPin (map terminalOf (region (o .before) leanPinsAt i)) j) (markPin (l .work) v)) (sym (l .inv .1 o .high (leanPinsAt + l .i) (omega arith))) (pins-next (o .before) end (a .pins) (o .markable) (l .i) (r .before .before .before .loop-test .taken) (l .inv .1 o))))
 
 returns : tie.Need-returns Inv-loop μ-loop
 returns c =
@@ -55,7 +55,7 @@ returns c =
     let l = c .before .loop in
     let end = a .end in
     let e : l .i ≡ a .pins = omega arith in
-    λ o. subst (λ (i : ℕ). Marked (o .before) end (λ j. drives (rowIn wireAt rootsAt (o .before) end 0) j || isOutPin (map terminalOf (region (o .before) leanPinsAt i)) j) (l .work)) e (l .inv .1 o)
+    λ o. subst (λ (i : ℕ). MarkedWhere (o .before) end (λ j. drives (rowIn wireAt rootsAt (o .before) end 0) j || isOutPin (map terminalOf (region (o .before) leanPinsAt i)) j) (l .work)) e (l .inv .1 o)
 
 pub mark-pins-spec : {M : Type 1} → statement M
 mark-pins-spec =

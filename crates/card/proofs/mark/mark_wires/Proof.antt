@@ -7,13 +7,13 @@ use Prim.Native.Nat.{ℕ, _≤_, _<_, _-_, _+_}
 use Rattle.export_calculus.specs.Card.{drives}
 use Rattle.memory.specs.Map.{rootsAt}
 use Rattle.lean.specs.Layout.{kindsFrom, wireAt, rowIn}
-use Rattle.card.specs.Marks.{Marked, markWire}
+use Rattle.card.specs.Marks.{MarkedWhere, markWire}
 use Rattle.card.proofs.MarkLaws.{marked-none, wires-next}
 use Rattle.card.proofs.mark.mark_wires.Statement.{statement}
 use Rattle.card.proofs.mark.mark_wires.Tie as tie
 
 abbrev Inv-loop : tie.InvT-loop
-Inv-loop work₀ end pins x₀ work x = (x ≤ end) × Marked work₀ end (λ j. drives (rowIn wireAt rootsAt work₀ x 0) j) work
+Inv-loop work₀ end pins x₀ work x = (x ≤ end) × MarkedWhere work₀ end (λ j. drives (rowIn wireAt rootsAt work₀ x 0) j) work
 
 abbrev μ-loop : tie.MeasureT-loop
 μ-loop work₀ end pins x₀ work x = end - x
@@ -41,14 +41,14 @@ loop-again c =
     let s = r .before .before .before .before .before .before in
     let a = s .args in
     let l = r .before .before .before .before .loop in
-    (omega arith, subst (Marked (a .work .now) (a .end) (λ j. drives (rowIn wireAt rootsAt (a .work .now) (l .x + 1) 0) j)) (sym (r .mark-wire .ensures)) (subst (λ (v : ℕ). Marked (a .work .now) (a .end) (λ j. drives (rowIn wireAt rootsAt (a .work .now) (l .x + 1) 0) j) (markWire (l .work) v)) (sym (l .inv .1 .high (rootsAt + l .x) (omega arith))) (wires-next (a .work .now) (a .end) (a .pins) (s .pre) (l .x) (r .before .before .before .loop-test .taken) (l .inv .1))))
+    (omega arith, subst (MarkedWhere (a .work .now) (a .end) (λ j. drives (rowIn wireAt rootsAt (a .work .now) (l .x + 1) 0) j)) (sym (r .mark-wire .ensures)) (subst (λ (v : ℕ). MarkedWhere (a .work .now) (a .end) (λ j. drives (rowIn wireAt rootsAt (a .work .now) (l .x + 1) 0) j) (markWire (l .work) v)) (sym (l .inv .1 .high (rootsAt + l .x) (omega arith))) (wires-next (a .work .now) (a .end) (a .pins) (s .pre) (l .x) (r .before .before .before .loop-test .taken) (l .inv .1))))
 
 returns : tie.Need-returns Inv-loop μ-loop
 returns c =
     let a = c .before .before .before .args in
     let l = c .before .loop in
     let e : l .x ≡ a .end = omega arith in
-    subst (λ (n : ℕ). Marked (a .work .now) (a .end) (λ j. drives (rowIn wireAt rootsAt (a .work .now) n 0) j) (l .work)) e (l .inv .1)
+    subst (λ (n : ℕ). MarkedWhere (a .work .now) (a .end) (λ j. drives (rowIn wireAt rootsAt (a .work .now) n 0) j) (l .work)) e (l .inv .1)
 
 pub mark-wires-spec : {M : Type 1} → statement M
 mark-wires-spec =

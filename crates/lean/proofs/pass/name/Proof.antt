@@ -5,7 +5,7 @@ use Prim.Native.Nat.{ℕ, _≤_, _<_, _-_, _+_}
 use mathlib.Core.List.{List, [], _∷_}
 use lib.ListN.{getD}
 use Rattle.memory.specs.Map.{elementsAt, elementsFrom}
-use Rattle.lean.specs.Layout.{named}
+use Rattle.lean.specs.Layout.{namedAll}
 use Rattle.lean.proofs.KindLaws.{region-end}
 use Rattle.lean.proofs.TableLaws.{within-none}
 use Rattle.lean.proofs.PassLaws.{Naming, naming-low, naming-next}
@@ -42,7 +42,7 @@ loop-again c =
     let n = naming-next (s .args .work .now) (l .work) (s .args .elements) (l .n) (l .i) (s .pre .0) (s .pre .1 .0) (s .pre .1 .1 .0) (r .before .before .before .loop-test .taken) (l .inv .1) in (
       omega arith,
       subst (λ (x : List ℕ). Naming (s .args .work .now) (s .args .elements) x (r .name-one .result) (l .i + 1)) (sym (r .name-one .ensures .1))
-          (subst (λ (x : ℕ). Naming (s .args .work .now) (s .args .elements) (named (l .work) (elementsFrom (k ∷ []) (l .n))) x (l .i + 1)) (sym (r .name-one .ensures .0)) n),
+          (subst (λ (x : ℕ). Naming (s .args .work .now) (s .args .elements) (namedAll (l .work) (elementsFrom (k ∷ []) (l .n))) x (l .i + 1)) (sym (r .name-one .ensures .0)) n),
     )
 
 same-length : tie.Need-same-length Inv-loop μ-loop

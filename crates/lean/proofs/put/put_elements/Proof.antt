@@ -9,7 +9,7 @@ use Rattle.calculus.specs.Makers.{maker}
 use Rattle.memory.specs.Map.{makersAt}
 use Rattle.lean.specs.Table.{entry}
 use Rattle.lean.specs.Layout.{leftAfter}
-use Rattle.lean.specs.Rows.{recordAt, recordsIn}
+use Rattle.lean.specs.Rows.{recordBytesAt, recordsIn}
 use Rattle.lean.proofs.Writing.{Writing, writing-start, writing-fits, writing-step, writing-end}
 use Rattle.lean.proofs.PutLaws.{maker-left, records-start, records-first, records-end}
 use Rattle.lean.proofs.put.put_elements.Statement.{statement}
@@ -42,7 +42,7 @@ put-element-requires c κs =
       (
         h,
         rw (l .inv .1 .1 .size, c .before .maker-at .ensures ∙ maker-left w (l .i))
-            (writing-fits (a .out .now) (a .from) _ (l .out) (l .at) _ (recordAt (a .plain) (maker (drop (l .i) (drop makersAt w))) (entry w (l .x)) (l .x)) (recordsIn (a .plain) w (a .end - (l .x + 1)) (l .x + 1) (leftAfter (entry w (l .x)) (drop (l .i) (drop makersAt w)))) (l .inv .1 .1) (records-first (a .plain) w (a .end) (drop makersAt w) (l .x) (l .i) h) (length (a .out .now)) (s .pre .1)),
+            (writing-fits (a .out .now) (a .from) _ (l .out) (l .at) _ (recordBytesAt (a .plain) (maker (drop (l .i) (drop makersAt w))) (entry w (l .x)) (l .x)) (recordsIn (a .plain) w (a .end - (l .x + 1)) (l .x + 1) (leftAfter (entry w (l .x)) (drop (l .i) (drop makersAt w)))) (l .inv .1 .1) (records-first (a .plain) w (a .end) (drop makersAt w) (l .x) (l .i) h) (length (a .out .now)) (s .pre .1)),
       ),
     )
 
@@ -56,7 +56,7 @@ loop-again c =
     let l = c .before .before .before .before .before .before .before .loop in
     let p = rw (c .before .before .before .before .before .maker-at .ensures ∙ maker-left w (l .i)) at (c .before .before .before .put-element .ensures) in
     let e = c .after .ensures in
-    (omega arith, (e .0, rw (e .1) (writing-step (a .out .now) (a .from) _ (l .out) (l .at) _ (recordAt (a .plain) (maker (drop (l .i) (drop makersAt w))) (entry w (l .x)) (l .x)) (recordsIn (a .plain) w (a .end - (l .x + 1)) (l .x + 1) (leftAfter (entry w (l .x)) (drop (l .i) (drop makersAt w)))) (l .inv .1 .1) (records-first (a .plain) w (a .end) (drop makersAt w) (l .x) (l .i) (c .before .before .before .before .before .before .loop-test .taken)) _ _ (p .0) (p .1))))
+    (omega arith, (e .0, rw (e .1) (writing-step (a .out .now) (a .from) _ (l .out) (l .at) _ (recordBytesAt (a .plain) (maker (drop (l .i) (drop makersAt w))) (entry w (l .x)) (l .x)) (recordsIn (a .plain) w (a .end - (l .x + 1)) (l .x + 1) (leftAfter (entry w (l .x)) (drop (l .i) (drop makersAt w)))) (l .inv .1 .1) (records-first (a .plain) w (a .end) (drop makersAt w) (l .x) (l .i) (c .before .before .before .before .before .before .loop-test .taken)) _ _ (p .0) (p .1))))
 
 returns : tie.Need-returns Inv-loop μ-loop
 returns c =

@@ -9,7 +9,7 @@ use Rattle.calculus.specs.Lean.{lean}
 use Rattle.calculus.specs.Net.{Net}
 use Rattle.calculus.specs.Translate.{askedBytes}
 use Rattle.memory.specs.Map.{makersAt, region, netIn}
-use Rattle.root_type.specs.Chains.{chainIn}
+use Rattle.card.specs.Chains.{chainIn}
 use Rattle.card.specs.Judged.{saidJudged}
 use Rattle.card.proofs.MarkLaws.{markable}
 use Rattle.export_calculus.specs.Card.{profiled}

@@ -1,7 +1,7 @@
 // The card's rule for the root's type (27), over the type records of a sheet that has been read.
 use records::Form;
 ghost use mathlib.Core.Path.{_≡_};
-ghost use Rattle.root_type.specs.Chains.{chainIn};
+ghost use Rattle.card.specs.Chains.{chainIn};
 
 // The type is a chain of sharable arrows that ends in a sharable type. A type refers to earlier ones, so 256 steps always do.
 pub fn is_chain(records: &[u8], root: u8) -> bool

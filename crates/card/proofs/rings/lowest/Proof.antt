@@ -3,10 +3,10 @@ use native.Mathlib.Omega.{arith}
 use mathlib.Core.Path.{_≡_, refl, sym, ap, _∙_}
 use mathlib.Core.Bool.{Bool, cond}
 use Prim.Native.Nat.{ℕ, _≤_, _-_, _+_}
-use Rattle.ring_points.specs.Rings.{lowestFrom}
-use Rattle.ring_points.proofs.RingLaws.{lowest-start, lowest-next, lowest-end, ring-up}
-use Rattle.ring_points.proofs.lowest.Statement.{statement}
-use Rattle.ring_points.proofs.lowest.Tie as tie
+use Rattle.card.specs.Rings.{lowestFrom}
+use Rattle.card.proofs.RingLaws.{lowest-start, lowest-next, lowest-end, ring-up}
+use Rattle.card.proofs.rings.lowest.Statement.{statement}
+use Rattle.card.proofs.rings.lowest.Tie as tie
 
 abbrev Inv-loop : tie.InvT-loop
 Inv-loop work end pins x₀ x = (x ≤ end) × (lowestFrom work (end - x) x ≡ lowestFrom work end 0)

@@ -1,9 +1,9 @@
 -- The two tests. Assumes nothing.
 use borrow.Author.Needs.{needs}
 use native.Mathlib.Omega.{arith}
-use Rattle.ring_points.proofs.RingLaws.{point-up, no-point, by-wire}
-use Rattle.ring_points.proofs.is_ring_at.Statement.{statement}
-use Rattle.ring_points.proofs.is_ring_at.Tie as tie
+use Rattle.card.proofs.RingLaws.{point-up, no-point, by-wire}
+use Rattle.card.proofs.rings.is_ring_at.Statement.{statement}
+use Rattle.card.proofs.rings.is_ring_at.Tie as tie
 
 returns : tie.Need-returns
 returns c = let a = c .before .before .args in no-point (a .work .now) (a .x) (c .if1 .taken)

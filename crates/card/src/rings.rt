@@ -3,7 +3,7 @@ use memory::POINT;
 ghost use mathlib.Core.Path.{_≡_};
 ghost use Prim.Native.Nat.{_<_};
 ghost use Rattle.lean.specs.Layout.{LeanReady};
-ghost use Rattle.ring_points.specs.Rings.{ringAt, lowestFrom};
+ghost use Rattle.card.specs.Rings.{ringAt, lowestFrom};
 
 // x is the output of one: a point's, whose input has a wire.
 fn is_ring_at(work: &[u16], end: usize, pins: usize, x: usize) -> bool

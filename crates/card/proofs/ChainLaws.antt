@@ -12,7 +12,7 @@ use Rattle.sheet_theorems.specs.Laid.{Agrees, Below, Laid}
 use Rattle.export_calculus.specs.Card.{chain}
 use Rattle.records.specs.Forms.{recIn}
 use Rattle.records.proofs.ToldLaws.{sheet-types}
-use Rattle.root_type.specs.Chains.{chainBy, chainIn}
+use Rattle.card.specs.Chains.{chainBy, chainIn}
 
 module _ (s : List ℕ) (σ : Sheet) (l : Laid s σ) where
   abbrev Θ : Table

@@ -14,9 +14,9 @@ use Rattle.export_calculus.specs.Card.{needAll, noRing, inputPlace}
 use Rattle.memory.specs.Map.{rootsAt, region, elementsFrom, terminalOf}
 use Rattle.netlist.specs.Elements.{outputOf}
 use Rattle.lean.specs.Table.{entry}
-use Rattle.lean.specs.Layout.{leanPinsAt, kindsFrom, leftOut, firstOf, elementAt, rowIn, leanIn, LeanReady}
+use Rattle.lean.specs.Layout.{leanPinsAt, kindsFrom, leftOut, firstTerminal, elementAt, rowIn, leanIn, LeanReady}
 use Rattle.lean.proofs.MakeLaws.{element-input, element-left, element-here}
-use Rattle.ring_points.specs.Rings.{ringAt, lowestFrom, answerOf}
+use Rattle.card.specs.Rings.{ringAt, lowestFrom, answerOf}
 
 -- one more is done
 pub lowest-next : (w : List ℕ) (end x : ℕ) → x < end → lowestFrom w (end - x) x ≡ cond (ringAt w x) (x - 1) (lowestFrom w (end - (x + 1)) (x + 1))
@@ -77,7 +77,7 @@ module _ (w : List ℕ) (end pins : ℕ) (r : LeanReady w end pins) (number : �
           | no l ↦ rw (element-input (entry w x) x (omega arith)) next
           | yes l ↦ elim (decLe leftOut (entry w x)) [
             | yes g ↦ rw (element-left (entry w x) x g) next
-            | no g ↦ rw (element-here (entry w x) x l (omega arith)) (part-passes (entry w x - kindsFrom) (firstOf (entry w x - kindsFrom) x) (rowIn elementAt rootsAt w c (x + 1)) (λ z. d (omega arith)) ∙ next)
+            | no g ↦ rw (element-here (entry w x) x l (omega arith)) (part-passes (entry w x - kindsFrom) (firstTerminal (entry w x - kindsFrom) x) (rowIn elementAt rootsAt w c (x + 1)) (λ z. d (omega arith)) ∙ next)
           ]
         ])
       ]

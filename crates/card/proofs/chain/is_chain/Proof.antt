@@ -3,10 +3,10 @@ use native.Mathlib.Omega.{arith}
 use mathlib.Core.Path.{_≡_, refl, sym, ap, _∙_}
 use borrow.Author.Needs.{needs}
 use Rattle.records.specs.Forms.{saidForm}
-use Rattle.root_type.specs.Chains.{chainIn}
-use Rattle.root_type.proofs.ChainLaws.{chain-none, chain-step}
-use Rattle.root_type.proofs.is_chain.Statement.{statement}
-use Rattle.root_type.proofs.is_chain.Tie as tie
+use Rattle.card.specs.Chains.{chainIn}
+use Rattle.card.proofs.ChainLaws.{chain-none, chain-step}
+use Rattle.card.proofs.chain.is_chain.Statement.{statement}
+use Rattle.card.proofs.chain.is_chain.Tie as tie
 
 abbrev Inv-loop : tie.InvT-loop
 Inv-loop records root t₀ more₀ t more = chainIn records more t ≡ chainIn records 256 root
