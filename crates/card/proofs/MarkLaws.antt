@@ -6,19 +6,19 @@ use mathlib.Core.List.{List, [], _∷_, _++_, map, map-append}
 use native.Mathlib.Omega.{arith}
 use native.Mathlib.Numerals.{add-one}
 use native.Mathlib.Decide.{ℕ-discrete, decLe}
-use lib.Dec.{T, eqb, leb, ltb, eqb-refl}
+use lib.Dec.{T, eqb, leb, ltb}
 use lib.ListN.{length, getD, set, drop, length-drop, length-set}
 use lib.Seq.{ext-getD, getD-set-same, getD-set-other, take-suc, getD-drop}
-use borrow.Author.Tests.{ne-eqb, eq-eqb, eqb-true, lt-ltb, le-ltb, le-leb, lt-leb}
+use borrow.Author.Tests.{ne-eqb, eq-eqb, lt-ltb, le-ltb, le-leb, lt-leb}
 use Rattle.laws.proofs.Tests.{by-eqb}
 use Rattle.calculus.specs.Terms.{partAt}
 use Rattle.calculus.specs.Answer.{Answer, _>>=_, need}
-use Rattle.calculus.specs.Net.{Terminal, inp, out, Interface, Element, point, part, Wire, wireOf}
+use Rattle.calculus.specs.Net.{inp, out, Interface, Element, part, Wire}
 use Rattle.export_calculus.specs.Card.{needAll, drives, isOutPin, isRead, outputPlace}
-use Rattle.memory.specs.Map.{rootsAt, memorySize, region, elementsFrom, terminalOf, Ready}
+use Rattle.memory.specs.Map.{rootsAt, region, terminalOf, Ready}
 use Rattle.netlist.specs.Elements.{outputOf}
 use Rattle.lean.specs.Table.{entry}
-use Rattle.lean.specs.Layout.{leanPinsAt, kindsFrom, leftOut, firstTerminal, elementAt, wireAt, rowIn, leanIn, LeanReady, Leant}
+use Rattle.lean.specs.Layout.{leanPinsAt, kindsFrom, leftOut, elementAt, wireAt, rowIn, leanIn, Leant}
 use Rattle.lean.proofs.DriverLaws.{output-below, driver-out}
 use Rattle.lean.proofs.EntryLaws.{source-out, pin-out, lean-free}
 use Rattle.lean.proofs.Rows.{row-more}

@@ -8,7 +8,7 @@ use native.Mathlib.Decide.{ℕ-discrete, decLe}
 use lib.Dec.{T, eqb}
 use borrow.Author.Tests.{ne-eqb, eq-eqb, lt-ltb}
 use Rattle.calculus.specs.Answer.{Answer}
-use Rattle.calculus.specs.Net.{Interface, Element, point, part}
+use Rattle.calculus.specs.Net.{Interface, Element, point}
 use Rattle.calculus.specs.Lean.{isPin}
 use Rattle.export_calculus.specs.Card.{needAll, noRing, inputPlace}
 use Rattle.memory.specs.Map.{rootsAt, region, elementsFrom, terminalOf}

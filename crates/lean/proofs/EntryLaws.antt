@@ -8,7 +8,7 @@ use native.Mathlib.Omega.{arith}
 use native.Mathlib.Decide.{ℕ-discrete, decLe}
 use lib.Dec.{T, eqb, eqb→eq}
 use lib.ListN.{length, getD}
-use borrow.Author.Tests.{ne-eqb, eq-eqb}
+use borrow.Author.Tests.{ne-eqb}
 use Rattle.laws.proofs.Tests.{or-elim, or-left, or-right}
 use Rattle.laws.proofs.Regions.{region-length, region-at}
 use Rattle.calculus.specs.Terms.{partAt}

@@ -3,7 +3,7 @@ use Prim.Native.Nat.{ℕ, zero, suc, _+_, _-_, _*_, _/_, _%_, _≤_, _<_}
 use mathlib.Core.Path.{_≡_, refl, sym, ap, _∙_, subst}
 use mathlib.Core.Logic.{_⊎_, inl, inr, ⊎-elim}
 use mathlib.Core.Bool.{Bool, true, false, cond}
-use mathlib.Core.List.{List, [], _∷_, _++_, map}
+use mathlib.Core.List.{List, [], _∷_, map}
 use native.Mathlib.Omega.{arith}
 use native.Mathlib.Decide.{ℕ-discrete, decLe}
 use lib.Dec.{T, eqb, eqb-refl}
@@ -17,7 +17,7 @@ use Rattle.calculus.specs.Net.{Terminal, inp, out, Element, point, part, Net, p
 use Rattle.calculus.specs.NetRead.{Known}
 use Rattle.calculus.specs.Record.{All}
 use Rattle.calculus.specs.Makers.{keepMakers, leanMakers, written}
-use Rattle.calculus.specs.Lean.{driver, isPin, root, leanPin, lean}
+use Rattle.calculus.specs.Lean.{isPin, root, leanPin, lean}
 use Rattle.calculus.specs.Inputs.{tally, ins, madeAt, isOut}
 use Rattle.circuit_theorems.specs.Formed.{Tiled, Shown}
 use Rattle.circuit_theorems.proofs.Outputs.{EndHolds}
@@ -26,15 +26,15 @@ use Rattle.circuit_theorems.proofs.BackLaws.{backs-out, point-root}
 use Rattle.circuit_theorems.proofs.RootLaws.{root-reached}
 use Rattle.circuit_theorems.proofs.NetRead.{out-not-made}
 use Rattle.circuit_theorems.proofs.Terminals.{pointIn, made-high, out-high, driver-any, point-made}
-use Rattle.memory.specs.Map.{elementsAt, stackAt, rootsAt, bindersAt, makersAt, memorySize, region, elementsFrom, terminalOf, netIn, Ready}
+use Rattle.memory.specs.Map.{elementsAt, stackAt, rootsAt, makersAt, memorySize, region, elementsFrom, terminalOf, netIn, Ready}
 use Rattle.netlist.specs.Elements.{afterAll}
 use Rattle.netlist.proofs.InMemory.{kind-here, elements-here}
 use Rattle.memory.proofs.NetStays.{ready-same}
 use Rattle.lean.specs.Table.{entry, Within, Whole, Rooted}
-use Rattle.lean.specs.Layout.{leanPinsAt, kindsFrom, leanMakersIn, leanIn, LeanReady, Around, Leant, linkIn, RootedDriver, Linkable, Linked, rootedIn, Rootable, Pinned, namedAll}
+use Rattle.lean.specs.Layout.{leanPinsAt, leanMakersIn, leanIn, LeanReady, Leant, linkIn, RootedDriver, Linkable, Linked, rootedIn, Rootable, Pinned, namedAll}
 use Rattle.lean.proofs.KindLaws.{tiled-after}
 use Rattle.lean.proofs.DriverLaws.{rising, output-below, output-free, input-below, driver-out, fed, pin-none, driver-in}
-use Rattle.lean.proofs.MakeLaws.{span, tiled-span, named-within, sourceOf, Fresh, Here, Roots, Laid, named-past, all-laid, elements-are, wires-are, makers-are, Fits, all-fit}
+use Rattle.lean.proofs.MakeLaws.{span, tiled-span, named-within, sourceOf, Fresh, Here, Roots, Laid, named-past, all-laid, elements-are, wires-are, makers-are, all-fit}
 
 pub pin-at : (P : Terminal → Type 0) (cs : List ℕ) (j : ℕ) → All P (map terminalOf cs) → j < length cs → P (terminalOf (getD cs j 0))
 pin-at P [] j a l = absurd (omega arith)

@@ -1,23 +1,22 @@
 -- The table by terminal, once it is made, is the lean netlist of the definition. Assumes nothing.
-use Prim.Native.Nat.{ℕ, zero, suc, _+_, _-_, _*_, _/_, _%_, _≤_, _<_}
+use Prim.Native.Nat.{ℕ, zero, suc, _+_, _-_, _≤_, _<_}
 use mathlib.Core.Path.{_≡_, refl, sym, ap, _∙_, subst}
 use mathlib.Core.Bool.{Bool, true, false, not, _&&_, cond}
-use mathlib.Core.List.{List, [], _∷_, _++_, map, append-assoc}
+use mathlib.Core.List.{List, [], _∷_, _++_}
 use native.Mathlib.Omega.{arith}
 use native.Mathlib.Decide.{ℕ-discrete, decLe}
-use lib.Dec.{T, eqb, ltb, eqb-refl}
-use lib.ListN.{length, getD, set, drop, length-set}
+use lib.Dec.{T, eqb}
+use lib.ListN.{length, set, drop, length-set}
 use borrow.Author.Tests.{ne-eqb, eq-eqb, eqb-true, lt-ltb, le-ltb}
-use Rattle.laws.proofs.Tests.{or-left, or-right, T-is, is-false}
 use Rattle.calculus.specs.Terms.{partAt}
-use Rattle.calculus.specs.Net.{Element, point, part, Wire, wireOf, Net, partSide}
+use Rattle.calculus.specs.Net.{Element, point, part, Wire, wireOf, Net}
 use Rattle.calculus.specs.NetRead.{Known}
 use Rattle.calculus.specs.Record.{All}
 use Rattle.calculus.specs.Makers.{maker, keepMakers}
 use Rattle.calculus.specs.Lean.{driver, isPin, root, kept, keep, toInputs, toElement, leanWires}
-use Rattle.calculus.specs.Inputs.{tally, ins, madeAt, isOut}
+use Rattle.calculus.specs.Inputs.{madeAt, isOut}
 use Rattle.circuit_theorems.specs.Formed.{Tiled}
-use Rattle.circuit_theorems.proofs.Terminals.{pointIn, part-made, point-made}
+use Rattle.circuit_theorems.proofs.Terminals.{pointIn}
 use Rattle.memory.specs.Map.{rootsAt, memorySize, elementsFrom}
 use Rattle.netlist.specs.Elements.{outputOf}
 use Rattle.lean.specs.Table.{entry, Within}

@@ -1,9 +1,9 @@
 -- The steps that make the lean netlist by terminal: one more input, pin or element. Assumes nothing.
-use Prim.Native.Nat.{ℕ, zero, suc, _+_, _*_, _/_, _%_, _≤_, _<_}
+use Prim.Native.Nat.{ℕ, _+_, _*_, _/_, _%_, _≤_, _<_}
 use mathlib.Core.Path.{_≡_, refl, sym, ap, _∙_, subst}
 use mathlib.Core.Logic.{_≢_}
 use mathlib.Core.Bool.{Bool, true, false, cond}
-use mathlib.Core.List.{List, [], _∷_, _++_}
+use mathlib.Core.List.{List, [], _∷_}
 use native.Mathlib.Omega.{arith}
 use native.Mathlib.Decide.{ℕ-discrete, decLe}
 use lib.Dec.{eqb}
@@ -18,7 +18,7 @@ use Rattle.netlist.specs.Elements.{outputOf, after, afterAll}
 use Rattle.netlist.proofs.Elements.{after-rises}
 use Rattle.lean.specs.Table.{entry, Within}
 use Rattle.lean.specs.Layout.{kindsFrom, leftOut, leanPinsAt, linkIn, RootedDriver, Linkable, Linked, rootedIn, Rootable, Pinned, nameOne, namedAll}
-use Rattle.lean.proofs.KindLaws.{region-next, output-low, first-low}
+use Rattle.lean.proofs.KindLaws.{region-next}
 use Rattle.lean.proofs.TableLaws.{within-none, within-then, within-set, entry-same, entry-other}
 
 -- ---- inputs

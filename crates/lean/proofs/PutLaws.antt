@@ -10,18 +10,17 @@ use lib.ListN.{length, getD, drop, length-append}
 use lib.Seq.{sets, getD-drop, drop-drop}
 use borrow.Author.Tests.{ne-eqb, eq-eqb, lt-ltb, le-ltb}
 use Rattle.laws.proofs.Regions.{written-more}
-use Rattle.calculus.specs.Net.{Element, Wire, wireOf, wireBytes, pinBytes, netBytes}
+use Rattle.calculus.specs.Net.{Element, wireOf, wireBytes, pinBytes, netBytes}
 use Rattle.calculus.specs.Makers.{maker, netNodeBytes, written}
-use Rattle.circuit_theorems.proofs.Counts.{pin-bytes}
 use Rattle.memory.specs.Map.{rootsAt, makersAt, region, elementsFrom, terminalOf}
 use Rattle.netlist.specs.Elements.{elementSize, nodeSize, elementRecords}
 use Rattle.netlist.proofs.Elements.{records-are, records-append, records-length, kinds-length, kind-size}
 use Rattle.netlist.proofs.Records.{wires-append}
 use Rattle.lean.specs.Table.{entry}
-use Rattle.lean.specs.Layout.{leanPinsAt, kindsFrom, leftOut, firstTerminal, elementAt, wireAt, rowIn, leftAfter, makerAt, leanMakersIn, leanIn, LeanReady}
+use Rattle.lean.specs.Layout.{leanPinsAt, kindsFrom, leftOut, firstTerminal, elementAt, wireAt, rowIn, leftAfter, leanMakersIn, leanIn, LeanReady}
 use Rattle.lean.specs.Rows.{recordBytesAt, wireBytesAt, pinBytesAt, recordsIn, entrySize, sizesIn}
 use Rattle.lean.proofs.KindLaws.{region-next, region-end}
-use Rattle.lean.proofs.Rows.{row-text, row-few}
+use Rattle.lean.proofs.Rows.{row-text}
 use Rattle.lean.proofs.MakeLaws.{element-input, element-left, element-here, wire-none, wire-output, wire-here}
 
 -- ---- one entry

@@ -3,7 +3,7 @@
 -- kind, 65,528 where the element is left out. From 27,264 the pins, coded as those of the full netlist.
 use Prim.Native.Nat.{ℕ, zero, suc, _+_, _-_, _*_, _/_, _%_, _≤_, _<_}
 use mathlib.Core.Path.{_≡_}
-use mathlib.Core.Bool.{Bool, cond}
+use mathlib.Core.Bool.{cond}
 use mathlib.Core.List.{List, [], _∷_, _++_, map}
 use lib.Dec.{T, eqb, ltb}
 use lib.ListN.{length, getD, set, drop}
@@ -12,7 +12,7 @@ use Rattle.calculus.specs.Net.{Element, point, part, Wire, wireOf, Net}
 use Rattle.calculus.specs.Lean.{isPin, lean}
 use Rattle.calculus.specs.Inputs.{isOut}
 use Rattle.calculus.specs.Makers.{maker, leanMakers}
-use Rattle.memory.specs.Map.{stackAt, rootsAt, rootsEnd, bindersAt, makersAt, memorySize, region, elementsFrom, terminalOf, netIn}
+use Rattle.memory.specs.Map.{stackAt, rootsAt, rootsEnd, bindersAt, memorySize, region, elementsFrom, terminalOf, netIn}
 use Rattle.netlist.specs.Elements.{outputOf}
 use Rattle.lean.specs.Table.{entry, Within}
 

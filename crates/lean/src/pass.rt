@@ -12,7 +12,7 @@ ghost use Rattle.calculus.specs.Net.{point};
 ghost use Rattle.memory.specs.Map.{elementsAt, memorySize, region, elementsFrom};
 ghost use Rattle.netlist.specs.Elements.{outputOf, after, afterAll};
 ghost use Rattle.lean.specs.Table.{entry};
-ghost use Rattle.lean.specs.Layout.{firstTerminal, RootedDriver, linkIn, Linkable, Linked, rootedIn, Rootable, Pinned, nameOne, namedAll};
+ghost use Rattle.lean.specs.Layout.{firstTerminal, linkIn, Linkable, Linked, rootedIn, Rootable, Pinned, nameOne, namedAll};
 
 // By terminal, what the pass says of it.
 pub const LEAN: usize = ROOTS;

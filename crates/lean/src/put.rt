@@ -10,7 +10,6 @@ use netlist::In;
 use netlist::Out;
 ghost use mathlib.Core.Path.{_≡_};
 ghost use Prim.Native.Nat.{_+_, _*_, _≤_, _<_};
-ghost use mathlib.Core.List.{_∷_, []};
 ghost use lib.Seq.{sets};
 ghost use lib.ListN.{length, getD, drop};
 ghost use Rattle.memory.specs.Map.{rootsAt, makersAt};

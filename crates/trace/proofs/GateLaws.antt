@@ -17,9 +17,9 @@ use Rattle.calculus.specs.Record.{Among}
 use Rattle.circuit_theorems.specs.Terminals.{has}
 use Rattle.circuit_theorems.specs.Formed.{Formed}
 use Rattle.lean.specs.Layout.{leftOut, kindsFrom}
-use Rattle.trace_calculus.specs.Trace.{Source, pin, from, made-part as made-by, source, looks, before, terminals}
+use Rattle.trace_calculus.specs.Trace.{Source, from, made-part as made-by, source, looks, before, terminals}
 use Rattle.trace_theorems.proofs.Sources.{at-point, at-part, at-pin, out-terminal}
-use Rattle.trace_theorems.proofs.Owners.{start, last}
+use Rattle.trace_theorems.proofs.Owners.{last}
 use Rattle.trace_steps.specs.Map.{registerEntry, inverterEntry, oneEntry, pointEntry}
 use Rattle.trace_steps.specs.Steps.{firstIn, Looks, freeIn}
 use Rattle.trace_steps.proofs.Laws.{first-two, first-one}

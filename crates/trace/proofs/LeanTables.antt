@@ -1,6 +1,6 @@
 -- The table by terminal and the pins, copied from the lean netlist, say the same as it. Assumes nothing.
 use Prim.Native.Nat.{ℕ, _+_, _-_, _≤_, _<_}
-use mathlib.Core.Path.{_≡_, refl, sym, ap, _∙_, subst}
+use mathlib.Core.Path.{_≡_, sym, ap, _∙_, subst}
 use mathlib.Core.Logic.{_⊎_, inl, inr}
 use mathlib.Core.Bool.{false}
 use mathlib.Core.List.{List, map}
@@ -10,8 +10,7 @@ use lib.ListN.{length, getD}
 use lib.Seq.{ext-getD}
 use lib.Dec.{T}
 use Rattle.laws.proofs.Regions.{region-length, region-at}
-use Rattle.calculus.specs.Terms.{partAt}
-use Rattle.calculus.specs.Net.{Element, point, part, Wire, wireOf, Net}
+use Rattle.calculus.specs.Net.{Element, point, part, Wire, Net}
 use Rattle.calculus.specs.Lean.{isPin, kept, lean}
 use Rattle.calculus.specs.Record.{Among}
 use Rattle.calculus.specs.Inputs.{targets, madeAt, isOut}

@@ -13,7 +13,7 @@ use borrow.Author.Tests.{eqb-false}
 use Rattle.laws.proofs.Tests.{or-elim, or-left, or-right}
 use Rattle.calculus.specs.Terms.{partAt}
 use Rattle.calculus.specs.Net.{Element, point, part, Net}
-use Rattle.calculus.specs.Record.{Among, there}
+use Rattle.calculus.specs.Record.{Among}
 use Rattle.circuit_theorems.specs.Terminals.{has}
 use Rattle.trace_calculus.specs.Trace.{terminals, registers, place}
 use Rattle.trace_theorems.proofs.Sources.{has-append, has-left, has-right, out-terminal}

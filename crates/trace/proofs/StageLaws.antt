@@ -20,7 +20,7 @@ use Rattle.calculus.specs.Inputs.{madeAt}
 use Rattle.circuit_theorems.specs.Formed.{Shown}
 use Rattle.trace_theorems.proofs.Sources.{out-terminal}
 use Rattle.lean.specs.Layout.{kindsFrom, leftOut}
-use Rattle.trace_steps.specs.Map.{restAt, pinsAt, bitsAt, registerEntry, inverterEntry, oneEntry, pointEntry}
+use Rattle.trace_steps.specs.Map.{restAt, pinsAt, bitsAt, registerEntry, inverterEntry, oneEntry}
 use Rattle.trace_steps.specs.Pins.{pinIsIn}
 use Rattle.memory.specs.Map.{rootsAt, memorySize, terminalOf, netIn}
 use Rattle.circuit_theorems.specs.Terminals.{has}
@@ -31,7 +31,7 @@ use Rattle.trace_calculus.specs.Lanes.{LanesEnd, lanesRan, outs, stateOf}
 use Rattle.trace_theorems.proofs.TraceRings.{accepted}
 use Rattle.trace_steps.specs.Turns.{takeTurns, Looped}
 use Rattle.trace_steps.specs.Steps.{firstIn, freeIn, markOne, Looks, Register}
-use Rattle.trace_steps.specs.Sweeps.{Sweepable, sweeps, AllSwept}
+use Rattle.trace_steps.specs.Sweeps.{Sweepable, AllSwept}
 use Rattle.trace_steps.specs.Ticks.{InOrder}
 use Rattle.trace_steps.proofs.Laws.{first-low}
 use Rattle.trace_steps.proofs.SweepLaws.{looks-table}

@@ -13,7 +13,7 @@ use Rattle.calculus.specs.Inputs.{isOut}
 use Rattle.calculus.specs.Record.{Among}
 use Rattle.circuit_theorems.specs.Terminals.{has}
 use Rattle.circuit_theorems.specs.Formed.{Formed}
-use Rattle.trace_calculus.specs.Trace.{pin, from, source, terminals}
+use Rattle.trace_calculus.specs.Trace.{from, source, terminals}
 use Rattle.memory.specs.Map.{memorySize, region, terminalOf}
 use Rattle.lean.specs.Layout.{leftOut, kindsFrom}
 use Rattle.trace_steps.specs.Map.{pinsAt, registerEntry, oneEntry, pointEntry}

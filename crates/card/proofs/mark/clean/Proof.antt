@@ -1,8 +1,6 @@
 -- The invariant: the first x terminals are clean, and the lowest so far is known. Assumes nothing.
-use borrow.Author.Needs.{needs}
 use native.Mathlib.Omega.{arith}
 use mathlib.Core.Path.{_≡_, sym, subst}
-use mathlib.Core.List.{List}
 use Prim.Native.Nat.{ℕ, _≤_, _-_, _+_}
 use Rattle.card.specs.Marks.{Cleaned}
 use Rattle.card.proofs.MarkLaws.{clean-start, clean-next, LowSoFar, so-start, so-next, so-end, low-small}

@@ -1,6 +1,5 @@
 -- By the tests. Assumes nothing.
 use borrow.Author.Needs.{needs}
-use native.Mathlib.Omega.{arith}
 use Rattle.card.proofs.MarkLaws.{low-read, low-input, low-other, low-there, low-here}
 use Rattle.card.proofs.mark.clean_one.Statement.{statement}
 use Rattle.card.proofs.mark.clean_one.Tie as tie

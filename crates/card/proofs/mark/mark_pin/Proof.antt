@@ -1,7 +1,6 @@
 -- By the direction. Assumes nothing.
 use borrow.Author.Needs.{needs}
-use native.Mathlib.Omega.{arith}
-use borrow.Author.Tests.{ne-eqb, eq-eqb, lt-ltb, le-ltb}
+use borrow.Author.Tests.{ne-eqb, eq-eqb}
 use Rattle.card.proofs.mark.mark_pin.Statement.{statement}
 use Rattle.card.proofs.mark.mark_pin.Tie as tie
 

@@ -1,11 +1,9 @@
 -- The invariant: the first i pins are marked. Assumes nothing.
-use borrow.Author.Needs.{needs}
 use native.Mathlib.Omega.{arith}
 use mathlib.Core.Path.{_≡_, sym, subst}
-use mathlib.Core.List.{List, map}
+use mathlib.Core.List.{map}
 use mathlib.Core.Bool.{_||_}
 use Prim.Native.Nat.{ℕ, _≤_, _<_, _-_, _+_, _/_}
-use lib.ListN.{getD}
 use Rattle.export_calculus.specs.Card.{drives, isOutPin}
 use Rattle.memory.specs.Map.{rootsAt, region, terminalOf}
 use Rattle.lean.specs.Layout.{leanPinsAt, wireAt, rowIn}

@@ -1,8 +1,6 @@
 -- The invariant: the first x wires are marked. Assumes nothing.
-use borrow.Author.Needs.{needs}
 use native.Mathlib.Omega.{arith}
 use mathlib.Core.Path.{_≡_, sym, subst}
-use mathlib.Core.List.{List}
 use Prim.Native.Nat.{ℕ, _≤_, _<_, _-_, _+_}
 use Rattle.export_calculus.specs.Card.{drives}
 use Rattle.memory.specs.Map.{rootsAt}

@@ -1,6 +1,5 @@
 -- The two tests. Assumes nothing.
 use borrow.Author.Needs.{needs}
-use native.Mathlib.Omega.{arith}
 use Rattle.card.proofs.RingLaws.{point-up, no-point, by-wire}
 use Rattle.card.proofs.rings.is_ring_at.Statement.{statement}
 use Rattle.card.proofs.rings.is_ring_at.Tie as tie

@@ -1,8 +1,8 @@
 -- The invariant: no ring point's output stands before terminal x. Assumes nothing.
 use native.Mathlib.Omega.{arith}
-use mathlib.Core.Path.{_≡_, refl, sym, ap, _∙_}
+use mathlib.Core.Path.{_≡_, sym, ap, _∙_}
 use mathlib.Core.Bool.{Bool, cond}
-use Prim.Native.Nat.{ℕ, _≤_, _-_, _+_}
+use Prim.Native.Nat.{_≤_, _-_, _+_}
 use Rattle.card.specs.Rings.{lowestFrom}
 use Rattle.card.proofs.RingLaws.{lowest-start, lowest-next, lowest-end, ring-up}
 use Rattle.card.proofs.rings.lowest.Statement.{statement}

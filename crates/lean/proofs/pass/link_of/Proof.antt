@@ -1,7 +1,6 @@
 -- By the driver. Assumes nothing.
 use borrow.Author.Needs.{needs}
 use native.Mathlib.Omega.{arith}
-use Prim.Native.Nat.{_<_}
 use Rattle.lean.proofs.PassLaws.{link-none, link-driven}
 use Rattle.lean.proofs.pass.link_of.Statement.{statement}
 use Rattle.lean.proofs.pass.link_of.Tie as tie

@@ -2,7 +2,6 @@
 use borrow.Author.Needs.{needs}
 use native.Mathlib.Omega.{arith}
 use mathlib.Core.Path.{_∙_}
-use Prim.Native.Nat.{_<_}
 use Rattle.lean.proofs.KindLaws.{first-low, output-low, point-low}
 use Rattle.lean.proofs.PassLaws.{name-point, name-part}
 use Rattle.lean.proofs.pass.name_one.Statement.{statement}

@@ -2,7 +2,6 @@
 use borrow.Author.Needs.{needs}
 use native.Mathlib.Omega.{arith}
 use Rattle.lean.proofs.PutLaws.{after-input, after-output}
-use Prim.Native.Nat.{_+_}
 use lib.ListN.{drop}
 use Rattle.memory.specs.Map.{makersAt}
 use Rattle.lean.proofs.put.after.Statement.{statement}

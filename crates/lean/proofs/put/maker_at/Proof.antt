@@ -1,6 +1,5 @@
 -- Where the memory ends. Assumes nothing.
 use borrow.Author.Needs.{needs}
-use native.Mathlib.Omega.{arith}
 use mathlib.Core.Path.{sym}
 use Prim.Native.Nat.{_+_}
 use lib.ListN.{List·getD-eq-default}

@@ -2,8 +2,6 @@
 use borrow.Author.Needs.{needs}
 use native.Mathlib.Omega.{arith}
 use Rattle.lean.proofs.PutLaws.{no-record, left-record, one-record, one-size, put-none}
-use mathlib.Core.Path.{_≡_, _∙_, sym}
-use Prim.Native.Nat.{_≤_}
 use Rattle.lean.proofs.put.put_element.Statement.{statement}
 use Rattle.lean.proofs.put.put_element.Tie as tie
 

@@ -1,9 +1,7 @@
 -- The invariant: what is written and the records that are still to come make the whole. Assumes nothing.
-use borrow.Author.Needs.{needs}
 use native.Mathlib.Omega.{arith}
-use mathlib.Core.Path.{_≡_, sym, ap, _∙_, subst}
-use mathlib.Core.List.{List}
-use Prim.Native.Nat.{ℕ, _≤_, _-_, _+_}
+use mathlib.Core.Path.{sym, _∙_, subst}
+use Prim.Native.Nat.{_≤_, _-_, _+_}
 use lib.ListN.{length, drop}
 use Rattle.calculus.specs.Makers.{maker}
 use Rattle.memory.specs.Map.{makersAt}

@@ -1,9 +1,8 @@
 -- The invariant: what is written and what is still to come make the whole. Assumes nothing.
 use borrow.Author.Needs.{needs}
 use native.Mathlib.Omega.{arith}
-use mathlib.Core.Path.{_≡_, sym, subst}
-use mathlib.Core.List.{List}
-use Prim.Native.Nat.{ℕ, _≤_, _-_, _+_}
+use mathlib.Core.Path.{sym, subst}
+use Prim.Native.Nat.{_≤_, _-_, _+_}
 use lib.ListN.{length, getD}
 use Rattle.lean.specs.Layout.{leanPinsAt}
 use Rattle.lean.specs.Layout.{rowIn}

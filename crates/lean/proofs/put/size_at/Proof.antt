@@ -1,8 +1,8 @@
 -- By the entry. Assumes nothing.
 use borrow.Author.Needs.{needs}
 use native.Mathlib.Omega.{arith}
-use mathlib.Core.Path.{_≡_, ap, _∙_}
-use Prim.Native.Nat.{ℕ, _+_, _≤_}
+use mathlib.Core.Path.{ap, _∙_}
+use Prim.Native.Nat.{ℕ, _+_}
 use Rattle.netlist.proofs.Elements.{node-small}
 use Rattle.lean.proofs.PutLaws.{size-none, size-wire, size-left, size-point, size-part}
 use Rattle.lean.proofs.put.size_at.Statement.{statement}

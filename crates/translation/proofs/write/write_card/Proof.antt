@@ -1,12 +1,10 @@
 -- `translation::write::write_card` meets its contract: the profile is judged over the lean netlist, which changes nothing, and the full one still
 -- stands. Assumes nothing.
-use mathlib.Core.Path.{_≡_, sym, ap, subst, _∙_}
-use mathlib.Core.Bool.{Bool, true, false}
+use mathlib.Core.Path.{sym, ap, subst, _∙_}
+use mathlib.Core.Bool.{true, false}
 use mathlib.Core.List.{List}
 use Prim.Native.Nat.{ℕ}
 use lib.ListN.{length}
-use Rattle.calculus.specs.Lean.{lean}
-use Rattle.calculus.specs.Net.{Net}
 use Rattle.calculus.specs.Translate.{askedBytes}
 use Rattle.memory.specs.Map.{makersAt, region, netIn}
 use Rattle.card.specs.Chains.{chainIn}

@@ -1,6 +1,5 @@
 -- By the entry. Assumes nothing.
 use borrow.Author.Needs.{needs}
-use native.Mathlib.Omega.{arith}
 use Rattle.verilog.proofs.TextRows.{no-wire, output-wire, one-wire, wrote-none}
 use Rattle.verilog.proofs.walk.put_wire.Statement.{statement}
 use Rattle.verilog.proofs.walk.put_wire.Tie as tie

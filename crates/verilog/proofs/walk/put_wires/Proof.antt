@@ -2,7 +2,6 @@
 use native.Mathlib.Omega.{arith}
 use mathlib.Core.Path.{_≡_, subst}
 use Prim.Native.Nat.{ℕ, _≤_, _-_}
-use mathlib.Core.List.{List}
 use Rattle.memory.specs.Map.{rootsAt}
 use Rattle.lean.specs.Layout.{rowIn}
 use Rattle.lines.specs.Wrote.{WroteText}
