@@ -10,7 +10,6 @@ use lib.Dec.{T, eqb, leb, ltb}
 use lib.ListN.{length, getD, set, drop, length-drop, length-set}
 use lib.Seq.{ext-getD, getD-set-same, getD-set-other, take-suc, getD-drop}
 use borrow.Author.Tests.{ne-eqb, eq-eqb, lt-ltb, le-ltb, le-leb, lt-leb}
-use Rattle.laws.proofs.Tests.{by-eqb}
 use Rattle.calculus.specs.Terms.{partAt}
 use Rattle.calculus.specs.Answer.{Answer, _>>=_, need}
 use Rattle.calculus.specs.Net.{inp, out, Interface, Element, part, Wire}
@@ -24,7 +23,7 @@ use Rattle.lean.proofs.EntryLaws.{source-out, pin-out, lean-free}
 use Rattle.lean.proofs.Rows.{row-more}
 use Rattle.lean.proofs.MakeLaws.{element-input, element-left, element-here, wire-none, wire-output, wire-here}
 use Rattle.card.specs.Rings.{answerOf}
-use Rattle.card.specs.Marks.{readMark, markWire, markPin, Free, Markable, MarkedWhere, unreadAt, unreadFrom, cleaned, Cleaned}
+use Rattle.card.specs.Marks.{readMark, markWire, markPin, Free, Markable, MarkedWhere, unreadAt, unreadFrom, withoutMark, Cleaned}
 
 or-none : (b : Bool) → (b || false) ≡ b
 or-none true = refl
@@ -229,92 +228,89 @@ module _ (w : List ℕ) (end pins : ℕ) (p : Markable w end pins) where
             by true e = sym (m .free j e .1)
             by false e = refl
 
--- ---- a terminal more is clean
+-- ---- one terminal after the other loses its mark, and the lowest that nobody reads is known
 
-pub clean-start : (w : List ℕ) → Cleaned w 0 w
-clean-start w = record { size = refl; done = λ j l. absurd (omega arith); rest = λ j l. refl }
-
-pub clean-next : {w u : List ℕ} (x : ℕ) → x < length w → Cleaned w x u → Cleaned w (x + 1) (cleaned u x)
-clean-next {w} {u} x l c = by-eqb (λ b. Cleaned w (x + 1) (cond b (set u x 65535) u)) (getD u x 0) readMark
-    (λ e. record {
-      size = length-set u x 65535 ∙ c .size;
-      done = λ j h. elim (ℕ-discrete j x) [
-        | yes z ↦ (let s = c .size in ap (λ (i : ℕ). getD (set u x 65535) i 0) z ∙ getD-set-same u x 65535 0 (omega arith) ∙ rw (z, eq-eqb (getD w x 0) readMark (sym (c .rest x (omega arith)) ∙ e)))
-        | no d ↦ getD-set-other u x j 65535 0 d ∙ c .done j (omega arith)
-      ];
-      rest = λ j h. getD-set-other u x j 65535 0 (λ z. omega arith) ∙ c .rest j (omega arith);
-    })
-    (λ n. record {
-      size = c .size;
-      done = λ j h. elim (ℕ-discrete j x) [
-        | yes z ↦ ap (λ (i : ℕ). getD u i 0) z ∙ c .rest x (omega arith) ∙ rw (z, ne-eqb (getD w x 0) readMark (λ f. n (c .rest x (omega arith) ∙ f)))
-        | no d ↦ c .done j (omega arith)
-      ];
-      rest = λ j h. c .rest j (omega arith);
-    })
-
--- ---- the lowest that nobody reads, by the tests
-
-module _ (w : List ℕ) (x low : ℕ) where
-  kept-low : (b : Bool) → b ≡ false → low ≡ cond (ltb low 8192) low (cond b x low)
-  kept-low b e = rw e (by (ltb low 8192))
-    where
-      by : (c : Bool) → low ≡ cond c low low
-      by true = refl
-      by false = refl
-
-  pub low-read : getD w x 0 ≡ readMark → (low ≡ cond (ltb low 8192) low (cond (unreadAt w x) x low)) × (set w x 65535 ≡ cleaned w x)
-  low-read e = (kept-low (unreadAt w x) (rw (eq-eqb (getD w x 0) readMark e)), rw (eq-eqb (getD w x 0) readMark e))
-
-  module _ (d : getD w x 0 ≡ readMark → ⊥) where
-    same : w ≡ cleaned w x
-    same = rw (ne-eqb (getD w x 0) readMark d)
-
-    pub low-input : entry w x < kindsFrom → (low ≡ cond (ltb low 8192) low (cond (unreadAt w x) x low)) × (w ≡ cleaned w x)
-    low-input h = (kept-low (unreadAt w x) (rw (ne-eqb (getD w x 0) readMark d, lt-leb kindsFrom (entry w x) h)), same)
-
-    pub low-other : kindsFrom + 7 ≤ entry w x → (low ≡ cond (ltb low 8192) low (cond (unreadAt w x) x low)) × (w ≡ cleaned w x)
-    low-other h = (kept-low (unreadAt w x) (rw (ne-eqb (getD w x 0) readMark d, le-leb kindsFrom (entry w x) (omega arith), le-ltb (entry w x) (kindsFrom + 7) h)), same)
-
-    pub low-there : low < 8192 → (low ≡ cond (ltb low 8192) low (cond (unreadAt w x) x low)) × (w ≡ cleaned w x)
-    low-there h = (rw (lt-ltb low 8192 h), same)
-
-    pub low-here : kindsFrom ≤ entry w x → entry w x < kindsFrom + 7 → 8192 ≤ low → (x ≡ cond (ltb low 8192) low (cond (unreadAt w x) x low)) × (w ≡ cleaned w x)
-    low-here h g l = (rw (le-ltb low 8192 l, ne-eqb (getD w x 0) readMark d, le-leb kindsFrom (entry w x) h, lt-ltb (entry w x) (kindsFrom + 7) g), same)
-
--- .. and what is still to come
-abbrev pub LowSoFar : List ℕ → ℕ → ℕ → ℕ → Type 0
+abbrev LowSoFar : List ℕ → ℕ → ℕ → ℕ → Type 0
 LowSoFar w end x low = cond (ltb low 8192) low (unreadFrom w (end - x) x) ≡ unreadFrom w end 0
 
-pub so-start : (w : List ℕ) (end : ℕ) → LowSoFar w end 0 8192
-so-start w end = let e : end - 0 ≡ end = omega arith in ap (λ (c : ℕ). unreadFrom w c 0) e
+pub record Cleaning (w : List ℕ) (end x low : ℕ) (u : List ℕ) : Type 0 where
+  pub clean : Cleaned w x u
+  pub below : low ≤ 8192
+  pub found : low < 8192 → low < x
+  pub so-far : LowSoFar w end x low
 
-pub so-end : (w : List ℕ) (end x low : ℕ) → end ≤ x → (low ≤ 8192) → LowSoFar w end x low → low ≡ unreadFrom w end 0
-so-end w end x low h l s = elim (decLe 8192 low) [
-  | yes g ↦ (let z : low ≡ 8192 = omega arith in let e : end - x ≡ 0 = omega arith in z ∙ sym (ap (λ (b : Bool). cond b low 8192) (le-ltb low 8192 g)) ∙ ap (λ (c : ℕ). cond (ltb low 8192) low (unreadFrom w c x)) (sym e) ∙ s)
-  | no g ↦ sym (ap (λ (b : Bool). cond b low (unreadFrom w (end - x) x)) (lt-ltb low 8192 (omega arith))) ∙ s
+pub cleaning-start : (w : List ℕ) (end : ℕ) → Cleaning w end 0 8192 w
+cleaning-start w end = record {
+  clean = record { size = refl; done = λ j l. absurd (omega arith); rest = λ j l. refl };
+  below = omega arith;
+  found = λ h. absurd (omega arith);
+  so-far = let e : end - 0 ≡ end = omega arith in ap (λ (c : ℕ). unreadFrom w c 0) e;
+}
+
+pub cleaning-end : {w u : List ℕ} {end x low : ℕ} → x ≤ end → end ≤ x → Cleaning w end x low u → (low ≡ unreadFrom w end 0) × Cleaned w end u
+cleaning-end {w} {u} {end} {x} {low} g h c = (
+  elim (decLe 8192 low) [
+    | yes l ↦ (let b = c .below in let z : low ≡ 8192 = omega arith in let e : end - x ≡ 0 = omega arith in z ∙ sym (ap (λ (b : Bool). cond b low 8192) (le-ltb low 8192 l)) ∙ ap (λ (n : ℕ). cond (ltb low 8192) low (unreadFrom w n x)) (sym e) ∙ c .so-far)
+    | no l ↦ sym (ap (λ (b : Bool). cond b low (unreadFrom w (end - x) x)) (lt-ltb low 8192 (omega arith))) ∙ c .so-far
+  ],
+  (let e : x ≡ end = omega arith in subst (λ (n : ℕ). Cleaned w n u) e (c .clean)),
+)
+
+-- the lower of two, where the first is x or none
+lower-is : (b : Bool) (x low : ℕ) → x < 8192 → low ≤ 8192 → (low < 8192 → low < x) → cond (ltb (cond b x 8192) low) (cond b x 8192) low ≡ cond (ltb low 8192) low (cond b x low)
+lower-is true x low l b f = elim (decLe 8192 low) [
+  | yes h ↦ rw (lt-ltb x low (omega arith), le-ltb low 8192 h)
+  | no h ↦ (let g = f (omega arith) in rw (le-ltb x low (omega arith), lt-ltb low 8192 (omega arith)))
 ]
+lower-is false x low l b f = rw (le-ltb 8192 low b) (by (ltb low 8192))
+  where
+    by : (c : Bool) → low ≡ cond c low low
+    by true = refl
+    by false = refl
 
-pub so-next : (w u : List ℕ) (end x low : ℕ) → x < end → end ≤ 8192 → Cleaned w x u → LowSoFar w end x low → LowSoFar w end (x + 1) (cond (ltb low 8192) low (cond (unreadAt u x) x low))
-so-next w u end x low h l c s =
+pub cleaning-next : {w u : List ℕ} {end x low : ℕ} (place next m : ℕ) → 8192 ≤ length w → x < end → end ≤ 8192 → Cleaning w end x low u
+    → place ≡ cond (unreadAt u x) x 8192 → next ≡ cond (ltb place low) place low → m ≡ withoutMark (getD u x 0) → Cleaning w end (x + 1) next (set u x m)
+cleaning-next {w} {u} {end} {x} {low} place next m z h l c p n k =
+    let r = c .clean .rest in
+    let s = c .clean .size in
+    let same : unreadAt u x ≡ unreadAt w x = rw (r x (omega arith), r (rootsAt + x) (omega arith)) in
+    let q : next ≡ cond (ltb low 8192) low (cond (unreadAt w x) x low) = n ∙ ap (λ (y : ℕ). cond (ltb y low) y low) (p ∙ ap (λ (b : Bool). cond b x 8192) same) ∙ lower-is (unreadAt w x) x low (omega arith) (c .below) (c .found) in
     let e : end - x ≡ suc (end - (x + 1)) = omega arith in
-    let same : unreadAt u x ≡ unreadAt w x = rw (c .rest x (omega arith), c .rest (rootsAt + x) (omega arith)) in
-    elim (decLe 8192 low) [
-      | yes g ↦ rw (same, le-ltb low 8192 g) (by (unreadAt w x) refl g (sym (ap (λ (b : Bool). cond b low (unreadFrom w (suc (end - (x + 1))) x)) (le-ltb low 8192 g)) ∙ ap (λ (n : ℕ). cond (ltb low 8192) low (unreadFrom w n x)) (sym e) ∙ s))
-      | no g ↦ rw (lt-ltb low 8192 (omega arith)) (ap (λ (b : Bool). cond b low (unreadFrom w (end - (x + 1)) (x + 1))) (lt-ltb low 8192 (omega arith)) ∙ sym (ap (λ (b : Bool). cond b low (unreadFrom w (end - x) x)) (lt-ltb low 8192 (omega arith))) ∙ s)
-    ]
+    let t : cond (ltb low 8192) low (cond (unreadAt w x) x (unreadFrom w (end - (x + 1)) (x + 1))) ≡ unreadFrom w end 0 = ap (λ (n : ℕ). cond (ltb low 8192) low (unreadFrom w n x)) (sym e) ∙ c .so-far in
+    record {
+      clean = record {
+        size = length-set u x m ∙ c .clean .size;
+        done = λ j g. elim (ℕ-discrete j x) [
+          | yes y ↦ ap (λ (i : ℕ). getD (set u x m) i 0) y ∙ getD-set-same u x m 0 (omega arith) ∙ k ∙ ap withoutMark (r x (omega arith)) ∙ ap (λ (i : ℕ). withoutMark (getD w i 0)) (sym y)
+          | no d ↦ getD-set-other u x j m 0 d ∙ c .clean .done j (omega arith)
+        ];
+        rest = λ j g. getD-set-other u x j m 0 (λ y. omega arith) ∙ r j (omega arith);
+      };
+      below = subst (λ (y : ℕ). y ≤ 8192) (sym q) (small (ltb low 8192) (unreadAt w x) (c .below));
+      found = subst (λ (y : ℕ). y < 8192 → y < x + 1) (sym q) (up (ltb low 8192) (unreadAt w x) (λ g. let f = c .found g in omega arith));
+      so-far = subst (λ (y : ℕ). LowSoFar w end (x + 1) y) (sym q) (on (unreadAt w x) t);
+    }
   where
-    by : (b : Bool) → unreadAt w x ≡ b → 8192 ≤ low → cond b x (unreadFrom w (end - (x + 1)) (x + 1)) ≡ unreadFrom w end 0 → cond (ltb (cond b x low) 8192) (cond b x low) (unreadFrom w (end - (x + 1)) (x + 1)) ≡ unreadFrom w end 0
-    by true z g t = rw (lt-ltb x 8192 (omega arith)) t
-    by false z g t = rw (le-ltb low 8192 g) t
+    small : (a b : Bool) → low ≤ 8192 → cond a low (cond b x low) ≤ 8192
+    small true b g = omega arith
+    small false true g = omega arith
+    small false false g = omega arith
 
-pub low-small : (w : List ℕ) (x low : ℕ) → x < 8192 → low ≤ 8192 → cond (ltb low 8192) low (cond (unreadAt w x) x low) ≤ 8192
-low-small w x low h l = by (ltb low 8192) (unreadAt w x)
-  where
-    by : (a b : Bool) → cond a low (cond b x low) ≤ 8192
-    by true b = omega arith
-    by false true = omega arith
-    by false false = omega arith
+    up : (a b : Bool) → (low < 8192 → low < x + 1) → cond a low (cond b x low) < 8192 → cond a low (cond b x low) < x + 1
+    up true b f = f
+    up false true f = λ g. omega arith
+    up false false f = f
+
+    on : (b : Bool) → cond (ltb low 8192) low (cond b x (unreadFrom w (end - (x + 1)) (x + 1))) ≡ unreadFrom w end 0
+        → LowSoFar w end (x + 1) (cond (ltb low 8192) low (cond b x low))
+    on b t = elim (decLe 8192 low) [
+      | no g ↦ (let f = lt-ltb low 8192 (omega arith) in rw (f, f) (rw f at t))
+      | yes g ↦ rw (le-ltb low 8192 g) (last b g (rw (le-ltb low 8192 g) at t))
+    ]
+      where
+        last : (b : Bool) → 8192 ≤ low → cond b x (unreadFrom w (end - (x + 1)) (x + 1)) ≡ unreadFrom w end 0 → cond (ltb (cond b x low) 8192) (cond b x low) (unreadFrom w (end - (x + 1)) (x + 1)) ≡ unreadFrom w end 0
+        last true g t = rw (lt-ltb x 8192 (omega arith)) t
+        last false g t = rw (le-ltb low 8192 g) t
 
 -- ---- the lean netlist that was made of a full one may be marked
 

@@ -51,19 +51,23 @@ PinsMarked w end pins w′ = (o : WiresMarked w end pins) → MarkedWhere (o .be
 
 -- ---- one terminal after the other: the first output of a part that has no mark
 
+-- by mark and entry
+abbrev pub unreadBy : ℕ → ℕ → Bool
+unreadBy m v = not (eqb m readMark) && (leb kindsFrom v && ltb v (kindsFrom + 7))
+
 abbrev pub unreadAt : List ℕ → ℕ → Bool
-unreadAt w x = not (eqb (getD w x 0) readMark) && (leb kindsFrom (entry w x) && ltb (entry w x) (kindsFrom + 7))
+unreadAt w x = unreadBy (getD w x 0) (entry w x)
 
 abbrev pub unreadFrom : List ℕ → ℕ → ℕ → ℕ
 unreadFrom w zero x = 8192
 unreadFrom w (suc c) x = cond (unreadAt w x) x (unreadFrom w c (x + 1))
 
 -- without its mark
-abbrev pub cleaned : List ℕ → ℕ → List ℕ
-cleaned w x = cond (eqb (getD w x 0) readMark) (set w x 65535) w
+abbrev pub withoutMark : ℕ → ℕ
+withoutMark m = cond (eqb m readMark) 65535 m
 
 -- the first x terminals have no marks any more
 pub record Cleaned (w : List ℕ) (x : ℕ) (w′ : List ℕ) : Type 0 where
   pub size : length w′ ≡ length w
-  pub done : (j : ℕ) → j < x → getD w′ j 0 ≡ cond (eqb (getD w j 0) readMark) 65535 (getD w j 0)
+  pub done : (j : ℕ) → j < x → getD w′ j 0 ≡ withoutMark (getD w j 0)
   pub rest : (j : ℕ) → x ≤ j → getD w′ j 0 ≡ getD w j 0

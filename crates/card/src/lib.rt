@@ -26,7 +26,8 @@ fn unread(work: &mut [u16], end: usize, pins: usize) -> usize
 {
     mark::mark_wires(work, end, pins);
     mark::mark_pins(work, end, pins);
-    mark::clean(work, end)
+    let lowest = mark::clean(work, end);
+    lowest as usize
 }
 
 // The profile's answer, 27 before 28 before 29; the netlist is not looked at where the root's type is refused. The working memory stays.

@@ -10,7 +10,7 @@ ghost use mathlib.Core.Bool.{cond};
 ghost use lib.Dec.{ltb};
 ghost use Rattle.export_calculus.specs.Card.{drives};
 ghost use Rattle.lean.specs.Layout.{kindsFrom, wireAt, rowIn};
-ghost use Rattle.card.specs.Marks.{markWire, markPin, Markable, MarkedWhere, WiresMarked, PinsMarked, unreadAt, unreadFrom, cleaned, Cleaned};
+ghost use Rattle.card.specs.Marks.{markWire, markPin, Markable, MarkedWhere, WiresMarked, PinsMarked, unreadBy, unreadFrom, withoutMark, Cleaned};
 
 // No output's number, and not NONE.
 pub const READ: u16 = 65534;
@@ -66,34 +66,47 @@ pub fn mark_pins(work: &mut [u16], end: usize, pins: usize)
     }
 }
 
-// Terminal x loses its mark; where it has none and is the output of a part, it is the lowest, unless there is one already.
-fn clean_one(work: &mut [u16], x: usize, lowest: usize) -> usize
-    requires { ⌜ (memorySize ≤ length (now work)) × (x < 8192) ⌝ }
-    ensures { λ r. ⌜ (r ≡ cond (ltb lowest 8192) lowest (cond (unreadAt (now (work .entry)) x) x lowest)) × (now (work .exit) ≡ cleaned (now (work .entry)) x) ⌝ }
+// Terminal x, where its mark m and its entry v say that it is a part's output that nobody reads; else 8,192.
+fn place_of(m: u16, v: u16, x: u16) -> u16
+    ensures { λ r. ⌜ r ≡ cond (unreadBy m v) x 8192 ⌝ }
 {
-    if work[x] == READ {
-        work[x] = memory::NONE;
-        return lowest;
+    if m == READ {
+        return 8192;
     }
-    let v = work[LEAN + x];
     if v < KIND {
-        return lowest;
+        return 8192;
     }
     if v >= KIND + memory::POINT {
-        return lowest;
+        return 8192;
     }
-    if lowest < 8192 { lowest } else { x }
+    x
 }
 
-// All terminals: the lowest that nobody reads, 8,192 for none; the marks are taken away.
-pub fn clean(work: &mut [u16], end: usize) -> usize
+fn lower(a: u16, b: u16) -> u16
+    ensures { λ r. ⌜ r ≡ cond (ltb a b) a b ⌝ }
+{
+    if a < b { a } else { b }
+}
+
+fn without_mark(m: u16) -> u16
+    ensures { λ r. ⌜ r ≡ withoutMark m ⌝ }
+{
+    if m == READ { memory::NONE } else { m }
+}
+
+// All terminals: the lowest that nobody reads, 8,192 for none; the marks are taken away. Without a way out before the end and without branches, so
+// that the compiler takes several terminals at once: the ways out of `place_of` have no effects.
+pub fn clean(work: &mut [u16], end: usize) -> u16
     requires { ⌜ (memorySize ≤ length (now work)) × (end ≤ 8192) ⌝ }
     ensures { λ r. ⌜ (r ≡ unreadFrom (now (work .entry)) end 0) × Cleaned (now (work .entry)) end (now (work .exit)) ⌝ }
 {
-    let mut lowest: usize = 8192;
+    let mut lowest: u16 = 8192;
     let mut x: usize = 0;
     while x < end {
-        lowest = clean_one(work, x, lowest);
+        let m = work[x];
+        let v = work[LEAN + x];
+        lowest = lower(place_of(m, v, x as u16), lowest);
+        work[x] = without_mark(m);
         x = x + 1;
     }
     lowest
