@@ -1,14 +1,24 @@
--- The contract of the public function determines what it answers and the memory that it leaves: two results that it allows for a call are
--- equal. Assumes nothing.
+-- The contracts of the functions that others call determine what they answer and the memory that they leave: two results that one allows for a
+-- call are equal. Assumes nothing.
 use mathlib.Core.Path.{_≡_, refl, sym, ap, ap₂, _∙_}
 use Rattle.calculus.specs.Answer.{Refusal}
 use Rattle.calculus.proofs.Answers.{refused≢good, refused-inj}
-use Rattle.laws.proofs.OneResult.{Results}
+use Rattle.laws.proofs.OneResult.{Result, Results}
 use Rattle.card.specs.Judged.{saidJudged}
 use Rattle.card.specs.declared.Judged.{Judged}
 use Rattle.card.specs.declared.Judged.the-variants as judged
+use Rattle.card.proofs.chain.is_chain.Kinds as is-chain
+use Rattle.card.proofs.chain.is_chain.Reads as is-chain-reads
+use Rattle.card.proofs.rings.lowest.Kinds as lowest
+use Rattle.card.proofs.rings.lowest.Reads as lowest-reads
 use Rattle.card.proofs.judge.Kinds as judge
 use Rattle.card.proofs.judge.Reads as judge-reads
+
+pub is-chain-determined : Result is-chain.ps is-chain.r is-chain-reads.Post
+is-chain-determined κs a x y s t f g = f ∙ sym g
+
+pub lowest-determined : Result lowest.ps lowest.r lowest-reads.Post
+lowest-determined κs a x y s t f g = f ∙ sym g
 
 one-judged : (x y : Judged) → saidJudged x ≡ saidJudged y → x ≡ y
 one-judged judged.Passes judged.Passes e = refl

@@ -1,7 +1,5 @@
+pub mod ChainLaws
+pub mod RingLaws
 pub mod MarkLaws
-pub mod WholeLaws
-pub mod PassLaws
-pub mod SweepLaws
-pub mod UnreadLaws
 pub mod JudgeLaws
 pub mod Determined

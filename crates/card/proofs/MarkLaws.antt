@@ -1,255 +1,325 @@
--- Marks, one after the other: what they leave as it was, and where the wires and pins come from stays the same under them. Assumes nothing.
-use Prim.Native.Nat.{ℕ, zero, suc, _+_, _-_, _≤_, _<_}
+-- One more mark, and one terminal more without it. Assumes nothing.
+use Prim.Native.Nat.{ℕ, zero, suc, _+_, _-_, _/_, _%_, _≤_, _<_}
 use mathlib.Core.Path.{_≡_, refl, sym, ap, _∙_, subst}
-use mathlib.Core.Logic.{_⊎_, inl, inr}
-use mathlib.Core.Bool.{Bool, true, false, cond}
-use mathlib.Core.List.{List, [], _∷_, _++_}
+use mathlib.Core.Bool.{Bool, true, false, not, cond, _||_, _&&_}
+use mathlib.Core.List.{List, [], _∷_, _++_, map, map-append}
 use native.Mathlib.Omega.{arith}
-use native.Mathlib.Decide.{ℕ-discrete}
-use lib.Dec.{ltb}
-use lib.ListN.{length, getD, drop, set, length-set}
-use lib.Seq.{getD-set-same, getD-set-other}
-use borrow.Author.Tests.{ne-eqb, eq-eqb, lt-ltb, le-ltb, ltb-true, ltb-false}
+use native.Mathlib.Numerals.{add-one}
+use native.Mathlib.Decide.{ℕ-discrete, decLe}
+use lib.Dec.{T, eqb, leb, ltb}
+use lib.ListN.{length, getD, set, drop, length-drop, length-set}
+use lib.Seq.{ext-getD, getD-set-same, getD-set-other, take-suc, getD-drop}
+use borrow.Author.Tests.{ne-eqb, eq-eqb, lt-ltb, le-ltb, le-leb, lt-leb}
 use Rattle.calculus.specs.Terms.{partAt}
-use Rattle.calculus.specs.Net.{Terminal, inp, out}
-use Rattle.calculus.specs.Record.{All}
-use Rattle.circuit_theorems.proofs.Lists.{all-append}
-use Rattle.circuit_theorems.specs.Terminals.{has}
-use Rattle.memory.specs.Map.{stackAt, memorySize, region, terminalOf}
+use Rattle.calculus.specs.Answer.{Answer, _>>=_, need}
+use Rattle.calculus.specs.Net.{inp, out, Interface, Element, part, Wire}
+use Rattle.export_calculus.specs.Card.{needAll, drives, isOutPin, isRead, outputPlace}
+use Rattle.memory.specs.Map.{rootsAt, region, terminalOf, Ready}
+use Rattle.netlist.specs.Elements.{outputOf}
 use Rattle.lean.specs.Table.{entry}
-use Rattle.lean.proofs.KindLaws.{region-next, region-end}
-use Rattle.card.specs.Marks.{readMark, unreadMark, markAll, withoutMark, OnlyMarks, wireSource, sourcesIn, pinSource, pinSources, noted, partMarked, Free, Markable, PinFree, PinsFree}
+use Rattle.lean.specs.Layout.{leanPinsAt, kindsFrom, leftOut, elementAt, wireAt, rowIn, leanIn, Leant}
+use Rattle.lean.proofs.DriverLaws.{output-below, driver-out}
+use Rattle.lean.proofs.EntryLaws.{source-out, pin-out, lean-free}
+use Rattle.lean.proofs.Rows.{row-more}
+use Rattle.lean.proofs.MakeLaws.{element-input, element-left, element-here, wire-none, wire-output, wire-here}
+use Rattle.card.specs.Rings.{answerOf}
+use Rattle.card.specs.Marks.{readMark, markWire, markPin, Free, Markable, MarkedWhere, unreadAt, unreadFrom, withoutMark, Cleaned}
 
-module _ (mark : ℕ) where
-  pub mark-append : (w xs ys : List ℕ) → markAll mark w (xs ++ ys) ≡ markAll mark (markAll mark w xs) ys
-  mark-append w [] ys = refl
-  mark-append w (x ∷ xs) ys = mark-append (set w x mark) xs ys
+or-none : (b : Bool) → (b || false) ≡ b
+or-none true = refl
+or-none false = refl
 
-  pub mark-length : (w xs : List ℕ) → length (markAll mark w xs) ≡ length w
-  mark-length w [] = refl
-  mark-length w (x ∷ xs) = mark-length (set w x mark) xs ∙ length-set w x mark
-
-  pub mark-at : (w xs : List ℕ) (o : ℕ) → o < length w → getD (markAll mark w xs) o 0 ≡ cond (has xs o) mark (getD w o 0)
-  mark-at w [] o h = refl
-  mark-at w (x ∷ xs) o h =
-      let e = length-set w x mark in
-      let r = mark-at (set w x mark) xs o (omega arith) in
-      elim (ℕ-discrete x o) [
-        | yes z ↦ r ∙ rw (eq-eqb x o z, z, getD-set-same w o mark 0 h) (one (has xs o))
-        | no d ↦ r ∙ rw (ne-eqb x o d, getD-set-other w x o mark 0 (λ y. d (sym y)))
-      ]
-    where
-      one : (b : Bool) → _≡_ {A = ℕ} (cond b mark mark) mark
-      one true = refl
-      one false = refl
-
--- ---- what marks at free outputs leave
-
-pub read-high : 8192 ≤ readMark
-read-high = omega arith
-
-pub record Stays (w₀ w : List ℕ) : Type 0 where
-  pub size : length w ≡ length w₀
-  pub above : (j : ℕ) → 8192 ≤ j → getD w j 0 ≡ getD w₀ j 0
-  pub below : (j : ℕ) → (getD w j 0 ≡ getD w₀ j 0) ⊎ ((8192 ≤ getD w₀ j 0) × (8192 ≤ getD w j 0))
-
-pub stays-none : (w : List ℕ) → Stays w w
-stays-none w = record { size = refl; above = λ j h. refl; below = λ j. inl refl }
-
-pub stays-set : {w₀ w : List ℕ} {mark : ℕ} → memorySize ≤ length w₀ → 8192 ≤ mark → Stays w₀ w → (o : ℕ) → Free w₀ o → Stays w₀ (set w o mark)
-stays-set {w₀} {w} {mark} z high s o f = record {
-  size = length-set w o mark ∙ s .size;
-  above = λ j h. getD-set-other w o j mark 0 (λ e. let l = f .0 in omega arith) ∙ s .above j h;
-  below = λ j. elim (ℕ-discrete j o) [
-    | yes e ↦ inr (subst (λ (x : ℕ). 8192 ≤ getD w₀ x 0) (sym e) (f .1), subst (λ (x : ℕ). 8192 ≤ getD (set w o mark) x 0) (sym e) (marked (f .0)))
-    | no d ↦ other j d (s .below j)
-  ];
-}
+pub drives-append : (xs ys : List Wire) (j : ℕ) → drives (xs ++ ys) j ≡ (drives xs j || drives ys j)
+drives-append [] ys j = refl
+drives-append (x ∷ xs) ys j = by (eqb (x .from) j) (drives-append xs ys j)
   where
-    marked : o < 8192 → 8192 ≤ getD (set w o mark) o 0
-    marked l = let t = s .size in let e = getD-set-same w o mark 0 (omega arith) in omega arith
+    by : (b : Bool) → drives (xs ++ ys) j ≡ (drives xs j || drives ys j) → (b || drives (xs ++ ys) j) ≡ ((b || drives xs j) || drives ys j)
+    by true e = refl
+    by false e = e
 
-    other : (j : ℕ) → (j ≡ o → ⊥) → (getD w j 0 ≡ getD w₀ j 0) ⊎ ((8192 ≤ getD w₀ j 0) × (8192 ≤ getD w j 0))
-        → (getD (set w o mark) j 0 ≡ getD w₀ j 0) ⊎ ((8192 ≤ getD w₀ j 0) × (8192 ≤ getD (set w o mark) j 0))
-    other j d (inl e) = inl (getD-set-other w o j mark 0 d ∙ e)
-    other j d (inr p) = inr (p .0, subst (λ (x : ℕ). 8192 ≤ x) (sym (getD-set-other w o j mark 0 d)) (p .1))
-
-pub stays-all : {w₀ w : List ℕ} (mark : ℕ) → memorySize ≤ length w₀ → 8192 ≤ mark → Stays w₀ w → (os : List ℕ) → All (Free w₀) os → Stays w₀ (markAll mark w os)
-stays-all mark z high s [] f = s
-stays-all mark z high s (o ∷ os) f = stays-all mark z high (stays-set z high s o (f .0)) os (f .1)
-
--- marks are not below 8,192, and nothing else changes
-pub stays-marks : {w₀ w : List ℕ} {end : ℕ} → end ≤ 8192 → OnlyMarks w₀ end w → Stays w₀ w
-stays-marks {w₀} {w} {end} h o = record {
-  size = o .size;
-  above = λ j l. o .above j (omega arith);
-  below = λ j. by j (ltb j end) refl;
-}
+pub pins-append : (xs ys : Interface) (j : ℕ) → isOutPin (xs ++ ys) j ≡ (isOutPin xs j || isOutPin ys j)
+pins-append [] ys j = refl
+pins-append (inp i ∷ xs) ys j = pins-append xs ys j
+pins-append (out o ∷ xs) ys j = by (eqb o j) (pins-append xs ys j)
   where
-    number : (x y : ℕ) → withoutMark x ≡ y → (x ≡ y) ⊎ ((8192 ≤ y) × (8192 ≤ x))
-    number x y e = at (ltb x unreadMark) refl e
-      where
-        at : (b : Bool) → ltb x unreadMark ≡ b → cond b x 65535 ≡ y → (x ≡ y) ⊎ ((8192 ≤ y) × (8192 ≤ x))
-        at true z e = inl e
-        at false z e = let l = ltb-false x unreadMark z in inr (omega arith, omega arith)
+    by : (b : Bool) → isOutPin (xs ++ ys) j ≡ (isOutPin xs j || isOutPin ys j) → (b || isOutPin (xs ++ ys) j) ≡ ((b || isOutPin xs j) || isOutPin ys j)
+    by true e = refl
+    by false e = e
 
-    by : (j : ℕ) → (b : Bool) → ltb j end ≡ b → (getD w j 0 ≡ getD w₀ j 0) ⊎ ((8192 ≤ getD w₀ j 0) × (8192 ≤ getD w j 0))
-    by j true z = number (getD w j 0) (getD w₀ j 0) (o .marks j (ltb-true j end z))
-    by j false z = inl (o .above j (ltb-false j end z))
+-- ---- marks
 
-module _ {w₀ w : List ℕ} (s : Stays w₀ w) where
-  pub entry-stays : (x : ℕ) → entry w x ≡ entry w₀ x
-  entry-stays x = s .above _ (omega arith)
+pub marked-none : (w : List ℕ) (end : ℕ) → MarkedWhere w end (λ j. false) w
+marked-none w end = record { size = refl; low = λ j l. refl; high = λ j l. refl; free = λ j e. absurd (subst T (sym e) tt) }
 
-  pub free-stays : (o : ℕ) → Free w₀ o → Free w o
-  free-stays o f = (f .0, by (s .below o))
-    where
-      by : (getD w o 0 ≡ getD w₀ o 0) ⊎ ((8192 ≤ getD w₀ o 0) × (8192 ≤ getD w o 0)) → 8192 ≤ getD w o 0
-      by (inl e) = let h = f .1 in omega arith
-      by (inr p) = p .1
-
-  pub markable-stays : Markable w₀ → Markable w
-  markable-stays m = record {
-    size = let z = m .size in let t = s .size in omega arith;
-    sources = λ i l d. by i l d (s .below i);
-  }
-    where
-      by : (i : ℕ) → i < 8192 → getD w i 0 < 8192 → (getD w i 0 ≡ getD w₀ i 0) ⊎ ((8192 ≤ getD w₀ i 0) × (8192 ≤ getD w i 0)) → Free w (entry w (getD w i 0))
-      by i l d (inl e) =
-          rw (e, entry-stays (getD w₀ i 0)) (free-stays (entry w₀ (getD w₀ i 0)) (m .sources i l (subst (λ (x : ℕ). x < 8192) e d)))
-      by i l d (inr p) = let q = p .1 in absurd (omega arith)
-
-  source-stays : (i : ℕ) → wireSource w i ≡ wireSource w₀ i
-  source-stays i = by (s .below i)
-    where
-      by : (getD w i 0 ≡ getD w₀ i 0) ⊎ ((8192 ≤ getD w₀ i 0) × (8192 ≤ getD w i 0)) → wireSource w i ≡ wireSource w₀ i
-      by (inl e) = rw (e, entry-stays (getD w₀ i 0))
-      by (inr p) = rw (le-ltb (getD w i 0) 8192 (p .1), le-ltb (getD w₀ i 0) 8192 (p .0))
-
-  pub sources-stay : (c i : ℕ) → sourcesIn w c i ≡ sourcesIn w₀ c i
-  sources-stay zero i = refl
-  sources-stay (suc c) i = rw (source-stays i, sources-stay c (i + 1))
-
-  pub pin-stays : (t : Terminal) → pinSource w t ≡ pinSource w₀ t
-  pin-stays (inp i) = refl
-  pin-stays (out o) = ap (λ (x : ℕ). x ∷ []) (entry-stays o)
-
-  pub pin-free-stays : (t : Terminal) → PinFree w₀ t → PinFree w t
-  pin-free-stays (inp i) f = tt
-  pin-free-stays (out o) f = (f .0, rw (entry-stays o) (free-stays (entry w₀ o) (f .1)))
-
--- ---- where wires come from is free
-
-module _ {w : List ℕ} (m : Markable w) where
-  pub source-free : (i : ℕ) → i < 8192 → All (Free w) (wireSource w i)
-  source-free i l = by (ltb (getD w i 0) 8192) refl
-    where
-      by : (b : Bool) → ltb (getD w i 0) 8192 ≡ b → All (Free w) (cond b (entry w (getD w i 0) ∷ []) [])
-      by true e = (m .sources i l (ltb-true (getD w i 0) 8192 e), tt)
-      by false e = tt
-
-  sources-free : (c i : ℕ) → i + c ≤ 8192 → All (Free w) (sourcesIn w c i)
-  sources-free zero i h = tt
-  sources-free (suc c) i h = all-append (Free w) (wireSource w i) (sourcesIn w c (i + 1)) (source-free i (omega arith)) (sources-free c (i + 1) (omega arith))
-
--- ---- one input
-
-pub source-none : (w : List ℕ) (i : ℕ) → 8192 ≤ getD w i 0 → w ≡ markAll readMark w (wireSource w i)
-source-none w i h = rw (le-ltb (getD w i 0) 8192 h)
-
-pub source-one : (w : List ℕ) (i : ℕ) → getD w i 0 < 8192 → set w (entry w (getD w i 0)) readMark ≡ markAll readMark w (wireSource w i)
-source-one w i h = rw (lt-ltb (getD w i 0) 8192 h)
-
--- ---- the inputs from `first` on: those of i and above are still to come
-
-pub record Inputs (w₀ : List ℕ) (count first : ℕ) (w : List ℕ) (i : ℕ) : Type 0 where
-  pub stays : Stays w₀ w
-  pub same : markAll readMark w (sourcesIn w₀ (count - i) (first + i)) ≡ markAll readMark w₀ (sourcesIn w₀ count first)
-
-pub inputs-start : (w : List ℕ) (count first : ℕ) → Inputs w count first w 0
-inputs-start w count first = record {
-  stays = stays-none w;
-  same =
-      let a : count - 0 ≡ count = omega arith in
-      let b : first + 0 ≡ first = omega arith in
-      ap (λ (c : ℕ). markAll readMark w (sourcesIn w c (first + 0))) a ∙ ap (λ (f : ℕ). markAll readMark w (sourcesIn w count f)) b;
+pub marked-same : {w w′ : List ℕ} {end : ℕ} {P Q : ℕ → Bool} → ((j : ℕ) → P j ≡ Q j) → MarkedWhere w end P w′ → MarkedWhere w end Q w′
+marked-same {w} h m = record {
+  size = m .size;
+  low = λ j l. m .low j l ∙ ap (λ (b : Bool). cond b readMark (getD w j 0)) (h j);
+  high = m .high;
+  free = λ j e. m .free j (h j ∙ e);
 }
 
-pub inputs-end : {w₀ w : List ℕ} {count first i : ℕ} → Inputs w₀ count first w i → count ≤ i → w ≡ markAll readMark w₀ (sourcesIn w₀ count first)
-inputs-end {w₀} {w} {count} {first} {i} s h = let a : count - i ≡ 0 = omega arith in ap (λ (c : ℕ). markAll readMark w (sourcesIn w₀ c (first + i))) (sym a) ∙ s .same
-
-pub inputs-step : {w₀ w w₁ : List ℕ} {count first i : ℕ} → Markable w₀ → first + count ≤ 8192 → i < count → Inputs w₀ count first w i
-    → w₁ ≡ markAll readMark w (wireSource w (first + i)) → Inputs w₀ count first w₁ (i + 1)
-inputs-step {w₀} {w} {w₁} {count} {first} {i} m low lt s g =
-    let e : w₁ ≡ markAll readMark w (wireSource w₀ (first + i)) = g ∙ ap (markAll readMark w) (source-stays (s .stays) (first + i)) in
-    let a : count - i ≡ suc (count - (i + 1)) = omega arith in
-    let b : first + i + 1 ≡ first + (i + 1) = omega arith in
+marked-one : {w w′ : List ℕ} {end : ℕ} {P : ℕ → Bool} (o : ℕ) → end ≤ 8192 → 8192 ≤ length w → Free w end o → MarkedWhere w end P w′ → MarkedWhere w end (λ j. P j || eqb o j) (set w′ o readMark)
+marked-one {w} {w′} {end} {P} o l z f m =
+    let s = m .size in
+    let u = f .0 in
     record {
-      stays = subst (Stays w₀) (sym e) (stays-all readMark (m .size) read-high (s .stays) (wireSource w₀ (first + i)) (source-free m (first + i) (omega arith)));
-      same =
-          ap (λ (x : List ℕ). markAll readMark x (sourcesIn w₀ (count - (i + 1)) (first + (i + 1)))) e
-          ∙ sym (mark-append readMark w (wireSource w₀ (first + i)) (sourcesIn w₀ (count - (i + 1)) (first + (i + 1))))
-          ∙ ap (λ (f : ℕ). markAll readMark w (wireSource w₀ (first + i) ++ sourcesIn w₀ (count - (i + 1)) f)) (sym b)
-          ∙ ap (λ (c : ℕ). markAll readMark w (sourcesIn w₀ c (first + i))) (sym a)
-          ∙ s .same;
+      size = length-set w′ o readMark ∙ m .size;
+      low = λ j h. elim (ℕ-discrete o j) [
+        | yes e ↦ ap (λ (i : ℕ). getD (set w′ o readMark) i 0) (sym e) ∙ getD-set-same w′ o readMark 0 (omega arith) ∙ rw (eq-eqb o j e) (passes (P j) (getD w j 0))
+        | no d ↦ getD-set-other w′ o j readMark 0 (λ e. d (sym e)) ∙ m .low j h ∙ rw (ne-eqb o j d) (ap (λ (b : Bool). cond b readMark (getD w j 0)) (sym (or-none (P j))))
+      ];
+      high = λ j h. getD-set-other w′ o j readMark 0 (λ e. omega arith) ∙ m .high j h;
+      free = λ j e. elim (ℕ-discrete o j) [
+        | yes q ↦ subst (Free w end) q f
+        | no d ↦ m .free j (sym (or-none (P j)) ∙ (rw (ne-eqb o j d) at e))
+      ];
     }
+  where
+    passes : (b : Bool) (a : ℕ) → readMark ≡ cond (b || true) readMark a
+    passes true a = refl
+    passes false a = refl
 
--- ---- a part
+module _ (w : List ℕ) (end pins : ℕ) (p : Markable w end pins) where
+  big : 8192 ≤ length w
+  big = let z = p .ready .size in omega arith
 
-pub part-marked : (w w₁ : List ℕ) (k n i : ℕ) → (k ≡ 7 → ⊥) → i ≡ partAt k .inputs → w₁ ≡ markAll readMark w (sourcesIn w i n) → noted w₁ (n + i) ≡ partMarked w k n
-part-marked w w₁ k n i d g e = rw (e, g, ne-eqb k 7 d)
+  abbrev pub Wired : ℕ → ℕ → Bool
+  Wired x j = drives (rowIn wireAt rootsAt w x 0) j
 
-pub no-part : (w : List ℕ) (k n : ℕ) → k ≡ 7 → w ≡ partMarked w k n
-no-part w k n e = rw (eq-eqb k 7 e)
+  wired-more : (x j : ℕ) → Wired (x + 1) j ≡ (Wired x j || drives (wireAt (entry w x) x) j)
+  wired-more x j = ap (λ (ws : List Wire). drives ws j) (row-more wireAt rootsAt w x) ∙ drives-append (rowIn wireAt rootsAt w x 0) (wireAt (entry w x) x) j
 
--- ---- pins
+  pub wires-next : {w′ : List ℕ} (x : ℕ) → x < end → MarkedWhere w end (Wired x) w′ → MarkedWhere w end (Wired (x + 1)) (markWire w′ (entry w x))
+  wires-next {w′} x h m =
+      let v = entry w x in
+      elim (ℕ-discrete v 0) [
+        | yes e ↦ rw (eq-eqb v 0 e) (marked-same (λ j. sym (wired-more x j ∙ ap (λ (ws : List Wire). Wired x j || drives ws j) (wire-none v x e) ∙ or-none (Wired x j))) m)
+        | no d ↦ elim (decLe kindsFrom v) [
+          | yes g ↦ rw (ne-eqb v 0 d, le-ltb v kindsFrom g) (marked-same (λ j. sym (wired-more x j ∙ ap (λ (ws : List Wire). Wired x j || drives ws j) (wire-output v x g) ∙ or-none (Wired x j))) m)
+          | no g ↦ rw (ne-eqb v 0 d, lt-ltb v kindsFrom (omega arith))
+              (marked-same (λ j. sym (wired-more x j ∙ ap (λ (ws : List Wire). Wired x j || drives ws j) (wire-here v x d (omega arith)) ∙ ap (λ (b : Bool). Wired x j || b) (or-none (eqb (v - 1) j))))
+              (marked-one (v - 1) (p .ready .below) big (p .sources x h d (omega arith)) m))
+        ]
+      ]
 
-pub pin-input : (w : List ℕ) (t : Terminal) (i : ℕ) → inp i ≡ t → w ≡ markAll readMark w (pinSource w t)
-pin-input w t i e = ap (λ (t : Terminal). markAll readMark w (pinSource w t)) e
+  -- what pins show too
 
-pub pin-output : (w : List ℕ) (t : Terminal) (o : ℕ) → out o ≡ t → set w (entry w o) readMark ≡ markAll readMark w (pinSource w t)
-pin-output w t o e = ap (λ (t : Terminal). markAll readMark w (pinSource w t)) e
+  abbrev pub Read : ℕ → ℕ → Bool
+  Read i j = Wired end j || isOutPin (map terminalOf (region w leanPinsAt i)) j
 
-pub record Pins (w₀ : List ℕ) (pins : ℕ) (w : List ℕ) (i : ℕ) : Type 0 where
-  pub stays : Stays w₀ w
-  pub same : markAll readMark w (pinSources w₀ (drop i (region w₀ stackAt pins))) ≡ markAll readMark w₀ (pinSources w₀ (region w₀ stackAt pins))
+  read-more : (i j : ℕ) → i < pins → Read (i + 1) j ≡ (Read i j || isOutPin (terminalOf (getD w (leanPinsAt + i) 0) ∷ []) j)
+  read-more i j h =
+      let f = p .ready .few-pins in
+      let z = p .ready .size in
+      let lt : i < length (drop leanPinsAt w) = rw length-drop (omega arith) in
+      rw (add-one i, take-suc (drop leanPinsAt w) i 0 lt, map-append terminalOf (region w leanPinsAt i) (getD (drop leanPinsAt w) i 0 ∷ []), getD-drop leanPinsAt w i 0, pins-append (map terminalOf (region w leanPinsAt i)) (terminalOf (getD w (leanPinsAt + i) 0) ∷ []) j)
+      (by (Wired end j) (isOutPin (map terminalOf (region w leanPinsAt i)) j) (isOutPin (terminalOf (getD w (leanPinsAt + i) 0) ∷ []) j))
+    where
+      by : (a b c : Bool) → (a || (b || c)) ≡ ((a || b) || c)
+      by true b c = refl
+      by false b c = refl
 
-module _ {w₀ : List ℕ} {pins : ℕ} {w : List ℕ} {i : ℕ} (l : PinsFree w₀ pins) (s : Pins w₀ pins w i) where
-  abbrev cs : List ℕ
-  cs = region w₀ stackAt pins
+  pub pins-next : {w′ : List ℕ} (i : ℕ) → i < pins → MarkedWhere w end (Read i) w′ → MarkedWhere w end (Read (i + 1)) (markPin w′ (getD w (leanPinsAt + i) 0))
+  pins-next {w′} i h m =
+      let c = getD w (leanPinsAt + i) 0 in
+      elim (ℕ-discrete (c % 2) 0) [
+        | yes e ↦ rw (eq-eqb (c % 2) 0 e) (marked-same (λ j. sym (read-more i j h ∙ ap (λ (b : Bool). Read i j || isOutPin (cond b (inp (c / 2)) (out (c / 2)) ∷ []) j) (eq-eqb (c % 2) 0 e) ∙ or-none (Read i j))) m)
+        | no d ↦ rw (ne-eqb (c % 2) 0 d) (marked-same (λ j. sym (read-more i j h ∙ ap (λ (b : Bool). Read i j || isOutPin (cond b (inp (c / 2)) (out (c / 2)) ∷ []) j) (ne-eqb (c % 2) 0 d) ∙ ap (λ (b : Bool). Read i j || b) (or-none (eqb (c / 2) j))))
+            (marked-one (c / 2) (p .ready .below) big (p .shown i h d) m))
+      ]
 
-  pins-fit : stackAt + pins ≤ length w₀
-  pins-fit = let z = l .size in let f = l .few in omega arith
+  pub pins-start : {w′ : List ℕ} → MarkedWhere w end (Wired end) w′ → MarkedWhere w end (Read 0) w′
+  pins-start m = marked-same (λ j. sym (or-none (Wired end j))) m
 
-  pub pins-end : pins ≤ i → w ≡ markAll readMark w₀ (pinSources w₀ cs)
-  pins-end h = ap (λ (x : List ℕ). markAll readMark w (pinSources w₀ x)) (sym (region-end w₀ stackAt pins i pins-fit h)) ∙ s .same
+  -- ---- once all marks stand: the first part's output without one is where the definition refuses
 
-  module _ (lt : i < pins) where
-    abbrev coded : ℕ
-    coded = getD w (stackAt + i) 0
+  module _ (w′ : List ℕ) (m : MarkedWhere w end (Read pins) w′) where
+    mark-is : (j : ℕ) → j < 8192 → eqb (getD w′ j 0) readMark ≡ Read pins j
+    mark-is j l = by (Read pins j) (m .low j l)
+      where
+        by : (b : Bool) → getD w′ j 0 ≡ cond b readMark (getD w j 0) → eqb (getD w′ j 0) readMark ≡ b
+        by true e = eq-eqb (getD w′ j 0) readMark e
+        by false e = ne-eqb (getD w′ j 0) readMark (λ z. p .drivers j (sym e ∙ z) l)
 
-    is-coded : coded ≡ getD w₀ (stackAt + i) 0
-    is-coded = s .stays .above (stackAt + i) (omega arith)
+    entry-same : (x : ℕ) → entry w′ x ≡ entry w x
+    entry-same x = m .high (rootsAt + x) (omega arith)
 
-    pin-there : PinFree w₀ (terminalOf coded)
-    pin-there = subst (λ (c : ℕ). PinFree w₀ (terminalOf c)) (sym is-coded) (l .shown i lt)
+    abbrev test : List Element → Answer (Unit {0})
+    test es = needAll (isRead (leanIn w end pins)) 29 outputPlace es
 
-    pub pins-one : PinFree w (terminalOf coded)
-    pins-one = pin-free-stays (s .stays) (terminalOf coded) pin-there
+    -- of a part's output, by its mark; of any other nothing is asked
+    other-at : (x : ℕ) → (leb kindsFrom (entry w x) && ltb (entry w x) (kindsFrom + 7)) ≡ false → unreadAt w′ x ≡ false
+    other-at x h = ap (λ (v : ℕ). not (eqb (getD w′ x 0) readMark) && (leb kindsFrom v && ltb v (kindsFrom + 7))) (entry-same x) ∙ ap (λ (b : Bool). not (eqb (getD w′ x 0) readMark) && b) h ∙ none (not (eqb (getD w′ x 0) readMark))
+      where
+        none : (b : Bool) → (b && false) ≡ false
+        none true = refl
+        none false = refl
 
-    all-free : (t : Terminal) → PinFree w₀ t → All (Free w₀) (pinSource w₀ t)
-    all-free (inp i) f = tt
-    all-free (out o) f = (f .1, tt)
+    part-at : (x : ℕ) → x < 8192 → (leb kindsFrom (entry w x) && ltb (entry w x) (kindsFrom + 7)) ≡ true → unreadAt w′ x ≡ not (Read pins x)
+    part-at x l h = ap (λ (v : ℕ). not (eqb (getD w′ x 0) readMark) && (leb kindsFrom v && ltb v (kindsFrom + 7))) (entry-same x) ∙ ap (λ (b : Bool). not (eqb (getD w′ x 0) readMark) && b) h ∙ ap (λ (b : Bool). not b && true) (mark-is x l) ∙ all (not (Read pins x))
+      where
+        all : (b : Bool) → (b && true) ≡ b
+        all true = refl
+        all false = refl
 
-    pub pins-step : {w₁ : List ℕ} → w₁ ≡ markAll readMark w (pinSource w (terminalOf coded)) → Pins w₀ pins w₁ (i + 1)
-    pins-step {w₁} g =
-        let e : w₁ ≡ markAll readMark w (pinSource w₀ (terminalOf coded)) = g ∙ ap (markAll readMark w) (pin-stays (s .stays) (terminalOf coded)) in
-        record {
-          stays = subst (Stays w₀) (sym e) (stays-all readMark (l .size) read-high (s .stays) (pinSource w₀ (terminalOf coded)) (all-free (terminalOf coded) pin-there));
-          same =
-              ap (λ (x : List ℕ). markAll readMark x (pinSources w₀ (drop (i + 1) cs))) e
-              ∙ sym (mark-append readMark w (pinSource w₀ (terminalOf coded)) (pinSources w₀ (drop (i + 1) cs)))
-              ∙ ap (λ (c : ℕ). markAll readMark w (pinSources w₀ (c ∷ drop (i + 1) cs))) is-coded
-              ∙ ap (λ (x : List ℕ). markAll readMark w (pinSources w₀ x)) (sym (region-next w₀ stackAt pins i pins-fit lt))
-              ∙ s .same;
-        }
+    skip : (x c : ℕ) (es : List Element) → es ≡ [] → (leb kindsFrom (entry w x) && ltb (entry w x) (kindsFrom + 7)) ≡ false
+        → test (rowIn elementAt rootsAt w c (x + 1)) ≡ answerOf 29 (unreadFrom w′ c (x + 1)) → test (es ++ rowIn elementAt rootsAt w c (x + 1)) ≡ answerOf 29 (cond (unreadAt w′ x) x (unreadFrom w′ c (x + 1)))
+    skip x c es e h next = rw (e, other-at x h) next
+
+    read-test : (x i k : ℕ) (es : List Element) (rest : ℕ) → i + partAt k .inputs ≡ x → x < 8192 → test es ≡ answerOf 29 rest → test (part k i ∷ es) ≡ answerOf 29 (cond (not (Read pins x)) x rest)
+    unfolding leanIn
+    read-test x i k es rest e l next = rw e (by (Read pins x) refl)
+      where
+        by : (b : Bool) → Read pins x ≡ b → (need b 29 x >>= λ _. test es) ≡ answerOf 29 (cond (not b) x rest)
+        by true z = next
+        by false z = rw (lt-ltb x 8192 l)
+
+    search : (c x : ℕ) → x + c ≤ end → test (rowIn elementAt rootsAt w c x) ≡ answerOf 29 (unreadFrom w′ c x)
+    search zero x h = refl
+    search (suc c) x h =
+        let v = entry w x in
+        let l = p .ready .below in
+        let next = search c (x + 1) (omega arith) in
+        let es = rowIn elementAt rootsAt w c (x + 1) in
+        elim (decLe kindsFrom v) [
+          | no a ↦ skip x c (elementAt v x) (element-input v x (omega arith)) (ap (λ (b : Bool). b && ltb v (kindsFrom + 7)) (lt-leb kindsFrom v (omega arith))) next
+          | yes a ↦ elim (decLe (kindsFrom + 7) v) [
+            | yes g ↦ elim (decLe leftOut v) [
+              | yes f ↦ skip x c (elementAt v x) (element-left v x f) (late a g) next
+              | no f ↦ (let z : v ≡ kindsFrom + 7 = omega arith in rw (other-at x (late a g), z) next)
+            ]
+            | no g ↦ (let k = v - kindsFrom in
+                let u : outputOf k 0 ≤ x = p .ready .outputs x (omega arith) a (omega arith) in
+                let n : k ≡ 7 → ⊥ = λ z. omega arith in
+                let i : x - (0 + partAt k .inputs) + partAt k .inputs ≡ x = (let y = rw (ne-eqb k 7 n) at u in omega arith) in
+                rw (element-here v x a (omega arith), ne-eqb k 7 n, part-at x (omega arith) (ap (λ (b : Bool). b && ltb v (kindsFrom + 7)) (le-leb kindsFrom v a) ∙ lt-ltb v (kindsFrom + 7) (omega arith)))
+                (read-test x (x - (0 + partAt k .inputs)) k es (unreadFrom w′ c (x + 1)) i (omega arith) next))
+          ]
+        ]
+      where
+        late : {v : ℕ} → kindsFrom ≤ v → kindsFrom + 7 ≤ v → (leb kindsFrom v && ltb v (kindsFrom + 7)) ≡ false
+        late {v} a g = ap (λ (b : Bool). b && ltb v (kindsFrom + 7)) (le-leb kindsFrom v a) ∙ le-ltb v (kindsFrom + 7) g
+
+    pub unread-answer : needAll (isRead (leanIn w end pins)) 29 outputPlace (leanIn w end pins .elements) ≡ answerOf 29 (unreadFrom w′ end 0)
+    unfolding leanIn
+    unread-answer = search end 0 (omega arith)
+
+    -- and without its marks the memory is as it was
+    pub clean-same : {u : List ℕ} → Cleaned w′ end u → u ≡ w
+    clean-same {u} c = ext-getD 0 u w (c .size ∙ m .size) (λ j _. at j)
+      where
+        at : (j : ℕ) → getD u j 0 ≡ getD w j 0
+        at j =
+            let l = p .ready .below in
+            elim (decLe end j) [
+              | yes h ↦ c .rest j h ∙ elim (decLe 8192 j) [
+                | yes g ↦ m .high j g
+                | no g ↦ m .low j (omega arith) ∙ past (Read pins j) refl h
+              ]
+              | no h ↦ c .done j (omega arith) ∙ rw (mark-is j (omega arith), m .low j (omega arith)) (by (Read pins j) refl)
+            ]
+          where
+            past : (b : Bool) → Read pins j ≡ b → end ≤ j → cond b readMark (getD w j 0) ≡ getD w j 0
+            past true e h = absurd (let f = m .free j e .0 in omega arith)
+            past false e h = refl
+
+            by : (b : Bool) → Read pins j ≡ b → cond b 65535 (cond b readMark (getD w j 0)) ≡ getD w j 0
+            by true e = sym (m .free j e .1)
+            by false e = refl
+
+-- ---- one terminal after the other loses its mark, and the lowest that nobody reads is known
+
+abbrev LowSoFar : List ℕ → ℕ → ℕ → ℕ → Type 0
+LowSoFar w end x low = cond (ltb low 8192) low (unreadFrom w (end - x) x) ≡ unreadFrom w end 0
+
+pub record Cleaning (w : List ℕ) (end x low : ℕ) (u : List ℕ) : Type 0 where
+  pub clean : Cleaned w x u
+  pub below : low ≤ 8192
+  pub found : low < 8192 → low < x
+  pub so-far : LowSoFar w end x low
+
+pub cleaning-start : (w : List ℕ) (end : ℕ) → Cleaning w end 0 8192 w
+cleaning-start w end = record {
+  clean = record { size = refl; done = λ j l. absurd (omega arith); rest = λ j l. refl };
+  below = omega arith;
+  found = λ h. absurd (omega arith);
+  so-far = let e : end - 0 ≡ end = omega arith in ap (λ (c : ℕ). unreadFrom w c 0) e;
+}
+
+pub cleaning-end : {w u : List ℕ} {end x low : ℕ} → x ≤ end → end ≤ x → Cleaning w end x low u → (low ≡ unreadFrom w end 0) × Cleaned w end u
+cleaning-end {w} {u} {end} {x} {low} g h c = (
+  elim (decLe 8192 low) [
+    | yes l ↦ (let b = c .below in let z : low ≡ 8192 = omega arith in let e : end - x ≡ 0 = omega arith in z ∙ sym (ap (λ (b : Bool). cond b low 8192) (le-ltb low 8192 l)) ∙ ap (λ (n : ℕ). cond (ltb low 8192) low (unreadFrom w n x)) (sym e) ∙ c .so-far)
+    | no l ↦ sym (ap (λ (b : Bool). cond b low (unreadFrom w (end - x) x)) (lt-ltb low 8192 (omega arith))) ∙ c .so-far
+  ],
+  (let e : x ≡ end = omega arith in subst (λ (n : ℕ). Cleaned w n u) e (c .clean)),
+)
+
+-- the lower of two, where the first is x or none
+lower-is : (b : Bool) (x low : ℕ) → x < 8192 → low ≤ 8192 → (low < 8192 → low < x) → cond (ltb (cond b x 8192) low) (cond b x 8192) low ≡ cond (ltb low 8192) low (cond b x low)
+lower-is true x low l b f = elim (decLe 8192 low) [
+  | yes h ↦ rw (lt-ltb x low (omega arith), le-ltb low 8192 h)
+  | no h ↦ (let g = f (omega arith) in rw (le-ltb x low (omega arith), lt-ltb low 8192 (omega arith)))
+]
+lower-is false x low l b f = rw (le-ltb 8192 low b) (by (ltb low 8192))
+  where
+    by : (c : Bool) → low ≡ cond c low low
+    by true = refl
+    by false = refl
+
+pub cleaning-next : {w u : List ℕ} {end x low : ℕ} (place next m : ℕ) → 8192 ≤ length w → x < end → end ≤ 8192 → Cleaning w end x low u
+    → place ≡ cond (unreadAt u x) x 8192 → next ≡ cond (ltb place low) place low → m ≡ withoutMark (getD u x 0) → Cleaning w end (x + 1) next (set u x m)
+cleaning-next {w} {u} {end} {x} {low} place next m z h l c p n k =
+    let r = c .clean .rest in
+    let s = c .clean .size in
+    let same : unreadAt u x ≡ unreadAt w x = rw (r x (omega arith), r (rootsAt + x) (omega arith)) in
+    let q : next ≡ cond (ltb low 8192) low (cond (unreadAt w x) x low) = n ∙ ap (λ (y : ℕ). cond (ltb y low) y low) (p ∙ ap (λ (b : Bool). cond b x 8192) same) ∙ lower-is (unreadAt w x) x low (omega arith) (c .below) (c .found) in
+    let e : end - x ≡ suc (end - (x + 1)) = omega arith in
+    let t : cond (ltb low 8192) low (cond (unreadAt w x) x (unreadFrom w (end - (x + 1)) (x + 1))) ≡ unreadFrom w end 0 = ap (λ (n : ℕ). cond (ltb low 8192) low (unreadFrom w n x)) (sym e) ∙ c .so-far in
+    record {
+      clean = record {
+        size = length-set u x m ∙ c .clean .size;
+        done = λ j g. elim (ℕ-discrete j x) [
+          | yes y ↦ ap (λ (i : ℕ). getD (set u x m) i 0) y ∙ getD-set-same u x m 0 (omega arith) ∙ k ∙ ap withoutMark (r x (omega arith)) ∙ ap (λ (i : ℕ). withoutMark (getD w i 0)) (sym y)
+          | no d ↦ getD-set-other u x j m 0 d ∙ c .clean .done j (omega arith)
+        ];
+        rest = λ j g. getD-set-other u x j m 0 (λ y. omega arith) ∙ r j (omega arith);
+      };
+      below = subst (λ (y : ℕ). y ≤ 8192) (sym q) (small (ltb low 8192) (unreadAt w x) (c .below));
+      found = subst (λ (y : ℕ). y < 8192 → y < x + 1) (sym q) (up (ltb low 8192) (unreadAt w x) (λ g. let f = c .found g in omega arith));
+      so-far = subst (λ (y : ℕ). LowSoFar w end (x + 1) y) (sym q) (on (unreadAt w x) t);
+    }
+  where
+    small : (a b : Bool) → low ≤ 8192 → cond a low (cond b x low) ≤ 8192
+    small true b g = omega arith
+    small false true g = omega arith
+    small false false g = omega arith
+
+    up : (a b : Bool) → (low < 8192 → low < x + 1) → cond a low (cond b x low) < 8192 → cond a low (cond b x low) < x + 1
+    up true b f = f
+    up false true f = λ g. omega arith
+    up false false f = f
+
+    on : (b : Bool) → cond (ltb low 8192) low (cond b x (unreadFrom w (end - (x + 1)) (x + 1))) ≡ unreadFrom w end 0
+        → LowSoFar w end (x + 1) (cond (ltb low 8192) low (cond b x low))
+    on b t = elim (decLe 8192 low) [
+      | no g ↦ (let f = lt-ltb low 8192 (omega arith) in rw (f, f) (rw f at t))
+      | yes g ↦ rw (le-ltb low 8192 g) (last b g (rw (le-ltb low 8192 g) at t))
+    ]
+      where
+        last : (b : Bool) → 8192 ≤ low → cond b x (unreadFrom w (end - (x + 1)) (x + 1)) ≡ unreadFrom w end 0 → cond (ltb (cond b x low) 8192) (cond b x low) (unreadFrom w (end - (x + 1)) (x + 1)) ≡ unreadFrom w end 0
+        last true g t = rw (lt-ltb x 8192 (omega arith)) t
+        last false g t = rw (le-ltb low 8192 g) t
+
+-- ---- the lean netlist that was made of a full one may be marked
+
+pub markable : (u : List ℕ) (e k p : ℕ) → Ready u e k p → (w : List ℕ) (end : ℕ) → Leant u e k p w end → Markable w end p
+markable u e k p r w end l = record {
+  ready = l .ready;
+  drivers = λ j z h.
+      let y = l .around .below j (omega arith) in
+      omega (arith, output-below u e k p r (getD u j 0) (driver-out u e k p r j h (λ q. omega arith)));
+  sources = λ x h d g. lean-free u e k p r w end l (entry w x - 1) (source-out u e k p r w end l x h d g);
+  shown = λ j h d. lean-free u e k p r w end l (getD w (leanPinsAt + j) 0 / 2) (pin-out u e k p r w end l j h d);
+}

@@ -1,17 +1,16 @@
-// The card's profile (document 02, L12), over the root's type and the lean netlist that stands in the working memory with its roots: one
-// pass over the elements, and one over their terminals, where the marks stand and are taken away again.
+// The card's profile (document 02, L12), over the root's type and the lean netlist that stands in the working memory by terminal: a pass for 28,
+// and three for 29, whose marks are taken away again.
+mod chain;
 mod mark;
-mod sweep;
+pub mod rings;
 
 ghost use mathlib.Core.Path.{_≡_};
-ghost use Prim.Native.Nat.{_≤_};
-ghost use Rattle.calculus.specs.Lean.{lean};
 ghost use Rattle.export_calculus.specs.Card.{needAll, isRead, outputPlace, profiled};
-ghost use Rattle.memory.specs.Map.{elementsAt, region, netIn};
-ghost use Rattle.lean.specs.Table.{Whole};
-ghost use Rattle.root_type.specs.Chains.{chainIn};
-ghost use Rattle.ring_points.specs.Rings.{ringFrom, answerOf};
-ghost use Rattle.card.specs.Judged.{saidJudged, judgedBy};
+ghost use Rattle.lean.specs.Layout.{leanIn};
+ghost use Rattle.card.specs.Chains.{chainIn};
+ghost use Rattle.card.specs.Rings.{answerOf};
+ghost use Rattle.card.specs.Judged.{saidJudged};
+ghost use Rattle.card.specs.Marks.{Markable};
 
 // The profile passes, or a refusal: its number and its place.
 pub enum Judged {
@@ -19,63 +18,34 @@ pub enum Judged {
     Refused(u8, usize),
 }
 
-// The places of 28 and of 29, 8,192 for none.
-struct Found {
-    ring: usize,
-    unread: usize,
+// The lowest part's output that drives no wire and is no pin; 8,192 where there is none. The working memory stays.
+fn unread(work: &mut [u16], end: usize, pins: usize) -> usize
+    requires { ⌜ Markable (now work) end pins ⌝ }
+    ensures { λ r. ⌜ (needAll (isRead (leanIn (now (work .entry)) end pins)) 29 outputPlace (leanIn (now (work .entry)) end pins .elements) ≡ answerOf 29 r)
+        × (now (work .exit) ≡ now (work .entry)) ⌝ }
+{
+    mark::mark_wires(work, end, pins);
+    mark::mark_pins(work, end, pins);
+    let lowest = mark::clean(work, end);
+    lowest as usize
 }
 
-// The lowest kept ring point's input; and, of a netlist without any, the lowest part's output that drives no wire and is no pin.
-fn find(work: &mut [u16], elements: usize, wires: usize, pins: usize) -> Found
-    requires { ⌜ Whole (now work) elements wires pins ⌝ }
-    ensures { λ r. ⌜ (r .ring ≡ ringFrom (now (work .entry)) (region (now (work .entry)) elementsAt elements) 0)
-        × ((8192 ≤ r .ring → needAll (isRead (lean (netIn (now (work .entry)) elements wires pins))) 29 outputPlace (lean (netIn (now (work .entry)) elements wires pins) .elements) ≡ answerOf 29 (r .unread))
-        × (now (work .exit) ≡ now (work .entry))) ⌝ }
+// The profile's answer, 27 before 28 before 29; the netlist is not looked at where the root's type is refused. The working memory stays.
+pub fn judge(records: &[u8], root: u8, work: &mut [u16], end: usize, pins: usize) -> Judged
+    requires { ⌜ Markable (now work) end pins ⌝ }
+    ensures { λ r. ⌜ (saidJudged r ≡ profiled (chainIn (now (records .entry)) 256 root) (leanIn (now (work .entry)) end pins))
+        × (now (work .exit) ≡ now (work .entry)) ⌝ }
 {
-    let passed = mark::mark_elements(work, elements, wires, pins);
-    mark::mark_pins(work, pins);
-    let end = mark::end_of(&work[..], elements, passed);
-    let unread = sweep::sweep(work, end as usize);
-    let ring = mark::ring_of(passed, elements);
-    Found {
-        ring: ring as usize,
-        unread: unread as usize,
-    }
-}
-
-// 27, then 28, then 29.
-fn first_broken(chained: bool, ring: usize, unread: usize) -> Judged
-    ensures { λ r. ⌜ saidJudged r ≡ judgedBy chained ring unread ⌝ }
-{
-    if !chained {
+    if !chain::is_chain(records, root) {
         return Judged::Refused(27, 0);
     }
+    let ring = rings::lowest(&work[..], end, pins);
     if ring < 8192 {
         return Judged::Refused(28, ring);
     }
-    if unread < 8192 {
-        return Judged::Refused(29, unread);
+    let lowest = unread(work, end, pins);
+    if lowest < 8192 {
+        return Judged::Refused(29, lowest);
     }
     Judged::Passes
-}
-
-// The profile's answer; the netlist is not looked at where the root's type is refused. The working memory stays.
-pub fn judge(
-    records: &[u8],
-    root: u8,
-    work: &mut [u16],
-    elements: usize,
-    wires: usize,
-    pins: usize,
-) -> Judged
-    requires { ⌜ Whole (now work) elements wires pins ⌝ }
-    ensures { λ r. ⌜ (saidJudged r ≡ profiled (chainIn (now (records .entry)) 256 root) (lean (netIn (now (work .entry)) elements wires pins)))
-        × (now (work .exit) ≡ now (work .entry)) ⌝ }
-{
-    let chained = root_type::is_chain(records, root);
-    if !chained {
-        return first_broken(chained, 8192, 8192);
-    }
-    let found = find(work, elements, wires, pins);
-    first_broken(chained, found.ring, found.unread)
 }

@@ -1,150 +1,113 @@
-// Marks at the outputs that wires to parts come from and that pins show, and at the parts' outputs that nobody has read so far.
-use memory::ELEMENTS;
-use memory::NONE;
-use memory::POINT;
-use memory::ROOTS;
-use memory::STACK;
-use netlist::Terminal;
+// Marks at the outputs that wires come from and that pins show.
+use lean::KIND;
+use lean::LEAN;
+use lean::PINS;
 ghost use mathlib.Core.Path.{_≡_};
+ghost use Prim.Native.Nat.{_/_, _≤_, _<_};
+ghost use lib.ListN.{length};
+ghost use Rattle.memory.specs.Map.{rootsAt, memorySize};
 ghost use mathlib.Core.Bool.{cond};
-ghost use Prim.Native.Nat.{_+_, _≤_, _<_};
 ghost use lib.Dec.{ltb};
-ghost use lib.ListN.{length, drop};
-ghost use Rattle.memory.specs.Map.{elementsAt, stackAt, memorySize, region, terminalOf};
-ghost use Rattle.netlist.specs.Elements.{after, afterAll};
-ghost use Rattle.lean.specs.Table.{Whole};
-ghost use Rattle.ring_points.specs.Rings.{ringFrom};
-ghost use Rattle.card.specs.Marks.{readMark, unreadMark, markAll, wireSource, sourcesIn, partSources, partOutputs, pinSource, pinSources, noted, partMarked, OnlyMarks, Markable, ElementsLow, PinFree, PinsFree};
+ghost use Rattle.export_calculus.specs.Card.{drives};
+ghost use Rattle.lean.specs.Layout.{kindsFrom, wireAt, rowIn};
+ghost use Rattle.card.specs.Marks.{markWire, markPin, Markable, MarkedWhere, WiresMarked, PinsMarked, unreadBy, unreadFrom, withoutMark, Cleaned};
 
-// The marks: no output's number, and not NONE.
+// No output's number, and not NONE.
 pub const READ: u16 = 65534;
 
-pub const UNREAD: u16 = 65533;
-
-// How far the pass over the elements came: so many are done, and the next free terminal.
-pub struct Passed {
-    pub done: usize,
-    pub next: u16,
+// At the output that an entry tells.
+fn mark_wire(work: &mut [u16], v: u16)
+    requires { ⌜ (8192 ≤ length (now work)) × (v < kindsFrom → v ≤ 8192) ⌝ }
+    ensures { λ _. ⌜ now (work .exit) ≡ markWire (now (work .entry)) v ⌝ }
+{
+    if v == 0 {
+        return;
+    }
+    if v >= KIND {
+        return;
+    }
+    work[v as usize - 1] = READ;
 }
 
-// At the root of input i's driver, where it has one.
-fn mark_input(work: &mut [u16], i: u16)
-    requires { ⌜ Markable (now work) × (i < 8192) ⌝ }
-    ensures { λ _. ⌜ now (work .exit) ≡ markAll readMark (now (work .entry)) (wireSource (now (work .entry)) i) ⌝ }
+// For all wires.
+pub fn mark_wires(work: &mut [u16], end: usize, pins: usize)
+    requires { ⌜ Markable (now work) end pins ⌝ }
+    ensures { λ _. ⌜ MarkedWhere (now (work .entry)) end (λ j. drives (rowIn wireAt rootsAt (now (work .entry)) end 0) j) (now (work .exit)) ⌝ }
 {
-    let driver = work[i as usize];
-    if driver < 8192 {
-        let root = work[ROOTS + driver as usize];
-        work[root as usize] = READ;
+    let mut x: usize = 0;
+    while x < end {
+        let v = work[LEAN + x];
+        mark_wire(work, v);
+        x = x + 1;
     }
 }
 
-// For `count` inputs from `first` on.
-fn mark_inputs(work: &mut [u16], count: u16, first: u16)
-    requires { ⌜ Markable (now work) × (first + count ≤ 8192) ⌝ }
-    ensures { λ _. ⌜ now (work .exit) ≡ markAll readMark (now (work .entry)) (sourcesIn (now (work .entry)) count first) ⌝ }
+// At the output that a pin's code tells.
+fn mark_pin(work: &mut [u16], code: u16)
+    requires { ⌜ (8192 ≤ length (now work)) × (code / 2 < 8192) ⌝ }
+    ensures { λ _. ⌜ now (work .exit) ≡ markPin (now (work .entry)) code ⌝ }
 {
-    let mut i: u16 = 0;
-    while i < count {
-        mark_input(work, first + i);
-        i = i + 1;
+    if code % 2 == 0 {
+        return;
     }
+    work[(code / 2) as usize] = READ;
 }
 
-// At a part's output, unless it is read already: a wire may go to an earlier part.
-fn note(work: &mut [u16], o: u16)
-    requires { ⌜ (memorySize ≤ length (now work)) × (o < 8192) ⌝ }
-    ensures { λ _. ⌜ now (work .exit) ≡ noted (now (work .entry)) o ⌝ }
-{
-    if work[o as usize] == NONE {
-        work[o as usize] = UNREAD;
-    }
-}
-
-// For the wires to a part, and for its output; a netlist without kept ring points has no other wires.
-fn mark_part(work: &mut [u16], kind: u16, n: u16)
-    requires { ⌜ Markable (now work) × (after kind n ≤ 8192) ⌝ }
-    ensures { λ _. ⌜ now (work .exit) ≡ partMarked (now (work .entry)) kind n ⌝ }
-{
-    if kind != POINT {
-        let part = parts::part_of(kind);
-        let inputs = part.inputs as u16;
-        mark_inputs(work, inputs, n);
-        note(work, n + inputs);
-    }
-}
-
-// The elements one after the other, up to the first kept ring point: the marks of wires to parts, as if the parts' outputs had got theirs first.
-pub fn mark_elements(work: &mut [u16], elements: usize, wires: usize, pins: usize) -> Passed
-    requires { ⌜ Whole (now work) elements wires pins ⌝ }
-    ensures { λ r. ⌜ (ringFrom (now (work .entry)) (region (now (work .entry)) elementsAt elements) 0 ≡ cond (ltb (r .done) elements) (r .next) 8192)
-        × ((afterAll (drop (r .done) (region (now (work .entry)) elementsAt elements)) (r .next) ≡ afterAll (region (now (work .entry)) elementsAt elements) 0)
-        × (OnlyMarks (now (work .entry)) (afterAll (region (now (work .entry)) elementsAt elements) 0) (now (work .exit))
-        × (elements ≤ r .done → now (work .exit) ≡ markAll readMark (markAll unreadMark (now (work .entry)) (partOutputs (region (now (work .entry)) elementsAt elements) 0))
-        (partSources (now (work .entry)) (region (now (work .entry)) elementsAt elements) 0)))) ⌝ }
-{
-    let mut n: u16 = 0;
-    let mut i: usize = 0;
-    while i < elements {
-        let kind = work[ELEMENTS + i];
-        if ring_points::is_ring(&work[..], kind, n) {
-            return Passed { done: i, next: n };
-        }
-        mark_part(work, kind, n);
-        n = netlist::next_after(kind, n);
-        i = i + 1;
-    }
-    Passed { done: i, next: n }
-}
-
-// The input of that ring point; 8,192 where there is none.
-pub fn ring_of(passed: Passed, elements: usize) -> u16
-    ensures { λ r. ⌜ r ≡ cond (ltb (passed .done) elements) (passed .next) 8192 ⌝ }
-{
-    if passed.done < elements {
-        passed.next
-    } else {
-        8192
-    }
-}
-
-// The first terminal that no element takes.
-pub fn end_of(work: &[u16], elements: usize, passed: Passed) -> u16
-    requires { ⌜ ElementsLow (now work) elements (passed .done) (passed .next) ⌝ }
-    ensures { λ r. ⌜ r ≡ afterAll (drop (passed .done) (region (now (work .entry)) elementsAt elements)) (passed .next) ⌝ }
-{
-    let mut n = passed.next;
-    let mut i = passed.done;
-    while i < elements {
-        n = netlist::next_after(work[ELEMENTS + i], n);
-        i = i + 1;
-    }
-    n
-}
-
-// For a pin.
-fn mark_pin(work: &mut [u16], coded: u16)
-    requires { ⌜ (memorySize ≤ length (now work)) × PinFree (now work) (terminalOf coded) ⌝ }
-    ensures { λ _. ⌜ now (work .exit) ≡ markAll readMark (now (work .entry)) (pinSource (now (work .entry)) (terminalOf coded)) ⌝ }
-{
-    match netlist::terminal_of(coded) {
-        Terminal::Input(_) => {}
-        Terminal::Output(o) => {
-            let root = work[ROOTS + o.0 as usize];
-            work[root as usize] = READ;
-        }
-    }
-}
-
-// For all pins.
-pub fn mark_pins(work: &mut [u16], pins: usize)
-    requires { ⌜ PinsFree (now work) pins ⌝ }
-    ensures { λ _. ⌜ now (work .exit) ≡ markAll readMark (now (work .entry)) (pinSources (now (work .entry)) (region (now (work .entry)) stackAt pins)) ⌝ }
+// For all pins, once those of the wires stand.
+pub fn mark_pins(work: &mut [u16], end: usize, pins: usize)
+    requires { ⌜ WiresMarked (now work) end pins ⌝ }
+    ensures { λ _. ⌜ PinsMarked (now (work .entry)) end pins (now (work .exit)) ⌝ }
 {
     let mut i: usize = 0;
     while i < pins {
-        let coded = work[STACK + i];
-        mark_pin(work, coded);
+        let code = work[PINS + i];
+        mark_pin(work, code);
         i = i + 1;
     }
+}
+
+// Terminal x, where its mark m and its entry v say that it is a part's output that nobody reads; else 8,192.
+fn place_of(m: u16, v: u16, x: u16) -> u16
+    ensures { λ r. ⌜ r ≡ cond (unreadBy m v) x 8192 ⌝ }
+{
+    if m == READ {
+        return 8192;
+    }
+    if v < KIND {
+        return 8192;
+    }
+    if v >= KIND + memory::POINT {
+        return 8192;
+    }
+    x
+}
+
+fn lower(a: u16, b: u16) -> u16
+    ensures { λ r. ⌜ r ≡ cond (ltb a b) a b ⌝ }
+{
+    if a < b { a } else { b }
+}
+
+fn without_mark(m: u16) -> u16
+    ensures { λ r. ⌜ r ≡ withoutMark m ⌝ }
+{
+    if m == READ { memory::NONE } else { m }
+}
+
+// All terminals: the lowest that nobody reads, 8,192 for none; the marks are taken away. Without a way out before the end and without branches, so
+// that the compiler takes several terminals at once: the ways out of `place_of` have no effects.
+pub fn clean(work: &mut [u16], end: usize) -> u16
+    requires { ⌜ (memorySize ≤ length (now work)) × (end ≤ 8192) ⌝ }
+    ensures { λ r. ⌜ (r ≡ unreadFrom (now (work .entry)) end 0) × Cleaned (now (work .entry)) end (now (work .exit)) ⌝ }
+{
+    let mut lowest: u16 = 8192;
+    let mut x: usize = 0;
+    while x < end {
+        let m = work[x];
+        let v = work[LEAN + x];
+        lowest = lower(place_of(m, v, x as u16), lowest);
+        work[x] = without_mark(m);
+        x = x + 1;
+    }
+    lowest
 }

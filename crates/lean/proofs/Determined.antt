@@ -1,5 +1,5 @@
 -- Each public function's contract determines its result, and the memory or the output that it writes: two results that it allows for one
--- call are equal. Assumes nothing.
+-- call are equal. Of `make_lean` it determines the netlist that stands in the memory, and not the numbers that no reader looks at. Assumes nothing.
 use mathlib.Core.Path.{_≡_, ap, sym, _∙_}
 use mathlib.Core.Bool.{cond}
 use mathlib.Core.List.{List}
@@ -8,21 +8,24 @@ use native.Mathlib.Omega.{arith}
 use native.Mathlib.Decide.{decLe}
 use lib.ListN.{getD}
 use lib.Seq.{ext-getD}
-use Rattle.laws.proofs.OneResult.{Result, Results, Left}
+use contract.Lifetimes.{Lfts}
+use denote.Triple.Clauses.{AtExit}
+use borrow.Fn.Kinds.{Dens, resT, endedOf}
+use Rattle.laws.proofs.OneResult.{Result, Results}
 use Rattle.calculus.specs.Net.{Net}
 use Rattle.calculus.specs.Lean.{root}
 use Rattle.calculus.specs.Inputs.{isOut}
 use Rattle.memory.specs.Map.{rootsAt, rootsEnd}
-use Rattle.netlist.proofs.Determined.{one-terminal}
 use Rattle.lean.specs.Table.{entry, Rooted}
+use Rattle.lean.specs.Layout.{leanIn}
 use Rattle.lean.proofs.roots.Kinds as roots
 use Rattle.lean.proofs.roots.Reads as roots-reads
+use Rattle.lean.proofs.make_lean.Kinds as make-lean
+use Rattle.lean.proofs.make_lean.Reads as make-lean-reads
+use Rattle.lean.proofs.pass.first_of.Kinds as first-of
+use Rattle.lean.proofs.pass.first_of.Reads as first-of-reads
 use Rattle.lean.proofs.lean_length.Kinds as lean-length
 use Rattle.lean.proofs.lean_length.Reads as lean-length-reads
-use Rattle.lean.proofs.table.is_kept.Kinds as is-kept
-use Rattle.lean.proofs.table.is_kept.Reads as is-kept-reads
-use Rattle.lean.proofs.write.lean_pin.Kinds as lean-pin
-use Rattle.lean.proofs.write.lean_pin.Reads as lean-pin-reads
 use Rattle.lean.proofs.write_lean.Kinds as write-lean
 use Rattle.lean.proofs.write_lean.Reads as write-lean-reads
 
@@ -44,17 +47,18 @@ one-memory w u v e k p a b = ext-getD 0 u v (a .within .size ∙ sym (b .within 
           ]
         ]
 
-pub roots-determined : Left roots.ps roots.r roots-reads.Post (λ κs s. s .0 .now)
-roots-determined κs a x y s t f g = one-memory _ _ _ _ _ _ f g
+pub roots-determined : Results roots.ps roots.r roots-reads.Post (λ κs s. s .0 .now)
+roots-determined κs a x y s t f g = (f .0 ∙ sym (g .0), one-memory _ _ _ _ _ _ (f .1) (g .1))
+
+pub make-lean-determined : (κs : Lfts 1) (a : Dens κs make-lean.ps) (x y : resT make-lean.r κs .Denot) (s t : AtExit (endedOf 1 make-lean.ps make-lean.r) κs)
+    → make-lean-reads.Post κs a x s → make-lean-reads.Post κs a y t → leanIn (s .0 .now) x (a .1 .1 .1 .0) ≡ leanIn (t .0 .now) y (a .1 .1 .1 .0)
+make-lean-determined κs a x y s t f g = f .net ∙ sym (g .net)
+
+pub first-of-determined : Result first-of.ps first-of.r first-of-reads.Post
+first-of-determined κs a x y s t f g = f ∙ sym g
 
 pub lean-length-determined : Result lean-length.ps lean-length.r lean-length-reads.Post
 lean-length-determined κs a x y s t f g = f ∙ sym g
 
 pub write-lean-determined : Results write-lean.ps write-lean.r write-lean-reads.Post (λ κs s. s .1 .0 .now)
 write-lean-determined κs a x y s t f g = (f .0 ∙ sym (g .0), f .1 ∙ sym (g .1))
-
-pub is-kept-determined : Result is-kept.ps is-kept.r is-kept-reads.Post
-is-kept-determined κs a x y s t f g = f ∙ sym g
-
-pub lean-pin-determined : Result lean-pin.ps lean-pin.r lean-pin-reads.Post
-lean-pin-determined κs a x y s t f g = one-terminal x y (f ∙ sym g)

@@ -15,6 +15,7 @@ use Rattle.circuit_theorems.specs.Formed.{Rising}
 use Rattle.circuit_theorems.proofs.Lists.{all-map}
 use Rattle.circuit_theorems.proofs.Terminals.{pointIn, made-high, made-one, tiled-rising, out-high, point-made, driver-is, driver-fed, driver-any, pin-ins, no-ins}
 use Rattle.circuit_theorems.proofs.Drive.{driver-none}
+use Rattle.circuit_theorems.proofs.NetRead.{out-not-made}
 use Rattle.circuit_theorems.proofs.BackLaws.{back-point, pin-root}
 use Rattle.memory.specs.Map.{netIn, Ready}
 
@@ -37,6 +38,13 @@ module _ (w : List ℕ) (e k p : ℕ) (r : Ready w e k p) where
     where
       lt : (r .end ≤ i → ⊥) → r .end ≤ 8192 → i < 8192
       lt f b = omega arith
+
+  -- no wire goes to an output
+  pub output-free : (o : ℕ) → T (isOut (m .elements) o) → getD w o 0 ≡ 65535
+  output-free o t =
+      let z = r .formed .reached o in
+      let n = out-not-made (m .elements) 0 (r .end) o rising t in
+      r .table o (output-below o t) ∙ driver-none (m .wires) o 65535 (omega arith)
 
   -- a driver is an output
   pub driver-out : (i : ℕ) → i < 8192 → (getD w i 0 ≡ 65535 → ⊥) → T (isOut (m .elements) (getD w i 0))

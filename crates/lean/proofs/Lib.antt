@@ -4,8 +4,11 @@ pub mod DriverLaws
 pub mod StartLaws
 pub mod SettleLaws
 pub mod RoundLaws
-pub mod RowLaws
-pub mod SumLaws
-pub mod LeanLaws
-pub mod FitLaws
+pub mod Writing
+pub mod Rows
+pub mod PassLaws
+pub mod MakeLaws
+pub mod LeantLaws
+pub mod EntryLaws
+pub mod PutLaws
 pub mod Determined

@@ -7,6 +7,7 @@ use native.Mathlib.Omega.{arith}
 use lib.Dec.{T, eqb, eqb→eq, eqb-refl}
 use lib.ListN.{length, getD, set, length-set}
 use Rattle.laws.proofs.Tests.{by-eqb, or-elim, or-left, or-right}
+use Rattle.laws.proofs.Regions.{region-ext}
 use Rattle.calculus.specs.Terms.{partAt}
 use Rattle.calculus.specs.Net.{point, part, Net}
 use Rattle.calculus.specs.Lean.{back, root}
@@ -140,6 +141,7 @@ pub record Begun (w u : List ℕ) (elements wires pins end : ℕ) : Type 0 where
   pub partly : Partly u elements wires pins
   pub low : end ≤ 8192
   pub before : (x : ℕ) → T (isOut (netIn w elements wires pins .elements) x) → x < end
+  pub ends : end ≡ afterAll (region w elementsAt elements) 0
 
 module _ (w v : List ℕ) (e k p : ℕ) (r : Ready w e k p) (b : Blank w v) where
   abbrev rv : Ready v e k p
@@ -176,10 +178,18 @@ module _ (w v : List ℕ) (e k p : ℕ) (r : Ready w e k p) (b : Blank w v) wher
       let h = out-high (netIn v e k p .elements) 0 (rv .end) x (rising v e k p rv) (subst (λ (y : Net). T (isOut (y .elements) x)) (sym same) t) in
       omega arith
 
+  kinds-same : ks ≡ region w elementsAt e
+  kinds-same =
+      let z = r .size in
+      let f = r .few-elements in
+      let s = b .within .size in
+      region-ext elementsAt e w v (omega arith) (omega arith) (λ j l g. b .within .below j (omega arith))
+
   pub begun : (u : List ℕ) (end : ℕ) → (end ≡ afterAll ks 0) × (u ≡ started v ks 0) → Begun w u e k p end
   begun u end h = record {
     within = subst (Within w) (sym (h .1)) (within-then (b .within) started-in);
     partly = subst (λ (x : List ℕ). Partly x e k p) (sym (h .1)) started-partly;
     low = let a = h .0 in omega (arith, kinds-low);
     before = λ x t. let a = h .0 in omega (arith, before-end x t);
+    ends = h .0 ∙ ap (λ (xs : List ℕ). afterAll xs 0) kinds-same;
   }

@@ -4,17 +4,14 @@ use memory::NONE;
 use memory::POINT;
 use memory::ROOTS;
 use memory::TERMINALS;
-use netlist::In;
 use netlist::Out;
 ghost use mathlib.Core.Path.{_≡_};
 ghost use Prim.Native.Nat.{_+_, _-_, _≤_, _<_};
 ghost use lib.ListN.{length, getD, set};
 ghost use Rattle.calculus.specs.Lean.{root};
-ghost use Rattle.calculus.specs.Net.{point};
 ghost use Rattle.memory.specs.Map.{elementsAt, rootsAt, memorySize, region, netIn};
 ghost use Rattle.netlist.specs.Elements.{outputOf, after, afterAll};
 ghost use Rattle.lean.specs.Table.{entry, Blank, startRoot, started, Partly, Output, Comes, Met, Settled};
-ghost use Rattle.lean.specs.InMemory.{keptIn};
 
 // Every entry of the table is 0.
 pub fn blank(work: &mut [u16])
@@ -163,13 +160,4 @@ pub fn root_one(work: &mut [u16], elements: usize, wires: usize, pins: usize, n:
         let r = round(work, elements, wires, pins, x);
         settle(work, elements, wires, pins, o, r);
     }
-}
-
-// The point whose input is i is kept: its output is its own root.
-pub fn is_kept(work: &[u16], i: In) -> bool
-    requires { ⌜ (memorySize ≤ length (now work)) × (i .0 + 2 ≤ 8192) ⌝ }
-    ensures { λ r. ⌜ r ≡ keptIn (now (work .entry)) (point (i .0)) ⌝ }
-{
-    let o = Out(i.0 + 1);
-    work[ROOTS + o.0 as usize] == o.0
 }

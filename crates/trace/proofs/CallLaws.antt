@@ -1,6 +1,6 @@
 -- What a call answers, by what its stages found. Assumes nothing.
-use Prim.Native.Nat.{ℕ, _≤_}
-use mathlib.Core.Path.{_≡_, refl, subst, _∙_}
+use Prim.Native.Nat.{ℕ}
+use mathlib.Core.Path.{_≡_, refl}
 use mathlib.Core.Bool.{Bool, true, false}
 use mathlib.Core.List.{List}
 use lib.Dec.{leb}
@@ -9,10 +9,9 @@ use Rattle.calculus.specs.Answer.{Answer, good, refused, _>>=_, need}
 use Rattle.calculus.specs.Net.{Net}
 use Rattle.calculus.specs.Lean.{lean}
 use Rattle.calculus.specs.Translate.{full, workOf}
-use Rattle.memory.specs.Map.{memorySize, netIn}
+use Rattle.memory.specs.Map.{memorySize}
 use Rattle.typing.specs.declared.Refusal.{Refusal}
 use Rattle.typing.specs.Verdicts.{saidWhy}
-use Rattle.lean.specs.Table.{Rooted}
 use Rattle.translator.specs.Made.{lent, Keeps}
 use Rattle.trace_calculus.specs.Trace.{ran, trace, runCall}
 use Rattle.trace_calculus.specs.Lanes.{LanesEnd, lanesRan, lanesTrace, lanesCall}
@@ -21,15 +20,6 @@ use Rattle.translator.specs.Said.{AnswerSays, called}
 use Rattle.translator.proofs.Lent.{need-first}
 use Rattle.translator.specs.declared.Answer as code
 use Rattle.translator.specs.declared.Answer.the-variants as answer
-use Rattle.trace.proofs.StageLaws.{above-within, above-keeps}
-
--- the roots change nothing of the netlist
-pub rooted-ran : (u v w : List ℕ) (e k p n : ℕ) (bits starts out after : List ℕ) (r : code.Answer) → memorySize ≤ length u → Rooted u v e k p
-    → AnswerSays r out after (ran (lean (netIn v e k p)) n bits starts (length out)) × Keeps v w → AnswerSays r out after (ran (lean (netIn u e k p)) n bits starts (length out)) × Keeps u w
-rooted-ran u v w e k p n bits starts out after r l q h = (
-  subst (λ (m : Net). AnswerSays r out after (ran (lean m) n bits starts (length out))) (q .net) (h .0),
-  h .1 ∙ above-keeps u v l (above-within (q .within)),
-)
 
 module _ (s bits starts out : List ℕ) (n memory : ℕ) where
   trace-lent : trace memory s n bits starts (length out) ≡ (lent memory s >>= λ m. ran (lean m) n bits starts (length out))
@@ -56,13 +46,6 @@ call-run s bits starts out work n r after mid a k = rw (a .said, a .wrote, k)
 need-next : (t : Bool) (a : Answer Net) (f : Net → Answer LanesEnd) → (need t 1 0 >>= λ _. a >>= f) ≡ ((need t 1 0 >>= λ _. a) >>= f)
 need-next true a f = refl
 need-next false a f = refl
-
-pub rooted-lanes : (u v w : List ℕ) (e k p n : ℕ) (bits state₀ out state after : List ℕ) (r : code.Answer) → memorySize ≤ length u → Rooted u v e k p
-    → LanesSay r out after state₀ state (lanesRan (lean (netIn v e k p)) n bits state₀ (length out)) × Keeps v w → LanesSay r out after state₀ state (lanesRan (lean (netIn u e k p)) n bits state₀ (length out)) × Keeps u w
-rooted-lanes u v w e k p n bits state₀ out state after r l q h = (
-  subst (λ (m : Net). LanesSay r out after state₀ state (lanesRan (lean m) n bits state₀ (length out))) (q .net) (h .0),
-  h .1 ∙ above-keeps u v l (above-within (q .within)),
-)
 
 module _ (s bits state out : List ℕ) (n memory : ℕ) where
   lanes-lent : lanesTrace memory s n bits state (length out) ≡ (lent memory s >>= λ m. lanesRan (lean m) n bits state (length out))

@@ -16,16 +16,16 @@ use Rattle.calculus.specs.Inputs.{madeAt, isOut}
 use Rattle.calculus.specs.Record.{Among}
 use Rattle.circuit_theorems.specs.Terminals.{has}
 use Rattle.circuit_theorems.specs.Formed.{Formed}
-use Rattle.memory.specs.Map.{rootsAt}
-use Rattle.trace_calculus.specs.Trace.{Source, pin, from, made-part as made-by, source, looks, before, terminals}
+use Rattle.lean.specs.Layout.{leftOut, kindsFrom}
+use Rattle.trace_calculus.specs.Trace.{Source, from, made-part as made-by, source, looks, before, terminals}
 use Rattle.trace_theorems.proofs.Sources.{at-point, at-part, at-pin, out-terminal}
-use Rattle.trace_theorems.proofs.Owners.{start, last}
-use Rattle.trace_steps.specs.Map.{kindsFrom, registerEntry, inverterEntry, oneEntry, pointEntry}
+use Rattle.trace_theorems.proofs.Owners.{last}
+use Rattle.trace_steps.specs.Map.{registerEntry, inverterEntry, oneEntry, pointEntry}
 use Rattle.trace_steps.specs.Steps.{firstIn, Looks, freeIn}
 use Rattle.trace_steps.proofs.Laws.{first-two, first-one}
-use Rattle.trace_rings.specs.Lists.{looksIn}
+use Rattle.trace_rings.specs.Lists.{looksAt, looksIn}
 use Rattle.trace_rings.specs.Rings.{InputOf}
-use Rattle.trace.specs.Tables.{TableEntry, of-pin, of-wire, of-point, of-part, Tabled, KeptRoots, Looking}
+use Rattle.trace.specs.Tables.{TableEntry, of-pin, of-wire, of-point, of-part, Tabled, Looking}
 use Rattle.trace.proofs.ElementLaws.{in-out, within-made, in-terminal, input-not-out, made-within}
 
 one-of : (a y : ℕ) → T (has (a ∷ []) y) → a ≡ y
@@ -197,22 +197,21 @@ module _ (w : List ℕ) (m : Net) (end pins : ℕ) (t : Tabled w m end pins) whe
 
   -- ---- the test of the code
 
-  pub looks-looking : (x : ℕ) → x < end → KeptRoots w m end → looksIn w x ≡ true → T (has (terminals es) x) × Looking (getD w x 0)
-  looks-looking x l k q = by (eqb (getD w x 0) pointEntry) (ltb registerEntry (getD w x 0)) (ltb (getD w x 0) oneEntry) refl refl refl q
+  pub looks-looking : (x : ℕ) → x < end → looksIn w x ≡ true → T (has (terminals es) x) × Looking (getD w x 0)
+  looks-looking x l q = by (eqb (getD w x 0) pointEntry) (ltb registerEntry (getD w x 0)) (ltb (getD w x 0) oneEntry) refl refl refl q
     where
-      by : (a b c : Bool) → eqb (getD w x 0) pointEntry ≡ a → ltb registerEntry (getD w x 0) ≡ b → ltb (getD w x 0) oneEntry ≡ c → cond a (eqb (getD w (rootsAt + x) 0) x) (b && c) ≡ true → T (has (terminals es) x) × Looking (getD w x 0)
-      by true b c p r s e =
-          let z = eqb→eq (getD w x 0) pointEntry (subst T (sym p) tt) in
-          (k .kept x l z (eqb→eq (getD w (rootsAt + x) 0) x (subst T (sym e) tt)), inl z)
+      there : registerEntry < getD w x 0 → getD w x 0 ≤ pointEntry → T (has (terminals es) x)
+      there u v = ⊎-elim (λ h. h) (λ h. absurd (⊎-elim (λ (i : getD w x 0 < 8192). omega arith) (λ (i : leftOut ≤ getD w x 0). omega arith) h)) (t .others x l)
+
+      by : (a b c : Bool) → eqb (getD w x 0) pointEntry ≡ a → ltb registerEntry (getD w x 0) ≡ b → ltb (getD w x 0) oneEntry ≡ c → cond a true (b && c) ≡ true → T (has (terminals es) x) × Looking (getD w x 0)
+      by true b c p r s e = let z = eqb→eq (getD w x 0) pointEntry (subst T (sym p) tt) in (there (omega arith) (omega arith), inl z)
       by false true true p r s e =
           let u = ltb-true registerEntry (getD w x 0) r in
           let v = ltb-true (getD w x 0) oneEntry s in
-          (⊎-elim (λ h. h) (λ h. absurd (⊎-elim (λ (i : getD w x 0 < 8192). omega arith) (λ (i : getD w x 0 ≡ pointEntry). omega arith) h)) (t .others x l), inr (u, v))
+          (there u (omega arith), inr (u, v))
       by false true false p r s e = absurd (subst T (sym e) tt)
       by false false c p r s e = absurd (subst T (sym e) tt)
 
-  pub looking-looks : (x : ℕ) → KeptRoots w m end → T (has (terminals es) x) → Looking (getD w x 0) → looksIn w x ≡ true
-  looking-looks x k h (inl e) = ap (λ (b : Bool). cond b (eqb (getD w (rootsAt + x) 0) x) (ltb registerEntry (getD w x 0) && ltb (getD w x 0) oneEntry)) (eq-eqb (getD w x 0) pointEntry e) ∙ eq-eqb (getD w (rootsAt + x) 0) x (k .rooted x h e)
-  looking-looks x k h (inr (a, b)) =
-      ap (λ (c : Bool). cond c (eqb (getD w (rootsAt + x) 0) x) (ltb registerEntry (getD w x 0) && ltb (getD w x 0) oneEntry)) (ne-eqb (getD w x 0) pointEntry (λ z. omega arith))
-      ∙ ap (λ (c : Bool). c && ltb (getD w x 0) oneEntry) (lt-ltb registerEntry (getD w x 0) a) ∙ lt-ltb (getD w x 0) oneEntry b
+pub looking-looks : (v : ℕ) → Looking v → looksAt v ≡ true
+looking-looks v (inl e) = rw (eq-eqb v pointEntry e)
+looking-looks v (inr (a, b)) = rw (ne-eqb v pointEntry (λ z. omega arith), lt-ltb registerEntry v a, lt-ltb v oneEntry b)

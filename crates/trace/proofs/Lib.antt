@@ -1,6 +1,5 @@
 pub mod Turning
 pub mod ElementLaws
-pub mod TableLaws
 pub mod LeanTables
 pub mod GateLaws
 pub mod OrderLaws

@@ -13,7 +13,7 @@ use borrow.Author.Tests.{eqb-false}
 use Rattle.laws.proofs.Tests.{or-elim, or-left, or-right}
 use Rattle.calculus.specs.Terms.{partAt}
 use Rattle.calculus.specs.Net.{Element, point, part, Net}
-use Rattle.calculus.specs.Record.{Among, there}
+use Rattle.calculus.specs.Record.{Among}
 use Rattle.circuit_theorems.specs.Terminals.{has}
 use Rattle.trace_calculus.specs.Trace.{terminals, registers, place}
 use Rattle.trace_theorems.proofs.Sources.{has-append, has-left, has-right, out-terminal}
@@ -21,7 +21,8 @@ use Rattle.memory.specs.Map.{memorySize, kindNumber}
 use Rattle.trace_theorems.proofs.Lists.{has-at, place-at, at-place, Up, up-low, up-weaken, up-once}
 use Rattle.trace_theorems.proofs.Lending.{registers-in, in-registers, registers-up}
 use Rattle.trace_theorems.proofs.Owners.{start, last, same-owner}
-use Rattle.trace_steps.specs.Map.{registersAt, kindsFrom, registerEntry, pointEntry}
+use Rattle.lean.specs.Layout.{leftOut, kindsFrom}
+use Rattle.trace_steps.specs.Map.{registersAt, registerEntry}
 use Rattle.trace_steps.specs.Turns.{takeTurns}
 use Rattle.trace_steps.specs.Pins.{Counted, counted, registerOne}
 use Rattle.trace_steps.proofs.Laws.{set-other}
@@ -159,7 +160,7 @@ module _ (u : List ℕ) (m : Net) (end pins : ℕ) (t : Tabled u m end pins) whe
   register-of x l e = go (t .entries x terminal) refl
     where
       terminal : T (has (terminals (m .elements)) x)
-      terminal = ⊎-elim (λ h. h) (λ h. absurd (⊎-elim (λ (a : getD u x 0 < 8192). omega arith) (λ (a : getD u x 0 ≡ pointEntry). omega arith) h)) (t .others x l)
+      terminal = ⊎-elim (λ h. h) (λ h. absurd (⊎-elim (λ (a : getD u x 0 < 8192). omega arith) (λ (a : leftOut ≤ getD u x 0). omega arith) h)) (t .others x l)
 
       go : {v : ℕ} → TableEntry m x v → v ≡ getD u x 0 → (i : ℕ) × Among (part 1 i) (m .elements) × (i + 1 ≡ x)
       go (of-pin a b) q = absurd (let f = t .few in omega arith)

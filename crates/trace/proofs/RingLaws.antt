@@ -24,7 +24,8 @@ use Rattle.trace_theorems.proofs.Sources.{closed, terminal-is, out-terminal, De
 use Rattle.trace_theorems.proofs.TraceRings.{on-ring, back-ring, runs-iff, accepted, ring-place}
 use Rattle.trace_theorems.proofs.Owners as owners
 use Rattle.circuit_theorems.proofs.Terminals.{each-target}
-use Rattle.trace_steps.specs.Map.{kindsFrom, registerEntry, inverterEntry, oneEntry, pointEntry}
+use Rattle.lean.specs.Layout.{kindsFrom}
+use Rattle.trace_steps.specs.Map.{registerEntry, inverterEntry, oneEntry, pointEntry}
 use Rattle.trace_steps.specs.Steps.{lit, firstIn, freeIn}
 use Rattle.trace_steps.proofs.SweepLaws.{looks-table}
 use Rattle.trace_rings.specs.Rings.{mark, rest, met, InputOf, Behind, first, further, Rest, Fresh, First, here, none}

@@ -26,7 +26,8 @@ use Rattle.trace_calculus.specs.Trace.{Source, pin, from, made-part as made-by,
 use Rattle.trace_theorems.proofs.Sources.{at-pin, at-point, at-part, out-terminal, terminal-is}
 use Rattle.trace_theorems.proofs.TraceRun.{heldAt, tick-is}
 use Rattle.trace_theorems.proofs.Owners.{last}
-use Rattle.trace_steps.specs.Map.{registersAt, orderAt, pinsAt, bitsAt, kindsFrom, registerEntry, oneEntry, pointEntry}
+use Rattle.lean.specs.Layout.{kindsFrom}
+use Rattle.trace_steps.specs.Map.{registersAt, orderAt, pinsAt, bitsAt, registerEntry, oneEntry, pointEntry}
 use Rattle.trace_steps.specs.Turns.{takeTurns}
 use Rattle.trace_steps.specs.Steps.{lit, firstIn, gateBit, passOne, holdOne, turnOne}
 use Rattle.trace_steps.specs.Pins.{Counted, counted, pinIsIn, inPinCount, outPinCount, loadOne, storeOne}

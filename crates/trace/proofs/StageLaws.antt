@@ -6,8 +6,7 @@ use mathlib.Core.Bool.{Bool, true, false, cond, _||_}
 use mathlib.Core.List.{List, map}
 use native.Mathlib.Omega.{arith}
 use native.Mathlib.Decide.{ℕ-discrete, decLe}
-use lib.ListN.{length, getD, drop, length-drop}
-use lib.Seq.{ext-getD, getD-drop}
+use lib.ListN.{length, getD}
 use lib.Dec.{T, eqb, ltb}
 use Rattle.laws.proofs.Regions.{region-ext}
 use Rattle.calculus.specs.Answer.{Answer, good, refuse, _>>=_}
@@ -20,30 +19,27 @@ use Rattle.calculus.specs.Record.{All}
 use Rattle.calculus.specs.Inputs.{madeAt}
 use Rattle.circuit_theorems.specs.Formed.{Shown}
 use Rattle.trace_theorems.proofs.Sources.{out-terminal}
-use Rattle.trace_steps.specs.Map.{restAt, pinsAt, bitsAt, kindsFrom, registerEntry, inverterEntry, oneEntry, pointEntry}
+use Rattle.lean.specs.Layout.{kindsFrom, leftOut}
+use Rattle.trace_steps.specs.Map.{restAt, pinsAt, bitsAt, registerEntry, inverterEntry, oneEntry}
 use Rattle.trace_steps.specs.Pins.{pinIsIn}
 use Rattle.memory.specs.Map.{rootsAt, memorySize, terminalOf, netIn}
 use Rattle.circuit_theorems.specs.Terminals.{has}
-use Rattle.netlist.proofs.InMemory.{kind-here}
-use Rattle.lean.specs.Table.{Within, Leaned}
+use Rattle.lean.specs.Table.{Within}
 use Rattle.lean.proofs.TableLaws.{within-none, within-then, within-set, entry-same, entry-other}
-use Rattle.lean.proofs.LeanLaws.{kinds-low}
 use Rattle.trace_calculus.specs.Trace.{terminals, inputs, noneOnRing, bitByte, ran}
 use Rattle.trace_calculus.specs.Lanes.{LanesEnd, lanesRan, outs, stateOf}
 use Rattle.trace_theorems.proofs.TraceRings.{accepted}
 use Rattle.trace_steps.specs.Turns.{takeTurns, Looped}
 use Rattle.trace_steps.specs.Steps.{firstIn, freeIn, markOne, Looks, Register}
-use Rattle.trace_steps.specs.Names.{Namable, NamesStand}
-use Rattle.trace_steps.specs.Links.{Linked, Pinned}
-use Rattle.trace_steps.specs.Sweeps.{Sweepable, sweeps, AllSwept}
+use Rattle.trace_steps.specs.Sweeps.{Sweepable, AllSwept}
 use Rattle.trace_steps.specs.Ticks.{InOrder}
 use Rattle.trace_steps.proofs.Laws.{first-low}
 use Rattle.trace_steps.proofs.SweepLaws.{looks-table}
 use Rattle.trace_rings.specs.Lists.{Choosable, Chosen}
 use Rattle.trace_rings.specs.Rings.{mark, rest, met, InputOf, Rest, Fresh, RingFound}
-use Rattle.trace.specs.Tables.{TableEntry, Tabled, KeptRoots, Looking}
+use Rattle.trace.specs.Tables.{TableEntry, Tabled, Looking}
 use Rattle.translator.specs.Made.{Keeps}
-use Rattle.translator.proofs.Keeping.{later-keeps}
+use Rattle.translator.proofs.Keeping.{above-keeps}
 use Rattle.translator.specs.Said.{AnswerSays, refusedAs}
 use Rattle.trace.specs.Said.{Above, TablesMade, freed, Runnable, Safe, Freed, lanesFree, LanesSay, LanesFreed}
 use Rattle.trace.specs.Ordering.{PutInOrder}
@@ -56,7 +52,6 @@ use Rattle.trace.proofs.RingLaws.{Ground, start, none-left, left-rest, 
 use Rattle.trace.proofs.RegisterLists.{register-of}
 use Rattle.trace.proofs.PinLists.{upTo, upto-is, pinAt, number-pin, out-shown}
 use Rattle.trace.proofs.ElementLaws.{within-made, made-within, in-terminal}
-use Rattle.trace.proofs.LeanTables as tables
 
 -- ---- what stays
 
@@ -68,14 +63,6 @@ above-then a b = record { size = b .size ∙ a .size; above = λ j l. b .above j
 
 pub above-within : {u w : List ℕ} → Within u w → Above u w
 above-within i = record { size = i .size; above = λ j l. i .above j (omega arith) }
-
-above-later : (u w : List ℕ) → Above u w → drop memorySize w ≡ drop memorySize u
-above-later u w h =
-    ext-getD 0 (drop memorySize w) (drop memorySize u) (length-drop memorySize w ∙ ap (λ (n : ℕ). n - memorySize) (h .size) ∙ sym (length-drop memorySize u))
-    (λ i l. getD-drop memorySize w i 0 ∙ h .above (memorySize + i) (omega arith) ∙ sym (getD-drop memorySize u i 0))
-
-pub above-keeps : (u w : List ℕ) → memorySize ≤ length u → Above u w → Keeps u w
-above-keeps u w l h = later-keeps u w l (subst (λ (n : ℕ). memorySize ≤ n) (sym (h .size)) l) (above-later u w h)
 
 -- the table and the pins stay
 pub tabled-same : (u w : List ℕ) (m : Net) (end pins : ℕ) → length w ≡ length u → ((x : ℕ) → x < 8192 → getD w x 0 ≡ getD u x 0) → ((x : ℕ) → pinsAt ≤ x → x < bitsAt → getD w x 0 ≡ getD u x 0)
@@ -90,7 +77,7 @@ tabled-same u w m end pins z f g t =
       few = t .few;
       low = t .low;
       entries = λ x h. (let l = t .low x h in subst (λ (v : ℕ). TableEntry m x v) (sym (f x (omega arith))) (t .entries x h));
-      others = λ x l. ⊎-elim inl (λ h. inr (subst (λ (v : ℕ). (v < 8192) ⊎ (v ≡ pointEntry)) (sym (f x (omega arith))) h)) (t .others x l);
+      others = λ x l. ⊎-elim inl (λ h. inr (subst (λ (v : ℕ). (v < 8192) ⊎ (leftOut ≤ v)) (sym (f x (omega arith))) h)) (t .others x l);
       few-pins = t .few-pins;
       shown = ap (map terminalOf) (region-ext pinsAt pins u w (omega arith) (omega arith) (λ j l h. g j l (omega arith))) ∙ t .shown;
     }
@@ -113,35 +100,14 @@ pin-below w m end pins t j l = by (pinIsIn w j) refl
         low (in-terminal (r .0) (pinAt w j) (r .1) (r .2) (let c = r .3 in omega arith))
     by false e = low (out-terminal (m .elements) (pinAt w j) (out-shown (m .elements) w pins j l e (subst (λ (ps : Interface). All (Shown (m .elements)) ps) (sym shown) (t .formed .shown))))
 
--- ---- the table
-
-module _ (u : List ℕ) (e k p : ℕ) (q : Leaned u e k p) where
-  pub namable : Namable u e
-  namable = record {
-    size = q .whole .ready .size;
-    few = q .whole .ready .few-elements;
-    low = kinds-low u e k p (q .whole);
-    known = kind-here u e k p (q .whole .ready) (q .known);
-  }
-
-  pub made-of : (w₁ : List ℕ) (end : ℕ) → NamesStand u e w₁ end → (w₂ : List ℕ) → Linked w₁ end w₂ → (w₃ : List ℕ) → Pinned w₂ p w₃ → TablesMade u e k p w₃ end
-  made-of w₁ end n w₂ c w₃ d =
-      let f = tables.linkable u e k p (q .whole) (q .known) w₁ end n .few in
-      let g = q .whole .ready .few-pins in
-      record {
-        tabled = tables.tabled u e k p (q .whole) (q .known) w₁ end n w₂ c w₃ d;
-        roots = tables.kept-roots u e k p (q .whole) (q .known) w₁ end n w₂ c w₃ d;
-        kept = record { size = d .size ∙ c .size ∙ n .size; above = λ j l. d .above j (omega arith) ∙ c .above j (omega arith) ∙ n .above j (omega arith) };
-      }
-
 -- ---- the list and the marks
 
-module _ (w₃ : List ℕ) (m : Net) (end pins : ℕ) (t : Tabled w₃ m end pins) (k : KeptRoots w₃ m end) where
+module _ (w₃ : List ℕ) (m : Net) (end pins : ℕ) (t : Tabled w₃ m end pins) where
   pub choosable : Choosable w₃ end
   choosable = record {
     size = t .size;
     few = t .few;
-    looks = λ x l e. (let r = looks-looking w₃ m end pins t x l k e in let f = t .few in gate-looks w₃ m end pins t x (omega arith) (gate-at w₃ m end pins t x (r .0) (r .1)));
+    looks = λ x l e. (let r = looks-looking w₃ m end pins t x l e in let f = t .few in gate-looks w₃ m end pins t x (omega arith) (gate-at w₃ m end pins t x (r .0) (r .1)));
   }
 
   module _ (w₄ : List ℕ) (total : ℕ) (c : Chosen w₃ end w₄ total) where
@@ -171,7 +137,7 @@ module _ (w₃ : List ℕ) (m : Net) (end pins : ℕ) (t : Tabled w₃ m end pin
               others = λ x h. entry-other w j x (bitByte (freeIn w j)) (λ z. omega arith) ∙ q .others x (omega arith);
             }
 
-    module _ (u : List ℕ) (l : Looped markOne end w₄ u) where
+    module _ (past : (x : ℕ) → end ≤ x → x < 8192 → mark w₃ x ≡ 0) (u : List ℕ) (l : Looped markOne end w₄ u) where
       marked : Marking end u
       marked = subst (Marking end) (sym (l .whole)) (mark-all end (t .few))
 
@@ -187,7 +153,7 @@ module _ (w₃ : List ℕ) (m : Net) (end pins : ℕ) (t : Tabled w₃ m end pin
       listed-at : (i : ℕ) → i < total → T (has (terminals (m .elements)) (rest u i)) × Looking (getD u (rest u i) 0)
       listed-at i h =
           let a = c .each i h in
-          let r = looks-looking w₃ m end pins t (rest w₄ i) (a .0) k (a .1) in
+          let r = looks-looking w₃ m end pins t (rest w₄ i) (a .0) (a .1) in
           let f = t .few in
           subst (λ (x : ℕ). T (has (terminals (m .elements)) x) × Looking (getD u x 0)) (sym (list-same i h)) (r .0, subst Looking (sym (same (rest w₄ i) (omega (arith, a .0)))) (r .1))
 
@@ -196,10 +162,10 @@ module _ (w₃ : List ℕ) (m : Net) (end pins : ℕ) (t : Tabled w₃ m end pin
         tabled = tabled-u;
         few = c .few;
         each = listed-at;
-        all = λ x h g. (let lo = t .low x h in let f = t .few in let r = c .all x lo (looking-looks w₃ m end pins t x k h (subst Looking (same x (omega arith)) g)) in (r .0, r .1, list-same (r .0) (r .1) ∙ r .2));
+        all = λ x h g. (let lo = t .low x h in let f = t .few in let r = c .all x lo (looking-looks (getD w₃ x 0) (subst Looking (same x (omega arith)) g)) in (r .0, r .1, list-same (r .0) (r .1) ∙ r .2));
         falling = λ i j a b. (let p = list-same i (omega arith) in let q = list-same j b in let z = c .falling i j a b in omega arith);
         marks = λ x h. (let f = t .few in marked .done x h ∙ ap bitByte (ap (λ (v : ℕ). eqb v x || (eqb v kindsFrom || (eqb v registerEntry || eqb v oneEntry))) (sym (l .within .below x (omega arith)))));
-        past = λ x h g. marked .others x h ∙ c .above (rootsAt + x) (omega arith) ∙ k .past x h g;
+        past = λ x h g. marked .others x h ∙ c .above (rootsAt + x) (omega arith) ∙ past x h g;
       }
 
       pub sweepable : Sweepable u total total
@@ -355,17 +321,17 @@ module _ (u : List ℕ) (e k p : ℕ) (w₃ : List ℕ) (end : ℕ) (md : Tables
   L = lean (netIn u e k p)
 
   pub list-ready : Choosable w₃ end
-  list-ready = choosable w₃ L end p (md .tabled) (md .roots)
+  list-ready = choosable w₃ L end p (md .tabled)
 
   grounded : Ground w₅ L end p total
-  grounded = ground w₃ L end p (md .tabled) (md .roots) w₄ total ch w₅ mk
+  grounded = ground w₃ L end p (md .tabled) w₄ total ch (md .past) w₅ mk
 
   pub settle-ready : Sweepable w₅ total total
-  settle-ready = sweepable w₃ L end p (md .tabled) (md .roots) w₄ total ch w₅ mk
+  settle-ready = sweepable w₃ L end p (md .tabled) w₄ total ch (md .past) w₅ mk
 
   module _ (w₆ : List ℕ) (left : ℕ) (st : AllSwept w₅ total w₆ left) where
     kept₆ : Above u w₆
-    kept₆ = above-then (md .kept) (above-then (above-u w₃ L end p (md .tabled) (md .roots) w₄ total ch w₅ mk) (above-w w₅ L end p total grounded w₆ left st))
+    kept₆ = above-then (md .kept) (above-then (above-u w₃ L end p (md .tabled) w₄ total ch (md .past) w₅ mk) (above-w w₅ L end p total grounded w₆ left st))
 
     pub lowest-ready : 1 ≤ left → Rest w₆ left × Fresh w₆ 2
     lowest-ready l = rest-ready w₅ L end p total grounded w₆ left st l
@@ -380,22 +346,22 @@ module _ (u : List ℕ) (e k p : ℕ) (w₃ : List ℕ) (end : ℕ) (md : Tables
 
 module _ (u : List ℕ) (e k p : ℕ) (large : memorySize ≤ length u) (n : ℕ) (bits starts out₀ : List ℕ) where
   pub ring-ran : (w : List ℕ) (x : ℕ) → PutInOrder u e k p w (ordered.OnRing x) → AnswerSays (refusedAs 19 x) out₀ out₀ (ran (lean (netIn u e k p)) n bits starts (length out₀)) × Keeps u w
-  ring-ran w x o = (ring-says (lean (netIn u e k p)) n bits starts out₀ x (o .says), above-keeps u w large (o .kept))
+  ring-ran w x o = (ring-says (lean (netIn u e k p)) n bits starts out₀ x (o .says), above-keeps u w large (o .kept .size) (o .kept .above))
 
   pub free-ran : (w : List ℕ) (end total : ℕ) → PutInOrder u e k p w (ordered.Free end total) → (w₇ out : List ℕ) (r : code.Answer) → Freed w end total p n bits starts out₀ w₇ out r
       → AnswerSays r out₀ out (ran (lean (netIn u e k p)) n bits starts (length out₀)) × Keeps u w₇
   free-ran w end total o w₇ out r f = (
     subst (AnswerSays r out₀ out) (sym (ran-freed (lean (netIn u e k p)) n bits starts (length out₀) (o .says .0))) (f .says (lean (netIn u e k p)) (o .says .1)),
-    above-keeps u w₇ large (above-then (o .kept) (f .kept)),
+    (let h = above-then (o .kept) (f .kept) in above-keeps u w₇ large (h .size) (h .above)),
   )
 
 module _ (u : List ℕ) (e k p : ℕ) (large : memorySize ≤ length u) (n : ℕ) (bits state₀ out₀ : List ℕ) where
   pub lanes-ring-ran : (w : List ℕ) (x : ℕ) → PutInOrder u e k p w (ordered.OnRing x) → LanesSay (refusedAs 19 x) out₀ out₀ state₀ state₀ (lanesRan (lean (netIn u e k p)) n bits state₀ (length out₀)) × Keeps u w
-  lanes-ring-ran w x o = (lanes-ring (lean (netIn u e k p)) n bits state₀ out₀ x (o .says), above-keeps u w large (o .kept))
+  lanes-ring-ran w x o = (lanes-ring (lean (netIn u e k p)) n bits state₀ out₀ x (o .says), above-keeps u w large (o .kept .size) (o .kept .above))
 
   pub lanes-free-ran : (w : List ℕ) (end total : ℕ) → PutInOrder u e k p w (ordered.Free end total) → (w₇ state out : List ℕ) (r : code.Answer) → LanesFreed w end total p n bits state₀ out₀ w₇ state out r
       → LanesSay r out₀ out state₀ state (lanesRan (lean (netIn u e k p)) n bits state₀ (length out₀)) × Keeps u w₇
   lanes-free-ran w end total o w₇ state out r f = (
     subst (LanesSay r out₀ out state₀ state) (sym (lanes-free (lean (netIn u e k p)) n bits state₀ (length out₀) (o .says .0))) (f .says (lean (netIn u e k p)) (o .says .1)),
-    above-keeps u w₇ large (above-then (o .kept) (f .kept)),
+    (let h = above-then (o .kept) (f .kept) in above-keeps u w₇ large (h .size) (h .above)),
   )

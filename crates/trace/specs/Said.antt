@@ -1,5 +1,5 @@
 -- What a run in the working memory answers and leaves, in the terms of the definitions. Assumes nothing.
-use Prim.Native.Nat.{ℕ, _*_, _≤_, _<_}
+use Prim.Native.Nat.{ℕ, _+_, _*_, _≤_, _<_}
 use mathlib.Core.Path.{_≡_}
 use mathlib.Core.Bool.{Bool, _&&_}
 use mathlib.Core.List.{List}
@@ -12,13 +12,14 @@ use Rattle.memory.specs.Map.{memorySize, netIn}
 use Rattle.circuit_theorems.specs.Terminals.{has}
 use Rattle.trace_calculus.specs.Lanes.{LanesEnd, went, outs, stateOf, LanesCall}
 use Rattle.trace_calculus.specs.Trace.{OnRing, terminals, inPins, outPins, registers, allBits, run, givenBits, startBits, rows}
+use Rattle.trace_steps.specs.Map.{bitsAt}
 use Rattle.trace_steps.specs.Steps.{Ordered}
 use Rattle.trace_steps.specs.Pins.{PinsLow, Listable, RegistersListed}
 use Rattle.trace_steps.specs.Ticks.{InOrder}
 use Rattle.trace_flat.specs.Flat.{flatMost}
 use Rattle.trace_rings.specs.Rings.{met}
 use Rattle.translator.specs.Said.{saidAnswer, AnswerSays}
-use Rattle.trace.specs.Tables.{Tabled, KeptRoots, Looking}
+use Rattle.trace.specs.Tables.{Tabled, Looking}
 use Rattle.translator.specs.declared.Answer as code
 use Rattle.translator.specs.declared.Answer.the-variants as answer
 
@@ -29,10 +30,10 @@ pub record Above (u w : List ℕ) : Type 0 where
   pub size : length w ≡ length u
   pub above : (j : ℕ) → memorySize ≤ j → getD w j 0 ≡ getD u j 0
 
--- the table by terminal is made
+-- the table by terminal is made; past it there is nothing
 pub record TablesMade (u : List ℕ) (elements wires pins : ℕ) (w : List ℕ) (end : ℕ) : Type 0 where
   pub tabled : Tabled w (lean (netIn u elements wires pins)) end pins
-  pub roots : KeptRoots w (lean (netIn u elements wires pins)) end
+  pub past : (x : ℕ) → end ≤ x → x < 8192 → getD w (bitsAt + x) 0 ≡ 0
   pub kept : Above u w
 
 -- input and start bits are of the exact number, and bits

@@ -13,9 +13,10 @@ use Rattle.calculus.specs.Inputs.{isOut}
 use Rattle.calculus.specs.Record.{Among}
 use Rattle.circuit_theorems.specs.Terminals.{has}
 use Rattle.circuit_theorems.specs.Formed.{Formed}
-use Rattle.trace_calculus.specs.Trace.{pin, from, source, terminals}
-use Rattle.memory.specs.Map.{rootsAt, memorySize, region, terminalOf}
-use Rattle.trace_steps.specs.Map.{pinsAt, kindsFrom, registerEntry, oneEntry, pointEntry}
+use Rattle.trace_calculus.specs.Trace.{from, source, terminals}
+use Rattle.memory.specs.Map.{memorySize, region, terminalOf}
+use Rattle.lean.specs.Layout.{leftOut, kindsFrom}
+use Rattle.trace_steps.specs.Map.{pinsAt, registerEntry, oneEntry, pointEntry}
 
 -- the entry of terminal x: a pin has itself, another input the output that its wire comes from, an output its element's kind, from `kindsFrom` on
 pub data TableEntry (m : Net) (x : ℕ) : ℕ → Type 0 where
@@ -45,13 +46,7 @@ pub record Tabled (w : List ℕ) (m : Net) (end pins : ℕ) : Type 0 where
   pub few : end ≤ 8192
   pub low : (x : ℕ) → T (has (terminals (m .elements)) x) → x < end
   pub entries : (x : ℕ) → T (has (terminals (m .elements)) x) → TableEntry m x (getD w x 0)
-  -- what belongs to a point that is not kept
-  pub others : (x : ℕ) → x < end → T (has (terminals (m .elements)) x) ⊎ ((getD w x 0 < 8192) ⊎ (getD w x 0 ≡ pointEntry))
+  -- what belongs to a point that is left out
+  pub others : (x : ℕ) → x < end → T (has (terminals (m .elements)) x) ⊎ ((getD w x 0 < 8192) ⊎ (leftOut ≤ getD w x 0))
   pub few-pins : pins ≤ 128
   pub shown : map terminalOf (region w pinsAt pins) ≡ m .pins
-
--- of the points' outputs just those that are kept are their own roots, by the table of roots
-pub record KeptRoots (w : List ℕ) (m : Net) (end : ℕ) : Type 0 where
-  pub kept : (x : ℕ) → x < end → getD w x 0 ≡ pointEntry → getD w (rootsAt + x) 0 ≡ x → T (has (terminals (m .elements)) x)
-  pub rooted : (x : ℕ) → T (has (terminals (m .elements)) x) → getD w x 0 ≡ pointEntry → getD w (rootsAt + x) 0 ≡ x
-  pub past : (x : ℕ) → end ≤ x → x < 8192 → getD w (rootsAt + x) 0 ≡ 0

@@ -1,4 +1,4 @@
-// A recorded trace run through the lean netlist that stands in the working memory. What stands where during a run is said in
+// A recorded trace run through the lean netlist of the full one that stands in the working memory. What stands where during a run is said in
 // trace_steps/specs/Map.
 use crate::free;
 use crate::ordering;
@@ -10,37 +10,13 @@ ghost use lib.ListN.{length};
 ghost use Rattle.calculus.specs.Lean.{lean};
 ghost use Rattle.calculus.specs.NetRead.{Known};
 ghost use Rattle.calculus.specs.Record.{All};
-ghost use Rattle.lean.specs.Table.{Leaned};
 ghost use Rattle.memory.specs.Map.{netIn, Ready};
 ghost use Rattle.translator.specs.Made.{Keeps};
 ghost use Rattle.trace_calculus.specs.Trace.{ran};
 ghost use Rattle.translator.specs.Said.{AnswerSays};
 ghost use Rattle.trace.specs.Tables.{FewParts};
 
-// With its roots, the lean netlist is run for so many ticks: 19, 20, 17.
-fn run_lean(
-    work: &mut [u16],
-    inputs: &[u8],
-    starts: &[u8],
-    out: &mut [u8],
-    elements: usize,
-    wires: usize,
-    pins: usize,
-    ticks: usize,
-) -> Answer
-    requires { ⌜ (Leaned (now work) elements wires pins) × (ticks ≤ 65535) × (FewParts (netIn (now work) elements wires pins)) ⌝ }
-    ensures { λ r. ⌜ (AnswerSays r (now (out .entry)) (now (out .exit)) (ran (lean (netIn (now (work .entry)) elements wires pins)) ticks (now (inputs .entry)) (now (starts .entry)) (length (now (out .entry)))))
-        × (Keeps (now (work .entry)) (now (work .exit))) ⌝ }
-{
-    match ordering::put_in_order(work, elements, wires, pins) {
-        Ordered::OnRing(place) => translator::refused(19, place),
-        Ordered::Free(end, total) => {
-            free::run(work, inputs, starts, out, end, total, pins, ticks)
-        }
-    }
-}
-
-// The roots are found, and the lean netlist is run.
+// The lean netlist is put in order and run for so many ticks: 19, 20, 17.
 pub fn run_net(
     work: &mut [u16],
     inputs: &[u8],
@@ -56,6 +32,10 @@ pub fn run_net(
     let elements = counts.elements;
     let wires = counts.wires;
     let pins = counts.pins;
-    lean::roots(work, elements, wires, pins);
-    run_lean(work, inputs, starts, out, elements, wires, pins, ticks)
+    match ordering::put_in_order(work, elements, wires, pins) {
+        Ordered::OnRing(place) => translator::refused(19, place),
+        Ordered::Free(end, total) => {
+            free::run(work, inputs, starts, out, end, total, pins, ticks)
+        }
+    }
 }

@@ -1,9 +1,11 @@
-// The lean netlist that stands in the working memory, put in order. What stands where is said in trace_steps/specs/Map.
+// The lean netlist of the full one that stands in the working memory, put in order. What stands where is said in trace_steps/specs/Map.
 use crate::tables;
 use trace_rings::list;
 use trace_rings::ring;
 use trace_steps::order;
-ghost use Rattle.lean.specs.Table.{Leaned};
+ghost use Rattle.calculus.specs.NetRead.{Known};
+ghost use Rattle.calculus.specs.Record.{All};
+ghost use Rattle.memory.specs.Map.{netIn, Ready};
 ghost use Rattle.trace.specs.Ordering.{PutInOrder};
 
 // The lowest input on a ring that passes through no register; or there is none: the first terminal that no element takes, and how many
@@ -13,9 +15,9 @@ pub enum Ordered {
     Free(usize, usize),
 }
 
-// With its roots, the lean netlist is put in order.
+// The lean netlist is made and put in order.
 pub fn put_in_order(work: &mut [u16], elements: usize, wires: usize, pins: usize) -> Ordered
-    requires { ⌜ Leaned (now work) elements wires pins ⌝ }
+    requires { ⌜ (Ready (now work) elements wires pins) × (All Known (netIn (now work) elements wires pins .elements)) ⌝ }
     ensures { λ r. ⌜ PutInOrder (now (work .entry)) elements wires pins (now (work .exit)) r ⌝ }
 {
     let end = tables::make(work, elements, wires, pins);

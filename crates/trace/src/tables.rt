@@ -1,16 +1,17 @@
-// The table by terminal, and the pins by their roots.
-use trace_steps::links;
-use trace_steps::names;
-ghost use Rattle.lean.specs.Table.{Leaned};
+// The lean netlist, made of the full one, as the table by terminal of a run and its pins.
+use trace_steps::copy;
+ghost use Rattle.calculus.specs.NetRead.{Known};
+ghost use Rattle.calculus.specs.Record.{All};
+ghost use Rattle.memory.specs.Map.{netIn, Ready};
 ghost use Rattle.trace.specs.Said.{TablesMade};
 
-// They are made of the kinds, the drivers and the roots; the first terminal that no element takes.
+// The first terminal that no element takes.
 pub fn make(work: &mut [u16], elements: usize, wires: usize, pins: usize) -> usize
-    requires { ⌜ Leaned (now work) elements wires pins ⌝ }
+    requires { ⌜ (Ready (now work) elements wires pins) × (All Known (netIn (now work) elements wires pins .elements)) ⌝ }
     ensures { λ r. ⌜ TablesMade (now (work .entry)) elements wires pins (now (work .exit)) r ⌝ }
 {
-    let end = names::name(work, elements);
-    links::link(work, end);
-    links::root_pins(work, pins);
+    let end = lean::make_lean(work, elements, wires, pins);
+    copy::copy_table(work, end);
+    copy::copy_pins(work, pins);
     end
 }

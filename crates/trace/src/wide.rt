@@ -13,7 +13,6 @@ ghost use lib.ListN.{length};
 ghost use Rattle.calculus.specs.Lean.{lean};
 ghost use Rattle.calculus.specs.NetRead.{Known};
 ghost use Rattle.calculus.specs.Record.{All};
-ghost use Rattle.lean.specs.Table.{Leaned};
 ghost use Rattle.memory.specs.Map.{netIn, Ready};
 ghost use Rattle.translator.specs.Made.{Keeps};
 ghost use Rattle.trace_calculus.specs.Lanes.{lanesRan};
@@ -59,28 +58,7 @@ fn run(
     Answer::Written(writes)
 }
 
-// With its roots, the lean netlist is run for so many ticks: 19, 20, 17.
-fn run_lean(
-    work: &mut [u16],
-    inputs: &[u16],
-    state: &mut [u16],
-    out: &mut [u16],
-    elements: usize,
-    wires: usize,
-    pins: usize,
-    ticks: usize,
-) -> Answer
-    requires { ⌜ (Leaned (now work) elements wires pins) × (ticks ≤ 65535) × (FewParts (netIn (now work) elements wires pins)) ⌝ }
-    ensures { λ r. ⌜ (LanesSay r (now (out .entry)) (now (out .exit)) (now (state .entry)) (now (state .exit)) (lanesRan (lean (netIn (now (work .entry)) elements wires pins)) ticks (now (inputs .entry)) (now (state .entry)) (length (now (out .entry)))))
-        × (Keeps (now (work .entry)) (now (work .exit))) ⌝ }
-{
-    match ordering::put_in_order(work, elements, wires, pins) {
-        Ordered::OnRing(place) => translator::refused(19, place),
-        Ordered::Free(end, total) => run(work, inputs, state, out, end, total, pins, ticks),
-    }
-}
-
-// The roots are found, and the lean netlist is run.
+// The lean netlist is put in order and run for so many ticks: 19, 20, 17.
 pub fn run_net(
     work: &mut [u16],
     inputs: &[u16],
@@ -96,6 +74,8 @@ pub fn run_net(
     let elements = counts.elements;
     let wires = counts.wires;
     let pins = counts.pins;
-    lean::roots(work, elements, wires, pins);
-    run_lean(work, inputs, state, out, elements, wires, pins, ticks)
+    match ordering::put_in_order(work, elements, wires, pins) {
+        Ordered::OnRing(place) => translator::refused(19, place),
+        Ordered::Free(end, total) => run(work, inputs, state, out, end, total, pins, ticks),
+    }
 }

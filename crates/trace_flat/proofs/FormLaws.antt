@@ -9,7 +9,8 @@ use lib.Dec.{eqb}
 use borrow.Author.Tests.{eq-eqb, ne-eqb}
 use Rattle.trace_calculus.specs.Lanes.{laneBit}
 use Rattle.trace_calculus.proofs.LaneBits.{lane-zero, number-only, bitAt, and-bit, or-bit, xor-bit, not-bit, bit-is}
-use Rattle.trace_steps.specs.Map.{kindsFrom, inverterEntry}
+use Rattle.lean.specs.Layout.{kindsFrom}
+use Rattle.trace_steps.specs.Map.{inverterEntry}
 use Rattle.trace_steps.specs.Words.{gateWord}
 use Rattle.trace_steps.proofs.Laws.{value-is}
 use Rattle.trace_flat.specs.Flat.{formWord, orEntry, xorEntry}

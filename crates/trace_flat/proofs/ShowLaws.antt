@@ -11,7 +11,8 @@ use lib.Seq.{getD-set-same}
 use Rattle.memory.specs.Map.{memorySize}
 use Rattle.lean.specs.Table.{Within}
 use Rattle.lean.proofs.TableLaws.{within-none, within-then, within-set, entry-same, entry-other}
-use Rattle.trace_steps.specs.Map.{orderAt, bitsAt, kindsFrom, inverterEntry}
+use Rattle.lean.specs.Layout.{kindsFrom}
+use Rattle.trace_steps.specs.Map.{orderAt, bitsAt, inverterEntry}
 use Rattle.trace_steps.specs.Turns.{takeTurns}
 use Rattle.trace_steps.specs.Steps.{firstIn}
 use Rattle.trace_steps.specs.Words.{wordAt, inputWord, gateWord, wordStep, wordPass}

@@ -9,36 +9,28 @@ use lib.ListN.{length, getD, set, length-set}
 use lib.Seq.{getD-set-same}
 use lib.Dec.{T, eqb, ltb, eqb→eq}
 use borrow.Author.Tests.{ltb-true, eq-eqb, ne-eqb, lt-ltb, le-ltb}
-use Rattle.memory.specs.Map.{rootsAt}
-use Rattle.trace_steps.specs.Map.{restAt, orderAt, kindsFrom, registerEntry, oneEntry, pointEntry}
+use Rattle.lean.specs.Layout.{kindsFrom}
+use Rattle.trace_steps.specs.Map.{restAt, orderAt, registerEntry, oneEntry, pointEntry}
 use Rattle.trace_steps.proofs.Laws.{set-other}
-use Rattle.trace_rings.specs.Lists.{looksIn, Choosable, Chosen}
-
-pub looks-same : (u w : List ℕ) (x : ℕ) → getD w x 0 ≡ getD u x 0 → getD w (rootsAt + x) 0 ≡ getD u (rootsAt + x) 0 → looksIn w x ≡ looksIn u x
-looks-same u w x e f =
-    ap (λ (k : ℕ). cond (eqb k pointEntry) (eqb (getD w (rootsAt + x) 0) x) (ltb registerEntry k && ltb k oneEntry)) e
-    ∙ ap (λ (k : ℕ). cond (eqb (getD u x 0) pointEntry) (eqb k x) (ltb registerEntry (getD u x 0) && ltb (getD u x 0) oneEntry)) f
+use Rattle.trace_rings.specs.Lists.{looksAt, looksIn, Choosable, Chosen}
 
 -- what looks at something is an output
-pub looks-high : (w : List ℕ) (x : ℕ) → looksIn w x ≡ true → kindsFrom ≤ getD w x 0
-looks-high w x e = by (eqb (getD w x 0) pointEntry) (ltb registerEntry (getD w x 0)) (ltb (getD w x 0) oneEntry) refl refl e
+pub looks-high : (v : ℕ) → looksAt v ≡ true → kindsFrom ≤ v
+looks-high v e = by (eqb v pointEntry) (ltb registerEntry v) (ltb v oneEntry) refl refl e
   where
-    by : (a b c : Bool) → eqb (getD w x 0) pointEntry ≡ a → ltb registerEntry (getD w x 0) ≡ b → cond a (eqb (getD w (rootsAt + x) 0) x) (b && c) ≡ true → kindsFrom ≤ getD w x 0
-    by true b c q r e = let z = eqb→eq (getD w x 0) pointEntry (subst (λ (t : Bool). T t) (sym q) tt) in omega arith
-    by false true c q r e = omega (arith, ltb-true registerEntry (getD w x 0) r)
+    by : (a b c : Bool) → eqb v pointEntry ≡ a → ltb registerEntry v ≡ b → cond a true (b && c) ≡ true → kindsFrom ≤ v
+    by true b c q r e = let z = eqb→eq v pointEntry (subst (λ (t : Bool). T t) (sym q) tt) in omega arith
+    by false true c q r e = omega (arith, ltb-true registerEntry v r)
     by false false c q r e = absurd (subst (λ (t : Bool). T t) (sym e) tt)
 
-pub looks-point : (w : List ℕ) (x : ℕ) → getD w x 0 ≡ pointEntry → eqb (getD w (rootsAt + x) 0) x ≡ looksIn w x
-looks-point w x e = sym (ap (λ (b : Bool). cond b (eqb (getD w (rootsAt + x) 0) x) (ltb registerEntry (getD w x 0) && ltb (getD w x 0) oneEntry)) (eq-eqb (getD w x 0) pointEntry e))
+pub looks-point : (v : ℕ) → v ≡ pointEntry → true ≡ looksAt v
+looks-point v e = rw (eq-eqb v pointEntry e)
 
-pub looks-gate : (w : List ℕ) (x : ℕ) → (getD w x 0 ≡ pointEntry → ⊥) → registerEntry < getD w x 0 → ltb (getD w x 0) oneEntry ≡ looksIn w x
-looks-gate w x d l =
-    sym (ap (λ (b : Bool). cond b (eqb (getD w (rootsAt + x) 0) x) (ltb registerEntry (getD w x 0) && ltb (getD w x 0) oneEntry)) (ne-eqb (getD w x 0) pointEntry d) ∙ ap (λ (b : Bool). b && ltb (getD w x 0) oneEntry) (lt-ltb registerEntry (getD w x 0) l))
+pub looks-gate : (v : ℕ) → (v ≡ pointEntry → ⊥) → registerEntry < v → ltb v oneEntry ≡ looksAt v
+looks-gate v d l = rw (ne-eqb v pointEntry d, lt-ltb registerEntry v l)
 
-pub looks-none : (w : List ℕ) (x : ℕ) → (getD w x 0 ≡ pointEntry → ⊥) → getD w x 0 ≤ registerEntry → ltb registerEntry (getD w x 0) ≡ looksIn w x
-looks-none w x d l =
-    le-ltb registerEntry (getD w x 0) l
-    ∙ sym (ap (λ (b : Bool). cond b (eqb (getD w (rootsAt + x) 0) x) (ltb registerEntry (getD w x 0) && ltb (getD w x 0) oneEntry)) (ne-eqb (getD w x 0) pointEntry d) ∙ ap (λ (b : Bool). b && ltb (getD w x 0) oneEntry) (le-ltb registerEntry (getD w x 0) l))
+pub looks-none : (v : ℕ) → (v ≡ pointEntry → ⊥) → v ≤ registerEntry → ltb registerEntry v ≡ looksAt v
+looks-none v d l = rw (ne-eqb v pointEntry d, le-ltb registerEntry v l)
 
 -- those from x on are listed
 pub record Choosing (u : List ℕ) (end x : ℕ) (w : List ℕ) (n : ℕ) : Type 0 where
@@ -69,14 +61,14 @@ choosing-start u end = record {
 
 module _ (u : List ℕ) (end x y : ℕ) (w : List ℕ) (n : ℕ) (p : Choosable u end) (c : Choosing u end x w n) (e : x ≡ y + 1) where
   pub choosing-same : looksIn w y ≡ looksIn u y
-  choosing-same = let f = p .few in let l = c .low in looks-same u w y (c .table y (omega arith)) (c .above (rootsAt + y) (omega arith))
+  choosing-same = let f = p .few in let l = c .low in ap looksAt (c .table y (omega arith))
 
   lonely : looksIn u y ≡ true → x < end → looksIn u x ≡ true → ⊥
   lonely q l h =
       let z = p .looks x l h .last in
       let i : x - 1 ≡ y = omega arith in
       let j = ap (λ (k : ℕ). getD u k 0) i in
-      omega (arith, looks-high u y q)
+      omega (arith, looks-high (getD u y 0) q)
 
   pub choosing-few : looksIn w y ≡ true → n < 4096
   choosing-few q = let f = p .few in let h = c .free (lonely (sym choosing-same ∙ q)) in omega arith

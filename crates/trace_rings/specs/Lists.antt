@@ -1,18 +1,20 @@
--- The outputs that look at something within the tick, by falling number, over the working memory, where the table by terminal and the roots
--- stand. Assumes nothing.
+-- The outputs that look at something within the tick, by falling number, over the table by terminal. Assumes nothing.
 use Prim.Native.Nat.{ℕ, _+_, _≤_, _<_}
 use mathlib.Core.Path.{_≡_}
 use mathlib.Core.Bool.{Bool, true, cond, _&&_}
 use mathlib.Core.List.{List}
 use lib.ListN.{length, getD}
 use lib.Dec.{eqb, ltb}
-use Rattle.memory.specs.Map.{rootsAt, memorySize}
+use Rattle.memory.specs.Map.{memorySize}
 use Rattle.trace_steps.specs.Map.{restAt, orderAt, registerEntry, oneEntry, pointEntry}
 use Rattle.trace_steps.specs.Steps.{Looks}
 
--- a gate's output, or that of a point that is its own root: the points that the lean netlist keeps
+-- an entry of a gate's output, or of a point's
+abbrev pub looksAt : ℕ → Bool
+looksAt v = cond (eqb v pointEntry) true (ltb registerEntry v && ltb v oneEntry)
+
 abbrev pub looksIn : List ℕ → ℕ → Bool
-looksIn w x = cond (eqb (getD w x 0) pointEntry) (eqb (getD w (rootsAt + x) 0) x) (ltb registerEntry (getD w x 0) && ltb (getD w x 0) oneEntry)
+looksIn w x = looksAt (getD w x 0)
 
 pub record Choosable (w : List ℕ) (end : ℕ) : Type 0 where
   pub size : memorySize ≤ length w

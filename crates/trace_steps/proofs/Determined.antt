@@ -7,6 +7,7 @@ use Rattle.laws.proofs.OneResult.{Result, Results, Left}
 use Rattle.trace_steps.specs.Sweeps.{Sweep}
 use Rattle.trace_steps.specs.Pins.{Counted}
 use Rattle.trace_steps.specs.Ticks.{Running}
+use Rattle.trace_steps.proofs.CopyLaws.{one-table, one-pins}
 use Rattle.trace_steps.proofs.table.at.Kinds as at
 use Rattle.trace_steps.proofs.table.at.Reads as at-reads
 use Rattle.trace_steps.proofs.table.first_of.Kinds as first-of
@@ -15,12 +16,10 @@ use Rattle.trace_steps.proofs.table.is_fed.Kinds as is-fed
 use Rattle.trace_steps.proofs.table.is_fed.Reads as is-fed-reads
 use Rattle.trace_steps.proofs.table.byte.Kinds as byte
 use Rattle.trace_steps.proofs.table.byte.Reads as byte-reads
-use Rattle.trace_steps.proofs.names.name.Kinds as name
-use Rattle.trace_steps.proofs.names.name.Reads as name-reads
-use Rattle.trace_steps.proofs.links.link.Kinds as link
-use Rattle.trace_steps.proofs.links.link.Reads as link-reads
-use Rattle.trace_steps.proofs.links.root_pins.Kinds as root-pins
-use Rattle.trace_steps.proofs.links.root_pins.Reads as root-pins-reads
+use Rattle.trace_steps.proofs.copy.copy_table.Kinds as copy-table
+use Rattle.trace_steps.proofs.copy.copy_table.Reads as copy-table-reads
+use Rattle.trace_steps.proofs.copy.copy_pins.Kinds as copy-pins
+use Rattle.trace_steps.proofs.copy.copy_pins.Reads as copy-pins-reads
 use Rattle.trace_steps.proofs.order.mark_free.Kinds as mark-free
 use Rattle.trace_steps.proofs.order.mark_free.Reads as mark-free-reads
 use Rattle.trace_steps.proofs.order.settle.Kinds as settle
@@ -66,14 +65,11 @@ is-fed-determined κs a x y s t f g = f ∙ sym g
 pub byte-determined : Result byte.ps byte.r byte-reads.Post
 byte-determined κs a x y s t f g = f ∙ sym g
 
-pub name-determined : Results name.ps name.r name-reads.Post (λ κs s. s .0 .now)
-name-determined κs a x y s t f g = (f .end-is ∙ sym (g .end-is), f .whole ∙ sym (g .whole))
+pub copy-table-determined : Left copy-table.ps copy-table.r copy-table-reads.Post (λ κs s. s .0 .now)
+copy-table-determined κs a x y s t f g = one-table _ _ _ _ f g
 
-pub link-determined : Left link.ps link.r link-reads.Post (λ κs s. s .0 .now)
-link-determined κs a x y s t f g = f .whole ∙ sym (g .whole)
-
-pub root-pins-determined : Left root-pins.ps root-pins.r root-pins-reads.Post (λ κs s. s .0 .now)
-root-pins-determined κs a x y s t f g = f .whole ∙ sym (g .whole)
+pub copy-pins-determined : Left copy-pins.ps copy-pins.r copy-pins-reads.Post (λ κs s. s .0 .now)
+copy-pins-determined κs a x y s t f g = one-pins _ _ _ _ f g
 
 pub mark-free-determined : Left mark-free.ps mark-free.r mark-free-reads.Post (λ κs s. s .0 .now)
 mark-free-determined κs a x y s t f g = f .whole ∙ sym (g .whole)

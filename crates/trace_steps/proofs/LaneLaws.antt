@@ -14,7 +14,8 @@ use Rattle.lean.proofs.TableLaws.{within-none, within-then, within-set}
 use Rattle.trace_calculus.specs.Trace.{bitByte}
 use Rattle.trace_calculus.specs.Lanes.{laneBit, lane}
 use Rattle.trace_calculus.proofs.LaneBits.{lane-zero, lane-at, bitAt, and-bit, or-bit, xor-bit, not-bit, bit-is}
-use Rattle.trace_steps.specs.Map.{registersAt, orderAt, pinsAt, bitsAt, bitsEnd, kindsFrom}
+use Rattle.lean.specs.Layout.{kindsFrom}
+use Rattle.trace_steps.specs.Map.{registersAt, orderAt, pinsAt, bitsAt, bitsEnd}
 use Rattle.trace_steps.specs.Turns.{takeTurns}
 use Rattle.trace_steps.specs.Steps.{lit, firstIn, inputBit, gateBit, stepIn, passOne, Looks, Ordered, Register, Registers, holdAt, holdOne, turnAt, turnOne}
 use Rattle.trace_steps.specs.Words.{gateWord, wordAt, inputWord, wordStep, wordPass, inBits, laneFrom, laneMem}

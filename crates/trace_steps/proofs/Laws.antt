@@ -13,7 +13,8 @@ use lib.Dec.{eqb, ltb}
 use borrow.Author.Tests.{lt-ltb, le-ltb, eq-eqb, ne-eqb}
 use native.Mathlib.Decide.{ℕ-discrete}
 use Rattle.lean.specs.Table.{Within}
-use Rattle.trace_steps.specs.Map.{registersAt, orderAt, bitsAt, kindsFrom, inverterEntry}
+use Rattle.lean.specs.Layout.{kindsFrom}
+use Rattle.trace_steps.specs.Map.{registersAt, orderAt, bitsAt, inverterEntry}
 use Rattle.trace_steps.specs.Turns.{takeTurns}
 use Rattle.trace_steps.specs.Steps.{firstIn, inputBit, readyIn, Looks, Ordered, Register, Registers, holdOne, turnOne, wakeOne}
 use Rattle.trace_steps.specs.Words.{chosenWord, inputWord, gateWord, wordStep, wordPass}

@@ -12,7 +12,8 @@ use Rattle.memory.specs.Map.{memorySize}
 use Rattle.trace_calculus.proofs.Bytes.{byte-bit}
 use Rattle.lean.specs.Table.{Within}
 use Rattle.lean.proofs.TableLaws.{within-none, within-then, within-set, entry-same, entry-other}
-use Rattle.trace_steps.specs.Map.{orderAt, bitsAt, kindsFrom}
+use Rattle.lean.specs.Layout.{kindsFrom}
+use Rattle.trace_steps.specs.Map.{orderAt, bitsAt}
 use Rattle.trace_steps.specs.Turns.{takeTurns}
 use Rattle.trace_steps.specs.Steps.{lit, firstIn, inputBit, gateBit, passOne}
 use Rattle.trace_steps.specs.Ticks.{InOrder, due, OrderAgrees}

@@ -5,9 +5,11 @@
 --   restAt       5,120    the outputs that are not settled yet ..
 --   registersAt           .. and afterwards the registers' outputs by rising number
 --   orderAt      5,120    the order: the outputs that are settled, each behind those that it looks at; in the search, those that are met
---   pinsAt       128      the pins, an input i as 2 i and an output o as 2 o + 1, each output pin's root in its place
---   bitsAt       8,192    by terminal a mark, and then a number with its bit in each lane (specs/Words); before, the roots. They end at `bitsEnd`
+--   pinsAt       128      the pins, an input i as 2 i and an output o as 2 o + 1
+--   bitsAt       8,192    by terminal a mark, and then a number with its bit in each lane (specs/Words); before, the lean netlist by
+--                         terminal (lean/specs/Layout), whose pins stand at `bitsEnd`
 use Prim.Native.Nat.{ℕ, _+_}
+use Rattle.lean.specs.Layout.{kindsFrom}
 use Rattle.memory.specs.Map.{targetsAt, elementsAt, stackAt, rootsAt, rootsEnd}
 
 abbrev pub restAt : ℕ
@@ -28,10 +30,7 @@ bitsAt = rootsAt
 abbrev pub bitsEnd : ℕ
 bitsEnd = rootsEnd
 
--- ---- the entry of an output: this and its element's kind, a part's number or 7 for a point
-
-abbrev pub kindsFrom : ℕ
-kindsFrom = 65520
+-- ---- the entry of an output: `kindsFrom` and its element's kind, a part's number or 7 for a point
 
 abbrev pub zeroEntry : ℕ
 zeroEntry = kindsFrom + 0

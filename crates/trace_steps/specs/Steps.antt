@@ -6,7 +6,8 @@ use lib.ListN.{length, getD, set}
 use lib.Dec.{eqb, ltb}
 use Rattle.memory.specs.Map.{memorySize}
 use Rattle.trace_calculus.specs.Trace.{bitByte}
-use Rattle.trace_steps.specs.Map.{registersAt, orderAt, bitsAt, kindsFrom, zeroEntry, registerEntry, inverterEntry, oneEntry}
+use Rattle.lean.specs.Layout.{kindsFrom}
+use Rattle.trace_steps.specs.Map.{registersAt, orderAt, bitsAt, zeroEntry, registerEntry, inverterEntry, oneEntry}
 
 -- the bit, or mark, of terminal x
 abbrev pub lit : List ℕ → ℕ → Bool

@@ -5,7 +5,8 @@ use mathlib.Core.List.{List}
 use mathlib.Core.Bool.{Bool}
 use lib.ListN.{length, getD}
 use Rattle.lean.specs.Table.{Within}
-use Rattle.trace_steps.specs.Map.{orderAt, bitsAt, kindsFrom}
+use Rattle.lean.specs.Layout.{kindsFrom}
+use Rattle.trace_steps.specs.Map.{orderAt, bitsAt}
 use Rattle.trace_steps.specs.Turns.{takeTurns}
 use Rattle.trace_steps.specs.Steps.{lit, firstIn, gateBit, Ordered, Registers, passOne, holdOne, turnOne}
 use Rattle.trace_steps.specs.Pins.{counted, PinsLow, inPinCount, outPinCount, loadOne, storeOne, wordStore}

@@ -7,7 +7,8 @@ use lib.Bits.{bitAnd, bitOr, bitXor}
 use lib.ListN.{getD, set}
 use lib.Dec.{eqb, leb, ltb}
 use Rattle.trace_calculus.specs.Lanes.{laneBit}
-use Rattle.trace_steps.specs.Map.{registersAt, orderAt, bitsAt, bitsEnd, kindsFrom, oneEntry}
+use Rattle.lean.specs.Layout.{kindsFrom}
+use Rattle.trace_steps.specs.Map.{registersAt, orderAt, bitsAt, bitsEnd, oneEntry}
 use Rattle.trace_steps.specs.Steps.{firstIn}
 
 abbrev pub chosenWord : Bool → ℕ → ℕ → ℕ

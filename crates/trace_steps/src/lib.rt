@@ -1,6 +1,5 @@
 // The steps of a run in the working memory: the table by terminal, sweeps, pins and ticks. What stands where is said in specs/Map.
-pub mod links;
-pub mod names;
+pub mod copy;
 pub mod order;
 pub mod pins;
 pub mod table;

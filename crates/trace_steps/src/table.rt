@@ -19,7 +19,7 @@ pub const PINS: usize = memory::STACK;
 pub const BITS: usize = memory::ROOTS;
 
 // An output's entry is KIND and its element's kind: a part's number in the table of parts, or a point's.
-pub const KIND: u16 = 65520;
+pub const KIND: u16 = lean::KIND;
 
 pub const ZERO_ENTRY: u16 = KIND + parts::ZERO;
 

@@ -8,7 +8,7 @@ ghost use mathlib.Core.Path.{_≡_};
 ghost use Prim.Native.Nat.{_+_, _-_, _≤_, _<_};
 ghost use lib.ListN.{length};
 ghost use Rattle.memory.specs.Map.{memorySize};
-ghost use Rattle.trace_steps.specs.Map.{kindsFrom};
+ghost use Rattle.lean.specs.Layout.{kindsFrom};
 ghost use Rattle.trace_steps.specs.Steps.{Looks, Ordered, Register, Registers, holdAt, turnAt, wakeOne, holdOne, turnOne};
 ghost use Rattle.trace_steps.specs.Words.{gateWord, wordStep, wordPass, wordBegin, laneZero};
 ghost use Rattle.trace_steps.specs.Turns.{Looped};

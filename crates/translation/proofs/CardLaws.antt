@@ -15,8 +15,8 @@ use Rattle.calculus.specs.Lean.{lean}
 use Rattle.sheet_theorems.proofs.Laying.{laid}
 use Rattle.sheet_theorems.proofs.WalkKeeps.{walk-in}
 use Rattle.export_calculus.specs.Card.{profiled, profile, rootType, onCard}
-use Rattle.root_type.specs.Chains.{chainIn}
-use Rattle.root_type.proofs.ChainLaws.{chain-is}
+use Rattle.card.specs.Chains.{chainIn}
+use Rattle.card.proofs.ChainLaws.{chain-is}
 use Rattle.translator.specs.Made.{rootNumber}
 use Rattle.translation.specs.Wished.{cardBy}
 

@@ -1,11 +1,10 @@
--- What is answered for the netlist that is wished, and what its roots leave of the working memory. Assumes nothing.
-use Prim.Native.Nat.{ℕ, _+_, _-_, _≤_}
-use mathlib.Core.Path.{_≡_, refl, sym, ap, ap₂, subst, _∙_}
+-- What is answered for the netlist that is wished, and what the making of the lean one leaves of the working memory. Assumes nothing.
+use Prim.Native.Nat.{ℕ}
+use mathlib.Core.Path.{_≡_, refl, sym, ap₂, subst}
 use mathlib.Core.Bool.{Bool, true, false}
 use mathlib.Core.List.{List}
 use native.Mathlib.Omega.{arith}
-use lib.ListN.{length, drop, length-drop}
-use lib.Seq.{ext-getD, getD-drop}
+use lib.ListN.{length}
 use Rattle.calculus.specs.Answer.{Answer, good, refuse}
 use Rattle.calculus.specs.Read.{recordsOf}
 use Rattle.calculus.specs.Net.{Net}
@@ -15,12 +14,13 @@ use Rattle.calculus.specs.Lean.{lean}
 use Rattle.calculus.specs.Makers.{written}
 use Rattle.calculus.specs.Translate.{Wish, asked, askedMakers, askedBytes}
 use Rattle.laws.proofs.Regions.{region-ext}
-use Rattle.memory.specs.Map.{makersAt, region, netIn}
-use Rattle.lean.specs.Table.{Within, Whole, Rooted}
+use Rattle.memory.specs.Map.{makersAt, region, netIn, Ready}
+use Rattle.memory.proofs.NetStays.{net-same}
+use Rattle.lean.specs.Layout.{Leant}
 use Rattle.export_calculus.specs.Card.{profiled}
-use Rattle.root_type.specs.Chains.{chainIn}
+use Rattle.card.specs.Chains.{chainIn}
 use Rattle.translator.specs.Made.{Keeps}
-use Rattle.translator.proofs.Keeping.{later-keeps}
+use Rattle.translator.proofs.Keeping.{above-keeps}
 use Rattle.translator.specs.Said.{refusedAs, inRoom, AnswerSays}
 use Rattle.translator.specs.declared.Answer as code
 use Rattle.translation.specs.Wished.{cardBy, onPass}
@@ -30,38 +30,26 @@ pub wished-says : (w : Wish) (lean : Bool) (out after : List ℕ) (r : code.Answ
     → AnswerSays r out after (inRoom (askedBytes w m ks) (length out))
 wished-says w lean out after r m ks e h = rw e h
 
--- the makers stand above the table of roots
-pub within-makers : (w w′ : List ℕ) (n : ℕ) → n ≤ 5120 → 32768 ≤ length w → Within w w′ → region w′ makersAt n ≡ region w makersAt n
-within-makers w w′ n l z h = region-ext makersAt n w w′ (omega arith) (omega (arith, h .size)) (λ j a b. h .above j (omega arith))
+-- the full netlist and its makers stay where the lean one is made
+module _ (u v : List ℕ) (e k p end : ℕ) (r : Ready u e k p) (l : Leant u e k p v end) where
+  made-makers : region v makersAt e ≡ region u makersAt e
+  made-makers =
+      let z = r .size in
+      let f = r .few-elements in
+      let s = l .around .size in
+      region-ext makersAt e u v (omega arith) (omega arith) (λ j a b. l .around .above j (omega arith))
 
--- a change within the table of roots keeps what lies behind it
-within-later : (w w′ : List ℕ) → Within w w′ → drop 32768 w′ ≡ drop 32768 w
-within-later w w′ h =
-    ext-getD 0 (drop 32768 w′) (drop 32768 w) (length-drop 32768 w′ ∙ ap (λ (n : ℕ). n - 32768) (h .size) ∙ sym (length-drop 32768 w))
-    (λ i l. getD-drop 32768 w′ i 0 ∙ h .above (32768 + i) (omega arith) ∙ sym (getD-drop 32768 w i 0))
+  made-net : netIn v e k p ≡ netIn u e k p
+  made-net = net-same u e k p r v (l .around .size) (l .around .below)
 
-pub within-keeps : (w w′ : List ℕ) → 32768 ≤ length w → Within w w′ → Keeps w w′
-within-keeps w w′ l h = later-keeps w w′ l (subst (λ (n : ℕ). 32768 ≤ n) (sym (h .size)) l) (within-later w w′ h)
+  pub made-full : (plain : Bool) → written plain (netIn v e k p) (region v makersAt e) ≡ written plain (netIn u e k p) (region u makersAt e)
+  made-full plain = ap₂ (λ (m : Net) (ks : List ℕ). written plain m ks) made-net made-makers
 
--- once the roots are found, and whatever was looked up since without a change
-module _ {u v x : List ℕ} {e k p : ℕ} (z : 32768 ≤ length u) (l : e ≤ 5120) (r : Rooted u v e k p) (j : x ≡ v) where
-  pub rooted-makers : region x makersAt e ≡ region u makersAt e
-  rooted-makers = ap (λ (y : List ℕ). region y makersAt e) j ∙ within-makers u v e l z (r .within)
+  pub made-known : All Known (netIn u e k p .elements) → All Known (netIn v e k p .elements)
+  made-known a = subst (λ (m : Net). All Known (m .elements)) (sym made-net) a
 
-  pub rooted-net : netIn x e k p ≡ netIn u e k p
-  rooted-net = ap (λ (y : List ℕ). netIn y e k p) j ∙ r .net
-
-  pub rooted-bytes : (w : Wish) → askedBytes w (netIn x e k p) (region x makersAt e) ≡ askedBytes w (netIn u e k p) (region u makersAt e)
-  rooted-bytes w = ap₂ (λ (m : Net) (ks : List ℕ). askedBytes w m ks) rooted-net rooted-makers
-
-  pub rooted-keeps : Keeps u x
-  rooted-keeps = subst (Keeps u) (sym j) (within-keeps u v z (r .within))
-
-  pub rooted-whole : Whole x e k p
-  rooted-whole = subst (λ (y : List ℕ). Whole y e k p) (sym j) (r .whole)
-
-  pub rooted-known : All Known (netIn u e k p .elements) → All Known (netIn x e k p .elements)
-  rooted-known a = subst (λ (m : Net). All Known (m .elements)) (sym rooted-net) a
+  pub made-keeps : Keeps u v
+  made-keeps = above-keeps u v (r .size) (l .around .size) (λ j h. l .around .above j (omega arith))
 
 -- ---- the card's check
 
@@ -69,9 +57,9 @@ pub check-refused : (a : Answer (Unit {0})) (n p : ℕ) (out : List ℕ) (bytes 
     → AnswerSays (refusedAs n p) out out (onPass a bytes)
 check-refused a n p out bytes e = rw (← e) (record { said = refl; wrote = refl })
 
-pub check-passed : (a : Answer (Unit {0})) (r : code.Answer) (out after : List ℕ) (bytes bytes′ : Answer (List ℕ)) → good tt ≡ a → bytes ≡ bytes′
-    → AnswerSays r out after bytes → AnswerSays r out after (onPass a bytes′)
-check-passed a r out after bytes bytes′ e f h = rw (← e, ← f) h
+pub check-passed : (a : Answer (Unit {0})) (r : code.Answer) (out after : List ℕ) (bytes : Answer (List ℕ)) → good tt ≡ a
+    → AnswerSays r out after bytes → AnswerSays r out after (onPass a bytes)
+check-passed a r out after bytes e h = rw (← e) h
 
 pub check-asked : (card : Bool) (s b : List ℕ) (t : ℕ) (m : Net) (r : code.Answer) (out after : List ℕ) (bytes : Answer (List ℕ)) → card ≡ true → b ≡ recordsOf s
     → AnswerSays r out after (onPass (profiled (chainIn b 256 t) (lean m)) bytes) → AnswerSays r out after (onPass (cardBy card (chainIn (recordsOf s) 256 t) m) bytes)

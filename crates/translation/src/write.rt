@@ -3,17 +3,17 @@ use crate::Wish;
 use card::Judged;
 use translator::Answer;
 use wiring::Counts;
-ghost use lib.ListN.{length};
+ghost use lib.ListN.{length, drop};
 ghost use Rattle.calculus.specs.Read.{recordsOf};
 ghost use Rattle.calculus.specs.Lean.{lean};
 ghost use Rattle.calculus.specs.Record.{All};
-ghost use Rattle.calculus.specs.Makers.{leanMakers, written};
+ghost use Rattle.calculus.specs.Makers.{written};
 ghost use Rattle.calculus.specs.Translate.{askedBytes};
 ghost use Rattle.memory.specs.Map.{makersAt, region, netIn, Ready};
 ghost use Rattle.calculus.specs.NetRead.{Known};
-ghost use Rattle.lean.specs.Table.{Whole};
+ghost use Rattle.lean.specs.Layout.{leanMakersIn, leanIn, LeanReady};
 ghost use Rattle.export_calculus.specs.Card.{profiled};
-ghost use Rattle.root_type.specs.Chains.{chainIn};
+ghost use Rattle.card.specs.Chains.{chainIn};
 ghost use Rattle.translator.specs.Made.{Keeps};
 ghost use Rattle.translator.specs.Said.{AnswerSays, inRoom};
 ghost use Rattle.translation.specs.Wished.{saidWish, cardBy, onPass};
@@ -38,42 +38,37 @@ fn write_full(
     Answer::Written(length)
 }
 
-// The lean netlist, likewise, once its roots are found.
-fn write_lean(
-    work: &[u16],
-    out: &mut [u8],
-    elements: usize,
-    wires: usize,
-    pins: usize,
-    plain: bool,
-) -> Answer
-    requires { ⌜ (Whole (now work) elements wires pins) × (All Known (netIn (now work) elements wires pins .elements)) ⌝ }
-    ensures { λ r. ⌜ AnswerSays r (now (out .entry)) (now (out .exit)) (inRoom (written plain (lean (netIn (now (work .entry)) elements wires pins)) (leanMakers (netIn (now (work .entry)) elements wires pins) (region (now (work .entry)) makersAt elements))) (length (now (out .entry)))) ⌝ }
+// The lean netlist, likewise, where it stands in the working memory by terminal.
+fn write_lean(work: &[u16], out: &mut [u8], end: usize, pins: usize, plain: bool) -> Answer
+    requires { ⌜ LeanReady (now work) end pins ⌝ }
+    ensures { λ r. ⌜ AnswerSays r (now (out .entry)) (now (out .exit)) (inRoom (written plain (leanIn (now (work .entry)) end pins) (leanMakersIn (now (work .entry)) end 0 (drop makersAt (now (work .entry))))) (length (now (out .entry)))) ⌝ }
 {
-    let n = lean::lean_length(work, elements, wires, pins, plain);
+    let n = lean::lean_length(work, end, pins, plain);
     if out.len() < n {
         return translator::refused(17, n);
     }
-    let written = lean::write_lean(work, out, elements, wires, pins, plain);
+    let written = lean::write_lean(work, out, end, pins, plain);
     Answer::Written(written)
 }
 
-// The one that is wished, once the roots are found.
-fn write_rooted(work: &[u16], out: &mut [u8], counts: Counts, wish: Wish) -> Answer
-    requires { ⌜ (Whole (now work) (counts .elements) (counts .wires) (counts .pins)) × (All Known (netIn (now work) (counts .elements) (counts .wires) (counts .pins) .elements)) ⌝ }
-    ensures { λ r. ⌜ AnswerSays r (now (out .entry)) (now (out .exit)) (inRoom (askedBytes (saidWish wish) (netIn (now (work .entry)) (counts .elements) (counts .wires) (counts .pins)) (region (now (work .entry)) makersAt (counts .elements))) (length (now (out .entry)))) ⌝ }
+// Without that check: the lean netlist is made of the full one where it is wished.
+fn write_plain(work: &mut [u16], out: &mut [u8], counts: Counts, wish: Wish) -> Answer
+    requires { ⌜ (Ready (now work) (counts .elements) (counts .wires) (counts .pins)) × (All Known (netIn (now work) (counts .elements) (counts .wires) (counts .pins) .elements)) ⌝ }
+    ensures { λ r. ⌜ (AnswerSays r (now (out .entry)) (now (out .exit)) (inRoom (askedBytes (saidWish wish) (netIn (now (work .entry)) (counts .elements) (counts .wires) (counts .pins)) (region (now (work .entry)) makersAt (counts .elements))) (length (now (out .entry)))))
+        × (Keeps (now (work .entry)) (now (work .exit))) ⌝ }
 {
     let elements = counts.elements;
     let wires = counts.wires;
     let pins = counts.pins;
     let plain = wish.plain;
     if wish.lean {
-        return write_lean(work, out, elements, wires, pins, plain);
+        let end = lean::make_lean(work, elements, wires, pins);
+        return write_lean(&work[..], out, end, pins, plain);
     }
-    write_full(work, out, elements, wires, pins, plain)
+    write_full(&work[..], out, elements, wires, pins, plain)
 }
 
-// The card's profile is judged, then the netlist that is wished is written.
+// The card's profile is judged over the lean netlist, then the one that is wished is written: making the lean one leaves the full one.
 fn write_card(
     records: &[u8],
     work: &mut [u16],
@@ -90,28 +85,17 @@ fn write_card(
     let elements = counts.elements;
     let wires = counts.wires;
     let pins = counts.pins;
-    lean::roots(work, elements, wires, pins);
-    match card::judge(records, root, work, elements, wires, pins) {
-        Judged::Refused(number, place) => translator::refused(number, place),
-        Judged::Passes => write_rooted(&work[..], out, counts, wish),
-    }
-}
-
-// Without that check, the roots are found only for the lean netlist.
-fn write_plain(work: &mut [u16], out: &mut [u8], counts: Counts, wish: Wish) -> Answer
-    requires { ⌜ (Ready (now work) (counts .elements) (counts .wires) (counts .pins)) × (All Known (netIn (now work) (counts .elements) (counts .wires) (counts .pins) .elements)) ⌝ }
-    ensures { λ r. ⌜ (AnswerSays r (now (out .entry)) (now (out .exit)) (inRoom (askedBytes (saidWish wish) (netIn (now (work .entry)) (counts .elements) (counts .wires) (counts .pins)) (region (now (work .entry)) makersAt (counts .elements))) (length (now (out .entry)))))
-        × (Keeps (now (work .entry)) (now (work .exit))) ⌝ }
-{
-    let elements = counts.elements;
-    let wires = counts.wires;
-    let pins = counts.pins;
     let plain = wish.plain;
-    if wish.lean {
-        lean::roots(work, elements, wires, pins);
-        return write_lean(&work[..], out, elements, wires, pins, plain);
+    let end = lean::make_lean(work, elements, wires, pins);
+    match card::judge(records, root, work, end, pins) {
+        Judged::Refused(number, place) => translator::refused(number, place),
+        Judged::Passes => {
+            if wish.lean {
+                return write_lean(&work[..], out, end, pins, plain);
+            }
+            write_full(&work[..], out, elements, wires, pins, plain)
+        }
     }
-    write_full(&work[..], out, elements, wires, pins, plain)
 }
 
 // What is wished: the check, and the netlist.

@@ -1,31 +1,24 @@
 -- The text as the working memory gives it is the definition's, and it is short enough for an offset. Assumes nothing.
-use Prim.Native.Nat.{ℕ, zero, suc, _+_, _*_, _≤_}
+use Prim.Native.Nat.{ℕ, zero, suc, _+_, _-_, _*_, _≤_}
 use mathlib.Core.Path.{_≡_, refl, ap}
-use mathlib.Core.Bool.{Bool, true, false, cond, not, _&&_}
+use mathlib.Core.Bool.{Bool, true, false, cond}
 use mathlib.Core.List.{List, [], _∷_, _++_, map}
 use native.Mathlib.Omega.{arith}
-use native.Mathlib.Nat.{le-refl}
-use lib.Dec.{T, leb, leb→le}
-use lib.ListN.{length, getD, length-append, length-map, List·getD-eq-default}
+use lib.Dec.{T, leb, leb→le, eqb, ltb}
+use lib.ListN.{length, getD, drop, length-append, length-map, List·getD-eq-default}
 use native.Mathlib.Decide.{decLe}
 use Rattle.laws.proofs.Below.{all, below}
-use Rattle.laws.proofs.Regions.{region-length}
-use Rattle.calculus.specs.Terms.{partAt}
-use Rattle.calculus.specs.Net.{Interface, Element, point, part, Wire}
-use Rattle.calculus.specs.Lean.{lean}
-use Rattle.export_calculus.specs.Verilog.{elementForms, portForms, assignForms, header, portsEnd, moduleEnd, filled, letter, Line, lineText, linesText, lineOfElement, lineOfWire, linesOfPins, linesOfPorts, moduleText}
-use Rattle.memory.specs.Map.{elementsAt, stackAt, region, elementsFrom, terminalOf, netIn}
-use Rattle.netlist.proofs.Elements.{kinds-length}
-use Rattle.circuit_theorems.proofs.Counts.{part-inputs}
-use Rattle.netlist.proofs.InMemory.{kind-here}
-use Rattle.lean.specs.Table.{entry, Leaned}
-use Rattle.lean.specs.InMemory.{undriven, keptIn, keepIn, inputIn, inputsIn, elementIn, leanWiresIn, pinIn}
-use Rattle.lean.specs.Fitting.{RowFits, LeanPinsFit}
-use Rattle.lean.proofs.LeanLaws.{lean-net, driven, kinds-low, pins-low}
+use Rattle.calculus.specs.Net.{Element, point, part, Wire, wireOf}
+use Rattle.export_calculus.specs.Verilog.{elementForms, portForms, assignForms, header, portsEnd, moduleEnd, filled, letter, Line, lineText, linesText, lineOfElement, lineOfWire, lineOfPin, lineOfPort, linesOfPins, linesOfPorts, moduleText}
+use Rattle.memory.specs.Map.{rootsAt, region, elementsFrom, terminalOf}
+use Rattle.lean.specs.Layout.{leanPinsAt, kindsFrom, leftOut, firstTerminal, elementAt, wireAt, rowIn, leanIn, LeanReady}
+use Rattle.lean.proofs.KindLaws.{region-next, region-end}
+use Rattle.lean.proofs.Rows.{row-text, row-few}
 use Rattle.lines.specs.Wrote.{WroteText}
 use Rattle.lines.proofs.Stores.{wrote-two}
-use Rattle.verilog.specs.InMemory.{elementText, wireText, keptText, wiresText, leanPins, pinsText, portsText}
+use Rattle.verilog.specs.InMemory.{elementText, wireText, elementLineAt, wireLineAt, pinLineAt, portLineAt, elementsText, wiresText, pinsText, portsText}
 use Rattle.verilog.proofs.Filling.{filled-few}
+use Rattle.verilog.proofs.TextRows.{elements-append, wires-append}
 
 -- ---- how long
 
@@ -57,67 +50,40 @@ texts-few fs h [] = omega arith
 texts-few fs h (l ∷ ls) =
     omega (arith, filled-few (l .x) (l .y) (l .z) (getD fs (l .form) []), h (l .form), texts-few fs h ls, length-append (lineText fs l) (linesText fs ls))
 
-pins-count : (k : ℕ) (ts : Interface) → length (linesOfPins k ts) ≡ length ts
-pins-count k [] = refl
-pins-count k (t ∷ ts) = ap suc (pins-count (k + 1) ts)
+line-few : (fs : List (List ℕ)) → Short fs → (l : Line) → length (lineText fs l) ≤ 256
+unfolding lineText
+line-few fs h l = omega (arith, filled-few (l .x) (l .y) (l .z) (getD fs (l .form) []), h (l .form))
 
-ports-count : (k : ℕ) (ts : Interface) → length (linesOfPorts k ts) ≡ length ts
-ports-count k [] = refl
-ports-count k (t ∷ ts) = ap suc (ports-count (k + 1) ts)
+pub elements-few : (v x : ℕ) → length (elementLineAt v x) ≤ 256
+unfolding elementText
+elements-few v x = omega (arith, texts-few elementForms elements-short (map lineOfElement (elementAt v x)), length-map (elementAt v x) lineOfElement, by (ltb v kindsFrom) (ltb v leftOut))
+  where
+    one : (k n : ℕ) → length (elementsFrom (k ∷ []) n) ≤ 1
+    one k n = either (eqb k 7)
+      where
+        either : (b : Bool) → length (cond b (point n ∷ []) (part k n ∷ [])) ≤ 1
+        either true = omega arith
+        either false = omega arith
 
-module _ (w : List ℕ) where
-  keep-few : (es : List Element) → length (keepIn w es) ≤ length es
-  keep-few [] = le-refl 0
-  keep-few (x ∷ es) = by (keptIn w x) (keep-few es)
-    where
-      by : (b : Bool) → length (keepIn w es) ≤ length es → length (cond b (x ∷ keepIn w es) (keepIn w es)) ≤ suc (length es)
-      by true h = omega arith
-      by false h = omega arith
+    by : (a b : Bool) → length {A = Element} (cond a [] (cond b (elementsFrom ((v - kindsFrom) ∷ []) (firstTerminal (v - kindsFrom) x)) [])) ≤ 1
+    by true b = omega arith
+    by false true = one (v - kindsFrom) (firstTerminal (v - kindsFrom) x)
+    by false false = omega arith
 
-  input-few : (i : ℕ) → length (inputIn w i) ≤ 1
-  input-few i = by (undriven w i)
-    where
-      by : (b : Bool) → length {A = Wire} (cond b [] (record { from = entry w (getD w i 0); to = i } ∷ [])) ≤ 1
-      by true = omega arith
-      by false = omega arith
+pub wires-few : (v x : ℕ) → length (wireLineAt v x) ≤ 256
+unfolding wireText
+wires-few v x = omega (arith, texts-few assignForms assigns-short (map lineOfWire (wireAt v x)), length-map (wireAt v x) lineOfWire, by (eqb v 0) (ltb v kindsFrom))
+  where
+    by : (a b : Bool) → length {A = Wire} (cond a [] (cond b (wireOf (v - 1) x ∷ []) [])) ≤ 1
+    by true b = omega arith
+    by false true = omega arith
+    by false false = omega arith
 
-  inputs-in-few : (c i : ℕ) → length (inputsIn w c i) ≤ c
-  inputs-in-few zero i = le-refl 0
-  inputs-in-few (suc c) i = omega (arith, input-few i, inputs-in-few c (i + 1), length-append (inputIn w i) (inputsIn w c (i + 1)))
+pub pins-few : (v x : ℕ) → length (pinLineAt v x) ≤ 256
+pins-few v x = line-few assignForms assigns-short (lineOfPin x (terminalOf v))
 
-  element-few : (x : Element) → length (elementIn w x) ≤ 2
-  element-few (part p i) = omega (arith, inputs-in-few (partAt p .inputs) i, part-inputs p)
-  element-few (point i) = by (keptIn w (point i) && not (undriven w i))
-    where
-      by : (b : Bool) → length {A = Wire} (cond b (record { from = i + 1; to = i } ∷ []) []) ≤ 2
-      by true = omega arith
-      by false = omega arith
-
-  wires-few : (es : List Element) → length (leanWiresIn w es) ≤ 2 * length es
-  wires-few [] = le-refl 0
-  wires-few (x ∷ es) = omega (arith, element-few x, wires-few es, length-append (elementIn w x) (leanWiresIn w es))
-
-  kept-most : (ks : List ℕ) → length (keptText w ks 0) ≤ 256 * length ks
-  unfolding keptText elementText
-  kept-most ks =
-      let es = elementsFrom ks 0 in
-      omega (arith, texts-few elementForms elements-short (map lineOfElement (keepIn w es)), length-map (keepIn w es) lineOfElement, keep-few es, kinds-length ks 0)
-
-  wires-most : (ks : List ℕ) → length (wiresText w ks 0) ≤ 512 * length ks
-  unfolding wiresText wireText
-  wires-most ks =
-      let es = elementsFrom ks 0 in
-      omega (arith, texts-few assignForms assigns-short (map lineOfWire (leanWiresIn w es)), length-map (leanWiresIn w es) lineOfWire, wires-few es, kinds-length ks 0)
-
-  pins-most : (cs : List ℕ) → length (pinsText w 0 cs) ≤ 256 * length cs
-  unfolding pinsText
-  pins-most cs =
-      omega (arith, texts-few assignForms assigns-short (linesOfPins 0 (leanPins w cs)), pins-count 0 (leanPins w cs), length-map cs (λ c. pinIn w (terminalOf c)))
-
-  ports-most : (cs : List ℕ) → length (portsText w 0 cs) ≤ 256 * length cs
-  unfolding portsText
-  ports-most cs =
-      omega (arith, texts-few portForms ports-short (linesOfPorts 0 (leanPins w cs)), ports-count 0 (leanPins w cs), length-map cs (λ c. pinIn w (terminalOf c)))
+pub ports-few : (v x : ℕ) → length (portLineAt v x) ≤ 256
+ports-few v x = line-few portForms ports-short (lineOfPort x (terminalOf v))
 
 -- ---- the seven pieces
 
@@ -141,63 +107,48 @@ closing-length : length (filled portsEnd 0 0 0) ≡ 4
 unfolding portsEnd
 closing-length = ap length closing-is
 
-module _ (w : List ℕ) (e k p : ℕ) (f : Leaned w e k p) where
-  abbrev ks : List ℕ
-  ks = region w elementsAt e
+-- ---- the pins from the j-th on
 
-  abbrev cs : List ℕ
-  cs = region w stackAt p
+module _ (w : List ℕ) (at p : ℕ) (size : at + p ≤ length w) where
+  pins-are : (c j : ℕ) → j + c ≡ p → linesText assignForms (linesOfPins j (map terminalOf (drop j (region w at p)))) ≡ rowIn pinLineAt at w c j
+  pins-are zero j h = rw (region-end w at p j size (omega arith))
+  pins-are (suc c) j h = rw (region-next w at p j size (omega arith)) (ap (λ (t : List ℕ). lineText assignForms (lineOfPin j (terminalOf (getD w (at + j) 0))) ++ t) (pins-are c (j + 1) (omega arith)))
 
-  pub module-is : moduleText (lean (netIn w e k p)) ≡ header ++ (portsText w 0 cs ++ (portsEnd ++ (keptText w ks 0 ++ (wiresText w ks 0 ++ (pinsText w 0 cs ++ moduleEnd)))))
-  unfolding moduleText portsText keptText elementText wiresText wireText pinsText
-  module-is = ap moduleText (lean-net w e k p (f .whole))
+  ports-are : (c j : ℕ) → j + c ≡ p → linesText portForms (linesOfPorts j (map terminalOf (drop j (region w at p)))) ≡ rowIn portLineAt at w c j
+  ports-are zero j h = rw (region-end w at p j size (omega arith))
+  ports-are (suc c) j h = rw (region-next w at p j size (omega arith)) (ap (λ (t : List ℕ). lineText portForms (lineOfPort j (terminalOf (getD w (at + j) 0))) ++ t) (ports-are c (j + 1) (omega arith)))
 
-  few-kinds : length ks ≤ 5120
-  few-kinds = let z = f .whole .ready .size in let l = f .whole .ready .few-elements in omega (arith, region-length w elementsAt e (omega arith))
+module _ (w : List ℕ) (end p : ℕ) (f : LeanReady w end p) where
+  pins-size : leanPinsAt + p ≤ length w
+  pins-size = let z = f .size in let l = f .few-pins in omega arith
 
-  few-codes : length cs ≤ 128
-  few-codes = let z = f .whole .ready .size in let l = f .whole .ready .few-pins in omega (arith, region-length w stackAt p (omega arith))
+  pub module-is : moduleText (leanIn w end p) ≡ header ++ (portsText w p ++ (portsEnd ++ (elementsText w end ++ (wiresText w end ++ (pinsText w p ++ moduleEnd)))))
+  unfolding moduleText elementText wireText leanIn
+  module-is =
+      rw (← row-text elementAt rootsAt w elementText refl elements-append end 0, ← row-text wireAt rootsAt w wireText refl wires-append end 0, ← pins-are w leanPinsAt p pins-size p 0 (omega arith), ← ports-are w leanPinsAt p pins-size p 0 (omega arith))
 
-  row-fits : (bytes : List ℕ) (from : ℕ) → from + length bytes ≤ 4294967296 → RowFits w e bytes 4294967296 from
-  row-fits bytes from h = record {
-    driven = driven w e k p (f .whole);
-    few = f .whole .ready .few-elements;
-    known = kind-here w e k p (f .whole .ready) (f .known);
-    low = kinds-low w e k p (f .whole);
-    target = h;
-  }
+  -- how far each piece comes
 
-  pins-fit : (bytes : List ℕ) (from : ℕ) → from + length bytes ≤ 4294967296 → LeanPinsFit w p bytes 4294967296 from
-  pins-fit bytes from h = record {
-    size = f .whole .ready .size;
-    few = f .whole .ready .few-pins;
-    low = pins-low w e k p (f .whole);
-    target = h;
-  }
+  pub opening-low : {o o₁ : List ℕ} {a : ℕ} → WroteText o 0 (filled header 0 0 0) o₁ a → a ≤ 30
+  opening-low q = omega (arith, q .offset, opening-length)
 
-  pub ports-fit : (a : ℕ) → a ≡ 0 + length (filled header 0 0 0) → LeanPinsFit w p (portsText w 0 cs) 4294967296 a
-  ports-fit a h = pins-fit (portsText w 0 cs) a (omega (arith, opening-length, ports-most w cs, few-codes))
+  pub ports-low : {o o₁ : List ℕ} {a b : ℕ} → a ≤ 30 → WroteText o a (portsText w p) o₁ b → b ≤ 100000
+  ports-low h q = let l = f .few-pins in omega (arith, q .offset, row-few portLineAt leanPinsAt w 256 ports-few p 0)
 
-  pub closing-low : (a b : ℕ) → a ≡ 0 + length (filled header 0 0 0) → b ≡ a + length (portsText w 0 cs) → b ≤ 100000
-  closing-low a b h g = omega (arith, opening-length, ports-most w cs, few-codes)
+  pub closing-low : {o o₁ : List ℕ} {b c : ℕ} → b ≤ 100000 → WroteText o b (filled portsEnd 0 0 0) o₁ c → c ≤ 100004
+  closing-low h q = omega (arith, q .offset, closing-length)
 
-  pub elements-fit : (b c : ℕ) → b ≤ 100000 → c ≡ b + length (filled portsEnd 0 0 0) → RowFits w e (keptText w ks 0) 4294967296 c
-  elements-fit b c h g = row-fits (keptText w ks 0) c (omega (arith, closing-length, kept-most w ks, few-kinds))
+  pub elements-low : {o o₁ : List ℕ} {c d : ℕ} → c ≤ 100004 → WroteText o c (elementsText w end) o₁ d → d ≤ 3000000
+  elements-low h q = let l = f .below in omega (arith, q .offset, row-few elementLineAt rootsAt w 256 elements-few end 0)
 
-  pub wires-fit : (b c d : ℕ) → b ≤ 100000 → c ≡ b + length (filled portsEnd 0 0 0) → d ≡ c + length (keptText w ks 0) → RowFits w e (wiresText w ks 0) 4294967296 d
-  wires-fit b c d h g i = row-fits (wiresText w ks 0) d (omega (arith, closing-length, kept-most w ks, wires-most w ks, few-kinds))
+  pub wires-low : {o o₁ : List ℕ} {d t : ℕ} → d ≤ 3000000 → WroteText o d (wiresText w end) o₁ t → t ≤ 6000000
+  wires-low h q = let l = f .below in omega (arith, q .offset, row-few wireLineAt rootsAt w 256 wires-few end 0)
 
-  pub third-low : (b c d t : ℕ) → b ≤ 100000 → c ≡ b + length (filled portsEnd 0 0 0) → d ≡ c + length (keptText w ks 0) → t ≡ d + length (wiresText w ks 0) → t ≤ 10000000
-  third-low b c d t h g i j = omega (arith, closing-length, kept-most w ks, wires-most w ks, few-kinds)
+  pub pins-low : {o o₁ : List ℕ} {t l : ℕ} → t ≤ 6000000 → WroteText o t (pinsText w p) o₁ l → l ≤ 16777216
+  pins-low h q = let l = f .few-pins in omega (arith, q .offset, row-few pinLineAt leanPinsAt w 256 pins-few p 0)
 
-  pub assigns-fit : (t : ℕ) → t ≤ 10000000 → LeanPinsFit w p (pinsText w 0 cs) 4294967296 t
-  assigns-fit t h = pins-fit (pinsText w 0 cs) t (omega (arith, pins-most w cs, few-codes))
-
-  pub last-low : (t l : ℕ) → t ≤ 10000000 → l ≡ t + length (pinsText w 0 cs) → l ≤ 4294967296
-  last-low t l h g = omega (arith, pins-most w cs, few-codes)
-
-  pub module-wrote : {o o₁ o₂ o₃ o₄ o₅ o₆ o₇ : List ℕ} {a b c d t l r : ℕ} → WroteText o 0 (filled header 0 0 0) o₁ a → WroteText o₁ a (portsText w 0 cs) o₂ b → WroteText o₂ b (filled portsEnd 0 0 0) o₃ c
-      → WroteText o₃ c (keptText w ks 0) o₄ d → WroteText o₄ d (wiresText w ks 0) o₅ t → WroteText o₅ t (pinsText w 0 cs) o₆ l → WroteText o₆ l (filled moduleEnd 0 0 0) o₇ r
-      → WroteText o 0 (moduleText (lean (netIn w e k p))) o₇ r
+  pub module-wrote : {o o₁ o₂ o₃ o₄ o₅ o₆ o₇ : List ℕ} {a b c d t l r : ℕ} → WroteText o 0 (filled header 0 0 0) o₁ a → WroteText o₁ a (portsText w p) o₂ b → WroteText o₂ b (filled portsEnd 0 0 0) o₃ c
+      → WroteText o₃ c (elementsText w end) o₄ d → WroteText o₄ d (wiresText w end) o₅ t → WroteText o₅ t (pinsText w p) o₆ l → WroteText o₆ l (filled moduleEnd 0 0 0) o₇ r
+      → WroteText o 0 (moduleText (leanIn w end p)) o₇ r
   module-wrote p₁ p₂ p₃ p₄ p₅ p₆ p₇ =
       rw (module-is, ← opening-is, ← closing-is, ← ending-is) (wrote-two p₁ (wrote-two p₂ (wrote-two p₃ (wrote-two p₄ (wrote-two p₅ (wrote-two p₆ p₇))))))

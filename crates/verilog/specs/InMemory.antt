@@ -1,10 +1,14 @@
--- The text of the lean netlist as the tables of drivers and roots in the working memory give it. Assumes nothing.
+-- The text of the lean netlist that stands in the working memory by terminal, and what is answered for it. Assumes nothing.
 use Prim.Native.Nat.{ℕ}
 use mathlib.Core.List.{List, map}
-use Rattle.calculus.specs.Net.{Interface, Element, Wire}
-use Rattle.export_calculus.specs.Verilog.{elementForms, portForms, assignForms, linesText, lineOfElement, lineOfWire, linesOfPins, linesOfPorts}
-use Rattle.memory.specs.Map.{elementsFrom, terminalOf}
-use Rattle.lean.specs.InMemory.{keepIn, leanWiresIn, pinIn}
+use lib.Dec.{leb}
+use lib.ListN.{length}
+use Rattle.calculus.specs.Answer.{Answer, good, _>>=_, need}
+use Rattle.calculus.specs.Net.{Element, Wire, Net}
+use Rattle.export_calculus.specs.Card.{needAll, noRing, inputPlace}
+use Rattle.export_calculus.specs.Verilog.{elementForms, portForms, assignForms, lineText, linesText, lineOfElement, lineOfWire, lineOfPin, lineOfPort, moduleText}
+use Rattle.memory.specs.Map.{rootsAt, terminalOf}
+use Rattle.lean.specs.Layout.{leanPinsAt, elementAt, wireAt, rowIn}
 
 unfoldable pub elementText : List Element → List ℕ
 elementText es = linesText elementForms (map lineOfElement es)
@@ -12,19 +16,39 @@ elementText es = linesText elementForms (map lineOfElement es)
 unfoldable pub wireText : List Wire → List ℕ
 wireText ws = linesText assignForms (map lineOfWire ws)
 
--- of elements whose kinds stand one after the other, the first at terminal n, and of the wires to them
-unfoldable pub keptText : List ℕ → List ℕ → ℕ → List ℕ
-keptText w ks n = elementText (keepIn w (elementsFrom ks n))
+-- ---- of entry v of terminal x, and of the pin of code v at position x
 
-unfoldable pub wiresText : List ℕ → List ℕ → ℕ → List ℕ
-wiresText w ks n = wireText (leanWiresIn w (elementsFrom ks n))
+abbrev pub elementLineAt : ℕ → ℕ → List ℕ
+elementLineAt v x = elementText (elementAt v x)
 
--- of pins by their codes, from position i on
-abbrev pub leanPins : List ℕ → List ℕ → Interface
-leanPins w cs = map (λ c. pinIn w (terminalOf c)) cs
+abbrev pub wireLineAt : ℕ → ℕ → List ℕ
+wireLineAt v x = wireText (wireAt v x)
 
-unfoldable pub pinsText : List ℕ → ℕ → List ℕ → List ℕ
-pinsText w i cs = linesText assignForms (linesOfPins i (leanPins w cs))
+abbrev pub pinLineAt : ℕ → ℕ → List ℕ
+pinLineAt v x = lineText assignForms (lineOfPin x (terminalOf v))
 
-unfoldable pub portsText : List ℕ → ℕ → List ℕ → List ℕ
-portsText w i cs = linesText portForms (linesOfPorts i (leanPins w cs))
+abbrev pub portLineAt : ℕ → ℕ → List ℕ
+portLineAt v x = lineText portForms (lineOfPort x (terminalOf v))
+
+-- ---- of the first so many
+
+abbrev pub elementsText : List ℕ → ℕ → List ℕ
+elementsText w c = rowIn elementLineAt rootsAt w c 0
+
+abbrev pub wiresText : List ℕ → ℕ → List ℕ
+wiresText w c = rowIn wireLineAt rootsAt w c 0
+
+abbrev pub pinsText : List ℕ → ℕ → List ℕ
+pinsText w c = rowIn pinLineAt leanPinsAt w c 0
+
+abbrev pub portsText : List ℕ → ℕ → List ℕ
+portsText w c = rowIn portLineAt leanPinsAt w c 0
+
+-- ---- 18 for a kept ring point, then 17
+
+unfoldable pub leanExported : Net → ℕ → Answer (List ℕ)
+leanExported m room = do
+  _ ← needAll (noRing (m .pins)) 18 inputPlace (m .elements)
+  let text = moduleText m in do
+    _ ← need (leb (length text) room) 17 (length text)
+    good text

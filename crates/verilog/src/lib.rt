@@ -8,51 +8,51 @@ use translator::Made;
 use wiring::Counts;
 ghost use mathlib.Core.Path.{_≡_};
 ghost use lib.ListN.{length};
-ghost use Rattle.calculus.specs.Lean.{lean};
 ghost use Rattle.calculus.specs.NetRead.{Known};
 ghost use Rattle.calculus.specs.Record.{All};
-ghost use Rattle.lean.specs.Table.{Leaned};
+ghost use Rattle.lean.specs.Layout.{leanIn, LeanReady};
 ghost use Rattle.export_calculus.specs.Verilog.{moduleText, exported, export, verilogCall};
 ghost use Rattle.memory.specs.Map.{netIn, Ready};
 ghost use Rattle.lines.specs.Wrote.{WroteText};
+ghost use Rattle.verilog.specs.InMemory.{leanExported};
 ghost use Rattle.translator.specs.Made.{Keeps};
 ghost use Rattle.translator.specs.Said.{AnswerSays, called};
 
 // The module's text, stored as far as the output reaches, and its length. So an output of any length tells the length, and one that is
 // long enough has the whole text.
-fn put_module(work: &[u16], out: &mut [u8], elements: usize, wires: usize, pins: usize) -> usize
-    requires { ⌜ Leaned (now work) elements wires pins ⌝ }
-    ensures { λ r. ⌜ WroteText (now (out .entry)) 0 (moduleText (lean (netIn (now (work .entry)) elements wires pins))) (now (out .exit)) r ⌝ }
+fn put_module(work: &[u16], out: &mut [u8], end: usize, pins: usize) -> usize
+    requires { ⌜ LeanReady (now work) end pins ⌝ }
+    ensures { λ r. ⌜ WroteText (now (out .entry)) 0 (moduleText (leanIn (now (work .entry)) end pins)) (now (out .exit)) r ⌝ }
 {
     let ports = form::put_form(out, 0, b"module circuit (\n  input clock", 0, 0, 0);
-    let closing = walk::put_ports(work, pins, out, ports);
+    let closing = walk::put_ports(work, end, pins, out, ports);
     let first = form::put_form(out, closing, b"\n);\n", 0, 0, 0);
-    let second = walk::put_elements(work, elements, out, first);
-    let third = walk::put_wires(work, elements, out, second);
-    let last = walk::put_pins(work, pins, out, third);
+    let second = walk::put_elements(work, end, pins, out, first);
+    let third = walk::put_wires(work, end, pins, out, second);
+    let last = walk::put_pins(work, end, pins, out, third);
     form::put_form(out, last, b"endmodule\n", 0, 0, 0)
 }
 
-// Of the netlist that stands in the working memory with its roots: 18 where a ring point is kept, then 17 with the length needed where the
-// output is shorter, or the module at the start of the output. The first pass only tells the length.
-fn export_lean(work: &[u16], out: &mut [u8], elements: usize, wires: usize, pins: usize) -> Answer
-    requires { ⌜ Leaned (now work) elements wires pins ⌝ }
-    ensures { λ r. ⌜ AnswerSays r (now (out .entry)) (now (out .exit)) (exported (netIn (now (work .entry)) elements wires pins) (length (now (out .entry)))) ⌝ }
+// Of the lean netlist that stands in the working memory: 18 where a ring point is kept, then 17 with the length needed where the output is
+// shorter, or the module at the start of the output. The first pass only tells the length.
+fn export_lean(work: &[u16], out: &mut [u8], end: usize, pins: usize) -> Answer
+    requires { ⌜ LeanReady (now work) end pins ⌝ }
+    ensures { λ r. ⌜ AnswerSays r (now (out .entry)) (now (out .exit)) (leanExported (leanIn (now (work .entry)) end pins) (length (now (out .entry)))) ⌝ }
 {
-    let place = ring_points::lowest(work, elements, wires, pins);
+    let place = card::rings::lowest(work, end, pins);
     if place < 8192 {
         return translator::refused(18, place);
     }
     let mut none = [0u8; 1];
-    let n = put_module(work, &mut none, elements, wires, pins);
+    let n = put_module(work, &mut none, end, pins);
     if out.len() < n {
         return translator::refused(17, n);
     }
-    let written = put_module(work, out, elements, wires, pins);
+    let written = put_module(work, out, end, pins);
     Answer::Written(written)
 }
 
-// .. with its roots still to be found.
+// .. still to be made of the full one.
 fn export_net(work: &mut [u16], out: &mut [u8], counts: Counts) -> Answer
     requires { ⌜ (Ready (now work) (counts .elements) (counts .wires) (counts .pins)) × (All Known (netIn (now work) (counts .elements) (counts .wires) (counts .pins) .elements)) ⌝ }
     ensures { λ r. ⌜ (AnswerSays r (now (out .entry)) (now (out .exit)) (exported (netIn (now (work .entry)) (counts .elements) (counts .wires) (counts .pins)) (length (now (out .entry)))))
@@ -61,8 +61,8 @@ fn export_net(work: &mut [u16], out: &mut [u8], counts: Counts) -> Answer
     let elements = counts.elements;
     let wires = counts.wires;
     let pins = counts.pins;
-    lean::roots(work, elements, wires, pins);
-    export_lean(&work[..], out, elements, wires, pins)
+    let end = lean::make_lean(work, elements, wires, pins);
+    export_lean(&work[..], out, end, pins)
 }
 
 // The netlist is made and exported. The working memory is not yet cleared.

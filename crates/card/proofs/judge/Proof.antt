@@ -1,43 +1,68 @@
--- By the root's type, and then by the first rule that fails. Assumes nothing.
+-- By the first rule that fails. Assumes nothing.
 use borrow.Author.Needs.{needs}
-use borrow.Author.Tests.{not-true}
+use borrow.Author.Tests.{not-true, not-false}
 use mathlib.Core.Path.{_≡_, refl, sym, ap, _∙_}
 use mathlib.Core.Bool.{Bool}
 use mathlib.Core.List.{List}
 use Prim.Native.Nat.{ℕ}
-use Rattle.calculus.specs.Lean.{lean}
 use Rattle.export_calculus.specs.Card.{needAll, noRing, inputPlace, profiled}
-use Rattle.memory.specs.Map.{netIn, elementsAt, region}
-use Rattle.lean.specs.Table.{Whole}
-use Rattle.lean.proofs.LeanLaws.{kinds-low}
-use Rattle.ring_points.specs.Rings.{ringFrom, answerOf}
-use Rattle.ring_points.proofs.RingLaws.{ring-answer}
-use Rattle.card.proofs.JudgeLaws.{by-type, by-all}
+use Rattle.lean.specs.Layout.{leanIn, LeanReady}
+use Rattle.card.specs.Rings.{lowestFrom, answerOf}
+use Rattle.card.proofs.RingLaws.{lowest-answer}
+use Rattle.card.proofs.JudgeLaws.{no-chain, ring-there, unread-there, passes}
 use Rattle.card.proofs.judge.Statement.{statement}
 use Rattle.card.proofs.judge.Tie as tie
 
-rings : (w : List ℕ) (e k p : ℕ) (q : Whole w e k p) (r : ℕ) → r ≡ ringFrom w (region w elementsAt e) 0
-    → needAll (noRing (lean (netIn w e k p) .pins)) 28 inputPlace (lean (netIn w e k p) .elements) ≡ answerOf 28 r
-rings w e k p q r h = ring-answer w e k p q 28 (kinds-low w e k p q) ∙ ap (answerOf 28) (sym h)
+rings : (w : List ℕ) (end pins : ℕ) → LeanReady w end pins → (r : ℕ) → r ≡ lowestFrom w end 0
+    → needAll (noRing (leanIn w end pins .pins)) 28 inputPlace (leanIn w end pins .elements) ≡ answerOf 28 r
+rings w end pins q r h = lowest-answer w end pins q 28 ∙ ap (answerOf 28) (sym h)
 
 returns : tie.Need-returns
 returns c =
-    let a = c .before .before .before .before .before .args in (
-      c .first-broken .ensures
-          ∙ by-type _ 8192 8192 (lean (netIn (a .work .now) (a .elements) (a .wires) (a .pins))) (not-true _ (c .before .if1 .taken))
-          ∙ ap (λ (b : Bool). profiled b (lean (netIn (a .work .now) (a .elements) (a .wires) (a .pins)))) (c .before .before .is-chain .ensures),
-      refl,
-    )
+    let a = c .before .before .before .before .args in
+    let m = leanIn (a .work .now) (a .end) (a .pins) in
+    (no-chain _ m (not-true _ (c .if1 .taken)) ∙ ap (λ (b : Bool). profiled b m) (c .before .is-chain .ensures), refl)
 
 returns-2 : tie.Need-returns-2
 returns-2 c =
-    let s = c .before .before .before .before .before .before .before .before .before in
+    let l = c .before in
+    let f = l .before .before in
+    let s = f .before .before .before .before in
     let a = s .args in
-    let f = c .before .before .before .find .ensures in (
-      c .first-broken2 .ensures
-          ∙ by-all _ _ (c .before .before .before .find .result .unread) (lean (netIn (a .work .now) (a .elements) (a .wires) (a .pins))) (rings (a .work .now) (a .elements) (a .wires) (a .pins) (s .pre) _ (f .0)) (f .1 .0)
-          ∙ ap (λ (b : Bool). profiled b (lean (netIn (a .work .now) (a .elements) (a .wires) (a .pins)))) (c .before .before .before .before .before .before .is-chain .ensures),
-      f .1 .1,
+    let m = leanIn (a .work .now) (a .end) (a .pins) in (
+      ring-there _ m (not-false _ (f .if1 .left)) (l .lowest .result) (rings (a .work .now) (a .end) (a .pins) (s .pre .ready) (l .lowest .result) (l .lowest .ensures)) (c .if2 .taken)
+          ∙ ap (λ (b : Bool). profiled b m) (f .before .is-chain .ensures),
+      refl,
+    )
+
+returns-3 : tie.Need-returns-3
+returns-3 c =
+    let u = c .before .before .before in
+    let e = u .before .before in
+    let l = e .before in
+    let f = l .before .before in
+    let s = f .before .before .before .before in
+    let a = s .args in
+    let m = leanIn (a .work .now) (a .end) (a .pins) in (
+      unread-there _ m (not-false _ (f .if1 .left)) (l .lowest .result) (rings (a .work .now) (a .end) (a .pins) (s .pre .ready) (l .lowest .result) (l .lowest .ensures)) (e .if2 .left)
+          (u .unread .result) (u .unread .ensures .0) (c .if3 .taken)
+          ∙ ap (λ (b : Bool). profiled b m) (f .before .is-chain .ensures),
+      u .unread .ensures .1,
+    )
+
+returns-4 : tie.Need-returns-4
+returns-4 c =
+    let u = c .before .before .before in
+    let e = u .before .before in
+    let l = e .before in
+    let f = l .before .before in
+    let s = f .before .before .before .before in
+    let a = s .args in
+    let m = leanIn (a .work .now) (a .end) (a .pins) in (
+      passes _ m (not-false _ (f .if1 .left)) (l .lowest .result) (rings (a .work .now) (a .end) (a .pins) (s .pre .ready) (l .lowest .result) (l .lowest .ensures)) (e .if2 .left)
+          (u .unread .result) (u .unread .ensures .0) (c .if3 .left)
+          ∙ ap (λ (b : Bool). profiled b m) (f .before .is-chain .ensures),
+      u .unread .ensures .1,
     )
 
 pub judge-spec : {M : Type 1} → statement M
@@ -45,9 +70,12 @@ judge-spec =
     tie.close
     (tie.spec
     (λ c κs. search needs)
-    (λ c κs. search needs)
     returns
     (λ c κs. search needs)
+    (λ c. search needs)
+    returns-2
     (λ c κs. search needs)
     (λ c. search needs)
-    returns-2)
+    returns-3
+    (λ c. search needs)
+    returns-4)

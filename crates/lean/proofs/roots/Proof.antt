@@ -69,9 +69,11 @@ returns c =
     let g = c .before .before .before .before in
     let b = started g in
     let s = g .before .before .before .before .before .before .before in
-    let a = s .args in
-    rooted (a .work .now) (l .work) (a .elements) (a .wires) (a .pins) (s .pre) (within-then (b .within) (l .inv .1 .0)) (l .inv .1 .1 .0)
-    (λ x t. l .inv .1 .1 .1 x (omega (arith, b .before x t)))
+    let a = s .args in (
+      b .ends,
+      rooted (a .work .now) (l .work) (a .elements) (a .wires) (a .pins) (s .pre) (within-then (b .within) (l .inv .1 .0)) (l .inv .1 .1 .0)
+          (λ x t. l .inv .1 .1 .1 x (omega (arith, b .before x t))),
+    )
 
 pub roots-spec : {M : Type 1} → statement M
 roots-spec =

@@ -13,7 +13,7 @@ returns c =
     let x = c .before in
     let s = x .before .before .before .before in
     let a = s .args in
-    rw (c .refused .ensures) (ring-says (a .work .now) (a .elements) (a .wires) (a .pins) (s .pre .whole) _ (x .before .lowest .ensures) (a .out .now) (x .if1 .taken))
+    rw (c .refused .ensures) (ring-says (a .work .now) (a .end) (a .pins) (s .pre) _ (x .before .lowest .ensures) (a .out .now) (x .if1 .taken))
 
 slice-aggregate-put-module : tie.Need-slice-aggregate-put-module
 slice-aggregate-put-module c = search needs
@@ -29,7 +29,7 @@ returns-2 c =
     let s = l .before .before .before .before in
     let a = s .args in
     rw (c .refused2 .ensures)
-    (short-says (a .work .now) (a .elements) (a .wires) (a .pins) (s .pre .whole) _ (l .before .lowest .ensures) (a .out .now) (l .if1 .left) _ (p .put-module .ensures .offset) (x .if2 .taken))
+    (short-says (a .work .now) (a .end) (a .pins) (s .pre) _ (l .before .lowest .ensures) (a .out .now) (l .if1 .left) _ (p .put-module .ensures .offset) (x .if2 .taken))
 
 put-module-requires-2 : tie.Need-put-module-requires-2
 put-module-requires-2 c κs = search needs
@@ -46,7 +46,7 @@ returns-3 c =
     let a = s .args in
     let n = p .put-module .ensures .offset in
     let z = x .if2 .left in
-    module-says (a .work .now) (a .elements) (a .wires) (a .pins) (s .pre .whole) _ (l .before .lowest .ensures) (a .out .now) (l .if1 .left) (omega arith) (c .before .before .put-module2 .ensures)
+    module-says (a .work .now) (a .end) (a .pins) (s .pre) _ (l .before .lowest .ensures) (a .out .now) (l .if1 .left) (omega arith) (c .before .before .put-module2 .ensures)
 
 pub export-lean-spec : {M : Type 1} → statement M
 export-lean-spec =

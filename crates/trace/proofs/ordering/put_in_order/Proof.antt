@@ -12,7 +12,7 @@ list-requires c κs =
     let s = c .before .before .before .before .before .before in
     let a = s .args in
     let m = c .before .before .before .make in
-    choosable (m .last .0) (lean (netIn (a .work .now) (a .elements) (a .wires) (a .pins))) (m .result) (a .pins) (m .ensures .tabled) (m .ensures .roots)
+    choosable (m .last .0) (lean (netIn (a .work .now) (a .elements) (a .wires) (a .pins))) (m .result) (a .pins) (m .ensures .tabled)
 
 settle-requires : tie.Need-settle-requires
 settle-requires c κs =

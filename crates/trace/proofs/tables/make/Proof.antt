@@ -1,33 +1,18 @@
--- Naming, linking, rooting. Assumes nothing.
+-- The lean netlist, its table and its pins. Assumes nothing.
 use borrow.Author.Needs.{needs}
-use Rattle.trace.proofs.StageLaws.{namable, made-of}
-use Rattle.trace.proofs.LeanTables.{linkable, rootable}
+use Rattle.trace.proofs.LeanTables.{made}
 use Rattle.trace.proofs.tables.make.Statement.{statement}
 use Rattle.trace.proofs.tables.make.Tie as tie
 
-name-requires : tie.Need-name-requires
-name-requires c κs = let s = c .before .before in namable (s .args .work .now) (s .args .elements) (s .args .wires) (s .args .pins) (s .pre)
-
-link-requires : tie.Need-link-requires
-link-requires c κs =
-    let n = c .before .before .before .name in
-    let s = c .before .before .before .before .before .before in
-    linkable (s .args .work .now) (s .args .elements) (s .args .wires) (s .args .pins) (s .pre .whole) (s .pre .known) (n .last .0) (n .result) (n .ensures)
-
-root-pins-requires : tie.Need-root-pins-requires
-root-pins-requires c κs =
-    let l = c .before .before .before .link in
-    let n = c .before .before .before .before .before .before .before .name in
-    let s = c .before .before .before .before .before .before .before .before .before .before in
-    rootable (s .args .work .now) (s .args .elements) (s .args .wires) (s .args .pins) (s .pre .whole) (s .pre .known) (n .last .0) (n .result) (n .ensures) (l .last .0) (l .ensures)
-
 returns : tie.Need-returns
 returns c =
-    let r = c .before .before .root-pins in
-    let l = c .before .before .before .before .before .before .link in
-    let n = c .before .before .before .before .before .before .before .before .before .before .name in
-    let s = c .before .before .before .before .before .before .before .before .before .before .before .before .before in
-    made-of (s .args .work .now) (s .args .elements) (s .args .wires) (s .args .pins) (s .pre) (n .last .0) (n .result) (n .ensures) (l .last .0) (l .ensures) (r .last .0) (r .ensures)
+    let d = c .before .before in
+    let t = d .before .before .before .before in
+    let m = t .before .before .before .before in
+    let s = m .before .before .before in
+    let a = s .args in
+    made (a .work .now) (a .elements) (a .wires) (a .pins) (s .pre .0) (m .make-lean .last .0) (m .make-lean .result) (m .make-lean .ensures) (t .copy-table .last .0) (t .copy-table .ensures) (d .copy-pins .last .0) (d .copy-pins .ensures)
 
 pub make-spec : {M : Type 1} → statement M
-make-spec = tie.close (tie.spec name-requires link-requires root-pins-requires (λ c. search needs) returns)
+make-spec =
+    tie.close (tie.spec (λ c κs. search needs) (λ c κs. search needs) (λ c κs. search needs) (λ c. search needs) returns)

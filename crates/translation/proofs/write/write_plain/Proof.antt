@@ -1,21 +1,22 @@
 -- `translation::write::write_plain` meets its contract: the netlist that is wished is written. Assumes nothing.
-use mathlib.Core.Path.{refl}
+use mathlib.Core.Path.{refl, subst}
+use mathlib.Core.List.{List}
+use Prim.Native.Nat.{ℕ}
+use lib.ListN.{length}
 use mathlib.Core.Bool.{true, false}
-use Rattle.calculus.specs.Makers.{written}
 use Rattle.translation.specs.Wished.{saidWish}
-use Rattle.translation.proofs.WriteLaws.{wished-says, rooted-net, rooted-makers, rooted-keeps, rooted-known}
+use Rattle.translator.specs.Said.{inRoom, AnswerSays}
+use Rattle.lean.proofs.LeantLaws.{made-bytes}
+use Rattle.translation.proofs.WriteLaws.{wished-says, made-keeps}
 use borrow.Author.Needs.{needs}
 use Rattle.translation.proofs.write.write_plain.Statement.{statement}
 use Rattle.translation.proofs.write.write_plain.Tie as tie
 
-roots-requires : tie.Need-roots-requires
-roots-requires c κs = search needs
+make-lean-requires : tie.Need-make-lean-requires
+make-lean-requires c κs = search needs
 
 write-lean-requires : tie.Need-write-lean-requires
-write-lean-requires c κs =
-    let s = c .before .before .before .before .before .before .before .before .before in
-    let r = c .before .before .before .before .roots .ensures in
-    (r .whole, rooted-known (s .pre .0 .size) (s .pre .0 .few-elements) r refl (s .pre .1))
+write-lean-requires c κs = search needs
 
 same-length : tie.Need-same-length
 same-length c = search needs
@@ -25,12 +26,14 @@ same-length-2 c = search needs
 
 returns : tie.Need-returns
 returns c =
-    let s = c .before .before .before .before .before .before .before .before .before .before .before .before in
+    let t = c .before .before in
+    let m = t .before .before .before .before .before in
+    let s = m .before .before .before .before .before in
     let a = s .args in
-    let r = c .before .before .before .before .before .before .before .roots .ensures in (
-      wished-says (saidWish (a .wish)) true (a .out .now) _ (c .before .before .write-lean .result) _ _ (c .before .before .before .before .before .before .before .before .before .if1 .taken)
-          (rw (← rooted-net (s .pre .0 .size) (s .pre .0 .few-elements) r refl, ← rooted-makers (s .pre .0 .size) (s .pre .0 .few-elements) r refl) (c .before .before .write-lean .ensures)),
-      rooted-keeps (s .pre .0 .size) (s .pre .0 .few-elements) r refl,
+    let l = m .make-lean .ensures in (
+      wished-says (saidWish (a .wish)) true (a .out .now) _ (t .write-lean .result) _ _ (m .before .before .if1 .taken)
+          (subst (λ (b : List ℕ). AnswerSays (t .write-lean .result) (a .out .now) (t .write-lean .last .1 .0) (inRoom b (length (a .out .now)))) (made-bytes (a .work .now) (m .make-lean .last .0) (a .counts .elements) (a .counts .wires) (a .counts .pins) (m .make-lean .result) (s .pre .0) l (a .wish .plain)) (t .write-lean .ensures)),
+      made-keeps _ _ (a .counts .elements) (a .counts .wires) (a .counts .pins) _ (s .pre .0) l,
     )
 
 write-full-requires : tie.Need-write-full-requires
@@ -51,7 +54,7 @@ pub write-plain-spec : {M : Type 1} → statement M
 write-plain-spec =
     tie.close
     (tie.spec
-    roots-requires
+    make-lean-requires
     write-lean-requires
     same-length
     same-length-2

@@ -1,73 +1,44 @@
--- The invariant: what is written and the lines that are still to come make the whole. Assumes nothing.
+-- The invariant: the lines of the first x terminals are written. Assumes nothing.
 use native.Mathlib.Omega.{arith}
-use Prim.Native.Nat.{_≤_, _-_, _+_}
-use native.Mathlib.Nat.{le-of-lt}
-use lib.ListN.{getD}
-use Rattle.memory.specs.Map.{elementsAt}
-use Rattle.lean.proofs.KindLaws.{first-low}
-use Rattle.verilog.specs.InMemory.{wiresText}
-use Rattle.verilog.proofs.TextRows.{TextDone, wire-rows, row-size, row-start, row-one, row-step, row-end}
+use mathlib.Core.Path.{_≡_, subst}
+use Prim.Native.Nat.{ℕ, _≤_, _-_}
+use Rattle.memory.specs.Map.{rootsAt}
+use Rattle.lean.specs.Layout.{rowIn}
+use Rattle.lines.specs.Wrote.{WroteText}
+use Rattle.lines.proofs.Stores.{wrote-length}
+use Rattle.verilog.specs.InMemory.{wireLineAt}
+use Rattle.verilog.proofs.TextRows.{row-start, row-step, row-low}
+use Rattle.verilog.proofs.ModuleLaws.{wires-few}
 use Rattle.verilog.proofs.walk.put_wires.Statement.{statement}
 use Rattle.verilog.proofs.walk.put_wires.Tie as tie
 
 abbrev Inv-loop : tie.InvT-loop
-Inv-loop work elements out₀ from at₀ n₀ i₀ out at n i = (i ≤ elements) × TextDone (wiresText work) work elements out₀ from out at n i
+Inv-loop work end pins out₀ from at₀ x₀ out at x = (x ≤ end) × WroteText out₀ from (rowIn wireLineAt rootsAt work x 0) out at
 
 abbrev μ-loop : tie.MeasureT-loop
-μ-loop work elements out₀ from at₀ n₀ i₀ out at n i = elements - i
+μ-loop work end pins out₀ from at₀ x₀ out at x = end - x
 
-loop-holds : tie.Need-loop-holds Inv-loop μ-loop
-loop-holds c = let s = c .before .before in (omega arith, row-start (wire-rows (s .args .work .now)) (s .args .out .now) (s .pre))
-
-add-kind : tie.Need-add-kind Inv-loop μ-loop
-add-kind c = omega arith
-
-mul-kind : tie.Need-mul-kind Inv-loop μ-loop
-mul-kind c = omega arith
-
-shared-slice-read-kind : tie.Need-shared-slice-read-kind Inv-loop μ-loop
-shared-slice-read-kind c = let s = c .before .before .before .before .before in let z = row-size (wire-rows (s .args .work .now)) (s .args .out .now) (s .pre) in omega arith
-
-put-to-requires : tie.Need-put-to-requires Inv-loop μ-loop
-put-to-requires c κs = let s = c .before .before .before .before .before .before in row-one (wire-rows (s .args .work .now)) (s .args .out .now) (s .pre) (c .before .before .before .loop .inv .1) (c .before .before .loop-test .taken)
-
-next-after-requires : tie.Need-next-after-requires Inv-loop μ-loop
-next-after-requires c κs =
-    let s = c .before .before .before .before .before .before .before .before .before in
-    let l = c .before .before .before .before .before .before .loop in
-    le-of-lt (first-low (getD (s .args .work .now) (elementsAt + l .i) 0) (l .n) 8192 (row-one (wire-rows (s .args .work .now)) (s .args .out .now) (s .pre) (l .inv .1) (c .before .before .before .before .before .loop-test .taken) .low))
-
-add-i : tie.Need-add-i Inv-loop μ-loop
-add-i c = omega arith
-
-loop-less : tie.Need-loop-less Inv-loop μ-loop
-loop-less c = omega arith
+put-wire-requires : tie.Need-put-wire-requires Inv-loop μ-loop
+put-wire-requires c κs =
+    let s = c .before .before .before .before .before in
+    let l = c .before .before .loop in
+    let b = s .pre .0 .below in
+    (s .pre .0, (c .before .loop-test .taken, omega (arith, row-low wireLineAt rootsAt (s .args .work .now) (l .x) wires-few (l .inv .1))))
 
 loop-again : tie.Need-loop-again Inv-loop μ-loop
 loop-again c =
-    let s = c .before .before .before .before .before .before .before .before .before .before in
-    (omega arith, row-step (wire-rows (s .args .work .now)) (s .args .out .now) (s .pre) (c .before .before .before .before .before .before .before .loop .inv .1) (c .before .before .before .before .before .before .loop-test .taken) (c .before .before .before .put-to .ensures) (c .next-after .ensures))
-
-same-length : tie.Need-same-length Inv-loop μ-loop
-same-length c = c .before .loop .inv .1 .writing .size
+    let s = c .before .before .before .before .before .before .before .before in
+    let l = c .before .before .before .before .before .loop in
+    (omega arith, row-step wireLineAt rootsAt (s .args .work .now) (l .x) (l .inv .1) (c .before .before .put-wire .ensures))
 
 returns : tie.Need-returns Inv-loop μ-loop
-returns c = let s = c .before .before .before .before in row-end (wire-rows (s .args .work .now)) (s .args .out .now) (s .pre) (c .before .loop .inv .1) (c .loop-test .left)
+returns c =
+    let a = c .before .before .before .before .args in
+    let l = c .before .loop in
+    let e : l .x ≡ a .end = omega arith in
+    subst (λ (n : ℕ). WroteText (a .out .now) (a .from) (rowIn wireLineAt rootsAt (a .work .now) n 0) (l .out) (l .at)) e (l .inv .1)
 
 pub put-wires-spec : {M : Type 1} → statement M
 put-wires-spec =
     tie.close
-    (tie.spec
-    Inv-loop
-    μ-loop
-    loop-holds
-    add-kind
-    mul-kind
-    shared-slice-read-kind
-    put-to-requires
-    next-after-requires
-    add-i
-    loop-less
-    loop-again
-    same-length
-    returns)
+    (tie.spec Inv-loop μ-loop (λ c. (omega arith, row-start wireLineAt rootsAt (c .before .before .args .work .now) (c .before .before .args .out .now) (c .before .before .args .from))) put-wire-requires (λ c. omega arith) (λ c. omega arith) loop-again (λ c. wrote-length (c .before .loop .inv .1)) returns)
