@@ -12,8 +12,8 @@ SECOND = ROOT / "second/target/release/second"
 SHOWN = 10
 HAS_TO_OCCUR = {"made"} | {f"refused {number}" for number in range(30, 37)}
 
-sys.path.insert(0, str(ROOT / "desk"))
-from tests.notation_reference import make_by_definition  # noqa: E402
+sys.path.insert(0, str(ROOT / "desk/package"))
+from deltawobble.notation.definitions import make_by_definition  # noqa: E402
 
 
 def generated(seed: int, count: int) -> bytes:

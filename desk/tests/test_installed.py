@@ -153,7 +153,7 @@ class Manual(unittest.TestCase):
         self.assertEqual(done.stdout.split(), ["dwKeyword", "dwNumber", "dwDefinition", "dwPart", "deltawobble"], done.stderr)
 
     def test_the_grammar_of_textmate_knows_the_words(self):
-        from deltawobble.notation.lexer import PART_NUMBERS, RESERVED
+        from deltawobble.notation.words import PART_NUMBERS, RESERVED
         grammar = json.loads((ROOT / "desk/editors/textmate/syntaxes/deltawobble.tmLanguage.json").read_text())
         rules = {rule["name"].removesuffix(".deltawobble"): rule["match"] for rule in grammar["patterns"]}
         vim = (ROOT / "desk/editors/vim/syntax/deltawobble.vim").read_text()

@@ -5,7 +5,7 @@ import ast
 import re
 import unittest
 
-from .notation_reference import make_by_definition
+from deltawobble.notation.definitions import make_by_definition
 from .support import ROOT
 
 TEXT = r'"((?:[^"\\]|\\.)*)"'

@@ -4,13 +4,16 @@ from __future__ import annotations
 from dataclasses import dataclass, field
 from typing import Optional
 
+from ..files import WrongUse
 from ..naming import names_of
 from ..sheet import Node, Own, Sheet, part_name
-from ..types import BIT, Type, written
+from ..types import Type, written
 
 WIDE = 100
 #: a type whose words are longer gets a name
 LONG = 24
+#: a type in more levels than these is written as another one in a named surrounding: what stands in `[ ]` is worked out by itself
+MOST_LEVELS = 32
 #: how closely a term binds: a whole one, a function that is applied, an argument
 WHOLE, FUNCTION, ARGUMENT = 0, 1, 2
 
@@ -31,9 +34,11 @@ class Shape:
 class Shower:
     """The words of one sheet's term."""
 
-    def __init__(self, sheet: Sheet):
-        self.sheet, self.names = sheet, names_of(sheet)
+    def __init__(self, sheet: Sheet, table: bool):
+        self.sheet, self.names, self.table = sheet, names_of(sheet), table
         self.type_names: dict[Type, str] = {}
+        #: for each type with a name the levels that it is worked out in
+        self.levels: dict[Type, int] = {}
 
     def text(self) -> str:
         lines = ["edition 2"] if self.sheet.edition == 2 else []
@@ -43,22 +48,39 @@ class Shower:
     # ---- types
 
     def _types(self) -> list[str]:
-        """Names for long types, and the table where it is not the one that the term alone would give."""
-        ordered = canonical(self.sheet) == self.sheet.types
-        listed = [] if ordered else self.sheet.types
+        """Names for long types, and the table where it is asked for."""
+        listed = self.sheet.types if self.table else []
         annotated = [b.type for bound in self.names.bound.values() for b in bound if b.node.kind in (0x13, 0x15, 0x19)]
         needed = closed([*listed, *annotated])
         lines = []
         for number, t in enumerate(self.sheet.types):
             if t in needed and len(written(t, self.type_names)) > LONG:
-                name = self.sheet.own.types.get(t) or self._fresh(number)
-                lines.append("type %s = %s" % (name, written(t, self.type_names)))
-                self.type_names[t] = name
+                lines += self._named(t, self.sheet.own.types.get(t) or self._fresh("t%d" % number))
         return lines + wrapped("table ", [self.type(t) for t in listed])
 
-    def _fresh(self, number: int) -> str:
+    def _named(self, t: Type, name: str) -> list[str]:
+        """The lines that give a type its name."""
+        inner = max((s for s in closed([t]) if s in self.levels), key=lambda s: self.levels[s], default=None)
+        self.levels[t] = 1 + self._height(t)
+        lines = ["type %s = %s" % (name, written(t, self.type_names))]
+        if inner is not None and self.levels[t] > MOST_LEVELS:
+            around, hole = self._fresh("around_%s" % name), self._fresh("a")
+            lines = ["type %s[%s] = %s" % (around, hole, written(t, {**self.type_names, inner: hole})), "type %s = %s[%s]" % (name, around, self.type_names[inner])]
+            kept, self.levels[inner] = self.levels[inner], 1
+            self.levels[t] = max(2 + kept, 2 + self._height(t))
+            self.levels[inner] = kept
+        self.type_names[t] = name
+        return lines
+
+    def _height(self, t: Type) -> int:
+        """The levels that a type's words are worked out in: a name has its own, and a side has one more, two in parentheses."""
+        if t.kind == 1 or t in self.type_names:
+            return self.levels.get(t, 1)
+        return 2 + max(self._height(t.left), self._height(t.right))
+
+    def _fresh(self, name: str) -> str:
         """A type's name that the text has not given to another one."""
-        name, taken = "t%d" % number, set(self.sheet.own.types.values())
+        taken = set(self.sheet.own.types.values())
         while name in taken:
             name += "_"
         return name
@@ -190,35 +212,25 @@ def closed(types: list[Optional[Type]]) -> set[Type]:
     return found
 
 
-def canonical(sheet: Sheet) -> list[Type]:
-    """The table that the term alone gives: the single bit, then each written type behind its sides, as the nodes come."""
-    found: dict[Type, None] = {BIT: None}
-
-    def add(t: Type) -> None:
-        if t not in found:
-            add(t.left)
-            add(t.right)
-            found[t] = None
-
-    for node in sheet.nodes:
-        if node.type_number >= 0:
-            add(sheet.types[node.type_number])
-    return list(found)
-
-
 def show(sheet: bytes, own: Optional[Own] = None) -> str:
-    """The text of an accepted sheet, with names of its own where it has some. What is refused has no text: Refused."""
+    """The text of an accepted sheet, with names of its own where it has some. What is refused has no text: Refused.
+
+    A name may stand for two binders where definitions were put into one another: then all are named anew. The table of types is
+    written where the term alone gives another one. What `make` says to a text decides.
+    """
     from ..calls import translate
     translate(sheet)
-    text = Shower(Sheet.parse(sheet, own)).text()
-    # a name may stand for two binders where definitions were put into one another: then all are named anew
-    return text if own is None or _makes(text, sheet) else Shower(Sheet.parse(sheet)).text()
+    for names in ([own, None] if own is not None else [None]):
+        for table in (False, True):
+            text = Shower(Sheet.parse(sheet, names), table).text()
+            if _makes(text, sheet):
+                return text
+    raise WrongUse("no text was found for this sheet")
 
 
 def _makes(text: str, sheet: bytes) -> bool:
-    from .made import make
-    from .syntax import NotationError
+    from .call import Refusal, make
     try:
-        return make(text).sheet == sheet
-    except NotationError:
+        return make(text.encode())[0] == sheet
+    except Refusal:
         return False
