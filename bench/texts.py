@@ -14,6 +14,7 @@ HAS_TO_OCCUR = {"made"} | {f"refused {number}" for number in range(30, 37)}
 
 sys.path.insert(0, str(ROOT / "desk/package"))
 from deltawobble.notation.definitions import make_by_definition  # noqa: E402
+from deltawobble.notation.uses import joined  # noqa: E402
 
 
 def generated(seed: int, count: int) -> bytes:
@@ -21,7 +22,8 @@ def generated(seed: int, count: int) -> bytes:
 
 
 def examples() -> list[bytes]:
-    return [path.read_bytes() for path in sorted((ROOT / "examples").rglob("*.dw"))]
+    """The texts of examples/, with the files that they use."""
+    return [joined(str(path), path.read_bytes()).data for path in sorted((ROOT / "examples").rglob("*.dw"))]
 
 
 def packed_again(texts: list[bytes]) -> bytes:

@@ -60,6 +60,14 @@ class PutIn(unittest.TestCase):
                 found = put_in("%s f{0} = one f{n + 1} = %s main = f{3}" % (edition, clause))
                 self.assertEqual([name for name, _ in found], ["f"] * 4, (edition, clause))
 
+    def test_a_definition_that_begins_with_itself(self):
+        """f{2} is f{1} a b, and f{1} is f{0} a b: four applications of one place, two in each."""
+        text = "f{0} = fun x y z w : 1. x\nf{n + 1} = f{n} one zero\nmain = f{2}"
+        self.assertEqual(put_in(text), [("f", ["f@3:8"]), ("f", ["f@2:12", "f@3:8"]), ("f", ["f@2:12", "f@2:12", "f@3:8"])])
+        self.assertEqual([len(o.through) for o in make(text).origins], [1, 1, 2, 2, 3, 3, 3, 3, 3, 2, 2, 1, 1])
+        self.assertEqual(put_in("d{0} = zero\nd{n + 1} = d{n} d{n}\nmain = fix x : 1. d{1}"),
+                         [("d", ["d@3:19"]), ("d", ["d@2:12", "d@3:19"]), ("d", ["d@2:17", "d@3:19"])])
+
     def test_a_type_and_a_definition_of_one_name(self):
         self.assertEqual(put_in("type d = 1\nd = fun x : d. inv x\nmain = fun d' : d. d d'"), [("d", ["d@3:20"])])
 

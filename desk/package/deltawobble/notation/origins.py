@@ -2,8 +2,8 @@
 from the text's words, the sheet, and the places that `make` gives.
 
 A definition that is put in is a subtree whose nodes' places lie in that clause. Such a subtree begins where a node's place lies in another clause than that
-of the node above it; or, of a clause that knows itself, where the place is again that of the subtree's first node. The function of an application has
-the application's own place, so there it is no sign of a beginning: a definition whose term begins with itself is one box.
+of the node above it; or, of a clause that knows itself, where the place is again that of the subtree's first node. Applications to several arguments
+have one place, so there the arguments are counted.
 """
 from __future__ import annotations
 
@@ -87,7 +87,9 @@ class Origins:
         place, first = self.places[node.number], around[-1].node if around else 0
         if not self.words.clauses[self.words.clause_at(place)].numbers or place != self.places[first]:
             return False
-        return not (above.kind in APPLICATIONS and node is above.subterms[0] and self.places[above.number] == place)
+        if not (above.kind in APPLICATIONS and node is above.subterms[0] and self.places[above.number] == place):
+            return True
+        return node.kind in APPLICATIONS and self._argument(above) == 1
 
     def _stands(self, node: Node, above: Node) -> int:
         """The word that the text of a node begins with, whose clause is that of the node above it."""
@@ -102,14 +104,18 @@ class Origins:
             return words.behind_in(number) if named_by_let else words.next_of(number, ".") + 1
         if named_by_let:
             return words.next_of(number, "=") + 1
-        return words.behind_atoms(number, self._arguments(above)) if last else number
+        return words.behind_atoms(number, self._argument(above)) if last else number
 
-    def _arguments(self, above: Node) -> int:
-        """How many atoms stand before the argument of an application."""
-        count, place = 1, self.places[above.number]
-        while above.subterms[0].kind in APPLICATIONS and self.places[above.subterms[0].number] == place:
-            count, above = count + 1, above.subterms[0]
-        return count
+    def _argument(self, node: Node) -> int:
+        """Which atom the argument of an application is, the function being atom 0: the outermost application has the last one."""
+        place = self.places[node.number]
+        found, at = self.words.atoms(self.words.at(place)) - 1, node
+        while at.parent and at.parent.kind in APPLICATIONS and at.parent.subterms[0] is at and self.places[at.parent.number] == place:
+            around = self.all[at.number].through
+            if around and around[-1].node == at.number:
+                break
+            found, at = found - 1, at.parent
+        return found
 
     def _from(self, number: int, target: int) -> tuple[int, ...]:
         """The names by which a definition is put in: the one at a word and, where that is but another name for it, those that lead on."""

@@ -47,7 +47,10 @@ class File:
 
 
 def _decoded(data: bytes) -> str:
-    return data.decode(errors="surrogatepass" if b"\xed" in data else "replace")
+    try:
+        return data.decode(errors="surrogatepass")
+    except UnicodeDecodeError:
+        return data.decode(errors="replace")
 
 
 @dataclass(frozen=True)

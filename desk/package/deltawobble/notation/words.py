@@ -130,6 +130,13 @@ class Words:
             number = self.behind_bracket(number) if opens else self.behind_groups(min(number + 1, len(self.all) - 1))
         return number
 
+    def atoms(self, number: int) -> int:
+        """How many atoms follow one another from a word on."""
+        count = 0
+        while self.all[number].kind in ("(", "part") or self.all[number].kind == "name" and self.all[self.behind_groups(number + 1)].kind != "=":
+            count, number = count + 1, self.behind_atoms(number, 1)
+        return count
+
     def next_of(self, number: int, kind: str) -> int:
         """The first word of a kind behind a word, or the end."""
         while number < len(self.all) - 1 and self.all[number].kind != kind:
