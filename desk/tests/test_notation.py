@@ -41,6 +41,19 @@ class RoundTrip(unittest.TestCase):
         for name in ("depth-64", "nodes-2048", "names-63", "terminals-8192", "wide-enough"):
             self.assertEqual(make(show(edges()[name])).sheet, edges()[name], name)
 
+    def test_a_sheet_whose_text_would_pass_a_limit(self):
+        """A type of so many sides stands in 20 terms in one another, and is shown; in 60 its text passes the 80 levels, and that is said."""
+        for around, shown in ((20, True), (60, False)):
+            types = "01" + "".join("02 00 %02X" % k for k in range(125)) + " 03 7D 00 03 00 00"
+            sheet = bytes.fromhex(types + " 14 1A 05 7F" * around + " 14 13 7E 1A 06 00 19 7D 11 00")
+            deltawobble.translate(sheet)
+            if shown:
+                self.assertEqual(make(show(sheet)).sheet, sheet)
+            else:
+                with self.assertRaises(deltawobble.WrongUse) as caught:
+                    show(sheet)
+                self.assertIn("would pass a limit of the notation", str(caught.exception))
+
     def test_table_in_another_order_and_with_types_that_nobody_needs(self):
         sheet = bytes.fromhex("01 02 00 00 03 00 00 04 02 01 13 02 11 00")
         self.assertIn("table 1, 1 * 1, 1 -> 1, (1 -> 1) -o 1 * 1", show(sheet))

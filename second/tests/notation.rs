@@ -1,4 +1,4 @@
-//! docs/NOTATION-PARAMETERS.md: named texts; the examples' texts and sheets; the room; generated texts, whose sheets
+//! docs/NOTATION.md: named texts; the examples' texts and sheets; the room; generated texts, whose sheets
 //! are read.
 
 use second::edges_notation::{edges, within_the_limits};

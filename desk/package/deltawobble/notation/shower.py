@@ -216,7 +216,7 @@ def show(sheet: bytes, own: Optional[Own] = None) -> str:
     """The text of an accepted sheet, with names of its own where it has some. What is refused has no text: Refused.
 
     A name may stand for two binders where definitions were put into one another: then all are named anew. The table of types is
-    written where the term alone gives another one. What `make` says to a text decides.
+    written where the term alone gives another one. What `make` says to a text decides: WrongUse where each passes a limit.
     """
     from ..calls import translate
     translate(sheet)
@@ -225,7 +225,7 @@ def show(sheet: bytes, own: Optional[Own] = None) -> str:
             text = Shower(Sheet.parse(sheet, names), table).text()
             if _makes(text, sheet):
                 return text
-    raise WrongUse("no text was found for this sheet")
+    raise WrongUse("this sheet's text would pass a limit of the notation: 80 terms or types in one another, 65535 bytes, or 32767 for what is put in")
 
 
 def _makes(text: str, sheet: bytes) -> bool:
