@@ -18,6 +18,13 @@ SIGNS = [b"=", b"#", b"--", b" ", b"\n", b"\r", b"1", b"01", b"0G", b"(", b"main
          b"fun x : 1. "]
 
 
+#: texts with parameters, and one that uses a file which is not there
+SIZES = [b"delay{0} = fun x : 1. x\ndelay{n + 1} = fun x : 1. reg (delay{n} x)\nmain = fun d : 1. delay{2} d\n",
+         b"edition 2\ntype row{0} = 1\ntype row{n + 1} = row{n} * row{n}\ntwo[a, b] = fun f g : a -> b. fun p : a * a. let (x, y) = p in (f x, g y)\n"
+         b"both{0} = inv\nboth{n + 1} = two[row{n}, row{n}] both{n} both{n}\nmain = both{2}\n",
+         b'use "nowhere.dw"\nmain = zero\n'] * 5
+
+
 def hurt(rng: random.Random, data: bytes) -> bytes:
     """Some bytes of a file left out, put in, or put elsewhere; or the file cut."""
     for _ in range(rng.randrange(4)):
@@ -57,7 +64,7 @@ def given(seed: int) -> tuple[str, bytes]:
     if kind == "sheet":
         data = generate.damaged(seed)
     elif kind == "text":
-        data = hurt(rng, text_of_sheet(seed) if rng.random() < 0.8 else rng.choice(sorted(EXAMPLES.glob("*.dw"))).read_bytes())
+        data = hurt(rng, text_of_sheet(seed) if rng.random() < 0.7 else rng.choice([*(p.read_bytes() for p in sorted(EXAMPLES.glob("*.dw"))), *SIZES]))
     elif kind == "net":
         data = hurt(rng, net_of(seed))
     else:

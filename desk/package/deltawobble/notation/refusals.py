@@ -7,10 +7,12 @@ from typing import Optional
 
 from .call import Refusal
 from .text import NotationError, Text
-from .words import CLOSES, PART_NUMBERS, Clause, Word, Words
+from .words import CLOSES, OPENS, PART_NUMBERS, Clause, Word, Words
 
 #: words behind which a term is due, and those behind which a type is
 TERM_DUE, TYPE_DUE = ("=", ".", "in", "("), (":", "*", "->", "-o", "table", "[")
+#: names that are looked through for one that was meant: of so many characters, and so many
+MOST_NEAR, MOST_NAMES = 60, 400
 SIDES = {"*": "a pair holds single bits and pairs alone", "->": "the left side of this arrow is a circuit: -o takes one",
          "-o": "the left side of this arrow is no circuit: -> takes it"}
 
@@ -42,7 +44,7 @@ class Around:
         self.open: list[Open] = []
         #: names that the words before the place bind, in the clause
         self.bound: list[str] = []
-        self.starts = [clause.first for clause in words.clauses] + [k for k, w in enumerate(words.all) if w.kind == "table"]
+        self.starts = {clause.first for clause in words.clauses} | {k for k, w in enumerate(words.all) if w.kind == "table"}
         for at in range(self.number):
             self._pass(at)
 
@@ -50,13 +52,13 @@ class Around:
         word, top = self.words.all[at], self.open[-1] if self.open else None
         if at in self.starts:
             self.open, self.bound = [], []
-        elif word.kind in ("fun", "fix", "let", *CLOSES.values()):
+        elif word.kind in ("fun", "fix", "let", *OPENS):
             self.open.append(Open(word))
         elif top and word.kind in CLOSES and top.word.kind == CLOSES[word.kind] or word.kind in (".", "in") and top:
             self.open.pop()
         elif top and word.kind in (":", "=") and top.word.kind in ("fun", "fix", "let"):
             top.behind = word.kind
-        elif word.kind == "name" and any(o.behind in ("fun", "fix", "let") for o in self.open):
+        elif word.kind == "name" and any(o.behind in ("fun", "fix", "let") for o in self.open[-2:]):
             self.bound.append(word.text)
 
     # ---- what is said
@@ -79,7 +81,8 @@ class Around:
         return "no word of the notation begins with %s" % ascii(self.word.text), ""
 
     def near(self, known: list[str]) -> str:
-        near = difflib.get_close_matches(self.word.text, known, 1)
+        short = [name for name in dict.fromkeys(known[::-1]) if len(name) <= MOST_NEAR][:MOST_NAMES]
+        near = difflib.get_close_matches(self.word.text, short, 1) if len(self.word.text) <= MOST_NEAR else []
         return "did you mean %s?" % near[0] if near and near[0] != self.word.text else ""
 
     # ---- 32
@@ -139,10 +142,9 @@ class Around:
         return ("a number is due behind edition", "") if before == "edition" else None
 
     def inside(self, top: Optional[Open]) -> tuple[str, str]:
-        if top and top.word.kind in CLOSES.values():
-            closes = {opens: closes for closes, opens in CLOSES.items()}[top.word.kind]
+        if top and top.word.kind in OPENS:
             span = self.text.span(top.word.start, top.word.end)
-            return "'%s' is due" % closes, "the '%s' at %s is open" % (top.word.kind, self.text.place_words(span))
+            return "'%s' is due" % OPENS[top.word.kind], "the '%s' at %s is open" % (top.word.kind, self.text.place_words(span))
         if top and top.behind in ("fun", "fix"):
             return "':' is due behind the variable", ""
         if top and top.behind == ":":

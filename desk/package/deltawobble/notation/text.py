@@ -30,8 +30,10 @@ class File:
     data: bytes
     lines: list[str] = field(init=False)
     starts: list[int] = field(init=False)
+    ascii: bool = field(init=False)
 
     def __post_init__(self) -> None:
+        self.ascii = self.data.isascii()
         ends = list(LINE_END.finditer(self.data))
         self.starts = [0, *(match.end() for match in ends)]
         stops = [*(match.start() for match in ends), len(self.data)]
@@ -43,7 +45,8 @@ class File:
         """Line and column of an offset; the end of a text stands behind its last line."""
         line = min(bisect_right(self.starts, offset), len(self.lines))
         first = self.starts[line - 1]
-        return line, min(len(_decoded(self.data[first:offset])), len(self.lines[line - 1])) + 1
+        before = offset - first if self.ascii else len(_decoded(self.data[first:offset]))
+        return line, min(before, len(self.lines[line - 1])) + 1
 
 
 def _decoded(data: bytes) -> str:

@@ -18,6 +18,7 @@ WORD = re.compile(rb"(?P<gap>[\t-\r ]+|--[^\n\r]*)|(?P<run>[A-Za-z0-9_][A-Za-z0-
 #: words that an item may end with, and `type`
 ITEM_ENDS = ("type", "name", "part", "number", ")", "]", "}", "odd")
 CLOSES = {")": "(", "]": "[", "}": "{"}
+OPENS = {opens: closes for closes, opens in CLOSES.items()}
 
 
 @dataclass(frozen=True)
@@ -69,6 +70,7 @@ class Words:
     def __init__(self, data: bytes):
         self.all = words_of(data)
         self._starts = [word.start for word in self.all]
+        self._closed = self._brackets()
         self.clauses = list(self._clauses())
         self._clause_starts = [clause.start for clause in self.clauses]
 
@@ -87,15 +89,18 @@ class Words:
         return number
 
     def behind_bracket(self, number: int) -> int:
-        """The first word behind the bracket that is closed again, or the end."""
-        depth = 0
-        while number < len(self.all) - 1:
-            kind = self.all[number].kind
-            depth += (kind in CLOSES.values()) - (kind in CLOSES)
-            number += 1
-            if depth == 0:
-                break
-        return number
+        """The first word behind a bracket that is closed again, or the end."""
+        return self._closed.get(number, len(self.all) - 1)
+
+    def _brackets(self) -> dict[int, int]:
+        """For each bracket that is closed again the word behind its end."""
+        found, waiting = {}, []
+        for number, word in enumerate(self.all):
+            if word.kind in OPENS:
+                waiting.append(number)
+            elif word.kind in CLOSES and waiting:
+                found[waiting.pop()] = number + 1
+        return found
 
     def _heads(self) -> Iterator[tuple[int, int]]:
         """For each head the word that it begins with and its name: `NAME .. =`, where an item may have ended."""
@@ -109,7 +114,8 @@ class Words:
         heads = list(self._heads())
         tables = [number for number, word in enumerate(self.all) if word.kind == "table"]
         for (first, name), (behind, _) in zip(heads, heads[1:] + [(len(self.all) - 1, 0)]):
-            last = min([behind, *(number for number in tables if number > name)])
+            table = bisect_right(tables, name)
+            last = min(behind, tables[table]) if table < len(tables) else behind
             equals = self.behind_groups(name + 1)
             yield Clause(self.all[name], first < name, first, equals + 1, last, self.all[first].start, self.all[last].start, equals > name + 1,
                          any(word.kind == "{" for word in self.all[name:equals]))
@@ -158,6 +164,6 @@ class Words:
             kind = self.all[number - 1].kind
             if depth == 0 and kind in ("(", ","):
                 break
-            depth += (kind in CLOSES) - (kind in CLOSES.values())
+            depth += (kind in CLOSES) - (kind in OPENS)
             number -= 1
         return number
