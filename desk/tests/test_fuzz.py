@@ -22,7 +22,7 @@ SIGNS = [b"=", b"#", b"--", b" ", b"\n", b"\r", b"1", b"01", b"0G", b"(", b"main
 SIZES = [b"delay{0} = fun x : 1. x\ndelay{n + 1} = fun x : 1. reg (delay{n} x)\nmain = fun d : 1. delay{2} d\n",
          b"edition 2\ntype row{0} = 1\ntype row{n + 1} = row{n} * row{n}\ntwo[a, b] = fun f g : a -> b. fun p : a * a. let (x, y) = p in (f x, g y)\n"
          b"both{0} = inv\nboth{n + 1} = two[row{n}, row{n}] both{n} both{n}\nmain = both{2}\n",
-         b'use "nowhere.dw"\nmain = zero\n'] * 5
+         b'use "nowhere.dw"\nmain = zero\n']
 
 
 def hurt(rng: random.Random, data: bytes) -> bytes:
@@ -64,7 +64,7 @@ def given(seed: int) -> tuple[str, bytes]:
     if kind == "sheet":
         data = generate.damaged(seed)
     elif kind == "text":
-        data = hurt(rng, text_of_sheet(seed) if rng.random() < 0.7 else rng.choice([*(p.read_bytes() for p in sorted(EXAMPLES.glob("*.dw"))), *SIZES]))
+        data = hurt(rng, text_of_sheet(seed) if rng.random() < 0.8 else rng.choice(sorted(EXAMPLES.glob("*.dw"))).read_bytes())
     elif kind == "net":
         data = hurt(rng, net_of(seed))
     else:
@@ -147,6 +147,18 @@ class Fuzz(unittest.TestCase):
                     with self.subTest(words=words, data=data.hex()):
                         seen.add((words[0], self.held(words, trace(seed))[0]))
         self.assertGreaterEqual(len(seen), 3 * len(on_sheets) - 3, seen)
+
+    def test_texts_with_parameters(self):
+        seen: set[int] = set()
+        with tempfile.TemporaryDirectory() as folder, mock.patch.object(period, "MOST", 1), mock.patch.object(period, "MOST_HIDDEN", 16):
+            path = Path(folder) / "given.dw"
+            for seed in range(self.COUNT // 2):
+                rng = random.Random(seed)
+                path.write_bytes(hurt(rng, SIZES[seed % len(SIZES)]))
+                for words in words_of(seed, str(path), folder + "/out"):
+                    with self.subTest(words=words, data=path.read_bytes()):
+                        seen.add(self.held(words, trace(seed))[0])
+        self.assertEqual(seen, {0, 1, 2})
 
     def test_traces(self):
         # damaged rows and dumps: something is said, and no exception
