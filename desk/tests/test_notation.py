@@ -41,18 +41,25 @@ class RoundTrip(unittest.TestCase):
         for name in ("depth-64", "nodes-2048", "names-63", "terminals-8192", "wide-enough"):
             self.assertEqual(make(show(edges()[name])).sheet, edges()[name], name)
 
+    def wide(self, record: str, around: int) -> bytes:
+        """A type of 126 bits, each record a side of the next, in so many terms in one another."""
+        types = "01" + "".join(record % k for k in range(125)) + " 03 7D 00 03 00 00"
+        sheet = bytes.fromhex(types + " 14 1A 05 7F" * around + " 14 13 7E 1A 06 00 19 7D 11 00")
+        deltawobble.translate(sheet)
+        return sheet
+
+    def test_wide_types_in_deep_terms(self):
+        """A text has 80 levels, a sheet's term 64: a row of bits is written by doubling."""
+        for around in (0, 20, 60):
+            sheet = self.wide(" 02 00 %02X", around)
+            self.assertEqual(make(show(sheet)).sheet, sheet, around)
+
     def test_a_sheet_whose_text_would_pass_a_limit(self):
-        """A type of so many sides stands in 20 terms in one another, and is shown; in 60 its text passes the 80 levels, and that is said."""
-        for around, shown in ((20, True), (60, False)):
-            types = "01" + "".join("02 00 %02X" % k for k in range(125)) + " 03 7D 00 03 00 00"
-            sheet = bytes.fromhex(types + " 14 1A 05 7F" * around + " 14 13 7E 1A 06 00 19 7D 11 00")
-            deltawobble.translate(sheet)
-            if shown:
-                self.assertEqual(make(show(sheet)).sheet, sheet)
-            else:
-                with self.assertRaises(deltawobble.WrongUse) as caught:
-                    show(sheet)
-                self.assertIn("would pass a limit of the notation", str(caught.exception))
+        """((1 * 1) * 1) * .. is no row: in 60 terms in one another its text passes the 80 levels, and that is said."""
+        self.assertEqual(make(show(self.wide(" 02 %02X 00", 0))).sheet, self.wide(" 02 %02X 00", 0))
+        with self.assertRaises(deltawobble.WrongUse) as caught:
+            show(self.wide(" 02 %02X 00", 60))
+        self.assertIn("would pass a limit of the notation", str(caught.exception))
 
     def test_table_in_another_order_and_with_types_that_nobody_needs(self):
         sheet = bytes.fromhex("01 02 00 00 03 00 00 04 02 01 13 02 11 00")

@@ -131,10 +131,10 @@ class Around:
         before = self.before.kind if self.before else ""
         if before in ("fun", "fix", "let", "type"):
             return "a name is due behind %s" % before, ""
-        if (self.in_let() or self.in_head()) and before in ("(", ",", "["):
-            return "a name is due", ""
         if top and top.word.kind == "{" and before in ("{", ",", "+"):
             return ("a number is due" if before == "+" else "a number or the name of one is due"), ""
+        if (self.in_let() or self.in_head()) and before in ("(", ",", "["):
+            return "a name is due", ""
         if before in TYPE_DUE or self.in_type() and before in ("=", "(", ","):
             return "a type is due", ""
         if before in TERM_DUE or before == ",":

@@ -34,8 +34,8 @@ class Shape:
 class Shower:
     """The words of one sheet's term."""
 
-    def __init__(self, sheet: Sheet, table: bool):
-        self.sheet, self.names, self.table = sheet, names_of(sheet), table
+    def __init__(self, sheet: Sheet, table: bool, rows: bool = False):
+        self.sheet, self.names, self.table, self.rows = sheet, names_of(sheet), table, rows
         self.type_names: dict[Type, str] = {}
         #: for each type with a name the levels that it is worked out in
         self.levels: dict[Type, int] = {}
@@ -52,11 +52,28 @@ class Shower:
         listed = self.sheet.types if self.table else []
         annotated = [b.type for bound in self.names.bound.values() for b in bound if b.node.kind in (0x13, 0x15, 0x19)]
         needed = closed([*listed, *annotated])
-        lines = []
+        lines = self._rows(needed) if self.rows else []
         for number, t in enumerate(self.sheet.types):
-            if t in needed and len(written(t, self.type_names)) > LONG:
+            if t in needed and t not in self.type_names and len(written(t, self.type_names)) > LONG:
                 lines += self._named(t, self.sheet.own.types.get(t) or self._fresh("t%d" % number))
         return lines + wrapped("table ", [self.type(t) for t in listed])
+
+    def _rows(self, needed: set[Type]) -> list[str]:
+        """Rows of bits by doubling, as many before something else as a sum of powers of two: 128 bits take 14 levels, where `1 * 1 * ..` takes 127."""
+        ones = {2 ** k: self._fresh("ones%d" % 2 ** k) for k in range(1, 7)}
+        widest = 0
+        for t in sorted(needed, key=lambda t: t.size):
+            bits, rest = 0, t
+            while rest.kind == 2 and rest.left.kind == 1:
+                bits, rest = bits + 1, rest.right
+            if bits >= 4:
+                words = written(rest, self.type_names) if bits % 2 == 0 else written(Type(2, t.left, rest), self.type_names)
+                for size, name in ones.items():
+                    words = "%s[%s]" % (name, words) if bits & size else words
+                self.type_names[t] = words
+                widest = max(widest, bits)
+        first = ["type %s[a] = 1 * 1 * a" % ones[2]] if widest else []
+        return first + ["type %s[a] = %s[%s[a]]" % (ones[size], ones[size // 2], ones[size // 2]) for size in ones if 2 < size <= widest]
 
     def _named(self, t: Type, name: str) -> list[str]:
         """The lines that give a type its name."""
@@ -216,15 +233,16 @@ def show(sheet: bytes, own: Optional[Own] = None) -> str:
     """The text of an accepted sheet, with names of its own where it has some. What is refused has no text: Refused.
 
     A name may stand for two binders where definitions were put into one another: then all are named anew. The table of types is
-    written where the term alone gives another one. What `make` says to a text decides: WrongUse where each passes a limit.
+    written where the term alone gives another one, and rows of bits by doubling where the levels do not suffice. What `make` says to a text decides: WrongUse where each passes a limit.
     """
     from ..calls import translate
     translate(sheet)
     for names in ([own, None] if own is not None else [None]):
-        for table in (False, True):
-            text = Shower(Sheet.parse(sheet, names), table).text()
-            if _makes(text, sheet):
-                return text
+        for rows in (False, True):
+            for table in (False, True):
+                text = Shower(Sheet.parse(sheet, names), table, rows).text()
+                if _makes(text, sheet):
+                    return text
     raise WrongUse("this sheet's text would pass a limit of the notation: 80 terms or types in one another, 65535 bytes, or 32767 for what is put in")
 
 
