@@ -181,6 +181,11 @@ class Errors(unittest.TestCase):
         self.assertIn("at most 65535 bytes", str(caught.exception))
         self.assertEqual(written("main = zero" + " " * 65524), "01 1A 00 00")
 
+    def test_lines_end_by_10_or_13(self):
+        """As a comment does; a form feed ends none."""
+        for text, line, column in (("-- a\r\nmain = \r\n ?", 3, 2), ("-- a\rmain = \r\r?", 4, 1), ("-- a\n\rmain = ?", 3, 8), ("main =\f\v ?", 1, 10)):
+            self.assertEqual(self.place(text)[:2], (line, column), ascii(text))
+
     def test_json_has_the_number_and_the_offset(self):
         status, out, _ = command("make", "--json", "-", given=b"main = fun x : 1 -o 1. x one")
         said = json.loads(out)

@@ -1,8 +1,7 @@
 """NOT PROVED. The definitions of crates/notation_calculus (Words, Grammar, Making, Make) written in Python, one function after the other.
 
-It stands in for the proved call `make` until that lands; `call` is the one place that asks it. It is held to every known result that the
-definitions are proved to give (desk/tests/test_notation_reference.py), and to the second program, written from docs/NOTATION.md, on 100,000
-generated texts (bench/texts).
+It stands in for the proved call `make`, and goes when that lands; `call` is the one place that asks it. It is held to every known result that the
+definitions are proved to give (desk/tests/test_notation_reference.py), and to `second make` on 100,000 generated texts (bench/texts).
 """
 import sys
 from collections import namedtuple

@@ -9,6 +9,8 @@ from .call import Refusal
 from .text import NotationError, Text
 from .words import CLOSES, OPENS, PART_NUMBERS, Clause, Word, Words
 
+#: what is open at a place takes a level at least
+MOST_NESTED = 80
 #: words behind which a term is due, and those behind which a type is
 TERM_DUE, TYPE_DUE = ("=", ".", "in", "("), (":", "*", "->", "-o", "table", "[")
 #: names that are looked through for one that was meant: of so many characters, and so many
@@ -188,6 +190,8 @@ class Around:
         nodes = "80 terms or types in one another, a term 64 deep, 2048 nodes, 256 types, or 32767 for what is put in"
         if self.word.kind == "number":
             return "a number is at most 255", ""
+        if len(self.open) >= MOST_NESTED:
+            return "more than %d terms or types in one another" % MOST_NESTED, ""
         if self.word.kind in SIDES:
             return "this type passes a limit: 128 single bits, or 256 types in all", ""
         if any(o.word.kind == "{" for o in self.open):
