@@ -12,8 +12,9 @@ SECOND = ROOT / "second/target/release/second"
 SHOWN = 10
 HAS_TO_OCCUR = {"made"} | {f"refused {number}" for number in range(30, 37)}
 
-sys.path.insert(0, str(ROOT / "desk"))
-from tests.notation_reference import make_by_definition  # noqa: E402
+sys.path.insert(0, str(ROOT / "desk/package"))
+from deltawobble.notation.definitions import make_by_definition  # noqa: E402
+from deltawobble.notation.uses import joined  # noqa: E402
 
 
 def generated(seed: int, count: int) -> bytes:
@@ -21,7 +22,8 @@ def generated(seed: int, count: int) -> bytes:
 
 
 def examples() -> list[bytes]:
-    return [path.read_bytes() for path in sorted((ROOT / "examples").rglob("*.dw"))]
+    """The texts of examples/, with the files that they use."""
+    return [joined(str(path), path.read_bytes()).data for path in sorted((ROOT / "examples").rglob("*.dw"))]
 
 
 def packed_again(texts: list[bytes]) -> bytes:

@@ -18,6 +18,13 @@ SIGNS = [b"=", b"#", b"--", b" ", b"\n", b"\r", b"1", b"01", b"0G", b"(", b"main
          b"fun x : 1. "]
 
 
+#: texts with parameters, and one that uses a file which is not there
+SIZES = [b"delay{0} = fun x : 1. x\ndelay{n + 1} = fun x : 1. reg (delay{n} x)\nmain = fun d : 1. delay{2} d\n",
+         b"edition 2\ntype row{0} = 1\ntype row{n + 1} = row{n} * row{n}\ntwo[a, b] = fun f g : a -> b. fun p : a * a. let (x, y) = p in (f x, g y)\n"
+         b"both{0} = inv\nboth{n + 1} = two[row{n}, row{n}] both{n} both{n}\nmain = both{2}\n",
+         b'use "nowhere.dw"\nmain = zero\n']
+
+
 def hurt(rng: random.Random, data: bytes) -> bytes:
     """Some bytes of a file left out, put in, or put elsewhere; or the file cut."""
     for _ in range(rng.randrange(4)):
@@ -140,6 +147,18 @@ class Fuzz(unittest.TestCase):
                     with self.subTest(words=words, data=data.hex()):
                         seen.add((words[0], self.held(words, trace(seed))[0]))
         self.assertGreaterEqual(len(seen), 3 * len(on_sheets) - 3, seen)
+
+    def test_texts_with_parameters(self):
+        seen: set[int] = set()
+        with tempfile.TemporaryDirectory() as folder, mock.patch.object(period, "MOST", 1), mock.patch.object(period, "MOST_HIDDEN", 16):
+            path = Path(folder) / "given.dw"
+            for seed in range(self.COUNT // 2):
+                rng = random.Random(seed)
+                path.write_bytes(hurt(rng, SIZES[seed % len(SIZES)]))
+                for words in words_of(seed, str(path), folder + "/out"):
+                    with self.subTest(words=words, data=path.read_bytes()):
+                        seen.add(self.held(words, trace(seed))[0])
+        self.assertEqual(seen, {0, 1, 2})
 
     def test_traces(self):
         # damaged rows and dumps: something is said, and no exception

@@ -3,6 +3,7 @@ from __future__ import annotations
 
 import json
 import os
+import re
 import shutil
 import subprocess
 import sys
@@ -144,22 +145,25 @@ class Manual(unittest.TestCase):
     @unittest.skipUnless(shutil.which("vim"), "NOT RUN: there is no vim")
     def test_vim_knows_the_words(self):
         editor = ROOT / "desk" / "editors" / "vim"
-        ask = 'call writefile(map([[2, 1], [2, 9], [3, 1], [3, 43]], {_, p -> synIDattr(synID(p[0], p[1], 1), "name")}) + [&filetype], "/dev/stdout")'
+        ask = 'call writefile(map([[2, 1], [2, 9], [3, 1], [3, 5], [4, 1], [4, 43], [5, 1]], {_, p -> synIDattr(synID(p[0], p[1], 1), "name")}) + [&filetype], "/dev/stdout")'
         with tempfile.TemporaryDirectory() as folder:
             text = Path(folder) / "x.dw"
-            text.write_text("-- a\nedition 2\nsticky = fun set : 1. fix s : 1. or (set, reg s)\n")
+            text.write_text("-- a\nedition 2\nuse \"a.dw\"\nsticky = fun set : 1. fix s : 1. or (set, reg s)\nrow[a]{n + 1} = one\n")
             done = subprocess.run(["vim", "-u", "NONE", "-es", "--cmd", "set rtp+=%s" % editor, "-c", "filetype plugin on", "-c", "syntax on",
                                    "-c", "edit " + str(text), "-c", ask, "-c", "qa!"], capture_output=True, text=True, stdin=subprocess.DEVNULL)
-        self.assertEqual(done.stdout.split(), ["dwKeyword", "dwNumber", "dwDefinition", "dwPart", "deltawobble"], done.stderr)
+        self.assertEqual(done.stdout.split(), ["dwKeyword", "dwNumber", "dwKeyword", "dwFile", "dwDefinition", "dwPart", "dwDefinition", "deltawobble"], done.stderr)
 
     def test_the_grammar_of_textmate_knows_the_words(self):
-        from deltawobble.notation.lexer import PART_NUMBERS, RESERVED
+        from deltawobble.notation.words import PART_NUMBERS, RESERVED
         grammar = json.loads((ROOT / "desk/editors/textmate/syntaxes/deltawobble.tmLanguage.json").read_text())
         rules = {rule["name"].removesuffix(".deltawobble"): rule["match"] for rule in grammar["patterns"]}
         vim = (ROOT / "desk/editors/vim/syntax/deltawobble.vim").read_text()
         for word in RESERVED:
             self.assertRegex(word, rules["keyword.control"])
             self.assertRegex(vim, r"dwKeyword.*\b%s\b" % word)
+        for line, name in (("f = one", "f"), ("row[a, b]{n + 1} = a", "row"), ("g {0} = one", "g")):
+            self.assertEqual(re.search(rules["entity.name.function"], line)[0], name)
+        self.assertRegex('use "a.dw"', rules["keyword.control.use"])
         for word in PART_NUMBERS:
             self.assertRegex(word, rules["support.function.part"])
             self.assertRegex(vim, r"dwPart.*\b%s\b" % word)

@@ -1,6 +1,7 @@
 """The notation: show then make gives the same bytes; errors and refusals stand at their line and column."""
 from __future__ import annotations
 
+import json
 import random
 import tempfile
 import unittest
@@ -39,6 +40,26 @@ class RoundTrip(unittest.TestCase):
         from .fault_reports import edges
         for name in ("depth-64", "nodes-2048", "names-63", "terminals-8192", "wide-enough"):
             self.assertEqual(make(show(edges()[name])).sheet, edges()[name], name)
+
+    def wide(self, record: str, around: int) -> bytes:
+        """A type of 126 bits, each record a side of the next, in so many terms in one another."""
+        types = "01" + "".join(record % k for k in range(125)) + " 03 7D 00 03 00 00"
+        sheet = bytes.fromhex(types + " 14 1A 05 7F" * around + " 14 13 7E 1A 06 00 19 7D 11 00")
+        deltawobble.translate(sheet)
+        return sheet
+
+    def test_wide_types_in_deep_terms(self):
+        """A text has 80 levels, a sheet's term 64: a row of bits is written by doubling."""
+        for around in (0, 20, 60):
+            sheet = self.wide(" 02 00 %02X", around)
+            self.assertEqual(make(show(sheet)).sheet, sheet, around)
+
+    def test_a_sheet_whose_text_would_pass_a_limit(self):
+        """((1 * 1) * 1) * .. is no row: in 60 terms in one another its text passes the 80 levels, and that is said."""
+        self.assertEqual(make(show(self.wide(" 02 %02X 00", 0))).sheet, self.wide(" 02 %02X 00", 0))
+        with self.assertRaises(deltawobble.WrongUse) as caught:
+            show(self.wide(" 02 %02X 00", 60))
+        self.assertIn("would pass a limit of the notation", str(caught.exception))
 
     def test_table_in_another_order_and_with_types_that_nobody_needs(self):
         sheet = bytes.fromhex("01 02 00 00 03 00 00 04 02 01 13 02 11 00")
@@ -96,7 +117,7 @@ class Errors(unittest.TestCase):
                 ("main = (zero", 1, 13, "')' is due"), ("main = fun x. x", 1, 13, "':' is due"), ("main = fun x : 1 x", 1, 18, "'.' is due"),
                 ("main = y", 1, 8, "y is not defined"), ("main = fun x : t. x", 1, 16, "no type t"), ("main = zero\nmain = one", 2, 1, "defined twice"),
                 ("main = a\na = zero", 1, 8, "above"), ("a = a\nmain = a", 1, 5, "above"), ("main = zero ?", 1, 13, "'?'"), ("main = zé", 1, 9, "\\xe9"),
-                ("main = fun and : 1. zero", 1, 12, "is a part"), ("main = let (x) = zero in x", 1, 13, "one name"),
+                ("main = fun and : 1. zero", 1, 12, "is a part"), ("main = let (x) = zero in x", 1, 14, "one name"),
                 ("main = reg fun x : 1. x", 1, 12, "parentheses"), ("edition 3\nmain = zero", 1, 9, "editions"), ("main = 1", 1, 8, "a term is due"),
                 ("main = zero\nedition 2", 2, 1, "before all else"), ("type t = 1\ntype t = 1\nmain = zero", 2, 6, "twice"),
                 ("main = fix x : . x", 1, 16, "a type is due"), ("main = let x = zero", 1, 20, "'in' is due")]:
@@ -131,6 +152,46 @@ class Errors(unittest.TestCase):
         self.assertIn("single bits", self.place(types + "main = zero")[2])
 
 
+    def test_each_number_with_its_place(self):
+        """30 to 36: what the call says to a text, worked out by hand from docs/NOTATION.md, and where the desk shows it."""
+        too_wide = "type t0 = 1\n" + "".join("type t%d = t%d * t%d\n" % (n, n - 1, n - 1) for n in range(1, 9))
+        for text, number, place, line, column, words in [
+                ("main = zero $", 31, 12, 1, 13, "'$'"), ("main = 1x", 31, 7, 1, 8, "no number"), ("-- \u03bb\nmain = \u00e9", 31, 13, 2, 8, "\\xe9"),
+                ("main = (zero", 32, 12, 1, 13, "the '(' at 1:8 is open"), ("main = let (x, y = zero in x", 32, 17, 1, 18, "the '(' at 1:12 is open"),
+                ("main = f[1", 32, 10, 1, 11, "the '[' at 1:9 is open"), ("f{n +} = one main = f{1}", 32, 5, 1, 6, "a number is due"),
+                ("main = fun first : 1. frist", 33, 22, 1, 23, "did you mean first?"), ("type row{0} = 1\nmain = fun x : rwo{0}. x", 33, 31, 2, 16, "did you mean row?"),
+                ("f{0} = one\nmain = f{1}", 33, 18, 2, 8, "no clause of f above fits"), ("f{0} = one\nmain = f", 33, 18, 2, 8, "here are none"),
+                ("f = one\nmain = f{0}", 33, 15, 2, 8, "f has no parameters"), ("f{n} = f{m}\nmain = f{1}", 33, 9, 1, 10, "no number is called m"),
+                ("a = one", 33, 7, 1, 8, "no definition of main"), ("type t = 1", 33, 10, 1, 11, "no definition of main"),
+                ("main = zero\nf = fun x : 1. y", 33, 27, 2, 16, "y is not defined"),
+                ("f{n} = one\nmain = f{256}", 34, 20, 2, 10, "at most 255"), ("f{n} = f{n + 255}\nmain = f{1}", 34, 9, 1, 10, "this sum"),
+                (too_wide + "main = zero", 34, too_wide.index("t7 * t7") + 3, 9, 14, "single bits"),
+                ("main = " + "inv (" * 64 + "one" + ")" * 64, 34, 7, 1, 8, "64 deep"), ("main = " + "(" * 80 + "one" + ")" * 80, 34, 87, 1, 88, "80 terms"),
+                ("main = fun x : 1 -o 1. x one", 35, 17, 1, 18, "no circuit"), ("main = fun x : (1 -> 1) * 1. one", 35, 24, 1, 25, "a pair holds"),
+                ("main = fun f : (1 -> 1) -> 1. f reg", 35, 24, 1, 25, "-o takes one"),
+                ("a = one\na = zero\nmain = a", 36, 8, 2, 1, "first at 1:1"), ("f{n} = one\nf{3} = zero\nmain = f{3}", 36, 11, 2, 1, "for these numbers"),
+                ("f{n} = one\nf = zero\nmain = f", 36, 11, 2, 1, "other parameters")]:
+            with self.assertRaises(NotationError, msg=text) as caught:
+                make(text, "mine.dw")
+            said = caught.exception
+            self.assertEqual((said.number, said.place, said.span.line, said.span.column), (number, place, line, column), text)
+            self.assertIn(words, str(said), text)
+        with self.assertRaises(deltawobble.WrongUse) as caught:
+            make("main = zero" + " " * 65525)
+        self.assertIn("at most 65535 bytes", str(caught.exception))
+        self.assertEqual(written("main = zero" + " " * 65524), "01 1A 00 00")
+
+    def test_lines_end_by_10_or_13(self):
+        """As a comment does; a form feed ends none."""
+        for text, line, column in (("-- a\r\nmain = \r\n ?", 3, 2), ("-- a\rmain = \r\r?", 4, 1), ("-- a\n\rmain = ?", 3, 8), ("main =\f\v ?", 1, 10)):
+            self.assertEqual(self.place(text)[:2], (line, column), ascii(text))
+
+    def test_json_has_the_number_and_the_offset(self):
+        status, out, _ = command("make", "--json", "-", given=b"main = fun x : 1 -o 1. x one")
+        said = json.loads(out)
+        self.assertEqual((status, said["line"], said["column"], said["refusal"]), (2, 1, 18, {"number": 35, "offset": 17}))
+
+
 class Refusals(unittest.TestCase):
     def lines(self, text: str) -> list[str]:
         made = make(text, "mine.dw")
@@ -148,12 +209,12 @@ class Refusals(unittest.TestCase):
         for text, first, word in [
                 ("main = zero zero", "mine.dw:1:8: refused 12 at node 0", "^^^^ has type 1, and is no function"),
                 ("main = reg reg", "mine.dw:1:8: refused 12 at node 0", "^^^ wants 1, and gets 1 -> 1"),
-                ("main = let (x, y) = one in x", "mine.dw:1:21: refused 12 at node 0", "^^^ has type 1, and is no pair"),
-                ("main = fix x : 1. reg", "mine.dw:1:8: refused 12 at node 0", "^^^^^ is of type 1, and its body has 1 -> 1"),
-                ("main = fix f : 1 -> 1. f", "mine.dw:1:8: refused 12 at node 0", "a fixed point is over a sharable type"),
+                ("main = let (x, y) = one in x", "mine.dw:1:13: refused 12 at node 0", "^ what is taken apart has type 1, and is no pair"),
+                ("main = fix x : 1. reg", "mine.dw:1:12: refused 12 at node 0", "^ is of type 1, and its body has 1 -> 1"),
+                ("main = fix f : 1 -> 1. f", "mine.dw:1:12: refused 12 at node 0", "a fixed point is over a sharable type"),
                 ("main = fun f : 1 -> 1. and (f one) (f one)", "mine.dw:1:37: refused 13 at node 8", "^ f is linear, and is used here again"),
-                ("main = fun f : 1 -> 1. one", "mine.dw:1:8: refused 14 at node 0", "^^^^^ f is linear, and is used nowhere"),
-                ("main = (reg, one)", "mine.dw:1:8: refused 6", "^^^^^^^^^^"), ("main = fun x : 1 -o 1. x one", "mine.dw:1:8: refused 6", "^")]:
+                ("main = fun f : 1 -> 1. one", "mine.dw:1:12: refused 14 at node 0", "^ f is linear, and is used nowhere"),
+                ("main = (reg, one)", "mine.dw:1:12: refused 12 at node 0", "^ a pair holds bits and pairs alone: its first half has type 1 -> 1")]:
             lines = self.lines(text)
             self.assertTrue(lines[0].startswith(first), (text, lines))
             self.assertIn(word, lines[2], text)
@@ -169,10 +230,10 @@ class Refusals(unittest.TestCase):
     def test_which_half_of_a_pair_is_a_circuit(self):
         self.assertIn("its second half has type 1 -> 1", self.lines("main = (one, reg)")[2])
 
-    def test_limits_stand_where_they_are_passed(self):
-        self.assertIn("refused 8", self.lines("main = " + "inv (" * 64 + "one" + ")" * 64)[0])
-        wide = "type t0 = 1\n" + "".join("type t%d = t%d * t%d\n" % (n, n - 1, n - 1) for n in range(1, 9))
-        self.assertEqual(self.lines(wide + "main = fun x : t8. x")[0].split(":")[1:3], ["10", "8"])
+    def test_gates_of_the_other_edition(self):
+        self.assertEqual(self.lines("edition 2 main = fun x y : 1. and x y")[3], "     | in the second edition and takes a pair: and (x, y)")
+        self.assertEqual(self.lines("main = fun x y : 1. or (x, y)")[3], "     | in the first edition or takes one bit after the other: or x y; a pair in the second, 'edition 2'")
+        self.assertEqual(len(self.lines("main = inv (one, one)")), 3)
 
 
 class Commands(unittest.TestCase):

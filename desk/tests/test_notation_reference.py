@@ -1,11 +1,15 @@
-"""The transliteration of the notation's definitions gives every known result that the definitions are proved to give."""
+"""What the desk asks for a text's sheet, the notation's definitions in Python, gives every known result that the definitions are proved to give, and
+the answers of the second program."""
 from __future__ import annotations
 
 import ast
 import re
+import shutil
+import subprocess
+import sys
 import unittest
 
-from .notation_reference import make_by_definition
+from deltawobble.notation.definitions import make_by_definition
 from .support import ROOT
 
 TEXT = r'"((?:[^"\\]|\\.)*)"'
@@ -47,6 +51,16 @@ class KnownResults(unittest.TestCase):
     def test_larger_texts(self) -> None:
         self.assertGreaterEqual(sum(map(self.made, LARGER)), 32)
         self.assertGreaterEqual(sum(map(self.refused, LARGER)), 3)
+
+
+@unittest.skipUnless(shutil.which("cargo"), "NOT RUN: there is no cargo to build the second program")
+class AgainstSecond(unittest.TestCase):
+    def test_generated_texts(self) -> None:
+        """bench/texts on fewer texts: number, place, sheet and places, and each answer occurs."""
+        subprocess.run(["cargo", "build", "--release", "--offline", "--quiet"], cwd=ROOT / "second", check=True)
+        done = subprocess.run([sys.executable, str(ROOT / "bench" / "texts.py"), "1500", "37"], stdout=subprocess.PIPE, text=True)
+        self.assertEqual(done.returncode, 0, done.stdout)
+        self.assertRegex(done.stdout, r"1500 of them generated: 0 different\n$")
 
 
 if __name__ == "__main__":

@@ -89,8 +89,10 @@ class Sheets(Folder):
             with self.assertRaises(Refused) as caught:
                 deltawobble.translate(edges[name])
             self.assertIn(words, str(caught.exception))
+        # a text is refused before there is a sheet: 34, at the outermost node
         status, _, err = command("make", "-", given=("main = " + "inv (" * 64 + "one" + ")" * 64).encode())
-        self.assertIn("refused 8: This record passes a limit: it would have depth 65, and 64 is the limit.", err)
+        self.assertEqual(status, 2)
+        self.assertIn("-:1:8: a limit is passed here: 80 terms or types in one another, a term 64 deep, 2048 nodes", err)
 
 
 class Runs(unittest.TestCase):

@@ -42,7 +42,7 @@ def accepted(sources: Iterator[Source]) -> Iterator[Source]:
 
 
 def example_sources() -> Iterator[Source]:
-    return accepted(read(str(path)) for path in sorted(EXAMPLES.glob("*.dw")) + sorted(EXAMPLES.glob("*.hex")))
+    return accepted(read(str(path)) for path in sorted(EXAMPLES.glob("*.dw")) + sorted(EXAMPLES.glob("*.hex")) + sorted(EXAMPLES.glob("sizes/*-*.dw")))
 
 
 def generated() -> Iterator[Source]:
@@ -95,7 +95,7 @@ class Geometry(unittest.TestCase):
         self.assertGreaterEqual(count, 100)
 
     def test_closed_boxes(self):
-        for name in ("bitonic-sorter-8", "accumulator", "sticky", "serial-adder"):
+        for name in ("bitonic-sorter-8", "accumulator", "sticky", "serial-adder", "sizes/bitonic-8", "sizes/butterfly-16"):
             for depth in (1, 2):
                 self.judged(read(str(EXAMPLES / (name + ".dw"))), depth=depth)
 
@@ -206,6 +206,14 @@ class Boxes(unittest.TestCase):
         for box in boxes:
             ports = sorted((float(t.get("y")), t.text) for t in box.iter(SVG + "text") if t.get("class") != "title")
             self.assertEqual([name for _, name in ports], ["a", "b", "c"])
+
+    def test_a_recursion_has_a_box_for_each_step(self):
+        source = text("delay{0} = fun x : 1. x\ndelay{n + 1} = fun x : 1. reg (delay{n} x)\nmain = fun d : 1. delay{3} d\n")
+        boxes = picture(drawn(source)).boxes
+        self.assertEqual([box.what for box in boxes], ["box delay"] * 3)
+        wide = sorted(boxes, key=lambda box: box.left)
+        for outer, inner in zip(wide, wide[1:]):
+            self.assertTrue(outer.left < inner.left and inner.right < outer.right and outer.top < inner.top and inner.bottom < outer.bottom)
 
     def test_some_250_parts_fit_on_a_page(self):
         bits = 8

@@ -54,7 +54,7 @@ class Names(unittest.TestCase):
         self.assertEqual(vector("nothing", found.nets), [])
 
     def test_every_example(self):
-        for path in sorted(EXAMPLES.glob("*.dw")):
+        for path in sorted(EXAMPLES.glob("*.dw")) + sorted(EXAMPLES.glob("sizes/*-*.dw")):
             found = signals(read(str(path)))
             drives = {element.output for element in found.lean.elements}
             self.assertLessEqual(set(found.nets.values()), drives, path.name)

@@ -1,4 +1,4 @@
-//! docs/NOTATION-PARAMETERS.md: named texts, with the sheet and the places, or the refusal, worked out by hand.
+//! docs/NOTATION.md: named texts, with the sheet and the places, or the refusal, worked out by hand.
 
 use crate::write::{hex, Bytes};
 

@@ -1,4 +1,4 @@
-//! docs/NOTATION-PARAMETERS.md, "Grammar": words to trees; 32, 34 and 36 in the order of the text.
+//! docs/NOTATION.md, "Grammar": words to trees; 32, 34 and 36 in the order of the text.
 
 use crate::notation_tree::*;
 use crate::notation_words::{words, Key, Kind, Word};

@@ -1,4 +1,4 @@
-//! docs/NOTATION-PARAMETERS.md: the call from a text to a sheet, and the order of its refusals.
+//! docs/NOTATION.md: the call from a text to a sheet, and the order of its refusals.
 
 use crate::notation_grammar::parsed;
 use crate::notation_making::{MadeTerm, Maker};

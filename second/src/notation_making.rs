@@ -1,4 +1,4 @@
-//! docs/NOTATION-PARAMETERS.md, "Meaning": trees to records; 33, 34 and 35 in the order in which they are met.
+//! docs/NOTATION.md, "Meaning": trees to records; 33, 34 and 35 in the order in which they are met.
 
 use crate::notation_grammar::LEVELS;
 use crate::notation_scope::*;

@@ -1,4 +1,4 @@
-//! docs/NOTATION-PARAMETERS.md, "Meaning": which clause a name means, what its parameters stand for, and the limits
+//! docs/NOTATION.md, "Meaning": which clause a name means, what its parameters stand for, and the limits
 //! on entries and costs.
 
 use crate::notation_tree::*;

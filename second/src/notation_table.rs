@@ -1,4 +1,4 @@
-//! docs/NOTATION-PARAMETERS.md: "The table of types begins with **1**. Then come the types of the `table` lines,
+//! docs/NOTATION.md: "The table of types begins with **1**. Then come the types of the `table` lines,
 //! then each type when it is first needed, behind its sides."
 
 use crate::notation_tree::Joint;

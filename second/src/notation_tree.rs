@@ -1,4 +1,4 @@
-//! docs/NOTATION-PARAMETERS.md, "Grammar": what the grammar gives, as owned trees. Every tree has the place
+//! docs/NOTATION.md, "Grammar": what the grammar gives, as owned trees. Every tree has the place
 //! of its first word, and its level: how deep it stands in its clause.
 
 #[derive(Clone, Debug)]

@@ -1,4 +1,4 @@
-//! docs/NOTATION-PARAMETERS.md, the paragraph on words: bytes to words; 30, 31, and 34 for a number above 255.
+//! docs/NOTATION.md, the paragraph on words: bytes to words; 30, 31, and 34 for a number above 255.
 
 use crate::parts::PARTS;
 use crate::refusal::{need, Refusal};

@@ -28,7 +28,7 @@ def source(sheet: Given) -> Source:
     if isinstance(sheet, Source):
         return sheet
     if isinstance(sheet, Made):
-        return Source(sheet.file.text.name, sheet.sheet, sheet)
+        return Source(sheet.text.name, sheet.sheet, sheet)
     if isinstance(sheet, (bytes, bytearray, memoryview)):
         return Source("sheet", bytes(sheet))
     if isinstance(sheet, (str, os.PathLike)):

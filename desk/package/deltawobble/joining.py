@@ -7,22 +7,20 @@ of xors. Where the two are of different editions, the one of the first is writte
 """
 from __future__ import annotations
 
-from dataclasses import dataclass, field
+from dataclasses import dataclass
 from typing import Callable, Optional
 
 from .circuit import Circuit
 from .files import Source, WrongUse
 from .naming import names_of
 from .netlist import Element, Netlist
-from .notation.maker import Binder, Record, encode
-from .notation.syntax import Span
+from .records import Binder, Record, encode
 from .sheet import Node, Own, Sheet
 from .typed import Typed
 from .types import BIT, Type, arrow, part_type, product
 from .words import PARTS
 
 XOR, OR = 4, 3
-NOWHERE = Span(0, 0, 0, 0)
 
 
 class Joined(Source):
@@ -37,16 +35,8 @@ class Joined(Source):
         return Own({number: [b.name for b in record.binds] for number, record in enumerate(self.nodes) if record.binds})
 
 
-@dataclass
-class _File:
-    """As much of a text's file as writing records asks for."""
-
-    edition: int
-    table: list = field(default_factory=list)
-
-
 def node(kind: int, body: list, subterms: list[Record], t: Optional[Type], *binds: Binder) -> Record:
-    return Record(kind, body, subterms, t, NOWHERE, list(binds))
+    return Record(kind, body, subterms, t, list(binds))
 
 
 def variable(binder: Binder) -> Record:
@@ -82,7 +72,7 @@ class Joining:
         term = self._differing(values[0], values[1])
         for binder in reversed(inputs):
             term = function(binder, term)
-        data, _, nodes = encode(_File(self.edition), term)  # type: ignore[arg-type]
+        data, nodes = encode(self.edition, term)
         origin = {number: self.origin[id(record)] for number, record in enumerate(nodes) if id(record) in self.origin}
         return Joined("the two sheets joined", nodes, data, origin)
 

@@ -57,7 +57,7 @@ def bits(name: str, t: Type) -> list[str]:
 
 def named_outputs(source: Source) -> Optional[list[str]]:
     """The outputs' names that a comment of the text gives, `-- outputs: greater, diverged`; None where there is none."""
-    lines = source.made.file.text.lines if source.made else []
+    lines = source.made.text.lines if source.made else []
     for number, line in enumerate(lines, 1):
         match = OUTPUTS.match(line)
         if match:

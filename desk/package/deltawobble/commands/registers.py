@@ -41,15 +41,16 @@ def row(circuit: Circuit, source: Source, k: int) -> dict:
     """A register: its number as --starts counts, its output terminal, its node, where that stands in the text, and its names."""
     register = circuit.registers[k]
     node = register.element.node
-    mark = source.made.nodes[node].mark if source.made and node is not None else None
-    return {"register": k, "terminal": register.terminal, "node": node, "line": mark.line if mark else None, "column": mark.column if mark else None,
+    mark = source.made.mark(node) if source.made and node is not None else None
+    used = {"file": source.made.text.files[mark.file].name} if source.made and mark and len(source.made.text.files) > 1 else {}
+    return {"register": k, "terminal": register.terminal, "node": node, **used, "line": mark.line if mark else None, "column": mark.column if mark else None,
             "name": register.name, "also": [name for name in dict.fromkeys(register.aliases) if name != register.name]}
 
 
 def table(rows: list[dict]) -> list[str]:
     words = [["register", "terminal", "node", "place", "name", "also"]]
     for one in rows:
-        place = "%d:%d" % (one["line"], one["column"]) if one["line"] else "-"
+        place = "%s%d:%d" % ("%s:" % one["file"] if "file" in one else "", one["line"], one["column"]) if one["line"] else "-"
         words.append([str(one["register"]), str(one["terminal"]), str(one["node"]), place, one["name"], ", ".join(one["also"]) or "-"])
     wide = [max(len(line[i]) for line in words) for i in range(5)]
     return [("  ".join(word.ljust(w) if i > 2 else word.rjust(w) for i, (word, w) in enumerate(zip(line, wide))) + "  " + line[5]).rstrip() for line in words]

@@ -50,6 +50,5 @@ def run(given: argparse.Namespace) -> int:
     for n in above:
         print(node_line(n))
     if source.made:
-        mark = source.made.nodes[node.number].mark
-        print(*source.made.file.text.shown(mark, "node %d" % node.number), sep="\n")
+        print(*source.made.text.shown(source.made.mark(node.number), "node %d" % node.number), sep="\n")
     return 0

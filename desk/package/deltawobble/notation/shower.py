@@ -4,13 +4,16 @@ from __future__ import annotations
 from dataclasses import dataclass, field
 from typing import Optional
 
+from ..files import WrongUse
 from ..naming import names_of
 from ..sheet import Node, Own, Sheet, part_name
-from ..types import BIT, Type, written
+from ..types import Type, written
 
 WIDE = 100
 #: a type whose words are longer gets a name
 LONG = 24
+#: a type in more levels than these is written as another one in a named surrounding: what stands in `[ ]` is worked out by itself
+MOST_LEVELS = 32
 #: how closely a term binds: a whole one, a function that is applied, an argument
 WHOLE, FUNCTION, ARGUMENT = 0, 1, 2
 
@@ -31,9 +34,11 @@ class Shape:
 class Shower:
     """The words of one sheet's term."""
 
-    def __init__(self, sheet: Sheet):
-        self.sheet, self.names = sheet, names_of(sheet)
+    def __init__(self, sheet: Sheet, table: bool, rows: bool = False):
+        self.sheet, self.names, self.table, self.rows = sheet, names_of(sheet), table, rows
         self.type_names: dict[Type, str] = {}
+        #: for each type with a name the levels that it is worked out in
+        self.levels: dict[Type, int] = {}
 
     def text(self) -> str:
         lines = ["edition 2"] if self.sheet.edition == 2 else []
@@ -43,22 +48,56 @@ class Shower:
     # ---- types
 
     def _types(self) -> list[str]:
-        """Names for long types, and the table where it is not the one that the term alone would give."""
-        ordered = canonical(self.sheet) == self.sheet.types
-        listed = [] if ordered else self.sheet.types
+        """Names for long types, and the table where it is asked for."""
+        listed = self.sheet.types if self.table else []
         annotated = [b.type for bound in self.names.bound.values() for b in bound if b.node.kind in (0x13, 0x15, 0x19)]
         needed = closed([*listed, *annotated])
-        lines = []
+        lines = self._rows(needed) if self.rows else []
         for number, t in enumerate(self.sheet.types):
-            if t in needed and len(written(t, self.type_names)) > LONG:
-                name = self.sheet.own.types.get(t) or self._fresh(number)
-                lines.append("type %s = %s" % (name, written(t, self.type_names)))
-                self.type_names[t] = name
+            if t in needed and t not in self.type_names and len(written(t, self.type_names)) > LONG:
+                lines += self._named(t, self.sheet.own.types.get(t) or self._fresh("t%d" % number))
         return lines + wrapped("table ", [self.type(t) for t in listed])
 
-    def _fresh(self, number: int) -> str:
+    def _rows(self, needed: set[Type]) -> list[str]:
+        """Rows of bits by doubling, as many before something else as a sum of powers of two: 128 bits take 14 levels, where `1 * 1 * ..` takes 127."""
+        ones = {2 ** k: self._fresh("ones%d" % 2 ** k) for k in range(1, 7)}
+        widest = 0
+        for t in sorted(needed, key=lambda t: t.size):
+            bits, rest = 0, t
+            while rest.kind == 2 and rest.left.kind == 1:
+                bits, rest = bits + 1, rest.right
+            if bits >= 4:
+                words = written(rest, self.type_names) if bits % 2 == 0 else written(Type(2, t.left, rest), self.type_names)
+                for size, name in ones.items():
+                    words = "%s[%s]" % (name, words) if bits & size else words
+                self.type_names[t] = words
+                widest = max(widest, bits)
+        first = ["type %s[a] = 1 * 1 * a" % ones[2]] if widest else []
+        return first + ["type %s[a] = %s[%s[a]]" % (ones[size], ones[size // 2], ones[size // 2]) for size in ones if 2 < size <= widest]
+
+    def _named(self, t: Type, name: str) -> list[str]:
+        """The lines that give a type its name."""
+        inner = max((s for s in closed([t]) if s in self.levels), key=lambda s: self.levels[s], default=None)
+        self.levels[t] = 1 + self._height(t)
+        lines = ["type %s = %s" % (name, written(t, self.type_names))]
+        if inner is not None and self.levels[t] > MOST_LEVELS:
+            around, hole = self._fresh("around_%s" % name), self._fresh("a")
+            lines = ["type %s[%s] = %s" % (around, hole, written(t, {**self.type_names, inner: hole})), "type %s = %s[%s]" % (name, around, self.type_names[inner])]
+            kept, self.levels[inner] = self.levels[inner], 1
+            self.levels[t] = max(2 + kept, 2 + self._height(t))
+            self.levels[inner] = kept
+        self.type_names[t] = name
+        return lines
+
+    def _height(self, t: Type) -> int:
+        """The levels that a type's words are worked out in: a name has its own, and a side has one more, two in parentheses."""
+        if t.kind == 1 or t in self.type_names:
+            return self.levels.get(t, 1)
+        return 2 + max(self._height(t.left), self._height(t.right))
+
+    def _fresh(self, name: str) -> str:
         """A type's name that the text has not given to another one."""
-        name, taken = "t%d" % number, set(self.sheet.own.types.values())
+        taken = set(self.sheet.own.types.values())
         while name in taken:
             name += "_"
         return name
@@ -190,35 +229,26 @@ def closed(types: list[Optional[Type]]) -> set[Type]:
     return found
 
 
-def canonical(sheet: Sheet) -> list[Type]:
-    """The table that the term alone gives: the single bit, then each written type behind its sides, as the nodes come."""
-    found: dict[Type, None] = {BIT: None}
-
-    def add(t: Type) -> None:
-        if t not in found:
-            add(t.left)
-            add(t.right)
-            found[t] = None
-
-    for node in sheet.nodes:
-        if node.type_number >= 0:
-            add(sheet.types[node.type_number])
-    return list(found)
-
-
 def show(sheet: bytes, own: Optional[Own] = None) -> str:
-    """The text of an accepted sheet, with names of its own where it has some. What is refused has no text: Refused."""
+    """The text of an accepted sheet, with names of its own where it has some. What is refused has no text: Refused.
+
+    A name may stand for two binders where definitions were put into one another: then all are named anew. The table of types is
+    written where the term alone gives another one, and rows of bits by doubling where the levels do not suffice. What `make` says to a text decides: WrongUse where each passes a limit.
+    """
     from ..calls import translate
     translate(sheet)
-    text = Shower(Sheet.parse(sheet, own)).text()
-    # a name may stand for two binders where definitions were put into one another: then all are named anew
-    return text if own is None or _makes(text, sheet) else Shower(Sheet.parse(sheet)).text()
+    for names in ([own, None] if own is not None else [None]):
+        for rows in (False, True):
+            for table in (False, True):
+                text = Shower(Sheet.parse(sheet, names), table, rows).text()
+                if _makes(text, sheet):
+                    return text
+    raise WrongUse("this sheet's text would pass a limit of the notation: 80 terms or types in one another, 65535 bytes, or 32767 for what is put in")
 
 
 def _makes(text: str, sheet: bytes) -> bool:
-    from .made import make
-    from .syntax import NotationError
+    from .call import Refusal, make
     try:
-        return make(text).sheet == sheet
-    except NotationError:
+        return make(text.encode())[0] == sheet
+    except Refusal:
         return False

@@ -12,7 +12,6 @@ from ..bits import Inside, ticks
 from ..explain import refused_lines
 from ..files import Source
 from ..netlist import Netlist
-from ..notation.syntax import Span
 from ..picture import Frame, lay_out
 from ..picture.plan import Plan
 from ..pins import pin_names
@@ -77,8 +76,7 @@ def refused_facts(source: Source, refused: Refused) -> Facts:
 def fault_at(source: Source, refused: Refused) -> Optional[object]:
     """Where in the panel a refusal stands: a stretch of the text, a node or an offset."""
     if source.made:
-        origin = source.made.record_of(refused)
-        return origin if origin is None or isinstance(origin, Span) else origin.mark
+        return source.made.span_of(refused)
     return refused.place if place_word(refused.number) in ("node", "offset") else None
 
 

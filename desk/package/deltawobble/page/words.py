@@ -7,8 +7,7 @@ from typing import Iterator, Optional
 from ..files import Source
 from ..naming import names_of
 from ..netlist import Netlist
-from ..notation.lexer import tokens
-from ..notation.syntax import Apart, Span, Term
+from ..notation.text import Span
 from ..picture.plan import Plan
 from ..sheet import Node, Sheet
 from ..tree import label
@@ -76,77 +75,73 @@ def lines_of(source: Source, plan: Optional[Plan], lean: Optional[Netlist], faul
 # ---- notation
 
 def notation_lines(source: Source, plan: Optional[Plan], lean: Optional[Netlist], fault: Optional[object]) -> Lines:
+    """The files of the text, one below the other; the name of each stands before it where there are several."""
     made = source.made
     assert made is not None
-    text = made.file.text
-    words = {(t.span.line, t.span.column): Word(t.span.line - 1, t.span.column - 1, t.span.end_column - 1) for t in tokens(text)[:-1]}
+    heads, texts, firsts = [], [], []
+    for file in made.text.files:
+        if len(made.text.files) > 1:
+            heads.append("")
+            texts.append("-- " + file.name)
+        firsts.append(len(texts))
+        heads += [str(i + 1) for i in range(len(file.lines))]
+        texts += file.lines
+    words = []
+    for word in made.words.all[:-1]:
+        span = made.text.span(word.start, word.end)
+        words.append(Word(firsts[span.file] + span.line - 1, span.column - 1, span.end_column - 1))
     if plan and lean:
         join_gates(words, source, lean)
         join_nets(words, plan)
     if isinstance(fault, Span):
-        mark_fault(words, fault)
-    kept = [w for w in sorted(words.values(), key=lambda w: (w.line, w.start)) if w.gates or w.way or w.nets or w.fault]
-    return Lines([str(i + 1) for i in range(len(text.lines))], text.lines, kept, "text")
+        mark_fault(words, firsts[fault.file], fault)
+    kept = [w for w in sorted(words, key=lambda w: (w.line, w.start)) if w.gates or w.way or w.nets or w.fault]
+    return Lines(heads, texts, kept, "text")
 
 
-def join_gates(words: dict[tuple[int, int], Word], source: Source, lean: Netlist) -> None:
+def join_gates(words: list[Word], source: Source, lean: Netlist) -> None:
     """A part's word made its gates; the name of a definition, where it is put in and where it is defined, is the way to them."""
     made = source.made
     assert made is not None
     for e in lean.parts:
         if e.node is None:
             continue
-        record = made.nodes[e.node]
-        words[record.mark.line, record.mark.column].gates.append(e.first)
-        for span in record.through:
-            name = made.file.text.lines[span.line - 1][span.column - 1:span.end_column - 1]
-            head = made.file.heads[name]
-            for place in ((span.line, span.column), (head.line, head.column)):
-                if e.first not in words[place].way:
-                    words[place].way.append(e.first)
+        origin = made.origins[e.node]
+        words[origin.word].gates.append(e.first)
+        for number in [number for put in origin.through for number in (*put.at, put.head)]:
+            if e.first not in words[number].way:
+                words[number].way.append(e.first)
 
 
-def join_nets(words: dict[tuple[int, int], Word], plan: Plan) -> None:
+def join_nets(words: list[Word], plan: Plan) -> None:
     """A variable's word names the nets of its bits, where it is bound and where it is read."""
     made = plan.source.made
     assert made is not None
-    apart = {place: spans for term in made.file.definitions.values() for place, spans in taken_apart(term)}
     for node in plan.sheet.nodes:
-        record = made.nodes[node.number]
+        number = made.origins[node.number].word
         if node.kind == 0x11:
-            # the rest of a pair has no name in the text
-            if record.body[0].name != ".":
-                add_nets(words.get((record.mark.line, record.mark.column)), plan, plan.interfaces.of[node.number])
-        elif node.kind in (0x13, 0x19, 0x1B) and record.binds and record.binds[0].type.sharable:
-            inside = [w for (line, column), w in words.items() if line == record.mark.end_line and w.end == record.mark.end_column - 1]
-            add_nets(inside[0] if inside else None, plan, plan.interfaces.bound[node.number][0])
+            # the rest of a pair has no name in the text: its word is the name that is taken from it next
+            above = node.parent
+            rest = above is not None and above.kind == 0x18 and above.subterms[0] is node and made.places[above.number] == made.places[node.number]
+            if not rest:
+                add_nets(words[number], plan, plan.interfaces.of[node.number])
+        elif node.kind in (0x13, 0x19, 0x1B):
+            add_nets(words[number], plan, plan.interfaces.bound[node.number][0])
         elif node.kind == 0x18:
-            for span, binder, interface in zip(apart.get((record.mark.line, record.mark.column), []), record.binds, plan.interfaces.bound[node.number]):
-                if binder.name != ".":
-                    add_nets(words.get((span.line, span.column)), plan, interface)
+            first, second = plan.interfaces.bound[node.number]
+            add_nets(words[number], plan, first)
+            if made.words.all[number + 3].kind == ")":
+                add_nets(words[number + 2], plan, second)
 
 
-def taken_apart(term: Term) -> Iterator[tuple[tuple[int, int], list[Span]]]:
-    """For each projection that a term makes, the place that its record is marked with, and where the names stand that it binds."""
-    if isinstance(term, Apart):
-        spans = [span for _, span in term.names]
-        places = [term.value.span] + spans[1:]
-        for number, place in enumerate(places[:-1]):
-            yield (place.line, place.column), spans[number:]
-    for below in vars(term).values():
-        if isinstance(below, Term):
-            yield from taken_apart(below)
+def add_nets(word: Word, plan: Plan, interface: list[int]) -> None:
+    word.nets += [net for net in map(plan.nets.of, interface) if net not in word.nets]
 
 
-def add_nets(word: Optional[Word], plan: Plan, interface: list[int]) -> None:
-    if word is not None:
-        word.nets += [net for net in map(plan.nets.of, interface) if net not in word.nets]
-
-
-def mark_fault(words: dict[tuple[int, int], Word], span: Span) -> None:
-    first, last = (span.line, span.column), (span.end_line, span.end_column)
-    for place, word in words.items():
-        if first <= place < last or (place == first):
+def mark_fault(words: list[Word], first: int, span: Span) -> None:
+    begin, end = (first + span.line - 1, span.column - 1), (first + span.end_line - 1, span.end_column - 1)
+    for word in words:
+        if begin <= (word.line, word.start) < end or (word.line, word.start) == begin:
             word.fault = True
 
 

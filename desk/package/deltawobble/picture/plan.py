@@ -17,8 +17,8 @@ MOST_NAME = 14
 SMALL, PLAIN = 8, 9
 POINT = 20
 
-#: where a definition was put in, from the outside inwards; each place as (line, column)
-Path = tuple[tuple[int, int], ...]
+#: the first nodes of the definitions that were put in around something, from the outside inwards
+Path = tuple[int, ...]
 
 
 def cut(name: str) -> str:
@@ -47,7 +47,7 @@ class Plan:
         self.numbered = nodes or source.made is None
         self.sheet = Sheet.parse(source.bytes, source.own)
         self.nets, self.interfaces = Nets(net, full), Interfaces(self.sheet)
-        through = {i: len(r.through) for i, r in enumerate(source.made.nodes)} if source.made else {}
+        through = {i: len(origin.through) for i, origin in enumerate(source.made.origins)} if source.made else {}
         self.names: dict[int, list[Named]] = net_names(self.sheet, self.nets, self.interfaces, through)
         self.driven = {target: self.nets.at_pins.get(start, start) for start, target in net.wires}
         self.elements = [e for e in net.elements if e.output not in self.nets.at_pins]
@@ -69,10 +69,8 @@ class Plan:
         made = self.source.made
         if made is None or node is None:
             return []
-        spans = made.nodes[node].through
-        lines = made.file.text.lines
-        places = tuple((s.line, s.column) for s in spans)
-        return [(places[:i + 1], lines[s.line - 1][s.column - 1:s.end_column - 1]) for i, s in enumerate(spans)]
+        origin = made.origins[node]
+        return [(origin.path[:i + 1], put.name) for i, put in enumerate(origin.through)]
 
     def boxes(self) -> Box:
         root = Box((), "")
@@ -98,11 +96,11 @@ class Plan:
         """The nets of a definition's variables by name, and those of its result; each in its order."""
         made = self.source.made
         assert made is not None, "boxes come from a notation"
-        node: Node = next(n for n in self.sheet.nodes if tuple((s.line, s.column) for s in made.nodes[n.number].through) == box.path)
+        node: Node = self.sheet.nodes[box.path[-1]]
         taken: dict[int, str] = {}
         while node.kind in (0x13, 0x15):
             bound = self.interfaces.bound[node.number][0]
-            name = made.nodes[node.number].binds[0].name
+            name = made.origins[node.number].binds[0]
             if node.kind == 0x13:
                 for bit, terminal in enumerate(bound):
                     taken.setdefault(self.nets.of(terminal), name if len(bound) == 1 else "%s.%d" % (name, bit))
@@ -158,8 +156,9 @@ class Plan:
         made = self.source.made
         if made is None or e.node is None:
             return ""
-        here = made.nodes[e.node].through
-        return next((cut(n.name) for n in self.names.get(e.output, []) if here[:len(made.nodes[n.node].through)] == made.nodes[n.node].through), "")
+        here = made.origins[e.node].path
+        around = lambda n: made.origins[n.node].path
+        return next((cut(n.name) for n in self.names.get(e.output, []) if here[:len(around(n))] == around(n)), "")
 
 
 def sorted_ports(nets: list[int], named: dict[int, str]) -> list[Port]:

@@ -1,8 +1,10 @@
-"""The definitions of crates/notation_calculus (Words, Grammar, Making, Make), one function after the other. Slow, and made to be compared with:
-test_notation_reference holds it to the known results that the definitions are proved to give."""
+"""NOT PROVED. The definitions of crates/notation_calculus (Words, Grammar, Making, Make) written in Python, one function after the other.
+
+It stands in for the proved call `make`, and goes when that lands; `call` is the one place that asks it. It is held to every known result that the
+definitions are proved to give (desk/tests/test_notation_reference.py), and to `second make` on 100,000 generated texts (bench/texts).
+"""
 import sys
 from collections import namedtuple
-sys.setrecursionlimit(100000)
 
 class Refusal(Exception):
     def __init__(self, number, place): self.number, self.place = number, place
@@ -314,7 +316,10 @@ class Making:
         return (b'\x31' if self.second else b'') + b''.join(bytes(r) for r in self.table) + m.term, m.places
 def make_by_definition(text):
     """('made', bytes, places) or ('refused', number, place)."""
+    kept = sys.getrecursionlimit()
+    sys.setrecursionlimit(max(kept, 20000))
     try:
         need(len(text) <= 65535, 30, 0)
         return ('made',) + Making(Grammar(words(text)).text()).sheet()
     except Refusal as r: return ('refused', r.number, r.place)
+    finally: sys.setrecursionlimit(kept)
