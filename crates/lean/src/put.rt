@@ -13,6 +13,7 @@ ghost use Prim.Native.Nat.{_+_, _*_, _≤_, _<_};
 ghost use lib.Seq.{sets};
 ghost use lib.ListN.{length, getD, drop};
 ghost use Rattle.memory.specs.Map.{rootsAt, makersAt};
+ghost use Rattle.netlist.specs.Elements.{nodeSize};
 ghost use Rattle.lean.specs.Table.{entry};
 ghost use Rattle.lean.specs.Layout.{leanPinsAt, rowIn, leftAfter, LeanReady};
 ghost use Rattle.lean.specs.Rows.{recordBytesAt, wireBytesAt, pinBytesAt, recordsIn, entrySize, sizesIn};
@@ -28,20 +29,20 @@ fn maker_at(work: &[u16], i: usize) -> u16
     0
 }
 
-// The record of the element whose output is x. As each function that follows, it answers the offset past what it wrote.
+// The record of the element whose output is x, and whose maker is the i-th. As each function that follows, it answers the offset past what it wrote.
 fn put_element(
     work: &[u16],
     end: usize,
     pins: usize,
     x: usize,
-    node: u16,
+    i: usize,
     out: &mut [u8],
     at: usize,
     plain: bool,
 ) -> usize
-    requires { ⌜ LeanReady (now work) end pins × ((x < end) × (at + length (recordBytesAt plain node (entry (now work) x) x) ≤ length (now out))) ⌝ }
-    ensures { λ r. ⌜ (r ≡ at + length (recordBytesAt plain node (entry (now (work .entry)) x) x))
-        × (now (out .exit) ≡ sets (now (out .entry)) at (recordBytesAt plain node (entry (now (work .entry)) x) x)) ⌝ }
+    requires { ⌜ LeanReady (now work) end pins × ((x < end) × ((i ≤ x) × (at + length (recordBytesAt plain (getD (now work) (makersAt + i) 0) (entry (now work) x) x) ≤ length (now out)))) ⌝ }
+    ensures { λ r. ⌜ (r ≡ at + length (recordBytesAt plain (getD (now (work .entry)) (makersAt + i) 0) (entry (now (work .entry)) x) x))
+        × (now (out .exit) ≡ sets (now (out .entry)) at (recordBytesAt plain (getD (now (work .entry)) (makersAt + i) 0) (entry (now (work .entry)) x) x)) ⌝ }
 {
     let v = work[LEAN + x];
     if v < KIND {
@@ -51,6 +52,7 @@ fn put_element(
         return at;
     }
     let kind = v - KIND;
+    let node = maker_at(work, i);
     netlist::put_element(out, at, kind, pass::first_of(kind, x), node, plain)
 }
 
@@ -79,8 +81,7 @@ pub fn put_elements(
     let mut i: usize = 0;
     let mut x: usize = 0;
     while x < end {
-        let node = maker_at(work, i);
-        at = put_element(work, end, pins, x, node, out, at, plain);
+        at = put_element(work, end, pins, x, i, out, at, plain);
         i = after(work, end, pins, x, i);
         x = x + 1;
     }
@@ -133,32 +134,31 @@ pub fn put_pins(work: &[u16], end: usize, pins: usize, out: &mut [u8], from: usi
     at
 }
 
-// The bytes that terminal x gives: of its wire, or of its element.
-fn size_at(work: &[u16], end: usize, pins: usize, x: usize, plain: bool) -> usize
-    requires { ⌜ LeanReady (now work) end pins × (x < end) ⌝ }
-    ensures { λ r. ⌜ (r ≡ entrySize plain (entry (now (work .entry)) x)) × (r ≤ 6) ⌝ }
+// The bytes that a terminal gives by its entry: of its wire, or of its element, whose node takes `own`.
+fn size_of(v: u16, own: u16, plain: bool) -> u16
+    requires { ⌜ own ≡ nodeSize plain 1 ⌝ }
+    ensures { λ r. ⌜ (r ≡ entrySize plain v) × (r ≤ 6) ⌝ }
 {
-    let v = work[LEAN + x];
     if v < KIND {
         return if v == 0 { 0 } else { 5 };
     }
     if v >= LEFT_OUT {
         return 0;
     }
-    let own = netlist::node_size(1, plain);
     if v == KIND + POINT { 3 + own } else { 4 + own }
 }
 
-// The bytes of all elements and wires.
+// The bytes of all elements and wires. They are few enough for 16 bits, so that the compiler takes several terminals at once.
 pub fn size(work: &[u16], end: usize, pins: usize, plain: bool) -> usize
     requires { ⌜ LeanReady (now work) end pins ⌝ }
     ensures { λ r. ⌜ (r ≡ sizesIn plain (now (work .entry)) end 0) × (r ≤ 6 * end) ⌝ }
 {
-    let mut sum: usize = 0;
+    let own = netlist::node_size(1, plain) as u16;
+    let mut sum: u16 = 0;
     let mut x: usize = 0;
     while x < end {
-        sum = sum + size_at(work, end, pins, x, plain);
+        sum = sum + size_of(work[LEAN + x], own, plain);
         x = x + 1;
     }
-    sum
+    sum as usize
 }

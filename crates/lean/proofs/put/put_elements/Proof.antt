@@ -1,6 +1,6 @@
 -- The invariant: what is written and the records that are still to come make the whole. Assumes nothing.
 use native.Mathlib.Omega.{arith}
-use mathlib.Core.Path.{sym, _∙_, subst}
+use mathlib.Core.Path.{sym, subst}
 use Prim.Native.Nat.{_≤_, _-_, _+_}
 use lib.ListN.{length, drop}
 use Rattle.calculus.specs.Makers.{maker}
@@ -26,35 +26,35 @@ loop-holds c =
     let w = a .work .now in
     (omega arith, (omega arith, subst (Writing (a .out .now) (a .from) _ (a .out .now) (a .from)) (sym (records-start (a .plain) w (a .end) (drop makersAt w))) (writing-start (a .out .now) (a .from) _)))
 
-maker-at-requires : tie.Need-maker-at-requires Inv-loop μ-loop
-maker-at-requires c κs = let b = c .before .before .before .before .pre .0 .below in omega (arith, c .before .loop .inv .1 .0)
-
 put-element-requires : tie.Need-put-element-requires Inv-loop μ-loop
 put-element-requires c κs =
-    let s = c .before .before .before .before .before .before in
+    let s = c .before .before .before .before .before in
     let a = s .args in
     let w = a .work .now in
-    let l = c .before .before .before .loop in
-    let h = c .before .before .loop-test .taken in (
+    let l = c .before .before .loop in
+    let h = c .before .loop-test .taken in (
       s .pre .0,
       (
         h,
-        rw (l .inv .1 .1 .size, c .before .maker-at .ensures ∙ maker-left w (l .i))
-            (writing-fits (a .out .now) (a .from) _ (l .out) (l .at) _ (recordBytesAt (a .plain) (maker (drop (l .i) (drop makersAt w))) (entry w (l .x)) (l .x)) (recordsIn (a .plain) w (a .end - (l .x + 1)) (l .x + 1) (leftAfter (entry w (l .x)) (drop (l .i) (drop makersAt w)))) (l .inv .1 .1) (records-first (a .plain) w (a .end) (drop makersAt w) (l .x) (l .i) h) (length (a .out .now)) (s .pre .1)),
+        (
+          l .inv .1 .0,
+          rw (l .inv .1 .1 .size, maker-left w (l .i))
+              (writing-fits (a .out .now) (a .from) _ (l .out) (l .at) _ (recordBytesAt (a .plain) (maker (drop (l .i) (drop makersAt w))) (entry w (l .x)) (l .x)) (recordsIn (a .plain) w (a .end - (l .x + 1)) (l .x + 1) (leftAfter (entry w (l .x)) (drop (l .i) (drop makersAt w)))) (l .inv .1 .1) (records-first (a .plain) w (a .end) (drop makersAt w) (l .x) (l .i) h) (length (a .out .now)) (s .pre .1)),
+        ),
       ),
     )
 
 after-requires : tie.Need-after-requires Inv-loop μ-loop
-after-requires c κs = let s = c .before .before .before .before .before .before .before .before .before in let l = c .before .before .before .before .before .before .loop in (s .pre .0, (c .before .before .before .before .before .loop-test .taken, l .inv .1 .0))
+after-requires c κs = let s = c .before .before .before .before .before .before .before .before in let l = c .before .before .before .before .before .loop in (s .pre .0, (c .before .before .before .before .loop-test .taken, l .inv .1 .0))
 
 loop-again : tie.Need-loop-again Inv-loop μ-loop
 loop-again c =
-    let a = c .before .before .before .before .before .before .before .before .before .before .args in
+    let a = c .before .before .before .before .before .before .before .before .before .args in
     let w = a .work .now in
-    let l = c .before .before .before .before .before .before .before .loop in
-    let p = rw (c .before .before .before .before .before .maker-at .ensures ∙ maker-left w (l .i)) at (c .before .before .before .put-element .ensures) in
+    let l = c .before .before .before .before .before .before .loop in
+    let p = rw (maker-left w (l .i)) at (c .before .before .before .put-element .ensures) in
     let e = c .after .ensures in
-    (omega arith, (e .0, rw (e .1) (writing-step (a .out .now) (a .from) _ (l .out) (l .at) _ (recordBytesAt (a .plain) (maker (drop (l .i) (drop makersAt w))) (entry w (l .x)) (l .x)) (recordsIn (a .plain) w (a .end - (l .x + 1)) (l .x + 1) (leftAfter (entry w (l .x)) (drop (l .i) (drop makersAt w)))) (l .inv .1 .1) (records-first (a .plain) w (a .end) (drop makersAt w) (l .x) (l .i) (c .before .before .before .before .before .before .loop-test .taken)) _ _ (p .0) (p .1))))
+    (omega arith, (e .0, rw (e .1) (writing-step (a .out .now) (a .from) _ (l .out) (l .at) _ (recordBytesAt (a .plain) (maker (drop (l .i) (drop makersAt w))) (entry w (l .x)) (l .x)) (recordsIn (a .plain) w (a .end - (l .x + 1)) (l .x + 1) (leftAfter (entry w (l .x)) (drop (l .i) (drop makersAt w)))) (l .inv .1 .1) (records-first (a .plain) w (a .end) (drop makersAt w) (l .x) (l .i) (c .before .before .before .before .before .loop-test .taken)) _ _ (p .0) (p .1))))
 
 returns : tie.Need-returns Inv-loop μ-loop
 returns c =
@@ -65,4 +65,4 @@ returns c =
 pub put-elements-spec : {M : Type 1} → statement M
 put-elements-spec =
     tie.close
-    (tie.spec Inv-loop μ-loop loop-holds maker-at-requires put-element-requires after-requires (λ c. omega arith) (λ c. omega arith) loop-again (λ c. c .before .loop .inv .1 .1 .size) returns)
+    (tie.spec Inv-loop μ-loop loop-holds put-element-requires after-requires (λ c. omega arith) (λ c. omega arith) loop-again (λ c. c .before .loop .inv .1 .1 .size) returns)
