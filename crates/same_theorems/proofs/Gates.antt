@@ -61,7 +61,7 @@ pub record IsGate (p : ℕ) : Type 0 where
   pub makes : (τ : Ty) (i : ℕ) → madeCon τ p i ≡ gateMade τ p i
   pub types : (E : Edition) → partAt p .type E ≡ gateType E
 
-or-gate : IsGate 3
+pub or-gate : IsGate 3
 or-gate = record { makes = λ τ i. refl; types = types }
   where
     types : (E : Edition) → partAt 3 .type E ≡ gateType E
@@ -225,11 +225,11 @@ either-compared E i k k′ s s′ x y l a b = record {
 side-size : {θ : Ty} {b : Bound} → Suits θ b → length (b .side) ≡ length (turns false θ)
 side-size {b = b} s = sym (length-map (b .side) dir) ∙ ap length (s .dirs)
 
-module _ (E : Edition) (Φ : Table) (ok : TableOk Φ) where
-  -- the two halves of two values, taken apart: the binders of the body
-  abbrev pub parted : Made → Made → List Bound → List Bound
-  parted x y env = secondHalf y ∷ firstHalf y ∷ secondHalf x ∷ firstHalf x ∷ env
+-- the two halves of two values, taken apart: the binders of the body
+abbrev pub parted : Made → Made → List Bound → List Bound
+parted x y env = secondHalf y ∷ firstHalf y ∷ secondHalf x ∷ firstHalf x ∷ env
 
+module _ (E : Edition) (Φ : Table) (ok : TableOk Φ) where
   -- the or of both halves, from the comparison of each
   halves-by : (θ₁ θ₂ : Ty) (x y : Made) (env : List Bound) (at : ℕ) (a b : Term) → Suits (prod θ₁ θ₂) (wholeOf x) → Suits (prod θ₁ θ₂) (wholeOf y)
       → ((at : ℕ) → Suits θ₁ (firstHalf x) → Suits θ₁ (firstHalf y) → Ranged E Φ a → Compared (make Φ a (parted x y env) at) (firstHalf x .side) (firstHalf y .side))

@@ -1,6 +1,7 @@
 pub mod Moved
 pub mod Gates
 pub mod Applying
+pub mod Playing
 pub mod Joining
 pub mod Pins
 pub mod Standing
