@@ -7,3 +7,4 @@ pub mod Pins
 pub mod Standing
 pub mod Main
 pub mod Worked
+pub mod Meeting

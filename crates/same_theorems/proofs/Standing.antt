@@ -90,7 +90,7 @@ module _ (m : Net) (ok : Formed m) where
   shown-root ps o c = let f : pointIn (m .elements) o ≡ false = all-right (PinOk m) ps (out o ∷ []) c .0 in rw f
 
   -- a register's output stands for itself
-  register-stays : (es : List Element) → All (StandsApart m) es → All (λ r. standIn m (r + 1) ≡ r + 1) (registers es)
+  pub register-stays : (es : List Element) → All (StandsApart m) es → All (λ r. standIn m (r + 1) ≡ r + 1) (registers es)
   register-stays [] c = tt
   register-stays (point i ∷ es) c = register-stays es (c .1)
   register-stays (part p i ∷ es) c = by (eqb p 1) refl (register-stays es (c .1))
@@ -162,7 +162,7 @@ module _ (θs : List Ty) (θ : Ty) (bits : OfBits θs θ) (m : Made) (o : ℕ) (
         let e : r + 1 + d ≡ r + d + 1 = omega arith in
         ap₂ (λ (b : Bool) (r : List ℕ). bitByte b ∷ r) (ap (λ (y : ℕ). β y 0) (sym (ap (standIn (netOf m)) e ∙ a .0))) (woken-half β rs (a .1))
 
-outputs-kept : (m : Made) → registerOutputs (lean (netOf m)) ≡ map (λ r. r + 1) (registers (m .elements))
+pub outputs-kept : (m : Made) → registerOutputs (lean (netOf m)) ≡ map (λ r. r + 1) (registers (m .elements))
 unfolding lean
 outputs-kept m = ap (map (λ r. r + 1)) (lean-registers (netOf m) (m .elements))
 
