@@ -87,8 +87,7 @@ funs-run n β (θ ∷ θs) i m r =
 lines-split : (n : ℕ) (β : Bits) (s s′ t t′ : Interface) → length s ≡ length s′ → lines n β (s ++ t) ≡ lines n β (s′ ++ t′) → (lines n β s ≡ lines n β s′) × (lines n β t ≡ lines n β t′)
 lines-split n β s s′ t t′ l e =
     let q = sym (lines-append n β s t) ∙ e ∙ lines-append n β s′ t′ in
-    let k = length s in
-    (
+    let k = length s in (
       sym (take-at (lines n β s) (lines n β t) k (lines-length n β s)) ∙ ap (take k) q ∙ take-at (lines n β s′) (lines n β t′) k (lines-length n β s′ ∙ sym l),
       sym (drop-at (lines n β s) (lines n β t) k (lines-length n β s)) ∙ ap (drop k) q ∙ drop-at (lines n β s′) (lines n β t′) k (lines-length n β s′ ∙ sym l),
     )

@@ -332,8 +332,7 @@ laid-sides n (θ ∷ θs) i ws β e c =
     let q : length ws ≡ size θ + length (inSides θs k) = e ∙ length-append (inSide ts i) (inSides θs k) ∙ ap (λ (z : ℕ). z + length (inSides θs k)) (in-length θ i) in
     let l₁ : length w₁ ≡ length ts = length-take-le (size θ) ws (omega arith) ∙ sym (turns-size false θ) in
     let r = laid-sides n θs k w₂ β₁ (let l = length-drop (size θ) ws in omega arith) (all-drop (Cut n) (size θ) ws c) in
-    let c₁ = all-take (Cut n) (size θ) ws c in
-    (
+    let c₁ = all-take (Cut n) (size θ) ws c in (
       lines-append n δ (inSide ts i) (inSides θs k) ∙ ap₂ _++_ (lines-keep k δ β₁ g n (inSide ts i) (low-in k ts i (omega (arith, turns-size false θ))) ∙ lay-in n ts w₁ i β l₁ c₁) (r .0) ∙ take-append-drop (size θ) ws,
       lines-append n δ (outSide ts i) (outSides θs k) ∙ ap₂ _++_ (lines-keep k δ β₁ g n (outSide ts i) (low-out k ts i (omega (arith, turns-size false θ))) ∙ lay-out n ts w₁ i β l₁ c₁) (r .1) ∙ take-append-drop (size θ) ws,
     )
