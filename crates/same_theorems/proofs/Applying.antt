@@ -1,17 +1,17 @@
 -- What a function around a body makes, and what a closed term makes that is applied to the function's binders: the inputs of the whole are
 -- those of the term. Assumes nothing.
-use Prim.Native.Nat.{ℕ, zero, suc, _+_, _*_, _<_}
+use Prim.Native.Nat.{ℕ, suc, _+_, _*_}
 use mathlib.Core.Path.{_≡_, refl, sym, ap, ap₂, _∙_, subst}
-use mathlib.Core.Bool.{Bool, true, false, not}
-use mathlib.Core.List.{List, [], _∷_, _++_, map, append-assoc, append-nil}
+use mathlib.Core.Bool.{Bool, true, false}
+use mathlib.Core.List.{List, [], _∷_, _++_, append-assoc, append-nil}
 use native.Mathlib.Omega.{arith}
 use lib.ListN.{length, getD, take, drop}
 use lib.Seq.{take-at, drop-at}
 use Rattle.laws.proofs.Parts.{map-take, map-drop}
-use Rattle.calculus.specs.Types.{Ty, bit, prod, arrow, lolli, size, Table, tree}
+use Rattle.calculus.specs.Types.{Ty, bit, arrow, size, Table}
 use Rattle.calculus.specs.Terms.{Edition, Term, var, app}
-use Rattle.calculus.specs.Net.{inp, out, Interface, turns, Element, points, inSide, outSide, join, Bound, unbound, Made, leftOf, rightOf, binder, madeVar, madeFun, madeApp, make}
-use Rattle.calculus.specs.Record.{Bits, All, Works, Joined, partLaw}
+use Rattle.calculus.specs.Net.{Interface, turns, points, inSide, outSide, join, Bound, unbound, Made, leftOf, rightOf, binder, madeVar, madeFun, madeApp, make}
+use Rattle.calculus.specs.Record.{Bits, Works, Joined, partLaw}
 use Rattle.sheet_theorems.specs.Laid.{TableOk, Ranged}
 use Rattle.circuit_theorems.specs.Scope.{dir, dirs}
 use Rattle.circuit_theorems.proofs.Lists.{all-append, all-left, all-right}

@@ -1,5 +1,5 @@
 -- What the comparing term makes: one output, off exactly where the bits of two binders are the same. Assumes nothing.
-use Prim.Native.Nat.{ℕ, zero, suc, _+_, _<_}
+use Prim.Native.Nat.{ℕ, suc, _+_, _<_}
 use mathlib.Core.Path.{_≡_, refl, sym, ap, ap₂, _∙_, subst}
 use mathlib.Core.Logic.{_↔_}
 use mathlib.Core.Bool.{Bool, true, false, cond, _&&_, _||_, xor, true≢false}
@@ -8,12 +8,11 @@ use native.Mathlib.Omega.{arith}
 use lib.Dec.{T, eqb}
 use lib.ListN.{length, getD, take, drop, length-map, take-append-drop}
 use Rattle.laws.proofs.Tests.{and-both}
-use Rattle.laws.proofs.Parts.{map-take, map-drop}
 use Rattle.calculus.specs.Types.{Ty, bit, prod, arrow, lolli, size, sharable, Table, tree}
 use Rattle.calculus.specs.Terms.{Edition, first, second, Term, var, partAt}
 use Rattle.calculus.specs.Walk.{typeNumber}
-use Rattle.calculus.specs.Net.{inp, out, number, Interface, turns, Element, point, part, Wire, join, Bound, unbound, Made, leftOf, madeVar, madeApp, madePair, firstHalf, secondHalf, wholeOf, madeProj, madeCon, make, netOf}
-use Rattle.calculus.specs.Record.{Stream, Bits, All, Same, Works, Joined, Possible, partLaw}
+use Rattle.calculus.specs.Net.{inp, out, number, Interface, turns, Element, point, part, join, Bound, unbound, Made, leftOf, madeVar, madeApp, madePair, firstHalf, secondHalf, wholeOf, madeProj, madeCon, make, netOf}
+use Rattle.calculus.specs.Record.{Bits, All, Same, Works, Joined, Possible, partLaw}
 use Rattle.sheet_theorems.specs.Laid.{TableOk, Ranged}
 use Rattle.circuit_theorems.specs.Scope.{dir, dirs, Suits}
 use Rattle.circuit_theorems.proofs.Lists.{all-left, all-right}

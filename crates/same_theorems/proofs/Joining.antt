@@ -1,33 +1,33 @@
 -- What two closed terms of one type make as one: both stand in it, their inputs are its inputs, and its output is 0 exactly where theirs are
 -- the same. Assumes nothing.
-use Prim.Native.Nat.{ℕ, zero, suc, _+_, _*_, _<_, _≤_}
+use Prim.Native.Nat.{ℕ, zero, suc, _+_, _<_, _≤_}
 use mathlib.Core.Path.{_≡_, refl, sym, ap, ap₂, _∙_, subst}
 use mathlib.Core.Logic.{_↔_}
-use mathlib.Core.Bool.{Bool, true, false, cond, _&&_, xor}
+use mathlib.Core.Bool.{Bool, true, false, cond, xor}
 use mathlib.Core.List.{List, [], _∷_, _++_, map, map-append, append-nil}
 use native.Mathlib.Omega.{arith}
 use lib.Dec.{T, eqb}
-use lib.ListN.{length, getD, take, drop}
+use lib.ListN.{length, take, drop}
 use Rattle.laws.proofs.Parts.{map-take, map-drop}
 use Rattle.laws.proofs.Tests.{and-both}
-use Rattle.calculus.specs.Types.{Ty, bit, prod, arrow, lolli, size, sharable, Table, tree}
+use Rattle.calculus.specs.Types.{Ty, bit, prod, arrow, lolli, size, sharable, Table}
 use Rattle.calculus.specs.Terms.{Edition, Term, var, app}
-use Rattle.calculus.specs.Net.{Terminal, inp, out, number, Interface, turns, Element, point, part, Wire, wireOf, Bound, Made, leftOf, firstHalf, secondHalf, wholeOf, madeProj, make, netOf}
-use Rattle.calculus.specs.Record.{Stream, Bits, All, Among, here, there, Works, Joined, Possible, partLaw}
+use Rattle.calculus.specs.Net.{inp, out, number, Interface, turns, Element, point, part, Bound, Made, leftOf, firstHalf, secondHalf, wholeOf, madeProj, make, netOf}
+use Rattle.calculus.specs.Record.{Stream, Bits, All, Among, here, there, Works, Joined, partLaw}
 use Rattle.sheet_theorems.specs.Laid.{TableOk, Ranged}
-use Rattle.circuit_theorems.specs.Scope.{dirs, Suits}
+use Rattle.circuit_theorems.specs.Scope.{dirs}
 use Rattle.circuit_theorems.proofs.Lists.{all-map, all-append, all-take, all-drop}
 use Rattle.circuit_theorems.proofs.Outputs.{next-le}
 use Rattle.linear_theorems.proofs.Meaning.{cutStream, lines}
 use Rattle.linear_theorems.proofs.Lines.{cut-at, lines-length, lines-cut}
 use Rattle.linear_theorems.proofs.Below.{LowSide, LowEnv, env-up, Lows, lows, Agree, lines-keep, seat, seat-below, seat-at}
-use Rattle.trace_calculus.specs.Trace.{registers, bitByte, row}
-use Rattle.never_theorems.specs.Against.{readAt, MovesWhole, movedBy, Inside}
+use Rattle.trace_calculus.specs.Trace.{registers, bitByte}
+use Rattle.never_theorems.specs.Against.{readAt, MovesWhole, movedBy}
 use Rattle.never_theorems.proofs.Against.{inside-possible}
-use Rattle.same_theorems.specs.Joint.{takesBits, takenTypes, shownType, arrowsTo, renumbered, gateOver, appliedTo, binderUnder, differing, functionOf, jointTerm}
+use Rattle.same_theorems.specs.Joint.{takesBits, takenTypes, shownType, arrowsTo, renumbered, appliedTo, differing, jointTerm}
 use Rattle.same_theorems.proofs.Moved.{Scoped, furtherBy, movedEnd, movedWire, movedMade, closed-moved}
-use Rattle.same_theorems.proofs.Gates.{sideRow, Running, proj-runs, registers-append, gated, GateRuns, xor-gate, gate-made, gate-ranged, gate-runs, gated-side, gated-registers, bits-compared, one-out, Compared, halves-compared}
-use Rattle.same_theorems.proofs.Playing.{plays-further, putGate, put-below, put-first, put-second, put-third, GateBits, xor-plays, PlayedOver, parted-low, halves-play, layIn, in-sides-low, out-sides-low, binders-low, laid-sides}
+use Rattle.same_theorems.proofs.Gates.{sideRow, Running, proj-runs, registers-append, gated, xor-gate, gate-made, gate-ranged, gate-runs, gated-side, gated-registers, bits-compared, one-out, Compared, halves-compared}
+use Rattle.same_theorems.proofs.Playing.{plays-further, putGate, put-below, put-first, put-second, put-third, xor-plays, PlayedOver, parted-low, halves-play, layIn, in-sides-low, out-sides-low, binders-low, laid-sides}
 use Rattle.same_theorems.proofs.Pins.{as-many-inputs}
 use Rattle.same_theorems.proofs.Applying.{inSides, outSides, bindersOf, bodyFrom, madeFuns, funs-made, funs-side, funs-registers, funs-run, funs-play, inputsOf, behindInputs, BoundIn, AppliedAs, applied-so, bound-in, bound-under}
 

@@ -2,14 +2,13 @@
 use Prim.Native.Nat.{ℕ, suc, _≤_}
 use mathlib.Core.Path.{_≡_, refl, sym, ap, _∙_, subst}
 use mathlib.Core.Logic.{_↔_}
-use mathlib.Core.List.{List, [], _∷_, _++_}
+use mathlib.Core.List.{List, [], _++_}
 use native.Mathlib.Nat.{le-refl}
 use lib.Dec.{T}
 use lib.ListN.{length, getD}
 use Rattle.calculus.specs.Answer.{good, refuse}
 use Rattle.calculus.proofs.Answers.{good-inj}
-use Rattle.calculus.specs.Types.{Ty, Table, tree}
-use Rattle.calculus.specs.Terms.{Term}
+use Rattle.calculus.specs.Types.{Ty, tree}
 use Rattle.calculus.specs.Read.{Sheet, readSheet}
 use Rattle.calculus.specs.Rules.{Typed}
 use mathlib.Core.Bool.{false}
@@ -17,12 +16,11 @@ use Rattle.calculus.specs.Net.{turns, Made, Net, make, netOf}
 use Rattle.calculus.specs.Lean.{root, lean}
 use Rattle.calculus.specs.Record.{Bits, Possible, partLaw}
 use Rattle.calculus.specs.Translate.{full}
-use Rattle.sheet_theorems.specs.Laid.{Laid}
 use Rattle.sheet_theorems.proofs.Laying.{laid}
 use Rattle.circuit_theorems.specs.Scope.{env-end}
 use Rattle.circuit_theorems.specs.Formed.{Formed}
 use Rattle.circuit_theorems.proofs.Drivers.{term-driven}
-use Rattle.circuit_theorems.proofs.Main.{AcceptedAs, accepts, formed}
+use Rattle.circuit_theorems.proofs.Main.{accepts, formed}
 use Rattle.linear_theorems.proofs.Below.{lows}
 use Rattle.trace_calculus.specs.Trace.{inPins, registers, rows}
 use Rattle.trace_calculus.specs.Promise.{OfSheet}

@@ -1,5 +1,5 @@
 -- From records of two lean netlists with the same inputs, a record of the joint one in which both stand. Assumes nothing.
-use Prim.Native.Nat.{ℕ, zero, suc, _+_, _<_, _≤_}
+use Prim.Native.Nat.{ℕ, zero, suc, _+_, _<_}
 use mathlib.Core.Path.{_≡_, refl, sym, ap, ap₂, _∙_, subst}
 use mathlib.Core.Bool.{Bool, true, false, cond}
 use mathlib.Core.List.{List, [], _∷_, _++_, map, map-append, head-eq-of-cons-eq, tail-eq-of-cons-eq}
@@ -15,10 +15,9 @@ use Rattle.circuit_theorems.specs.Scope.{dirs}
 use Rattle.circuit_theorems.specs.Formed.{Formed}
 use Rattle.circuit_theorems.proofs.Bounds.{ElementBelow}
 use Rattle.circuit_theorems.proofs.Roots.{root-like}
-use Rattle.circuit_theorems.proofs.Terminals.{pointIn}
 use Rattle.circuit_theorems.proofs.Wiring.{standIn, PinOk, wired-net}
 use Rattle.circuit_theorems.proofs.Same.{to-lean}
-use Rattle.linear_theorems.proofs.Meaning.{cutStream, lines}
+use Rattle.linear_theorems.proofs.Meaning.{lines}
 use Rattle.linear_theorems.proofs.Lines.{cut-same}
 use Rattle.linear_theorems.proofs.Below.{Lows}
 use Rattle.trace_calculus.specs.Trace.{inPins, outPins, registers, bitByte, row, rows}
@@ -28,10 +27,10 @@ use Rattle.never_theorems.specs.Against.{readAt}
 use Rattle.never_theorems.proofs.Against.{append-parts, row-append, row-moved, byte-only}
 use Rattle.same_theorems.specs.Joint.{arrowsTo}
 use Rattle.same_theorems.proofs.Moved.{furtherBy}
-use Rattle.same_theorems.proofs.Gates.{sideRow, Running}
+use Rattle.same_theorems.proofs.Gates.{sideRow}
 use Rattle.same_theorems.proofs.Applying.{inSides, inputsOf, behindInputs}
 use Rattle.same_theorems.proofs.Pins.{typed-ins, typed-outs, as-many-inputs, lean-ins, lean-outs}
-use Rattle.same_theorems.proofs.Joining.{JointPlay, JointOf, behind-low, row-as}
+use Rattle.same_theorems.proofs.Joining.{JointOf, behind-low, row-as}
 use Rattle.same_theorems.proofs.Standing.{spread-possible, inputs-stay, register-stays, OfBits, outputs-kept}
 
 -- ---- rows and what is seen

@@ -1,10 +1,10 @@
 -- Bits that run what was made, set from below upwards: a term that is moved, the comparing term over any bits of its binders, the points of a
 -- function. Assumes nothing.
-use Prim.Native.Nat.{ℕ, zero, suc, _+_, _*_, _-_, _<_, _≤_}
+use Prim.Native.Nat.{ℕ, _+_, _*_, _-_, _<_, _≤_}
 use mathlib.Core.Path.{_≡_, refl, sym, ap, ap₂, _∙_, subst}
 use mathlib.Core.Logic.{_↔_}
-use mathlib.Core.Bool.{Bool, true, false, cond, not, _&&_, _||_, xor, true≢false, false≢true}
-use mathlib.Core.List.{List, [], _∷_, _++_, map, head-eq-of-cons-eq, tail-eq-of-cons-eq, cons≢nil, nil≢cons}
+use mathlib.Core.Bool.{Bool, true, false, cond, not, _&&_, _||_, xor, true≢false}
+use mathlib.Core.List.{List, [], _∷_, _++_, map}
 use native.Mathlib.Omega.{arith}
 use lib.Dec.{T, eqb, eqb→eq}
 use lib.ListN.{length, getD, take, drop, length-append, take-append-drop, length-drop}
@@ -12,9 +12,9 @@ use lib.Seq.{length-take-le}
 use borrow.Author.Tests.{eq-eqb, ne-eqb}
 use Rattle.laws.proofs.Tests.{and-both}
 use Rattle.calculus.specs.Types.{Ty, bit, prod, arrow, lolli, size, sharable, Table}
-use Rattle.calculus.specs.Terms.{Edition, first, second, Term, var, partAt}
-use Rattle.calculus.specs.Net.{Terminal, inp, out, number, Interface, turns, Element, point, part, Wire, inSide, outSide, join, Bound, unbound, Made, leftOf, binder, madeVar, firstHalf, secondHalf, wholeOf, make, netOf}
-use Rattle.calculus.specs.Record.{Stream, Bits, All, Same, Works, Joined, Possible, partLaw}
+use Rattle.calculus.specs.Terms.{Edition, first, second, Term, var}
+use Rattle.calculus.specs.Net.{inp, out, Interface, turns, Element, point, part, Wire, inSide, outSide, join, Bound, unbound, Made, leftOf, binder, madeVar, firstHalf, secondHalf, wholeOf, make}
+use Rattle.calculus.specs.Record.{Stream, Bits, All, Same, Works, Joined, partLaw}
 use Rattle.sheet_theorems.specs.Laid.{TableOk, Ranged}
 use Rattle.circuit_theorems.specs.Scope.{dirs, Suits}
 use Rattle.circuit_theorems.proofs.Lists.{all-append, all-take, all-drop, all-getD}
@@ -25,11 +25,11 @@ use Rattle.linear_theorems.proofs.Meaning.{Cut, lines}
 use Rattle.linear_theorems.proofs.Heard.{in-length}
 use Rattle.linear_theorems.proofs.Lines.{lines-append}
 use Rattle.linear_theorems.proofs.Below.{part-moved, LowSide, LowEnv, low-in, low-out, env-up, Lows, lows, Agree, lines-keep, works-keep, joined-keep, lay, lay-below, lay-in, lay-out}
-use Rattle.trace_calculus.specs.Trace.{bitByte, row}
+use Rattle.trace_calculus.specs.Trace.{bitByte}
 use Rattle.never_theorems.specs.Against.{movedBy}
 use Rattle.same_theorems.specs.Joint.{gateOver, binderUnder, differing}
 use Rattle.same_theorems.proofs.Moved.{furtherBy, movedWire, movedMade}
-use Rattle.same_theorems.proofs.Gates.{sideRow, Running, gated, or-gate, xor-gate, gate-made, gate-ranged, one-out, Compared, parted, vars-compared, halves-compared}
+use Rattle.same_theorems.proofs.Gates.{sideRow, Running, gated, or-gate, xor-gate, gate-made, gate-ranged, one-out, Compared, parted, vars-compared}
 use Rattle.same_theorems.proofs.Applying.{inSides, outSides, bindersOf, bodyFrom}
 
 -- ---- what runs goes on running where bits above it change
