@@ -10,6 +10,7 @@ use Rattle.calculus.specs.Answer.{good, refuse}
 use Rattle.calculus.proofs.Answers.{good-inj}
 use Rattle.calculus.specs.Types.{Ty, tree}
 use Rattle.calculus.specs.Read.{Sheet, readSheet}
+use Rattle.calculus.specs.Walk.{Found, walk}
 use Rattle.calculus.specs.Rules.{Typed}
 use mathlib.Core.Bool.{false}
 use Rattle.calculus.specs.Net.{turns, Made, Net, make, netOf}
@@ -17,6 +18,7 @@ use Rattle.calculus.specs.Lean.{root, lean}
 use Rattle.calculus.specs.Record.{Bits, Possible, partLaw}
 use Rattle.calculus.specs.Translate.{full}
 use Rattle.sheet_theorems.proofs.Laying.{laid}
+use Rattle.sheet_theorems.proofs.Exact.{exact-type}
 use Rattle.circuit_theorems.specs.Scope.{env-end}
 use Rattle.circuit_theorems.specs.Formed.{Formed}
 use Rattle.circuit_theorems.proofs.Drivers.{term-driven}
@@ -64,6 +66,11 @@ module _ (s : List ℕ) (σ : Sheet) (m : Net) (reads : readSheet s ≡ good σ)
       let d = term-driven (typed-as .1) [] env-end 0 in
       let t : typed-as .0 ≡ arrowsTo (takenTypes τ) (shownType τ) = sym (d .type) ∙ e ∙ sym (arrows-taken τ) in
       record { scoped = typed-scoped (typed-as .1); type = d .type ∙ t; dirs = d .dirs ∙ ap (turns false) t }
+
+  -- the type that `rootOf` names is the one that the walk finds
+  pub root-walked : (r : Found) → walk (σ .edition) (σ .table) (σ .term) 0 [] ≡ good r → rootOf σ ≡ tree (σ .table) (r .type)
+  unfolding rootOf
+  root-walked r h = term-driven (typed-as .1) [] env-end 0 .type ∙ sym (exact-type s σ r (typed-as .0) reads h (typed-as .1))
 
 -- ---- three sheets
 
