@@ -30,7 +30,7 @@ use Rattle.same_theorems.proofs.Moved.{furtherBy}
 use Rattle.same_theorems.proofs.Gates.{sideRow}
 use Rattle.same_theorems.proofs.Applying.{inSides, inputsOf, behindInputs}
 use Rattle.same_theorems.proofs.Pins.{typed-ins, typed-outs, as-many-inputs, lean-ins, lean-outs}
-use Rattle.same_theorems.proofs.Joining.{JointOf, behind-low, row-as}
+use Rattle.same_theorems.proofs.Joining.{JointPlay, JointOf, behind-low, row-as}
 use Rattle.same_theorems.proofs.Standing.{spread-possible, inputs-stay, register-stays, OfBits, outputs-kept}
 
 -- ---- rows and what is seen
@@ -112,30 +112,35 @@ pub record Meets (m k l : Net) (o n : ℕ) (β γ : Bits) : Type 0 where
   pub off-same : (t : ℕ) → t < n → joint o t ≡ false → row β t (outPins (k .pins)) ≡ row γ t (outPins (l .pins))
 
 module _ (θs : List Ty) (θ : Ty) (bits : OfBits θs θ) (x y m : Made) (okₓ : Formed (netOf x)) (okᵧ : Formed (netOf y)) (ok : Formed (netOf m)) (lx : Lows x) (ly : Lows y) (ex : dirs (x .side) ≡ turns false (arrowsTo θs θ)) (ey : dirs (y .side) ≡ turns false (arrowsTo θs θ)) (j : JointOf θs x y m) where
-  pub joint-meets : (n : ℕ) (β γ : Bits) → Possible partLaw (lean (netOf x)) n β → Possible partLaw (lean (netOf y)) n γ → rows β (inPins (lean (netOf x) .pins)) 0 n ≡ rows γ (inPins (lean (netOf y) .pins)) 0 n
-      → Meets (lean (netOf m)) (lean (netOf x)) (lean (netOf y)) (root (netOf m) (j .output)) n β γ
-  joint-meets n β γ p q e =
-      let β̂ = readAt β (standIn (netOf x)) in
-      let γ̂ = readAt γ (standIn (netOf y)) in
-      let each : (u : ℕ) → u < n → row β u (inPins (lean (netOf x) .pins)) ≡ row γ u (inPins (lean (netOf y) .pins)) = λ u h.
-      let z : 0 + u ≡ u = omega arith in
-      subst (λ (v : ℕ). row β v (inPins (lean (netOf x) .pins)) ≡ row γ v (inPins (lean (netOf y) .pins))) z
-      (rows-each β γ (inPins (lean (netOf x) .pins)) (inPins (lean (netOf y) .pins)) (ins-count θs θ bits x okₓ lx ex n β p ∙ sym (ins-count θs θ bits y okᵧ ly ey n γ q)) 0 n e u h) in
-      let w = j .plays n β̂ γ̂ (spread-possible (netOf x) okₓ n β p) (spread-possible (netOf y) okᵧ n γ q)
-      (rows-lines n β̂ γ̂ (inputsOf θs (x .side)) (inputsOf θs (y .side)) (as-many-inputs θ (bits .shown) θs (x .side) 0 ex ∙ sym (as-many-inputs θ (bits .shown) θs (y .side) 0 ey))
-      (λ u h. half-inputs θs θ bits x okₓ lx ex n β p u h ∙ each u h ∙ sym (half-inputs θs θ bits y okᵧ ly ey n γ q u h))) in
-      let δ = w .bits in
-      let d = j .of-first in
-      let d′ = j .of-second in
-      let rs = map (furtherBy d) (registers (x .elements)) in
-      let ss = map (furtherBy d′) (registers (y .elements)) in
-      record {
-        joint = δ;
-        possible = to-lean partLaw (netOf m) (wired-net (netOf m) ok) n δ (w .running);
-        woken =
-            ap (row δ 0) (outputs-kept m ∙ ap (map (λ r. r + 1)) (j .registers-are) ∙ map-append (λ r. r + 1) rs ss) ∙ row-append δ 0 (map (λ r. r + 1) rs) (map (λ r. r + 1) ss)
-            ∙ ap₂ _++_ (half-woken θs θ bits x okₓ lx ex n β p d δ (w .first-bits)) (half-woken θs θ bits y okᵧ ly ey n γ q d′ δ (w .second-bits));
-        off-same = λ t l z.
-            sym (half-shown θs θ bits x okₓ lx ex n β p d δ (w .first-bits) t) ∙ j .off n δ (w .running) t l .0 (sym (root-like n δ partLaw (netOf m) (w .running) (j .output) t l) ∙ z)
-            ∙ half-shown θs θ bits y okᵧ ly ey n γ q d′ δ (w .second-bits) t;
-      }
+  module _ (n : ℕ) (β γ : Bits) (p : Possible partLaw (lean (netOf x)) n β) (q : Possible partLaw (lean (netOf y)) n γ) where
+    -- with a record of the full netlist in which theirs stand
+    met : JointPlay (j .of-first) (j .of-second) x y m n (readAt β (standIn (netOf x))) (readAt γ (standIn (netOf y))) → Meets (lean (netOf m)) (lean (netOf x)) (lean (netOf y)) (root (netOf m) (j .output)) n β γ
+    met w =
+        let rs = map (furtherBy (j .of-first)) (registers (x .elements)) in
+        let ss = map (furtherBy (j .of-second)) (registers (y .elements)) in
+        record {
+          joint = w .bits;
+          possible = to-lean partLaw (netOf m) (wired-net (netOf m) ok) n (w .bits) (w .running);
+          woken =
+              ap (row (w .bits) 0) (outputs-kept m ∙ ap (map (λ r. r + 1)) (j .registers-are) ∙ map-append (λ r. r + 1) rs ss) ∙ row-append (w .bits) 0 (map (λ r. r + 1) rs) (map (λ r. r + 1) ss)
+              ∙ ap₂ _++_ (half-woken θs θ bits x okₓ lx ex n β p (j .of-first) (w .bits) (w .first-bits)) (half-woken θs θ bits y okᵧ ly ey n γ q (j .of-second) (w .bits) (w .second-bits));
+          off-same = λ t l z.
+              sym (half-shown θs θ bits x okₓ lx ex n β p (j .of-first) (w .bits) (w .first-bits) t) ∙ j .off n (w .bits) (w .running) t l .0 (sym (root-like n (w .bits) partLaw (netOf m) (w .running) (j .output) t l) ∙ z)
+              ∙ half-shown θs θ bits y okᵧ ly ey n γ q (j .of-second) (w .bits) (w .second-bits) t;
+        }
+
+    -- the inputs that are the same at the pins are the same at the terms' interfaces
+    same-lines : rows β (inPins (lean (netOf x) .pins)) 0 n ≡ rows γ (inPins (lean (netOf y) .pins)) 0 n
+        → lines n (readAt β (standIn (netOf x))) (inputsOf θs (x .side)) ≡ lines n (readAt γ (standIn (netOf y))) (inputsOf θs (y .side))
+    same-lines e =
+        rows-lines n (readAt β (standIn (netOf x))) (readAt γ (standIn (netOf y))) (inputsOf θs (x .side)) (inputsOf θs (y .side)) (as-many-inputs θ (bits .shown) θs (x .side) 0 ex ∙ sym (as-many-inputs θ (bits .shown) θs (y .side) 0 ey))
+        (λ u h. half-inputs θs θ bits x okₓ lx ex n β p u h ∙ each u h ∙ sym (half-inputs θs θ bits y okᵧ ly ey n γ q u h))
+      where
+        each : (u : ℕ) → u < n → row β u (inPins (lean (netOf x) .pins)) ≡ row γ u (inPins (lean (netOf y) .pins))
+        each u h =
+            let z : 0 + u ≡ u = omega arith in
+            subst (λ (v : ℕ). row β v (inPins (lean (netOf x) .pins)) ≡ row γ v (inPins (lean (netOf y) .pins))) z
+            (rows-each β γ (inPins (lean (netOf x) .pins)) (inPins (lean (netOf y) .pins)) (ins-count θs θ bits x okₓ lx ex n β p ∙ sym (ins-count θs θ bits y okᵧ ly ey n γ q)) 0 n e u h)
+
+    pub joint-meets : rows β (inPins (lean (netOf x) .pins)) 0 n ≡ rows γ (inPins (lean (netOf y) .pins)) 0 n → Meets (lean (netOf m)) (lean (netOf x)) (lean (netOf y)) (root (netOf m) (j .output)) n β γ
+    joint-meets e = met (j .plays n (readAt β (standIn (netOf x))) (readAt γ (standIn (netOf y))) (spread-possible (netOf x) okₓ n β p) (spread-possible (netOf y) okᵧ n γ q) (same-lines e))
