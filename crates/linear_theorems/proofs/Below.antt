@@ -104,13 +104,13 @@ module _ (b : ℕ) (β′ β : Bits) (g : Agree b β′ β) (n : ℕ) where
   vals-keep [] a = refl
   vals-keep (x ∷ env) a = ap₂ (λ (w : List Stream) (r : List Val). build (x .type) w ∷ r) (lines-keep (x .side) (a .0)) (vals-keep env (a .1))
 
-  works-keep : (law : Law) (es : List Element) → All (ElementBelow b) es → All (Works law n β) es → All (Works law n β′) es
+  pub works-keep : (law : Law) (es : List Element) → All (ElementBelow b) es → All (Works law n β) es → All (Works law n β′) es
   works-keep law [] a w = tt
   works-keep law (point i ∷ es) a w =
       ((λ t l. at-tick (g i (let q = a .0 in omega arith)) t ∙ w .0 t l ∙ at-tick (sym (g (i + 1) (a .0))) t), works-keep law es (a .1) (w .1))
   works-keep law (part p i ∷ es) a w = (part-moved law n p i i β′ β (λ x h. g (i + x) (let q = a .0 in omega arith)) (w .0), works-keep law es (a .1) (w .1))
 
-  joined-keep : (ws : List Wire) → All (λ w. (w .from < b) × (w .to < b)) ws → All (Joined n β) ws → All (Joined n β′) ws
+  pub joined-keep : (ws : List Wire) → All (λ w. (w .from < b) × (w .to < b)) ws → All (Joined n β) ws → All (Joined n β′) ws
   joined-keep [] a w = tt
   joined-keep (x ∷ ws) a w = ((λ t l. at-tick (g (x .from) (a .0 .0)) t ∙ w .0 t l ∙ at-tick (sym (g (x .to) (a .0 .1))) t), joined-keep ws (a .1) (w .1))
 

@@ -45,7 +45,7 @@ append-parts (a ∷ xs) (c ∷ ys) bs ds l e =
     let r = append-parts xs ys bs ds (omega arith) (u .1) in
     (ap₂ (λ (x : ℕ) (xs : List ℕ). x ∷ xs) (u .0) (r .0), r .1)
 
-allows-both : (ks js xs bs : List ℕ) → Allows ks xs → Allows js bs → Allows (ks ++ js) (xs ++ bs)
+pub allows-both : (ks js xs bs : List ℕ) → Allows ks xs → Allows js bs → Allows (ks ++ js) (xs ++ bs)
 allows-both [] js [] bs a b = b
 allows-both [] js (x ∷ xs) bs a b = absurd a
 allows-both (k ∷ ks) js [] bs a b = absurd a
@@ -82,22 +82,37 @@ outputs-only k ok free n bits starts β γ b c t l = row-same β γ t (outPins (
 pub registers-row : (k : Net) (β : Bits) → length (row β 0 (registerOutputs k)) ≡ length (registers (k .elements))
 registers-row k β = row-length β 0 (registerOutputs k) ∙ length-map (registers (k .elements)) _
 
-module _ (m k l : Net) (o : ℕ) (ok : Formed m) (free : Ringless m) (a : Against m k l o) (starts starts′ : List ℕ) where
+module _ (m k l : Net) (o : ℕ) (a : Against m k l o) (starts starts′ : List ℕ) (count : length starts ≡ length (registers (k .elements))) where
   -- ---- a record of m has one of each in it
 
-  halves : length starts ≡ length (registers (k .elements)) → (n : ℕ) (β : Bits) → RecordFrom m (starts ++ starts′) n β → 0 < n
+  halves : (n : ℕ) (β : Bits) → RecordFrom m (starts ++ starts′) n β → 0 < n
       → Allows starts (row (readAt β (a .of-left)) 0 (registerOutputs k)) × Allows starts′ (row (readAt β (a .of-right)) 0 (registerOutputs l))
-  halves count n β r q =
+  halves n β r q =
       allows-parts starts starts′ (row (readAt β (a .of-left)) 0 (registerOutputs k)) (row (readAt β (a .of-right)) 0 (registerOutputs l)) (count ∙ sym (registers-row k (readAt β (a .of-left))))
       (subst (Allows (starts ++ starts′)) (a .woken n β (r .possible) q) (r .woken))
 
-  pub same-so : length starts ≡ length (registers (k .elements)) → SameRuns k starts l starts′ → Never m (starts ++ starts′) o
-  same-so count same n β r t q =
+  pub same-so : SameRuns k starts l starts′ → Never m (starts ++ starts′) o
+  same-so same n β r t q =
       let p = r .possible in
-      let fit = halves count n β r (omega arith) in
+      let fit = halves n β r (omega arith) in
       a .compares n β p t q .1
       (same n (readAt β (a .of-left)) (readAt β (a .of-right)) (record { possible = a .left .possible n β p; woken = fit .0 }) (record { possible = a .right .possible n β p; woken = fit .1 }) (a .left .inputs n β p ∙ sym (a .right .inputs n β p)) t q)
 
+  pub shown-differ : (t : ℕ) → CanShow m (starts ++ starts′) o t → RunsDiffer k starts l starts′ t
+  shown-differ t s =
+      let β = s .record-of in
+      let p = s .starting .possible in
+      let fit = halves (suc t) β (s .starting) (omega arith) in
+      record {
+        one = readAt β (a .of-left);
+        other = readAt β (a .of-right);
+        of-one = record { possible = a .left .possible (suc t) β p; woken = fit .0 };
+        of-other = record { possible = a .right .possible (suc t) β p; woken = fit .1 };
+        same-inputs = a .left .inputs (suc t) β p ∙ sym (a .right .inputs (suc t) β p);
+        different = λ e. subst T (sym (s .one) ∙ a .compares (suc t) β p t (le-refl (suc t)) .1 e) tt;
+      }
+
+module _ (m k l : Net) (o : ℕ) (ok : Formed m) (free : Ringless m) (a : Against m k l o) (starts starts′ : List ℕ) where
   -- ---- from a record of each, one of m
 
   module _ (okₖ : Formed k) (freeₖ : Ringless k) (okₗ : Formed l) (freeₗ : Ringless l) (n : ℕ) (β γ : Bits) (b : RecordFrom k starts n β) (c : RecordFrom l starts′ n γ) (e : rows β (inPins (k .pins)) 0 n ≡ rows γ (inPins (l .pins)) 0 n) where
@@ -150,7 +165,7 @@ module _ (m k l : Net) (o : ℕ) (ok : Formed m) (free : Ringless m) (a : Agains
     pub never-so : Never m (starts ++ starts′) o → (t : ℕ) → t < n → row β t (outPins (k .pins)) ≡ row γ t (outPins (l .pins))
     never-so never t q = off-same t q (never n ρ (joint (omega arith)) t q)
 
-on-true : (b : Bool) → (b ≡ false → ⊥) → b ≡ true
+pub on-true : (b : Bool) → (b ≡ false → ⊥) → b ≡ true
 on-true true d = refl
 on-true false d = absurd (d refl)
 
@@ -158,7 +173,7 @@ module _ (m k l : Net) (o : ℕ) (ok : Formed m) (free : Ringless m) (okₖ : Fo
   pub against-never : Never m (starts ++ starts′) o ↔ SameRuns k starts l starts′
   against-never = (
     (λ never n β γ b c e. never-so m k l o ok free a starts starts′ okₖ freeₖ okₗ freeₗ n β γ b c e never),
-    same-so m k l o ok free a starts starts′ count,
+    same-so m k l o a starts starts′ count,
   )
 
   differ-shown : (t : ℕ) → RunsDiffer k starts l starts′ t → CanShow m (starts ++ starts′) o t
@@ -168,24 +183,10 @@ module _ (m k l : Net) (o : ℕ) (ok : Formed m) (free : Ringless m) (okₖ : Fo
     one = on-true _ (λ z. d .different (off-same m k l o ok free a starts starts′ okₖ freeₖ okₗ freeₗ (suc t) (d .one) (d .other) (d .of-one) (d .of-other) (d .same-inputs) t (le-refl (suc t)) z));
   }
 
-  shown-differ : (t : ℕ) → CanShow m (starts ++ starts′) o t → RunsDiffer k starts l starts′ t
-  shown-differ t s =
-      let β = s .record-of in
-      let p = s .starting .possible in
-      let fit = halves m k l o ok free a starts starts′ count (suc t) β (s .starting) (omega arith) in
-      record {
-        one = readAt β (a .of-left);
-        other = readAt β (a .of-right);
-        of-one = record { possible = a .left .possible (suc t) β p; woken = fit .0 };
-        of-other = record { possible = a .right .possible (suc t) β p; woken = fit .1 };
-        same-inputs = a .left .inputs (suc t) β p ∙ sym (a .right .inputs (suc t) β p);
-        different = λ e. subst T (sym (s .one) ∙ a .compares (suc t) β p t (le-refl (suc t)) .1 e) tt;
-      }
-
   pub against-first : (t : ℕ) → FirstShown m (starts ++ starts′) o t ↔ FirstApart k starts l starts′ t
   against-first t = (
-    (λ h. record { differ = shown-differ t (h .shows); earlier = λ u q d. h .earlier u q (differ-shown u d) }),
-    (λ h. record { shows = differ-shown t (h .differ); earlier = λ u q s. h .earlier u q (shown-differ u s) }),
+    (λ h. record { differ = shown-differ m k l o a starts starts′ count t (h .shows); earlier = λ u q d. h .earlier u q (differ-shown u d) }),
+    (λ h. record { shows = differ-shown t (h .differ); earlier = λ u q s. h .earlier u q (shown-differ m k l o a starts starts′ count u s) }),
   )
 
 -- ---- on the netlists themselves

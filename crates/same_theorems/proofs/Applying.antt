@@ -1,23 +1,24 @@
 -- What a function around a body makes, and what a closed term makes that is applied to the function's binders: the inputs of the whole are
 -- those of the term. Assumes nothing.
-use Prim.Native.Nat.{ℕ, zero, suc, _+_, _*_, _<_}
+use Prim.Native.Nat.{ℕ, suc, _+_, _*_}
 use mathlib.Core.Path.{_≡_, refl, sym, ap, ap₂, _∙_, subst}
-use mathlib.Core.Bool.{Bool, true, false, not}
-use mathlib.Core.List.{List, [], _∷_, _++_, map, append-assoc, append-nil}
+use mathlib.Core.Bool.{Bool, true, false}
+use mathlib.Core.List.{List, [], _∷_, _++_, append-assoc, append-nil}
 use native.Mathlib.Omega.{arith}
 use lib.ListN.{length, getD, take, drop}
 use lib.Seq.{take-at, drop-at}
 use Rattle.laws.proofs.Parts.{map-take, map-drop}
-use Rattle.calculus.specs.Types.{Ty, bit, prod, arrow, lolli, size, Table, tree}
+use Rattle.calculus.specs.Types.{Ty, bit, arrow, size, Table}
 use Rattle.calculus.specs.Terms.{Edition, Term, var, app}
-use Rattle.calculus.specs.Net.{inp, out, Interface, turns, Element, points, inSide, outSide, join, Bound, unbound, Made, leftOf, rightOf, binder, madeVar, madeFun, madeApp, make}
-use Rattle.calculus.specs.Record.{Bits, All, Works, Joined, partLaw}
+use Rattle.calculus.specs.Net.{Interface, turns, points, inSide, outSide, join, Bound, unbound, Made, leftOf, rightOf, binder, madeVar, madeFun, madeApp, make}
+use Rattle.calculus.specs.Record.{Bits, Works, Joined, partLaw}
 use Rattle.sheet_theorems.specs.Laid.{TableOk, Ranged}
 use Rattle.circuit_theorems.specs.Scope.{dir, dirs}
-use Rattle.circuit_theorems.proofs.Lists.{all-left, all-right}
+use Rattle.circuit_theorems.proofs.Lists.{all-append, all-left, all-right}
 use Rattle.circuit_theorems.proofs.Drivers.{turns-size, binder-fits, opposite}
 use Rattle.linear_theorems.proofs.Meaning.{lines}
-use Rattle.linear_theorems.proofs.Lines.{lines-append, points-lines, join-lines}
+use Rattle.linear_theorems.proofs.Heard.{in-length}
+use Rattle.linear_theorems.proofs.Lines.{lines-append, lines-length, side-length, points-lines, points-work, join-lines, join-works}
 use Rattle.trace_calculus.specs.Trace.{registers}
 use Rattle.same_theorems.specs.Joint.{arrowsTo, appliedTo, functionOf}
 use Rattle.same_theorems.proofs.Moved.{number-tree}
@@ -82,6 +83,24 @@ funs-run n β (θ ∷ θs) i m r =
           ∙ sym (lines-append n β (outSide ts i) (outSides θs k)),
     )
 
+-- what is seen at two interfaces, one behind the other
+lines-split : (n : ℕ) (β : Bits) (s s′ t t′ : Interface) → length s ≡ length s′ → lines n β (s ++ t) ≡ lines n β (s′ ++ t′) → (lines n β s ≡ lines n β s′) × (lines n β t ≡ lines n β t′)
+lines-split n β s s′ t t′ l e =
+    let q = sym (lines-append n β s t) ∙ e ∙ lines-append n β s′ t′ in
+    let k = length s in (
+      sym (take-at (lines n β s) (lines n β t) k (lines-length n β s)) ∙ ap (take k) q ∙ take-at (lines n β s′) (lines n β t′) k (lines-length n β s′ ∙ sym l),
+      sym (drop-at (lines n β s) (lines n β t) k (lines-length n β s)) ∙ ap (drop k) q ∙ drop-at (lines n β s′) (lines n β t′) k (lines-length n β s′ ∙ sym l),
+    )
+
+pub funs-play : (n : ℕ) (β : Bits) (θs : List Ty) (i : ℕ) (m : Made) → Running n β m → lines n β (inSides θs i) ≡ lines n β (outSides θs i) → Running n β (madeFuns θs i m)
+funs-play n β [] i m r e = r
+funs-play n β (θ ∷ θs) i m r e =
+    let ts = turns false θ in
+    let k = i + 2 * size θ in
+    let q = lines-split n β (inSide ts i) (outSide ts i) (inSides θs k) (outSides θs k) (in-length θ i ∙ sym (side-length θ false (outSide ts i) (binder-fits θ i .dirs))) e in
+    let h = funs-play n β θs k m r (q .1) in
+    record { elements = all-append (Works partLaw n β) (points ts i) (madeFuns θs k m .elements) (points-work partLaw n β ts i (q .0)) (h .elements); wires = h .wires }
+
 -- ---- a term applied to binders
 
 -- the inputs of an interface of type θs → .., and what comes behind them
@@ -106,6 +125,7 @@ pub record AppliedAs (θs : List Ty) (i : ℕ) (τ : Ty) (x m : Made) : Type 0 w
   pub side : m .side ≡ behindInputs θs (x .side)
   pub dirs : dirs (m .side) ≡ turns false τ
   pub runs : (n : ℕ) (β : Bits) → Running n β m → Running n β x × (lines n β (inputsOf θs (x .side)) ≡ lines n β (outSides θs i))
+  pub plays : (n : ℕ) (β : Bits) → Running n β x → lines n β (inputsOf θs (x .side)) ≡ lines n β (outSides θs i) → Running n β m
 
 -- an application of a function of the type θ → τ
 abbrev fedMade : Ty → Ty → Made → Made → Made
@@ -129,7 +149,7 @@ dirs-drop θ rest s e = map-drop dir (size θ) s ∙ ap (drop (size θ)) e ∙ d
 module _ (Φ : Table) where
   pub applied-so : (θs : List Ty) (τ : Ty) (i d : ℕ) (e : Term) (env : List Bound) (at : ℕ) → BoundIn θs i d env → make Φ e env at .type ≡ arrowsTo θs τ → dirs (make Φ e env at .side) ≡ turns false (arrowsTo θs τ)
       → AppliedAs θs i τ (make Φ e env at) (make Φ (appliedTo e (length θs) d) env at)
-  applied-so [] τ i d e env at v et ed = record { elements = refl; next = refl; type = et; side = refl; dirs = ed; runs = λ n β r. (r, refl) }
+  applied-so [] τ i d e env at v et ed = record { elements = refl; next = refl; type = et; side = refl; dirs = ed; runs = λ n β r. (r, refl); plays = λ n β r e. r }
   applied-so (θ ∷ θs) τ i d e env at v et ed =
       let x = make Φ e env at in
       let b = getD env (length θs + d) unbound in
@@ -156,6 +176,14 @@ module _ (Φ : Table) where
               record { elements = all-left (Works partLaw n β) (x .elements) [] (q .0 .elements); wires = all-left (Joined n β) (x .wires) [] (all-left (Joined n β) (x .wires ++ []) (join (b .side) f) ws) },
               lines-append n β f (inputsOf θs s) ∙ ap₂ _++_ (sym w ∙ ap (λ (c : Bound). lines n β (c .side)) (v .0)) (q .1) ∙ sym (lines-append n β (outSide (turns false θ) i) (outSides θs k)),
             );
+        plays = λ n β r e.
+            let q = lines-split n β f (outSide (turns false θ) i) (inputsOf θs s) (outSides θs k) (side-length θ true f (dirs-take θ (turns false (arrowsTo θs τ)) (x .side) ed) ∙ sym (side-length θ false (outSide (turns false θ) i) (binder-fits θ i .dirs))) e in
+            h .plays n β
+            (record {
+              elements = all-append (Works partLaw n β) (x .elements) [] (r .elements) tt;
+              wires = all-append (Joined n β) (x .wires ++ []) (join (b .side) f) (all-append (Joined n β) (x .wires) [] (r .wires) tt) (join-works n β (b .side) f (ap (λ (c : Bound). lines n β (c .side)) (v .0) ∙ sym (q .0)));
+            })
+            (q .1);
       }
 
 -- ---- the binders of a function stand so

@@ -1,5 +1,5 @@
 -- What the comparing term makes: one output, off exactly where the bits of two binders are the same. Assumes nothing.
-use Prim.Native.Nat.{ℕ, zero, suc, _+_, _<_}
+use Prim.Native.Nat.{ℕ, suc, _+_, _<_}
 use mathlib.Core.Path.{_≡_, refl, sym, ap, ap₂, _∙_, subst}
 use mathlib.Core.Logic.{_↔_}
 use mathlib.Core.Bool.{Bool, true, false, cond, _&&_, _||_, xor, true≢false}
@@ -8,12 +8,11 @@ use native.Mathlib.Omega.{arith}
 use lib.Dec.{T, eqb}
 use lib.ListN.{length, getD, take, drop, length-map, take-append-drop}
 use Rattle.laws.proofs.Tests.{and-both}
-use Rattle.laws.proofs.Parts.{map-take, map-drop}
 use Rattle.calculus.specs.Types.{Ty, bit, prod, arrow, lolli, size, sharable, Table, tree}
 use Rattle.calculus.specs.Terms.{Edition, first, second, Term, var, partAt}
 use Rattle.calculus.specs.Walk.{typeNumber}
-use Rattle.calculus.specs.Net.{inp, out, number, Interface, turns, Element, point, part, Wire, join, Bound, unbound, Made, leftOf, madeVar, madeApp, madePair, firstHalf, secondHalf, wholeOf, madeProj, madeCon, make, netOf}
-use Rattle.calculus.specs.Record.{Stream, Bits, All, Same, Works, Joined, Possible, partLaw}
+use Rattle.calculus.specs.Net.{inp, out, number, Interface, turns, Element, point, part, join, Bound, unbound, Made, leftOf, madeVar, madeApp, madePair, firstHalf, secondHalf, wholeOf, madeProj, madeCon, make, netOf}
+use Rattle.calculus.specs.Record.{Bits, All, Same, Works, Joined, Possible, partLaw}
 use Rattle.sheet_theorems.specs.Laid.{TableOk, Ranged}
 use Rattle.circuit_theorems.specs.Scope.{dir, dirs, Suits}
 use Rattle.circuit_theorems.proofs.Lists.{all-left, all-right}
@@ -61,7 +60,7 @@ pub record IsGate (p : ℕ) : Type 0 where
   pub makes : (τ : Ty) (i : ℕ) → madeCon τ p i ≡ gateMade τ p i
   pub types : (E : Edition) → partAt p .type E ≡ gateType E
 
-or-gate : IsGate 3
+pub or-gate : IsGate 3
 or-gate = record { makes = λ τ i. refl; types = types }
   where
     types : (E : Edition) → partAt 3 .type E ≡ gateType E
@@ -225,11 +224,11 @@ either-compared E i k k′ s s′ x y l a b = record {
 side-size : {θ : Ty} {b : Bound} → Suits θ b → length (b .side) ≡ length (turns false θ)
 side-size {b = b} s = sym (length-map (b .side) dir) ∙ ap length (s .dirs)
 
-module _ (E : Edition) (Φ : Table) (ok : TableOk Φ) where
-  -- the two halves of two values, taken apart: the binders of the body
-  abbrev pub parted : Made → Made → List Bound → List Bound
-  parted x y env = secondHalf y ∷ firstHalf y ∷ secondHalf x ∷ firstHalf x ∷ env
+-- the two halves of two values, taken apart: the binders of the body
+abbrev pub parted : Made → Made → List Bound → List Bound
+parted x y env = secondHalf y ∷ firstHalf y ∷ secondHalf x ∷ firstHalf x ∷ env
 
+module _ (E : Edition) (Φ : Table) (ok : TableOk Φ) where
   -- the or of both halves, from the comparison of each
   halves-by : (θ₁ θ₂ : Ty) (x y : Made) (env : List Bound) (at : ℕ) (a b : Term) → Suits (prod θ₁ θ₂) (wholeOf x) → Suits (prod θ₁ θ₂) (wholeOf y)
       → ((at : ℕ) → Suits θ₁ (firstHalf x) → Suits θ₁ (firstHalf y) → Ranged E Φ a → Compared (make Φ a (parted x y env) at) (firstHalf x .side) (firstHalf y .side))

@@ -1,8 +1,10 @@
 pub mod Moved
 pub mod Gates
 pub mod Applying
+pub mod Playing
 pub mod Joining
 pub mod Pins
 pub mod Standing
 pub mod Main
 pub mod Worked
+pub mod Meeting

@@ -1,30 +1,19 @@
 -- Input and output pins of a netlist whose type takes bits and gives bits, full and lean; and what a record of the lean netlist has in the
 -- full one. Assumes nothing.
-use Prim.Native.Nat.{ℕ, zero, suc, _+_, _*_, _<_, _≤_}
+use Prim.Native.Nat.{ℕ, _+_, _*_, _<_}
 use mathlib.Core.Path.{_≡_, refl, sym, ap, ap₂, _∙_, subst}
-use mathlib.Core.Logic.{⊎-elim}
-use mathlib.Core.Bool.{Bool, true, false, cond, not, true≢false, false≢true}
+use mathlib.Core.Bool.{Bool, true, false, cond, true≢false, false≢true}
 use mathlib.Core.List.{List, [], _∷_, _++_, map, map-append, append-nil}
-use native.Mathlib.Omega.{arith}
-use lib.Dec.{T, eqb, eqb-refl}
-use lib.ListN.{length, getD, take, drop, length-append, take-append-drop}
-use lib.Seq.{take-at, drop-at}
-use Rattle.laws.proofs.Tests.{and-both, or-left, or-right, T-is}
-use Rattle.laws.proofs.Parts.{map-take, map-drop}
+use lib.Dec.{T, eqb}
+use lib.ListN.{length, take, drop, length-append, take-append-drop}
+use Rattle.laws.proofs.Tests.{and-both}
 use Rattle.calculus.specs.Types.{Ty, bit, prod, arrow, lolli, size, sharable}
-use Rattle.calculus.specs.Terms.{partAt}
 use Rattle.calculus.specs.Net.{inp, out, number, Interface, turns, Element, point, part, inSide, Net}
-use Rattle.calculus.specs.Lean.{isPin, root, kept, keep, leanPin, lean}
-use Rattle.calculus.specs.Record.{Bits, All, Works, Possible, partLaw}
-use Rattle.circuit_theorems.specs.Scope.{dir, dirs}
-use Rattle.circuit_theorems.specs.Formed.{Formed}
-use Rattle.circuit_theorems.proofs.Lists.{all-append, all-left, all-right}
-use Rattle.circuit_theorems.proofs.Terminals.{pointIn, partIn}
-use Rattle.circuit_theorems.proofs.Drivers.{turns-size}
-use Rattle.circuit_theorems.proofs.BackLaws.{pin-root}
+use Rattle.calculus.specs.Lean.{root, kept, keep, leanPin}
+use Rattle.calculus.specs.Record.{Bits, All, Possible, partLaw}
+use Rattle.circuit_theorems.specs.Scope.{dirs}
+use Rattle.circuit_theorems.proofs.Lists.{all-append}
 use Rattle.circuit_theorems.proofs.Roots.{root-like}
-use Rattle.circuit_theorems.proofs.Wiring.{standIn, StandsApart, PinOk, Wired, wired-net}
-use Rattle.circuit_theorems.proofs.Same.{from-lean}
 use Rattle.linear_theorems.proofs.Lines.{side-length}
 use Rattle.linear_theorems.proofs.Heard.{in-length}
 use Rattle.trace_calculus.specs.Trace.{inPins, outPins, registers, bitByte, row}

@@ -1,29 +1,29 @@
 -- The lean netlists of two sheets within that of the joint one: it joins them, as `Against` says. Assumes nothing.
-use Prim.Native.Nat.{ℕ, zero, suc, _+_, _*_, _<_, _≤_}
+use Prim.Native.Nat.{ℕ, zero, suc, _+_, _<_, _≤_}
 use mathlib.Core.Path.{_≡_, refl, sym, ap, ap₂, _∙_, subst}
-use mathlib.Core.Logic.{_↔_, ⊎-elim}
+use mathlib.Core.Logic.{⊎-elim}
 use mathlib.Core.Bool.{Bool, true, false, cond}
 use mathlib.Core.List.{List, [], _∷_, _++_, map, map-append}
 use native.Mathlib.Omega.{arith}
 use lib.Dec.{T, eqb, eqb→eq, eqb-refl}
-use lib.ListN.{length, getD, length-append, length-map}
+use lib.ListN.{length, length-append, length-map}
 use Rattle.laws.proofs.Tests.{or-elim, or-left, or-right, T-is}
 use Rattle.calculus.specs.Types.{Ty, sharable}
 use Rattle.calculus.specs.Terms.{partAt}
 use Rattle.calculus.specs.Net.{inp, out, number, Interface, turns, Element, point, part, Made, Net, netOf}
-use Rattle.calculus.specs.Lean.{isPin, root, kept, keep, leanPin, lean}
+use Rattle.calculus.specs.Lean.{isPin, root, kept, keep, lean}
 use Rattle.calculus.specs.Record.{Bits, All, Same, Works, Possible, partLaw}
 use Rattle.circuit_theorems.specs.Scope.{dirs}
 use Rattle.circuit_theorems.specs.Formed.{Formed}
 use Rattle.circuit_theorems.proofs.Lists.{all-left, all-right}
 use Rattle.circuit_theorems.proofs.Terminals.{pointIn, partIn, isBetween}
 use Rattle.circuit_theorems.proofs.BackLaws.{pin-root}
-use Rattle.circuit_theorems.proofs.Wiring.{standIn, StandsApart, PinOk, Wired, wired-net}
+use Rattle.circuit_theorems.proofs.Wiring.{standIn, StandsApart, PinOk, wired-net}
 use Rattle.circuit_theorems.proofs.Same.{to-lean, from-lean}
-use Rattle.trace_calculus.specs.Trace.{inPins, outPins, registers, bitByte, row, rows}
+use Rattle.trace_calculus.specs.Trace.{inPins, outPins, registers, bitByte, row}
 use Rattle.trace_calculus.specs.Promise.{registerOutputs}
 use Rattle.never_theorems.specs.Against.{readAt, StandsIn, Against}
-use Rattle.never_theorems.proofs.Against.{row-append, row-moved, rows-same, registers-count}
+use Rattle.never_theorems.proofs.Against.{row-append, rows-same}
 use Rattle.same_theorems.specs.Joint.{arrowsTo}
 use Rattle.same_theorems.proofs.Moved.{furtherBy}
 use Rattle.same_theorems.proofs.Gates.{sideRow, Running}
@@ -90,7 +90,7 @@ module _ (m : Net) (ok : Formed m) where
   shown-root ps o c = let f : pointIn (m .elements) o ≡ false = all-right (PinOk m) ps (out o ∷ []) c .0 in rw f
 
   -- a register's output stands for itself
-  register-stays : (es : List Element) → All (StandsApart m) es → All (λ r. standIn m (r + 1) ≡ r + 1) (registers es)
+  pub register-stays : (es : List Element) → All (StandsApart m) es → All (λ r. standIn m (r + 1) ≡ r + 1) (registers es)
   register-stays [] c = tt
   register-stays (point i ∷ es) c = register-stays es (c .1)
   register-stays (part p i ∷ es) c = by (eqb p 1) refl (register-stays es (c .1))
@@ -162,7 +162,7 @@ module _ (θs : List Ty) (θ : Ty) (bits : OfBits θs θ) (m : Made) (o : ℕ) (
         let e : r + 1 + d ≡ r + d + 1 = omega arith in
         ap₂ (λ (b : Bool) (r : List ℕ). bitByte b ∷ r) (ap (λ (y : ℕ). β y 0) (sym (ap (standIn (netOf m)) e ∙ a .0))) (woken-half β rs (a .1))
 
-outputs-kept : (m : Made) → registerOutputs (lean (netOf m)) ≡ map (λ r. r + 1) (registers (m .elements))
+pub outputs-kept : (m : Made) → registerOutputs (lean (netOf m)) ≡ map (λ r. r + 1) (registers (m .elements))
 unfolding lean
 outputs-kept m = ap (map (λ r. r + 1)) (lean-registers (netOf m) (m .elements))
 

@@ -35,7 +35,7 @@ abbrev pub arrowsTo : List Ty → Ty → Ty
 arrowsTo [] τ = τ
 arrowsTo (θ ∷ θs) τ = arrow θ (arrowsTo θs τ)
 
--- the type of an accepted sheet's term
+-- the type of an accepted sheet's term: that of what it makes, which is the one that the walk finds (theorem `root-walked`)
 unfoldable pub rootOf : Sheet → Ty
 rootOf σ = make (σ .table) (σ .term) [] 0 .type
 
