@@ -1,0 +1,5 @@
+pub mod Choices
+pub mod Sorts
+pub mod Finding
+pub mod Growth
+pub mod ListLaws
