@@ -40,8 +40,14 @@ module _ (w : List ℕ) (k a b c d : ℕ) (room : makingSize ≤ length w) (few 
   pub stored-above : (i : ℕ) → typesAt + 4 * k + 4 ≤ i → (i ≡ typeCountAt → ⊥) → getD (stored w k a b c d) i 0 ≡ getD w i 0
   stored-above i h n = other i n ∙ sets-outside (a ∷ b ∷ c ∷ d ∷ []) w (typesAt + 4 * k) i 0 (λ l. omega arith) (omega arith)
 
-  pub stored-only : TypesOnly w (stored w k a b c d)
-  stored-only = record { same = stored-length; below = λ i h. stored-below i (omega arith); above = λ i h n. stored-above i (omega arith) n }
+  pub stored-only : getD w typeCountAt 0 ≤ k → TypesOnly w (stored w k a b c d)
+  stored-only h = record {
+    same = stored-length;
+    below = λ i l. stored-below i (omega arith);
+    above = λ i l n. stored-above i (omega arith) n;
+    more = omega (arith, stored-count);
+    few = λ l. omega (arith, stored-count);
+  }
 
 -- a number that all types have, in the longer table
 longer : (Θ : Table) (q : TyRec) (f : ℕ → ℕ) (g : TyRec → ℕ) → ((t : ℕ) → t < length Θ → f t ≡ g (recAt Θ t)) → f (length Θ) ≡ g q → (t : ℕ) → t < length (Θ ++ q ∷ []) → f t ≡ g (recAt (Θ ++ q ∷ []) t)

@@ -3,3 +3,4 @@ pub mod Sorts
 pub mod Finding
 pub mod Growth
 pub mod ListLaws
+pub mod Keeping

@@ -69,12 +69,13 @@ bits-in w Θ r H L B =
 -- ---- the memory
 
 pub types-same : (w : List ℕ) → TypesOnly w w
-types-same w = record { same = refl; below = λ i h. refl; above = λ i h n. refl }
+types-same w = record { same = refl; below = λ i h. refl; above = λ i h n. refl; more = omega arith; few = λ h. h }
 
 module _ (w : List ℕ) (r : Record) (place : ℕ) (k : ℕ) (L : Listable w r) (S : Searched w r k) where
   pub says-old : k < getD w typeCountAt 0 → ListedSays w r place (found.At k) w
   says-old h = record {
     only = types-same w;
+    small = let c = L .count in omega arith;
     says = λ σ H B.
         let l : k < length (σ .table) = let c = H .types .count in omega arith in
         let (n, t) = found-old w (σ .table) r k (H .types) L S l in
@@ -94,12 +95,14 @@ module _ (w : List ℕ) (r : Record) (place : ℕ) (k : ℕ) (L : Listable w r) 
   pub says-bad : getD w typeCountAt 0 ≤ k → formedIn w r ≡ false → ListedSays w r place (found.Refused 35 place) w
   says-bad h f = record {
     only = types-same w;
+    small = tt;
     says = λ σ H B. rw (is-bad σ (recordOf r) place (new-one h σ H .1) (sym (formed-one σ H B) ∙ f)) refl;
   }
 
   pub says-big : getD w typeCountAt 0 ≤ k → formedIn w r ≡ true → 128 < bitsIn w (r .left) + bitsIn w (r .right) → ListedSays w r place (found.Refused 34 place) w
   says-big h f s = record {
     only = types-same w;
+    small = tt;
     says = λ σ H B. rw (is-big σ (recordOf r) place (new-one h σ H .1) (sym (formed-one σ H B) ∙ f) (omega (arith, bits-in w (σ .table) r (H .types) L B))) refl;
   }
 
@@ -107,6 +110,7 @@ module _ (w : List ℕ) (r : Record) (place : ℕ) (k : ℕ) (L : Listable w r) 
     pub says-full : 256 ≤ k → ListedSays w r place (found.Refused 34 place) w
     says-full m = record {
       only = types-same w;
+      small = tt;
       says = λ σ H B. rw (is-full σ (recordOf r) place (new-one h σ H .1) (sym (formed-one σ H B) ∙ f) (omega (arith, bits-in w (σ .table) r (H .types) L B)) (omega (arith, new-one h σ H .0))) refl;
     }
 
@@ -125,7 +129,8 @@ module _ (w : List ℕ) (r : Record) (place : ℕ) (k : ℕ) (L : Listable w r) 
 
     pub says-new : k < 256 → ListedSays w r place (found.At k) (stored w k (r .kind) (r .left) (r .right) (bitsIn w (r .left) + bitsIn w (r .right)))
     says-new m = record {
-      only = stored-only w k (r .kind) (r .left) (r .right) (bitsIn w (r .left) + bitsIn w (r .right)) (L .room) m;
+      only = stored-only w k (r .kind) (r .left) (r .right) (bitsIn w (r .left) + bitsIn w (r .right)) (L .room) m h;
+      small = m;
       says = λ σ H B.
           let (e, n) = new-one h σ H in
           let x : Found = record { type = length (σ .table); state = withType σ (recordOf r) } in

@@ -63,8 +63,10 @@ pub record HoldsState (w : List ℕ) (σ : State) : Type 0 where
   pub few : σ .nodes ≤ 2048
   pub puts : getD w putCountAt 0 ≡ σ .puts
 
--- only the table of types is written
+-- only the table of types is written, and it only grows
 pub record TypesOnly (w w′ : List ℕ) : Type 0 where
   pub same : length w′ ≡ length w
   pub below : (i : ℕ) → i < typesAt → getD w′ i 0 ≡ getD w i 0
   pub above : (i : ℕ) → 11264 ≤ i → (i ≡ typeCountAt → ⊥) → getD w′ i 0 ≡ getD w i 0
+  pub more : getD w typeCountAt 0 ≤ getD w′ typeCountAt 0
+  pub few : getD w typeCountAt 0 ≤ 256 → getD w′ typeCountAt 0 ≤ 256

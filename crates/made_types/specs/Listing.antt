@@ -56,7 +56,13 @@ FoundIn w (found.At t) (refused why) = ⊥
 FoundIn w (found.Refused number place) (good x) = ⊥
 FoundIn w (found.Refused number place) (refused why) = why ≡ numbered number place
 
+-- .. a number that can stand in the memory, if any
+abbrev pub SmallType : code.FoundType → Type 0
+SmallType (found.At t) = t < 256
+SmallType (found.Refused number place) = Unit {0}
+
 -- whatever state the memory held, the answer is that of the definition
 pub record ListedSays (w : List ℕ) (r : Record) (place : ℕ) (x : code.FoundType) (w′ : List ℕ) : Type 0 where
   pub only : TypesOnly w w′
+  pub small : SmallType x
   pub says : (σ : State) → HoldsState w σ → Below (length (σ .table)) (recordOf r) → FoundIn w′ x (listed σ (recordOf r) place)

@@ -40,7 +40,7 @@ pub const MOST_TYPES: u16 = 256;
 
 pub const MOST_NODES: u16 = 2048;
 
-pub const MOST_DEEP: u8 = 64;
+pub const MOST_DEEP: u16 = 64;
 
 pub const MOST_PUTS: u16 = 32767;
 

@@ -1,0 +1,3 @@
+pub mod Terms
+pub mod Stored
+pub mod AddLaws
