@@ -14,7 +14,7 @@ use Rattle.making_memory.specs.Map.{nodesAt, typesAt, typeCountAt, nodeCountAt,
 use Rattle.made_types.specs.Held.{HoldsState}
 use Rattle.made_nodes.specs.Nodes.{NoSubterm, OneSubterm, TwoSubterms, TermIn, leaf, one, two}
 use Rattle.made_nodes.specs.Held.{TermHeld, MadeIn, SmallMade, MadeOnly}
-use Rattle.made_nodes.specs.Adding.{NodeOver, no-sub, one-sub, two-subs, Makes, NodeSays, UnderSays, OverSays}
+use Rattle.made_nodes.specs.Adding.{NodeOver, no-sub, one-sub, two-subs, NodeSays, UnderSays, OverSays}
 use Rattle.made_nodes.specs.declared.Node.{Node}
 use Rattle.made_nodes.specs.declared.Sub.{Sub}
 use Rattle.made_nodes.specs.declared.MadeTerm as code
@@ -50,25 +50,25 @@ rooted w k n room few c (two-subs s l f r g t u) =
     two (node-in w k n room few) s (omega arith) (omega arith) (term-kept (withNode w k n) t (λ i h. node-below w k n room few i (omega arith))) (term-kept (withNode w k n) u (λ i h. node-below w k n room few i (omega arith)))
 
 module _ (w : List ℕ) (n : Node) (ty below : ℕ) (room : makingSize ≤ length w) where
-  nothing-made : (number place : ℕ) → Makes w (made.Refused number place) w
-  nothing-made number place = record { only = made-same w; small = tt }
-
   pub add-full : 2048 ≤ getD w nodeCountAt 0 → NodeSays w n ty below (made.Refused 34 (n .place)) w
   add-full h = record {
-    makes = λ s. nothing-made 34 (n .place);
+    only = made-same w;
+    small = λ s. tt;
     says = λ σ e ps H t o. rw (is-full (n .place) e ty below ps σ (omega (arith, H .nodes))) refl;
   }
 
   pub add-deep : 64 ≤ below → NodeSays w n ty below (made.Refused 34 (n .place)) w
   add-deep h = record {
-    makes = λ s. nothing-made 34 (n .place);
+    only = made-same w;
+    small = λ s. tt;
     says = λ σ e ps H t o. rw (is-deep (n .place) e ty below ps σ h) refl;
   }
 
   pub add-made :
       (k : ℕ) → k ≡ getD w nodeCountAt 0 → k < 2048 → below < 64 → NodeSays w n ty below (made.At (record { node = k; ty = ty; deep = below + 1 })) (withNode w k n)
   add-made k c h l = record {
-    makes = λ s. record { only = node-only w k n room h (sym c); small = s };
+    only = node-only w k n room h (sym c);
+    small = λ s. s;
     says = λ σ e ps H t o.
         let v = H .nodes in
         let i = H .types .count in
@@ -90,7 +90,8 @@ module _ (w : List ℕ) (n : Node) (ty below : ℕ) (room : makingSize ≤ lengt
 
 pub under-of : (w : List ℕ) (kind body place ty : ℕ) (e : Sub) (r : code.MadeTerm) (w′ : List ℕ) → NodeSays w (record { kind = kind; body = body; left = e .node; right = 0; place = place }) ty (e .deep) r w′ → UnderSays w kind body place ty e r w′
 under-of w kind body place ty e r w′ N = record {
-  makes = N .makes;
+  only = N .only;
+  small = N .small;
   says = λ σ m f H h t s. subst (λ (d : ℕ). MadeIn w′ r (node place f ty d (m .places) σ)) (h .deep) (N .says σ f (m .places) H t (one-sub s (h .lower) (h .few) (h .term)));
 }
 
@@ -98,7 +99,8 @@ pub over-of :
     (w : List ℕ) (kind body place ty : ℕ) (a b : Sub) (below : ℕ) (r : code.MadeTerm) (w′ : List ℕ) → below ≡ larger (a .deep) (b .deep)
     → NodeSays w (record { kind = kind; body = body; left = a .node; right = b .node; place = place }) ty below r w′ → OverSays w kind body place ty a b r w′
 over-of w kind body place ty a b below r w′ e N = record {
-  makes = N .makes;
+  only = N .only;
+  small = N .small;
   says = λ σ m n build H h g t s.
       let d : below ≡ larger (m .deep) (n .deep) = e ∙ ap (λ (x : ℕ). larger x (b .deep)) (h .deep) ∙ ap (λ (x : ℕ). larger (m .deep) x) (g .deep) in
       subst (λ (x : ℕ). MadeIn w′ r (node place (build (m .term) (n .term)) ty x (m .places ++ n .places) σ)) d

@@ -21,23 +21,21 @@ pub data NodeOver (w : List ℕ) (n : Node) : Term → List ℕ → Type 0 where
   one-sub : {a e : Term} {ps : List ℕ} → OneSubterm (n .kind) (n .body) a e → n .left < getD w nodeCountAt 0 → n .left < 2048 → TermIn w (n .left) a ps → NodeOver w n e ps
   two-subs : {a b e : Term} {ps qs : List ℕ} → TwoSubterms (n .kind) (n .body) a b e → n .left < getD w nodeCountAt 0 → n .left < 2048 → n .right < getD w nodeCountAt 0 → n .right < 2048 → TermIn w (n .left) a ps → TermIn w (n .right) b qs → NodeOver w n e (ps ++ qs)
 
--- what every function does that makes a node of a type
-pub record Makes (w : List ℕ) (r : code.MadeTerm) (w′ : List ℕ) : Type 0 where
-  pub only : MadeOnly w w′
-  pub small : SmallMade r
-
 pub record NodeSays (w : List ℕ) (n : Node) (ty below : ℕ) (r : code.MadeTerm) (w′ : List ℕ) : Type 0 where
-  pub makes : ty < 256 → Makes w r w′
+  pub only : MadeOnly w w′
+  pub small : ty < 256 → SmallMade r
   pub says : (σ : State) (e : Term) (ps : List ℕ) → HoldsState w σ → ty < length (σ .table) → NodeOver w n e ps → MadeIn w′ r (node (n .place) e ty below ps σ)
 
 -- over one term
 pub record UnderSays (w : List ℕ) (kind body place ty : ℕ) (e : Sub) (r : code.MadeTerm) (w′ : List ℕ) : Type 0 where
-  pub makes : ty < 256 → Makes w r w′
+  pub only : MadeOnly w w′
+  pub small : ty < 256 → SmallMade r
   pub says : (σ : State) (m : Made) (f : Term) → HoldsState w σ → TermHeld w e m → ty < length (σ .table) → OneSubterm kind body (m .term) f → MadeIn w′ r (node place f ty (m .deep) (m .places) σ)
 
 -- over two
 pub record OverSays (w : List ℕ) (kind body place ty : ℕ) (a b : Sub) (r : code.MadeTerm) (w′ : List ℕ) : Type 0 where
-  pub makes : ty < 256 → Makes w r w′
+  pub only : MadeOnly w w′
+  pub small : ty < 256 → SmallMade r
   pub says :
       (σ : State) (m n : Made) (build : Term → Term → Term) → HoldsState w σ → TermHeld w a m → TermHeld w b n → ty < length (σ .table)
       → TwoSubterms kind body (m .term) (n .term) (build (m .term) (n .term)) → MadeIn w′ r (over place build ty m n σ)

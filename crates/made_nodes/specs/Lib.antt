@@ -1,3 +1,4 @@
 pub mod Nodes
 pub mod Held
 pub mod Adding
+pub mod Forms

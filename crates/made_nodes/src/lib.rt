@@ -12,6 +12,11 @@ ghost use Rattle.making_memory.specs.Map.{nodesAt, nodeCountAt, makingSize};
 ghost use Rattle.made_types.specs.Held.{kindIn};
 ghost use Rattle.made_types.specs.Listing.{InTypes};
 ghost use Rattle.made_nodes.specs.Adding.{NodeSays, UnderSays, OverSays};
+
+pub mod binders;
+pub mod leaves;
+pub mod pairs;
+
 use making_memory::MOST_DEEP;
 use making_memory::MOST_NODES;
 use making_memory::NODE_COUNT;
