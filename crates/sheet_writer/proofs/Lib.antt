@@ -1,0 +1,6 @@
+pub mod Views
+pub mod Measuring
+pub mod Writing
+pub mod TypeRecords
+pub mod RecordLaws
+pub mod SheetLaws
