@@ -4,3 +4,4 @@ pub mod Finding
 pub mod Growth
 pub mod ListLaws
 pub mod Keeping
+pub mod StateLaws

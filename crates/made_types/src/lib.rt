@@ -9,7 +9,10 @@ ghost use lib.Seq.{sets};
 ghost use Rattle.making_memory.specs.Map.{typesAt, typeCountAt, makingSize};
 ghost use Rattle.made_types.specs.Held.{kindIn, leftIn, rightIn, bitsIn};
 ghost use Rattle.made_types.specs.Listing.{InTypes, Searched, sameIn, formedIn, Listable, ListedSays};
+ghost use Rattle.made_types.specs.States.{Begun, Forgot};
 use making_memory::MOST_TYPES;
+use making_memory::NODE_COUNT;
+use making_memory::PUT_COUNT;
 use making_memory::TYPE_COUNT;
 use making_memory::TYPES;
 
@@ -169,4 +172,28 @@ pub fn listed(work: &mut [u16], r: Record, place: u16) -> FoundType
     }
     store(work, k, r, bits as u16);
     FoundType::At(k)
+}
+
+// The table begins with the single bit; there are no nodes, and nothing was put in.
+pub fn begin(work: &mut [u16])
+    requires { ⌜ makingSize ≤ length (now work) ⌝ }
+    ensures { λ _. ⌜ Begun (now (work .entry)) (now (work .exit)) ⌝ }
+{
+    let bit = Record {
+        kind: 1,
+        left: 0,
+        right: 0,
+    };
+    store(work, 0, bit, 1);
+    work[NODE_COUNT] = 0;
+    work[PUT_COUNT] = 0;
+}
+
+// The types and the nodes from these numbers on are forgotten; what was put in stays counted.
+pub fn forget(work: &mut [u16], types: u16, nodes: u16)
+    requires { ⌜ makingSize ≤ length (now work) ⌝ }
+    ensures { λ _. ⌜ Forgot (now (work .entry)) types nodes (now (work .exit)) ⌝ }
+{
+    work[TYPE_COUNT] = types;
+    work[NODE_COUNT] = nodes;
 }

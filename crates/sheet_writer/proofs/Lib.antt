@@ -4,3 +4,4 @@ pub mod Writing
 pub mod TypeRecords
 pub mod RecordLaws
 pub mod SheetLaws
+pub mod MadeBytes
