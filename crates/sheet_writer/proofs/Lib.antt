@@ -5,3 +5,4 @@ pub mod TypeRecords
 pub mod RecordLaws
 pub mod SheetLaws
 pub mod MadeBytes
+pub mod Determined
