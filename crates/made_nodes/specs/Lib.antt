@@ -1,0 +1,4 @@
+pub mod Nodes
+pub mod Held
+pub mod Adding
+pub mod Forms

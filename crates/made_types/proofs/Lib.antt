@@ -1,0 +1,7 @@
+pub mod Choices
+pub mod Sorts
+pub mod Finding
+pub mod Growth
+pub mod ListLaws
+pub mod Keeping
+pub mod StateLaws
