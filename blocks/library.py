@@ -74,7 +74,7 @@ def join(source: str, where: Path) -> Text:
             if file not in seen:
                 seen.add(file)
                 take(file, file.read_text())
-        parts.append((path.name, rest if rest.endswith("\n") else rest + "\n"))
+        parts.append((path.relative_to(BLOCKS).as_posix() if path.is_relative_to(BLOCKS) else path.name, rest if rest.endswith("\n") else rest + "\n"))
 
     take(where, source)
     starts, at = [], 0
