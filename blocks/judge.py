@@ -1,0 +1,167 @@
+"""A block judged: its property by the proved call `never`, its model by the proved call `lanes`, its cost by the proved netlists."""
+from __future__ import annotations
+
+import itertools
+import zlib
+from array import array
+from dataclasses import dataclass, field
+from random import Random
+from typing import Optional, Sequence
+
+import library
+import models
+from catalogue import Block
+from library import Made
+from deltawobble import Netlist, Refused, Sheet, calls
+from deltawobble.lanes import LANES, Traces, pack, unpack
+
+#: ticks of all lanes together that a block is tried for, above the sizes that are proved, and at each size that is
+TICKS, FEW_TICKS = 1_000_000, 4_000
+#: the folder of the texts whose registers start with 0
+WATCHING = "properties/"
+#: for each byte its bits, lowest first, one byte a bit
+BYTE = [bytes(byte >> i & 1 for i in range(8)) for byte in range(256)]
+
+
+class Wrong(Exception):
+    """What was claimed of a block is not so."""
+
+
+@dataclass
+class Proved:
+    """A property that holds: how many states the registers can have."""
+
+    term: str
+    inputs: int
+    registers: int
+    states: int
+
+
+@dataclass
+class Cost:
+    """What a block of one size takes. `card` is whether the card's profile holds."""
+
+    size: tuple[int, ...]
+    parts: int
+    registers: int
+    terminals: int
+    depth: int
+    nodes: int
+    card: bool
+
+
+@dataclass
+class Judged:
+    name: str
+    proved: list[Proved] = field(default_factory=list)
+    agreed: dict[tuple[int, ...], int] = field(default_factory=dict)
+    costs: list[Cost] = field(default_factory=list)
+
+
+def starts_for(made: Made, lean: Netlist) -> bytes:
+    """Registers of the watching texts start with 0, those of the blocks with either bit."""
+    return bytes(0 if made.homes[register.node].startswith(WATCHING) else 2 for register in lean.registers)
+
+
+def ask(made: Made) -> tuple[Netlist, bytes, calls.Searched]:
+    """Whether the one output pin is never 1, in all runs, from all allowed starts."""
+    lean = Netlist.parse(calls.translate(made.sheet, lean=True))
+    assert len(lean.output_pins) == 1, "a property has one output pin"
+    starts = starts_for(made, lean)
+    return lean, starts, calls.never(made.sheet, starts, 0)
+
+
+def prove(block: Block, numbers: tuple[int, ...]) -> Proved:
+    term = block.never(numbers)
+    lean, starts, found = ask(library.block_sheet("properties/%s.dw" % block.family, term))
+    if found.states is None:
+        raise Wrong("%s can be 1, at tick %d" % (term, found.tick))
+    return Proved(term, len(lean.input_pins), len(lean.registers), found.states)
+
+
+def cost(block: Block, size: tuple[int, ...]) -> Cost:
+    sheet = library.block_sheet(home(block), block.block(size)).sheet
+    full, lean = Netlist.parse(calls.translate(sheet)), Netlist.parse(calls.translate(sheet, lean=True))
+    terminals = 1 + max((max(element.terminals) for element in full.parts + full.points), default=-1)
+    parsed = Sheet.parse(sheet)
+    return Cost(size, len(lean.parts), len(lean.registers), terminals, parsed.depth, len(parsed.nodes), holds_profile(sheet))
+
+
+def holds_profile(sheet: bytes) -> bool:
+    try:
+        calls.translate(sheet, card=True)
+    except Refused as refused:
+        if refused.number not in (27, 28, 29):
+            raise
+        return False
+    return True
+
+
+def home(block: Block) -> str:
+    """The text that a block's term is written over; scan is tried with the full adders of bits.dw."""
+    return ("bits" if block.family == "functions" else block.family) + ".dw"
+
+
+def spread(number: int, width: int) -> bytes:
+    """A number's bits, lowest first, one byte a bit."""
+    return b"".join([BYTE[byte] for byte in number.to_bytes(width + 7 >> 3, "little")])[:width]
+
+
+def row_bits(row: Sequence[int], widths: Sequence[int], whole: int) -> bytes:
+    joined, at = 0, 0
+    for number, width in zip(row, widths):
+        joined |= number << at
+        at += width
+    return spread(joined, whole)
+
+
+def lane(model: models.Model, drawn: Random, ticks: int) -> tuple[bytes, bytes]:
+    """A run by the model: what is given to the input pins, and what the output pins should show, one byte a bit."""
+    ins, outs, step = sum(model.ins), sum(model.outs), model.step
+    given = list(itertools.islice(model.inputs(drawn), ticks))
+    inputs = b"".join([row_bits(row, model.ins, ins) for row in given])
+    return inputs, b"".join([row_bits(step(*row), model.outs, outs) for row in given])
+
+
+def agree(block: Block, size: tuple[int, ...], ticks: int) -> int:
+    """So many ticks, over sixteen traces, through the lean netlist; Wrong where an output differs from the model."""
+    sheet = library.block_sheet(home(block), block.block(size)).sheet
+    each = -(-ticks // LANES)
+    drawn = Random(zlib.crc32(block.block(size).encode()))
+    made = [block.model(*size) for _ in range(LANES)]
+    runs = [lane(model, drawn, each) for model in made]
+    traces = Traces(sheet)
+    traces.state = start_state(made[0], len(traces.lean.registers))
+    if (traces.inputs, traces.outputs) != (sum(made[0].ins), sum(made[0].outs)):
+        raise Wrong("%s has %d input and %d output pins, and its model others" % (block.block(size), traces.inputs, traces.outputs))
+    shown = traces.run(pack([inputs for inputs, _ in runs]) if traces.inputs else array("H"), each)
+    for number, (_, expected) in enumerate(runs):
+        if unpack(shown, number) != expected:
+            raise Wrong("%s and its model differ, trace %d, tick %s" % (block.block(size), number, first_difference(unpack(shown, number), expected, traces.outputs)))
+    return each * LANES
+
+
+def start_state(model: models.Model, registers: int) -> array:
+    if not model.start:
+        return array("H", [0] * registers)
+    if len(model.start) != registers:
+        raise Wrong("the model starts %d registers, and there are %d" % (len(model.start), registers))
+    return array("H", [0xFFFF * bit for bit in model.start])
+
+
+def first_difference(shown: bytes, expected: bytes, width: int) -> Optional[int]:
+    return next((at // width for at, pair in enumerate(zip(shown, expected)) if pair[0] != pair[1]), None)
+
+
+def judge(block: Block) -> Judged:
+    """All that is claimed of a block."""
+    found = Judged(block.name)
+    for numbers in block.proved:
+        found.proved.append(prove(block, numbers))
+    small = sorted({size for numbers in block.proved for size in block.proved_blocks(numbers)} - set(block.tried))
+    for size in small:
+        found.agreed[size] = agree(block, size, FEW_TICKS)
+    for size in block.tried:
+        found.agreed[size] = agree(block, size, -(-TICKS // len(block.tried)))
+    found.costs = [cost(block, size) for size in sorted({*small, *block.tried})]
+    return found
