@@ -24,7 +24,11 @@ class Block:
     model: Callable[..., models.Model]
     label: str = ""
     sized: Callable[..., Sizes] = lambda *numbers: [numbers]
+    #: a clause that is never 1 from the model's start, and meets 2^n - 1 states on the way
+    round: str = ""
     term: Callable[..., str] = lambda name, *size: name + braces(size)
+    #: the sizes proved, in words, where there are too many to list
+    words: str = ""
 
     def block(self, size: tuple[int, ...]) -> str:
         return self.term(self.name, *size)
@@ -64,8 +68,9 @@ BITS = [
     Block("bits", "taps", "x at each of the n ticks before, the last one first", "taps_differ", upto(1, 8), one(12, 16), models.taps),
     Block("bits", "pick", "bit i of n", "pick_differs", ALONE, [(8, 5), (16, 15)], models.pick, sized=lambda: [(3, 0), (3, 1), (3, 2)]),
     Block("bits", "lfsr", "a shift register with feedback by x^n + x^a + 1: not all 0, and never so", "lfsr_dies",
-          [(2, 1), (3, 1), (4, 1), (5, 2), (6, 1), (7, 1), (9, 4), (10, 3), (11, 2)], [(15, 1)], models.lfsr, "n, a"),
-    Block("bits", "lfsr4", "the same by x^n + x^a + x^b + x^c + 1", "lfsr4_dies", [(8, 6, 5, 4), (12, 6, 4, 1)], [(16, 15, 13, 4)], models.lfsr4, "n, a, b, c"),
+          [(2, 1), (3, 1), (4, 1), (5, 2), (6, 1), (7, 1), (9, 4), (10, 3), (11, 2)], [(15, 1)], models.lfsr, "n, a", round="lfsr_dead"),
+    Block("bits", "lfsr4", "the same by x^n + x^a + x^b + x^c + 1", "lfsr4_dies", [(8, 6, 5, 4), (12, 6, 4, 1)], [(16, 15, 13, 4)], models.lfsr4, "n, a, b, c",
+          round="lfsr4_dead"),
     Block("bits", "gray", "the Gray code of a number", "gray_jumps", upto(1, 10), one(12, 14), models.gray),
     Block("bits", "ungray", "the number of a Gray code", "ungray_differs", upto(1, 8), one(10, 12), models.ungray),
     Block("bits", "gray_counter", "counter in Gray code", "gray_counter_jumps", upto(1, 8), one(12), models.gray_counter),
@@ -120,7 +125,7 @@ DECISIONS = [
     Block("decisions", "some", "whether any of n bits is 1", "some_differs", upto(1, 8), one(12), models.some),
     Block("decisions", "all", "whether all n bits are 1", "all_differs", upto(1, 8), one(12), models.all_of),
     Block("decisions", "vote", "whether n of the m bits are 1", "vote_differs", [(n, m, m - n) for m in range(1, 9) for n in range(1, m + 1)],
-          [(5, 9), (2, 12)], models.vote, "n, m, m - n", sized=lambda n, m, i: [(n, m)]),
+          [(5, 9), (2, 12)], models.vote, sized=lambda n, m, i: [(n, m)], words="all n up to m, m = 1 to 8"),
     Block("decisions", "watchdog", "whether kick was 0 at each of the n ticks before", "watchdog_differs", upto(1, 5), one(8, 12), models.watchdog),
     Block("decisions", "timeout", "the same of 2^n - 1 ticks", "timeout_differs", [(1, 1), (2, 3), (3, 7)], one(6, 8), models.timeout, "n, 2^n - 1",
           sized=lambda n, t: one(n)),

@@ -1,7 +1,7 @@
 """A block judged: its property by the proved call `never`, its model by the proved call `lanes`, its cost by the proved netlists."""
 from __future__ import annotations
 
-import itertools
+import struct
 import zlib
 from array import array
 from dataclasses import dataclass, field
@@ -13,14 +13,12 @@ import models
 from catalogue import Block
 from library import Made
 from deltawobble import Netlist, Refused, Sheet, calls
-from deltawobble.lanes import LANES, Traces, pack, unpack
+from deltawobble.lanes import BIT, LANES, Traces, pack, unpack
 
 #: ticks of all lanes together that a block is tried for, above the sizes that are proved, and at each size that is
 TICKS, FEW_TICKS = 1_000_000, 4_000
 #: the folder of the texts whose registers start with 0
 WATCHING = "properties/"
-#: for each byte its bits, lowest first, one byte a bit
-BYTE = [bytes(byte >> i & 1 for i in range(8)) for byte in range(256)]
 
 
 class Wrong(Exception):
@@ -79,6 +77,17 @@ def prove(block: Block, numbers: tuple[int, ...]) -> Proved:
     return Proved(term, len(lean.input_pins), len(lean.registers), found.states)
 
 
+def go_round(block: Block, numbers: tuple[int, ...]) -> Proved:
+    """From the model's start the registers meet 2^n - 1 states, and are never all 0: so all other states come before one comes again."""
+    term = block.round + "{%s}" % ", ".join(map(str, numbers))
+    made = library.block_sheet("properties/%s.dw" % block.family, term)
+    lean = Netlist.parse(calls.translate(made.sheet, lean=True))
+    found = calls.never(made.sheet, bytes(block.model(*numbers).start), 0)
+    if found.states != (1 << numbers[0]) - 1:
+        raise Wrong("%s: %s" % (term, "it can be 1" if found.states is None else "%d states are met" % found.states))
+    return Proved(term, len(lean.input_pins), len(lean.registers), found.states)
+
+
 def cost(block: Block, size: tuple[int, ...]) -> Cost:
     sheet = library.block_sheet(home(block), block.block(size)).sheet
     full, lean = Netlist.parse(calls.translate(sheet)), Netlist.parse(calls.translate(sheet, lean=True))
@@ -102,25 +111,23 @@ def home(block: Block) -> str:
     return ("bits" if block.family == "functions" else block.family) + ".dw"
 
 
-def spread(number: int, width: int) -> bytes:
-    """A number's bits, lowest first, one byte a bit."""
-    return b"".join([BYTE[byte] for byte in number.to_bytes(width + 7 >> 3, "little")])[:width]
-
-
-def row_bits(row: Sequence[int], widths: Sequence[int], whole: int) -> bytes:
-    joined, at = 0, 0
-    for number, width in zip(row, widths):
-        joined |= number << at
+def bits_in_pin_order(columns: Sequence[Sequence[int]], widths: Sequence[int], ticks: int) -> bytes:
+    """Numbers by pin group, each a column over the ticks, as the calls take them: tick after tick, one byte a bit. No number has more than 64 bits."""
+    whole, at = sum(widths), 0
+    found = bytearray(whole * ticks)
+    for column, width in zip(columns, widths):
+        octets = struct.pack("<%dQ" % ticks, *column)
+        for bit in range(width):
+            found[at + bit::whole] = octets[bit >> 3::8].translate(BIT[bit & 7])
         at += width
-    return spread(joined, whole)
+    return bytes(found)
 
 
 def lane(model: models.Model, drawn: Random, ticks: int) -> tuple[bytes, bytes]:
-    """A run by the model: what is given to the input pins, and what the output pins should show, one byte a bit."""
-    ins, outs, step = sum(model.ins), sum(model.outs), model.step
-    given = list(itertools.islice(model.inputs(drawn), ticks))
-    inputs = b"".join([row_bits(row, model.ins, ins) for row in given])
-    return inputs, b"".join([row_bits(step(*row), model.outs, outs) for row in given])
+    """A run by the model: what is given to the input pins, and what the output pins should show."""
+    given = model.columns(drawn, ticks)
+    shown = list(map(model.step, *given)) if given else [model.step() for _ in range(ticks)]
+    return bits_in_pin_order(given, model.ins, ticks), bits_in_pin_order(list(zip(*shown)), model.outs, ticks)
 
 
 def agree(block: Block, size: tuple[int, ...], ticks: int) -> int:
@@ -158,6 +165,8 @@ def judge(block: Block) -> Judged:
     found = Judged(block.name)
     for numbers in block.proved:
         found.proved.append(prove(block, numbers))
+        if block.round:
+            found.proved.append(go_round(block, numbers))
     small = sorted({size for numbers in block.proved for size in block.proved_blocks(numbers)} - set(block.tried))
     for size in small:
         found.agreed[size] = agree(block, size, FEW_TICKS)

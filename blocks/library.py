@@ -16,9 +16,20 @@ ROOT = Path(__file__).resolve().parent.parent
 BLOCKS = ROOT / "blocks"
 SECOND = ROOT / "second/target/release/second"
 sys.path.insert(0, str(ROOT / "desk/package"))
+from deltawobble.notation import make, show  # noqa: E402
+from deltawobble.pins import OUTPUTS, pin_names  # noqa: E402
+from deltawobble.sheet import BINDS, Own, Sheet  # noqa: E402
+
+#: two names that a projection binds, at their place: the second one stands for the rest of a pair where a third name follows
+TWO_NAMES = re.compile(r"([A-Za-z_][\w']*)\s*,\s*([A-Za-z_][\w']*)\s*([,)])")
+ONE_NAME = re.compile(r"[A-Za-z_][\w']*")
 
 #: what may stand at the head of a text: blank lines, comments, the edition, and the files that it uses
 HEAD = re.compile(r'\s*(?:--.*)?$|\s*edition\s+(?P<edition>[12])\s*(?:--.*)?$|\s*use\s+"(?P<file>[^"]+)"\s*(?:--.*)?$')
+
+
+#: files, and what is read for them
+Instead = tuple[tuple[Path, str], ...]
 
 
 class NoSheet(Exception):
@@ -41,10 +52,15 @@ class Text:
 
 @dataclass(frozen=True)
 class Made:
-    """A sheet, and for each of its nodes the file that its word stands in."""
+    """A sheet; for each of its nodes the file that its word stands in; and the names that the text has for its variables."""
 
     sheet: bytes
     homes: tuple[str, ...]
+    own: Own
+
+    def pins(self) -> list[str]:
+        """The pins' names, in pin order."""
+        return pin_names(Sheet.parse(self.sheet, self.own))
 
 
 def split(source: str, where: Path) -> tuple[list[Path], str]:
@@ -63,8 +79,10 @@ def split(source: str, where: Path) -> tuple[list[Path], str]:
     return used, "\n".join(lines)
 
 
-def join(source: str, where: Path) -> Text:
-    """A text and what it uses as one text of the second edition. `where` is the file that the text stands in, or would stand in."""
+def join(source: str, where: Path, instead: Instead = ()) -> Text:
+    """A text and what it uses as one text of the second edition. `where` is the file that the text stands in, or would stand in; `instead` has
+    other texts for some of the files."""
+    edited = dict(instead)
     parts: list[tuple[str, str]] = [("", "edition 2\n")]
     seen: set[Path] = set()
 
@@ -73,7 +91,7 @@ def join(source: str, where: Path) -> Text:
         for file in used:
             if file not in seen:
                 seen.add(file)
-                take(file, file.read_text())
+                take(file, edited.get(file) or file.read_text())
         parts.append((path.relative_to(BLOCKS).as_posix() if path.is_relative_to(BLOCKS) else path.name, rest if rest.endswith("\n") else rest + "\n"))
 
     take(where, source)
@@ -95,9 +113,9 @@ def by_second(text: bytes) -> tuple[bytes, list[int]]:
 
 
 @lru_cache(maxsize=None)
-def sheet_of(source: str, where: Path) -> Made:
+def sheet_of(source: str, where: Path, instead: Instead = ()) -> Made:
     """The sheet of a text with its `use` lines. NoSheet says what is wrong, with file, line and column."""
-    text = join(source, where)
+    text = join(source, where, instead)
     try:
         sheet, places = by_second(text.joined)
     except NoSheet as refused:
@@ -107,7 +125,35 @@ def sheet_of(source: str, where: Path) -> Made:
         name, inside = text.place(offset)
         part = text.joined[offset - inside:offset].decode()
         raise NoSheet("refused %s at %s:%d:%d" % (number, name, part.count("\n") + 1, len(part) - part.rfind("\n"))) from None
-    return Made(sheet, tuple(text.place(place)[0] for place in places))
+    return Made(sheet, tuple(text.place(place)[0] for place in places), named(sheet, text.joined.decode(), places))
+
+
+def named(sheet: bytes, joined: str, places: list[int]) -> Own:
+    """The text's names for what each node binds, read at the node's place. The texts have no letters beyond ASCII, so places count characters."""
+    found = {}
+    for node, place in zip(Sheet.parse(sheet).nodes, places):
+        two = TWO_NAMES.match(joined, place)
+        if BINDS.get(node.kind) == 2 and two:
+            found[node.number] = [two[1], two[2] if two[3] == ")" else "rest"]
+        elif node.kind in BINDS:
+            one = ONE_NAME.match(joined, place)
+            found[node.number] = [one[0]] if one else []
+    return Own({number: names for number, names in found.items() if names})
+
+
+def flat(made: Made) -> str:
+    """A text without parameters for the same sheet, byte for byte, with the names of the text that it was made from: what the desk reads today."""
+    text = show(made.sheet, made.own)
+    if make(text).sheet != made.sheet:
+        raise NoSheet("the flat text has another sheet")
+    return text
+
+
+def flat_file(path: Path) -> str:
+    """The flat text of a file, with the comment that names its outputs."""
+    source = path.read_text()
+    outputs = [line + "\n" for line in source.splitlines() if OUTPUTS.match(line)]
+    return "".join(outputs) + flat(sheet_of(source, path.resolve()))
 
 
 def block_sheet(file: str, term: str) -> Made:

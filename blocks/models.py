@@ -7,6 +7,7 @@ registers start with, where these are not 0.
 from __future__ import annotations
 
 from dataclasses import dataclass
+from itertools import islice
 from random import Random
 from typing import Callable, Iterator, Optional, Sequence
 
@@ -21,12 +22,12 @@ class Model:
     feed: Optional[Callable[[Random], Iterator[Row]]] = None
     start: Sequence[int] = ()
 
-    def inputs(self, drawn: Random) -> Iterator[Row]:
+    def columns(self, drawn: Random, ticks: int) -> list[Sequence[int]]:
+        """The inputs of a run, one column for each input."""
         if self.feed is not None:
-            yield from self.feed(drawn)
+            return list(zip(*islice(self.feed(drawn), ticks)))
         bits = drawn.getrandbits
-        while True:
-            yield tuple([bits(width) for width in self.ins])
+        return [[bits(width) for _ in range(ticks)] for width in self.ins]
 
 
 def plain(ins: Sequence[int], outs: Sequence[int], value: Callable[..., Row]) -> Model:
@@ -36,10 +37,6 @@ def plain(ins: Sequence[int], outs: Sequence[int], value: Callable[..., Row]) ->
 
 def ones(x: int) -> int:
     return x.bit_count()
-
-
-def bits_of(x: int, width: int) -> list[int]:
-    return [x >> i & 1 for i in range(width)]
 
 
 def number(bits: Sequence[int]) -> int:
@@ -114,12 +111,12 @@ def pick(n: int, i: int) -> Model:
 
 def shift_with_feedback(n: int, exponents: Sequence[int]) -> Model:
     """The next bit is the xor of those that came so many ticks before as the polynomial has exponents."""
-    sequence = [1] + [0] * (n - 1)
+    # bit i of `last` came i + 1 ticks before
+    last, chosen = 1 << n - 1, sum(1 << e - 1 for e in exponents)
 
     def step() -> Row:
-        shown = number(sequence[::-1][:n])
-        sequence.append(sum(sequence[-e] for e in exponents) % 2)
-        del sequence[0]
+        nonlocal last
+        shown, last = last, (last << 1 | ones(last & chosen) & 1) & ((1 << n) - 1)
         return shown,
     return Model([], [n], step, start=[0] * (n - 1) + [1])
 
@@ -200,8 +197,16 @@ def bitonic(d: int, k: int) -> Model:
 
 def butterfly(k: int) -> Model:
     width = 1 << k
-    below = [number([int(i & j == i) for i in range(width)]) for j in range(width)]
-    return plain([width], [width], lambda x: (number([ones(x & mask) & 1 for mask in below]),))
+    #: for each place of x the places of the result that it stands in
+    above = [number([int(i & j == i) for j in range(width)]) for i in range(width)]
+
+    def value(x: int) -> Row:
+        shown = 0
+        for i in range(width):
+            if x >> i & 1:
+                shown ^= above[i]
+        return shown,
+    return plain([width], [width], value)
 
 
 # ---- streams, lowest bit first
@@ -443,7 +448,7 @@ def timeout(n: int) -> Model:
 
 
 def apart(k: int) -> Model:
-    return plain([1 << k], [1], lambda x: (int(0 < x < (1 << (1 << k)) - 1),), )
+    return plain([1 << k], [1], lambda x: (int(0 < x < (1 << (1 << k)) - 1),))
 
 
 def seldom(drawn: Random, chains: int) -> Iterator[Row]:
@@ -492,17 +497,32 @@ def two() -> Model:
     return Model([1, 1], [1, 1], lambda x, y: (1 - x, back(y)))
 
 
+#: for each byte its bits at the even places, and for each pair of bytes the bits at their even places
+SPACED = [number([bit for i in range(8) for bit in (byte >> i & 1, 0)]) for byte in range(256)]
+EVEN = {spaced: byte for byte, spaced in enumerate(SPACED)}
+EVERY_SECOND = 0x5555
+
+
+def spaced(x: int) -> int:
+    return SPACED[x & 255] | SPACED[x >> 8] << 16
+
+
+def even(x: int) -> int:
+    return EVEN[x & EVERY_SECOND] | EVEN[x >> 16 & EVERY_SECOND] << 8
+
+
 def riffle(k: int) -> Model:
     half = 1 << k >> 1
-    return plain([1 << k], [1 << k], lambda x: (number([bit for i in range(half) for bit in (x >> i & 1, x >> i + half & 1)]) if k else x,))
+    return plain([1 << k], [1 << k], lambda x: (spaced(x & (1 << half) - 1) | spaced(x >> half) << 1 if k else x,))
 
 
 def unriffle(k: int) -> Model:
-    return plain([1 << k], [1 << k], lambda x: (number(bits_of(x, 1 << k)[0::2] + bits_of(x, 1 << k)[1::2]),))
+    half = 1 << k >> 1
+    return plain([1 << k], [1 << k], lambda x: (even(x) | even(x >> 1) << half if k else x,))
 
 
 def zip_(n: int) -> Model:
-    return plain([n, n], [2 * n], lambda x, y: (number([bit for i in range(n) for bit in (x >> i & 1, y >> i & 1)]),))
+    return plain([n, n], [2 * n], lambda x, y: (spaced(x) | spaced(y) << 1,))
 
 
 def map_(n: int) -> Model:
@@ -522,10 +542,7 @@ def fold(n: int) -> Model:
 
 def scan(n: int) -> Model:
     """With full adders on pairs: an adder."""
-    def value(c: int, pairs: int) -> Row:
-        x, y = number(bits_of(pairs, 2 * n)[0::2]), number(bits_of(pairs, 2 * n)[1::2])
-        return x + y + c,
-    return plain([1, 2 * n], [n + 1], value)
+    return plain([1, 2 * n], [n + 1], lambda c, pairs: (even(pairs) + even(pairs >> 1) + c,))
 
 
 def registers(n: int) -> Model:
