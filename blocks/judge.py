@@ -17,6 +17,8 @@ from deltawobble.lanes import BIT, LANES, Traces, pack, unpack
 
 #: ticks of all lanes together that a block is tried for, above the sizes that are proved, and at each size that is
 TICKS, FEW_TICKS = 1_000_000, 4_000
+#: the refusals that say how far a search can go: levels, nodes or depth of a sheet; registers; input pins
+LIMITS = {34, 41, 42}
 #: the folder of the texts whose registers start with 0
 WATCHING = "properties/"
 
@@ -52,6 +54,8 @@ class Cost:
 class Judged:
     name: str
     proved: list[Proved] = field(default_factory=list)
+    #: the refusal at the next size: 34 the sheet would be too large or too deep, 41 registers, 42 input pins
+    stopped: int = 0
     agreed: dict[tuple[int, ...], int] = field(default_factory=dict)
     costs: list[Cost] = field(default_factory=list)
 
@@ -75,6 +79,21 @@ def prove(block: Block, numbers: tuple[int, ...]) -> Proved:
     if found.states is None:
         raise Wrong("%s can be 1, at tick %d" % (term, found.tick))
     return Proved(term, len(lean.input_pins), len(lean.registers), found.states)
+
+
+def stopped(block: Block) -> int:
+    """The limit that the next size passes. Wrong where it passes none: then it could be proved too."""
+    try:
+        prove(block, block.beyond())
+    except library.NoSheet as refused:
+        number = int(str(refused).split()[1])
+    except Refused as refused:
+        number = refused.number
+    else:
+        raise Wrong("%s passes no limit, and is not among the sizes proved" % block.never(block.beyond()))
+    if number not in LIMITS:
+        raise Wrong("%s is refused with %d, which is no limit" % (block.never(block.beyond()), number))
+    return number
 
 
 def go_round(block: Block, numbers: tuple[int, ...]) -> Proved:
@@ -167,6 +186,8 @@ def judge(block: Block) -> Judged:
         found.proved.append(prove(block, numbers))
         if block.round:
             found.proved.append(go_round(block, numbers))
+    if block.beyond():
+        found.stopped = stopped(block)
     small = sorted({size for numbers in block.proved for size in block.proved_blocks(numbers)} - set(block.tried))
     for size in small:
         found.agreed[size] = agree(block, size, FEW_TICKS)

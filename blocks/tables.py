@@ -45,8 +45,9 @@ def contract_row(block: Block, judged: Judged) -> str:
         raise AssertionError("%s: the run proved other sizes" % block.name)
     again = "; from one start it goes through all 2^n - 1" if block.round else ""
     proved = block.words or sizes_in_words(block, list(block.proved))
+    proved += again + ("; then %d" % judged.stopped if judged.stopped else "")
     tried = "%s (%s ticks)" % (tried_in_words(list(block.tried)), format(sum(judged.agreed[size] for size in block.tried), ","))
-    return "| `%s` | %s | `%s` | %s%s | %s |" % (block.name, block.says, block.property, proved, again, tried)
+    return "| `%s` | %s | `%s` | %s | %s |" % (block.name, block.says, block.property, proved, tried)
 
 
 def cost_row(block: Block, judged: Judged) -> str:
