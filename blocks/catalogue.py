@@ -29,6 +29,8 @@ class Block:
     term: Callable[..., str] = lambda name, *size: name + braces(size)
     #: the sizes proved, in words, where there are too many to list
     words: str = ""
+    #: the size that docs/blocks shows a run of
+    show: tuple[int, ...] = ()
     #: the next numbers, which pass a limit; one more than the last where the property has one number
     next: tuple[int, ...] = ()
 
@@ -110,16 +112,16 @@ SERIAL = [
           [(0, 0, 1, 1), (1, 0, 1, 0), (1, 1, 1, 1)], models.scale,
           "digits, number, bits a word", sized=lambda a, b, c, d, e, n: [(a, b, c, d)]),
     Block("serial", "product", "x y, where y has n bits and stays for the word", "product_differs", [(n, m) for n in (3, 4, 5) for m in (1, 2, 3)], one(3, 8), models.product,
-          "bits a word, n", sized=lambda n, m: one(m)),
+          "bits a word, n", show=(3,), sized=lambda n, m: one(m)),
     Block("serial", "multiply_accumulate", "the sum of x y since clear, in words of w bits", "multiply_accumulate_differs",
-          [(2, 1), (2, 2), (3, 1), (3, 2)], [(8, 4), (16, 4)], models.multiply_accumulate, "w, n", next=(3, 3)),
-    Block("serial", "saturate", "the word before, or all ones where `over` was 1 at its end", "saturate_differs", upto(2, 4), one(8, 16), models.saturate, "w"),
+          [(2, 1), (2, 2), (3, 1), (3, 2)], [(8, 4), (16, 4)], models.multiply_accumulate, "w, n", next=(3, 3), show=(4, 2)),
+    Block("serial", "saturate", "the word before, or all ones where `over` was 1 at its end", "saturate_differs", upto(2, 4), one(8, 16), models.saturate, "w", show=(4,)),
     Block("serial", "mean", "the mean of 2^n words of m + n bits, rounded down", "mean_differs", [(1, 2), (2, 3)], [(3, 1), (6, 2), (10, 2)], models.mean,
-          "m, m + n; n is 1", sized=lambda m, w: [(m, 1)], next=(3, 4)),
+          "m, m + n; n is 1", sized=lambda m, w: [(m, 1)], next=(3, 4), show=(3, 1)),
     Block("serial", "euler", "x at load, else s + f s of the word before; here f s = 2 s", "euler_differs", upto(2, 3), one(8, 16), models.euler, "w",
-          term=lambda name, w: "euler{%d} twice" % w),
+          term=lambda name, w: "euler{%d} twice" % w, show=(4,)),
     Block("serial", "leapfrog", "place and speed at load, else a step of both; here f x = - x", "leapfrog_differs", one(2), one(8, 16), models.leapfrog, "w",
-          term=lambda name, w: "leapfrog{%d} serial_negation" % w),
+          term=lambda name, w: "leapfrog{%d} serial_negation" % w, show=(4,)),
 ]
 
 DECISIONS = [

@@ -12,7 +12,9 @@ from library import BLOCKS
 SHEETS = BLOCKS / "sheets"
 #: lines of a sheet's own text and of the text that it shares with others, comments too
 MOST_LINES = 25
-NAMES = ["eight-chains", "eight-by-vote"]
+NAMES = ["eight-chains", "eight-by-vote", "alarm", "odd-ticks", "ten-x-plus-y", "digits"]
+#: a property of a monitor with the wrong block, which is refused
+WRONG = "wrong-block-never"
 
 
 def lines(name: str) -> int:
@@ -34,7 +36,7 @@ def hold(name: str) -> str:
     sheet = made(name).sheet
     calls.translate(sheet, card=True)
     said = ["%s: accepted, %d lines, the card's profile holds" % (name, lines(name))]
-    if (SHEETS / (name + "-never.dw")).exists():
+    if name == "eight-chains":
         _, _, found = judge.ask(made(name + "-never"))
         if found.states is None:
             raise judge.Wrong("%s-never can be 1, at tick %d" % (name, found.tick))
@@ -64,4 +66,9 @@ def hold_all() -> tuple[int, list[str]]:
         except (judge.Wrong, Refused, library.NoSheet) as wrong:
             faults.append("%s: %s" % (name, wrong))
             print("WRONG %s: %s" % (name, wrong))
+    _, _, found = judge.ask(made(WRONG))
+    if found.tick is None:
+        faults.append("%s holds, and should not" % WRONG)
+    else:
+        print("%s: refused at tick %d" % (WRONG, found.tick))
     return len(NAMES), faults
