@@ -51,12 +51,11 @@ def contract_row(block: Block, judged: Judged) -> str:
 
 
 def cost_row(block: Block, judged: Judged) -> str:
+    """The smallest size, and those that are tried."""
     shown = [judged.costs[0]] + [cost for cost in judged.costs[1:] if cost.size in block.tried]
-    shown = shown if len(shown) < 4 else [shown[0], *shown[-2:]]
-    cells = ["%s: %d parts, %d registers, %d terminals, depth %d" % (
-        braces(cost.size) or "as it is", cost.parts, cost.registers, cost.terminals, cost.depth) for cost in shown]
-    card = "yes" if all(cost.card for cost in judged.costs) else "not " + " ".join(braces(cost.size) for cost in judged.costs if not cost.card)
-    return "| `%s` | %s | %s |" % (block.name, "<br>".join(cells), card)
+    cells = ["%s: %d / %d / %s / %d" % (braces(cost.size) or "as it is", cost.parts, cost.registers, format(cost.terminals, ","), cost.depth) for cost in shown]
+    card = "held" if all(cost.card for cost in judged.costs) else "not held: " + " ".join(braces(cost.size) for cost in judged.costs if not cost.card)
+    return "| `%s` | %s | %s |" % (block.name, "; ".join(cells), card)
 
 
 def made(judged: list[Judged]) -> str:
@@ -66,7 +65,7 @@ def made(judged: list[Judged]) -> str:
         blocks = [block for block in ALL if block.family == family]
         lines += ["", "### %s" % title, "", "| block | computes | never 1 | proved for all inputs and starts at | tried against the model at |", "|---|---|---|---|---|"]
         lines += [contract_row(block, by_name[block.name]) for block in blocks]
-        lines += ["", "| block | what it takes | card's profile |", "|---|---|---|"]
+        lines += ["", "| block | size: parts / registers / terminals / depth | card's profile |", "|---|---|---|"]
         lines += [cost_row(block, by_name[block.name]) for block in blocks]
     return "\n".join(lines) + "\n\n"
 
