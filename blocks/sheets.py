@@ -13,6 +13,8 @@ SHEETS = BLOCKS / "sheets"
 #: lines of a sheet's own text and of the text that it shares with others, comments too
 MOST_LINES = 25
 NAMES = ["eight-chains", "eight-by-vote", "alarm", "odd-ticks", "ten-x-plus-y", "digits"]
+#: those with a property in a text beside them, NAME-never
+WATCHED = ["eight-chains", "eight-by-vote"]
 #: a property of a monitor with the wrong block, which is refused
 WRONG = "wrong-block-never"
 
@@ -36,7 +38,7 @@ def hold(name: str) -> str:
     sheet = made(name).sheet
     calls.translate(sheet, card=True)
     said = ["%s: accepted, %d lines, the card's profile holds" % (name, lines(name))]
-    if name == "eight-chains":
+    if name in WATCHED:
         _, _, found = judge.ask(made(name + "-never"))
         if found.states is None:
             raise judge.Wrong("%s-never can be 1, at tick %d" % (name, found.tick))
