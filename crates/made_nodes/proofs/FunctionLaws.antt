@@ -25,7 +25,7 @@ refused-on [] (suc left) t m why e = e
 refused-on (x ∷ xs) (suc left) t m why e = rw (refused-on xs left t m why e)
 
 -- the functions of the names from `left` on are made
-pub record Going (w₀ : List ℕ) (from count t : ℕ) (e : Sub) (w : List ℕ) (f : Sub) (left : ℕ) : Type 0 where
+pub record FunctionsGoing (w₀ : List ℕ) (from count t : ℕ) (e : Sub) (w : List ℕ) (f : Sub) (left : ℕ) : Type 0 where
   pub within : left ≤ count
   pub only : MadeOnly w₀ w
   pub small : f .ty < 256
@@ -33,7 +33,7 @@ pub record Going (w₀ : List ℕ) (from count t : ℕ) (e : Sub) (w : List ℕ)
       (xs : List Bound) (m : Made) → length xs ≡ count → NamesIn w₀ from xs → HoldsState w₀ (m .state) → TermHeld w₀ e m → t < length (m .state .table)
       → MadeIn w (made.At f) (functionsOf (drop left xs) t m)
 
-pub going-start : (w : List ℕ) (from count t : ℕ) (e : Sub) → e .ty < 256 → Going w from count t e w e count
+pub going-start : (w : List ℕ) (from count t : ℕ) (e : Sub) → e .ty < 256 → FunctionsGoing w from count t e w e count
 going-start w from count t e small = record {
   within = omega arith;
   only = made-same w;
@@ -41,7 +41,7 @@ going-start w from count t e small = record {
   says = λ xs m l N H h k. rw (← l, drop-length xs) (H, h);
 }
 
-module _ (w₀ : List ℕ) (from count t : ℕ) (e : Sub) (w : List ℕ) (f : Sub) (left next : ℕ) (G : Going w₀ from count t e w f left) (one : next + 1 ≡ left) where
+module _ (w₀ : List ℕ) (from count t : ℕ) (e : Sub) (w : List ℕ) (f : Sub) (left next : ℕ) (G : FunctionsGoing w₀ from count t e w f left) (one : next + 1 ≡ left) where
   -- the next name's function, over those of the later names
   more : (place : ℕ) → place ≡ getD w (scopeAt + 2 * (from + next)) 0 → from + count ≤ 1024 → (r : code.MadeTerm) (w′ : List ℕ) → FunctionSays w place t f r w′
       → (xs : List Bound) (m : Made) → length xs ≡ count → NamesIn w₀ from xs → HoldsState w₀ (m .state) → TermHeld w₀ e m → t < length (m .state .table)
@@ -57,7 +57,7 @@ module _ (w₀ : List ℕ) (from count t : ℕ) (e : Sub) (w : List ℕ) (f : Su
 
   pub going-on :
       (place : ℕ) → place ≡ getD w (scopeAt + 2 * (from + next)) 0 → from + count ≤ 1024 → (s : Sub) (r : code.MadeTerm) (w′ : List ℕ) → r ≡ made.At s → FunctionSays w place t f r w′
-      → Going w₀ from count t e w′ s next
+      → FunctionsGoing w₀ from count t e w′ s next
   going-on place p b s r w′ i F =
       let h = G .within in
       record {
@@ -79,7 +79,7 @@ module _ (w₀ : List ℕ) (from count t : ℕ) (e : Sub) (w : List ℕ) (f : Su
         (λ z. rw (refused-on xs next t m (numbered n q) z) refl) refl);
   }
 
-pub going-done : (w₀ : List ℕ) (from count t : ℕ) (e : Sub) (w : List ℕ) (f : Sub) (left : ℕ) → Going w₀ from count t e w f left → left ≡ 0 → FunctionsSay w₀ from count t e (made.At f) w
+pub going-done : (w₀ : List ℕ) (from count t : ℕ) (e : Sub) (w : List ℕ) (f : Sub) (left : ℕ) → FunctionsGoing w₀ from count t e w f left → left ≡ 0 → FunctionsSay w₀ from count t e (made.At f) w
 going-done w₀ from count t e w f left G z = record {
   only = G .only;
   small = G .small;

@@ -90,14 +90,10 @@ types-on u v w a b =
 pub workable-types : (w w′ : List ℕ) → Workable w → TypesOnly w w′ → Workable w′
 workable-types w w′ W o = let r = W .room in let l = o .same in record { room = omega arith; few = o .few (W .few) }
 
--- the first of two types is refused, in the edition that asks for it
-abbrev inner : Edition → ℕ
-inner first = 3
-inner second = 2
-
 some-in : (w : List ℕ) (σ : State) → HoldsState w σ → 0 < length (σ .table)
 some-in w σ H = H .types .some
 
+-- the first of two types is refused, or found and the second asked for
 pub gate-refused :
     (w : List ℕ) (place : ℕ) (x : code.FoundType) (n p : ℕ) (w′ : List ℕ) → x ≡ found.Refused n p → ListedSays w (record { kind = 3; left = 0; right = 0 }) place x w′
     → GateSays first w place x w′

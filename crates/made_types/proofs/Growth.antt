@@ -19,9 +19,6 @@ abbrev pub stored : List ℕ → ℕ → ℕ → ℕ → ℕ → ℕ → List �
 stored w k a b c d = set (sets w (typesAt + 4 * k) (a ∷ b ∷ c ∷ d ∷ [])) typeCountAt (k + 1)
 
 module _ (w : List ℕ) (k a b c d : ℕ) (room : makingSize ≤ length w) (few : k < 256) where
-  run : List ℕ
-  run = a ∷ b ∷ c ∷ d ∷ []
-
   other : (i : ℕ) → (i ≡ typeCountAt → ⊥) → getD (stored w k a b c d) i 0 ≡ getD (sets w (typesAt + 4 * k) (a ∷ b ∷ c ∷ d ∷ [])) i 0
   other i n = getD-set-other (sets w (typesAt + 4 * k) (a ∷ b ∷ c ∷ d ∷ [])) typeCountAt i (k + 1) 0 n
 

@@ -5,12 +5,12 @@ use mathlib.Core.Path.{_≡_, refl, sym, ap, _∙_}
 use Prim.Native.Nat.{ℕ, _+_, _-_, _≤_, _<_}
 use lib.ListN.{length}
 use Rattle.made_nodes.proofs.Terms.{workable-on}
-use Rattle.made_nodes.proofs.FunctionLaws.{Going, going-start, going-on, going-ends, going-done}
+use Rattle.made_nodes.proofs.FunctionLaws.{FunctionsGoing, going-start, going-on, going-ends, going-done}
 use Rattle.made_nodes.proofs.binders.functions.Statement.{statement}
 use Rattle.made_nodes.proofs.binders.functions.Tie as tie
 
 abbrev Inv-loop : tie.InvT-loop
-Inv-loop work₀ from count t f₀ left₀ work f left = Going work₀ from count t f₀ work f left
+Inv-loop work₀ from count t f₀ left₀ work f left = FunctionsGoing work₀ from count t f₀ work f left
 
 abbrev μ-loop : tie.MeasureT-loop
 μ-loop work₀ from count t f₀ left₀ work f left = left
