@@ -1,14 +1,18 @@
 -- Laws of runs. A run follows an answer m if it gets to f x where m is the value x, and refuses where m refuses. Assumes nothing.
 use Prim.Native.Nat.{ℕ, zero, suc}
-use mathlib.Core.Path.{_≡_, refl, sym, ap, _∙_}
+use mathlib.Core.Path.{_≡_, refl, sym, ap, subst, _∙_}
 use mathlib.Core.Bool.{Bool, true, false, cond}
 use Rattle.calculus.specs.Answer.{Answer, good, refused, _>>=_}
 use Rattle.notation_theorems.proofs.Answering.{On}
 use Rattle.notation_machine.specs.Walked.{walked, Runs}
 
-good-right : {A : Type 0} (m : Answer A) → (m >>= λ a. good a) ≡ m
+pub good-right : {A : Type 0} (m : Answer A) → (m >>= λ a. good a) ≡ m
 good-right (good a) = refl
 good-right (refused why) = refl
+
+pub bind-bind : {A B C : Type 0} (m : Answer A) (f : A → Answer B) (g : B → Answer C) → ((m >>= f) >>= g) ≡ (m >>= λ a. f a >>= g)
+bind-bind (good a) f g = refl
+bind-bind (refused why) f g = refl
 
 -- first so many steps, then so many
 abbrev sum : ℕ → ℕ → ℕ
@@ -33,6 +37,13 @@ module _ {M : Type 0} (step : M → Answer M) where
 
   pub follows-now : {A : Type 0} {p : Answer M} {a : A} {f : A → Answer M} → p ≡ f a → Follows step p (good a) f
   follows-now {p = p} e = record { steps = 0; lead = good-right p ∙ e }
+
+  -- the same answers, written otherwise
+  pub follows-as : {A : Type 0} {p q : Answer M} {m : Answer A} {f : A → Answer M} → p ≡ q → Follows step q m f → Follows step p m f
+  follows-as {m = m} {f} e r = subst (λ (o : Answer M). Follows step o m f) (sym e) r
+
+  pub follows-for : {A : Type 0} {p : Answer M} {m o : Answer A} {f : A → Answer M} → m ≡ o → Follows step p o f → Follows step p m f
+  follows-for {A} {p = p} {f = f} e r = subst (λ (q : Answer A). Follows step p q f) (sym e) r
 
   pub follows-step : {A : Type 0} {s : M} {m : Answer A} {f : A → Answer M} → Follows step (step s) m f → Follows step (good s) m f
   follows-step r = record { steps = suc (r .steps); lead = r .lead }

@@ -14,57 +14,10 @@ use Rattle.notation_calculus.specs.Making.{State, Found, Entry, Scope, lookup, 
 use Rattle.notation_theorems.proofs.Answering.{On, on-step, on-any, on-either, on-map, on-is, on-good}
 use Rattle.notation_machine.specs.Walked.{walked, Runs}
 use Rattle.notation_machine.specs.Bodies.{wordsFor, AllRead}
+use Rattle.notation_machine.proofs.ReadLaws.{on-expect, on-pair, Some, list-some, some-arguments, Numbers, numbers-read, lookup-both}
 use Rattle.notation_machine.proofs.Bodies.{BodyFound, body-found, read-take}
 use Rattle.notation_machine.specs.TypeMachine.{Wish, enclosed, argument, body, other, TypeLevel, Typing, wanted, came, TypeHere, askType, typeDone, askSide, arrowFrom, sideFrom, behindSide, inOrder, askArgument, typePutIn, typeEntered, typeLeft, typeMove}
 use Rattle.notation_machine.proofs.Running.{Follows, follows-now, follows-step, follows-then, follows-to, follows-both, follows-same, follows-all}
-
-pub on-expect : {B : Type 0} (Q : B → Type 0) (s : Sign) (ws : List Word) (f : List Word → Answer B) → On Q (f (behind ws)) → On Q (expect s ws >>= f)
-on-expect Q s ws f h = by (is s ws)
-  where
-    by : (b : Bool) → On Q ((need b 32 (place ws) >>= λ _. good (behind ws)) >>= f)
-    by true = h
-    by false = tt
-
-on-pair : {A : Type 0} (P Q : A → Type 0) (m : Answer A) → On P m → On Q m → On (λ (a : A). P a × Q a) m
-on-pair P Q (good a) h k = (h, k)
-on-pair P Q (refused why) h k = tt
-
--- a list that is read has something in it
-abbrev pub Some : {A : Type 0} → List A → Type 0
-Some [] = ⊥
-Some (x ∷ xs) = Unit {0}
-
-pub list-some : {A : Type 0} (read : List Word → Answer (Got A)) (rounds : ℕ) (ws : List Word) → On (λ (g : Got (List A)). Some (g .value)) (listFrom read rounds ws)
-list-some read zero ws = tt
-list-some {A} read (suc rounds) ws = on-any P (read ws) _ λ x. on-either P (is comma (x .rest)) _ _ (on-any P (listFrom read rounds (behind (x .rest))) _ λ xs. tt) tt
-  where
-    P : Got (List A) → Type 0
-    P g = Some (g .value)
-
--- numbers follow a name just where a curly bracket does; else nothing is read
-abbrev pub Numbers : Bool → List Word → Got (List Number) → Type 0
-Numbers true us g = noArguments noTypes (g .value) ≡ false
-Numbers false us g = (noArguments noTypes (g .value) ≡ true) × (us ≡ g .rest)
-
-pub numbers-read : (us : List Word) → On (Numbers (is curly us) us) (numbersAt us)
-numbers-read us = by (is curly us)
-  where
-    some : (ks : List Number) → Some ks → noArguments noTypes ks ≡ false
-    some [] h = absurd h
-    some (k ∷ ks) h = refl
-
-    by : (b : Bool) → On (Numbers b us) (cond b (listFrom numberAt (length us) (behind us) >>= λ ns. expect endCurly (ns .rest) >>= λ after. got (ns .value) after) (got [] us))
-    by true = on-step (λ (g : Got (List Number)). Some (g .value)) (Numbers true us) (listFrom numberAt (length us) (behind us)) _ (list-some numberAt (length us) (behind us)) λ g h. on-expect (Numbers true us) endCurly (g .rest) (λ after. got (g .value) after) (some (g .value) h)
-    by false = (refl, refl)
-
--- what is looked up twice is found twice
-pub lookup-both : {A B : Type 0} (R : A → B → Type 0) (n : Name) (Γ : List Entry) (i : ℕ) {f : ℕ → ℕ → A} {a : A} {g : ℕ → ℕ → B} {b : B} → ((j v : ℕ) → R (f j v) (g j v)) → R a b → R (lookup n Γ i f a) (lookup n Γ i g b)
-lookup-both R n [] i h k = k
-lookup-both {A} {B} R n (e ∷ es) i {f} {a} {g} {b} h k = by (sameName n (e .name)) (lookup-both R n es (suc i) h k)
-  where
-    by : (t : Bool) → R (lookup n es (suc i) f a) (lookup n es (suc i) g b) → R (cond t (f i (e .value)) (lookup n es (suc i) f a)) (cond t (g i (e .value)) (lookup n es (suc i) g b))
-    by true r = h i (e .value)
-    by false r = r
 
 module _ (X : Text) (bodies : List (List Word)) (reads : AllRead bodies (X .clauses)) where
   abbrev move : Typing → Answer Typing
@@ -171,10 +124,6 @@ module _ (X : Text) (bodies : List (List Word)) (reads : AllRead bodies (X .clau
     abbrev NameGoes : Name → List Word → Got TypeTrees → Type 0
     NameGoes n ws ts = (ks : Got (List Number)) → numbersAt (ts .rest) ≡ good ks → AtomGoes (name n) ws (record { value = typeNamed (place ws) n (ts .value) (ks .value); rest = ks .rest })
 
-    some-arguments : (ts : List TypeTree) (ks : List Number) → Some ts → noArguments (typesOf ts) ks ≡ false
-    some-arguments [] ks h = absurd h
-    some-arguments (t ∷ ts) ks h = refl
-
     name-goes : (m : ℕ) (n : Name) (ws : List Word) → On (NameGoes n ws) (argumentsAt (λ us. typeAt m false us) (behind ws))
     name-goes m n ws = by (is square us) refl
       where
@@ -199,7 +148,7 @@ module _ (X : Text) (bodies : List (List Word)) (reads : AllRead bodies (X .clau
         by : (b : Bool) → is square (behind ws) ≡ b → On (NameGoes n ws) (cond b (read >>= λ ts. expect endSquare (ts .rest) >>= λ after. got (typesOf (ts .value)) after) (got noTypes us))
         by true e = on-step (λ (g : Got (List TypeTree)). ListGoes (behind us) g × Some (g .value)) (NameGoes n ws) read (λ ts. expect endSquare (ts .rest) >>= λ after. got (typesOf (ts .value)) after) (on-pair (ListGoes (behind us)) (λ (g : Got (List TypeTree)). Some (g .value)) read (list-goes m (length us) (behind us)) (list-some (λ vs. typeAt m false vs) (length us) (behind us))) λ ts (L, some).
             on-expect (NameGoes n ws) endSquare (ts .rest) (λ after. got (typesOf (ts .value)) after) λ ks f tight S K σ.
-            rw (e, some-arguments (ts .value) (ks .value) some) (follows-then move (foundAll go S (place ws) 0 σ (typesOf (ts .value))) (λ xs. numbersIn S (place ws) (length (xs .types)) (ks .value) >>= λ ns. clauseFor (entries S) (X .clauses) (take (S .seen) (X .clauses)) 0 true n (xs .types) ns (place ws) >>= λ p. onePut (xs .state) (p .cost) (place ws) >>= λ σ₁. bodyType go (p .scope) σ₁ (p .body)) (L [] x tight S K σ) λ xs. put-goes (behind (ts .rest)) ks f x tight S K (xs .state) (xs .types))
+            rw (e, some-arguments (ts .value) some (ks .value)) (follows-then move (foundAll go S (place ws) 0 σ (typesOf (ts .value))) (λ xs. numbersIn S (place ws) (length (xs .types)) (ks .value) >>= λ ns. clauseFor (entries S) (X .clauses) (take (S .seen) (X .clauses)) 0 true n (xs .types) ns (place ws) >>= λ p. onePut (xs .state) (p .cost) (place ws) >>= λ σ₁. bodyType go (p .scope) σ₁ (p .body)) (L [] x tight S K σ) λ xs. put-goes (behind (ts .rest)) ks f x tight S K (xs .state) (xs .types))
         by false e = λ ks f tight S K σ. rw e (by-curly (is curly us) ks tight S K σ (on-good (Numbers (is curly us) us) (numbersAt us) ks (numbers-read us) f) (put-goes us ks f x tight S K σ []))
 
     atom-goes : (m : ℕ) (k : Token) (ws : List Word) → On (AtomGoes k ws) (typeAtomOf (λ us. typeAt m false us) k ws)

@@ -1,3 +1,5 @@
 pub mod Walked
 pub mod Bodies
 pub mod TypeMachine
+pub mod TypeFrom
+pub mod TermMachine
