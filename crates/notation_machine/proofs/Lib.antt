@@ -5,3 +5,4 @@ pub mod Types
 pub mod Behind
 pub mod TypeFrom
 pub mod Terms
+pub mod Worked

@@ -3,3 +3,4 @@ pub mod Bodies
 pub mod TypeMachine
 pub mod TypeFrom
 pub mod TermMachine
+pub mod Worked
