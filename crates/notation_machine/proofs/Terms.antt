@@ -10,12 +10,13 @@ use Rattle.calculus.specs.Answer.{Answer, good, refused, _>>=_, refuse, need}
 use Rattle.calculus.specs.Types.{recAt}
 use Rattle.calculus.specs.Terms.{var, proj}
 use Rattle.calculus.specs.Terms as Terms
+use Rattle.laws.proofs.Tests.{T-is}
 use Rattle.notation_calculus.specs.Words.{Name, Sign, fun, fix, lets, within, round, endRound, equals, comma, colon, dot, square, endSquare, curly, Token, sign, part, number, name, Word}
 use Rattle.notation_calculus.specs.Trees.{Bound, Number, TypeTree, TypeTrees, noTypes, types, Tree, spine, apart, Atom, named, tuple, Atoms, noAtoms, atoms, Trees, noTrees, trees, Body, ofType, ofTerm, Text}
 use Rattle.notation_calculus.specs.Trees as Trees
 use Rattle.notation_calculus.specs.Grammar.{mostNested, Got, got, peek, behind, place, isToken, is, expect, nameAt, listFrom, numbersAt, typesOf, argumentsAt, typeAt, beginsAtom, treesFrom, readAtom, atomsFrom, spineAt, namesFrom, boundBody, letBody, letAt, termBy, termAt}
 use Rattle.notation_calculus.specs.Making.{State, Found, Entry, Scope, lookup, bind, bindAll, withVariables, entries, roomFor, numbersIn, Put, clauseFor, onePut, FoundAll, foundAll, noArguments, putIn, typeOf, Made, node, over, variable, partOf, functionsOf, nameOf, halvesOf, rest, apartOf, pairOf, applied, tupleOf, bodyTerm, atomOf, spineOf, termOf}
-use Rattle.notation_theorems.proofs.Answering.{On, on-step, on-any, on-either, on-map, on-is, on-good}
+use Rattle.notation_theorems.proofs.Answering.{On, on-step, on-any, on-test, on-either, on-map, on-is, on-good}
 use Rattle.notation_machine.specs.Walked.{walked, Runs}
 use Rattle.notation_machine.specs.Bodies.{wordsFor, AllRead}
 use Rattle.notation_machine.specs.TypeFrom.{typeFrom, typesFrom}
@@ -266,11 +267,11 @@ module _ (X : Text) (bodies : List (List Word)) (reads : AllRead bodies (X .clau
 
     atom-goes : (m : ℕ) → m ≤ mostNested → (k : Token) (ws : List Word) → On (AtomGoes k ws) (readAtom (λ vs. termAt m vs) (λ vs. typeAt m false vs) k ws)
     atom-goes m h (sign o) ws =
-        on-any (AtomGoes (sign o) ws) (need (isToken round (sign o)) 32 (place ws)) _ λ _.
+        on-test (AtomGoes (sign o) ws) (isToken round (sign o)) 32 (place ws) _ λ r.
         on-step (TermGoes more (behind ws)) (AtomGoes (sign o) ws) (termAt m (behind ws)) (λ e. treesFrom (λ vs. termAt m vs) (length ws) (e .rest) >>= λ es. expect endRound (es .rest) >>= λ after. got (tuple (e .value) (es .value)) after) (below m h (behind ws)) λ e G.
-        on-step (TreesGo (e .rest)) (AtomGoes (sign o) ws) (treesFrom (λ vs. termAt m vs) (length ws) (e .rest)) (λ es. expect endRound (es .rest) >>= λ after. got (tuple (e .value) (es .value)) after) (trees-go m h (length ws) (e .rest)) λ es T.
+        on-step (TreesGo (e .rest)) (AtomGoes (sign o) ws) (treesFrom (λ vs. termAt m vs) (length ws) (e .rest)) (λ es. expect endRound (es .rest) >>= λ after. got (tuple (e .value) (es .value)) after) (trees-go m h (length ws) (e .rest)) λ es N.
         on-closed (AtomGoes (sign o) ws) (es .rest) (λ after. got (tuple (e .value) (es .value)) after) λ c s S K σ.
-        follows-for move (tuple-from S σ (e .value) (es .value)) (follows-then move (go S σ (e .value)) (λ a. tupleFrom S a (es .value)) (G S σ (waits (element s []) S K)) λ a. follows-step move (T c s [] S K a))
+        rw (T-is (isToken round (sign o)) r) (follows-for move (tuple-from S σ (e .value) (es .value)) (follows-then move (go S σ (e .value)) (λ a. tupleFrom S a (es .value)) (G S σ (waits (element s []) S K)) λ a. follows-step move (N c s [] S K a)))
     atom-goes m h (part p) ws = λ s S K σ. follows-all move (partOf (X .edition) σ (place ws) p)
     atom-goes m h (number n) ws = tt
     atom-goes m h (name n) ws = name-used m h n ws

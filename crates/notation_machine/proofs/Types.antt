@@ -6,12 +6,13 @@ use mathlib.Core.List.{List, [], _∷_}
 use lib.Dec.{T, eqb}
 use lib.ListN.{length, take}
 use Rattle.calculus.specs.Answer.{Answer, good, refused, _>>=_, refuse, need}
+use Rattle.laws.proofs.Tests.{T-is}
 use Rattle.notation_calculus.specs.Words.{Name, sameName, Sign, arrow, linear, times, round, endRound, comma, square, endSquare, curly, endCurly, Token, sign, part, number, name, Word}
 use Rattle.notation_calculus.specs.Trees.{Bound, Number, Form, product, TypeTree, typed, TypeAtom, one, inside, typeNamed, Side, nothing, side, TypeTrees, noTypes, types, Body, ofType, ofTerm, Text}
 use Rattle.notation_calculus.specs.Trees as Trees
 use Rattle.notation_calculus.specs.Grammar.{mostNested, Got, got, peek, behind, place, is, isToken, expect, listFrom, numberAt, numbersAt, typesOf, argumentsAt, typeAtomOf, sideAt, productAt, arrowAt, typeAt}
 use Rattle.notation_calculus.specs.Making.{State, Found, Entry, Scope, lookup, formOf, listed, entries, roomFor, numbersIn, Put, clauseFor, onePut, waiting, FoundAll, foundAll, noArguments, putIn, joined, atomType, bodyType, typeOf}
-use Rattle.notation_theorems.proofs.Answering.{On, on-step, on-any, on-either, on-map, on-is, on-good}
+use Rattle.notation_theorems.proofs.Answering.{On, on-step, on-any, on-test, on-either, on-map, on-is, on-good}
 use Rattle.notation_machine.specs.Walked.{walked, Runs}
 use Rattle.notation_machine.specs.Bodies.{wordsFor, AllRead}
 use Rattle.notation_machine.proofs.ReadLaws.{on-expect, on-pair, Some, list-some, some-arguments, Numbers, numbers-read, lookup-both}
@@ -153,10 +154,10 @@ module _ (X : Text) (bodies : List (List Word)) (reads : AllRead bodies (X .clau
 
     atom-goes : (m : ℕ) (k : Token) (ws : List Word) → On (AtomGoes k ws) (typeAtomOf (λ us. typeAt m false us) k ws)
     atom-goes m (sign o) ws =
-        on-any (AtomGoes (sign o) ws) (need (isToken round (sign o)) 32 (place ws)) _ λ _.
+        on-test (AtomGoes (sign o) ws) (isToken round (sign o)) 32 (place ws) _ λ r.
         on-step (TypeGoes more false (behind ws)) (AtomGoes (sign o) ws) (typeAt m false (behind ws)) (λ t. expect endRound (t .rest) >>= λ after. got (inside (t .value)) after) (below m false (behind ws)) λ t G.
         on-expect (AtomGoes (sign o) ws) endRound (t .rest) (λ after. got (inside (t .value)) after) λ tight S K σ.
-        follows-to move (go S σ (t .value)) (G S σ (record { wish = enclosed; tight = tight; scope = S } ∷ K)) λ y. follows-step move (follows-now move refl)
+        rw (T-is (isToken round (sign o)) r) (follows-to move (go S σ (t .value)) (G S σ (record { wish = enclosed; tight = tight; scope = S } ∷ K)) λ y. follows-step move (follows-now move refl))
     atom-goes m (part p) ws = tt
     atom-goes m (number k) ws = on-any (AtomGoes (number k) ws) (need (eqb k 1) 32 (place ws)) _ λ _ tight S K σ. follows-now move refl
     atom-goes m (name n) ws =

@@ -4,13 +4,13 @@ use Prim.Native.Nat.{ℕ, zero, suc, _+_}
 use mathlib.Core.Bool.{Bool, false, _||_, cond}
 use mathlib.Core.List.{List, [], _∷_}
 use lib.ListN.{length, take}
-use Rattle.calculus.specs.Answer.{Answer, good, _>>=_, refuse}
+use Rattle.calculus.specs.Answer.{Answer, good, _>>=_, refuse, need}
 use Rattle.calculus.specs.Types.{recAt}
 use Rattle.calculus.specs.Terms.{var, proj}
 use Rattle.calculus.specs.Terms as Terms
 use Rattle.notation_calculus.specs.Words.{fun, fix, lets, round, comma, square, curly, Token, sign, part, number, name, Word}
 use Rattle.notation_calculus.specs.Trees.{Bound, Text}
-use Rattle.notation_calculus.specs.Grammar.{peek, behind, place, is, nameAt, listFrom, numbersAt, beginsAtom, namesFrom}
+use Rattle.notation_calculus.specs.Grammar.{peek, behind, place, isToken, is, nameAt, listFrom, numbersAt, beginsAtom, namesFrom}
 use Rattle.notation_calculus.specs.Making.{State, Entry, Scope, lookup, bind, bindAll, withVariables, entries, roomFor, numbersIn, clauseFor, onePut, Made, node, over, variable, partOf, functionsOf, nameOf, halvesOf, rest, pairOf, applied}
 use Rattle.notation_machine.specs.Bodies.{wordsFor}
 use Rattle.notation_machine.specs.TypeFrom.{typeFrom, typesFrom}
@@ -138,9 +138,11 @@ module _ (X : Text) (bodies : List (List Word)) where
       let there = termPutIn h s σ x ws in
       cond (is square ws || is curly ws) there (lookup (x .name) (h .scope .variables) 0 (λ i t. node (x .place) (variable (σ .table) i t) t 0 [] σ >>= λ m. behindAtom h s m ws) there)
 
-  -- an atom begins with this word; the grammar has seen that one does
+  -- an atom begins with this word; the grammar has seen that one does, and 32 is never met
   abbrev pub atomEntered : TermHere → Spine → State → Token → List Word → Answer Terming
-  atomEntered h s σ (sign t) ws = good (askTerm h (element s []) (h .scope) σ (behind ws))
+  atomEntered h s σ (sign t) ws = do
+    _ ← need (isToken round (sign t)) 32 (place ws)
+    good (askTerm h (element s []) (h .scope) σ (behind ws))
   atomEntered h s σ (part p) ws = do
     m ← partOf (X .edition) σ (place ws) p
     behindAtom h s m (behind ws)

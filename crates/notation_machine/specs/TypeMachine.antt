@@ -4,11 +4,11 @@ use Prim.Native.Nat.{ℕ, zero, suc}
 use mathlib.Core.Bool.{Bool, true, false, not, _||_, cond}
 use mathlib.Core.List.{List, [], _∷_}
 use lib.ListN.{length, take}
-use Rattle.calculus.specs.Answer.{Answer, good, _>>=_, refuse}
-use Rattle.notation_calculus.specs.Words.{Sign, arrow, linear, times, comma, square, curly, Token, sign, part, number, name, Word}
+use Rattle.calculus.specs.Answer.{Answer, good, _>>=_, refuse, need}
+use Rattle.notation_calculus.specs.Words.{Sign, arrow, linear, times, round, comma, square, curly, Token, sign, part, number, name, Word}
 use Rattle.notation_calculus.specs.Trees.{Bound, Form, product, Text}
 use Rattle.notation_calculus.specs.Trees as Trees
-use Rattle.notation_calculus.specs.Grammar.{peek, behind, place, is, numbersAt}
+use Rattle.notation_calculus.specs.Grammar.{peek, behind, place, isToken, is, numbersAt}
 use Rattle.notation_calculus.specs.Making.{State, Found, Scope, lookup, formOf, listed, entries, roomFor, numbersIn, clauseFor, onePut, waiting}
 use Rattle.notation_machine.specs.Bodies.{wordsFor}
 
@@ -98,9 +98,11 @@ module _ (X : Text) (bodies : List (List Word)) where
 
   -- ---- steps
 
-  -- a type begins with this word; the grammar has seen that one does
+  -- a type begins with this word; the grammar has seen that one does, and 32 is never met
   abbrev pub typeEntered : TypeHere → State → Token → List Word → Answer Typing
-  typeEntered h σ (sign t) ws = good (askType h enclosed false (h .scope) σ (behind ws))
+  typeEntered h σ (sign t) ws = do
+    _ ← need (isToken round (sign t)) 32 (place ws)
+    good (askType h enclosed false (h .scope) σ (behind ws))
   typeEntered h σ (part p) ws = refuse 32 (place ws)
   typeEntered h σ (number k) ws = good (sideFrom h (record { type = 0; state = σ }) (behind ws))
   typeEntered h σ (name n) ws = typeNamedAt h σ (record { name = n; place = place ws }) (behind ws)
