@@ -121,6 +121,9 @@ behind-one n (w ∷ ws) h = omega arith
 pub atom-left : (n m : ℕ) (k : Token) (ws : List Word) → length (behind ws) ≤ n → On (Left n) (readAtom (λ us. termAt m us) (λ us. typeAt m false us) k ws)
 atom-left n m k ws h = atom-keeps (λ (us : List Word). length us ≤ n) (behind-fewer n) (λ us. termAt m us) (term-keeps (λ (us : List Word). length us ≤ n) (behind-fewer n) m) (λ us. typeAt m false us) (type-keeps (λ (us : List Word). length us ≤ n) (behind-fewer n) m false) k ws h
 
+pub numbers-left : (n : ℕ) (ws : List Word) → length ws ≤ n → On (Left n) (numbersAt ws)
+numbers-left n ws h = numbers-keep (λ (us : List Word). length us ≤ n) (behind-fewer n) ws h
+
 -- ---- levels
 
 -- what one reads, the other reads too

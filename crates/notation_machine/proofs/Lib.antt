@@ -3,6 +3,7 @@ pub mod ReadLaws
 pub mod Bodies
 pub mod Types
 pub mod Behind
+pub mod TypeFalls
 pub mod TypeFrom
 pub mod Terms
 pub mod Worked
