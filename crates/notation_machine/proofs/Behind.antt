@@ -65,6 +65,10 @@ module _ (P : List Word → Type 0) (next : (ws : List Word) → P ws → P (beh
 
   -- ---- terms
 
+  names-keep : (rounds : ℕ) → Keeps (namesFrom rounds)
+  names-keep zero ws h = tt
+  names-keep (suc rounds) ws h = on-step After After (nameAt ws) _ (name-keeps ws h) λ x g. on-either After (is colon (x .rest)) _ _ g (on-step After After (namesFrom rounds (x .rest)) _ (names-keep rounds (x .rest) g) λ xs i. i)
+
   module _ (read : List Word → Answer (Got Tree)) (r : Keeps read) (readType : List Word → Answer (Got TypeTree)) (rt : Keeps readType) where
     trees-keep : (rounds : ℕ) → Keeps (treesFrom read rounds)
     trees-keep zero ws h = h
@@ -80,10 +84,6 @@ module _ (P : List Word → Type 0) (next : (ws : List Word) → P ws → P (beh
     atoms-keep : (rounds : ℕ) → Keeps (atomsFrom read readType rounds)
     atoms-keep zero ws h = h
     atoms-keep (suc rounds) ws h = on-either After (beginsAtom ws) _ _ (on-step After After (readAtom read readType (peek ws .token) ws) _ (atom-keeps (peek ws .token) ws (next ws h)) λ a g. on-step After After (atomsFrom read readType rounds (a .rest)) _ (atoms-keep rounds (a .rest) g) λ es i. i) h
-
-    names-keep : (rounds : ℕ) → Keeps (namesFrom rounds)
-    names-keep zero ws h = tt
-    names-keep (suc rounds) ws h = on-step After After (nameAt ws) _ (name-keeps ws h) λ x g. on-either After (is colon (x .rest)) _ _ g (on-step After After (namesFrom rounds (x .rest)) _ (names-keep rounds (x .rest) g) λ xs i. i)
 
     bound-keeps : (build : TypeTree → Tree → Tree) → Keeps (boundBody read readType build)
     bound-keeps build ws h = on-expect After colon ws _ (on-step After After (readType (behind ws)) _ (rt (behind ws) (next ws h)) λ t g. on-expect After dot (t .rest) _ (on-step After After (read (behind (t .rest))) _ (r (behind (t .rest)) (next (t .rest) g)) λ e i. i))
@@ -123,6 +123,21 @@ atom-left n m k ws h = atom-keeps (λ (us : List Word). length us ≤ n) (behind
 
 pub numbers-left : (n : ℕ) (ws : List Word) → length ws ≤ n → On (Left n) (numbersAt ws)
 numbers-left n ws h = numbers-keep (λ (us : List Word). length us ≤ n) (behind-fewer n) ws h
+
+pub type-left : (n m : ℕ) (tight : Bool) (ws : List Word) → length ws ≤ n → On (Left n) (typeAt m tight ws)
+type-left n m tight ws h = type-keeps (λ (us : List Word). length us ≤ n) (behind-fewer n) m tight ws h
+
+pub arguments-left : (n m : ℕ) (ws : List Word) → length ws ≤ n → On (Left n) (argumentsAt (λ us. typeAt m false us) ws)
+arguments-left n m ws h = arguments-keep (λ (us : List Word). length us ≤ n) (behind-fewer n) (λ us. typeAt m false us) (type-keeps (λ (us : List Word). length us ≤ n) (behind-fewer n) m false) ws h
+
+pub name-left : (n : ℕ) (ws : List Word) → length ws ≤ n → On (Left n) (nameAt ws)
+name-left n ws h = name-keeps (λ (us : List Word). length us ≤ n) (behind-fewer n) ws h
+
+pub names-left : (n rounds : ℕ) (ws : List Word) → length ws ≤ n → On (Left n) (namesFrom rounds ws)
+names-left n rounds ws h = names-keep (λ (us : List Word). length us ≤ n) (behind-fewer n) rounds ws h
+
+pub list-left : (n rounds : ℕ) (ws : List Word) → length ws ≤ n → On (Left n) (listFrom nameAt rounds ws)
+list-left n rounds ws h = list-keeps (λ (us : List Word). length us ≤ n) (behind-fewer n) nameAt (name-keeps (λ (us : List Word). length us ≤ n) (behind-fewer n)) rounds ws h
 
 -- ---- levels
 

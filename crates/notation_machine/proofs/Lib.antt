@@ -7,3 +7,5 @@ pub mod TypeFalls
 pub mod TypeFrom
 pub mod Terms
 pub mod Worked
+pub mod Spending
+pub mod TermFalls

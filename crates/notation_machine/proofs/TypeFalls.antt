@@ -34,7 +34,7 @@ behind-less ws = behind-fewer (length ws) ws (omega arith)
 
 -- ---- what is put in is paid for
 
-paid : (d c k : ℕ) → 1 ≤ c → d * k + k ≤ (d + c) * k
+pub paid : (d c k : ℕ) → 1 ≤ c → d * k + k ≤ (d + c) * k
 paid d c k h = let m : 1 * k ≤ c * k = mul-le-mul-right k h in omega (arith, add-mul d c k, one-mul k)
 
 pub put-paid : (most puts cost : ℕ) → puts + cost ≤ mostPuts → 1 ≤ cost → putSteps most (puts + cost) + (2 * most + 2) ≤ putSteps most puts

@@ -5,3 +5,4 @@ pub mod TypeSteps
 pub mod TypeFrom
 pub mod TermMachine
 pub mod Worked
+pub mod TermSteps
