@@ -9,3 +9,4 @@ pub mod Terms
 pub mod Worked
 pub mod Spending
 pub mod TermFalls
+pub mod TextBodies
