@@ -2,17 +2,19 @@
 -- nothing.
 use Prim.Native.Nat.{ℕ, zero, suc, _≤_}
 use mathlib.Core.Path.{_≡_, refl, sym, subst}
-use mathlib.Core.Bool.{Bool, true, false, cond}
+use mathlib.Core.Bool.{Bool, true, false, _||_, cond}
 use mathlib.Core.List.{List, [], _∷_}
 use native.Mathlib.Omega.{arith}
 use lib.Dec.{eqb, leb}
 use lib.ListN.{length}
 use Rattle.calculus.specs.Answer.{Answer, good, refused, _>>=_, need}
-use Rattle.notation_calculus.specs.Words.{Sign, fun, fix, lets, within, arrow, linear, times, round, endRound, equals, comma, colon, dot, square, endSquare, curly, endCurly, plus, Token, sign, part, number, name, Word}
-use Rattle.notation_calculus.specs.Trees.{Bound, Form, product, TypeTree, inside, nothing, Tree, apart, tuple}
+use Rattle.notation_calculus.specs.Words.{Sign, ends, type, edition, table, fun, fix, lets, within, arrow, linear, times, round, endRound, equals, comma, colon, dot, square, endSquare, curly, endCurly, plus, Token, sign, part, number, name, Word}
+use Rattle.notation_calculus.specs.Trees.{Bound, Form, product, TypeTree, inside, nothing, Tree, apart, tuple, Body, ofType, ofTerm, Clause}
 use Rattle.notation_calculus.specs.Trees as Trees
-use Rattle.notation_calculus.specs.Grammar.{Got, got, peek, behind, place, isToken, is, expect, boundName, nameAt, valueOf, listFrom, readNumber, numberAt, numbersAt, typesOf, argumentsAt, typeAtomOf, sideAt, productAt, arrowAt, typeAt, beginsAtom, treesFrom, readAtom, atomsFrom, spineAt, namesFrom, boundBody, letBody, letAt, termBy, termAt}
+use Rattle.notation_calculus.specs.Grammar.{mostNested, Got, got, peek, behind, place, isToken, is, expect, boundName, nameAt, valueOf, listFrom, readNumber, numberAt, numbersAt, parametersAt, typesOf, argumentsAt, typeAtomOf, sideAt, productAt, arrowAt, typeAt, beginsAtom, treesFrom, readAtom, atomsFrom, spineAt, namesFrom, boundBody, letBody, letAt, termBy, termAt, clauseAt, typeBody, termBody, editionAt}
+use Rattle.calculus.specs.Record.{All}
 use Rattle.notation_theorems.proofs.Answering.{On, on-step, on-any, on-either}
+use Rattle.notation_machine.specs.Bodies.{bodyFrom, bodiesFrom, bodiesOf}
 use Rattle.notation_machine.proofs.ReadLaws.{on-expect}
 
 module _ (P : List Word → Type 0) (next : (ws : List Word) → P ws → P (behind ws)) where
@@ -103,6 +105,48 @@ module _ (P : List Word → Type 0) (next : (ws : List Word) → P ws → P (beh
   term-keeps : (m : ℕ) → Keeps (termAt m)
   term-keeps zero ws h = tt
   term-keeps (suc m) ws h = term-by-keeps (λ us. termAt m us) (term-keeps m) (λ us. typeAt m false us) (type-keeps m false) ws h
+
+  -- ---- clauses
+
+  parameters-keep : Keeps parametersAt
+  parameters-keep ws h = on-either After (is square ws) _ _ (closed-keeps (listFrom nameAt (length ws) (behind ws)) endSquare (λ ns. ns) (list-keeps nameAt name-keeps (length ws) (behind ws) (next ws h))) h
+
+  body-from-keeps : (ws : List Word) → P ws → On P (bodyFrom ws)
+  body-from-keeps ws h = on-step After P (nameAt ws) _ (name-keeps ws h) λ x g. on-step After P (parametersAt (x .rest)) _ (parameters-keep (x .rest) g) λ ts i. on-step After P (numbersAt (ts .rest)) _ (numbers-keep (ts .rest) i) λ ks j. on-any P (need (is equals (ks .rest)) 32 (place (ks .rest))) (λ _. good (behind (ks .rest))) λ _. next (ks .rest) j
+
+  clause-keeps : (read : List Word → Answer (Got Body)) → Keeps read → Keeps (clauseAt read)
+  clause-keeps read r ws h = on-step After After (nameAt ws) _ (name-keeps ws h) λ x g. on-step After After (parametersAt (x .rest)) _ (parameters-keep (x .rest) g) λ ts i. on-step After After (numbersAt (ts .rest)) _ (numbers-keep (ts .rest) i) λ ks j. on-expect After equals (ks .rest) _ (on-step After After (read (behind (ks .rest))) _ (r (behind (ks .rest)) (next (ks .rest) j)) λ b k. k)
+
+  type-body-keeps : Keeps typeBody
+  type-body-keeps ws h = on-step (After {A = TypeTree}) (After {A = Body}) (typeAt mostNested false ws) (λ t. got (ofType (t .value)) (t .rest)) (type-keeps mostNested false ws h) λ t g. g
+
+  term-body-keeps : Keeps termBody
+  term-body-keeps ws h = on-step (After {A = Tree}) (After {A = Body}) (termAt mostNested ws) (λ e. got (ofTerm (e .value)) (e .rest)) (term-keeps mostNested ws h) λ e g. g
+
+  edition-keeps : Keeps editionAt
+  edition-keeps ws h = on-either After (is edition ws) _ _ (on-any After (valueOf (peek (behind ws) .token) (place (behind ws))) _ λ k. on-any After (need (eqb k 1 || eqb k 2) 32 (place (behind ws))) _ λ _. next (behind ws) (next ws h)) h
+
+  -- the words of each body
+  abbrev Bodies : List (List Word) → Type 0
+  Bodies bodies = All P bodies
+
+  bodies-keep : (rounds : ℕ) (ws : List Word) → P ws → On Bodies (bodiesFrom rounds ws)
+  bodies-keep zero ws h = tt
+  bodies-keep (suc rounds) ws h =
+      on-either Bodies (is ends ws) (good []) (cond (is table ws) lines clauses) tt (on-either Bodies (is table ws) lines clauses (on-step (After {A = List TypeTree}) Bodies (listFrom (λ us. typeAt mostNested false us) (length ws) (behind ws)) (λ ts. bodiesFrom rounds (ts .rest)) (list-keeps (λ us. typeAt mostNested false us) (type-keeps mostNested false) (length ws) (behind ws) (next ws h)) λ ts g. bodies-keep rounds (ts .rest) g) (
+      on-step P Bodies (cond (is type ws) (bodyFrom (behind ws)) (bodyFrom ws)) (λ us. cond (is type ws) (clauseAt typeBody (behind ws)) (clauseAt termBody ws) >>= λ c. bodiesFrom rounds (c .rest) >>= λ bodies. good (us ∷ bodies)) (on-either P (is type ws) (bodyFrom (behind ws)) (bodyFrom ws) (body-from-keeps (behind ws) (next ws h)) (body-from-keeps ws h)) λ us k.
+      on-step (After {A = Clause}) Bodies (cond (is type ws) (clauseAt typeBody (behind ws)) (clauseAt termBody ws)) (λ c. bodiesFrom rounds (c .rest) >>= λ bodies. good (us ∷ bodies)) (on-either (After {A = Clause}) (is type ws) (clauseAt typeBody (behind ws)) (clauseAt termBody ws) (clause-keeps typeBody type-body-keeps (behind ws) (next ws h)) (clause-keeps termBody term-body-keeps ws h)) λ c g.
+      on-step Bodies Bodies (bodiesFrom rounds (c .rest)) (λ bodies. good (us ∷ bodies)) (bodies-keep rounds (c .rest) g) λ bodies i. (k, i)))
+    where
+      lines : Answer (List (List Word))
+      lines = listFrom (λ us. typeAt mostNested false us) (length ws) (behind ws) >>= λ ts. bodiesFrom rounds (ts .rest)
+
+      clauses : Answer (List (List Word))
+      clauses = cond (is type ws) (bodyFrom (behind ws)) (bodyFrom ws) >>= λ us. cond (is type ws) (clauseAt typeBody (behind ws)) (clauseAt termBody ws) >>= λ c. bodiesFrom rounds (c .rest) >>= λ bodies. good (us ∷ bodies)
+
+  pub bodies-of-keep : (ws : List Word) → P ws → On Bodies (bodiesOf ws)
+  unfolding bodiesOf
+  bodies-of-keep ws h = on-step After Bodies (editionAt ws) (λ E. bodiesFrom (length ws) (E .rest)) (edition-keeps ws h) λ E g. bodies-keep (length ws) (E .rest) g
 
 -- ---- how many words are left
 

@@ -56,6 +56,11 @@ spent-less : (most a b : ℕ) → a ≤ b → termPutSteps most b ≤ termPutSte
 unfolding termPutSteps
 spent-less most a b h = mul-le-mul-right (3 * most + 3) (omega arith)
 
+-- what a machine has to do when it starts
+pub term-start : (most more : ℕ) (S : Scope) (σ : State) (ws : List Word) → length ws ≤ most → termSteps most (wantedTerm more S σ ws []) ≤ 1 + 3 * most + mostPuts * (3 * most + 3)
+unfolding termPutSteps
+term-start most more S σ ws h = let q : (mostPuts - σ .puts) * (3 * most + 3) ≤ mostPuts * (3 * most + 3) = mul-le-mul-right (3 * most + 3) (omega arith) in omega arith
+
 -- ---- steps
 
 module _ (X : Text) (bodies : List (List Word)) (most : ℕ) (short : AllShort most bodies) where

@@ -10,17 +10,18 @@ use lib.ListN.{length, getD, take}
 use Rattle.calculus.specs.Answer.{Answer, good, refused, _>>=_, need}
 use Rattle.calculus.specs.Types.{TyRec, size, tyOf, tysFrom}
 use Rattle.calculus.specs.Read.{formed, repeated}
+use Rattle.calculus.specs.Record.{All}
 use Rattle.laws.proofs.Tests.{on-cond}
 use Rattle.notation_calculus.specs.Words.{Name, sameName, Sign, signCode, arrow, linear, times, round, comma, square, curly, Token, sign, part, number, name, Word}
 use Rattle.notation_calculus.specs.Trees.{Bound, Number, Form, product, Clause, Text}
 use Rattle.notation_calculus.specs.Trees as Trees
 use Rattle.notation_calculus.specs.Grammar.{Got, peek, behind, place, isToken, is, numbersAt}
 use Rattle.notation_calculus.specs.Making.{mostPuts, State, Found, Entry, Scope, lookup, formOf, listed, entries, roomFor, numbersIn, Put, meant, costOf, putOf, clauseFor, onePut, waiting}
-use Rattle.notation_theorems.proofs.Answering.{On, on-step, on-any, on-test, on-either, on-tests, on-map}
-use Rattle.notation_machine.specs.Bodies.{numberFor, wordsFor}
+use Rattle.notation_theorems.proofs.Answering.{On, on-step, on-any, on-test, on-either, on-tests, on-map, on-good}
+use Rattle.notation_machine.specs.Bodies.{numberFor, wordsFor, bodiesOf}
 use Rattle.notation_machine.specs.TypeMachine.{Wish, enclosed, argument, body, other, TypeLevel, Typing, wanted, came, TypeHere, askType, typeDone, askSide, arrowFrom, sideFrom, behindSide, inOrder, askArgument, typePutIn, behindArgument, typeNamedAt, typeEntered, typeLeft, typeMove}
 use Rattle.notation_machine.specs.TypeSteps.{putSteps, wishSteps, levelSteps, typeSteps, AllShort, Going}
-use Rattle.notation_machine.proofs.Behind.{Left, behind-fewer, numbers-left}
+use Rattle.notation_machine.proofs.Behind.{Left, behind-fewer, numbers-left, bodies-of-keep}
 
 -- ---- words
 
@@ -56,6 +57,19 @@ listed-puts σ r at = on-either P (repeated (σ .table) r) _ _ refl (on-any P (n
   where
     P : Found → Type 0
     P x = x .state .puts ≡ σ .puts
+
+-- no body of a text has more words than the text
+short-all : (most : ℕ) (bodies : List (List Word)) → All (λ (us : List Word). length us ≤ most) bodies → AllShort most bodies
+short-all most [] h = tt
+short-all most (ws ∷ bodies) h = (h .0, short-all most bodies (h .1))
+
+pub text-short : (ws : List Word) (bodies : List (List Word)) → bodiesOf ws ≡ good bodies → AllShort (length ws) bodies
+text-short ws bodies e = short-all (length ws) bodies (on-good (All (λ (us : List Word). length us ≤ length ws)) (bodiesOf ws) bodies (bodies-of-keep (λ (us : List Word). length us ≤ length ws) (behind-fewer (length ws)) ws (omega arith)) e)
+
+-- what a machine has to do when it starts
+pub type-start : (most more : ℕ) (tight : Bool) (S : Scope) (σ : State) (ws : List Word) → length ws ≤ most → typeSteps most (wanted more tight S σ ws []) ≤ 1 + 2 * most + mostPuts * (2 * most + 2)
+unfolding putSteps
+type-start most more tight S σ ws h = let q : (mostPuts - σ .puts) * (2 * most + 2) ≤ mostPuts * (2 * most + 2) = mul-le-mul-right (2 * most + 2) (omega arith) in omega arith
 
 -- ---- steps
 
