@@ -70,18 +70,18 @@ module _ (X : Text) where
 -- ---- nodes
 
 -- nothing was spent
-abbrev pub Free : ℕ → Made → Type 0
-Free n m = m .state .puts ≡ n
+abbrev pub Unspent : ℕ → Made → Type 0
+Unspent n m = m .state .puts ≡ n
 
-pub node-free : (at : ℕ) (e : Term) (t below : ℕ) (places : List ℕ) (σ : State) → On (Free (σ .puts)) (node at e t below places σ)
+pub node-free : (at : ℕ) (e : Term) (t below : ℕ) (places : List ℕ) (σ : State) → On (Unspent (σ .puts)) (node at e t below places σ)
 unfolding node
-node-free at e t below places σ = on-any (Free (σ .puts)) (need (ltb (σ .nodes) 2048) 34 at) _ λ _. on-any (Free (σ .puts)) (need (ltb below 64) 34 at) _ λ _. refl
+node-free at e t below places σ = on-any (Unspent (σ .puts)) (need (ltb (σ .nodes) 2048) 34 at) _ λ _. on-any (Unspent (σ .puts)) (need (ltb below 64) 34 at) _ λ _. refl
 
-over-free : (at : ℕ) (build : Term → Term → Term) (t : ℕ) (a b : Made) (σ : State) → On (Free (σ .puts)) (over at build t a b σ)
+over-free : (at : ℕ) (build : Term → Term → Term) (t : ℕ) (a b : Made) (σ : State) → On (Unspent (σ .puts)) (over at build t a b σ)
 over-free at build t a b σ = node-free at (build (a .term) (b .term)) t (larger (a .deep) (b .deep)) (a .places ++ b .places) σ
 
-free-on : (m n : ℕ) (p : Answer Made) → m ≡ n → On (Free m) p → On (Free n) p
-free-on m n p e o = on-map (Free m) (Free n) p o λ x h. h ∙ e
+free-on : (m n : ℕ) (p : Answer Made) → m ≡ n → On (Unspent m) p → On (Unspent n) p
+free-on m n p e o = on-map (Unspent m) (Unspent n) p o λ x h. h ∙ e
 
 part-type-free : (E : Edition) (k : ℕ) (σ : State) (at : ℕ) → On (λ (x : Found). x .state .puts ≡ σ .puts) (partType E k σ at)
 part-type-free E zero σ at = refl
@@ -89,27 +89,27 @@ part-type-free E (suc zero) σ at = listed-puts σ (rec03 0 0) at
 part-type-free first (suc (suc k)) σ at = on-step (λ (x : Found). x .state .puts ≡ σ .puts) (λ (x : Found). x .state .puts ≡ σ .puts) (listed σ (rec03 0 0) at) _ (listed-puts σ (rec03 0 0) at) λ x h. on-map (λ (y : Found). y .state .puts ≡ x .state .puts) (λ (y : Found). y .state .puts ≡ σ .puts) (listed (x .state) (rec03 0 (x .type)) at) (listed-puts (x .state) (rec03 0 (x .type)) at) λ y k. k ∙ h
 part-type-free second (suc (suc k)) σ at = on-step (λ (x : Found). x .state .puts ≡ σ .puts) (λ (x : Found). x .state .puts ≡ σ .puts) (listed σ (rec02 0 0) at) _ (listed-puts σ (rec02 0 0) at) λ x h. on-map (λ (y : Found). y .state .puts ≡ x .state .puts) (λ (y : Found). y .state .puts ≡ σ .puts) (listed (x .state) (rec03 (x .type) 0) at) (listed-puts (x .state) (rec03 (x .type) 0) at) λ y k. k ∙ h
 
-pub part-free : (E : Edition) (σ : State) (at p : ℕ) → On (Free (σ .puts)) (partOf E σ at p)
-part-free E σ at p = on-step (λ (x : Found). x .state .puts ≡ σ .puts) (Free (σ .puts)) (partType E (partAt p .inputs) σ at) _ (part-type-free E (partAt p .inputs) σ at) λ t h. free-on (t .state .puts) (σ .puts) (node at (con p (t .type)) (t .type) 0 [] (t .state)) h (node-free at (con p (t .type)) (t .type) 0 [] (t .state))
+pub part-free : (E : Edition) (σ : State) (at p : ℕ) → On (Unspent (σ .puts)) (partOf E σ at p)
+part-free E σ at p = on-step (λ (x : Found). x .state .puts ≡ σ .puts) (Unspent (σ .puts)) (partType E (partAt p .inputs) σ at) _ (part-type-free E (partAt p .inputs) σ at) λ t h. free-on (t .state .puts) (σ .puts) (node at (con p (t .type)) (t .type) 0 [] (t .state)) h (node-free at (con p (t .type)) (t .type) 0 [] (t .state))
 
-function-free : (x : Bound) (t : ℕ) (e : Made) → On (Free (e .state .puts)) (functionOf x t e)
-function-free x t e = on-step (λ (w : Found). w .state .puts ≡ e .state .puts) (Free (e .state .puts)) (listed (e .state) (arrowOf (e .state .table) t (e .type)) (x .place)) _ (listed-puts (e .state) (arrowOf (e .state .table) t (e .type)) (x .place)) λ w h. on-map (Free (w .state .puts)) (Free (e .state .puts)) (node (x .place) (cond (shares (e .state .table) t) (Terms.fun (w .type) (e .term)) (lfun (w .type) (e .term))) (w .type) (e .deep) (e .places) (w .state)) (node-free (x .place) (cond (shares (e .state .table) t) (Terms.fun (w .type) (e .term)) (lfun (w .type) (e .term))) (w .type) (e .deep) (e .places) (w .state)) λ m k. k ∙ h
+function-free : (x : Bound) (t : ℕ) (e : Made) → On (Unspent (e .state .puts)) (functionOf x t e)
+function-free x t e = on-step (λ (w : Found). w .state .puts ≡ e .state .puts) (Unspent (e .state .puts)) (listed (e .state) (arrowOf (e .state .table) t (e .type)) (x .place)) _ (listed-puts (e .state) (arrowOf (e .state .table) t (e .type)) (x .place)) λ w h. on-map (Unspent (w .state .puts)) (Unspent (e .state .puts)) (node (x .place) (cond (shares (e .state .table) t) (Terms.fun (w .type) (e .term)) (lfun (w .type) (e .term))) (w .type) (e .deep) (e .places) (w .state)) (node-free (x .place) (cond (shares (e .state .table) t) (Terms.fun (w .type) (e .term)) (lfun (w .type) (e .term))) (w .type) (e .deep) (e .places) (w .state)) λ m k. k ∙ h
 
-pub functions-free : (xs : List Bound) (t : ℕ) (e : Made) → On (Free (e .state .puts)) (functionsOf xs t e)
+pub functions-free : (xs : List Bound) (t : ℕ) (e : Made) → On (Unspent (e .state .puts)) (functionsOf xs t e)
 functions-free [] t e = refl
-functions-free (x ∷ xs) t e = on-step (Free (e .state .puts)) (Free (e .state .puts)) (functionsOf xs t e) (λ f. functionOf x t f) (functions-free xs t e) λ f h. free-on (f .state .puts) (e .state .puts) (functionOf x t f) h (function-free x t f)
+functions-free (x ∷ xs) t e = on-step (Unspent (e .state .puts)) (Unspent (e .state .puts)) (functionsOf xs t e) (λ f. functionOf x t f) (functions-free xs t e) λ f h. free-on (f .state .puts) (e .state .puts) (functionOf x t f) h (function-free x t f)
 
-pub name-free : (E : Edition) (x : Bound) (v e : Made) → On (Free (e .state .puts)) (nameOf E x v e)
-name-free E x v e = on-either (Free (e .state .puts)) (isSecond E && shares (e .state .table) (v .type)) _ _ (over-free (x .place) Terms.name (e .type) v e (e .state)) (on-step (Free (e .state .puts)) (Free (e .state .puts)) (functionOf x (v .type) e) (λ f. over (x .place) (cond (shares (e .state .table) (v .type)) app lapp) (e .type) f v (f .state)) (function-free x (v .type) e) λ f h. free-on (f .state .puts) (e .state .puts) (over (x .place) (cond (shares (e .state .table) (v .type)) app lapp) (e .type) f v (f .state)) h (over-free (x .place) (cond (shares (e .state .table) (v .type)) app lapp) (e .type) f v (f .state)))
+pub name-free : (E : Edition) (x : Bound) (v e : Made) → On (Unspent (e .state .puts)) (nameOf E x v e)
+name-free E x v e = on-either (Unspent (e .state .puts)) (isSecond E && shares (e .state .table) (v .type)) _ _ (over-free (x .place) Terms.name (e .type) v e (e .state)) (on-step (Unspent (e .state .puts)) (Unspent (e .state .puts)) (functionOf x (v .type) e) (λ f. over (x .place) (cond (shares (e .state .table) (v .type)) app lapp) (e .type) f v (f .state)) (function-free x (v .type) e) λ f h. free-on (f .state .puts) (e .state .puts) (over (x .place) (cond (shares (e .state .table) (v .type)) app lapp) (e .type) f v (f .state)) h (over-free (x .place) (cond (shares (e .state .table) (v .type)) app lapp) (e .type) f v (f .state)))
 
-pair-free : (at : ℕ) (a b : Made) → On (Free (b .state .puts)) (pairOf at a b)
-pair-free at a b = on-step (λ (t : Found). t .state .puts ≡ b .state .puts) (Free (b .state .puts)) (listed (b .state) (rec02 (halfOf (b .state .table) (a .type)) (halfOf (b .state .table) (b .type))) at) (λ t. over at (Terms.pair (t .type)) (t .type) a b (t .state)) (listed-puts (b .state) (rec02 (halfOf (b .state .table) (a .type)) (halfOf (b .state .table) (b .type))) at) λ t h. free-on (t .state .puts) (b .state .puts) (over at (Terms.pair (t .type)) (t .type) a b (t .state)) h (over-free at (Terms.pair (t .type)) (t .type) a b (t .state))
+pair-free : (at : ℕ) (a b : Made) → On (Unspent (b .state .puts)) (pairOf at a b)
+pair-free at a b = on-step (λ (t : Found). t .state .puts ≡ b .state .puts) (Unspent (b .state .puts)) (listed (b .state) (rec02 (halfOf (b .state .table) (a .type)) (halfOf (b .state .table) (b .type))) at) (λ t. over at (Terms.pair (t .type)) (t .type) a b (t .state)) (listed-puts (b .state) (rec02 (halfOf (b .state .table) (a .type)) (halfOf (b .state .table) (b .type))) at) λ t h. free-on (t .state .puts) (b .state .puts) (over at (Terms.pair (t .type)) (t .type) a b (t .state)) h (over-free at (Terms.pair (t .type)) (t .type) a b (t .state))
 
-pub pairs-free : (before : List Element) (m : Made) → On (Free (m .state .puts)) (pairsOf before m)
+pub pairs-free : (before : List Element) (m : Made) → On (Unspent (m .state .puts)) (pairsOf before m)
 pairs-free [] m = refl
-pairs-free (a ∷ before) m = on-step (Free (m .state .puts)) (Free (m .state .puts)) (pairOf (a .comma) (a .made) m) (λ p. pairsOf before p) (pair-free (a .comma) (a .made) m) λ p h. free-on (p .state .puts) (m .state .puts) (pairsOf before p) h (pairs-free before p)
+pairs-free (a ∷ before) m = on-step (Unspent (m .state .puts)) (Unspent (m .state .puts)) (pairOf (a .comma) (a .made) m) (λ p. pairsOf before p) (pair-free (a .comma) (a .made) m) λ p h. free-on (p .state .puts) (m .state .puts) (pairsOf before p) h (pairs-free before p)
 
-pub applied-free : (at : ℕ) (r : TyRec) (f a : Made) → On (Free (a .state .puts)) (applied at r f a)
+pub applied-free : (at : ℕ) (r : TyRec) (f a : Made) → On (Unspent (a .state .puts)) (applied at r f a)
 applied-free at rec01 f a = over-free at (cond (shares (a .state .table) (a .type)) app lapp) 0 f a (a .state)
 applied-free at (rec02 x y) f a = over-free at (cond (shares (a .state .table) (a .type)) app lapp) 0 f a (a .state)
 applied-free at (rec03 x y) f a = over-free at app y f a (a .state)
@@ -122,8 +122,8 @@ apart-free Γ (x ∷ y ∷ []) v ps = refl
 apart-free Γ (x ∷ y ∷ z ∷ zs) v ps =
     let h = halvesOf (recAt (v .state .table) (v .type)) in
     let Δ = bind rest (h .right) (bind x (h .left) Γ) in
-    on-step (Free (v .state .puts)) (λ (a : Apart). a .state .puts ≡ v .state .puts) (node (y .place) (var 0) (h .right) 0 [] (v .state)) (λ r. apartFrom Δ (y ∷ z ∷ zs) r (record { place = x .place; pair = v } ∷ ps)) (node-free (y .place) (var 0) (h .right) 0 [] (v .state)) λ r e. on-map (λ (a : Apart). a .state .puts ≡ r .state .puts) (λ (a : Apart). a .state .puts ≡ v .state .puts) (apartFrom Δ (y ∷ z ∷ zs) r (record { place = x .place; pair = v } ∷ ps)) (apart-free Δ (y ∷ z ∷ zs) r (record { place = x .place; pair = v } ∷ ps)) λ a k. k ∙ e
+    on-step (Unspent (v .state .puts)) (λ (a : Apart). a .state .puts ≡ v .state .puts) (node (y .place) (var 0) (h .right) 0 [] (v .state)) (λ r. apartFrom Δ (y ∷ z ∷ zs) r (record { place = x .place; pair = v } ∷ ps)) (node-free (y .place) (var 0) (h .right) 0 [] (v .state)) λ r e. on-map (λ (a : Apart). a .state .puts ≡ r .state .puts) (λ (a : Apart). a .state .puts ≡ v .state .puts) (apartFrom Δ (y ∷ z ∷ zs) r (record { place = x .place; pair = v } ∷ ps)) (apart-free Δ (y ∷ z ∷ zs) r (record { place = x .place; pair = v } ∷ ps)) λ a k. k ∙ e
 
-pub projections-free : (ps : List Taken) (e : Made) → On (Free (e .state .puts)) (projections ps e)
+pub projections-free : (ps : List Taken) (e : Made) → On (Unspent (e .state .puts)) (projections ps e)
 projections-free [] e = refl
-projections-free (p ∷ ps) e = on-step (Free (e .state .puts)) (Free (e .state .puts)) (over (p .place) proj (e .type) (p .pair) e (e .state)) (λ f. projections ps f) (over-free (p .place) proj (e .type) (p .pair) e (e .state)) λ f h. free-on (f .state .puts) (e .state .puts) (projections ps f) h (projections-free ps f)
+projections-free (p ∷ ps) e = on-step (Unspent (e .state .puts)) (Unspent (e .state .puts)) (over (p .place) proj (e .type) (p .pair) e (e .state)) (λ f. projections ps f) (over-free (p .place) proj (e .type) (p .pair) e (e .state)) λ f h. free-on (f .state .puts) (e .state .puts) (projections ps f) h (projections-free ps f)

@@ -22,7 +22,7 @@ use Rattle.notation_machine.specs.TermMachine.{Function, none, some, Spi
 use Rattle.notation_machine.specs.TermSteps.{termPutSteps, termWishSteps, termLevelSteps, termSteps, TermGoing}
 use Rattle.notation_machine.proofs.Behind.{Left, behind-fewer, numbers-left, type-left, arguments-left, name-left, names-left, list-left}
 use Rattle.notation_machine.proofs.TypeFalls.{sign-some, behind-less, paid, clause-costs, words-short}
-use Rattle.notation_machine.proofs.Spending.{Spent, SpentAll, type-spends, types-spend, Free, node-free, part-free, functions-free, name-free, pairs-free, applied-free, apart-free, projections-free}
+use Rattle.notation_machine.proofs.Spending.{Spent, SpentAll, type-spends, types-spend, Unspent, node-free, part-free, functions-free, name-free, pairs-free, applied-free, apart-free, projections-free}
 
 -- ---- words and types
 
@@ -80,14 +80,14 @@ module _ (X : Text) (bodies : List (List Word)) (most : ℕ) (short : AllShort m
     where
       by : (f : Function) → On (Most (1 + here h (x .state .puts) ws)) (appliedTo h (s .place) f x ws)
       by none = omega arith
-      by (some f) = on-step (Free (x .state .puts)) (Most (1 + here h (x .state .puts) ws)) (applied (s .place) (recAt (x .state .table) (f .type)) f x) _ (applied-free (s .place) (recAt (x .state .table) (f .type)) f x) λ g e. let q : termPutSteps most (g .state .puts) ≡ termPutSteps most (x .state .puts) = ap (termPutSteps most) e in omega arith
+      by (some f) = on-step (Unspent (x .state .puts)) (Most (1 + here h (x .state .puts) ws)) (applied (s .place) (recAt (x .state .table) (f .type)) f x) _ (applied-free (s .place) (recAt (x .state .table) (f .type)) f x) λ g e. let q : termPutSteps most (g .state .puts) ≡ termPutSteps most (x .state .puts) = ap (termPutSteps most) e in omega arith
 
   -- .. made from a state, and it spent nothing
-  made-falls : (h : TermHere) (s : Spine) (puts : ℕ) (m : Answer Made) (ws : List Word) → On (Free puts) m → On (Most (1 + here h puts ws)) (m >>= λ x. behindAtom h s x ws)
-  made-falls h s puts m ws o = on-step (Free puts) (Most (1 + here h puts ws)) m (λ x. behindAtom h s x ws) o λ x e. let q : here h (x .state .puts) ws ≡ here h puts ws = ap (λ (p : ℕ). here h p ws) e in most-less (1 + here h (x .state .puts) ws) (1 + here h puts ws) (behindAtom h s x ws) (omega arith) (atom-falls h s x ws)
+  made-falls : (h : TermHere) (s : Spine) (puts : ℕ) (m : Answer Made) (ws : List Word) → On (Unspent puts) m → On (Most (1 + here h puts ws)) (m >>= λ x. behindAtom h s x ws)
+  made-falls h s puts m ws o = on-step (Unspent puts) (Most (1 + here h puts ws)) m (λ x. behindAtom h s x ws) o λ x e. let q : here h (x .state .puts) ws ≡ here h puts ws = ap (λ (p : ℕ). here h p ws) e in most-less (1 + here h (x .state .puts) ws) (1 + here h puts ws) (behindAtom h s x ws) (omega arith) (atom-falls h s x ws)
 
-  done-falls : (h : TermHere) (puts : ℕ) (m : Answer Made) (ws : List Word) → On (Free puts) m → On (Most (here h puts ws)) (doneBy X bodies h m ws)
-  done-falls h puts m ws o = on-step (Free puts) (Most (here h puts ws)) m (λ x. good (termDone h x ws)) o λ x e. let q : here h (x .state .puts) ws ≡ here h puts ws = ap (λ (p : ℕ). here h p ws) e in omega arith
+  done-falls : (h : TermHere) (puts : ℕ) (m : Answer Made) (ws : List Word) → On (Unspent puts) m → On (Most (here h puts ws)) (doneBy X bodies h m ws)
+  done-falls h puts m ws o = on-step (Unspent puts) (Most (here h puts ws)) m (λ x. good (termDone h x ws)) o λ x e. let q : here h (x .state .puts) ws ≡ here h puts ws = ap (λ (p : ℕ). here h p ws) e in omega arith
 
   element-falls : (h : TermHere) (s : Spine) (before : List Element) (m : Made) (ws : List Word) → On (Most (1 + here h (m .state .puts) ws)) (behindElement h s before m ws)
   element-falls h s before m ws = on-tests (Most (1 + here h (m .state .puts) ws)) (is comma ws) (good (askTerm h (element s (record { made = m; comma = place ws } ∷ before)) (h .scope) (m .state) (behind ws))) (pairsOf before m >>= λ p. behindAtom h s p (behind ws)) (λ t. let k : length (behind ws) + 1 ≤ length ws = sign-some comma ws refl t in omega arith) λ _. most-less (1 + here h (m .state .puts) (behind ws)) (1 + here h (m .state .puts) ws) (pairsOf before m >>= λ p. behindAtom h s p (behind ws)) (omega (arith, behind-less ws)) (made-falls h s (m .state .puts) (pairsOf before m) (behind ws) (pairs-free before m))

@@ -1,12 +1,11 @@
 // What waits at each level of a walk over a text, in the working memory. A level is named by the levels that there may still be below the
 // one that it waits for.
 ghost use mathlib.Core.Path.{_≡_};
-ghost use mathlib.Core.List.{_∷_, []};
 ghost use Prim.Native.Nat.{_+_, _*_, _≤_, _<_};
 ghost use lib.ListN.{length};
 ghost use lib.Seq.{sets};
 ghost use Rattle.making_memory.specs.Map.{levelsAt, makingSize};
-ghost use Rattle.walk_levels.specs.Levels.{scopesAt, InLevels, levelIn, scopeIn};
+ghost use Rattle.walk_levels.specs.Levels.{scopesAt, InLevels, levelIn, scopeIn, levelNumbers, scopeNumbers};
 use making_memory::LEVELS;
 
 // The scopes of the levels, behind the levels: four numbers each.
@@ -51,7 +50,7 @@ pub fn level_at(work: &[u16], m: u16) -> Level
 
 pub fn set_level(work: &mut [u16], m: u16, l: Level)
     requires { ⌜ InLevels (now work) m ⌝ }
-    ensures { λ _. ⌜ now (work .exit) ≡ sets (now (work .entry)) (levelsAt + 8 * m) (l .form ∷ l .flag ∷ l .place ∷ l .count ∷ l .node ∷ l .ty ∷ l .deep ∷ l .next ∷ []) ⌝ }
+    ensures { λ _. ⌜ now (work .exit) ≡ sets (now (work .entry)) (levelsAt + 8 * m) (levelNumbers l) ⌝ }
 {
     let at = LEVELS + 8 * (m as usize);
     work[at] = l.form;
@@ -78,7 +77,7 @@ pub fn scope_at(work: &[u16], m: u16) -> Around
 
 pub fn set_scope(work: &mut [u16], m: u16, s: Around)
     requires { ⌜ InLevels (now work) m ⌝ }
-    ensures { λ _. ⌜ now (work .exit) ≡ sets (now (work .entry)) (scopesAt + 4 * m) (s .frame ∷ s .top ∷ s .waiting ∷ []) ⌝ }
+    ensures { λ _. ⌜ now (work .exit) ≡ sets (now (work .entry)) (scopesAt + 4 * m) (scopeNumbers s) ⌝ }
 {
     let at = SCOPES + 4 * (m as usize);
     work[at] = s.frame;
