@@ -5,7 +5,7 @@ ghost use Prim.Native.Nat.{_+_, _*_, _≤_, _<_};
 ghost use lib.ListN.{length};
 ghost use lib.Seq.{sets};
 ghost use Rattle.making_memory.specs.Map.{levelsAt, makingSize};
-ghost use Rattle.walk_levels.specs.Levels.{scopesAt, InLevels, levelIn, scopeIn, levelNumbers, scopeNumbers};
+ghost use Rattle.walk_levels.specs.Levels.{scopesAt, InLevels, levelIn, scopeIn, levelNumbers, scopeNumbers, pushed};
 use making_memory::LEVELS;
 
 // The scopes of the levels, behind the levels: four numbers each.
@@ -83,4 +83,13 @@ pub fn set_scope(work: &mut [u16], m: u16, s: Around)
     work[at] = s.frame;
     work[at + 1] = s.top;
     work[at + 2] = s.waiting;
+}
+
+// A level and its scope: what waits there from now on.
+pub fn push(work: &mut [u16], m: u16, l: Level, s: Around)
+    requires { ⌜ InLevels (now work) m ⌝ }
+    ensures { λ _. ⌜ now (work .exit) ≡ pushed (now (work .entry)) m l s ⌝ }
+{
+    set_level(work, m, l);
+    set_scope(work, m, s);
 }
