@@ -1,0 +1,12 @@
+pub mod Running
+pub mod ReadLaws
+pub mod Bodies
+pub mod Types
+pub mod Behind
+pub mod TypeFalls
+pub mod TypeFrom
+pub mod Terms
+pub mod Worked
+pub mod Spending
+pub mod TermFalls
+pub mod TextBodies
