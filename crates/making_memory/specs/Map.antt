@@ -1,0 +1,41 @@
+-- Where each table begins in the working memory while a sheet is made from its text, and how many numbers there are. Assumes nothing.
+use Prim.Native.Nat.{ℕ}
+
+abbrev pub nodesAt : ℕ
+nodesAt = 0
+
+abbrev pub typesAt : ℕ
+typesAt = 10240
+
+abbrev pub scopeAt : ℕ
+scopeAt = 11264
+
+abbrev pub halvesAt : ℕ
+halvesAt = 13312
+
+abbrev pub clausesAt : ℕ
+clausesAt = 21504
+
+abbrev pub framesAt : ℕ
+framesAt = 23552
+
+abbrev pub typeCountAt : ℕ
+typeCountAt = 24064
+
+abbrev pub nodeCountAt : ℕ
+nodeCountAt = 24065
+
+abbrev pub putCountAt : ℕ
+putCountAt = 24066
+
+abbrev pub clauseCountAt : ℕ
+clauseCountAt = 24067
+
+abbrev pub secondAt : ℕ
+secondAt = 24068
+
+abbrev pub levelsAt : ℕ
+levelsAt = 24576
+
+abbrev pub makingSize : ℕ
+makingSize = 32768

@@ -1,0 +1,49 @@
+// The map of the working memory, 32,768 numbers, while a sheet is made from its text. From 25,232 on it is free.
+
+// The nodes in the order in which they are made, so each behind its subterms: kind, first body byte, left (of a part its type), right, and
+// the offset of the word that it came from. At most 2,048, five numbers each.
+pub const NODES: usize = 0;
+
+// The types in the order of the sheet's table: kind, left, right, bits. At most 256, four numbers each.
+pub const TYPES: usize = 10240;
+
+// The names in scope, the outermost first: the name's offset, its value. At most 1,024, two numbers each. The text's length is the offset of
+// a name that no text has.
+pub const SCOPE: usize = 11264;
+
+// Terms of tuples that wait for the later ones: node, type, depth, and the offset of the comma behind. At most 2,048, four numbers each.
+pub const HALVES: usize = 13312;
+
+// The clauses in the order of the text: the offsets of the name, of what stands behind it, of the number parameters, of the body and of
+// what stands behind that; 1 for a type; how many type parameters and number parameters. At most 256, eight numbers each.
+pub const CLAUSES: usize = 21504;
+
+// The definitions that are being put in, by the levels that their bodies may have: how many clauses they know, and where in the scope their
+// type parameters, their number parameters and their variables begin. The last is the text itself. At most 82, four numbers each.
+pub const FRAMES: usize = 23552;
+
+// How many types, nodes and clauses there are, and what the definitions that were put in have cost; 1 in the second edition.
+pub const TYPE_COUNT: usize = 24064;
+
+pub const NODE_COUNT: usize = 24065;
+
+pub const PUT_COUNT: usize = 24066;
+
+pub const CLAUSE_COUNT: usize = 24067;
+
+pub const SECOND: usize = 24068;
+
+// What waits at each level of the walk for the subterm below it. At most 82, eight numbers each.
+pub const LEVELS: usize = 24576;
+
+pub const MOST_TYPES: u16 = 256;
+
+pub const MOST_NODES: u16 = 2048;
+
+pub const MOST_DEEP: u8 = 64;
+
+pub const MOST_PUTS: u16 = 32767;
+
+pub const MOST_CLAUSES: u16 = 256;
+
+pub const MOST_ENTRIES: u16 = 1024;
