@@ -1,0 +1,2 @@
+-- A row.
+use Prim.Native.Nat.{ℕ}
