@@ -1,1 +1,4 @@
 pub mod GroupLaws
+pub mod RowLaws
+pub mod ListLaws
+pub mod HeadLaws
