@@ -2,3 +2,4 @@ pub mod GroupLaws
 pub mod RowLaws
 pub mod ListLaws
 pub mod HeadLaws
+pub mod NumberLaws
