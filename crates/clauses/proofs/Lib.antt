@@ -3,3 +3,4 @@ pub mod RowLaws
 pub mod ListLaws
 pub mod HeadLaws
 pub mod NumberLaws
+pub mod FollowLaws

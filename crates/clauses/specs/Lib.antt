@@ -1,3 +1,4 @@
 pub mod Groups
 pub mod Rows
 pub mod Numbers
+pub mod Follows

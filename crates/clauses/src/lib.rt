@@ -2,3 +2,4 @@
 pub mod groups;
 pub mod rows;
 pub mod numbers;
+pub mod follows;

@@ -45,7 +45,7 @@ pub fn row_of(text: &[u8], at: usize, sort: bool, end: usize) -> Row
     }
 }
 
-fn wide(x: u16) -> usize
+pub fn wide(x: u16) -> usize
     ensures { λ r. ⌜ r ≡ x ⌝ }
 {
     x as usize
