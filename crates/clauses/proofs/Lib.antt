@@ -4,3 +4,5 @@ pub mod ListLaws
 pub mod HeadLaws
 pub mod NumberLaws
 pub mod FollowLaws
+pub mod TableLaws
+pub mod ItemLaws

@@ -2,3 +2,4 @@ pub mod Groups
 pub mod Rows
 pub mod Numbers
 pub mod Follows
+pub mod Texts

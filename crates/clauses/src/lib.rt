@@ -3,3 +3,4 @@ pub mod groups;
 pub mod rows;
 pub mod numbers;
 pub mod follows;
+pub mod texts;
