@@ -22,7 +22,7 @@ use Rattle.making_memory.specs.Map.{clauseCountAt, makingSize}
 use Rattle.clauses.specs.declared.rows.Row.{Row}
 use Rattle.clauses.specs.Rows.{bodyAt, RowOf, ClauseEnds, RowRead, ShortRow, HoldsRows}
 use Rattle.clauses.specs.Follows.{RowThere, RowsThere, RowAdded, withRow}
-use Rattle.clauses.specs.Texts.{clauseItem, lineItem, itemOf, OnlyTable, TableHeld, Grown, Proceeds, ProceedsIn}
+use Rattle.clauses.specs.Texts.{clauseItem, lineItem, itemOf, OnlyRows, TableHeld, Grown, Proceeds, ProceedsIn}
 use Rattle.clauses.proofs.HeadLaws.{rest-back}
 use Rattle.clauses.proofs.TableLaws.{row-there, short-row, rows-there, judged, with-row-kept, rows-more, kept-none, kept-then}
 
@@ -78,7 +78,7 @@ module _ (text : List ℕ) (at : ℕ) (sort : Bool) (w : List ℕ) (l : Lexed te
           grows = λ y. absurd (q y);
           fewer = λ y. absurd (q y);
           lexed = λ y. absurd (q y);
-          kept = subst (OnlyTable w) (sym (A .same q)) (kept-none w);
+          kept = subst (OnlyRows w) (sym (A .same q)) (kept-none w);
         }
 
         few-now : n ≡ 0 → length (T .items .clauses) < mostClauses
@@ -99,7 +99,7 @@ module _ (text : List ℕ) (at : ℕ) (sort : Bool) (w : List ℕ) (l : Lexed te
           grows = λ _ items H. grown-by q items H;
           fewer = λ _. d .reaches z .fewer;
           lexed = λ _. d .reaches z .lexed;
-          kept = subst (OnlyTable w) (sym (A .added q)) (with-row-kept w r (length (T .items .clauses)) (T .holds .counted) (few-now q) (T .room));
+          kept = subst (OnlyRows w) (sym (A .added q)) (with-row-kept w r (length (T .items .clauses)) (T .holds .counted) (few-now q) (T .room));
         }
 
 -- ---- an item by its first word
@@ -214,7 +214,7 @@ pub record ReadingItems (text : List ℕ) (w₀ : List ℕ) (start : ℕ) (w : L
   pub low : length (from text at) ≤ length (from text start)
   pub lexed : Lexed text at
   pub stands : Stands text at v
-  pub kept : OnlyTable w₀ w
+  pub kept : OnlyRows w₀ w
 
 pub reading-first : (text w : List ℕ) (start : ℕ) (v : Said) → Lexed text start → Stands text start v → ReadingItems text w start w start v
 reading-first text w start v l s = record {

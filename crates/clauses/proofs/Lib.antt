@@ -6,3 +6,4 @@ pub mod NumberLaws
 pub mod FollowLaws
 pub mod TableLaws
 pub mod ItemLaws
+pub mod TextLaws

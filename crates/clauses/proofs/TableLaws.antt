@@ -17,13 +17,13 @@ use Rattle.notation_calculus.specs.Trees.{Number, Clause}
 use Rattle.notation_calculus.specs.Grammar.{mostClauses, got, numberAt, coverAll, isType, sameSort, namesake, mayFollow, mayFollowAll, Items, withClause}
 use Rattle.words.specs.Next.{runAt}
 use Rattle.words.specs.Lexed.{from}
-use Rattle.making_memory.specs.Map.{clausesAt, framesAt, clauseCountAt, secondAt, makingSize}
+use Rattle.making_memory.specs.Map.{clausesAt, framesAt, clauseCountAt, makingSize}
 use Rattle.clauses.specs.declared.rows.Row.{Row}
 use Rattle.clauses.specs.Groups.{listIn, Readable}
 use Rattle.clauses.specs.Rows.{RowOf, flagOf, rowNumbers, ShortRow, rowIn, noNumber, noClause, clauseOf, HoldsRows}
 use Rattle.clauses.specs.Numbers.{numbersFrom, NumbersThere}
 use Rattle.clauses.specs.Follows.{RowThere, rowNamesake, rowFollows, followsFrom, RowsThere, rowRefusal, withRow}
-use Rattle.clauses.specs.Texts.{OnlyTable}
+use Rattle.clauses.specs.Texts.{OnlyRows}
 use Rattle.clauses.proofs.ListLaws.{numbers-group}
 use Rattle.clauses.proofs.RowLaws.{row-parts}
 
@@ -180,11 +180,11 @@ module _ (w : List ℕ) (d : Row) (n : ℕ) (e : getD w clauseCountAt 0 ≡ n) (
   pub count-new : getD (withRow w d) clauseCountAt 0 ≡ n + 1
   count-new = ap (λ (l : List ℕ). getD l clauseCountAt 0) with-row-by ∙ getD-set-same stored clauseCountAt (n + 1) 0 (omega (arith, length-stored))
 
-  pub with-row-kept : OnlyTable w (withRow w d)
+  pub with-row-kept : OnlyRows w (withRow w d)
   with-row-kept = record {
     same = ap length with-row-by ∙ length-set stored clauseCountAt (n + 1) ∙ length-stored;
     below = λ j h. other j (λ q. absurd (omega arith)) ∙ sets-before (rowNumbers d) w (clausesAt + 8 * n) j 0 (omega arith);
-    above = λ j h g l. other j g ∙ sets-outside (rowNumbers d) w (clausesAt + 8 * n) j 0 (omega arith) (omega arith);
+    above = λ j h g. other j g ∙ sets-outside (rowNumbers d) w (clausesAt + 8 * n) j 0 (omega arith) (omega arith);
   }
 
   pub rows-more : (text : List ℕ) (cs : List Clause) → HoldsRows text w cs → length cs ≡ n → (D : Clause) → RowOf text D d → HoldsRows text (withRow w d) (cs ++ D ∷ [])
@@ -204,12 +204,12 @@ module _ (w : List ℕ) (d : Row) (n : ℕ) (e : getD w clauseCountAt 0 ≡ n) (
 
 -- ---- frames
 
-pub kept-none : (w : List ℕ) → OnlyTable w w
-kept-none w = record { same = refl; below = λ j h. refl; above = λ j h g l. refl }
+pub kept-none : (w : List ℕ) → OnlyRows w w
+kept-none w = record { same = refl; below = λ j h. refl; above = λ j h g. refl }
 
-pub kept-then : (w w₁ w₂ : List ℕ) → OnlyTable w w₁ → OnlyTable w₁ w₂ → OnlyTable w w₂
+pub kept-then : (w w₁ w₂ : List ℕ) → OnlyRows w w₁ → OnlyRows w₁ w₂ → OnlyRows w w₂
 kept-then w w₁ w₂ a b = record {
   same = b .same ∙ a .same;
   below = λ j h. b .below j h ∙ a .below j h;
-  above = λ j h g l. b .above j h g l ∙ a .above j h g l;
+  above = λ j h g. b .above j h g ∙ a .above j h g;
 }

@@ -3,12 +3,14 @@ use Prim.Native.Nat.{ℕ, _+_, _≤_, _<_}
 use mathlib.Core.Path.{_≡_}
 use mathlib.Core.Bool.{Bool, true, false, cond}
 use mathlib.Core.List.{List, []}
+use lib.Dec.{eqb}
 use lib.ListN.{length, getD}
 use Rattle.calculus.specs.Answer.{Answer, good, _>>=_, refuse}
 use Rattle.calculus.specs.Terms.{Edition, isSecond}
-use Rattle.notation_calculus.specs.Words.{table, type, Word}
+use Rattle.notation_calculus.specs.Words.{edition, table, type, Word}
 use Rattle.notation_calculus.specs.Trees.{Clause, Line, Text}
-use Rattle.notation_calculus.specs.Grammar.{mostNested, Got, got, behind, place, is, listFrom, typeAt, clauseAt, Items, noItems, withClause, withLines, itemsFrom, editionAt, textOf}
+use Rattle.notation_calculus.specs.Grammar.{mostNested, Got, got, peek, behind, place, is, listFrom, typeAt, clauseAt, Items, noItems, withClause, withLines, itemsFrom, editionAt, textOf}
+use Rattle.words.specs.Tables.{tokenValue}
 use Rattle.words.specs.Lexed.{from, Lexed}
 use Rattle.grammar.specs.declared.steps.End.{End}
 use Rattle.making_memory.specs.Map.{clausesAt, framesAt, clauseCountAt, secondAt, makingSize}
@@ -35,7 +37,13 @@ itemOf ws items = cond (is table ws) (lineItem ws items) (cond (is type ws) (cla
 
 -- ---- the memory
 
--- only the table of clauses, their count and the edition are written
+-- only the table of clauses and their count are written
+pub record OnlyRows (w w′ : List ℕ) : Type 0 where
+  pub same : length w′ ≡ length w
+  pub below : (j : ℕ) → j < clausesAt → getD w′ j 0 ≡ getD w j 0
+  pub above : (j : ℕ) → framesAt ≤ j → ¬ (j ≡ clauseCountAt) → getD w′ j 0 ≡ getD w j 0
+
+-- .. and the edition
 pub record OnlyTable (w w′ : List ℕ) : Type 0 where
   pub same : length w′ ≡ length w
   pub below : (j : ℕ) → j < clausesAt → getD w′ j 0 ≡ getD w j 0
@@ -60,13 +68,17 @@ pub record Proceeds (text : List ℕ) (b : ℕ) (m : Items → Answer (Got Items
   pub grows : r .number ≡ 0 → (items : Items) → HoldsRows text w (items .clauses) → Grown text (m items) w′ (r .at)
   pub fewer : r .number ≡ 0 → length (from text (r .at)) < b
   pub lexed : r .number ≡ 0 → Lexed text (r .at)
-  pub kept : OnlyTable w w′
+  pub kept : OnlyRows w w′
 
 -- .. in any number of rounds that is not below the number of words
 abbrev pub ProceedsIn : List ℕ → ℕ → List ℕ → List ℕ → End → Type 0
 ProceedsIn text at w w′ r = (n : ℕ) → length (from text at) ≤ n → Proceeds text (length (from text at) + 1) (λ items. itemsFrom n items (from text at)) w w′ r
 
 -- ---- the whole text
+
+-- the second edition is asked for
+unfoldable pub saysSecond : List Word → Bool
+saysSecond ws = cond (is edition ws) (eqb (tokenValue (peek (behind ws) .token)) 2) false
 
 -- the memory holds a text's clauses and its edition
 pub record HoldsClauses (text work : List ℕ) (X : Text) : Type 0 where

@@ -51,7 +51,7 @@ pub fn wide(x: u16) -> usize
     x as usize
 }
 
-fn flag(b: bool) -> u16
+pub fn flag(b: bool) -> u16
     ensures { λ r. ⌜ r ≡ flagOf b ⌝ }
 {
     if b {

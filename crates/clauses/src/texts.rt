@@ -7,13 +7,12 @@ ghost use mathlib.Core.Path.{_≡_};
 ghost use mathlib.Core.Bool.{true, false};
 ghost use Prim.Native.Nat.{_+_, _≤_};
 ghost use lib.ListN.{length};
-ghost use Rattle.calculus.specs.Terms.{isSecond};
 ghost use Rattle.notation_calculus.specs.Grammar.{clauseAt};
 ghost use Rattle.words.specs.Lexed.{from, Lexed};
 ghost use Rattle.grammar.specs.Ends.{Ends, restOf};
 ghost use Rattle.making_memory.specs.Map.{makingSize};
-ghost use Rattle.clauses.specs.Rows.{bodyAt, flagOf};
-ghost use Rattle.clauses.specs.Texts.{clauseItem, itemOf, TableHeld, Proceeds, ProceedsIn, TextRead};
+ghost use Rattle.clauses.specs.Rows.{bodyAt};
+ghost use Rattle.clauses.specs.Texts.{clauseItem, itemOf, TableHeld, Proceeds, ProceedsIn, saysSecond, TextRead};
 
 const TYPE: u8 = 5;
 
@@ -89,4 +88,48 @@ fn all_items(text: &[u8], work: &mut [u16], start: usize) -> End
         w = words::word_at(text, at);
     }
     End { number: 0, at }
+}
+
+// The second edition is asked for.
+fn says_second(text: &[u8]) -> bool
+    requires { ⌜ Lexed (now text) 0 ⌝ }
+    ensures { λ r. ⌜ r ≡ saysSecond (from (now (text .entry)) 0) ⌝ }
+{
+    let w = words::word_at(text, 0);
+    if w.kind != EDITION {
+        return false;
+    }
+    let v = words::word_at(text, w.end);
+    v.value == 2
+}
+
+// The whole text: its edition, and its clauses in the table.
+pub fn read(text: &[u8], work: &mut [u16]) -> Whole
+    requires { ⌜ (Lexed (now text) 0) × ((length (now text) ≤ 65535) × (makingSize ≤ length (now work))) ⌝ }
+    ensures { λ r. ⌜ TextRead (now (text .entry)) (now (work .entry)) (now (work .exit)) r ⌝ }
+{
+    let e = items::edition_end(text, 0);
+    if e.number != 0 {
+        return Whole {
+            number: e.number,
+            place: e.at,
+            items: 0,
+        };
+    }
+    work[making_memory::CLAUSE_COUNT] = 0;
+    work[making_memory::SECOND] = rows::flag(says_second(text));
+    let r = all_items(text, work, e.at);
+    if r.number != 0 {
+        return Whole {
+            number: r.number,
+            place: r.at,
+            items: 0,
+        };
+    }
+    let w = words::word_at(text, r.at);
+    Whole {
+        number: 0,
+        place: w.start,
+        items: e.at,
+    }
 }
