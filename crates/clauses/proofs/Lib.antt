@@ -7,3 +7,4 @@ pub mod FollowLaws
 pub mod TableLaws
 pub mod ItemLaws
 pub mod TextLaws
+pub mod MeantLaws

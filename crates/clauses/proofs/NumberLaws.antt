@@ -138,7 +138,7 @@ covering-none text a b n x y =
     record { most = omega arith; first = rw e x; second = rw e y; total = rw e }
 
 -- one of a list, and the others behind it
-numbers-step : (text : List ℕ) (at n : ℕ) (r : Num) → NumbersThere text at (suc n) → (x : NumberRead text (behind (from text at)) r) → (numbersFrom text at (suc n) ≡ x .number ∷ numbersFrom text (r .end) n) × NumbersThere text (r .end) n
+pub numbers-step : (text : List ℕ) (at n : ℕ) (r : Num) → NumbersThere text at (suc n) → (x : NumberRead text (behind (from text at)) r) → (numbersFrom text at (suc n) ≡ x .number ∷ numbersFrom text (r .end) n) × NumbersThere text (r .end) n
 numbers-step text at n r t x = (ap (λ (m : Answer (Got Number)). valueIn noNumber m ∷ listIn noNumber numberAt n (restIn m)) (x .is), record { lexed = x .lexed; readable = subst (λ (m : Answer (Got Number)). Readable noNumber numberAt n (restIn m)) (x .is) (t .readable .1) })
 
 pub number-there : (text : List ℕ) (at n : ℕ) → NumbersThere text at n → 0 < n → NumberThere (behind (from text at))

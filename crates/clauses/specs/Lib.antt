@@ -3,3 +3,4 @@ pub mod Rows
 pub mod Numbers
 pub mod Follows
 pub mod Texts
+pub mod Meant

@@ -47,7 +47,10 @@ pub fn group_at(text: &[u8], start: usize, opens: u8) -> Group
 {
     let w = words::word_at(text, start);
     if w.kind != opens {
-        return Group { count: 0, end: start };
+        return Group {
+            count: 0,
+            end: start,
+        };
     }
     let mut count: usize = 1;
     let mut at = w.end;
