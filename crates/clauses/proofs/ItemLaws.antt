@@ -22,7 +22,7 @@ use Rattle.making_memory.specs.Map.{clauseCountAt, makingSize}
 use Rattle.clauses.specs.declared.rows.Row.{Row}
 use Rattle.clauses.specs.Rows.{bodyAt, RowOf, ClauseEnds, RowRead, ShortRow, HoldsRows}
 use Rattle.clauses.specs.Follows.{RowThere, RowsThere, RowAdded, withRow}
-use Rattle.clauses.specs.Texts.{clauseItem, lineItem, itemOf, OnlyRows, TableHeld, Grown, Proceeds, ProceedsIn}
+use Rattle.clauses.specs.Texts.{clauseItem, lineItem, itemOf, OnlyRows, TableHeld, GrownTo, Proceeds, ProceedsIn}
 use Rattle.clauses.proofs.HeadLaws.{rest-back}
 use Rattle.clauses.proofs.TableLaws.{row-there, short-row, rows-there, judged, with-row-kept, rows-more, kept-none, kept-then}
 
@@ -84,7 +84,7 @@ module _ (text : List ℕ) (at : ℕ) (sort : Bool) (w : List ℕ) (l : Lexed te
         few-now : n ≡ 0 → length (T .items .clauses) < mostClauses
         few-now q = judged text w (T .items .clauses) (T .holds) (R .clause) r (R .row) (T .items) refl n (A .refusal) .0 q .1
 
-        grown-by : n ≡ 0 → (items : Items) → HoldsRows text w (items .clauses) → Grown text (clauseItem sort here items) w′ (e .at)
+        grown-by : n ≡ 0 → (items : Items) → HoldsRows text w (items .clauses) → GrownTo text (clauseItem sort here items) w′ (e .at)
         grown-by q items H =
             let j = judged text w (items .clauses) H (R .clause) r (R .row) items refl n (A .refusal) .0 q in
             record {

@@ -57,7 +57,7 @@ pub record TableHeld (text work : List ℕ) : Type 0 where
   pub holds : HoldsRows text work (items .clauses)
 
 -- items were read up to an offset, and the table holds their clauses
-pub record Grown (text : List ℕ) (m : Answer (Got Items)) (w : List ℕ) (end : ℕ) : Type 0 where
+pub record GrownTo (text : List ℕ) (m : Answer (Got Items)) (w : List ℕ) (end : ℕ) : Type 0 where
   pub items : Items
   pub is : m ≡ got items (from text end)
   pub holds : HoldsRows text w (items .clauses)
@@ -65,7 +65,7 @@ pub record Grown (text : List ℕ) (m : Answer (Got Items)) (w : List ℕ) (end 
 -- whatever items the table holds, the same is refused, or they grow; what is left is fewer words than b
 pub record Proceeds (text : List ℕ) (b : ℕ) (m : Items → Answer (Got Items)) (w w′ : List ℕ) (r : End) : Type 0 where
   pub refuses : ¬ (r .number ≡ 0) → (items : Items) → HoldsRows text w (items .clauses) → m items ≡ refuse (r .number) (r .at)
-  pub grows : r .number ≡ 0 → (items : Items) → HoldsRows text w (items .clauses) → Grown text (m items) w′ (r .at)
+  pub grows : r .number ≡ 0 → (items : Items) → HoldsRows text w (items .clauses) → GrownTo text (m items) w′ (r .at)
   pub fewer : r .number ≡ 0 → length (from text (r .at)) < b
   pub lexed : r .number ≡ 0 → Lexed text (r .at)
   pub kept : OnlyRows w w′
