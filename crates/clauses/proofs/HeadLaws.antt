@@ -49,8 +49,8 @@ module _ (text : List ℕ) (at : ℕ) (w : Said) (s : Stands text at w) where
   pub name-onward : w .code ≡ 24 → Onward text at (w .end)
   name-onward z = s .onward (λ q. omega arith)
 
-  pub place-inside : w .code ≡ 24 → w .place ≤ length text
-  place-inside z = omega (arith, s .whole z, name-onward z .lexed .within)
+  pub place-inside : w .code ≡ 24 → w .place < length text
+  place-inside z = omega (arith, s .long z, name-onward z .lexed .within)
 
   module _ (sort : Bool) (end : ℕ) (k : ClauseEnds text at sort end) where
     abbrev here : List Word
@@ -91,7 +91,7 @@ module _ (text : List ℕ) (at : ℕ) (w : Said) (s : Stands text at w) where
             row = record {
               name-place = nr .place ∙ sym (s .place);
               name-is = spelled-here (x .value .name) z (nr .token);
-              name-inside = place-inside z;
+              name-inside = omega (arith, place-inside z);
               types-lexed = o .lexed;
               types = hts′ ∙ ap (λ (us : List Word). got (ts .value) us) tr;
               numbers-lexed = ht .lexed;

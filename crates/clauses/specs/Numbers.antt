@@ -1,5 +1,5 @@
 -- k, n or n + k at an offset, and lists of them compared. Assumes nothing.
-use Prim.Native.Nat.{ℕ, suc, _≤_}
+use Prim.Native.Nat.{ℕ, suc, _<_}
 use mathlib.Core.Path.{_≡_}
 use mathlib.Core.Bool.{Bool, true}
 use mathlib.Core.List.{List, []}
@@ -27,7 +27,7 @@ pub record NumberRead (text : List ℕ) (us : List Word) (r : Num) : Type 0 wher
   pub plus : number .plus ≡ r .plus
   pub place : number .place ≡ r .place
   pub name : r .named ≡ true → number .name ≡ runAt text (r .place)
-  pub inside : r .named ≡ true → r .place ≤ length text
+  pub inside : r .named ≡ true → r .place < length text
 
 -- .. but its name
 abbrev pub plainNumber : Num → Number

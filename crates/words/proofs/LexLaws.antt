@@ -208,7 +208,7 @@ passes-joined f (refused why) = refl
 
 -- a name that was found is spelled by the bytes between its place and its end, which are all letters and digits from its place on
 abbrev NameAt : List ℕ → FoundWord → Type 0
-NameAt text f = tokenCode (f .token) ≡ 24 → (f .token ≡ name (take (f .end - f .place) (drop (f .place) text))) × (f .end ≡ f .place + run (drop (f .place) text))
+NameAt text f = tokenCode (f .token) ≡ 24 → (f .token ≡ name (take (f .end - f .place) (drop (f .place) text))) × (f .end ≡ f .place + run (drop (f .place) text)) × (f .place < f .end)
 
 -- what stands next: the end, a word, or a refusal
 pub data Case (text : List ℕ) (at : ℕ) : Answer FoundWord → Type 0 where
@@ -244,7 +244,7 @@ module _ (text : List ℕ) (at : ℕ) (inside : at ≤ length text) where
   go-on k h g = ap (λ (r : List ℕ). goOn r (start + k)) (drop-drop k start text) ∙ rounds-enough (length text) (suc (length text)) (drop (start + k) text) (start + k) (omega (arith, length-drop (start + k) text, length-drop start text)) (omega (arith, length-drop (start + k) text, length-drop start text))
 
   case-word : (m : Answer Read) → View (drop start text) start m → lexed text at ≡ behindWord goOn (drop start text) start m → Case text at (foundAt start m)
-  case-word (good w) (fine h g c d) e = word (record { token = w .token; place = start; end = start + w .long }) (start-past (w .long) h) (omega (arith, g, length-drop start text, start-inside)) c (λ z. (d z .0 ∙ ap (λ (k : ℕ). name (take k (drop start text))) (long-is (w .long)), ap (λ (k : ℕ). start + k) (d z .1))) (e ∙ ap (λ (a : Answer (List Word)). a >>= λ ws. good (record { token = w .token; place = start } ∷ ws)) (go-on (w .long) h g))
+  case-word (good w) (fine h g c d) e = word (record { token = w .token; place = start; end = start + w .long }) (start-past (w .long) h) (omega (arith, g, length-drop start text, start-inside)) c (λ z. (d z .0 ∙ ap (λ (k : ℕ). name (take k (drop start text))) (long-is (w .long)), ap (λ (k : ℕ). start + k) (d z .1), omega arith)) (e ∙ ap (λ (a : Answer (List Word)). a >>= λ ws. good (record { token = w .token; place = start } ∷ ws)) (go-on (w .long) h g))
   case-word (refused why) unknown e = bad31 start e
   case-word (refused why) large e = bad34 start e
 
@@ -280,6 +280,7 @@ module _ (text : List ℕ) (at : ℕ) (l : Lexed text at) where
         last = λ z. absurd (c z);
         named = λ z. ap (λ (us : List Word). peek us .token) here ∙ d z .0;
         whole = λ z. d z .1;
+        long = λ z. d z .2;
       }
   word-stands f h g c d (refused why) e j = absurd (refused≢good (sym j ∙ l .words))
 
@@ -294,6 +295,7 @@ module _ (text : List ℕ) (at : ℕ) (l : Lexed text at) where
         last = λ z. ap behind here;
         named = λ z. absurd (omega arith);
         whole = λ z. absurd (omega arith);
+        long = λ z. absurd (omega arith);
       }
   stands-by (good f) (word f′ h g c d e) = word-stands f′ h g c d (lexed text (f′ .end)) refl e
   stands-by (refused why) (bad31 n e) = absurd (refused≢good (sym e ∙ l .words))
