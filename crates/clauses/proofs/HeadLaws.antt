@@ -49,6 +49,9 @@ module _ (text : List ℕ) (at : ℕ) (w : Said) (s : Stands text at w) where
   pub name-onward : w .code ≡ 24 → Onward text at (w .end)
   name-onward z = s .onward (λ q. omega arith)
 
+  pub name-some : w .code ≡ 24 → 0 < run (drop (w .place) text)
+  name-some z = omega (arith, s .long z, s .whole z)
+
   pub place-inside : w .code ≡ 24 → w .place < length text
   place-inside z = omega (arith, s .long z, name-onward z .lexed .within)
 

@@ -19,7 +19,7 @@ use Rattle.clauses.specs.declared.numbers.Num.{Num}
 use Rattle.clauses.specs.Groups.{codeAt, valueIn, restIn, listIn, Readable}
 use Rattle.clauses.specs.Rows.{noNumber}
 use Rattle.clauses.specs.Numbers.{NumberThere, NumberRead, plainNumber, numbersFrom, NumbersThere}
-use Rattle.clauses.proofs.HeadLaws.{spelled-here, name-onward, place-inside}
+use Rattle.clauses.proofs.HeadLaws.{spelled-here, name-onward, name-some, place-inside}
 
 true-false : {C : Type 0} → _≡_ {A = Bool} true false → C
 true-false e = let z : _≡_ {A = ℕ} 0 1 = cc in absurd (omega arith)
@@ -62,6 +62,7 @@ module _ (text : List ℕ) (at : ℕ) (w : Said) (s : Stands text at w) (there :
         place = sym (s .place);
         name = λ e. true-false (sym e);
         inside = λ e. true-false (sym e);
+        some = λ e. true-false (sym e);
       }
 
   module _ (z : w .code ≡ 24) (p : Said) (sp : Stands text (w .end) p) where
@@ -91,6 +92,7 @@ module _ (text : List ℕ) (at : ℕ) (w : Said) (s : Stands text at w) (there :
       place = sym (s .place);
       name = λ _. spelled-here text at w s n z e;
       inside = λ _. place-inside text at w s z;
+      some = λ _. name-some text at w s z;
     }
 
     module _ (q : p .code ≡ 21) where
@@ -113,6 +115,7 @@ module _ (text : List ℕ) (at : ℕ) (w : Said) (s : Stands text at w) (there :
             place = sym (s .place);
             name = λ _. spelled-here text at w s n z e;
             inside = λ _. place-inside text at w s z;
+            some = λ _. name-some text at w s z;
           }
 
 -- ---- behind one word

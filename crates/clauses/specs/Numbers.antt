@@ -3,9 +3,9 @@ use Prim.Native.Nat.{ℕ, suc, _<_}
 use mathlib.Core.Path.{_≡_}
 use mathlib.Core.Bool.{Bool, true}
 use mathlib.Core.List.{List, []}
-use lib.ListN.{length}
+use lib.ListN.{length, drop}
 use Rattle.calculus.specs.Answer.{good}
-use Rattle.notation_calculus.specs.Words.{Word}
+use Rattle.notation_calculus.specs.Words.{Word, run}
 use Rattle.notation_calculus.specs.Trees.{Number}
 use Rattle.notation_calculus.specs.Grammar.{got, behind, numberAt}
 use Rattle.words.specs.Next.{runAt}
@@ -28,6 +28,7 @@ pub record NumberRead (text : List ℕ) (us : List Word) (r : Num) : Type 0 wher
   pub place : number .place ≡ r .place
   pub name : r .named ≡ true → number .name ≡ runAt text (r .place)
   pub inside : r .named ≡ true → r .place < length text
+  pub some : r .named ≡ true → 0 < run (drop (r .place) text)
 
 -- .. but its name
 abbrev pub plainNumber : Num → Number

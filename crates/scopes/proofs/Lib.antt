@@ -1,0 +1,3 @@
+pub mod EntryLaws
+pub mod LookLaws
+pub mod KeepLaws
