@@ -49,7 +49,7 @@ module _ (text : List ℕ) (at : ℕ) (w : Said) (s : Stands text at w) (there :
   abbrev here : List Word
   here = from text at
 
-  pub number-plain : ¬ (w .code ≡ 24) → (v : ℕ) → v ≡ w .value → NumberRead text here (record { named = false; place = w .place; plus = v; end = w .end })
+  pub number-plain : ¬ (w .code ≡ 24) → (v : ℕ) → (v ≡ w .value) × (v ≤ 255) → NumberRead text here (record { named = false; place = w .place; plus = v; end = w .end })
   number-plain z v ev =
       let d = number-by (peek here .token) here _ (λ q. z (s .code ∙ q)) there in
       let o = s .onward (λ q. absurd (omega (arith, s .code, d .0, q))) in
@@ -58,7 +58,8 @@ module _ (text : List ℕ) (at : ℕ) (w : Said) (s : Stands text at w) (there :
         is = there ∙ d .1 ∙ ap (λ (us : List Word). got (record { isOpen = false; name = []; plus = tokenValue (peek here .token); place = place here }) us) (o .rest);
         lexed = o .lexed;
         isOpen = refl;
-        plus = sym (ev ∙ s .value);
+        plus = sym (ev .0 ∙ s .value);
+        small = ev .1;
         place = sym (s .place);
         name = λ e. true-false (sym e);
         inside = λ e. true-false (sym e);
@@ -89,6 +90,7 @@ module _ (text : List ℕ) (at : ℕ) (w : Said) (s : Stands text at w) (there :
       lexed = name-onward text at w s z .lexed;
       isOpen = refl;
       plus = refl;
+      small = omega arith;
       place = sym (s .place);
       name = λ _. spelled-here text at w s n z e;
       inside = λ _. place-inside text at w s z;
@@ -99,7 +101,7 @@ module _ (text : List ℕ) (at : ℕ) (w : Said) (s : Stands text at w) (there :
       pub plus-onward : Onward text (w .end) (p .end)
       plus-onward = sp .onward (λ y. omega arith)
 
-      pub number-plus : (k : Said) → Stands text (p .end) k → (v : ℕ) → v ≡ k .value → NumberRead text here (record { named = true; place = w .place; plus = v; end = k .end })
+      pub number-plus : (k : Said) → Stands text (p .end) k → (v : ℕ) → (v ≡ k .value) × (v ≤ 255) → NumberRead text here (record { named = true; place = w .place; plus = v; end = k .end })
       number-plus k sk v ev = first-name (NumberRead text here (record { named = true; place = w .place; plus = v; end = k .end })) λ n e.
           let last : List Word = from text (p .end) in
           let step : numberAt here ≡ (valueOf (peek last .token) (place last) >>= λ j. got (openNumber n j) (behind last)) = named-is n e true (is-yes text (w .end) p sp plus q) ∙ ap (λ (us : List Word). valueOf (peek us .token) (place us) >>= λ j. got (openNumber n j) (behind us)) (plus-onward .rest) in
@@ -111,7 +113,8 @@ module _ (text : List ℕ) (at : ℕ) (w : Said) (s : Stands text at w) (there :
             is = there ∙ sym e₁ ∙ ap (λ (us : List Word). got (openNumber n j) us) (o .rest);
             lexed = o .lexed;
             isOpen = refl;
-            plus = d .1 ∙ sym (sk .value) ∙ sym ev;
+            plus = d .1 ∙ sym (sk .value) ∙ sym (ev .0);
+            small = ev .1;
             place = sym (s .place);
             name = λ _. spelled-here text at w s n z e;
             inside = λ _. place-inside text at w s z;

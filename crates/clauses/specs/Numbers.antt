@@ -1,5 +1,5 @@
 -- k, n or n + k at an offset, and lists of them compared. Assumes nothing.
-use Prim.Native.Nat.{ℕ, suc, _<_}
+use Prim.Native.Nat.{ℕ, _≤_, _<_}
 use mathlib.Core.Path.{_≡_}
 use mathlib.Core.Bool.{Bool, true}
 use mathlib.Core.List.{List, []}
@@ -25,6 +25,7 @@ pub record NumberRead (text : List ℕ) (us : List Word) (r : Num) : Type 0 wher
   pub lexed : Lexed text (r .end)
   pub isOpen : number .isOpen ≡ r .named
   pub plus : number .plus ≡ r .plus
+  pub small : r .plus ≤ 255
   pub place : number .place ≡ r .place
   pub name : r .named ≡ true → number .name ≡ runAt text (r .place)
   pub inside : r .named ≡ true → r .place < length text

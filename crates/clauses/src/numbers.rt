@@ -1,6 +1,6 @@
 // k, n or n + k, read again where the grammar has read them once.
 ghost use mathlib.Core.Path.{_≡_};
-ghost use mathlib.Core.Bool.{_&&_};
+ghost use Prim.Native.Nat.{_≤_};
 ghost use Rattle.notation_calculus.specs.Grammar.{behind, covers, coverAll};
 ghost use Rattle.words.specs.Lexed.{from, Lexed};
 ghost use Rattle.clauses.specs.Numbers.{NumberThere, NumberRead, plainNumber, numbersFrom, NumbersThere};
@@ -16,7 +16,7 @@ pub struct Num {
 }
 
 fn wide(x: u8) -> usize
-    ensures { λ r. ⌜ r ≡ x ⌝ }
+    ensures { λ r. ⌜ (r ≡ x) × (r ≤ 255) ⌝ }
 {
     x as usize
 }

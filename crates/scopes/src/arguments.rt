@@ -1,0 +1,50 @@
+// Numbers that are given as arguments of a name; refusals 33 and 34.
+use crate::entries;
+use crate::frames::Frame;
+ghost use Rattle.words.specs.Lexed.{from, Lexed};
+ghost use Rattle.clauses.specs.Numbers.{NumberThere};
+ghost use Rattle.scopes.specs.Arguments.{NumbersKnown, ValueRead};
+
+// A value and the offset behind it; or a refusal's number, which is not 0, and its place.
+pub struct Value {
+    pub number: u8,
+    pub value: usize,
+    pub end: usize,
+}
+
+// The value of k, n or n + k: 33, then 34, at its place.
+pub fn value_at(text: &[u8], work: &[u16], at: usize, f: Frame) -> Value
+    requires { ⌜ (Lexed (now text) at) × ((NumberThere (from (now text) at)) × (NumbersKnown (now text) (now work) f)) ⌝ }
+    ensures { λ r. ⌜ ValueRead (now (text .entry)) (now (work .entry)) f (from (now (text .entry)) at) r ⌝ }
+{
+    let k = clauses::numbers::number_at(text, at);
+    if !k.named {
+        return Value {
+            number: 0,
+            value: k.plus,
+            end: k.end,
+        };
+    }
+    let e = entries::first_of(text, work, k.place, f.numbers, f.variables);
+    if e == f.variables {
+        return Value {
+            number: 33,
+            value: k.place,
+            end: k.end,
+        };
+    }
+    let v = clauses::meant::value_of(work, e);
+    let n = v + k.plus;
+    if 255 < n {
+        return Value {
+            number: 34,
+            value: k.place,
+            end: k.end,
+        };
+    }
+    Value {
+        number: 0,
+        value: n,
+        end: k.end,
+    }
+}
