@@ -12,7 +12,7 @@ use Rattle.notation_calculus.specs.Making.{Entry, lookup}
 use Rattle.words.specs.Next.{runAt}
 use Rattle.making_memory.specs.Map.{scopeAt}
 use Rattle.scopes.specs.declared.frames.Frame.{Frame}
-use Rattle.scopes.specs.Entries.{placeIn, valueAt, entryIn, entriesFrom, entriesBack, namedFrom, firstNamed, lastNamed}
+use Rattle.scopes.specs.Entries.{placeIn, firstNamed, lastNamed}
 
 -- ---- frames
 

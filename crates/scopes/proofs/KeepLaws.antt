@@ -13,7 +13,7 @@ use Rattle.notation_calculus.specs.Making.{Entry, Scope, entries, bind, withVar
 use Rattle.words.specs.Next.{runAt}
 use Rattle.making_memory.specs.Map.{scopeAt, framesAt, makingSize}
 use Rattle.scopes.specs.declared.frames.Frame.{Frame}
-use Rattle.scopes.specs.Entries.{placeIn, valueAt, entryIn, entriesFrom, entriesBack, namedFrom, Places, withEntry, OnlyEntries}
+use Rattle.scopes.specs.Entries.{placeIn, valueAt, entryIn, entriesBack, namedFrom, Places, withEntry, OnlyEntries}
 use Rattle.scopes.specs.Frames.{frameIn, HoldsParameters, HoldsScope}
 use Rattle.scopes.proofs.EntryLaws.{frame-parts}
 
@@ -64,10 +64,6 @@ module _ (text w w′ : List ℕ) (from to : ℕ) (o : OnlyEntries from to w w�
       let v : valueAt w′ e ≡ valueAt w e = o .below (scopeAt + 2 * e + 1) (omega arith) in
       ap (λ (j : ℕ). record { name = runAt text j; value = valueAt w′ e }) p ∙ ap (λ (j : ℕ). record { name = runAt text (placeIn w e); value = j }) v
 
-  pub from-same : (n e : ℕ) → e + n ≤ from → entriesFrom text w′ e n ≡ entriesFrom text w e n
-  from-same zero e h = refl
-  from-same (suc n) e h = ap (λ (x : Entry). x ∷ entriesFrom text w′ (suc e) n) (entry-same e (omega arith)) ∙ ap (λ (xs : List Entry). entryIn text w e ∷ xs) (from-same n (suc e) (omega arith))
-
   pub back-same : (n e : ℕ) → e + n ≤ from → entriesBack text w′ e n ≡ entriesBack text w e n
   back-same zero e h = refl
   back-same (suc n) e h = ap (λ (x : Entry). x ∷ entriesBack text w′ e n) (entry-same (e + n) (omega arith)) ∙ ap (λ (xs : List Entry). entryIn text w (e + n) ∷ xs) (back-same n e (omega arith))
@@ -95,7 +91,7 @@ module _ (text w w′ : List ℕ) (from to : ℕ) (o : OnlyEntries from to w w�
           seen = P .seen;
           types-first = P .types-first;
           numbers-next = P .numbers-next;
-          types = from-same (frameIn w frame .numbers - frameIn w frame .types) (frameIn w frame .types) (omega (arith, P .types-first, P .numbers-next, H .under, H .entries)) ∙ P .types;
+          types = named-same (frameIn w frame .numbers - frameIn w frame .types) (frameIn w frame .types) (omega (arith, P .types-first, P .numbers-next, H .under, H .entries)) ∙ P .types;
           numbers = named-same (frameIn w frame .variables - frameIn w frame .numbers) (frameIn w frame .numbers) (omega (arith, P .numbers-next, H .under, H .entries)) ∙ P .numbers;
         });
         under = subst (λ (f : Frame). f .variables ≤ S .under) (sym F) (H .under);

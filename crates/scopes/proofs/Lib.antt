@@ -1,3 +1,5 @@
 pub mod EntryLaws
 pub mod LookLaws
 pub mod KeepLaws
+pub mod ArgumentLaws
+pub mod GivenLaws

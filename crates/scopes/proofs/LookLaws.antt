@@ -11,7 +11,7 @@ use borrow.Author.Tests.{eqb-true}
 use Rattle.notation_calculus.specs.Words.{Name, sameName, run}
 use Rattle.notation_calculus.specs.Making.{Entry, lookup}
 use Rattle.words.specs.Next.{runAt}
-use Rattle.scopes.specs.Entries.{placeIn, valueAt, entryIn, entriesFrom, entriesBack, namedFrom, firstNamed, lastNamed}
+use Rattle.scopes.specs.Entries.{placeIn, valueAt, entryIn, entriesBack, namedFrom, firstNamed, lastNamed}
 
 module _ (text work : List ℕ) (at : ℕ) {A : Type 0} where
   abbrev wanted : Name
@@ -19,26 +19,6 @@ module _ (text work : List ℕ) (at : ℕ) {A : Type 0} where
 
   abbrev matches : ℕ → Bool
   matches e = sameName wanted (runAt text (placeIn work e))
-
-  -- ---- forwards
-
-  -- what is found at a number, of so many entries from e on
-  pub record FoundFirst (e n i r : ℕ) (found : ℕ → ℕ → A) (else m : A) : Type 0 where
-    pub there : r < e + n → (e ≤ r) × (m ≡ found (i + (r - e)) (valueAt work r))
-    pub none : e + n ≤ r → m ≡ else
-    pub most : r ≤ e + n
-
-  first-by : (b : Bool) (e n i later : ℕ) (found : ℕ → ℕ → A) (else m : A) → FoundFirst (suc e) n (suc i) later found else m → FoundFirst e (suc n) i (cond b e later) found else (cond b (found i (valueAt work e)) m)
-  first-by true e n i later found else m f = let z : i + (e - e) ≡ i = omega arith in record { there = λ h. (omega arith, ap (λ (j : ℕ). found j (valueAt work e)) (sym z)); none = λ h. absurd (omega arith); most = omega arith }
-  first-by false e n i later found else m f = record {
-    there = λ h. let t = f .there (omega arith) in let z : suc i + (later - suc e) ≡ i + (later - e) = omega (arith, t .0) in (omega (arith, t .0), t .1 ∙ ap (λ (j : ℕ). found j (valueAt work later)) z);
-    none = λ h. f .none (omega arith);
-    most = omega (arith, f .most);
-  }
-
-  pub look-first : (n e i : ℕ) (found : ℕ → ℕ → A) (else : A) → FoundFirst e n i (firstNamed text work at e n) found else (lookup wanted (entriesFrom text work e n) i found else)
-  look-first zero e i found else = record { there = λ h. absurd (omega arith); none = λ h. refl; most = omega arith }
-  look-first (suc n) e i found else = first-by (matches e) e n i (firstNamed text work at (suc e) n) found else (lookup wanted (entriesFrom text work (suc e) n) (suc i) found else) (look-first n (suc e) (suc i) found else)
 
   -- ---- backwards
 

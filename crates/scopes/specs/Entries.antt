@@ -20,17 +20,12 @@ valueAt work e = getD work (scopeAt + 2 * e + 1) 0
 abbrev pub entryIn : List ℕ → List ℕ → ℕ → Entry
 entryIn text work e = record { name = runAt text (placeIn work e); value = valueAt work e }
 
--- so many entries from one on, the earliest first
-abbrev pub entriesFrom : List ℕ → List ℕ → ℕ → ℕ → List Entry
-entriesFrom text work e zero = []
-entriesFrom text work e (suc n) = entryIn text work e ∷ entriesFrom text work (suc e) n
-
--- .. the latest first
+-- so many entries from one on, the latest first
 abbrev pub entriesBack : List ℕ → List ℕ → ℕ → ℕ → List Entry
 entriesBack text work e zero = []
 entriesBack text work e (suc n) = entryIn text work (e + n) ∷ entriesBack text work e n
 
--- .. of those that have a name
+-- .. the earliest first, of those that have a name
 abbrev pub namedFrom : List ℕ → List ℕ → ℕ → ℕ → List Entry
 namedFrom text work e zero = []
 namedFrom text work e (suc n) =

@@ -6,7 +6,7 @@ use lib.ListN.{length, getD}
 use Rattle.notation_calculus.specs.Making.{Entry, Scope, entries, mostEntries}
 use Rattle.making_memory.specs.Map.{framesAt, makingSize}
 use Rattle.scopes.specs.declared.frames.Frame.{Frame}
-use Rattle.scopes.specs.Entries.{entriesFrom, entriesBack, namedFrom, Places}
+use Rattle.scopes.specs.Entries.{entriesBack, namedFrom, Places}
 
 abbrev pub frameIn : List ℕ → ℕ → Frame
 frameIn work f = record {
@@ -21,7 +21,7 @@ pub record HoldsParameters (text work : List ℕ) (f : Frame) (S : Scope) : Type
   pub seen : f .seen ≡ S .seen
   pub types-first : f .types ≤ f .numbers
   pub numbers-next : f .numbers ≤ f .variables
-  pub types : entriesFrom text work (f .types) (f .numbers - f .types) ≡ S .types
+  pub types : namedFrom text work (f .types) (f .numbers - f .types) ≡ S .types
   pub numbers : namedFrom text work (f .numbers) (f .variables - f .numbers) ≡ S .numbers
 
 -- a scope, by a frame and by how many entries there are: the variables stand behind those under them, the nearest last

@@ -6,7 +6,7 @@ ghost use lib.Dec.{leb};
 ghost use lib.ListN.{length};
 ghost use Rattle.notation_calculus.specs.Making.{mostEntries};
 ghost use Rattle.making_memory.specs.Map.{makingSize};
-ghost use Rattle.scopes.specs.Entries.{placeIn, Places, firstNamed, lastNamed, withEntry};
+ghost use Rattle.scopes.specs.Entries.{placeIn, valueAt, Places, firstNamed, lastNamed, withEntry};
 
 const MOST_ENTRIES: usize = 1024;
 
@@ -24,6 +24,14 @@ pub fn place_of(work: &[u16], entry: usize) -> usize
     ensures { λ r. ⌜ r ≡ placeIn (now (work .entry)) entry ⌝ }
 {
     clauses::rows::wide(work[making_memory::SCOPE + 2 * entry])
+}
+
+// .. and its value.
+pub fn value_of(work: &[u16], entry: usize) -> usize
+    requires { ⌜ (entry < mostEntries) × (makingSize ≤ length (now work)) ⌝ }
+    ensures { λ r. ⌜ (r ≡ valueAt (now (work .entry)) entry) × (r < 65536) ⌝ }
+{
+    work[making_memory::SCOPE + 2 * entry + 1] as usize
 }
 
 // An entry is set: a name's place and its value.
