@@ -39,8 +39,8 @@ module _ (text work : List ℕ) (f : Frame) (us : List Word) (k : Num) (x : Numb
     abbrev place : ℕ
     place = k .place
 
-    looked : FoundNamed text work place {A = Answer ℕ} (x .some e) (f .numbers) (f .variables - f .numbers) r (λ v. good v) (refuse 33 place) (lookup (runAt text place) (numbersKnown text work f) 0 (λ i v. good v) (refuse 33 place))
-    looked = subst (λ (j : ℕ). FoundNamed text work place {A = Answer ℕ} (x .some e) (f .numbers) (f .variables - f .numbers) j (λ v. good v) (refuse 33 place) (lookup (runAt text place) (numbersKnown text work f) 0 (λ i v. good v) (refuse 33 place))) (sym first) (look-named text work place (x .some e) (f .variables - f .numbers) (f .numbers) 0 (λ v. good v) (refuse 33 place))
+    looked : FoundNamed text work place (f .numbers) (f .variables - f .numbers) r (λ v. good v) (refuse 33 place) (lookup (runAt text place) (numbersKnown text work f) 0 (λ i v. good v) (refuse 33 place))
+    looked = subst (λ (j : ℕ). FoundNamed text work place (f .numbers) (f .variables - f .numbers) j (λ v. good v) (refuse 33 place) (lookup (runAt text place) (numbersKnown text work f) 0 (λ i v. good v) (refuse 33 place))) (sym first) (look-named text work place (x .some e) (f .variables - f .numbers) (f .numbers) 0 (λ v. good v) (refuse 33 place))
 
     value-named : (m : Answer ℕ) → lookup (runAt text place) (numbersKnown text work f) 0 (λ i v. good v) (refuse 33 place) ≡ m → numberOf (numbersKnown text work f) (x .number) ≡ (m >>= limited (k .plus) place)
     value-named m h = value-is true e ∙ ap (λ (n : Name). valueBy true n (k .plus) place) (x .name e) ∙ ap (λ (y : Answer ℕ). y >>= limited (k .plus) place) h

@@ -144,11 +144,11 @@ module _ (text w₀ : List ℕ) (f : Frame) (start n name top : ℕ) (C : CanGiv
         refuses = λ _ S j e g. step-on S j e g false (lt-leb (top + i + 1) mostEntries h) (numberOf (numbersKnown text w f) firstNumber) refl;
       }
 
-      module _ (room : top + i + 1 ≤ mostEntries) (u : List Word) (ui : behind (from text p) ≡ u) (v : Value) (V : ValueRead text w f u v) where
-        read-is : numberAt (behind (from text p)) ≡ good (record { value = V .read; rest = from text (v .end) })
-        read-is = ap numberAt ui ∙ V .is
+      module _ (room : top + i + 1 ≤ mostEntries) (u : List Word) (ui : behind (from text p) ≡ u) (v : Value) (R : ValueRead text w f u v) where
+        read-is : numberAt (behind (from text p)) ≡ good (record { value = R .read; rest = from text (v .end) })
+        read-is = ap numberAt ui ∙ R .is
 
-        first-is : firstNumber ≡ V .read
+        first-is : firstNumber ≡ R .read
         first-is = ap (valueIn noNumber) read-is
 
         later-is : laterNumbers ≡ numbersFrom text (v .end) left
@@ -159,7 +159,7 @@ module _ (text w₀ : List ℕ) (f : Frame) (start n name top : ℕ) (C : CanGiv
           only = c .only;
           room = λ q. absurd (z q);
           valued = λ q. absurd (z q);
-          refuses = λ _ S j e g. step-on S j e g true (le-leb (top + i + 1) mostEntries room) (refuse (v .number) (v .value)) (ap (numberOf (numbersKnown text w f)) first-is ∙ V .refuses z);
+          refuses = λ _ S j e g. step-on S j e g true (le-leb (top + i + 1) mostEntries room) (refuse (v .number) (v .value)) (ap (numberOf (numbersKnown text w f)) first-is ∙ R .refuses z);
         }
 
         module _ (z : v .number ≡ 0) where
@@ -180,12 +180,12 @@ module _ (text w₀ : List ℕ) (f : Frame) (start n name top : ℕ) (C : CanGiv
           pub giving-more : Giving text w₀ f start n name top w′ (i + 1) (v .end)
           giving-more = record {
             most = omega arith;
-            there = record { lexed = V .lexed; readable = subst (λ (m : Answer (Got Number)). Readable noNumber numberAt left (restIn m)) read-is (all-left .readable .1) };
+            there = record { lexed = R .lexed; readable = subst (λ (m : Answer (Got Number)). Readable noNumber numberAt left (restIn m)) read-is (all-left .readable .1) };
             only = only-then top mostEntries (top + i) (top + i + 1) top mostEntries w₀ w w′ (omega arith) (omega arith) (omega arith) (omega arith) (c .only) stored;
             few = omega arith;
             total = λ S j e g.
                 let y : suc (j + i) ≡ j + (i + 1) = omega arith in
-                step-on S j e g true (le-leb (top + i + 1) mostEntries room) (good (v .value)) (ap (numberOf (numbersKnown text w f)) first-is ∙ V .valued z)
+                step-on S j e g true (le-leb (top + i + 1) mostEntries room) (good (v .value)) (ap (numberOf (numbersKnown text w f)) first-is ∙ R .valued z)
                 ∙ before-one (valuesIn w top i) (v .value) (numbersIn S name (suc (j + i)) laterNumbers)
                 ∙ ap (λ (vs : List ℕ). before vs (numbersIn S name (suc (j + i)) laterNumbers)) values-now
                 ∙ ap (λ (k : ℕ). before (valuesIn w′ top (i + 1)) (numbersIn S name k laterNumbers)) y

@@ -13,37 +13,12 @@ use Rattle.notation_calculus.specs.Making.{Entry, lookup}
 use Rattle.words.specs.Next.{runAt}
 use Rattle.scopes.specs.Entries.{placeIn, valueAt, entryIn, entriesBack, namedFrom, firstNamed, lastNamed}
 
-module _ (text work : List ℕ) (at : ℕ) {A : Type 0} where
+module _ (text work : List ℕ) (at : ℕ) where
   abbrev wanted : Name
   wanted = runAt text at
 
   abbrev matches : ℕ → Bool
   matches e = sameName wanted (runAt text (placeIn work e))
-
-  -- ---- backwards
-
-  -- what is found before a number, of so many entries from e on; the last has number 0
-  pub record FoundLast (e n i r : ℕ) (found : ℕ → ℕ → A) (else m : A) : Type 0 where
-    pub there : e < r → (r ≤ e + n) × (m ≡ found (i + (e + n - r)) (valueAt work (r - 1)))
-    pub none : r ≤ e → m ≡ else
-    pub least : e ≤ r
-
-  last-by : (b : Bool) (e n i earlier : ℕ) (found : ℕ → ℕ → A) (else m : A) → FoundLast e n (suc i) earlier found else m → FoundLast e (suc n) i (cond b (e + n + 1) earlier) found else (cond b (found i (valueAt work (e + n))) m)
-  last-by true e n i earlier found else m f =
-      let z : i + (e + suc n - (e + n + 1)) ≡ i = omega arith in
-      let y : e + n + 1 - 1 ≡ e + n = omega arith in
-      record { there = λ h. (omega arith, ap (λ (j : ℕ). found j (valueAt work (e + n))) (sym z) ∙ ap (λ (j : ℕ). found (i + (e + suc n - (e + n + 1))) (valueAt work j)) (sym y)); none = λ h. absurd (omega arith); least = omega arith }
-  last-by false e n i earlier found else m f = record {
-    there = λ h. let t = f .there h in let z : suc i + (e + n - earlier) ≡ i + (e + suc n - earlier) = omega (arith, t .0) in (omega (arith, t .0), t .1 ∙ ap (λ (j : ℕ). found j (valueAt work (earlier - 1))) z);
-    none = λ h. f .none h;
-    least = f .least;
-  }
-
-  pub look-last : (n e i : ℕ) (found : ℕ → ℕ → A) (else : A) → FoundLast e n i (lastNamed text work at e n) found else (lookup wanted (entriesBack text work e n) i found else)
-  look-last zero e i found else = record { there = λ h. absurd (omega arith); none = λ h. refl; least = omega arith }
-  look-last (suc n) e i found else = last-by (matches (e + n)) e n i (lastNamed text work at e n) found else (lookup wanted (entriesBack text work e n) (suc i) found else) (look-last n e (suc i) found else)
-
-  -- ---- those that have a name
 
   nameless : runAt text (length text) ≡ []
   nameless = ap (λ (s : List ℕ). take (run s) s) (drop-length text)
@@ -60,6 +35,35 @@ module _ (text work : List ℕ) (at : ℕ) {A : Type 0} where
     never : (e : ℕ) → placeIn work e ≡ length text → matches e ≡ false
     never e h = ap (λ (p : ℕ). sameName wanted (runAt text p)) h ∙ ap (sameName wanted) nameless ∙ run-some (drop at text) some
 
+    unnamed : (e : ℕ) → eqb (placeIn work e) (length text) ≡ true → matches e ≡ false
+    unnamed e h = never e (eqb-true _ _ h)
+
+  module _ {A : Type 0} where
+    -- ---- backwards
+
+    -- what is found before a number, of so many entries from e on; the last has number 0
+    pub record FoundLast (e n i r : ℕ) (found : ℕ → ℕ → A) (else m : A) : Type 0 where
+      pub there : e < r → (r ≤ e + n) × (m ≡ found (i + (e + n - r)) (valueAt work (r - 1)))
+      pub none : r ≤ e → m ≡ else
+      pub least : e ≤ r
+
+    last-by : (b : Bool) (e n i earlier : ℕ) (found : ℕ → ℕ → A) (else m : A) → FoundLast e n (suc i) earlier found else m → FoundLast e (suc n) i (cond b (e + n + 1) earlier) found else (cond b (found i (valueAt work (e + n))) m)
+    last-by true e n i earlier found else m f =
+        let z : i + (e + suc n - (e + n + 1)) ≡ i = omega arith in
+        let y : e + n + 1 - 1 ≡ e + n = omega arith in
+        record { there = λ h. (omega arith, ap (λ (j : ℕ). found j (valueAt work (e + n))) (sym z) ∙ ap (λ (j : ℕ). found (i + (e + suc n - (e + n + 1))) (valueAt work j)) (sym y)); none = λ h. absurd (omega arith); least = omega arith }
+    last-by false e n i earlier found else m f = record {
+      there = λ h. let t = f .there h in let z : suc i + (e + n - earlier) ≡ i + (e + suc n - earlier) = omega (arith, t .0) in (omega (arith, t .0), t .1 ∙ ap (λ (j : ℕ). found j (valueAt work (earlier - 1))) z);
+      none = λ h. f .none h;
+      least = f .least;
+    }
+
+    pub look-last : (n e i : ℕ) (found : ℕ → ℕ → A) (else : A) → FoundLast e n i (lastNamed text work at e n) found else (lookup wanted (entriesBack text work e n) i found else)
+    look-last zero e i found else = record { there = λ h. absurd (omega arith); none = λ h. refl; least = omega arith }
+    look-last (suc n) e i found else = last-by (matches (e + n)) e n i (lastNamed text work at e n) found else (lookup wanted (entriesBack text work e n) (suc i) found else) (look-last n e (suc i) found else)
+
+    -- ---- those that have a name
+
     pub record FoundNamed (e n r : ℕ) (found : ℕ → A) (else m : A) : Type 0 where
       pub there : r < e + n → (e ≤ r) × (m ≡ found (valueAt work r))
       pub none : e + n ≤ r → m ≡ else
@@ -72,9 +76,6 @@ module _ (text work : List ℕ) (at : ℕ) {A : Type 0} where
     named-by false true h e n later found else m f = record { there = λ l. (omega arith, refl); none = λ l. absurd (omega arith); most = omega arith }
     named-by false false h e n later found else m f = record { there = λ l. let t = f .there (omega arith) in (omega (arith, t .0), t .1); none = λ l. f .none (omega arith); most = omega (arith, f .most) }
 
-    unnamed : (e : ℕ) → eqb (placeIn work e) (length text) ≡ true → matches e ≡ false
-    unnamed e h = never e (eqb-true _ _ h)
-
     look-cond : (u : Bool) (x : Entry) (xs : List Entry) (i : ℕ) (found : ℕ → A) (else : A) → ((i j : ℕ) → lookup wanted xs i (λ _ v. found v) else ≡ lookup wanted xs j (λ _ v. found v) else) → lookup wanted (cond u xs (x ∷ xs)) i (λ _ v. found v) else ≡ cond u (lookup wanted xs i (λ _ v. found v) else) (cond (sameName wanted (x .name)) (found (x .value)) (lookup wanted xs i (λ _ v. found v) else))
     look-cond true x xs i found else same = refl
     look-cond false x xs i found else same = ap (λ (m : A). cond (sameName wanted (x .name)) (found (x .value)) m) (same (suc i) i)
@@ -84,6 +85,7 @@ module _ (text work : List ℕ) (at : ℕ) {A : Type 0} where
     look-any [] i j found else = refl
     look-any (x ∷ xs) i j found else = ap (λ (m : A). cond (sameName wanted (x .name)) (found (x .value)) m) (look-any xs (suc i) (suc j) found else)
 
-    pub look-named : (n e i : ℕ) (found : ℕ → A) (else : A) → FoundNamed e n (firstNamed text work at e n) found else (lookup wanted (namedFrom text work e n) i (λ _ v. found v) else)
-    look-named zero e i found else = record { there = λ h. absurd (omega arith); none = λ h. refl; most = omega arith }
-    look-named (suc n) e i found else = subst (FoundNamed e (suc n) (firstNamed text work at e (suc n)) found else) (sym (look-cond (eqb (placeIn work e) (length text)) (entryIn text work e) (namedFrom text work (suc e) n) i found else (λ a b. look-any (namedFrom text work (suc e) n) a b found else))) (named-by (eqb (placeIn work e) (length text)) (matches e) (unnamed e) e n (firstNamed text work at (suc e) n) found else (lookup wanted (namedFrom text work (suc e) n) i (λ _ v. found v) else) (look-named n (suc e) i found else))
+    module _ (some : 0 < run (drop at text)) where
+      pub look-named : (n e i : ℕ) (found : ℕ → A) (else : A) → FoundNamed e n (firstNamed text work at e n) found else (lookup wanted (namedFrom text work e n) i (λ _ v. found v) else)
+      look-named zero e i found else = record { there = λ h. absurd (omega arith); none = λ h. refl; most = omega arith }
+      look-named (suc n) e i found else = subst (FoundNamed e (suc n) (firstNamed text work at e (suc n)) found else) (sym (look-cond (eqb (placeIn work e) (length text)) (entryIn text work e) (namedFrom text work (suc e) n) i found else (λ a b. look-any (namedFrom text work (suc e) n) a b found else))) (named-by (eqb (placeIn work e) (length text)) (matches e) (unnamed some e) e n (firstNamed text work at (suc e) n) found else (lookup wanted (namedFrom text work (suc e) n) i (λ _ v. found v) else) (look-named n (suc e) i found else))

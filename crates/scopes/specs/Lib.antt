@@ -1,4 +1,3 @@
 pub mod Entries
 pub mod Frames
 pub mod Arguments
-pub mod Named

@@ -2,4 +2,3 @@
 pub mod entries;
 pub mod frames;
 pub mod arguments;
-pub mod named;
