@@ -3,3 +3,4 @@ pub mod LookLaws
 pub mod KeepLaws
 pub mod ArgumentLaws
 pub mod GivenLaws
+pub mod NamedLaws

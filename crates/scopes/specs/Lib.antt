@@ -1,3 +1,4 @@
 pub mod Entries
 pub mod Frames
 pub mod Arguments
+pub mod Named
