@@ -4,3 +4,4 @@ pub mod KeepLaws
 pub mod ArgumentLaws
 pub mod GivenLaws
 pub mod NamedLaws
+pub mod OpenLaws

@@ -2,3 +2,4 @@ pub mod Entries
 pub mod Frames
 pub mod Arguments
 pub mod Named
+pub mod Opened

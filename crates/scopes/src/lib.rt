@@ -3,3 +3,4 @@ pub mod arguments;
 pub mod entries;
 pub mod frames;
 pub mod named;
+pub mod opened;
