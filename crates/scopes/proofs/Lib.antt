@@ -5,3 +5,4 @@ pub mod ArgumentLaws
 pub mod GivenLaws
 pub mod NamedLaws
 pub mod OpenLaws
+pub mod PutLaws

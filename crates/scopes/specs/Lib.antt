@@ -3,3 +3,4 @@ pub mod Frames
 pub mod Arguments
 pub mod Named
 pub mod Opened
+pub mod Puts

@@ -4,3 +4,4 @@ pub mod entries;
 pub mod frames;
 pub mod named;
 pub mod opened;
+pub mod puts;
