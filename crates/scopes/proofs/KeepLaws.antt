@@ -8,10 +8,12 @@ use native.Mathlib.Decide.{decLe}
 use lib.Dec.{eqb}
 use lib.ListN.{length, getD, set, length-set}
 use lib.Seq.{getD-set-same, getD-set-other}
-use Rattle.notation_calculus.specs.Trees.{Bound}
+use Rattle.notation_calculus.specs.Trees.{Bound, Clause}
 use Rattle.notation_calculus.specs.Making.{Entry, Scope, entries, bind, withVariables, mostEntries}
 use Rattle.words.specs.Next.{runAt}
-use Rattle.making_memory.specs.Map.{scopeAt, framesAt, makingSize}
+use Rattle.making_memory.specs.Map.{scopeAt, clausesAt, framesAt, clauseCountAt, makingSize}
+use Rattle.clauses.specs.Rows.{RowOf, clauseOf, HoldsRows}
+use Rattle.clauses.proofs.TableLaws.{row-same}
 use Rattle.scopes.specs.declared.frames.Frame.{Frame}
 use Rattle.scopes.specs.Entries.{placeIn, valueAt, entryIn, entriesBack, namedFrom, Places, withEntry, OnlyEntries}
 use Rattle.scopes.specs.Frames.{frameIn, HoldsParameters, HoldsScope}
@@ -131,3 +133,13 @@ module _ (text w : List ℕ) (frame top : ℕ) (S : Scope) (H : HoldsScope text 
         variables = ap (λ (y : Entry). y ∷ entriesBack text w′ (S .under) (length (S .variables))) (ap (entryIn text w′) at ∙ new-entry x e) ∙ ap (λ (xs : List Entry). bind x value xs) (kept .variables);
         entries = omega (arith, at);
       }
+
+-- ---- the table of clauses
+
+-- the table stays where its own numbers do
+pub rows-kept : (text w w′ : List ℕ) (cs : List Clause) → HoldsRows text w cs → ((j : ℕ) → clausesAt ≤ j → j < framesAt → getD w′ j 0 ≡ getD w j 0) → getD w′ clauseCountAt 0 ≡ getD w clauseCountAt 0 → HoldsRows text w′ cs
+rows-kept text w w′ cs H same count = record {
+  counted = count ∙ H .counted;
+  few = H .few;
+  rows = λ k h. subst (RowOf text (clauseOf cs k)) (sym (row-same w w′ k (λ j a b. same j (omega arith) (omega (arith, H .few))))) (H .rows k h);
+}

@@ -12,13 +12,13 @@ use Rattle.calculus.specs.Answer.{Answer, good}
 use Rattle.calculus.proofs.Answers.{refused≢good}
 use Rattle.notation_calculus.specs.Words.{Name, Word}
 use Rattle.notation_calculus.specs.Trees.{Bound, Number}
-use Rattle.notation_calculus.specs.Grammar.{Got, got, behind, nameAt, numberAt}
+use Rattle.notation_calculus.specs.Grammar.{Got, peek, behind, nameAt}
 use Rattle.notation_calculus.specs.Making.{Entry, bindTypes, bindNumbers, mostEntries}
 use Rattle.words.specs.Next.{Said, runAt}
 use Rattle.words.specs.Lexed.{from, Lexed, Onward, Stands}
 use Rattle.making_memory.specs.Map.{scopeAt, makingSize}
 use Rattle.clauses.specs.declared.numbers.Num.{Num}
-use Rattle.clauses.specs.Groups.{valueIn, restIn, listIn, Readable}
+use Rattle.clauses.specs.Groups.{codeAt, valueIn, restIn, listIn, Readable}
 use Rattle.clauses.specs.Rows.{noBound, noNumber}
 use Rattle.clauses.specs.Numbers.{NumberRead, numbersFrom, NumbersThere}
 use Rattle.clauses.specs.Meant.{valuesIn}
@@ -144,13 +144,13 @@ module _ (text w₀ : List ℕ) (at n first : ℕ) (C : CanName text w₀ first 
       name-is = name-read (behind (from text p)) _ (all-later .readable .0)
 
       x-code : x .code ≡ 24
-      x-code = t .code ∙ ap (λ (us : List Word). Rattle.clauses.specs.Groups.codeAt us) (sym (bracket-on b s .rest)) ∙ name-is .code
+      x-code = t .code ∙ ap (λ (us : List Word). codeAt us) (sym (bracket-on b s .rest)) ∙ name-is .code
 
       pub name-inside : x .place < length text
       name-inside = place-inside text (b .end) x t x-code
 
       spelled : valueIn noBound firstName .name ≡ runAt text (x .place)
-      spelled = spelled-here text (b .end) x t (valueIn noBound firstName .name) x-code (ap (λ (us : List Word). Rattle.notation_calculus.specs.Grammar.peek us .token) (sym (bracket-on b s .rest)) ∙ name-is .token)
+      spelled = spelled-here text (b .end) x t (valueIn noBound firstName .name) x-code (ap (λ (us : List Word). peek us .token) (sym (bracket-on b s .rest)) ∙ name-is .token)
 
       rest-is : restIn firstName ≡ from text (x .end)
       rest-is = name-is .rest ∙ ap behind (bracket-on b s .rest) ∙ name-onward text (b .end) x t x-code .rest

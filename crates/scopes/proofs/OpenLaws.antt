@@ -9,10 +9,9 @@ use lib.Dec.{eqb}
 use lib.ListN.{length, getD}
 use lib.Seq.{sets, length-sets}
 use Rattle.laws.proofs.Regions.{sets-outside, sets-before, sets-at}
-use Rattle.notation_calculus.specs.Words.{sameName}
 use Rattle.notation_calculus.specs.Trees.{Bound, Number, Clause}
-use Rattle.notation_calculus.specs.Grammar.{mostClauses, nameAt}
-use Rattle.notation_calculus.specs.Making.{Entry, Scope, bindTypes, bindNumbers, seenBy, putOf, mostEntries}
+use Rattle.notation_calculus.specs.Grammar.{nameAt}
+use Rattle.notation_calculus.specs.Making.{Entry, bindTypes, bindNumbers, putOf, mostEntries}
 use Rattle.words.specs.Next.{runAt}
 use Rattle.words.specs.Lexed.{from}
 use Rattle.making_memory.specs.Map.{scopeAt, halvesAt, framesAt, clauseCountAt, makingSize}
@@ -116,10 +115,7 @@ module _ (text w : List ℕ) (k frame top : ℕ) (C : CanOpen text w k frame top
           frame-is : frameIn w₃ frame ≡ record { seen = seen; types = top; numbers = top + c .types; variables = top + c .types + c .numbers }
           frame-is = let z : framesAt + 4 * frame + 0 ≡ framesAt + 4 * frame = omega arith in sym (frame-parts (frameIn w₃ frame) _ _ _ _ (sym (ap (λ (j : ℕ). getD w₃ j 0) (sym z) ∙ framed 0 (omega arith))) (sym (framed 1 (omega arith))) (sym (framed 2 (omega arith))) (sym (framed 3 (omega arith))))
 
-          -- only entries are looked at
-          scope-only : OnlyEntries mostEntries mostEntries w₂ w₂
-          scope-only = record { same = refl; below = λ j h. refl; above = λ j h. refl }
-
+          -- entries stand below the frames
           named-low : (n e : ℕ) → e + n ≤ mostEntries → namedFrom text w₃ e n ≡ namedFrom text w₂ e n
           named-low zero e h = refl
           named-low (suc n) e h =
