@@ -57,9 +57,9 @@ module _ (text : List ℕ) (at start : ℕ) (is : start ≡ at + gap false (drop
 
 -- ---- a word is not empty, not past the end and not the end; or it is refused here
 
--- a name is spelled by its bytes
+-- a name is spelled by its bytes, which are all letters and digits that stand here
 abbrev Spelt : List ℕ → Read → Type 0
-Spelt r w = tokenCode (w .token) ≡ 24 → w .token ≡ name (take (w .long) r)
+Spelt r w = tokenCode (w .token) ≡ 24 → (w .token ≡ name (take (w .long) r)) × (w .long ≡ run r)
 
 pub data View (r : List ℕ) (at : ℕ) : Answer Read → Type 0 where
   fine : {w : Read} → 0 < w .long → w .long ≤ length r → ¬ (tokenCode (w .token) ≡ 0) → Spelt r w → View r at (good w)
@@ -156,7 +156,7 @@ word-view r at = by (digit (first r)) (letter (first r)) refl refl
   where
     by : (d l : Bool) → digit (first r) ≡ d → letter (first r) ≡ l → View r at (cond d (numberWord (take (run r) r) at) (cond l (good (record { token = named (take (run r) r) reserved; long = length (take (run r) r) })) (signAt signs r at)))
     by true l e f = let i = runs r (digit-inside (first r) e) in number-view r at (take (run r) r) (allDigits (take (run r) r)) (leb (valueFrom 0 (take (run r) r)) 255) (i .0) (i .1) (number (valueFrom 0 (take (run r) r))) (λ z. omega arith) (λ z. omega arith)
-    by false true e f = let i = runs r (letter-inside (first r) f) in fine (i .0) (i .1) (reserved-coded (take (run r) r)) (λ z. reserved-spelt (take (run r) r) z ∙ ap name (sym (take-run r)))
+    by false true e f = let i = runs r (letter-inside (first r) f) in fine (i .0) (i .1) (reserved-coded (take (run r) r)) (λ z. (reserved-spelt (take (run r) r) z ∙ ap name (sym (take-run r)), length-take-le (run r) r (run-short r)))
     by false false e f = signs-view r at
 
 -- ---- the rounds do not matter, if they are enough
@@ -206,9 +206,9 @@ pub passes-joined : (f : FoundWord) (m : Answer (List Word)) → passes (wordJoi
 passes-joined f (good ws) = refl
 passes-joined f (refused why) = refl
 
--- a name that was found is spelled by the bytes between its place and its end
+-- a name that was found is spelled by the bytes between its place and its end, which are all letters and digits from its place on
 abbrev NameAt : List ℕ → FoundWord → Type 0
-NameAt text f = tokenCode (f .token) ≡ 24 → f .token ≡ name (take (f .end - f .place) (drop (f .place) text))
+NameAt text f = tokenCode (f .token) ≡ 24 → (f .token ≡ name (take (f .end - f .place) (drop (f .place) text))) × (f .end ≡ f .place + run (drop (f .place) text)) × (f .place < f .end)
 
 -- what stands next: the end, a word, or a refusal
 pub data Case (text : List ℕ) (at : ℕ) : Answer FoundWord → Type 0 where
@@ -244,7 +244,7 @@ module _ (text : List ℕ) (at : ℕ) (inside : at ≤ length text) where
   go-on k h g = ap (λ (r : List ℕ). goOn r (start + k)) (drop-drop k start text) ∙ rounds-enough (length text) (suc (length text)) (drop (start + k) text) (start + k) (omega (arith, length-drop (start + k) text, length-drop start text)) (omega (arith, length-drop (start + k) text, length-drop start text))
 
   case-word : (m : Answer Read) → View (drop start text) start m → lexed text at ≡ behindWord goOn (drop start text) start m → Case text at (foundAt start m)
-  case-word (good w) (fine h g c d) e = word (record { token = w .token; place = start; end = start + w .long }) (start-past (w .long) h) (omega (arith, g, length-drop start text, start-inside)) c (λ z. d z ∙ ap (λ (k : ℕ). name (take k (drop start text))) (long-is (w .long))) (e ∙ ap (λ (a : Answer (List Word)). a >>= λ ws. good (record { token = w .token; place = start } ∷ ws)) (go-on (w .long) h g))
+  case-word (good w) (fine h g c d) e = word (record { token = w .token; place = start; end = start + w .long }) (start-past (w .long) h) (omega (arith, g, length-drop start text, start-inside)) c (λ z. (d z .0 ∙ ap (λ (k : ℕ). name (take k (drop start text))) (long-is (w .long)), ap (λ (k : ℕ). start + k) (d z .1), omega arith)) (e ∙ ap (λ (a : Answer (List Word)). a >>= λ ws. good (record { token = w .token; place = start } ∷ ws)) (go-on (w .long) h g))
   case-word (refused why) unknown e = bad31 start e
   case-word (refused why) large e = bad34 start e
 
@@ -278,7 +278,9 @@ module _ (text : List ℕ) (at : ℕ) (l : Lexed text at) where
           lexed = record { within = g; words = e ∙ ap good (sym there) };
         };
         last = λ z. absurd (c z);
-        named = λ z. ap (λ (us : List Word). peek us .token) here ∙ d z;
+        named = λ z. ap (λ (us : List Word). peek us .token) here ∙ d z .0;
+        whole = λ z. d z .1;
+        long = λ z. d z .2;
       }
   word-stands f h g c d (refused why) e j = absurd (refused≢good (sym j ∙ l .words))
 
@@ -292,6 +294,8 @@ module _ (text : List ℕ) (at : ℕ) (l : Lexed text at) where
         onward = λ z. absurd (z refl);
         last = λ z. ap behind here;
         named = λ z. absurd (omega arith);
+        whole = λ z. absurd (omega arith);
+        long = λ z. absurd (omega arith);
       }
   stands-by (good f) (word f′ h g c d e) = word-stands f′ h g c d (lexed text (f′ .end)) refl e
   stands-by (refused why) (bad31 n e) = absurd (refused≢good (sym e ∙ l .words))

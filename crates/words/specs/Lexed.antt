@@ -1,10 +1,10 @@
 -- The words of a text from an offset on: what later contracts speak of. Assumes nothing.
-use Prim.Native.Nat.{ℕ, suc, _-_, _≤_, _<_}
+use Prim.Native.Nat.{ℕ, suc, _+_, _-_, _≤_, _<_}
 use mathlib.Core.Path.{_≡_}
 use mathlib.Core.List.{List, []}
 use lib.ListN.{length, take, drop}
 use Rattle.calculus.specs.Answer.{Answer, good, refused, refuse}
-use Rattle.notation_calculus.specs.Words.{name, Word, words, wordsFrom}
+use Rattle.notation_calculus.specs.Words.{name, Word, run, words, wordsFrom}
 use Rattle.notation_calculus.specs.Grammar.{peek, behind}
 use Rattle.words.specs.Tables.{tokenCode, tokenValue}
 use Rattle.words.specs.Next.{Said}
@@ -40,6 +40,8 @@ pub record Stands (text : List ℕ) (at : ℕ) (w : Said) : Type 0 where
   pub onward : ¬ (w .code ≡ 0) → Onward text at (w .end)
   pub last : w .code ≡ 0 → behind (from text at) ≡ []
   pub named : w .code ≡ 24 → peek (from text at) .token ≡ name (take (w .end - w .place) (drop (w .place) text))
+  pub whole : w .code ≡ 24 → w .end ≡ w .place + run (drop (w .place) text)
+  pub long : w .code ≡ 24 → w .place < w .end
 
 -- what the pass over all words says: 0 where they are good, or a refusal's number, and its place
 abbrev pub Passed : List ℕ → ℕ → ℕ → Type 0

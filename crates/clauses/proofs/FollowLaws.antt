@@ -1,0 +1,123 @@
+-- A row after those of the table, test by test. Assumes nothing.
+use Prim.Native.Nat.{ℕ, zero, suc, _+_, _*_, _-_, _≤_, _<_}
+use mathlib.Core.Path.{_≡_, refl, sym, ap, _∙_}
+use mathlib.Core.Bool.{Bool, true, false, not, _&&_, _||_, cond}
+use mathlib.Core.List.{List}
+use native.Mathlib.Omega.{arith}
+use native.Mathlib.Numerals.{add-one}
+use lib.Dec.{eqb, leb, ltb}
+use lib.ListN.{length, getD, set, take, drop, length-drop}
+use lib.Seq.{sets}
+use borrow.Author.Tests.{eq-eqb, ne-eqb, lt-ltb, le-ltb}
+use Rattle.notation_calculus.specs.Words.{run, sameName}
+use Rattle.notation_calculus.specs.Grammar.{mostClauses, coverAll, sameSort}
+use Rattle.words.specs.Next.{runAt}
+use Rattle.words.proofs.FoundLaws.{run-short}
+use Rattle.making_memory.specs.Map.{clausesAt, clauseCountAt}
+use Rattle.clauses.specs.declared.rows.Row.{Row}
+use Rattle.clauses.specs.Rows.{rowNumbers, rowIn}
+use Rattle.clauses.specs.Numbers.{numbersFrom}
+use Rattle.clauses.specs.Follows.{rowNamesake, rowFollows, followsFrom, rowRefusal, withRow}
+
+-- ---- names
+
+pub run-inside : (text : List ℕ) (at end : ℕ) → at ≤ length text → end ≡ at + run (drop at text) → (at ≤ end) × (end ≤ length text)
+run-inside text at end h e = (omega arith, omega (arith, run-short (drop at text), length-drop at text))
+
+pub same-runs : (text : List ℕ) (a c b d : ℕ) → c ≡ a + run (drop a text) → d ≡ b + run (drop b text) → (r : Bool) → r ≡ sameName (take (c - a) (drop a text)) (take (d - b) (drop b text)) → r ≡ sameName (runAt text a) (runAt text b)
+same-runs text a c b d e f r g =
+    let x : c - a ≡ run (drop a text) = omega arith in
+    let y : d - b ≡ run (drop b text) = omega arith in
+    g ∙ ap (λ (k : ℕ). sameName (take k (drop a text)) (take (d - b) (drop b text))) x ∙ ap (λ (k : ℕ). sameName (runAt text a) (take k (drop b text))) y
+
+pub sort-yes : (a b : Bool) → a ≡ true → b ≡ sameSort a b
+sort-yes a b e = sym (ap (λ (x : Bool). sameSort x b) e)
+
+pub sort-no : (a b : Bool) → a ≡ false → not b ≡ sameSort a b
+sort-no a b e = sym (ap (λ (x : Bool). sameSort x b) e)
+
+module _ (text : List ℕ) (r : Row) (sort : Bool) (at : ℕ) where
+  pub namesake-no : sameSort (r .sort) sort ≡ false → false ≡ rowNamesake text r sort at
+  unfolding rowNamesake
+  namesake-no e = sym (ap (λ (b : Bool). b && sameName (runAt text (r .name)) (runAt text at)) e)
+
+  pub namesake-run : sameSort (r .sort) sort ≡ true → (b : Bool) → b ≡ sameName (runAt text (r .name)) (runAt text at) → b ≡ rowNamesake text r sort at
+  unfolding rowNamesake
+  namesake-run e b f = f ∙ sym (ap (λ (x : Bool). x && sameName (runAt text (r .name)) (runAt text at)) e)
+
+-- ---- one row after another
+
+module _ (text : List ℕ) (c d : Row) where
+  abbrev followBy : Bool → Bool → Bool → Bool → Bool
+  followBy a t n k = not a || (t && n && not k)
+
+  abbrev covered : Bool
+  covered = coverAll (numbersFrom text (c .numbered) (c .numbers)) (numbersFrom text (d .numbered) (d .numbers))
+
+  follow-is : (a t n : Bool) → rowNamesake text c (d .sort) (d .name) ≡ a → eqb (c .types) (d .types) ≡ t → eqb (c .numbers) (d .numbers) ≡ n → rowFollows text c d ≡ followBy a t n covered
+  unfolding rowFollows
+  follow-is a t n e f g = ap (λ (x : Bool). followBy x (eqb (c .types) (d .types)) (eqb (c .numbers) (d .numbers)) covered) e ∙ ap (λ (x : Bool). followBy a x (eqb (c .numbers) (d .numbers)) covered) f ∙ ap (λ (x : Bool). followBy a t x covered) g
+
+  pub follow-other : rowNamesake text c (d .sort) (d .name) ≡ false → true ≡ rowFollows text c d
+  follow-other e = sym (follow-is false _ _ e refl refl)
+
+  module _ (e : rowNamesake text c (d .sort) (d .name) ≡ true) where
+    pub follow-types : ¬ (c .types ≡ d .types) → false ≡ rowFollows text c d
+    follow-types f = sym (follow-is true false _ e (ne-eqb _ _ f) refl)
+
+    pub follow-numbers : c .types ≡ d .types → ¬ (c .numbers ≡ d .numbers) → false ≡ rowFollows text c d
+    follow-numbers f g = sym (follow-is true true false e (eq-eqb _ _ f) (ne-eqb _ _ g))
+
+    pub follow-covered : c .types ≡ d .types → c .numbers ≡ d .numbers → (b : Bool) → b ≡ coverAll (numbersFrom text (c .numbered) (c .numbers)) (numbersFrom text (d .numbered) (c .numbers)) → not b ≡ rowFollows text c d
+    follow-covered f g b h = ap not (h ∙ ap (λ (n : ℕ). coverAll (numbersFrom text (c .numbered) (c .numbers)) (numbersFrom text (d .numbered) n)) g) ∙ sym (follow-is true true true e (eq-eqb _ _ f) (eq-eqb _ _ g))
+
+-- ---- all rows
+
+-- what is left of the table decides
+pub record Following (text work : List ℕ) (d : Row) (n k : ℕ) : Type 0 where
+  pub most : k ≤ n
+  pub total : followsFrom text work d 0 n ≡ followsFrom text work d k (n - k)
+
+module _ (text work : List ℕ) (d : Row) (n : ℕ) where
+  pub following-none : Following text work d n 0
+  following-none = let e : n - 0 ≡ n = omega arith in record { most = omega arith; total = rw e }
+
+  module _ (k : ℕ) (f : Following text work d n k) where
+    module _ (more : k < n) where
+      one-row : followsFrom text work d 0 n ≡ (rowFollows text (rowIn work k) d && followsFrom text work d (k + 1) (n - (k + 1)))
+      one-row =
+          let e : n - k ≡ suc (n - (k + 1)) = omega arith in
+          let g : k + 1 ≡ suc k = omega arith in
+          f .total ∙ ap (followsFrom text work d k) e ∙ ap (λ (j : ℕ). rowFollows text (rowIn work k) d && followsFrom text work d j (n - (k + 1))) (sym g)
+
+      pub following-no : (c : Row) → c ≡ rowIn work k → rowFollows text c d ≡ false → false ≡ followsFrom text work d 0 n
+      following-no c e h = sym (one-row ∙ ap (λ (b : Bool). b && followsFrom text work d (k + 1) (n - (k + 1))) (ap (λ (r : Row). rowFollows text r d) (sym e) ∙ h))
+
+      pub following-more : (c : Row) → c ≡ rowIn work k → rowFollows text c d ≡ true → Following text work d n (k + 1)
+      following-more c e h = record { most = omega arith; total = one-row ∙ ap (λ (b : Bool). b && followsFrom text work d (k + 1) (n - (k + 1))) (ap (λ (r : Row). rowFollows text r d) (sym e) ∙ h) }
+
+    pub following-all : n ≤ k → true ≡ followsFrom text work d 0 n
+    following-all h = let e : n - k ≡ 0 = omega arith in sym (f .total ∙ ap (followsFrom text work d k) e)
+
+-- ---- the refusal
+
+module _ (text work : List ℕ) (d : Row) (n : ℕ) (e : n ≡ getD work clauseCountAt 0) where
+  abbrev refusalBy : Bool → Bool → ℕ
+  refusalBy a b = cond a (cond b 0 36) 34
+
+  refusal-is : (a b : Bool) → ltb n mostClauses ≡ a → followsFrom text work d 0 n ≡ b → refusalBy a b ≡ rowRefusal text work d
+  unfolding rowRefusal
+  refusal-is a b f g = sym (ap (λ (k : ℕ). refusalBy (ltb k mostClauses) (followsFrom text work d 0 k)) (sym e) ∙ ap (λ (x : Bool). refusalBy x (followsFrom text work d 0 n)) f ∙ ap (refusalBy a) g)
+
+  pub refusal-full : mostClauses ≤ n → 34 ≡ rowRefusal text work d
+  refusal-full h = refusal-is false _ (le-ltb n mostClauses h) refl
+
+  pub refusal-covered : n < mostClauses → followsFrom text work d 0 n ≡ false → 36 ≡ rowRefusal text work d
+  refusal-covered h f = refusal-is true false (lt-ltb n mostClauses h) f
+
+  pub refusal-none : n < mostClauses → followsFrom text work d 0 n ≡ true → 0 ≡ rowRefusal text work d
+  refusal-none h f = refusal-is true true (lt-ltb n mostClauses h) f
+
+  pub with-row-is : (w : List ℕ) → w ≡ sets work (clausesAt + 8 * n) (rowNumbers d) → set w clauseCountAt (n + 1) ≡ withRow work d
+  unfolding withRow
+  with-row-is w f = ap (λ (l : List ℕ). set l clauseCountAt (n + 1)) f ∙ ap (λ (k : ℕ). set (sets work (clausesAt + 8 * k) (rowNumbers d)) clauseCountAt (k + 1)) e

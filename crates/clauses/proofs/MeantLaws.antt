@@ -1,0 +1,254 @@
+-- Rows that are meant, test by test, and the clauses behind them. Assumes nothing.
+use Prim.Native.Nat.{ℕ, zero, suc, _+_, _*_, _-_, _≤_, _<_}
+use mathlib.Core.Path.{_≡_, refl, sym, ap, _∙_, subst}
+use mathlib.Core.Bool.{Bool, true, false, _&&_, cond}
+use mathlib.Core.List.{List, [], _∷_}
+use native.Mathlib.Omega.{arith}
+use lib.Dec.{eqb, leb}
+use lib.ListN.{length, getD, take, drop}
+use lib.Seq.{drop-cons, drop-length}
+use borrow.Author.Tests.{eq-eqb, ne-eqb}
+use Rattle.calculus.specs.Answer.{Answer, good, refuse}
+use Rattle.notation_calculus.specs.Words.{Name, Word}
+use Rattle.notation_calculus.specs.Trees.{Number, Clause}
+use Rattle.notation_calculus.specs.Grammar.{behind, numberAt, isType, namesake}
+use Rattle.notation_calculus.specs.Making.{fits, fitAll, hasNumbers, upTo, seenBy, Put, putOf, meant, clauseFor}
+use Rattle.words.specs.Next.{runAt}
+use Rattle.words.specs.Lexed.{from}
+use Rattle.making_memory.specs.Map.{scopeAt, clauseCountAt}
+use Rattle.clauses.specs.declared.numbers.Num.{Num}
+use Rattle.clauses.specs.declared.rows.Row.{Row}
+use Rattle.clauses.specs.declared.meant.Asked.{Asked}
+use Rattle.clauses.specs.Groups.{restIn, listIn}
+use Rattle.clauses.specs.Rows.{RowOf, rowIn, noNumber, noClause, clauseOf, HoldsRows}
+use Rattle.clauses.specs.Numbers.{NumberRead, plainNumber, numbersFrom, NumbersThere}
+use Rattle.clauses.specs.Follows.{rowNamesake}
+use Rattle.clauses.specs.Meant.{valuesIn, rowMeant, firstMeant, rowsUpTo, rowSeen}
+use Rattle.clauses.proofs.NumberLaws.{numbers-step}
+use Rattle.clauses.proofs.TableLaws.{row-numbers, namesake-row}
+
+-- ---- numbers that fit
+
+pub fits-open : (k : Num) (n : ℕ) → k .named ≡ true → leb (k .plus) n ≡ fits (plainNumber k) n
+fits-open k n e = sym (ap (λ (b : Bool). cond b (leb (k .plus) n) (eqb (k .plus) n)) e)
+
+pub fits-one : (k : Num) (n : ℕ) → k .named ≡ false → eqb (k .plus) n ≡ fits (plainNumber k) n
+fits-one k n e = sym (ap (λ (b : Bool). cond b (leb (k .plus) n) (eqb (k .plus) n)) e)
+
+-- what is left of the numbers and the values decides
+pub record Fitting (text work : List ℕ) (at n first i p : ℕ) : Type 0 where
+  pub most : i ≤ n
+  pub there : NumbersThere text p (n - i)
+  pub total : fitAll (numbersFrom text at n) (valuesIn work first n) ≡ fitAll (numbersFrom text p (n - i)) (valuesIn work (first + i) (n - i))
+
+pub fitting-none : (text work : List ℕ) (at n first : ℕ) → NumbersThere text at n → Fitting text work at n first 0 at
+fitting-none text work at n first t =
+    let e : n - 0 ≡ n = omega arith in
+    let f : first + 0 ≡ first = omega arith in
+    record { most = omega arith; there = rw e t; total = rw (e, f) }
+
+module _ (text work : List ℕ) (at n first i p : ℕ) (c : Fitting text work at n first i p) where
+  module _ (more : i < n) (k : Num) (x : NumberRead text (behind (from text p)) k) (v : ℕ) (value : v ≡ getD work (scopeAt + 2 * (first + i) + 1) 0) where
+    abbrev left : ℕ
+    left = n - (i + 1)
+
+    left-is : n - i ≡ suc left
+    left-is = omega arith
+
+    all-left : NumbersThere text p (suc left)
+    all-left = subst (NumbersThere text p) left-is (c .there)
+
+    one-more : fitAll (numbersFrom text at n) (valuesIn work first n) ≡ (fits (plainNumber k) v && fitAll (numbersFrom text (k .end) left) (valuesIn work (first + (i + 1)) left))
+    one-more =
+        let s = numbers-step text p left k all-left x in
+        let g : suc (first + i) ≡ first + (i + 1) = omega arith in
+        c .total
+        ∙ ap (λ (j : ℕ). fitAll (numbersFrom text p j) (valuesIn work (first + i) j)) left-is
+        ∙ ap (λ (l : List Number). fitAll l (valuesIn work (first + i) (suc left))) (s .0)
+        ∙ ap (λ (j : ℕ). fits (x .number) j && fitAll (numbersFrom text (k .end) left) (valuesIn work (suc (first + i)) left)) (sym value)
+        ∙ ap (λ (b : Bool). cond b (leb (x .number .plus) v) (eqb (x .number .plus) v) && fitAll (numbersFrom text (k .end) left) (valuesIn work (suc (first + i)) left)) (x .isOpen)
+        ∙ ap (λ (j : ℕ). cond (k .named) (leb j v) (eqb j v) && fitAll (numbersFrom text (k .end) left) (valuesIn work (suc (first + i)) left)) (x .plus)
+        ∙ ap (λ (j : ℕ). fits (plainNumber k) v && fitAll (numbersFrom text (k .end) left) (valuesIn work j left)) g
+
+    pub fitting-no : fits (plainNumber k) v ≡ false → false ≡ fitAll (numbersFrom text at n) (valuesIn work first n)
+    fitting-no e = sym (one-more ∙ ap (λ (b : Bool). b && fitAll (numbersFrom text (k .end) left) (valuesIn work (first + (i + 1)) left)) e)
+
+    pub fitting-more : fits (plainNumber k) v ≡ true → Fitting text work at n first (i + 1) (k .end)
+    fitting-more e = record { most = omega arith; there = numbers-step text p left k all-left x .1; total = one-more ∙ ap (λ (b : Bool). b && fitAll (numbersFrom text (k .end) left) (valuesIn work (first + (i + 1)) left)) e }
+
+  pub fitting-all : n ≤ i → true ≡ fitAll (numbersFrom text at n) (valuesIn work first n)
+  fitting-all h = let e : n - i ≡ 0 = omega arith in sym (c .total ∙ ap (λ (j : ℕ). fitAll (numbersFrom text p j) (valuesIn work (first + i) j)) e)
+
+-- ---- a row that is meant
+
+list-long : (n : ℕ) (ws : List Word) → length (listIn noNumber numberAt n ws) ≡ n
+list-long zero ws = refl
+list-long (suc n) ws = ap suc (list-long n (restIn (numberAt (behind ws))))
+
+pub values-long : (work : List ℕ) (first n : ℕ) → length (valuesIn work first n) ≡ n
+values-long work first zero = refl
+values-long work first (suc n) = ap suc (values-long work (suc first) n)
+
+-- numbers that are not as many do not fit
+unlike : (ks : List Number) (ns : List ℕ) → ¬ (length ks ≡ length ns) → fitAll ks ns ≡ false
+unlike [] [] h = absurd (h refl)
+unlike [] (n ∷ ns) h = refl
+unlike (k ∷ ks) [] h = refl
+unlike (k ∷ ks) (n ∷ ns) h = ap (λ (b : Bool). fits k n && b) (unlike ks ns (λ e. h (ap suc e))) ∙ no-and (fits k n)
+  where
+    no-and : (b : Bool) → (b && false) ≡ false
+    no-and true = refl
+    no-and false = refl
+
+module _ (text work : List ℕ) (q : Asked) (r : Row) where
+  abbrev meantBy : Bool → Bool → Bool → Bool
+  meantBy a t f = a && t && f
+
+  abbrev fitted : Bool
+  fitted = fitAll (numbersFrom text (r .numbered) (r .numbers)) (valuesIn work (q .first) (q .numbers))
+
+  meant-is : (a t f : Bool) → rowNamesake text r (q .sort) (q .name) ≡ a → eqb (r .types) (q .types) ≡ t → fitted ≡ f → rowMeant text work q r ≡ meantBy a t f
+  unfolding rowMeant
+  meant-is a t f e g h = ap (λ (x : Bool). meantBy x (eqb (r .types) (q .types)) fitted) e ∙ ap (λ (x : Bool). meantBy a x fitted) g ∙ ap (meantBy a t) h
+
+  pub meant-other : rowNamesake text r (q .sort) (q .name) ≡ false → false ≡ rowMeant text work q r
+  meant-other e = sym (meant-is false _ _ e refl refl)
+
+  module _ (e : rowNamesake text r (q .sort) (q .name) ≡ true) where
+    pub meant-types : ¬ (r .types ≡ q .types) → false ≡ rowMeant text work q r
+    meant-types g = sym (meant-is true false _ e (ne-eqb _ _ g) refl)
+
+    module _ (g : r .types ≡ q .types) where
+      pub meant-numbers : ¬ (r .numbers ≡ q .numbers) → false ≡ rowMeant text work q r
+      meant-numbers h = sym (meant-is true true false e (eq-eqb _ _ g) (unlike (numbersFrom text (r .numbered) (r .numbers)) (valuesIn work (q .first) (q .numbers)) (λ l. h (sym (list-long (r .numbers) (from text (r .numbered))) ∙ l ∙ values-long work (q .first) (q .numbers)))))
+
+      pub meant-fits : r .numbers ≡ q .numbers → (b : Bool) → b ≡ fitAll (numbersFrom text (r .numbered) (r .numbers)) (valuesIn work (q .first) (r .numbers)) → b ≡ rowMeant text work q r
+      meant-fits h b f = sym (meant-is true true b e (eq-eqb _ _ g) (sym (f ∙ ap (λ (n : ℕ). fitAll (numbersFrom text (r .numbered) (r .numbers)) (valuesIn work (q .first) n)) h)))
+
+-- ---- the first that is meant
+
+pub record Seeking (text work : List ℕ) (q : Asked) (seen k : ℕ) : Type 0 where
+  pub most : k ≤ seen
+  pub total : firstMeant text work q 0 seen ≡ firstMeant text work q k (seen - k)
+
+module _ (text work : List ℕ) (q : Asked) (seen : ℕ) where
+  pub seeking-none : Seeking text work q seen 0
+  seeking-none = let e : seen - 0 ≡ seen = omega arith in record { most = omega arith; total = rw e }
+
+  module _ (k : ℕ) (s : Seeking text work q seen k) where
+    module _ (more : k < seen) (r : Row) (is : r ≡ rowIn work k) where
+      one-row : firstMeant text work q 0 seen ≡ cond (rowMeant text work q r) k (firstMeant text work q (k + 1) (seen - (k + 1)))
+      one-row =
+          let e : seen - k ≡ suc (seen - (k + 1)) = omega arith in
+          let g : k + 1 ≡ suc k = omega arith in
+          s .total ∙ ap (firstMeant text work q k) e ∙ ap (λ (j : ℕ). cond (rowMeant text work q (rowIn work k)) k (firstMeant text work q j (seen - (k + 1)))) (sym g) ∙ ap (λ (x : Row). cond (rowMeant text work q x) k (firstMeant text work q (k + 1) (seen - (k + 1)))) (sym is)
+
+      pub seeking-found : rowMeant text work q r ≡ true → k ≡ firstMeant text work q 0 seen
+      seeking-found h = sym (one-row ∙ ap (λ (b : Bool). cond b k (firstMeant text work q (k + 1) (seen - (k + 1)))) h)
+
+      pub seeking-more : rowMeant text work q r ≡ false → Seeking text work q seen (k + 1)
+      seeking-more h = record { most = omega arith; total = one-row ∙ ap (λ (b : Bool). cond b k (firstMeant text work q (k + 1) (seen - (k + 1)))) h }
+
+    pub seeking-all : seen ≤ k → k ≡ firstMeant text work q 0 seen
+    seeking-all h = let e : seen - k ≡ 0 = omega arith in sym (s .total ∙ ap (firstMeant text work q k) e)
+
+-- ---- the last of a name
+
+pub record CountingOn (text work : List ℕ) (sort : Bool) (at n otherwise k found : ℕ) : Type 0 where
+  pub most : k ≤ n
+  pub total : rowsUpTo text work sort at 0 n otherwise ≡ rowsUpTo text work sort at k (n - k) found
+
+module _ (text work : List ℕ) (sort : Bool) (at n otherwise : ℕ) where
+  pub upto-none : CountingOn text work sort at n otherwise 0 otherwise
+  upto-none = let e : n - 0 ≡ n = omega arith in record { most = omega arith; total = rw e }
+
+  module _ (k found : ℕ) (s : CountingOn text work sort at n otherwise k found) where
+    pub upto-more : k < n → (r : Row) → r ≡ rowIn work k → (found′ : ℕ) → found′ ≡ cond (rowNamesake text r sort at) (suc k) found → CountingOn text work sort at n otherwise (k + 1) found′
+    upto-more more r is found′ f =
+        let e : n - k ≡ suc (n - (k + 1)) = omega arith in
+        let g : k + 1 ≡ suc k = omega arith in
+        record {
+          most = omega arith;
+          total = s .total ∙ ap (λ (j : ℕ). rowsUpTo text work sort at k j found) e ∙ ap (λ (j : ℕ). rowsUpTo text work sort at j (n - (k + 1)) (cond (rowNamesake text (rowIn work k) sort at) (suc k) found)) (sym g) ∙ ap (λ (x : Row). rowsUpTo text work sort at (k + 1) (n - (k + 1)) (cond (rowNamesake text x sort at) (suc k) found)) (sym is) ∙ ap (rowsUpTo text work sort at (k + 1) (n - (k + 1))) (sym f);
+        }
+
+    pub upto-all : n ≤ k → found ≡ rowsUpTo text work sort at 0 n otherwise
+    upto-all h = let e : n - k ≡ 0 = omega arith in sym (s .total ∙ ap (λ (j : ℕ). rowsUpTo text work sort at k j found) e)
+
+module _ (text work : List ℕ) (k : ℕ) (c : Row) (is : c ≡ rowIn work k) where
+  abbrev seenOf : Bool → Row → ℕ
+  seenOf b r = cond b k (rowsUpTo text work (r .sort) (r .name) 0 (getD work clauseCountAt 0) k)
+
+  pub seen-above : c .numbers ≡ 0 → k ≡ rowSeen text work k
+  unfolding rowSeen
+  seen-above z = sym (ap (λ (r : Row). seenOf (eqb (r .numbers) 0) r) (sym is) ∙ ap (λ (b : Bool). seenOf b c) (eq-eqb _ _ z))
+
+  pub seen-upto : ¬ (c .numbers ≡ 0) → (n : ℕ) → n ≡ rowsUpTo text work (c .sort) (c .name) 0 (getD work clauseCountAt 0) k → n ≡ rowSeen text work k
+  unfolding rowSeen
+  seen-upto z n e = e ∙ sym (ap (λ (r : Row). seenOf (eqb (r .numbers) 0) r) (sym is) ∙ ap (λ (b : Bool). seenOf b c) (ne-eqb _ _ z))
+
+-- ---- the clauses behind the rows
+
+-- what `later` says
+pub later-yes : (b : Bool) (k found : ℕ) → b ≡ true → k + 1 ≡ cond b (suc k) found
+later-yes b k found e = let g : k + 1 ≡ suc k = omega arith in g ∙ sym (ap (λ (x : Bool). cond x (suc k) found) e)
+
+pub later-no : (b : Bool) (k found : ℕ) → b ≡ false → found ≡ cond b (suc k) found
+later-no b k found e = sym (ap (λ (x : Bool). cond x (suc k) found) e)
+
+module _ (text work : List ℕ) (cs : List Clause) (H : HoldsRows text work cs) where
+  -- clauses from number k on, up to those that are known
+  module _ (under : ℕ) (q : Asked) (ts ns : List ℕ) (at : ℕ) (types : length ts ≡ q .types) (numbers : ns ≡ valuesIn work (q .first) (q .numbers)) where
+    meant-row : (k : ℕ) → k < length cs → meant (clauseOf cs k) (q .sort) (runAt text (q .name)) (length ts) ns ≡ rowMeant text work q (rowIn work k)
+    unfolding rowMeant
+    meant-row k h =
+        let R = H .rows k h in
+        let c = rowIn work k in
+        ap (λ (b : Bool). b && eqb (length (clauseOf cs k .types)) (length ts) && fitAll (clauseOf cs k .numbers) ns) (namesake-row text (clauseOf cs k) c R (q .sort) (q .name))
+        ∙ ap (λ (n : ℕ). rowNamesake text c (q .sort) (q .name) && eqb n (length ts) && fitAll (clauseOf cs k .numbers) ns) (sym (R .type-count))
+        ∙ ap (λ (n : ℕ). rowNamesake text c (q .sort) (q .name) && eqb (c .types) n && fitAll (clauseOf cs k .numbers) ns) types
+        ∙ ap (λ (l : List Number). rowNamesake text c (q .sort) (q .name) && eqb (c .types) (q .types) && fitAll l ns) (sym (row-numbers text (clauseOf cs k) c R))
+        ∙ ap (λ (l : List ℕ). rowNamesake text c (q .sort) (q .name) && eqb (c .types) (q .types) && fitAll (numbersFrom text (c .numbered) (c .numbers)) l) numbers
+
+    -- what is found at a number, where so many are known
+    abbrev Chosen : ℕ → ℕ → Answer Put → Type 0
+    Chosen seen r m = (r < seen → m ≡ good (putOf under cs (clauseOf cs r) r ts ns)) × (seen ≤ r → m ≡ refuse 33 at)
+
+    choose-by : (b : Bool) (k later seen : ℕ) (m : Answer Put) → k < seen → Chosen seen later m → Chosen seen (cond b k later) (cond b (good (putOf under cs (clauseOf cs k) k ts ns)) m)
+    choose-by true k later seen m h c = ((λ _. refl), (λ g. absurd (omega arith)))
+    choose-by false k later seen m h c = c
+
+    choose-left : (n k : ℕ) → k + n ≤ length cs → Chosen (k + n) (firstMeant text work q k n) (clauseFor under cs (take n (drop k cs)) k (q .sort) (runAt text (q .name)) ts ns at)
+    choose-left zero k h = let e : k + 0 ≡ k = omega arith in ((λ g. absurd (omega arith)), (λ g. refl))
+    choose-left (suc n) k h =
+        let l : k < length cs = omega arith in
+        let e : k + suc n ≡ suc k + n = omega arith in
+        subst (λ (xs : List Clause). Chosen (k + suc n) (firstMeant text work q k (suc n)) (clauseFor under cs (take (suc n) xs) k (q .sort) (runAt text (q .name)) ts ns at)) (sym (drop-cons cs k noClause l))
+        (subst (λ (b : Bool). Chosen (k + suc n) (firstMeant text work q k (suc n)) (cond b (good (putOf under cs (clauseOf cs k) k ts ns)) (clauseFor under cs (take n (drop (suc k) cs)) (suc k) (q .sort) (runAt text (q .name)) ts ns at))) (sym (meant-row k l))
+        (choose-by (rowMeant text work q (rowIn work k)) k (firstMeant text work q (suc k) n) (k + suc n) _ (omega arith) (subst (λ (j : ℕ). Chosen j (firstMeant text work q (suc k) n) (clauseFor under cs (take n (drop (suc k) cs)) (suc k) (q .sort) (runAt text (q .name)) ts ns at)) (sym e) (choose-left n (suc k) (omega arith)))))
+
+    -- the clause that the code finds is the one that is meant
+    pub clause-found : (seen : ℕ) → seen ≤ length cs → Chosen seen (firstMeant text work q 0 seen) (clauseFor under cs (take seen cs) 0 (q .sort) (runAt text (q .name)) ts ns at)
+    clause-found seen h = let e : 0 + seen ≡ seen = omega arith in subst (λ (j : ℕ). Chosen j (firstMeant text work q 0 seen) (clauseFor under cs (take seen cs) 0 (q .sort) (runAt text (q .name)) ts ns at)) e (choose-left seen 0 (omega arith))
+
+  upto-left : (sort : Bool) (at n k found : ℕ) → k + n ≡ length cs → upTo (drop k cs) sort (runAt text at) k found ≡ rowsUpTo text work sort at k n found
+  upto-left sort at zero k found e =
+      let g : k ≡ length cs = omega arith in
+      ap (λ (j : ℕ). upTo (drop j cs) sort (runAt text at) k found) g ∙ ap (λ (xs : List Clause). upTo xs sort (runAt text at) k found) (drop-length cs)
+  upto-left sort at (suc n) k found e =
+      let l : k < length cs = omega arith in
+      ap (λ (xs : List Clause). upTo xs sort (runAt text at) k found) (drop-cons cs k noClause l) ∙ ap (λ (b : Bool). upTo (drop (suc k) cs) sort (runAt text at) (suc k) (cond b (suc k) found)) (namesake-row text (clauseOf cs k) (rowIn work k) (H .rows k l) sort at) ∙ upto-left sort at n (suc k) _ (omega arith)
+
+  has-numbers : (ks : List Number) (n : ℕ) → n ≡ length ks → (a b : ℕ) → cond (hasNumbers ks) a b ≡ cond (eqb n 0) b a
+  has-numbers [] n e a b = sym (ap (λ (x : Bool). cond x b a) (eq-eqb n 0 e))
+  has-numbers (k ∷ ks) n e a b = sym (ap (λ (x : Bool). cond x b a) (ne-eqb n 0 (λ z. absurd (omega arith))))
+
+  -- the code counts the clauses that a clause knows
+  pub seen-found : (k : ℕ) → k < length cs → seenBy cs (clauseOf cs k) k ≡ rowSeen text work k
+  unfolding rowSeen
+  seen-found k h =
+      let R = H .rows k h in
+      has-numbers (clauseOf cs k .numbers) (rowIn work k .numbers) (R .number-count) _ k
+      ∙ ap (λ (b : Bool). cond (eqb (rowIn work k .numbers) 0) k (upTo cs b (clauseOf cs k .head .name) 0 k)) (R .sort)
+      ∙ ap (λ (n : Name). cond (eqb (rowIn work k .numbers) 0) k (upTo cs (rowIn work k .sort) n 0 k)) (R .name-is)
+      ∙ ap (λ (m : ℕ). cond (eqb (rowIn work k .numbers) 0) k m) (upto-left (rowIn work k .sort) (rowIn work k .name) (length cs) 0 k (omega arith) ∙ ap (λ (n : ℕ). rowsUpTo text work (rowIn work k .sort) (rowIn work k .name) 0 n k) (sym (H .counted)))

@@ -1,0 +1,133 @@
+// The clause that a name means with its arguments, and the clauses that a clause knows.
+use crate::follows;
+use crate::numbers;
+use crate::numbers::Num;
+use crate::rows;
+use crate::rows::Row;
+ghost use mathlib.Core.Path.{_≡_};
+ghost use mathlib.Core.Bool.{cond};
+ghost use Prim.Native.Nat.{suc, _+_, _*_, _≤_, _<_};
+ghost use lib.ListN.{length, getD};
+ghost use Rattle.notation_calculus.specs.Making.{fits, fitAll, mostEntries};
+ghost use Rattle.making_memory.specs.Map.{scopeAt, clauseCountAt, makingSize};
+ghost use Rattle.clauses.specs.Numbers.{plainNumber, numbersFrom, NumbersThere};
+ghost use Rattle.clauses.specs.Follows.{RowThere, rowNamesake, RowsThere};
+ghost use Rattle.clauses.specs.Meant.{valuesIn, rowMeant, firstMeant, CanAsk, rowsUpTo, rowSeen};
+
+// What is named: a type or a term, by a name at a place, with so many type arguments and so many numbers, which stand in the scope from an
+// entry on.
+pub struct Asked {
+    pub sort: bool,
+    pub name: usize,
+    pub types: usize,
+    pub numbers: usize,
+    pub first: usize,
+}
+
+// A parameter fits a number.
+fn fits(k: Num, n: usize) -> bool
+    ensures { λ r. ⌜ r ≡ fits (plainNumber k) n ⌝ }
+{
+    if k.named {
+        return k.plus <= n;
+    }
+    k.plus == n
+}
+
+// The value of an entry of the scope.
+pub fn value_of(work: &[u16], entry: usize) -> usize
+    requires { ⌜ (entry < mostEntries) × (makingSize ≤ length (now work)) ⌝ }
+    ensures { λ r. ⌜ r ≡ getD (now (work .entry)) (scopeAt + 2 * entry + 1) 0 ⌝ }
+{
+    rows::wide(work[making_memory::SCOPE + 2 * entry + 1])
+}
+
+// The n number parameters at an offset fit the values of the entries from one on.
+fn fit_all(text: &[u8], work: &[u16], at: usize, n: usize, first: usize) -> bool
+    requires { ⌜ (NumbersThere (now text) at n) × ((first + n ≤ mostEntries) × (makingSize ≤ length (now work))) ⌝ }
+    ensures { λ r. ⌜ r ≡ fitAll (numbersFrom (now (text .entry)) at n) (valuesIn (now (work .entry)) first n) ⌝ }
+{
+    let mut i: usize = 0;
+    let mut p = at;
+    while i < n {
+        let k = numbers::number_behind(text, p);
+        let v = value_of(work, first + i);
+        if !fits(k, v) {
+            return false;
+        }
+        p = k.end;
+        i = i + 1;
+    }
+    true
+}
+
+fn meant(text: &[u8], work: &[u16], q: Asked, r: Row) -> bool
+    requires { ⌜ (CanAsk (now text) (now work) q) × (RowThere (now text) r) ⌝ }
+    ensures { λ x. ⌜ x ≡ rowMeant (now (text .entry)) (now (work .entry)) q r ⌝ }
+{
+    if !follows::namesake(text, r, q.sort, q.name) {
+        return false;
+    }
+    if r.types != q.types {
+        return false;
+    }
+    if r.numbers != q.numbers {
+        return false;
+    }
+    fit_all(text, work, r.numbered, r.numbers, q.first)
+}
+
+// The first clause that is meant, among those that are known; or how many are known.
+pub fn clause_for(text: &[u8], work: &[u16], q: Asked, seen: usize) -> usize
+    requires { ⌜ (CanAsk (now text) (now work) q) × (seen ≤ getD (now work) clauseCountAt 0) ⌝ }
+    ensures { λ r. ⌜ r ≡ firstMeant (now (text .entry)) (now (work .entry)) q 0 seen ⌝ }
+{
+    let mut k: usize = 0;
+    while k < seen {
+        let r = rows::row_at(work, k);
+        if meant(text, work, q, r) {
+            return k;
+        }
+        k = k + 1;
+    }
+    k
+}
+
+// Behind row k if it is of a sort and name, or what was found before.
+fn later(text: &[u8], r: Row, sort: bool, at: usize, k: usize, found: usize) -> usize
+    requires { ⌜ (r .name ≤ length (now text)) × ((at ≤ length (now text)) × (k < 256)) ⌝ }
+    ensures { λ x. ⌜ x ≡ cond (rowNamesake (now (text .entry)) r sort at) (suc k) found ⌝ }
+{
+    if follows::namesake(text, r, sort, at) {
+        return k + 1;
+    }
+    found
+}
+
+// How many clauses there are up to the last one of a sort and name; or else.
+fn up_to(text: &[u8], work: &[u16], sort: bool, at: usize, otherwise: usize) -> usize
+    requires { ⌜ (RowsThere (now text) (now work)) × (at ≤ length (now text)) ⌝ }
+    ensures { λ r. ⌜ r ≡ rowsUpTo (now (text .entry)) (now (work .entry)) sort at 0 (getD (now (work .entry)) clauseCountAt 0) otherwise ⌝ }
+{
+    let n = follows::row_count(work);
+    let mut found = otherwise;
+    let mut k: usize = 0;
+    while k < n {
+        let r = rows::row_at(work, k);
+        found = later(text, r, sort, at, k, found);
+        k = k + 1;
+    }
+    found
+}
+
+// Clause k knows those above it; with number parameters it knows all up to the last one of its name, so itself too.
+pub fn seen_by(text: &[u8], work: &[u16], k: usize) -> usize
+    requires { ⌜ (RowsThere (now text) (now work)) × (k < getD (now work) clauseCountAt 0) ⌝ }
+    ensures { λ r. ⌜ r ≡ rowSeen (now (text .entry)) (now (work .entry)) k ⌝ }
+{
+    let c = rows::row_at(work, k);
+    if c.numbers == 0 {
+        return k;
+    }
+    up_to(text, work, c.sort, c.name, k)
+}

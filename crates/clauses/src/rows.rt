@@ -1,0 +1,95 @@
+// A clause's row: where its parts stand in the text, and how many parameters it has.
+use crate::groups;
+ghost use mathlib.Core.Path.{_≡_};
+ghost use Prim.Native.Nat.{_+_, _*_, _≤_, _<_};
+ghost use lib.ListN.{length};
+ghost use lib.Seq.{sets};
+ghost use Rattle.making_memory.specs.Map.{clausesAt, makingSize};
+ghost use Rattle.clauses.specs.Rows.{ClauseEnds, RowRead, flagOf, rowNumbers, ShortRow, rowIn};
+
+const SQUARE: u8 = 17;
+
+const CURLY: u8 = 19;
+
+// The offsets of the name, of what stands behind it, of the number parameters, of the body and of what stands behind that; yes for a type;
+// how many type parameters and number parameters.
+pub struct Row {
+    pub name: usize,
+    pub typed: usize,
+    pub numbered: usize,
+    pub body: usize,
+    pub end: usize,
+    pub sort: bool,
+    pub types: usize,
+    pub numbers: usize,
+}
+
+// The row of a clause that the grammar has read from an offset up to another.
+pub fn row_of(text: &[u8], at: usize, sort: bool, end: usize) -> Row
+    requires { ⌜ ClauseEnds (now text) at sort end ⌝ }
+    ensures { λ r. ⌜ RowRead (now (text .entry)) at sort end r ⌝ }
+{
+    let w = words::word_at(text, at);
+    let ts = groups::group_at(text, w.end, SQUARE);
+    let ks = groups::group_at(text, ts.end, CURLY);
+    let e = words::word_at(text, ks.end);
+    Row {
+        name: w.start,
+        typed: w.end,
+        numbered: ts.end,
+        body: e.end,
+        end,
+        sort,
+        types: ts.count,
+        numbers: ks.count,
+    }
+}
+
+pub fn wide(x: u16) -> usize
+    ensures { λ r. ⌜ r ≡ x ⌝ }
+{
+    x as usize
+}
+
+pub fn flag(b: bool) -> u16
+    ensures { λ r. ⌜ r ≡ flagOf b ⌝ }
+{
+    if b {
+        return 1;
+    }
+    0
+}
+
+// Row k of the table.
+pub fn row_at(work: &[u16], k: usize) -> Row
+    requires { ⌜ (k < 256) × (makingSize ≤ length (now work)) ⌝ }
+    ensures { λ r. ⌜ r ≡ rowIn (now (work .entry)) k ⌝ }
+{
+    let c = making_memory::CLAUSES + 8 * k;
+    Row {
+        name: wide(work[c]),
+        typed: wide(work[c + 1]),
+        numbered: wide(work[c + 2]),
+        body: wide(work[c + 3]),
+        end: wide(work[c + 4]),
+        sort: work[c + 5] == 1,
+        types: wide(work[c + 6]),
+        numbers: wide(work[c + 7]),
+    }
+}
+
+// Row k of the table is set.
+pub fn store(work: &mut [u16], k: usize, r: Row)
+    requires { ⌜ (k < 256) × (makingSize ≤ length (now work)) × ShortRow r ⌝ }
+    ensures { λ _. ⌜ now (work .exit) ≡ sets (now (work .entry)) (clausesAt + 8 * k) (rowNumbers r) ⌝ }
+{
+    let c = making_memory::CLAUSES + 8 * k;
+    work[c] = r.name as u16;
+    work[c + 1] = r.typed as u16;
+    work[c + 2] = r.numbered as u16;
+    work[c + 3] = r.body as u16;
+    work[c + 4] = r.end as u16;
+    work[c + 5] = flag(r.sort);
+    work[c + 6] = r.types as u16;
+    work[c + 7] = r.numbers as u16;
+}
