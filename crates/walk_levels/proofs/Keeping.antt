@@ -10,7 +10,8 @@ use Rattle.making_memory.specs.Map.{scopeAt, levelsAt}
 use Rattle.walk_levels.specs.declared.Level.{Level}
 use Rattle.walk_levels.specs.declared.Around.{Around}
 use Rattle.walk_levels.specs.Levels.{scopesAt, levelIn, scopeIn}
-use Rattle.walk_levels.specs.TypeLevels.{valueAt, GivenIn, waitingFor, HoldsWish, HoldsTypeLevel, HoldsTypeLevels}
+use Rattle.scopes.specs.Entries.{valueAt}
+use Rattle.walk_levels.specs.TypeLevels.{GivenIn, waitingFor, HoldsWish, HoldsTypeLevel, HoldsTypeLevels}
 
 -- the levels above one with m levels below it, their scopes, and the values of the first entries are the same
 pub record Outside (w w′ : List ℕ) (m top : ℕ) : Type 0 where

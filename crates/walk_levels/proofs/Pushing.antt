@@ -10,7 +10,7 @@ use Rattle.making_memory.specs.Map.{scopeAt, levelsAt, makingSize}
 use Rattle.walk_levels.specs.declared.Level.{Level}
 use Rattle.walk_levels.specs.declared.Around.{Around}
 use Rattle.walk_levels.specs.Levels.{scopesAt, levelIn, scopeIn, levelNumbers, scopeNumbers, pushed}
-use Rattle.walk_levels.specs.TypeLevels.{valueAt}
+use Rattle.scopes.specs.Entries.{valueAt}
 use Rattle.walk_levels.proofs.Keeping.{Outside}
 
 -- each number of a run is read back

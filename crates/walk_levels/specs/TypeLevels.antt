@@ -1,16 +1,16 @@
 -- The levels of the machine of types as they stand in the working memory. What a scope asks of the memory is left open: `H` says that the
 -- memory holds a scope by its frame and its entries. Assumes nothing.
-use Prim.Native.Nat.{ℕ, suc, _+_, _*_, _≤_, _<_}
+use Prim.Native.Nat.{ℕ, suc, _+_, _≤_, _<_}
 use mathlib.Core.Path.{_≡_}
 use mathlib.Core.Bool.{Bool, true, false}
 use mathlib.Core.List.{List, [], _∷_}
-use lib.ListN.{length, getD}
+use lib.ListN.{length}
 use Rattle.notation_calculus.specs.Trees.{Form, product, arrow, linear}
 use Rattle.notation_calculus.specs.Making.{Scope}
 use Rattle.notation_machine.specs.TypeMachine.{Wish, enclosed, argument, body, other, TypeLevel}
 use Rattle.words.specs.Next.{runAt}
 use Rattle.words.specs.Lexed.{from, Lexed}
-use Rattle.making_memory.specs.Map.{scopeAt}
+use Rattle.scopes.specs.Entries.{valueAt}
 use Rattle.walk_levels.specs.declared.Level.{Level}
 use Rattle.walk_levels.specs.Levels.{levelIn, scopeIn}
 
@@ -26,10 +26,6 @@ flagNumber true = 1
 flagNumber false = 0
 
 -- ---- a level
-
--- the value of entry e
-abbrev pub valueAt : List ℕ → ℕ → ℕ
-valueAt w e = getD w (scopeAt + 2 * e + 1) 0
 
 -- arguments, the last first, are the values of the entries from one on
 abbrev pub GivenIn : List ℕ → ℕ → List ℕ → Type 0
