@@ -24,8 +24,6 @@ from deltawobble.notation.uses import joined  # noqa: E402
 from deltawobble.pins import pin_names  # noqa: E402
 from deltawobble.sheet import Sheet  # noqa: E402
 
-__all__ = ["BLOCKS", "ROOT", "SECOND", "Made", "NotationError", "Text", "block_sheet", "block_text", "by_second", "changed", "file_of", "file_sheet", "made_of", "pins", "written"]
-
 
 def written(file: str, term: str) -> str:
     """A text whose main is a term over the blocks of a file: `written("bits.dw", "adder{3}")`."""
