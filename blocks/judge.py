@@ -5,13 +5,14 @@ import struct
 import zlib
 from array import array
 from dataclasses import dataclass, field
+from functools import lru_cache
 from random import Random
 from typing import Optional, Sequence
 
 import library
 import models
 from catalogue import Block
-from library import Made
+from library import Made, NotationError
 from deltawobble import Netlist, Refused, Sheet, calls
 from deltawobble.lanes import BIT, LANES, Traces, pack, unpack
 
@@ -20,7 +21,7 @@ TICKS, FEW_TICKS = 1_000_000, 4_000
 #: the refusals that say how far a search can go: levels, nodes or depth of a sheet; registers; input pins
 LIMITS = {34, 41, 42}
 #: the folder of the texts whose registers start with 0
-WATCHING = "properties/"
+WATCHING = "properties"
 
 
 class Wrong(Exception):
@@ -60,9 +61,27 @@ class Judged:
     costs: list[Cost] = field(default_factory=list)
 
 
+@lru_cache(maxsize=None)
+def sheet_of(file: str, term: str) -> Made:
+    """The sheet of a term over the blocks of a file, by the desk's maker. Wrong where the second program makes another one, or refuses the text otherwise."""
+    text = library.block_text(file, term)
+    try:
+        made = library.made_of(text)
+    except NotationError as refused:
+        hold_to_second(term, text, (refused.number, refused.place))
+        raise
+    hold_to_second(term, text, (made.sheet, made.places))
+    return made
+
+
+def hold_to_second(term: str, text: library.Text, by_desk: tuple) -> None:
+    if library.by_second(text) != by_desk:
+        raise Wrong("%s: the desk's maker and the second program answer differently" % term)
+
+
 def starts_for(made: Made, lean: Netlist) -> bytes:
     """Registers of the watching texts start with 0, those of the blocks with either bit."""
-    return bytes(0 if made.homes[register.node].startswith(WATCHING) else 2 for register in lean.registers)
+    return bytes(0 if library.file_of(made, register.node).parent.name == WATCHING else 2 for register in lean.registers)
 
 
 def ask(made: Made) -> tuple[Netlist, bytes, calls.Searched]:
@@ -75,7 +94,7 @@ def ask(made: Made) -> tuple[Netlist, bytes, calls.Searched]:
 
 def prove(block: Block, numbers: tuple[int, ...]) -> Proved:
     term = block.never(numbers)
-    lean, starts, found = ask(library.block_sheet("properties/%s.dw" % block.family, term))
+    lean, starts, found = ask(sheet_of("properties/%s.dw" % block.family, term))
     if found.states is None:
         raise Wrong("%s can be 1, at tick %d" % (term, found.tick))
     return Proved(term, len(lean.input_pins), len(lean.registers), found.states)
@@ -85,9 +104,7 @@ def stopped(block: Block) -> int:
     """The limit that the next size passes. Wrong where it passes none: then it could be proved too."""
     try:
         prove(block, block.beyond())
-    except library.NoSheet as refused:
-        number = int(str(refused).split()[1])
-    except Refused as refused:
+    except (NotationError, Refused) as refused:
         number = refused.number
     else:
         raise Wrong("%s passes no limit, and is not among the sizes proved" % block.never(block.beyond()))
@@ -99,7 +116,7 @@ def stopped(block: Block) -> int:
 def go_round(block: Block, numbers: tuple[int, ...]) -> Proved:
     """From the model's start the registers meet 2^n - 1 states, and are never all 0: so all other states come before one comes again."""
     term = block.round + "{%s}" % ", ".join(map(str, numbers))
-    made = library.block_sheet("properties/%s.dw" % block.family, term)
+    made = sheet_of("properties/%s.dw" % block.family, term)
     lean = Netlist.parse(calls.translate(made.sheet, lean=True))
     found = calls.never(made.sheet, bytes(block.model(*numbers).start), 0)
     if found.states != (1 << numbers[0]) - 1:
@@ -108,7 +125,7 @@ def go_round(block: Block, numbers: tuple[int, ...]) -> Proved:
 
 
 def cost(block: Block, size: tuple[int, ...]) -> Cost:
-    sheet = library.block_sheet(home(block), block.block(size)).sheet
+    sheet = sheet_of(home(block), block.block(size)).sheet
     full, lean = Netlist.parse(calls.translate(sheet)), Netlist.parse(calls.translate(sheet, lean=True))
     terminals = 1 + max((max(element.terminals) for element in full.parts + full.points), default=-1)
     parsed = Sheet.parse(sheet)
@@ -151,7 +168,7 @@ def lane(model: models.Model, drawn: Random, ticks: int) -> tuple[bytes, bytes]:
 
 def agree(block: Block, size: tuple[int, ...], ticks: int) -> int:
     """So many ticks, over sixteen traces, through the lean netlist; Wrong where an output differs from the model."""
-    sheet = library.block_sheet(home(block), block.block(size)).sheet
+    sheet = sheet_of(home(block), block.block(size)).sheet
     each = -(-ticks // LANES)
     drawn = Random(zlib.crc32(block.block(size).encode()))
     made = [block.model(*size) for _ in range(LANES)]

@@ -27,8 +27,7 @@ def lines(name: str) -> int:
 
 
 def made(name: str) -> library.Made:
-    path = SHEETS / (name + ".dw")
-    return library.sheet_of(path.read_text(), path)
+    return library.file_sheet(SHEETS / (name + ".dw"))
 
 
 def hold(name: str) -> str:
@@ -65,7 +64,7 @@ def hold_all() -> tuple[int, list[str]]:
     for name in NAMES:
         try:
             print(hold(name), flush=True)
-        except (judge.Wrong, Refused, library.NoSheet) as wrong:
+        except (judge.Wrong, Refused, library.NotationError) as wrong:
             faults.append("%s: %s" % (name, wrong))
             print("WRONG %s: %s" % (name, wrong))
     _, _, found = judge.ask(made(WRONG))

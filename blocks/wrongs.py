@@ -49,9 +49,8 @@ def refuse(edit: Edit) -> Refused:
     text = path.read_text()
     if text.count(edit.old) != 1:
         raise Wrong("%s: what is to be edited stands in %s %d times" % (edit.name, edit.file, text.count(edit.old)))
-    properties = "properties/" + edit.file
-    source = 'use "%s"\nmain = %s\n' % (properties, edit.property)
-    made = library.sheet_of(source, library.BLOCKS / "main.dw", ((path, text.replace(edit.old, edit.new)),))
+    with library.changed(edit.file, text.replace(edit.old, edit.new)) as folder:
+        made = library.block_sheet("properties/" + edit.file, edit.property, folder)
     lean, starts, found = judge.ask(made)
     if found.tick is None:
         raise Wrong("%s: %s holds of it, and should not" % (edit.name, edit.property))
@@ -59,5 +58,5 @@ def refuse(edit: Edit) -> Refused:
     shown = calls.run(made.sheet, found.inputs, found.starts, ticks)
     if list(shown) != [0] * found.tick + [1]:
         raise Wrong("%s: the proved run of the trace does not show the pin at 1 at tick %d first" % (edit.name, found.tick))
-    run = Run(made.pins()[:wide], ["fails"], [found.inputs[k::wide] for k in range(wide)] + [shown], ticks, 0)
+    run = Run(library.pins(made)[:wide], ["fails"], [found.inputs[k::wide] for k in range(wide)] + [shown], ticks, 0)
     return Refused(edit, found.tick, "".join(map(str, found.starts)), run.waves(100))
