@@ -1,4 +1,5 @@
-// The map of the working memory, 32,768 numbers, while a sheet is made from its text. From 25,232 on it is free.
+// The map of the working memory, 32,768 numbers, while a sheet is made from its text. The levels' scopes stand from 25,232 on (`walk_levels`); from 25,560
+// on it is free.
 
 // The nodes in the order in which they are made, so each behind its subterms: kind, first body byte, left (of a part its type), right, and
 // the offset of the word that it came from. At most 2,048, five numbers each.
