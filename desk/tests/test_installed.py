@@ -219,15 +219,18 @@ class Versions(Folder):
         said.write_text("rt: laws proved (3 s)\nrt: lean proved (unchanged since it was last proved)\n")
         stored = Path(self.path("proved.json"))
         with mock.patch.object(record, "PROVED", stored), mock.patch("builtins.print"):
-            self.assertEqual(record.gate(said), 0)
+            self.assertEqual(record.gate(said, 1), 0)
             first = json.loads(stored.read_text())
             self.assertEqual(first["seconds"], {"laws": 3})
-            self.assertEqual(record.gate(said), 0)
+            self.assertEqual(record.gate(said, 1), 0)
             stored.write_text(json.dumps(dict(first, archive="0" * 64)))
-            self.assertEqual(record.gate(said), 1, "the same sources, another archive")
+            self.assertEqual(record.gate(said, 1), 1, "the same sources, another archive")
             stored.write_text(json.dumps(dict(first, sources="0" * 64)))
-            self.assertEqual(record.gate(said), 0)
+            self.assertEqual(record.gate(said, 1), 0)
             self.assertEqual(json.loads(stored.read_text())["sources"], first["sources"])
+            stored.unlink()
+            self.assertEqual(record.gate(said, 3), 0)
+            self.assertEqual(json.loads(stored.read_text())["seconds"], {"laws": 1}, "three proofs shared a core")
 
 
 class Proving(unittest.TestCase):
