@@ -33,7 +33,7 @@ use Rattle.walks.specs.Walkable.{rowBodies}
 use Rattle.walks.specs.Says.{Offset}
 use Rattle.walks.proofs.Kept.{rows-read}
 use Rattle.putting.specs.Putting.{BodyThere, BodyCame, BodyAnswers, bodyPut, ClauseFound, CanPlace, PlacedSays}
-use Rattle.putting.specs.Main.{rowMain, firstOf, firstMain, CanMain, mainPut, MainSays}
+use Rattle.putting.specs.Main.{rowMain, firstPassing, firstMain, CanMain, mainPut, MainSays}
 use Rattle.putting.specs.declared.BodyEnd as body
 use Rattle.putting.specs.declared.BodyEnd.the-variants as body-end
 use Rattle.putting.proofs.ValueLaws.{body-at}
