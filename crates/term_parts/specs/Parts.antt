@@ -22,7 +22,7 @@ use Rattle.made_nodes.specs.declared.Sub.{Sub}
 use Rattle.made_nodes.specs.declared.MadeTerm as code
 use Rattle.clauses.specs.Groups.{valueIn, restIn}
 use Rattle.clauses.specs.Rows.{noBound}
-use Rattle.scopes.specs.Entries.{OnlyEntries, Places}
+use Rattle.scopes.specs.Entries.{placeIn, OnlyEntries, Places}
 use Rattle.scopes.specs.Frames.{frameIn, HoldsScope}
 use Rattle.scopes.specs.Named.{CanName}
 use Rattle.walks.specs.Walkable.{AllTyped}
@@ -41,6 +41,7 @@ use Rattle.term_parts.specs.Halves.{mostHalves, halfIn, TakenIn, PartsOn
 -- one name, in whatever text and scope
 pub record NameBound (w : List ℕ) (top place ty : ℕ) (w′ : List ℕ) : Type 0 where
   pub only : OnlyEntries top (top + 1) w w′
+  pub placed : placeIn w′ top ≡ place
   pub says :
       (text : List ℕ) (frame : ℕ) (S : Scope) (x : Bound) → HoldsScope text w frame top S → place ≤ length text → x .name ≡ runAt text place
       → HoldsScope text w′ frame (top + 1) (withVariables S (bind x ty (S .variables)))

@@ -46,8 +46,9 @@ pub fn count_names(text: &[u8], at: usize) -> NamesEnd
     ensures { λ r. ⌜ SpacedSay (now (text .entry)) at r ⌝ }
 {
     let mut x = name_at(text, at);
-    let mut count: usize = 1;
+    let mut count: usize = 0;
     while x.number == 0 {
+        count = count + 1;
         let c = words::word_at(text, x.end);
         if c.kind == COLON {
             return NamesEnd {
@@ -57,7 +58,6 @@ pub fn count_names(text: &[u8], at: usize) -> NamesEnd
             };
         }
         x = name_at(text, x.end);
-        count = count + 1;
     }
     NamesEnd {
         number: x.number,
@@ -72,8 +72,9 @@ pub fn count_listed(text: &[u8], at: usize) -> NamesEnd
     ensures { λ r. ⌜ ListedSay (now (text .entry)) at r ⌝ }
 {
     let mut x = name_at(text, at);
-    let mut count: usize = 1;
+    let mut count: usize = 0;
     while x.number == 0 {
+        count = count + 1;
         let c = words::word_at(text, x.end);
         if c.kind != COMMA {
             return NamesEnd {
@@ -83,7 +84,6 @@ pub fn count_listed(text: &[u8], at: usize) -> NamesEnd
             };
         }
         x = name_at(text, c.end);
-        count = count + 1;
     }
     NamesEnd {
         number: x.number,

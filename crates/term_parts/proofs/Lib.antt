@@ -1,0 +1,5 @@
+pub mod Stay
+pub mod NameLaws
+pub mod JoinLaws
+pub mod BindLaws
+pub mod LookFor
