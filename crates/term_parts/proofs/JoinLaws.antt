@@ -5,10 +5,13 @@ use mathlib.Core.List.{List, [], _∷_}
 use native.Mathlib.Omega.{arith}
 use lib.ListN.{length, getD}
 use Rattle.calculus.specs.Answer.{Answer, good, refused, numbered, _>>=_}
-use Rattle.notation_calculus.specs.Making.{Made}
+use Rattle.calculus.specs.Terms.{proj}
+use Rattle.notation_calculus.specs.Making.{Made, over, pairOf}
+use Rattle.notation_machine.specs.TermMachine.{Element, Taken, pairsOf, projections}
 use Rattle.making_memory.specs.Map.{halvesAt}
 use Rattle.made_types.specs.Held.{HoldsState}
 use Rattle.made_nodes.specs.Held.{TermHeld, MadeIn, SmallMade, MadeOnly, Workable}
+use Rattle.made_nodes.specs.Forms.{PairSays, ProjectionSays}
 use Rattle.made_nodes.specs.declared.Sub.{Sub}
 use Rattle.made_nodes.specs.declared.MadeTerm as code
 use Rattle.made_nodes.specs.declared.MadeTerm.the-variants as made
@@ -113,3 +116,29 @@ module _ {A : Type 0} (madeOf : A → Made) (placeOf : A → ℕ) (join : List A
               subst (λ (a : code.MadeTerm). MadeIn w′ a (one x (g .made) >>= λ y. join q y)) (sym i)
               (on-no-term w′ n p (λ (a : Answer Made). MadeIn w′ (made.Refused n p) (a >>= λ y. join q y)) (one x (g .made)) (subst (λ (a : code.MadeTerm). MadeIn w′ a (one x (g .made))) i M) refl));
         }
+
+-- ---- elements of a tuple, and pairs that were taken apart
+
+abbrev pub elementMade : Element → Made
+elementMade a = a .made
+
+abbrev pub elementComma : Element → ℕ
+elementComma a = a .comma
+
+abbrev pub onePair : Element → Made → Answer Made
+onePair a m = pairOf (a .comma) (a .made) m
+
+abbrev pub takenMade : Taken → Made
+takenMade p = p .pair
+
+abbrev pub takenPlace : Taken → ℕ
+takenPlace p = p .place
+
+abbrev pub oneProjection : Taken → Made → Answer Made
+oneProjection p e = over (p .place) proj (e .type) (p .pair) e (e .state)
+
+pub pair-one : (w : List ℕ) (place : ℕ) (a f : Sub) (r : code.MadeTerm) (w′ : List ℕ) → PairSays w place a f r w′ → OneSays elementMade elementComma pairsOf onePair (λ m. refl) (λ x xs m. refl) w place a f r w′
+pair-one w place a f r w′ P = record { only = P .only; small = P .small; says = λ x m e H T U. subst (λ (p : ℕ). MadeIn w′ r (pairOf p (x .made) m)) (sym e) (P .says (x .made) m H T U) }
+
+pub projection-one : (w : List ℕ) (place : ℕ) (a f : Sub) (r : code.MadeTerm) (w′ : List ℕ) → ProjectionSays w place a f r w′ → OneSays takenMade takenPlace projections oneProjection (λ m. refl) (λ x xs m. refl) w place a f r w′
+projection-one w place a f r w′ P = record { only = P .only; small = P .small; says = λ x m e H T U. subst (λ (p : ℕ). MadeIn w′ r (over p proj (m .type) (x .pair) m (m .state))) (sym e) (P .says (x .pair) m H T U) }

@@ -1,51 +1,43 @@
+-- The invariant: so many names are bound, and those from p on are left. The measure is how many are left. Assumes nothing.
+use borrow.Author.Needs.{needs}
+use Rattle.term_parts.proofs.BindLaws.{Binding, binding-none, binding-room, binding-small, binding-more, binding-done}
+use Prim.Native.Nat.{_-_}
+use native.Mathlib.Omega.{arith}
 use Rattle.term_parts.proofs.bound.bind_names.Statement.{statement}
 use Rattle.term_parts.proofs.bound.bind_names.Tie as tie
-use Rattle.term_parts.proofs.bound.bind_names.Reads as reads
-use Rattle.term_parts.proofs.bound.bind_names.Lts as lts
-use Rattle.term_parts.proofs.bound.bind_name.Reads as bind-name-reads
-use Rattle.term_parts.proofs.names.name_at.Reads as name-at-reads
 
 abbrev Inv-loop : tie.InvT-loop
-Inv-loop text work₀ at count top ty i₀ p₀ work i p = ?
+Inv-loop text work₀ at count top ty i₀ p₀ work i p = Binding text work₀ at count top ty work i p
 
 abbrev μ-loop : tie.MeasureT-loop
-μ-loop text work₀ at count top ty i₀ p₀ work i p = ?
+μ-loop text work₀ at count top ty i₀ p₀ work i p = count - i
 
--- src/bound.rt:24:5
 loop-holds : tie.Need-loop-holds Inv-loop μ-loop
-loop-holds c = ?
+loop-holds c = binding-none (c .before .before .args .text .now) (c .before .before .args .work .now) (c .before .before .args .at) (c .before .before .args .count) (c .before .before .args .top) (c .before .before .args .ty) (c .before .before .pre)
 
--- src/bound.rt:25:13
 name-at-requires : tie.Need-name-at-requires Inv-loop μ-loop
-name-at-requires c κs = ?
+name-at-requires c κs = c .before .loop .inv .stand .lexed
 
--- src/bound.rt:26:25
 add-bind-name : tie.Need-add-bind-name Inv-loop μ-loop
-add-bind-name c = ?
+add-bind-name c = let f = c .before .before .before .before .before .before .pre .can .few in search needs
 
--- src/bound.rt:26:9
 bind-name-requires : tie.Need-bind-name-requires Inv-loop μ-loop
-bind-name-requires c κs = ?
+bind-name-requires c κs = (omega (arith, c .before .before .before .before .before .before .pre .can .few), (binding-room (c .before .before .before .before .before .before .args .text .now) (c .before .before .before .before .before .before .args .work .now) (c .before .before .before .before .before .before .args .at) (c .before .before .before .before .before .before .args .count) (c .before .before .before .before .before .before .args .top) (c .before .before .before .before .before .before .args .ty) (c .before .before .before .before .before .before .pre) (c .before .before .before .loop .work) (c .before .before .before .loop .i) (c .before .before .before .loop .p) (c .before .before .before .loop .inv), binding-small (c .before .before .before .before .before .before .args .text .now) (c .before .before .before .before .before .before .args .work .now) (c .before .before .before .before .before .before .args .at) (c .before .before .before .before .before .before .args .count) (c .before .before .before .before .before .before .args .top) (c .before .before .before .before .before .before .args .ty) (c .before .before .before .before .before .before .pre) (c .before .before .before .loop .work) (c .before .before .before .loop .i) (c .before .before .before .loop .p) (c .before .before .before .loop .inv) (c .before .before .loop-test .taken) (c .before .name-at .result) (c .before .name-at .ensures)))
 
--- src/bound.rt:28:13
 add-i : tie.Need-add-i Inv-loop μ-loop
-add-i c = ?
+add-i c = search needs
 
--- src/bound.rt:24:5
 loop-less : tie.Need-loop-less Inv-loop μ-loop
-loop-less c = ?
+loop-less c = search needs
 
--- src/bound.rt:24:5
 loop-again : tie.Need-loop-again Inv-loop μ-loop
-loop-again c = ?
+loop-again c = binding-more (c .before .before .before .before .before .before .before .before .before .args .text .now) (c .before .before .before .before .before .before .before .before .before .args .work .now) (c .before .before .before .before .before .before .before .before .before .args .at) (c .before .before .before .before .before .before .before .before .before .args .count) (c .before .before .before .before .before .before .before .before .before .args .top) (c .before .before .before .before .before .before .before .before .before .args .ty) (c .before .before .before .before .before .before .before .before .before .pre) (c .before .before .before .before .before .before .loop .work) (c .before .before .before .before .before .before .loop .i) (c .before .before .before .before .before .before .loop .p) (c .before .before .before .before .before .before .loop .inv) (c .before .before .before .before .before .loop-test .taken) (c .before .before .before .before .name-at .result) (c .before .before .before .before .name-at .ensures) _ (c .before .before .bind-name .ensures)
 
--- src/bound.rt:18:1
 same-length : tie.Need-same-length Inv-loop μ-loop
-same-length c = ?
+same-length c = c .before .loop .inv .only .same
 
--- src/bound.rt:18:1
 returns : tie.Need-returns Inv-loop μ-loop
-returns c = ?
+returns c = binding-done (c .before .before .before .before .args .text .now) (c .before .before .before .before .args .work .now) (c .before .before .before .before .args .at) (c .before .before .before .before .args .count) (c .before .before .before .before .args .top) (c .before .before .before .before .args .ty) (c .before .before .before .before .pre) (c .before .loop .work) (c .before .loop .i) (c .before .loop .p) (c .before .loop .inv) (c .loop-test .left)
 
 pub bind-names-spec : {M : Type 1} → statement M
 bind-names-spec =
