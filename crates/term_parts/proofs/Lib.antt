@@ -3,3 +3,5 @@ pub mod NameLaws
 pub mod JoinLaws
 pub mod BindLaws
 pub mod LookFor
+pub mod ApartLaws
+pub mod RestsLaws
