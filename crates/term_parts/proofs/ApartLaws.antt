@@ -130,9 +130,6 @@ module _ (text w : List ℕ) (at entry half : ℕ) (v : Sub) (C : CanTakeAt text
   second-is : secondName (from text at) ≡ boundAt text (t .second)
   second-is = ap firstName (two .rest) ∙ two .second
 
-  pub can-take : (other : ℕ) → other ≤ length text → CanTake w entry half (t .first) other v
-  can-take other h = record { room = C .room; few = C .few; halves = C .halves; small = omega (arith, two .inside, C .short); small-too = omega (arith, C .short); type = C .type }
-
   waits-so : (w′ : List ℕ) → HalfWaits w′ half v (t .first) → HalfWaits w′ half v (firstName (from text at) .place)
   waits-so w′ h = subst (HalfWaits w′ half v) (ap (λ (x : Bound). x .place) (sym (two .first))) h
 

@@ -40,10 +40,10 @@ module _ (text : List ℕ) (at : ℕ) (w : Said) (s : Stands text at w) where
   name-there z =
       let long : w .end - w .place ≡ run (drop (w .place) text) = omega (arith, s .whole z) in
       let reads : nameAt (from text at) ≡ got (boundAt text (w .place)) (from text (w .end)) =
-          ap (λ (t : Token). boundName t (place (from text at)) >>= λ n. got n (behind (from text at))) (s .named z)
-          ∙ ap (λ (k : ℕ). got (record { name = take k (drop (w .place) text); place = place (from text at) }) (behind (from text at))) long
-          ∙ ap (λ (p : ℕ). got (record { name = runAt text (w .place); place = p }) (behind (from text at))) (sym (s .place))
-          ∙ ap (λ (us : List Word). got (boundAt text (w .place)) us) (name-onward text at w s z .rest) in
+      ap (λ (t : Token). boundName t (place (from text at)) >>= λ n. got n (behind (from text at))) (s .named z)
+      ∙ ap (λ (k : ℕ). got (record { name = take k (drop (w .place) text); place = place (from text at) }) (behind (from text at))) long
+      ∙ ap (λ (p : ℕ). got (record { name = runAt text (w .place); place = p }) (behind (from text at))) (sym (s .place))
+      ∙ ap (λ (us : List Word). got (boundAt text (w .place)) us) (name-onward text at w s z .rest) in
       record { reads = λ q. reads; inside = λ q. place-inside text at w s z; onward = λ q. name-onward text at w s z; refuses = λ q. absurd (q refl) }
 
   pub name-missing : ¬ (w .code ≡ 24) → (end : ℕ) → NameSays text at (record { number = 32; place = w .place; end = end })

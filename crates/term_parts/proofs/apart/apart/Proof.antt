@@ -1,78 +1,60 @@
+-- All names but two, then the last two. Assumes nothing.
+use Rattle.term_parts.proofs.RestsLaws.{apart-few, apart-refused, last-can, apart-last}
+use native.Mathlib.Omega.{arith}
 use borrow.Author.Needs.{needs}
 use Rattle.term_parts.proofs.apart.apart.Statement.{statement}
 use Rattle.term_parts.proofs.apart.apart.Tie as tie
-use Rattle.term_parts.proofs.apart.apart.Reads as reads
-use Rattle.term_parts.proofs.apart.apart.Lts as lts
-use Rattle.term_parts.proofs.apart.take_last.Reads as take-last-reads
-use Rattle.term_parts.proofs.apart.take_rests.Reads as take-rests-reads
 
--- src/apart.rt:124:9
 returns : tie.Need-returns
-returns c = ?
+returns c = apart-few (c .before .before .before .args .text .now) (c .before .before .before .args .work .now) (c .before .before .before .args .at) (c .before .before .before .args .count) (c .before .before .before .args .top) (c .before .before .before .args .waiting) (c .before .before .before .args .v) (c .if1 .taken)
 
--- src/apart.rt:126:9
 take-rests-requires : tie.Need-take-rests-requires
 take-rests-requires c κs = search needs
 
--- src/apart.rt:128:26
 enum-known-rests : tie.Need-enum-known-rests
 enum-known-rests c = search needs
 
--- src/apart.rt:129:21
 enum-known-rests-2 : tie.Need-enum-known-rests-2
 enum-known-rests-2 c = search needs
 
--- src/apart.rt:131:44
 mul-take-last : tie.Need-mul-take-last
 mul-take-last c = search needs
 
--- src/apart.rt:131:38
 add-take-last : tie.Need-add-take-last
 add-take-last c = search needs
 
--- src/apart.rt:131:55
 add-take-last-2 : tie.Need-add-take-last-2
 add-take-last-2 c = search needs
 
--- src/apart.rt:131:13
 take-last-requires : tie.Need-take-last-requires
-take-last-requires c κs = ?
+take-last-requires c κs = last-can (c .before .before .before .before .before .before .before .before .before .before .before .args .text .now) (c .before .before .before .before .before .before .before .before .before .before .before .args .work .now) (c .before .before .before .before .before .before .before .before .before .before .before .args .at) (c .before .before .before .before .before .before .before .before .before .before .before .args .count) (c .before .before .before .before .before .before .before .before .before .before .before .args .top) (c .before .before .before .before .before .before .before .before .before .before .before .args .waiting) (c .before .before .before .before .before .before .before .before .before .before .before .args .v) _ _ (c .before .before .before .before .before .before .take-rests .ensures) _ _ (c .before .before .rests2 .given .1) (c .before .before .before .before .before .before .before .before .before .before .before .pre) (omega (arith, c .before .before .before .before .before .before .before .before .if1 .left))
 
--- src/apart.rt:132:32
 mul-t21 : tie.Need-mul-t21
 mul-t21 c = search needs
 
--- src/apart.rt:132:26
 add-t23 : tie.Need-add-t23
 add-t23 c = search needs
 
--- src/apart.rt:132:26
 add-t22 : tie.Need-add-t22
 add-t22 c = search needs
 
--- src/apart.rt:132:47
 add-t24 : tie.Need-add-t24
 add-t24 c = search needs
 
--- src/apart.rt:132:47
 add-t25 : tie.Need-add-t25
 add-t25 c = search needs
 
--- src/apart.rt:111:1
 same-length : tie.Need-same-length
 same-length c = search needs
 
--- src/apart.rt:111:1
 returns-2 : tie.Need-returns-2
-returns-2 c = ?
+returns-2 c = apart-refused (c .before .before .before .before .before .before .before .before .before .before .args .text .now) (c .before .before .before .before .before .before .before .before .before .before .args .work .now) (c .before .before .before .before .before .before .before .before .before .before .args .at) (c .before .before .before .before .before .before .before .before .before .before .args .count) (c .before .before .before .before .before .before .before .before .before .before .args .top) (c .before .before .before .before .before .before .before .before .before .before .args .waiting) (c .before .before .before .before .before .before .before .before .before .before .args .v) _ _ (c .before .before .before .before .before .take-rests .ensures) _ _ (c .before .rests .given .1)
 
--- src/apart.rt:111:1
 same-length-2 : tie.Need-same-length-2
 same-length-2 c = search needs
 
--- src/apart.rt:111:1
 returns-3 : tie.Need-returns-3
-returns-3 c = ?
+returns-3 c = apart-last (c .before .before .before .before .before .before .before .before .before .before .before .before .before .before .args .text .now) (c .before .before .before .before .before .before .before .before .before .before .before .before .before .before .args .work .now) (c .before .before .before .before .before .before .before .before .before .before .before .before .before .before .args .at) (c .before .before .before .before .before .before .before .before .before .before .before .before .before .before .args .count) (c .before .before .before .before .before .before .before .before .before .before .before .before .before .before .args .top) (c .before .before .before .before .before .before .before .before .before .before .before .before .before .before .args .waiting) (c .before .before .before .before .before .before .before .before .before .before .before .before .before .before .args .v) _ _ (c .before .before .before .before .before .before .before .before .before .take-rests .ensures) _ _ (c .before .before .before .before .before .rests2 .given .1) _ (c .before .before .take-last .ensures)
 
 pub apart-spec : {M : Type 1} → statement M
 apart-spec =

@@ -1,74 +1,62 @@
+-- The invariant: i pairs were taken apart, and what comes of the names that are left is the answer. The measure is how many are left. Assumes nothing.
+use borrow.Author.Needs.{needs}
+use Rattle.term_parts.proofs.RestsLaws.{RestsGoing, rests-none, rests-can, rests-done, rests-more, rests-ends}
+use mathlib.Core.Path.{_∙_}
+use Prim.Native.Nat.{_-_}
+use native.Mathlib.Omega.{arith}
 use Rattle.term_parts.proofs.apart.take_rests.Statement.{statement}
 use Rattle.term_parts.proofs.apart.take_rests.Tie as tie
-use Rattle.term_parts.proofs.apart.take_rests.Reads as reads
-use Rattle.term_parts.proofs.apart.take_rests.Lts as lts
-use Rattle.term_parts.proofs.apart.take_rest.Reads as take-rest-reads
 
 abbrev Inv-loop : tie.InvT-loop
-Inv-loop text work₀ at count top waiting p₀ i₀ s₀ work p i s = ?
+Inv-loop text work₀ at count top waiting p₀ i₀ s₀ work p i s = RestsGoing text work₀ at count top waiting s₀ work p i s
 
 abbrev μ-loop : tie.MeasureT-loop
-μ-loop text work₀ at count top waiting p₀ i₀ s₀ work p i s = ?
+μ-loop text work₀ at count top waiting p₀ i₀ s₀ work p i s = count - i
 
--- src/apart.rt:98:5
 loop-holds : tie.Need-loop-holds Inv-loop μ-loop
-loop-holds c = ?
+loop-holds c = rests-none (c .before .before .args .text .now) (c .before .before .args .work .now) (c .before .before .args .at) (c .before .before .args .count) (c .before .before .args .top) (c .before .before .args .waiting) (c .before .before .args .v) (c .before .before .pre .0) (c .before .before .pre .1)
 
--- src/apart.rt:98:11
 add-loop : tie.Need-add-loop Inv-loop μ-loop
-add-loop c = ?
+add-loop c = let w = c .loop .inv .within in search needs
 
--- src/apart.rt:99:51
 mul-take-rest : tie.Need-mul-take-rest Inv-loop μ-loop
-mul-take-rest c = ?
+mul-take-rest c = let w = c .before .before .loop .inv .within in let f = c .before .before .before .before .before .pre .0 .few in search needs
 
--- src/apart.rt:99:45
 add-take-rest : tie.Need-add-take-rest Inv-loop μ-loop
-add-take-rest c = ?
+add-take-rest c = let w = c .before .before .loop .inv .within in let f = c .before .before .before .before .before .pre .0 .few in search needs
 
--- src/apart.rt:99:58
 add-take-rest-2 : tie.Need-add-take-rest-2 Inv-loop μ-loop
-add-take-rest-2 c = ?
+add-take-rest-2 c = let h = rests-can (c .before .before .before .before .before .args .text .now) (c .before .before .before .before .before .args .work .now) (c .before .before .before .before .before .args .at) (c .before .before .before .before .before .args .count) (c .before .before .before .before .before .args .top) (c .before .before .before .before .before .args .waiting) (c .before .before .before .before .before .args .v) (c .before .before .before .before .before .pre .0) (c .before .before .loop .work) (c .before .before .loop .p) (c .before .before .loop .i) (c .before .before .loop .s) (c .before .before .loop .inv) .halves in search needs
 
--- src/apart.rt:99:13
 take-rest-requires : tie.Need-take-rest-requires Inv-loop μ-loop
-take-rest-requires c κs = ?
+take-rest-requires c κs = rests-can (c .before .before .before .before .before .args .text .now) (c .before .before .before .before .before .args .work .now) (c .before .before .before .before .before .args .at) (c .before .before .before .before .before .args .count) (c .before .before .before .before .before .args .top) (c .before .before .before .before .before .args .waiting) (c .before .before .before .before .before .args .v) (c .before .before .before .before .before .pre .0) (c .before .before .loop .work) (c .before .before .loop .p) (c .before .before .loop .i) (c .before .before .loop .s) (c .before .before .loop .inv)
 
--- src/apart.rt:100:25
 enum-known-rest : tie.Need-enum-known-rest Inv-loop μ-loop
-enum-known-rest c = ?
+enum-known-rest c = search needs
 
--- src/apart.rt:101:13
 enum-told : tie.Need-enum-told Inv-loop μ-loop
-enum-told c = ?
+enum-told c = search needs
 
--- src/apart.rt:101:13
 same-length : tie.Need-same-length Inv-loop μ-loop
-same-length c = ?
+same-length c = c .before .before .before .before .take-rest .ensures .only .walked .same ∙ c .before .before .before .before .before .before .before .loop .inv .only .walked .same
 
--- src/apart.rt:101:13
 returns : tie.Need-returns Inv-loop μ-loop
-returns c = ?
+returns c = rests-ends (c .before .before .before .before .before .before .before .before .before .before .args .text .now) (c .before .before .before .before .before .before .before .before .before .before .args .work .now) (c .before .before .before .before .before .before .before .before .before .before .args .at) (c .before .before .before .before .before .before .before .before .before .before .args .count) (c .before .before .before .before .before .before .before .before .before .before .args .top) (c .before .before .before .before .before .before .before .before .before .before .args .waiting) (c .before .before .before .before .before .before .before .before .before .before .args .v) (c .before .before .before .before .before .before .before .before .before .before .pre .0) (c .before .before .before .before .before .before .before .loop .work) (c .before .before .before .before .before .before .before .loop .p) (c .before .before .before .before .before .before .before .loop .i) (c .before .before .before .before .before .before .before .loop .s) (c .before .before .before .before .before .before .before .loop .inv) (c .before .before .before .before .before .before .loop-test .taken) _ _ (c .before .before .before .before .take-rest .ensures) _ _ (c .enum-told .given .1)
 
--- src/apart.rt:105:13
 add-i : tie.Need-add-i Inv-loop μ-loop
-add-i c = ?
+add-i c = let w = c .before .before .before .before .before .before .before .before .loop .inv .within in search needs
 
--- src/apart.rt:98:5
 loop-less : tie.Need-loop-less Inv-loop μ-loop
-loop-less c = ?
+loop-less c = search needs
 
--- src/apart.rt:98:5
 loop-again : tie.Need-loop-again Inv-loop μ-loop
-loop-again c = ?
+loop-again c = rests-more (c .before .before .before .before .before .before .before .before .before .before .before .args .text .now) (c .before .before .before .before .before .before .before .before .before .before .before .args .work .now) (c .before .before .before .before .before .before .before .before .before .before .before .args .at) (c .before .before .before .before .before .before .before .before .before .before .before .args .count) (c .before .before .before .before .before .before .before .before .before .before .before .args .top) (c .before .before .before .before .before .before .before .before .before .before .before .args .waiting) (c .before .before .before .before .before .before .before .before .before .before .before .args .v) (c .before .before .before .before .before .before .before .before .before .before .before .pre .0) (c .before .before .before .before .before .before .before .before .loop .work) (c .before .before .before .before .before .before .before .before .loop .p) (c .before .before .before .before .before .before .before .before .loop .i) (c .before .before .before .before .before .before .before .before .loop .s) (c .before .before .before .before .before .before .before .before .loop .inv) (c .before .before .before .before .before .before .before .loop-test .taken) _ _ (c .before .before .before .before .before .take-rest .ensures) _ _ (c .before .rest .given .1)
 
--- src/apart.rt:83:1
 same-length-2 : tie.Need-same-length-2 Inv-loop μ-loop
-same-length-2 c = ?
+same-length-2 c = c .before .loop .inv .only .walked .same
 
--- src/apart.rt:83:1
 returns-2 : tie.Need-returns-2 Inv-loop μ-loop
-returns-2 c = ?
+returns-2 c = rests-done (c .before .before .before .before .args .text .now) (c .before .before .before .before .args .work .now) (c .before .before .before .before .args .at) (c .before .before .before .before .args .count) (c .before .before .before .before .args .top) (c .before .before .before .before .args .waiting) (c .before .before .before .before .args .v) (c .before .before .before .before .pre .0) (c .before .loop .work) (c .before .loop .p) (c .before .loop .i) (c .before .loop .s) (c .before .loop .inv) (λ q. omega (arith, c .loop-test .left))
 
 pub take-rests-spec : {M : Type 1} → statement M
 take-rests-spec =
