@@ -1,44 +1,40 @@
 -- One pair taken apart: its halves are bound, and it waits. Assumes nothing.
-use Prim.Native.Nat.{ℕ, suc, _+_, _*_, _≤_, _<_}
+use Prim.Native.Nat.{ℕ, _+_, _≤_, _<_}
 use mathlib.Core.Path.{_≡_, refl, sym, ap, _∙_, subst}
-use mathlib.Core.Bool.{Bool, cond}
-use mathlib.Core.List.{List, [], _∷_}
+use mathlib.Core.Bool.{cond}
+use mathlib.Core.List.{List, []}
 use native.Mathlib.Omega.{arith}
 use lib.Dec.{eqb, ltb}
-use lib.ListN.{length, getD, take, drop}
+use lib.ListN.{length, take}
 use lib.Seq.{drop-length}
-use Rattle.calculus.specs.Answer.{Answer, good, refused, numbered, refuse, _>>=_}
+use Rattle.calculus.specs.Answer.{Answer, good}
 use Rattle.calculus.specs.Types.{TyRec, rec01, rec02, rec03, rec04, recAt}
 use Rattle.calculus.specs.Terms.{Term, var}
 use Rattle.calculus.proofs.Answers.{good-inj, on-need}
-use Rattle.notation_calculus.specs.Words.{run, Word}
+use Rattle.notation_calculus.specs.Words.{run}
 use Rattle.notation_calculus.specs.Trees.{Bound}
-use Rattle.notation_calculus.specs.Grammar.{behind, nameAt}
-use Rattle.notation_calculus.specs.Making.{State, Entry, Scope, bind, withVariables, mostEntries, Made, counted, node, halvesOf, rest}
-use Rattle.sheet_theorems.specs.Laid.{Below, TableOk}
+use Rattle.notation_calculus.specs.Making.{State, Scope, bind, withVariables, mostEntries, Made, counted, node, halvesOf, rest}
+use Rattle.sheet_theorems.specs.Laid.{Below}
 use Rattle.words.specs.Next.{runAt}
 use Rattle.words.specs.Lexed.{from}
-use Rattle.making_memory.specs.Map.{halvesAt, typeCountAt, nodeCountAt, makingSize}
+use Rattle.making_memory.specs.Map.{nodeCountAt}
 use Rattle.made_types.specs.Held.{kindIn, leftIn, rightIn, HoldsState}
 use Rattle.made_types.proofs.Sorts.{left-half-in, right-half-in}
 use Rattle.made_nodes.specs.Nodes.{of-var}
-use Rattle.made_nodes.specs.Held.{TermHeld, MadeIn, MadeOnly}
+use Rattle.made_nodes.specs.Held.{TermHeld, MadeIn}
 use Rattle.made_nodes.specs.Adding.{no-sub, NodeSays}
 use Rattle.made_nodes.specs.declared.Sub.{Sub}
 use Rattle.made_nodes.specs.declared.MadeTerm as code
 use Rattle.made_nodes.specs.declared.MadeTerm.the-variants as made
 use Rattle.made_nodes.proofs.Answers.{on-term, on-no-term}
-use Rattle.clauses.specs.Groups.{restIn}
 use Rattle.scopes.specs.Frames.{HoldsScope}
-use Rattle.walks.specs.Walkable.{AllTyped}
 use Rattle.walks.proofs.Kept.{scope-on-terms, term-on-terms, terms-of-made}
 use Rattle.term_parts.specs.declared.halves.Half.{Half}
 use Rattle.term_parts.specs.declared.names.TwoNames.{TwoNames}
-use Rattle.term_parts.specs.declared.apart.RestEnd as ended
 use Rattle.term_parts.specs.declared.apart.RestEnd.the-variants as rest-end
 use Rattle.term_parts.specs.Names.{boundAt, TwoSay}
-use Rattle.term_parts.specs.Halves.{mostHalves, halfIn, withHalf, InHalves, PartsOnly}
-use Rattle.term_parts.specs.Parts.{NameBound, partedBy, firstName, secondName, HalfWaits, CanTake, TakeSays, RestSays, CanTakeAt, TakeLastSays, RestHeld, RestAnswers, TakeRestSays}
+use Rattle.term_parts.specs.Halves.{withHalf, InHalves, PartsOnly}
+use Rattle.term_parts.specs.Parts.{NameBound, partedBy, firstName, secondName, HalfWaits, CanTake, TakeSays, RestSays, CanTakeAt, TakeLastSays, RestAnswers, TakeRestSays}
 use Rattle.term_parts.proofs.Stay.{half-above, half-put, half-state, parts-of-half, parts-of-entries, parts-of-made, parts-then, entries-state, half-same}
 
 -- ---- the halves of a type

@@ -1,24 +1,20 @@
 -- Names bound one by one. Assumes nothing.
 use Prim.Native.Nat.{ℕ, zero, suc, _+_, _*_, _-_, _≤_, _<_}
 use mathlib.Core.Path.{_≡_, refl, sym, ap, _∙_, subst}
-use mathlib.Core.List.{List, [], _∷_}
+use mathlib.Core.List.{List, _∷_}
 use native.Mathlib.Omega.{arith}
-use native.Mathlib.Decide.{decLe}
 use lib.ListN.{length, getD}
 use Rattle.calculus.specs.Answer.{Answer}
-use Rattle.notation_calculus.specs.Words.{Word}
 use Rattle.notation_calculus.specs.Trees.{Bound}
-use Rattle.notation_calculus.specs.Grammar.{Got, got, nameAt}
-use Rattle.notation_calculus.specs.Making.{Entry, Scope, bind, bindAll, withVariables, mostEntries, rest}
-use Rattle.words.specs.Next.{runAt}
-use Rattle.words.specs.Lexed.{from, Lexed}
+use Rattle.notation_calculus.specs.Grammar.{Got}
+use Rattle.notation_calculus.specs.Making.{Entry, Scope, bind, bindAll, withVariables, mostEntries}
+use Rattle.words.specs.Lexed.{from}
 use Rattle.making_memory.specs.Map.{scopeAt, makingSize}
 use Rattle.made_nodes.specs.Forms.{NamesIn}
 use Rattle.clauses.specs.Groups.{valueIn, restIn}
 use Rattle.clauses.specs.Rows.{noBound}
 use Rattle.scopes.specs.Entries.{placeIn, withEntry, OnlyEntries}
 use Rattle.scopes.specs.Frames.{HoldsScope}
-use Rattle.scopes.specs.Named.{CanName}
 use Rattle.scopes.proofs.KeepLaws.{entry-only, entry-place, only-none, only-then, scope-bound}
 use Rattle.term_parts.specs.declared.names.NameEnd.{NameEnd}
 use Rattle.term_parts.specs.Names.{boundAt, namesBy, AllNames, spaced, spacedNames, NamesStand, NameSays}

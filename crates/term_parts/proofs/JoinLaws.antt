@@ -1,14 +1,13 @@
 -- Terms that wait joined to a term one by one, from the topmost on. Assumes nothing.
-use Prim.Native.Nat.{ℕ, zero, suc, _+_, _*_, _-_, _≤_, _<_}
+use Prim.Native.Nat.{ℕ, _+_, _-_, _≤_, _<_}
 use mathlib.Core.Path.{_≡_, refl, sym, ap, _∙_, subst}
 use mathlib.Core.List.{List, [], _∷_}
 use native.Mathlib.Omega.{arith}
-use lib.ListN.{length, getD}
-use Rattle.calculus.specs.Answer.{Answer, good, refused, numbered, _>>=_}
+use lib.ListN.{length}
+use Rattle.calculus.specs.Answer.{Answer, good, _>>=_}
 use Rattle.calculus.specs.Terms.{proj}
 use Rattle.notation_calculus.specs.Making.{Made, over, pairOf}
 use Rattle.notation_machine.specs.TermMachine.{Element, Taken, pairsOf, projections}
-use Rattle.making_memory.specs.Map.{halvesAt}
 use Rattle.made_types.specs.Held.{HoldsState}
 use Rattle.made_nodes.specs.Held.{TermHeld, MadeIn, SmallMade, MadeOnly, Workable}
 use Rattle.made_nodes.specs.Forms.{PairSays, ProjectionSays}
@@ -18,7 +17,7 @@ use Rattle.made_nodes.specs.declared.MadeTerm.the-variants as made
 use Rattle.made_nodes.proofs.Terms.{made-same, made-on, held-on, workable-on}
 use Rattle.made_nodes.proofs.Answers.{on-term, on-no-term}
 use Rattle.term_parts.specs.declared.halves.Half.{Half}
-use Rattle.term_parts.specs.Halves.{mostHalves, halfIn, subOf, HalvesIn, CanJoin, JoinSays}
+use Rattle.term_parts.specs.Halves.{halfIn, subOf, HalvesIn, CanJoin, JoinSays}
 use Rattle.term_parts.proofs.Stay.{half-same, halves-stay}
 
 -- `join` takes the first of the list by `one`, and goes on with what comes of it

@@ -1,5 +1,5 @@
 -- What is looked up once is known for whatever is done with it. Assumes nothing.
-use Prim.Native.Nat.{ℕ, zero, suc, _+_, _-_, _≤_, _<_}
+use Prim.Native.Nat.{ℕ, suc, _+_, _-_, _≤_, _<_}
 use mathlib.Core.Path.{_≡_, refl, sym, ap, _∙_, subst}
 use mathlib.Core.Bool.{Bool, true, false, cond}
 use mathlib.Core.List.{List, [], _∷_}
@@ -14,7 +14,7 @@ use Rattle.scopes.specs.Frames.{frameIn, HoldsScope}
 use Rattle.scopes.proofs.LookLaws.{look-last}
 use Rattle.walks.specs.Walkable.{AllTyped}
 use Rattle.term_parts.specs.declared.variables.Look.the-variants as look
-use Rattle.term_parts.specs.Parts.{Looked, here, nowhere, saidLook, lookFor, CanLook, LookSays}
+use Rattle.term_parts.specs.Parts.{Looked, here, nowhere, lookFor, LookSays}
 
 -- what is done with an answer
 abbrev pub doneWith : {A : Type 0} → (ℕ → ℕ → A) → A → Looked → A

@@ -9,19 +9,17 @@ use lib.Dec.{eqb}
 use lib.ListN.{length, take, drop}
 use borrow.Author.Tests.{eq-eqb, ne-eqb}
 use Rattle.calculus.specs.Answer.{Answer, good, refused, refuse, _>>=_}
-use Rattle.calculus.proofs.Answers.{refused≢good, good-inj}
+use Rattle.calculus.proofs.Answers.{refused≢good}
 use Rattle.notation_calculus.specs.Words.{comma, colon, Token, sign, part, number, name, Word, run}
 use Rattle.notation_calculus.specs.Trees.{Bound}
 use Rattle.notation_calculus.specs.Grammar.{Got, got, peek, behind, place, is, boundName, nameAt, listFrom, namesFrom}
 use Rattle.words.specs.Tables.{tokenCode}
 use Rattle.words.specs.Next.{Said, runAt}
 use Rattle.words.specs.Lexed.{from, Lexed, Onward, Stands}
-use Rattle.grammar.proofs.EndLaws.{is-yes, is-no}
 use Rattle.clauses.specs.Groups.{valueIn, restIn}
 use Rattle.clauses.specs.Rows.{noBound}
 use Rattle.clauses.proofs.HeadLaws.{name-onward, place-inside}
 use Rattle.term_parts.specs.declared.names.NameEnd.{NameEnd}
-use Rattle.term_parts.specs.declared.names.NamesEnd.{NamesEnd}
 use Rattle.term_parts.specs.Names.{boundAt, namesBy, AllNames, spaced, NamesStand, NameSays, NamesSay, TwoSay}
 
 -- ---- one name

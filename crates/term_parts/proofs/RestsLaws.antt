@@ -3,17 +3,16 @@ use Prim.Native.Nat.{ℕ, zero, suc, _+_, _*_, _-_, _≤_, _<_}
 use mathlib.Core.Path.{_≡_, refl, sym, ap, _∙_, subst}
 use mathlib.Core.List.{List, [], _∷_}
 use native.Mathlib.Omega.{arith}
-use lib.ListN.{length, getD}
-use Rattle.calculus.specs.Answer.{Answer, good, refused, numbered, refuse, _>>=_}
+use lib.ListN.{length}
+use Rattle.calculus.specs.Answer.{Answer, good, refused, refuse, _>>=_}
 use Rattle.calculus.specs.Types.{recAt}
 use Rattle.calculus.specs.Terms.{var}
 use Rattle.notation_calculus.specs.Words.{Word}
 use Rattle.notation_calculus.specs.Trees.{Bound}
 use Rattle.notation_calculus.specs.Grammar.{behind, nameAt}
-use Rattle.notation_calculus.specs.Making.{State, Entry, Scope, bind, withVariables, mostEntries, Made, counted, node, halvesOf, rest}
+use Rattle.notation_calculus.specs.Making.{State, Entry, Scope, withVariables, mostEntries, Made, counted, node, halvesOf, rest}
 use Rattle.notation_machine.specs.TermMachine.{Taken, Apart, apartFrom}
-use Rattle.words.specs.Lexed.{from, Lexed}
-use Rattle.making_memory.specs.Map.{halvesAt, nodeCountAt, makingSize}
+use Rattle.words.specs.Lexed.{from}
 use Rattle.made_types.specs.Held.{HoldsState}
 use Rattle.made_nodes.specs.Held.{TermHeld}
 use Rattle.made_nodes.specs.declared.Sub.{Sub}
@@ -26,7 +25,7 @@ use Rattle.term_parts.specs.declared.apart.RestEnd as ended
 use Rattle.term_parts.specs.declared.apart.RestEnd.the-variants as rest-end
 use Rattle.term_parts.specs.declared.apart.ApartEnd.the-variants as apart-end
 use Rattle.term_parts.specs.Names.{namesBy, AllNames, listedNames, NamesStand}
-use Rattle.term_parts.specs.Halves.{mostHalves, halfIn, subOf, TakenIn, PartsOnly}
+use Rattle.term_parts.specs.Halves.{halfIn, subOf, TakenIn, PartsOnly}
 use Rattle.term_parts.specs.Parts.{partedBy, firstName, secondName, HalfWaits, CanTakeAt, TakeLastSays, RestHeld, RestAnswers, RestNames, TakeRestSays, CanApart, Parting, RestsAnswer, RestsSay, ApartAnswers, ApartSays}
 use Rattle.term_parts.proofs.Stay.{parts-none, parts-then, halves-stay}
 use Rattle.term_parts.proofs.ApartLaws.{halves-known}

@@ -1,14 +1,14 @@
 -- What stays when a half, entries or nodes are written: states, terms, scopes, and the terms that wait. Assumes nothing.
-use Prim.Native.Nat.{ℕ, zero, suc, _+_, _*_, _≤_, _<_}
+use Prim.Native.Nat.{ℕ, suc, _+_, _*_, _≤_, _<_}
 use mathlib.Core.Path.{_≡_, refl, sym, ap, _∙_, subst}
 use mathlib.Core.List.{List, [], _∷_}
 use native.Mathlib.Omega.{arith}
 use native.Mathlib.Decide.{decLe}
 use lib.ListN.{length, getD}
-use lib.Seq.{sets, length-sets}
+use lib.Seq.{length-sets}
 use Rattle.laws.proofs.Regions.{sets-at, sets-before, sets-outside}
 use Rattle.notation_calculus.specs.Making.{State, Made, mostEntries}
-use Rattle.making_memory.specs.Map.{typesAt, scopeAt, halvesAt, clausesAt, typeCountAt, nodeCountAt, putCountAt, makingSize}
+use Rattle.making_memory.specs.Map.{halvesAt, typeCountAt, nodeCountAt, putCountAt}
 use Rattle.made_types.specs.Held.{HoldsState}
 use Rattle.made_types.proofs.Keeping.{state-kept}
 use Rattle.made_nodes.specs.Held.{TermHeld, MadeOnly, Workable}

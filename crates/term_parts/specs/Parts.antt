@@ -26,7 +26,6 @@ use Rattle.scopes.specs.Entries.{placeIn, OnlyEntries, Places}
 use Rattle.scopes.specs.Frames.{frameIn, HoldsScope}
 use Rattle.scopes.specs.Named.{CanName}
 use Rattle.walks.specs.Walkable.{AllTyped}
-use Rattle.term_parts.specs.declared.halves.Half.{Half}
 use Rattle.term_parts.specs.declared.apart.ApartEnd as parted
 use Rattle.term_parts.specs.declared.apart.ApartEnd.the-variants as apart-end
 use Rattle.term_parts.specs.declared.apart.RestEnd as ended

@@ -2,8 +2,8 @@
 use Rattle.term_parts.proofs.LookFor.{look-nowhere, look-here, look-within}
 use Rattle.scopes.specs.Entries.{lastNamed}
 use Rattle.scopes.specs.declared.frames.Frame.{Frame}
-use mathlib.Core.Path.{_≡_, _∙_, ap, sym}
-use Prim.Native.Nat.{ℕ, _-_, _≤_}
+use mathlib.Core.Path.{_∙_, ap}
+use Prim.Native.Nat.{_-_}
 use native.Mathlib.Omega.{arith}
 use borrow.Author.Needs.{needs}
 use Rattle.term_parts.proofs.variables.variable_at.Statement.{statement}
