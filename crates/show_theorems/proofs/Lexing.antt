@@ -10,7 +10,7 @@ use Rattle.calculus.specs.Answer.{Answer, good, refused, _>>=_}
 use Rattle.calculus.specs.Types.{TyRec, rec01, rec02, rec03, rec04, Table, recAt}
 use Rattle.calculus.specs.Terms.{Edition, first, second, Term, var, lvar, fun, app, lfun, lapp, pair, proj, fix, con, name}
 use Rattle.calculus.specs.Read.{Sheet}
-use Rattle.calculus.specs.Listing.{decimal}
+use Rattle.calculus.specs.Listing.{decimal, names}
 use Rattle.laws.proofs.Tests.{T-is, is-false}
 use Rattle.notation_calculus.specs.Words.{Name, ascii, Token, sign, part, number, Word, ends, Read, blank, inName, gap, run, named, reserved, signs, signAt, wordAt, wordsFrom, words}
 use Rattle.notation_calculus.specs.Words as Words
@@ -81,10 +81,19 @@ figure-in c h k = or-digit (Words.letter c) (Words.digit c) (eqb c 39) (T-is (Wo
     or-digit false true d e = refl
     or-digit false false d e = absurd (subst (λ (x : Bool). T x) (sym e) tt)
 
-run-figures : (s rest : List ℕ) → Figures s → Stops rest → run (s ++ rest) ≡ length s
-run-figures [] [] f h = refl
-run-figures [] (c ∷ rest) f h = rw h refl
-run-figures (c ∷ s) rest (a, b, f) h = rw (figure-in c a b) (ap suc (run-figures s rest f h))
+-- bytes that go on a name
+abbrev InNames : List ℕ → Type 0
+InNames [] = Unit {0}
+InNames (c ∷ s) = (inName c ≡ true) × InNames s
+
+figures-in : (s : List ℕ) → Figures s → InNames s
+figures-in [] f = tt
+figures-in (c ∷ s) (a, b, f) = (figure-in c a b, figures-in s f)
+
+run-names : (s rest : List ℕ) → InNames s → Stops rest → run (s ++ rest) ≡ length s
+run-names [] [] f h = refl
+run-names [] (c ∷ rest) f h = rw h refl
+run-names (c ∷ s) rest (a, f) h = rw a (ap suc (run-names s rest f h))
 
 take-front : (s rest : List ℕ) → take (length s) (s ++ rest) ≡ s
 take-front [] rest = refl
@@ -111,25 +120,26 @@ second-of true y a b c e f = absurd (subst (λ (z : Bool). T z) e tt)
 second-of false true a b c e f = refl
 second-of false false a b c e f = absurd (subst (λ (z : Bool). T z) (sym f) tt)
 
--- a letter and figures are a name
+-- a letter and what goes on a name are one word
 name-word :
-    (c : ℕ) (d rest : List ℕ) (at : ℕ) → Words.digit c ≡ false → Words.letter c ≡ true → Figures d → Stops rest → named (c ∷ d) reserved ≡ Words.name (c ∷ d)
-    → wordAt (c ∷ (d ++ rest)) at ≡ good (record { token = Words.name (c ∷ d); long = suc (length d) })
+    (c : ℕ) (d rest : List ℕ) (t : Token) (at : ℕ) → Words.digit c ≡ false → Words.letter c ≡ true → InNames d → Stops rest → named (c ∷ d) reserved ≡ t
+    → wordAt (c ∷ (d ++ rest)) at ≡ good (record { token = t; long = suc (length d) })
 unfolding wordAt
-name-word c d rest at g l f h e =
+name-word c d rest t at g l f h e =
     let i : inName c ≡ true = ap (λ (b : Bool). b || Words.digit c || eqb c 39) l in
-    let r : run (c ∷ (d ++ rest)) ≡ suc (length d) = rw i (ap suc (run-figures d rest f h)) in
-    let t : take (run (c ∷ (d ++ rest))) (c ∷ (d ++ rest)) ≡ c ∷ d = ap (λ (n : ℕ). take n (c ∷ (d ++ rest))) r ∙ ap (λ (x : List ℕ). c ∷ x) (take-front d rest) in
-    second-of (Words.digit c) (Words.letter c) _ _ _ g l ∙ (ap (λ (x : Name). good (record { token = named x reserved; long = length x })) t ∙ ap (λ (x : Token). good (record { token = x; long = suc (length d) })) e)
+    let r : run (c ∷ (d ++ rest)) ≡ suc (length d) = rw i (ap suc (run-names d rest f h)) in
+    let k : take (run (c ∷ (d ++ rest))) (c ∷ (d ++ rest)) ≡ c ∷ d = ap (λ (n : ℕ). take n (c ∷ (d ++ rest))) r ∙ ap (λ (x : List ℕ). c ∷ x) (take-front d rest) in
+    second-of (Words.digit c) (Words.letter c) _ _ _ g l ∙ (ap (λ (x : Name). good (record { token = named x reserved; long = length x })) k ∙ ap (λ (x : Token). good (record { token = x; long = suc (length d) })) e)
 
-behind-name : (d rest : List ℕ) → length rest ≤ length (d ++ rest)
-behind-name d rest = omega (arith, length-append d rest)
+-- .. whatever stands behind it
+lex-name : (c : ℕ) (d rest : List ℕ) (t : Token) (ts : List Token) → gap false (c ∷ (d ++ rest)) ≡ 0 → Words.digit c ≡ false → Words.letter c ≡ true → InNames d → named (c ∷ d) reserved ≡ t → Stops rest → Lexes rest ts → Lexes (c ∷ (d ++ rest)) (t ∷ ts)
+lex-name c d rest t ts z g l i e h f = lex-word c (d ++ rest) rest t (suc (length d)) ts z (λ at. name-word c d rest t at g l i h e) (drop-front d rest) (omega (arith, length-append d rest)) f
 
 pub lex-type : (t : ℕ) (rest : List ℕ) (ts : List Token) → Stops rest → Lexes rest ts → Lexes (shownType t ++ rest) (typeWord t ∷ ts)
-lex-type t rest ts h f = lex-word 116 (decimal t ++ rest) rest (typeWord t) (suc (length (decimal t))) ts refl (λ at. name-word 116 (decimal t) rest at refl refl (decimal-are t) h (type-named (decimal t) (decimal-are t) (decimal-some t))) (drop-front (decimal t) rest) (behind-name (decimal t) rest) f
+lex-type t rest ts h f = lex-name 116 (decimal t) rest (typeWord t) ts refl refl refl (figures-in (decimal t) (decimal-are t)) (type-named (decimal t) (decimal-are t) (decimal-some t)) h f
 
 pub lex-binder : (k : ℕ) (rest : List ℕ) (ts : List Token) → Stops rest → Lexes rest ts → Lexes (shownBinder k ++ rest) (binderWord k ∷ ts)
-lex-binder k rest ts h f = lex-word 120 (decimal k ++ rest) rest (binderWord k) (suc (length (decimal k))) ts refl (λ at. name-word 120 (decimal k) rest at refl refl (decimal-are k) h (binder-named (decimal k) (decimal-are k) (decimal-some k))) (drop-front (decimal k) rest) (behind-name (decimal k) rest) f
+lex-binder k rest ts h f = lex-name 120 (decimal k) rest (binderWord k) ts refl refl refl (figures-in (decimal k) (decimal-are k)) (binder-named (decimal k) (decimal-are k) (decimal-some k)) h f
 
 -- ---- signs, numbers and reserved words, each with the blanks around it
 
@@ -217,3 +227,22 @@ lex-edition rest us f = lex-word 101 (100 ∷ 105 ∷ 116 ∷ 105 ∷ 111 ∷ 11
 pub lex-main : Adds (ascii "\nmain = ") (Words.name (ascii "main") ∷ sign Words.equals ∷ [])
 unfolding wordAt reserved signs
 lex-main rest us f = line-then _ _ (lex-word 109 (97 ∷ 105 ∷ 110 ∷ 32 ∷ 61 ∷ 32 ∷ rest) (32 ∷ 61 ∷ 32 ∷ rest) (Words.name (ascii "main")) 4 (sign Words.equals ∷ us) refl (λ at. refl) refl (omega arith) (blank-then _ _ (sign-then 61 (32 ∷ rest) (sign Words.equals) us refl (λ at. refl) (blank-then rest us f))))
+
+pub lex-let-round : Adds (ascii "let (") (sign Words.lets ∷ sign Words.round ∷ [])
+lex-let-round rest us f = lex-let (40 ∷ rest) (sign Words.round ∷ us) (lex-round rest us f)
+
+pub lex-round-equals : Adds (ascii ") = ") (sign Words.endRound ∷ sign Words.equals ∷ [])
+lex-round-equals rest us f = lex-end-round (32 ∷ 61 ∷ 32 ∷ rest) (sign Words.equals ∷ us) (lex-equals rest us f)
+
+-- ---- parts
+
+pub lex-part : (p : ℕ) (rest : List ℕ) (ts : List Token) → p < 7 → Stops rest → Lexes rest ts → Lexes (getD names p [] ++ rest) (part p ∷ ts)
+unfolding reserved
+lex-part zero rest ts l h f = lex-name 122 (ascii "ero") rest (part 0) ts refl refl refl (refl, (refl, (refl, tt))) refl h f
+lex-part (suc zero) rest ts l h f = lex-name 114 (ascii "eg") rest (part 1) ts refl refl refl (refl, (refl, tt)) refl h f
+lex-part (suc (suc zero)) rest ts l h f = lex-name 97 (ascii "nd") rest (part 2) ts refl refl refl (refl, (refl, tt)) refl h f
+lex-part (suc (suc (suc zero))) rest ts l h f = lex-name 111 (ascii "r") rest (part 3) ts refl refl refl (refl, tt) refl h f
+lex-part (suc (suc (suc (suc zero)))) rest ts l h f = lex-name 120 (ascii "or") rest (part 4) ts refl refl refl (refl, (refl, tt)) refl h f
+lex-part (suc (suc (suc (suc (suc zero))))) rest ts l h f = lex-name 105 (ascii "nv") rest (part 5) ts refl refl refl (refl, (refl, tt)) refl h f
+lex-part (suc (suc (suc (suc (suc (suc zero)))))) rest ts l h f = lex-name 111 (ascii "ne") rest (part 6) ts refl refl refl (refl, (refl, tt)) refl h f
+lex-part (suc (suc (suc (suc (suc (suc (suc p))))))) rest ts l h f = absurd (omega arith)

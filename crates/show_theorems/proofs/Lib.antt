@@ -1,3 +1,4 @@
 pub mod Figures
 pub mod Lexing
 pub mod Numbering
+pub mod Texts
