@@ -2,3 +2,4 @@ pub mod Figures
 pub mod Lexing
 pub mod Numbering
 pub mod Texts
+pub mod Parsing
