@@ -3,3 +3,4 @@ pub mod Lexing
 pub mod Numbering
 pub mod Texts
 pub mod Parsing
+pub mod Items

@@ -24,6 +24,10 @@ pub within-step : {A B : Type 0} (P : A → Type 0) (Q : B → Type 0) (m : Answ
 within-step P Q (good a) f h k = k a h
 within-step P Q (refused why) f h k = h
 
+pub within-map : {A : Type 0} (P Q : A → Type 0) (m : Answer A) → Within P m → ((a : A) → P a → Q a) → Within Q m
+within-map P Q (good a) h k = k a h
+within-map P Q (refused why) h k = h
+
 pub within-then : {A B C : Type 0} (P : A → Type 0) (Q : C → Type 0) (m : Answer A) (f : A → Answer B) (g : B → Answer C) → Within P m → ((a : A) → P a → Within Q (f a >>= g)) → Within Q ((m >>= f) >>= g)
 within-then P Q (good a) f g h k = k a h
 within-then P Q (refused why) f g h k = h

@@ -1,12 +1,15 @@
 -- The trees of a shown sheet, whatever places its words have; and answers that are a value or say that a limit was passed. Assumes nothing.
 use Prim.Native.Nat.{ℕ, suc, _-_}
 use mathlib.Core.Path.{_≡_}
-use mathlib.Core.List.{List, [], _∷_}
+use mathlib.Core.List.{List, [], _∷_, _++_}
+use lib.ListN.{length}
 use Rattle.calculus.specs.Answer.{Answer, good, refused}
 use Rattle.calculus.specs.Types.{TyRec, rec01, rec02, rec03, rec04, Table, recAt}
 use Rattle.calculus.specs.Terms.{Term, var, lvar, fun, app, lfun, lapp, pair, proj, fix, con, name}
-use Rattle.notation_calculus.specs.Trees.{product, arrow, linear, TypeTree, typed, one, typeNamed, nothing, side, noTypes, Tree, spine, apart, named, part, tuple, noAtoms, atoms, noTrees, trees}
+use Rattle.notation_calculus.specs.Trees.{product, arrow, linear, TypeTree, typed, one, typeNamed, nothing, side, noTypes, Tree, spine, apart, named, part, tuple, noAtoms, atoms, noTrees, trees, ofType, ofTerm, Clause, Line, Text}
 use Rattle.notation_calculus.specs.Trees as Trees
+use Rattle.calculus.specs.Read.{Sheet}
+use Rattle.notation_calculus.specs.Make.{mainName}
 use Rattle.notation_calculus.specs.Show.{leftOf}
 use Rattle.show_theorems.specs.Shown.{shownType, shownBinder}
 
@@ -37,3 +40,44 @@ pub data ShownTerm (Θ : Table) : ℕ → Term → Tree → Type 0 where
   fix-shown : {k t p q : ℕ} {e : Term} {s : TypeTree} {b : Tree} → ShownType t s → ShownTerm Θ (suc k) e b → ShownTerm Θ k (fix t e) (Trees.fix p (record { name = shownBinder k; place = q }) s b)
   con-shown : {k i t p q : ℕ} → ShownTerm Θ k (con i t) (spine p (part q i) noAtoms)
   name-shown : {k p q : ℕ} {x e : Term} {v b : Tree} → ShownTerm Θ k x v → ShownTerm Θ (suc k) e b → ShownTerm Θ k (name x e) (Trees.name p (record { name = shownBinder k; place = q }) v b)
+
+-- ---- the text
+
+-- clause i of a shown sheet: a type without parameters
+pub record TypeClause (i : ℕ) (r : TyRec) (c : Clause) : Type 0 where
+  pub named : c .head .name ≡ shownType i
+  pub types : c .types ≡ []
+  pub numbers : c .numbers ≡ []
+  pub tree : TypeTree
+  pub body : c .body ≡ ofType tree
+  pub shown : ShownRec r tree
+
+abbrev pub ShownClauses : ℕ → Table → List Clause → Type 0
+ShownClauses n [] [] = Unit {0}
+ShownClauses n [] (c ∷ cs) = ⊥
+ShownClauses n (r ∷ Θ) [] = ⊥
+ShownClauses n (r ∷ Θ) (c ∷ cs) = TypeClause n r c × ShownClauses (suc n) Θ cs
+
+pub record MainClause (Θ : Table) (e : Term) (c : Clause) : Type 0 where
+  pub named : c .head .name ≡ mainName
+  pub types : c .types ≡ []
+  pub numbers : c .numbers ≡ []
+  pub tree : Tree
+  pub body : c .body ≡ ofTerm tree
+  pub shown : ShownTerm Θ 0 e tree
+
+-- the line `table`, with so many clauses above it
+abbrev pub ShownLines : ℕ → ℕ → Table → List Line → Type 0
+ShownLines seen n [] [] = Unit {0}
+ShownLines seen n [] (l ∷ ls) = ⊥
+ShownLines seen n (r ∷ Θ) [] = ⊥
+ShownLines seen n (r ∷ Θ) (l ∷ ls) = (l .seen ≡ seen) × ShownType n (l .type) × ShownLines seen (suc n) Θ ls
+
+pub record ShownText (σ : Sheet) (X : Text) : Type 0 where
+  pub edition : X .edition ≡ σ .edition
+  pub types : List Clause
+  pub main : Clause
+  pub clauses : X .clauses ≡ types ++ (main ∷ [])
+  pub typed : ShownClauses 0 (σ .table) types
+  pub made : MainClause (σ .table) (σ .term) main
+  pub lines : ShownLines (length (σ .table)) 0 (σ .table) (X .lines)
