@@ -4,3 +4,4 @@ pub mod Numbering
 pub mod Texts
 pub mod Parsing
 pub mod Items
+pub mod Tabled
