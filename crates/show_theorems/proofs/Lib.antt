@@ -5,3 +5,4 @@ pub mod Texts
 pub mod Parsing
 pub mod Items
 pub mod Tabled
+pub mod Remade
