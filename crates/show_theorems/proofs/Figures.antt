@@ -1,14 +1,13 @@
 -- Numbers in decimal as parts of names: digits, at least one, and two numbers below 2 to the 64th do not share them. Assumes nothing.
 use Prim.Native.Nat.{ℕ, zero, suc, _+_, _*_, _-_, _/_, _%_, _^_, _≤_, _<_}
 use mathlib.Core.Path.{_≡_, refl, sym, ap, subst, _∙_}
-use mathlib.Core.Bool.{Bool, true, false, not, _&&_, _||_, cond}
+use mathlib.Core.Bool.{Bool, true, false, not, cond}
 use mathlib.Core.List.{List, [], _∷_, _++_}
 use native.Mathlib.Omega.{arith}
-use lib.Dec.{T, eqb, leb, ltb, eqb→eq, ltb→lt, le→leb, eqb-refl}
-use lib.ListN.{length}
+use lib.Dec.{T, eqb, ltb, eqb→eq, ltb→lt, eqb-refl}
 use Rattle.calculus.specs.Listing.{digits, decimal}
-use Rattle.laws.proofs.Tests.{T-is, is-false, and-of, not-true}
-use Rattle.notation_calculus.specs.Words.{sameName, between, digit}
+use Rattle.laws.proofs.Tests.{T-is, is-false}
+use Rattle.notation_calculus.specs.Words.{sameName, digit}
 use Rattle.notation_theorems.proofs.TypesMean.{same→eq}
 
 -- every byte is a digit
@@ -32,17 +31,17 @@ pub decimal-are : (n : ℕ) → Figures (decimal n)
 decimal-are n = digits-are 20 n
 
 -- .. and there is one
-pub data Some : List ℕ → Type 0 where
-  some : {c : ℕ} {s : List ℕ} → Some (c ∷ s)
+pub data OneOrMore : List ℕ → Type 0 where
+  some : {c : ℕ} {s : List ℕ} → OneOrMore (c ∷ s)
 
-some-then : (s : List ℕ) (c : ℕ) → Some (s ++ c ∷ [])
+some-then : (s : List ℕ) (c : ℕ) → OneOrMore (s ++ c ∷ [])
 some-then [] c = some
 some-then (d ∷ s) c = some
 
-pub decimal-some : (n : ℕ) → Some (decimal n)
+pub decimal-some : (n : ℕ) → OneOrMore (decimal n)
 decimal-some n = by (ltb n 10)
   where
-    by : (b : Bool) → Some (cond b ((48 + n) ∷ []) (digits 19 (n / 10) ++ ((48 + n % 10) ∷ [])))
+    by : (b : Bool) → OneOrMore (cond b ((48 + n) ∷ []) (digits 19 (n / 10) ++ ((48 + n % 10) ∷ [])))
     by true = some
     by false = some-then (digits 19 (n / 10)) (48 + n % 10)
 

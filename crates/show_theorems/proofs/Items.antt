@@ -6,20 +6,20 @@ use mathlib.Core.List.{List, [], _∷_, _++_, append-assoc, append-nil}
 use native.Mathlib.Omega.{arith}
 use lib.Dec.{T, eqb, ltb, ltb→lt, eqb→eq}
 use lib.ListN.{length, length-append}
-use Rattle.calculus.specs.Answer.{Answer, good, refused, _>>=_, need}
-use Rattle.calculus.specs.Types.{TyRec, rec01, rec02, rec03, rec04, Table, recAt}
+use Rattle.calculus.specs.Answer.{Answer, good, _>>=_, need}
+use Rattle.calculus.specs.Types.{TyRec, rec01, rec02, rec03, rec04, Table}
 use Rattle.calculus.specs.Terms.{Edition, first, second, Term}
 use Rattle.calculus.specs.Read.{Sheet}
-use Rattle.laws.proofs.Tests.{T-is, is-false}
-use Rattle.notation_calculus.specs.Words.{ascii, ends, equals, table, type, comma, Token, sign, Word, sameName}
+use Rattle.laws.proofs.Tests.{is-false}
+use Rattle.notation_calculus.specs.Words.{ascii, ends, equals, table, comma, Token, sign, Word, sameName}
 use Rattle.notation_calculus.specs.Words as Words
 use Rattle.notation_calculus.specs.Trees.{TypeTree, Tree, Body, ofType, ofTerm, Clause, Line, Text}
-use Rattle.notation_calculus.specs.Grammar.{mostNested, mostClauses, Got, got, behind, is, place, expect, typeAt, termAt, listFrom, clauseAt, typeBody, termBody, isType, sameSort, namesake, coverAll, mayFollow, mayFollowAll, Items, noItems, withClause, linesOf, withLines, itemsFrom, editionAt, textOf}
+use Rattle.notation_calculus.specs.Grammar.{mostNested, mostClauses, Got, got, behind, is, place, typeAt, termAt, listFrom, clauseAt, typeBody, termBody, isType, sameSort, mayFollow, mayFollowAll, Items, noItems, withClause, linesOf, withLines, itemsFrom, editionAt, textOf}
 use Rattle.notation_calculus.specs.Make.{mainName}
-use Rattle.show_theorems.specs.Shown.{shownType, typeWord, recWords, typeLineWords, tableWords, termWords, editionWords, sheetWords, Said, last, more}
-use Rattle.show_theorems.specs.ShownTrees.{Within, ShownType, ShownRec, ShownTerm, TypeClause, ShownClauses, MainClause, ShownLines, ShownText}
+use Rattle.show_theorems.specs.Shown.{shownType, typeWord, recWords, typeLineWords, tableWords, termWords, editionWords, sheetWords, Spoken, last, more}
+use Rattle.show_theorems.specs.ShownTrees.{Within, ShownType, TypeClause, ShownClauses, MainClause, ShownLines, ShownText}
 use Rattle.show_theorems.proofs.Figures.{same-decimal}
-use Rattle.show_theorems.proofs.Parsing.{within-step, within-map, within-then, expect-said, expect-then, TypeStops, TypeReads, read-type, RecReads, read-rec, TermStops, TermReads, read-term}
+use Rattle.show_theorems.proofs.Parsing.{within-step, within-map, within-then, TypeStops, TypeReads, read-type, RecReads, read-rec, TermStops, TermReads, read-term}
 
 abbrev isComma : List Word → Bool
 isComma ws = is comma ws
@@ -27,7 +27,7 @@ isComma ws = is comma ws
 -- ---- one clause
 
 abbrev ClauseReads : (Clause → Type 0) → List Token → Got Clause → Type 0
-ClauseReads P us g = P (g .value) × Said us (g .rest)
+ClauseReads P us g = P (g .value) × Spoken us (g .rest)
 
 -- .. with at most m levels
 abbrev typeBodyAt : ℕ → List Word → Answer (Got Body)
@@ -40,10 +40,10 @@ termBodyAt m ws = do
   e ← termAt m ws
   got (ofTerm (e .value)) (e .rest)
 
-read-type-clause : (m n : ℕ) (r : TyRec) (us : List Token) (ws : List Word) → Said (typeWord n ∷ sign equals ∷ recWords r us) ws → TypeStops us → Within (ClauseReads (TypeClause n r) us) (clauseAt (typeBodyAt m) ws)
+read-type-clause : (m n : ℕ) (r : TyRec) (us : List Token) (ws : List Word) → Spoken (typeWord n ∷ sign equals ∷ recWords r us) ws → TypeStops us → Within (ClauseReads (TypeClause n r) us) (clauseAt (typeBodyAt m) ws)
 read-type-clause m n r us ws (more (more {ws = vs} h)) s = within-then (RecReads r us) (ClauseReads (TypeClause n r) us) (typeAt m false vs) _ _ (read-rec m r us vs h s) λ t (x, y). (record { named = refl; types = refl; numbers = refl; tree = t .value; body = refl; shown = x }, y)
 
-read-main-clause : (m : ℕ) (Θ : Table) (e : Term) (us : List Token) (ws : List Word) → Said (Words.name (ascii "main") ∷ sign equals ∷ termWords Θ 0 e us) ws → TermStops us → Within (ClauseReads (MainClause Θ e) us) (clauseAt (termBodyAt m) ws)
+read-main-clause : (m : ℕ) (Θ : Table) (e : Term) (us : List Token) (ws : List Word) → Spoken (Words.name (ascii "main") ∷ sign equals ∷ termWords Θ 0 e us) ws → TermStops us → Within (ClauseReads (MainClause Θ e) us) (clauseAt (termBodyAt m) ws)
 unfolding mainName
 read-main-clause m Θ e us ws (more (more {ws = vs} h)) s = within-then (TermReads Θ 0 e us) (ClauseReads (MainClause Θ e) us) (termAt m vs) _ _ (read-term Θ e m 0 us vs h s) λ t (x, y). (record { named = refl; types = refl; numbers = refl; tree = t .value; body = refl; shown = x }, y)
 
@@ -110,7 +110,7 @@ ShownAll n (r ∷ Θ) [] = ⊥
 ShownAll n (r ∷ Θ) (t ∷ ts) = ShownType n t × ShownAll (suc n) Θ ts
 
 abbrev ListReads : ℕ → Table → List Token → Got (List TypeTree) → Type 0
-ListReads n Θ us g = ShownAll n Θ (g .value) × Said us (g .rest)
+ListReads n Θ us g = ShownAll n Θ (g .value) × Spoken us (g .rest)
 
 commas : (us : List Token) → TypeStops (sign comma ∷ us)
 commas us = record { square = refl; curly = refl; times = refl; arrow = refl; linear = refl }
@@ -119,19 +119,19 @@ commas us = record { square = refl; curly = refl; times = refl; arrow = refl; li
 mains : (us : List Token) → TypeStops (Words.name (ascii "main") ∷ us)
 mains us = record { square = refl; curly = refl; times = refl; arrow = refl; linear = refl }
 
-read-list : (m rounds n : ℕ) (r : TyRec) (Θ : Table) (us : List Token) (ws : List Word) → Said (tableWords n (r ∷ Θ) (Words.name (ascii "main") ∷ us)) ws → length Θ < rounds → Within (ListReads n (r ∷ Θ) (Words.name (ascii "main") ∷ us)) (listFrom (λ vs. typeAt m false vs) rounds ws)
+read-list : (m rounds n : ℕ) (r : TyRec) (Θ : Table) (us : List Token) (ws : List Word) → Spoken (tableWords n (r ∷ Θ) (Words.name (ascii "main") ∷ us)) ws → length Θ < rounds → Within (ListReads n (r ∷ Θ) (Words.name (ascii "main") ∷ us)) (listFrom (λ vs. typeAt m false vs) rounds ws)
 read-list m zero n r Θ us ws h l = absurd (omega arith)
 read-list m (suc rounds) n r [] us ws h l =
     within-step (TypeReads n (Words.name (ascii "main") ∷ us)) (ListReads n (r ∷ []) (Words.name (ascii "main") ∷ us)) (typeAt m false ws) _ (read-type m false n _ ws h (mains us)) λ g (x, y). one g x (g .rest) y
   where
-    one : (g : Got TypeTree) → ShownType n (g .value) → (vs : List Word) → Said (Words.name (ascii "main") ∷ us) vs → Within (ListReads n (r ∷ []) (Words.name (ascii "main") ∷ us)) (cond (isComma vs) (listFrom (λ vs. typeAt m false vs) rounds (behind vs) >>= λ xs. got (g .value ∷ xs .value) (xs .rest)) (got (g .value ∷ []) vs))
+    one : (g : Got TypeTree) → ShownType n (g .value) → (vs : List Word) → Spoken (Words.name (ascii "main") ∷ us) vs → Within (ListReads n (r ∷ []) (Words.name (ascii "main") ∷ us)) (cond (isComma vs) (listFrom (λ vs. typeAt m false vs) rounds (behind vs) >>= λ xs. got (g .value ∷ xs .value) (xs .rest)) (got (g .value ∷ []) vs))
     one g x vs (more h) = ((x, tt), more h)
 read-list m (suc rounds) n r (q ∷ Θ) us ws h l =
     within-step (TypeReads n (sign comma ∷ tableWords (suc n) (q ∷ Θ) (Words.name (ascii "main") ∷ us))) (ListReads n (r ∷ q ∷ Θ) (Words.name (ascii "main") ∷ us)) (typeAt m false ws) _ (read-type m false n _ ws h (commas _)) λ g (x, y). many (λ vs z. read-list m rounds (suc n) q Θ us vs z (omega arith)) g x (g .rest) y
   where
     many :
-        ((vs : List Word) → Said (tableWords (suc n) (q ∷ Θ) (Words.name (ascii "main") ∷ us)) vs → Within (ListReads (suc n) (q ∷ Θ) (Words.name (ascii "main") ∷ us)) (listFrom (λ vs. typeAt m false vs) rounds vs))
-        → (g : Got TypeTree) → ShownType n (g .value) → (vs : List Word) → Said (sign comma ∷ tableWords (suc n) (q ∷ Θ) (Words.name (ascii "main") ∷ us)) vs
+        ((vs : List Word) → Spoken (tableWords (suc n) (q ∷ Θ) (Words.name (ascii "main") ∷ us)) vs → Within (ListReads (suc n) (q ∷ Θ) (Words.name (ascii "main") ∷ us)) (listFrom (λ vs. typeAt m false vs) rounds vs))
+        → (g : Got TypeTree) → ShownType n (g .value) → (vs : List Word) → Spoken (sign comma ∷ tableWords (suc n) (q ∷ Θ) (Words.name (ascii "main") ∷ us)) vs
         → Within (ListReads n (r ∷ q ∷ Θ) (Words.name (ascii "main") ∷ us)) (cond (isComma vs) (listFrom (λ vs. typeAt m false vs) rounds (behind vs) >>= λ xs. got (g .value ∷ xs .value) (xs .rest)) (got (g .value ∷ []) vs))
     many ih g x vs (more {ws = ts} h) = within-step (ListReads (suc n) (q ∷ Θ) (Words.name (ascii "main") ∷ us)) (ListReads n (r ∷ q ∷ Θ) (Words.name (ascii "main") ∷ us)) (listFrom (λ vs. typeAt m false vs) rounds ts) _ (ih ts h) λ k (a, b). ((x, a), b)
 
@@ -144,11 +144,11 @@ mainWords Θ e = Words.name (ascii "main") ∷ sign equals ∷ termWords Θ 0 e 
 abbrev Ended : Table → Term → List Line → Got Items → Type 0
 Ended Θ e ls g = (cs : List Clause) × (c : Clause) × (g .value .clauses ≡ cs ++ c ∷ []) × ShownClauses 0 Θ cs × MainClause Θ e c × (g .value .lines ≡ ls)
 
-items-end : (Q : Got Items → Type 0) (rounds : ℕ) (items : Items) (ws : List Word) → Said [] ws → ((vs : List Word) → Q (record { value = items; rest = vs })) → Within Q (itemsFrom rounds items ws)
+items-end : (Q : Got Items → Type 0) (rounds : ℕ) (items : Items) (ws : List Word) → Spoken [] ws → ((vs : List Word) → Q (record { value = items; rest = vs })) → Within Q (itemsFrom rounds items ws)
 items-end Q zero items ws h k = k ws
 items-end Q (suc rounds) items ws last k = k _
 
-read-main : (Θ : Table) (e : Term) (rounds : ℕ) (items : Items) (ws : List Word) → Said (mainWords Θ e) ws → 0 < rounds → ShownClauses 0 Θ (items .clauses) → Within (Ended Θ e (items .lines)) (itemsFrom rounds items ws)
+read-main : (Θ : Table) (e : Term) (rounds : ℕ) (items : Items) (ws : List Word) → Spoken (mainWords Θ e) ws → 0 < rounds → ShownClauses 0 Θ (items .clauses) → Within (Ended Θ e (items .lines)) (itemsFrom rounds items ws)
 read-main Θ e zero items ws h l k = absurd (omega arith)
 read-main Θ e (suc rounds) items ws (more {p = p} {ws = vs} h) l k =
     within-step (ClauseReads (MainClause Θ e) []) (Ended Θ e (items .lines)) (clauseAt termBody (record { token = Words.name (ascii "main"); place = p } ∷ vs)) _ (read-main-clause mostNested Θ e [] (record { token = Words.name (ascii "main"); place = p } ∷ vs) (more h) (record { square = refl; curly = refl; atom = tt })) λ c (x, y).
@@ -166,7 +166,7 @@ table-longer [] n us = omega arith
 table-longer (r ∷ []) n us = omega arith
 table-longer (r ∷ q ∷ Θ) n us = omega (arith, table-longer (q ∷ Θ) (suc n) us)
 
-said-long : {us : List Token} {ws : List Word} → Said us ws → length ws ≡ suc (length us)
+said-long : {us : List Token} {ws : List Word} → Spoken us ws → length ws ≡ suc (length us)
 said-long last = refl
 said-long (more h) = ap suc (said-long h)
 
@@ -178,13 +178,13 @@ Lined Θ e g = (cs : List Clause) × (c : Clause) × (g .value .clauses ≡ cs +
 table-round : (rounds : ℕ) (items : Items) (ws : List Word) → is ends ws ≡ false → is table ws ≡ true → itemsFrom (suc rounds) items ws ≡ (listFrom (λ us. typeAt mostNested false us) (length ws) (behind ws) >>= λ ts. itemsFrom rounds (withLines items (ts .value)) (ts .rest))
 table-round rounds items ws e f = rw (e, f) refl
 
-said-behind : {u : Token} {us : List Token} {ws : List Word} → Said (u ∷ us) ws → Said us (behind ws)
+said-behind : {u : Token} {us : List Token} {ws : List Word} → Spoken (u ∷ us) ws → Spoken us (behind ws)
 said-behind (more h) = h
 
-table-head : {us : List Token} {ws : List Word} → Said (sign table ∷ us) ws → (is ends ws ≡ false) × (is table ws ≡ true)
+table-head : {us : List Token} {ws : List Word} → Spoken (sign table ∷ us) ws → (is ends ws ≡ false) × (is table ws ≡ true)
 table-head (more h) = (refl, refl)
 
-read-table : (Θ : Table) (e : Term) (rounds : ℕ) (items : Items) (ws : List Word) → Said (sign table ∷ tableWords 0 Θ (mainWords Θ e)) ws → 1 < rounds → 0 < length Θ → ShownClauses 0 Θ (items .clauses) → items .lines ≡ [] → Within (Lined Θ e) (itemsFrom rounds items ws)
+read-table : (Θ : Table) (e : Term) (rounds : ℕ) (items : Items) (ws : List Word) → Spoken (sign table ∷ tableWords 0 Θ (mainWords Θ e)) ws → 1 < rounds → 0 < length Θ → ShownClauses 0 Θ (items .clauses) → items .lines ≡ [] → Within (Lined Θ e) (itemsFrom rounds items ws)
 read-table Θ e zero items ws h l s k z = absurd (omega arith)
 read-table [] e (suc rounds) items ws h l s k z = absurd (omega arith)
 read-table (r ∷ Θ) e (suc rounds) items ws h l s k z =
@@ -197,7 +197,7 @@ types-go-on [] n us = record { square = refl; curly = refl; times = refl; arrow 
 types-go-on (r ∷ Ψ) n us = record { square = refl; curly = refl; times = refl; arrow = refl; linear = refl }
 
 read-lines :
-    (Φ Ψ Θ : Table) (e : Term) (n rounds : ℕ) (items : Items) (ws : List Word) → Θ ≡ Φ ++ Ψ → n ≡ length Φ → Said (typeLineWords n Ψ (sign table ∷ tableWords 0 Θ (mainWords Θ e))) ws
+    (Φ Ψ Θ : Table) (e : Term) (n rounds : ℕ) (items : Items) (ws : List Word) → Θ ≡ Φ ++ Ψ → n ≡ length Φ → Spoken (typeLineWords n Ψ (sign table ∷ tableWords 0 Θ (mainWords Θ e))) ws
     → length Ψ + 1 < rounds → 0 < length Θ → ShownClauses 0 Φ (items .clauses) → items .lines ≡ [] → Within (Lined Θ e) (itemsFrom rounds items ws)
 read-lines Φ [] Θ e n rounds items ws q m h l s k z = read-table Θ e rounds items ws h (omega arith) s (subst (λ (T : Table). ShownClauses 0 T (items .clauses)) (sym (q ∙ append-nil Φ)) k) z
 read-lines Φ (r ∷ Ψ) Θ e n zero items ws q m h l s k z = absurd (omega arith)
@@ -215,29 +215,29 @@ lines-longer (r ∷ Θ) n us = omega (arith, rec-longer r (typeLineWords (suc n)
 text-of : (σ : Sheet) (E : Edition) (g : Got Items) → E ≡ σ .edition → Lined (σ .table) (σ .term) g → ShownText σ (record { edition = E; clauses = g .value .clauses; lines = g .value .lines; end = place (g .rest) })
 text-of σ E g e (cs, c, a, b, d, f) = record { edition = e; types = cs; main = c; clauses = a; typed = b; made = d; lines = f }
 
-read-items : (σ : Sheet) (E : Edition) (rounds : ℕ) (ws : List Word) → E ≡ σ .edition → 0 < length (σ .table) → Said (typeLineWords 0 (σ .table) (sign table ∷ tableWords 0 (σ .table) (mainWords (σ .table) (σ .term)))) ws → length ws ≤ rounds → Within (ShownText σ) (itemsFrom rounds noItems ws >>= λ items. good (record { edition = E; clauses = items .value .clauses; lines = items .value .lines; end = place (items .rest) }))
+read-items : (σ : Sheet) (E : Edition) (rounds : ℕ) (ws : List Word) → E ≡ σ .edition → 0 < length (σ .table) → Spoken (typeLineWords 0 (σ .table) (sign table ∷ tableWords 0 (σ .table) (mainWords (σ .table) (σ .term)))) ws → length ws ≤ rounds → Within (ShownText σ) (itemsFrom rounds noItems ws >>= λ items. good (record { edition = E; clauses = items .value .clauses; lines = items .value .lines; end = place (items .rest) }))
 read-items σ E rounds ws e s h l =
     within-step (Lined (σ .table) (σ .term)) (ShownText σ) (itemsFrom rounds noItems ws) (λ items. good (record { edition = E; clauses = items .value .clauses; lines = items .value .lines; end = place (items .rest) })) (read-lines [] (σ .table) (σ .table) (σ .term) 0 rounds noItems ws refl refl h (omega (arith, said-long h, lines-longer (σ .table) 0 (sign table ∷ tableWords 0 (σ .table) (mainWords (σ .table) (σ .term))))) s tt refl) λ g x. text-of σ E g e x
 
 -- the edition's words
-first-edition : (r : TyRec) (Θ : Table) (us : List Token) (ws : List Word) → Said (typeLineWords 0 (r ∷ Θ) us) ws → editionAt ws ≡ got first ws
+first-edition : (r : TyRec) (Θ : Table) (us : List Token) (ws : List Word) → Spoken (typeLineWords 0 (r ∷ Θ) us) ws → editionAt ws ≡ got first ws
 first-edition r Θ us ws (more h) = refl
 
-second-edition : (us : List Token) (ws : List Word) → Said (sign Words.edition ∷ Words.number 2 ∷ us) ws → (vs : List Word) × (editionAt ws ≡ got second vs) × Said us vs × (length vs ≤ length ws)
+second-edition : (us : List Token) (ws : List Word) → Spoken (sign Words.edition ∷ Words.number 2 ∷ us) ws → (vs : List Word) × (editionAt ws ≡ got second vs) × Spoken us vs × (length vs ≤ length ws)
 second-edition us ws (more (more {ws = vs} h)) = (vs, refl, h, omega arith)
 
-pub read-shown : (σ : Sheet) (ws : List Word) → 0 < length (σ .table) → Said (sheetWords σ) ws → Within (ShownText σ) (textOf ws)
+pub read-shown : (σ : Sheet) (ws : List Word) → 0 < length (σ .table) → Spoken (sheetWords σ) ws → Within (ShownText σ) (textOf ws)
 unfolding textOf
 read-shown σ ws s h = by (σ .edition) refl h
   where
     rest : Edition → List Word → ℕ → Answer Text
     rest E vs rounds = itemsFrom rounds noItems vs >>= λ items. good (record { edition = E; clauses = items .value .clauses; lines = items .value .lines; end = place (items .rest) })
 
-    head : (Θ : Table) → 0 < length Θ → (us : List Token) → Said (typeLineWords 0 Θ us) ws → editionAt ws ≡ got first ws
+    head : (Θ : Table) → 0 < length Θ → (us : List Token) → Spoken (typeLineWords 0 Θ us) ws → editionAt ws ≡ got first ws
     head [] l us k = absurd (omega arith)
     head (r ∷ Θ) l us k = first-edition r Θ us ws k
 
-    by : (E : Edition) → E ≡ σ .edition → Said (editionWords E (typeLineWords 0 (σ .table) (sign table ∷ tableWords 0 (σ .table) (mainWords (σ .table) (σ .term))))) ws → Within (ShownText σ) (editionAt ws >>= λ E. rest (E .value) (E .rest) (length ws))
+    by : (E : Edition) → E ≡ σ .edition → Spoken (editionWords E (typeLineWords 0 (σ .table) (sign table ∷ tableWords 0 (σ .table) (mainWords (σ .table) (σ .term))))) ws → Within (ShownText σ) (editionAt ws >>= λ E. rest (E .value) (E .rest) (length ws))
     by first e k = subst (λ (m : Answer (Got Edition)). Within (ShownText σ) (m >>= λ E. rest (E .value) (E .rest) (length ws))) (sym (head (σ .table) s _ k)) (read-items σ first (length ws) ws e s k (omega arith))
     by second e k =
         let (vs, f, m, l) = second-edition _ ws k in

@@ -1,28 +1,26 @@
 -- The words of a shown sheet are read from its text. Assumes nothing.
 use Prim.Native.Nat.{ℕ, zero, suc, _+_, _-_, _≤_, _<_}
 use mathlib.Core.Path.{_≡_, refl, sym, ap, subst, _∙_}
-use mathlib.Core.Bool.{Bool, true, false, not, _&&_, _||_, cond}
-use mathlib.Core.List.{List, [], _∷_, _++_, append-assoc}
+use mathlib.Core.Bool.{Bool, true, false, _&&_, _||_, cond}
+use mathlib.Core.List.{List, [], _∷_, _++_}
 use native.Mathlib.Omega.{arith}
-use lib.Dec.{T, eqb, leb, ltb, eqb→eq, le→leb, eqb·suc-zero}
+use lib.Dec.{T, eqb, leb, eqb→eq, le→leb, eqb·suc-zero}
 use lib.ListN.{length, getD, take, drop, length-append}
-use Rattle.calculus.specs.Answer.{Answer, good, refused, _>>=_}
-use Rattle.calculus.specs.Types.{TyRec, rec01, rec02, rec03, rec04, Table, recAt}
-use Rattle.calculus.specs.Terms.{Edition, first, second, Term, var, lvar, fun, app, lfun, lapp, pair, proj, fix, con, name}
-use Rattle.calculus.specs.Read.{Sheet}
+use Rattle.calculus.specs.Answer.{Answer, good, _>>=_}
+use Rattle.calculus.specs.Terms.{fun, fix, name}
 use Rattle.calculus.specs.Listing.{decimal, names}
 use Rattle.laws.proofs.Tests.{T-is, is-false}
-use Rattle.notation_calculus.specs.Words.{Name, ascii, Token, sign, part, number, Word, ends, Read, blank, inName, gap, run, named, reserved, signs, signAt, wordAt, wordsFrom, words}
+use Rattle.notation_calculus.specs.Words.{Name, ascii, Token, sign, part, number, Word, ends, Read, blank, inName, gap, run, named, reserved, signs, wordAt, wordsFrom, words}
 use Rattle.notation_calculus.specs.Words as Words
-use Rattle.show_theorems.specs.Shown.{shownType, shownBinder, typeWord, binderWord, Said, last, more}
-use Rattle.show_theorems.proofs.Figures.{Figures, decimal-are, Some, some, decimal-some}
+use Rattle.show_theorems.specs.Shown.{shownType, shownBinder, typeWord, binderWord, Spoken, last, more}
+use Rattle.show_theorems.proofs.Figures.{Figures, decimal-are, OneOrMore, some, decimal-some}
 
 -- ---- words of a text
 
 pub record LexedAs (rounds : ℕ) (s : List ℕ) (at : ℕ) (ts : List Token) : Type 0 where
   pub ws : List Word
   pub is : wordsFrom rounds s at ≡ good ws
-  pub said : Said ts ws
+  pub said : Spoken ts ws
 
 -- the text has these words, wherever it stands
 abbrev pub Lexes : List ℕ → List Token → Type 0
@@ -107,11 +105,11 @@ drop-front (c ∷ s) rest = drop-front s rest
 no-letter : (c d : ℕ) → c ≤ 57 → 57 < d → eqb c d ≡ false
 no-letter c d h k = is-false (eqb c d) λ t. let e = eqb→eq c d t in absurd (omega arith)
 
-type-named : (d : List ℕ) → Figures d → Some d → named (116 ∷ d) reserved ≡ Words.name (116 ∷ d)
+type-named : (d : List ℕ) → Figures d → OneOrMore d → named (116 ∷ d) reserved ≡ Words.name (116 ∷ d)
 unfolding reserved
 type-named (c ∷ d) (a, b, f) some = rw (no-letter c 121 b (omega arith), no-letter c 97 b (omega arith)) refl
 
-binder-named : (d : List ℕ) → Figures d → Some d → named (120 ∷ d) reserved ≡ Words.name (120 ∷ d)
+binder-named : (d : List ℕ) → Figures d → OneOrMore d → named (120 ∷ d) reserved ≡ Words.name (120 ∷ d)
 unfolding reserved
 binder-named (c ∷ d) (a, b, f) some = rw (no-letter c 111 b (omega arith)) refl
 

@@ -6,3 +6,4 @@ pub mod Parsing
 pub mod Items
 pub mod Tabled
 pub mod Remade
+pub mod ShowMake

@@ -1,17 +1,17 @@
 -- What the walk has found when it accepts a term. Assumes nothing.
-use Prim.Native.Nat.{ℕ, zero, suc, _+_, _<_}
-use mathlib.Core.Path.{_≡_, refl, sym, ap, subst, _∙_}
-use mathlib.Core.Bool.{Bool, true, false, _&&_}
+use Prim.Native.Nat.{ℕ, zero, suc, _+_}
+use mathlib.Core.Path.{_≡_, refl, sym, ap, subst}
+use mathlib.Core.Bool.{true, false}
 use mathlib.Core.List.{List, [], _∷_}
 use lib.Dec.{T, eqb, ltb, eqb→eq, ltb→lt}
 use lib.ListN.{length}
-use Rattle.calculus.specs.Answer.{Answer, good, refused, _>>=_, clash, aForm, fit, need}
+use Rattle.calculus.specs.Answer.{Answer, good, refused, clash, aForm}
 use Rattle.calculus.proofs.Answers.{refused≢good, good-inj, on-bind, on-require, on-need}
-use Rattle.calculus.specs.Types.{Ty, bit, prod, arrow, lolli, sharable, isArrow, tyEq, TyRec, rec01, rec02, rec03, rec04, Table, recAt, tree}
-use Rattle.calculus.specs.Terms.{Edition, second, Term, var, lvar, fun, app, lfun, lapp, pair, proj, fix, con, name, nodes, parts, partAt}
+use Rattle.calculus.specs.Types.{Ty, sharable, isArrow, tyEq, TyRec, rec01, rec02, rec03, rec04, Table, recAt, tree}
+use Rattle.calculus.specs.Terms.{Edition, Term, var, lvar, fun, app, lfun, lapp, pair, proj, fix, con, name, nodes, parts, partAt}
 use Rattle.calculus.specs.Walk.{Binder, shared, linear, Stack, Sides, sharableArrow, linearArrow, product, Found, found, under, useShared, useLinear, pop, topUsed, typeNumber, walk}
-use Rattle.laws.proofs.Tests.{T-is, is-false}
-use Rattle.sheet_theorems.specs.Laid.{Agrees, Below, TableOk, Ranged}
+use Rattle.sheet_theorems.proofs.Sound.{tyEq→eq}
+use Rattle.sheet_theorems.specs.Laid.{Agrees, TableOk, Ranged}
 use Rattle.notation_calculus.specs.Making.{isSharable, shares}
 use Rattle.show_theorems.specs.Numbered.{BinderAt, nearest, farther, Numbered, of-var, of-lvar, of-fun, of-lfun, of-app, of-lapp, of-pair, of-proj, of-fix, of-con, of-name}
 
@@ -120,28 +120,6 @@ use-linear Θ (linear t u ∷ st) (v ∷ Γ) (suc i) n r (q, h, s) e = under-goo
     subst (λ (y : Found). Uses Θ (v ∷ Γ) (suc i) (λ t. shares Θ t ≡ false) y) (sym g) (farther a, p, (q, h, z))
 
 -- ---- the walk
-
-two : (f : Ty → Ty → Ty) {a b c d : Ty} (x y : Bool) → T (x && y) → (T x → a ≡ c) → (T y → b ≡ d) → f a b ≡ f c d
-two f {a = a} {d = d} true y h p q = ap (λ (ρ : Ty). f a ρ) (q h) ∙ ap (λ (ρ : Ty). f ρ d) (p tt)
-two f false y h p q = absurd h
-
-tyEq→eq : (τ ρ : Ty) → T (tyEq τ ρ) → τ ≡ ρ
-tyEq→eq bit bit h = refl
-tyEq→eq bit (prod c d) h = absurd h
-tyEq→eq bit (arrow c d) h = absurd h
-tyEq→eq bit (lolli c d) h = absurd h
-tyEq→eq (prod a b) bit h = absurd h
-tyEq→eq (prod a b) (prod c d) h = two prod (tyEq a c) (tyEq b d) h (tyEq→eq a c) (tyEq→eq b d)
-tyEq→eq (prod a b) (arrow c d) h = absurd h
-tyEq→eq (prod a b) (lolli c d) h = absurd h
-tyEq→eq (arrow a b) bit h = absurd h
-tyEq→eq (arrow a b) (prod c d) h = absurd h
-tyEq→eq (arrow a b) (arrow c d) h = two arrow (tyEq a c) (tyEq b d) h (tyEq→eq a c) (tyEq→eq b d)
-tyEq→eq (arrow a b) (lolli c d) h = absurd h
-tyEq→eq (lolli a b) bit h = absurd h
-tyEq→eq (lolli a b) (prod c d) h = absurd h
-tyEq→eq (lolli a b) (arrow c d) h = absurd h
-tyEq→eq (lolli a b) (lolli c d) h = two lolli (tyEq a c) (tyEq b d) h (tyEq→eq a c) (tyEq→eq b d)
 
 pop-one : (Θ : Table) (st : Stack) (u : ℕ) (Γ : List ℕ) → StackOf Θ st (u ∷ Γ) → StackOf Θ (pop st) Γ
 pop-one Θ [] u Γ h = absurd h

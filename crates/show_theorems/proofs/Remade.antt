@@ -1,12 +1,12 @@
 -- The term of a shown text comes back with its type numbers, or a limit is passed. Assumes nothing.
-use Prim.Native.Nat.{ℕ, zero, suc, _+_, _-_, _≤_, _<_, _^_}
+use Prim.Native.Nat.{ℕ, zero, suc, _+_, _-_, _≤_, _<_}
 use mathlib.Core.Path.{_≡_, refl, sym, ap, subst, _∙_}
-use mathlib.Core.Bool.{Bool, true, false, not, _&&_, cond}
+use mathlib.Core.Bool.{Bool, true, false, _&&_, cond}
 use mathlib.Core.List.{List, [], _∷_, _++_}
 use native.Mathlib.Omega.{arith}
 use lib.Dec.{T, eqb, leb, ltb, leb→le, eqb→eq, lt→ltb}
 use lib.ListN.{length, take}
-use Rattle.calculus.specs.Answer.{Answer, good, refused, _>>=_, need}
+use Rattle.calculus.specs.Answer.{Answer, good, _>>=_, need}
 use Rattle.calculus.specs.Types.{Ty, bit, prod, TyRec, rec01, rec02, rec03, rec04, Table, recAt, tree}
 use Rattle.calculus.specs.Types as Types
 use Rattle.calculus.specs.Terms.{Edition, first, second, isSecond, Term, var, lvar, app, lfun, lapp, proj, con, partAt}
@@ -14,22 +14,22 @@ use Rattle.calculus.specs.Terms as Terms
 use Rattle.laws.proofs.Tests.{T-is, is-false}
 use Rattle.sheet_theorems.specs.Laid.{Agrees, Below, TableOk}
 use Rattle.notation_calculus.specs.Words.{Name, sameName}
-use Rattle.notation_calculus.specs.Trees.{Bound, TypeTree, Tree, spine, apart, named, part, tuple, noAtoms, atoms, noTrees, trees, noTypes, Clause, Text}
+use Rattle.notation_calculus.specs.Trees.{Bound, TypeTree, Tree, spine, apart, named, Clause, Text}
 use Rattle.notation_calculus.specs.Trees as Trees
-use Rattle.notation_calculus.specs.Making.{State, Found, Entry, Scope, shares, listed, lookup, bind, bindAll, withVariables, entries, roomFor, mostEntries, Made, counted, node, over, variable, partType, partOf, arrowOf, functionOf, functionsOf, nameOf, halvesOf, apartOf, halfOf, pairOf, applied, typeOf, termOf}
+use Rattle.notation_calculus.specs.Making.{State, Found, Entry, Scope, shares, listed, lookup, bind, withVariables, entries, roomFor, mostEntries, Made, counted, node, over, variable, partType, partOf, functionOf, nameOf, halvesOf, halfOf, pairOf, applied, typeOf, termOf}
 use Rattle.notation_calculus.specs.Show.{leftOf}
-use Rattle.show_theorems.specs.Shown.{shownType, shownBinder}
+use Rattle.show_theorems.specs.Shown.{shownBinder}
 use Rattle.show_theorems.specs.Numbered.{BinderAt, nearest, farther, Numbered, of-var, of-lvar, of-fun, of-lfun, of-app, of-lapp, of-pair, of-proj, of-fix, of-con, of-name}
 use Rattle.show_theorems.specs.ShownTrees.{Within, ShownType, ShownTerm, var-shown, lvar-shown, fun-shown, lfun-shown, app-shown, lapp-shown, pair-shown, proj-shown, fix-shown, con-shown, name-shown, ShownClauses}
 use Rattle.show_theorems.proofs.Figures.{same-decimal, same-self}
 use Rattle.show_theorems.proofs.Parsing.{within-step, within-map, within-then}
 use Rattle.show_theorems.proofs.Numbering.{left-shares, left-linear, halves-share}
-use Rattle.show_theorems.proofs.Tabled.{one-number, take-all, grownTo, Tells, listed-whole, Ready, type-made}
+use Rattle.show_theorems.proofs.Tabled.{take-all, grownTo, Tells, listed-whole, type-made}
 
 -- ---- variables
 
 -- k variables with these types, each named by the number of binders around it
-abbrev Variables : ℕ → List ℕ → List Entry → Type 0
+abbrev pub Variables : ℕ → List ℕ → List Entry → Type 0
 Variables k [] [] = k ≡ 0
 Variables k [] (v ∷ vs) = ⊥
 Variables k (t ∷ Γ) [] = ⊥
@@ -63,7 +63,7 @@ lookup-shown {t = t} (farther {i = i} a) k n (v ∷ vs) found else (j, e, m, x, 
 -- ---- nodes
 
 -- the term, its type's number, and the table
-abbrev Gives : Table → Term → ℕ → Made → Type 0
+abbrev pub Gives : Table → Term → ℕ → Made → Type 0
 Gives Θ e t m = (m .term ≡ e) × (m .type ≡ t) × (m .state .table ≡ Θ)
 
 node-gives : (Θ : Table) (at : ℕ) (e f : Term) (t s below : ℕ) (places : List ℕ) (σ : State) → e ≡ f → t ≡ s → σ .table ≡ Θ → Within (Gives Θ f s) (node at e t below places σ)

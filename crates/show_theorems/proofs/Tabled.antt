@@ -1,29 +1,27 @@
 -- The types of a shown text come back with their numbers: the table only ever is a beginning of the sheet's. Assumes nothing.
 use Prim.Native.Nat.{ℕ, zero, suc, _+_, _-_, _≤_, _<_, _^_}
 use mathlib.Core.Path.{_≡_, refl, sym, ap, subst, _∙_}
-use mathlib.Core.Bool.{Bool, true, false, not, _&&_, _||_, cond}
-use mathlib.Core.List.{List, [], _∷_, _++_, append-assoc}
+use mathlib.Core.Bool.{Bool, true, false, not, _&&_, cond}
+use mathlib.Core.List.{List, [], _∷_, _++_}
 use native.Mathlib.Omega.{arith}
-use native.Mathlib.Decide.{decLe}
-use lib.Dec.{T, eqb, leb, ltb, eqb→eq, eqb-refl, leb→le, le→leb, ltb→lt, lt→ltb}
-use lib.ListN.{length, getD, take, drop, length-append}
+use lib.Dec.{T, eqb, leb, ltb, eqb→eq, eqb-refl, ltb→lt, lt→ltb}
+use lib.ListN.{length, take, drop}
 use lib.Seq.{take-suc, drop-cons}
-use Rattle.calculus.specs.Answer.{Answer, good, refused, _>>=_, need, refuse}
+use Rattle.calculus.specs.Answer.{Answer, good, refused, _>>=_, need}
 use Rattle.calculus.proofs.Answers.{on-need}
-use Rattle.calculus.specs.Types.{Ty, bit, size, TyRec, rec01, rec02, rec03, rec04, recEq, Table, recAt, tree, tyOf, tysFrom}
+use Rattle.calculus.specs.Types.{Ty, size, TyRec, rec01, rec02, rec03, rec04, recEq, Table, recAt, tree, tyOf, tysFrom}
 use Rattle.calculus.specs.Read.{known, formed, repeated, checkType}
-use Rattle.laws.proofs.Tests.{T-is, is-false, not-true, or-left, or-right}
+use Rattle.laws.proofs.Tests.{T-is, not-true, or-left, or-right}
 use Rattle.sheet_theorems.specs.Laid.{Agrees, Below, TableOk}
-use Rattle.sheet_theorems.proofs.TableRead.{tree-prefix, recEq→eq, repeat-of, passed}
-use Rattle.notation_calculus.specs.Words.{sameName}
-use Rattle.notation_calculus.specs.Trees.{Form, product, arrow, linear, TypeTree, typed, TypeAtom, one, typeNamed, nothing, side, noTypes, Body, ofType, ofTerm, Clause, Text}
-use Rattle.notation_calculus.specs.Grammar.{isType, namesake}
-use Rattle.notation_calculus.specs.Making.{State, Found, Scope, numberIn, withType, listed, formOf, lookup, entries, meant, fitAll, putOf, Put, clauseFor, onePut, mostPuts, putIn, joined, atomType, bodyType, typeOf}
+use Rattle.sheet_theorems.proofs.TableRead.{passed}
+use Rattle.notation_calculus.specs.Trees.{Form, product, arrow, linear, TypeTree, typed, one, typeNamed, nothing, side, noTypes, Body, Clause, Text}
+use Rattle.notation_calculus.specs.Grammar.{namesake}
+use Rattle.notation_calculus.specs.Making.{State, Found, Scope, numberIn, listed, formOf, entries, meant, fitAll, putOf, Put, clauseFor, onePut, mostPuts, putIn, joined, atomType, bodyType, typeOf}
 use Rattle.notation_theorems.proofs.Growing.{number-of}
 use Rattle.show_theorems.specs.Shown.{shownType}
-use Rattle.show_theorems.specs.ShownTrees.{Within, ShownType, type-shown, ShownRec, one-shown, product-shown, arrow-shown, linear-shown, TypeClause, ShownClauses, MainClause}
-use Rattle.show_theorems.proofs.Figures.{same-decimal, same-self}
-use Rattle.show_theorems.proofs.Parsing.{within-step, within-map, within-then}
+use Rattle.show_theorems.specs.ShownTrees.{Within, ShownType, type-shown, ShownRec, one-shown, product-shown, arrow-shown, linear-shown, TypeClause, ShownClauses}
+use Rattle.show_theorems.proofs.Figures.{same-decimal}
+use Rattle.show_theorems.proofs.Parsing.{within-step, within-map}
 
 le-antisym : (a b : ℕ) → a ≤ b → b ≤ a → a ≡ b
 le-antisym a b h k = omega arith
@@ -177,7 +175,7 @@ clause-there (r ∷ Φ) under j i at (suc seen) all (k ∷ cs) rest (x, h) a b c
 
 -- ---- types of a shown text
 
-one-cost : (Q : State → Type 0) (σ : State) (cost at : ℕ) → ((τ : State) → τ .table ≡ σ .table → Q τ) → Within Q (onePut σ cost at)
+pub one-cost : (Q : State → Type 0) (σ : State) (cost at : ℕ) → ((τ : State) → τ .table ≡ σ .table → Q τ) → Within Q (onePut σ cost at)
 one-cost Q σ cost at k = by (leb (σ .puts + cost) mostPuts)
   where
     by : (b : Bool) → Within Q (need b 34 at >>= λ _. good (record { table = σ .table; nodes = σ .nodes; puts = σ .puts + cost }))

@@ -1,18 +1,17 @@
 -- The words of a whole shown sheet. Assumes nothing.
-use Prim.Native.Nat.{ℕ, zero, suc, _+_, _-_, _≤_, _<_}
+use Prim.Native.Nat.{ℕ, suc, _+_, _-_}
 use mathlib.Core.Path.{_≡_, refl, sym, ap, subst, _∙_}
-use mathlib.Core.Bool.{false}
 use mathlib.Core.List.{List, [], _∷_, _++_, append-assoc}
 use native.Mathlib.Omega.{arith}
 use lib.ListN.{length}
 use Rattle.calculus.specs.Answer.{good}
 use Rattle.calculus.specs.Types.{TyRec, rec01, rec02, rec03, rec04, Table, recAt}
-use Rattle.calculus.specs.Terms.{Edition, first, second, Term, var, lvar, fun, app, lfun, lapp, pair, proj, fix, con, name}
+use Rattle.calculus.specs.Terms.{Edition, first, second, Term, fun, pair, proj, fix, name}
 use Rattle.calculus.specs.Read.{Sheet}
-use Rattle.notation_calculus.specs.Words.{ascii, Token, sign, Word, inName, words, wordsFrom}
+use Rattle.notation_calculus.specs.Words.{ascii, Token, sign, Word, words}
 use Rattle.notation_calculus.specs.Words as Words
 use Rattle.notation_calculus.specs.Show.{recText, typeLines, tableList, leftOf, termText, editionText, show}
-use Rattle.show_theorems.specs.Shown.{shownType, shownBinder, recWords, typeLineWords, tableWords, termWords, editionWords, sheetWords, Said}
+use Rattle.show_theorems.specs.Shown.{shownType, shownBinder, recWords, typeLineWords, tableWords, termWords, editionWords, sheetWords, Spoken}
 use Rattle.show_theorems.specs.Numbered.{Numbered, of-var, of-lvar, of-fun, of-lfun, of-app, of-lapp, of-pair, of-proj, of-fix, of-con, of-name}
 use Rattle.show_theorems.proofs.Lexing.{Lexes, Stops, lex-end, lex-type, lex-binder, lex-round, lex-end-round, lex-comma, lex-colon, lex-dot, lex-equals, lex-times, lex-arrow, lex-linear, lex-fun, lex-fix, lex-let, lex-in, lex-type-word, lex-table-word, lex-one, lex-edition, lex-main, lex-let-round, lex-round-equals, lex-part, lex-blank}
 
@@ -111,7 +110,7 @@ lex-show σ t d = lex-opening (σ .edition) _ _ (lex-lines (σ .table) 0 _ _ (le
 pub record ShownWords (σ : Sheet) : Type 0 where
   pub ws : List Word
   pub is : words (show σ) ≡ good ws
-  pub said : Said (sheetWords σ) ws
+  pub said : Spoken (sheetWords σ) ws
 
 pub shown-words : (σ : Sheet) (t : ℕ) → Numbered (σ .edition) (σ .table) [] (σ .term) t → ShownWords σ
 unfolding words

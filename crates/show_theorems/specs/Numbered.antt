@@ -1,9 +1,9 @@
 -- A term with the number of its type, under binders of numbered types: what the walk has found when it accepts, without its marks of use.
 -- Assumes nothing.
-use Prim.Native.Nat.{ℕ, zero, suc, _<_}
+use Prim.Native.Nat.{ℕ, suc, _<_}
 use mathlib.Core.Path.{_≡_}
 use mathlib.Core.Bool.{false}
-use mathlib.Core.List.{List, [], _∷_}
+use mathlib.Core.List.{List, _∷_}
 use lib.Dec.{T}
 use lib.ListN.{length}
 use Rattle.calculus.specs.Types.{rec02, rec03, rec04, Table, recAt, tree}

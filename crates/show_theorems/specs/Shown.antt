@@ -1,6 +1,6 @@
 -- The words of a sheet that is shown, each list with the words that come behind it. Assumes nothing.
-use Prim.Native.Nat.{ℕ, suc, _+_, _-_}
-use mathlib.Core.List.{List, [], _∷_, _++_}
+use Prim.Native.Nat.{ℕ, suc, _-_}
+use mathlib.Core.List.{List, [], _∷_}
 use Rattle.calculus.specs.Types.{TyRec, rec01, rec02, rec03, rec04, Table, recAt}
 use Rattle.calculus.specs.Terms.{Edition, first, second, Term, var, lvar, fun, app, lfun, lapp, pair, proj, fix, con, name}
 use Rattle.calculus.specs.Read.{Sheet}
@@ -57,6 +57,6 @@ abbrev pub sheetWords : Sheet → List Token
 sheetWords σ = editionWords (σ .edition) (typeLineWords 0 (σ .table) (sign table ∷ tableWords 0 (σ .table) (Words.name (ascii "main") ∷ sign equals ∷ termWords (σ .table) 0 (σ .term) [])))
 
 -- words with these tokens, and then the end
-pub data Said : List Token → List Word → Type 0 where
-  last : {p : ℕ} → Said [] (record { token = sign ends; place = p } ∷ [])
-  more : {t : Token} {ts : List Token} {p : ℕ} {ws : List Word} → Said ts ws → Said (t ∷ ts) (record { token = t; place = p } ∷ ws)
+pub data Spoken : List Token → List Word → Type 0 where
+  last : {p : ℕ} → Spoken [] (record { token = sign ends; place = p } ∷ [])
+  more : {t : Token} {ts : List Token} {p : ℕ} {ws : List Word} → Spoken ts ws → Spoken (t ∷ ts) (record { token = t; place = p } ∷ ws)
