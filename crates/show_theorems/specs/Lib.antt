@@ -1,0 +1,4 @@
+pub mod Shown
+pub mod Numbered
+pub mod ShownTrees
+pub mod ComesBack
