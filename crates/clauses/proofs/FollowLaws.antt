@@ -1,18 +1,16 @@
 -- A row after those of the table, test by test. Assumes nothing.
-use Prim.Native.Nat.{ℕ, zero, suc, _+_, _*_, _-_, _≤_, _<_}
+use Prim.Native.Nat.{ℕ, suc, _+_, _*_, _-_, _≤_, _<_}
 use mathlib.Core.Path.{_≡_, refl, sym, ap, _∙_}
 use mathlib.Core.Bool.{Bool, true, false, not, _&&_, _||_, cond}
 use mathlib.Core.List.{List}
 use native.Mathlib.Omega.{arith}
-use native.Mathlib.Numerals.{add-one}
-use lib.Dec.{eqb, leb, ltb}
-use lib.ListN.{length, getD, set, take, drop, length-drop}
+use lib.Dec.{eqb, ltb}
+use lib.ListN.{getD, set}
 use lib.Seq.{sets}
 use borrow.Author.Tests.{eq-eqb, ne-eqb, lt-ltb, le-ltb}
-use Rattle.notation_calculus.specs.Words.{run, sameName}
+use Rattle.notation_calculus.specs.Words.{sameName}
 use Rattle.notation_calculus.specs.Grammar.{mostClauses, coverAll, sameSort}
 use Rattle.words.specs.Next.{runAt}
-use Rattle.words.proofs.FoundLaws.{run-short}
 use Rattle.making_memory.specs.Map.{clausesAt, clauseCountAt}
 use Rattle.clauses.specs.declared.rows.Row.{Row}
 use Rattle.clauses.specs.Rows.{rowNumbers, rowIn}
@@ -20,15 +18,6 @@ use Rattle.clauses.specs.Numbers.{numbersFrom}
 use Rattle.clauses.specs.Follows.{rowNamesake, rowFollows, followsFrom, rowRefusal, withRow}
 
 -- ---- names
-
-pub run-inside : (text : List ℕ) (at end : ℕ) → at ≤ length text → end ≡ at + run (drop at text) → (at ≤ end) × (end ≤ length text)
-run-inside text at end h e = (omega arith, omega (arith, run-short (drop at text), length-drop at text))
-
-pub same-runs : (text : List ℕ) (a c b d : ℕ) → c ≡ a + run (drop a text) → d ≡ b + run (drop b text) → (r : Bool) → r ≡ sameName (take (c - a) (drop a text)) (take (d - b) (drop b text)) → r ≡ sameName (runAt text a) (runAt text b)
-same-runs text a c b d e f r g =
-    let x : c - a ≡ run (drop a text) = omega arith in
-    let y : d - b ≡ run (drop b text) = omega arith in
-    g ∙ ap (λ (k : ℕ). sameName (take k (drop a text)) (take (d - b) (drop b text))) x ∙ ap (λ (k : ℕ). sameName (runAt text a) (take k (drop b text))) y
 
 pub sort-yes : (a b : Bool) → a ≡ true → b ≡ sameSort a b
 sort-yes a b e = sym (ap (λ (x : Bool). sameSort x b) e)

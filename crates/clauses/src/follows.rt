@@ -5,23 +5,11 @@ use crate::rows::Row;
 ghost use mathlib.Core.Path.{_≡_};
 ghost use Prim.Native.Nat.{_+_, _*_, _≤_, _<_};
 ghost use lib.ListN.{length};
-ghost use Rattle.notation_calculus.specs.Words.{sameName};
 ghost use Rattle.notation_calculus.specs.Grammar.{sameSort};
-ghost use Rattle.words.specs.Next.{runAt};
 ghost use Rattle.making_memory.specs.Map.{clauseCountAt};
 ghost use lib.ListN.{getD};
 ghost use Rattle.clauses.specs.Rows.{ShortRow};
 ghost use Rattle.clauses.specs.Follows.{RowThere, rowNamesake, rowFollows, followsFrom, RowsThere, RowAdded};
-
-// Two names, each at its place, are the same.
-pub fn same_run(text: &[u8], a: usize, b: usize) -> bool
-    requires { ⌜ (a ≤ length (now text)) × (b ≤ length (now text)) ⌝ }
-    ensures { λ r. ⌜ r ≡ sameName (runAt (now (text .entry)) a) (runAt (now (text .entry)) b) ⌝ }
-{
-    let c = words::run_end(text, a);
-    let d = words::run_end(text, b);
-    words::same_name(text, a, c, b, d)
-}
 
 fn same_sort(a: bool, b: bool) -> bool
     ensures { λ r. ⌜ r ≡ sameSort a b ⌝ }
@@ -40,7 +28,7 @@ pub fn namesake(text: &[u8], r: Row, sort: bool, at: usize) -> bool
     if !same_sort(r.sort, sort) {
         return false;
     }
-    same_run(text, r.name, at)
+    words::same_run(text, r.name, at)
 }
 
 // A later clause of a name may follow if it has as many parameters, and fits numbers that the earlier do not fit.

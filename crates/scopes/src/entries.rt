@@ -52,7 +52,7 @@ pub fn first_of(text: &[u8], work: &[u16], name: usize, from: usize, to: usize) 
     let mut e = from;
     while e < to {
         let p = place_of(work, e);
-        if clauses::follows::same_run(text, name, p) {
+        if words::same_run(text, name, p) {
             return e;
         }
         e = e + 1;
@@ -68,7 +68,7 @@ pub fn last_of(text: &[u8], work: &[u16], name: usize, from: usize, to: usize) -
     let mut e = to;
     while from < e {
         let p = place_of(work, e - 1);
-        if clauses::follows::same_run(text, name, p) {
+        if words::same_run(text, name, p) {
             return e;
         }
         e = e - 1;

@@ -7,9 +7,9 @@ use native.Mathlib.Omega.{arith}
 use lib.Dec.{eqb}
 use borrow.Author.Tests.{eq-eqb, ne-eqb}
 use lib.ListN.{length, getD, take, drop, length-append, length-drop}
-use lib.Seq.{drop-append-seam, take-append-seam, drop-drop, getD-drop, length-take-le}
+use lib.Seq.{drop-append-seam, take-append-seam, drop-drop, getD-drop}
 use Rattle.laws.proofs.Regions.{drop-past}
-use Rattle.notation_calculus.specs.Words.{sameName, Spelled, beginsWith}
+use Rattle.notation_calculus.specs.Words.{Spelled, beginsWith}
 use Rattle.words.specs.Tables.{tokenCode, tokenValue, tableOf, rowFits, RowSaid, rowOf}
 use Rattle.words.proofs.WordLaws.{drop-here}
 
@@ -118,43 +118,3 @@ fit-by table whole long s all at n w m p b h e f g =
 
 pub row-eq : {a b c d e f : ℕ} → a ≡ d → b ≡ e → c ≡ f → _≡_ {A = RowSaid} (record { code = a; value = b; long = c }) (record { code = d; value = e; long = f })
 row-eq p q r = cc
-
--- ---- names, a byte at a time
-
-pub names-differ : (xs ys : List ℕ) → ¬ (length xs ≡ length ys) → sameName xs ys ≡ false
-names-differ [] [] d = absurd (d refl)
-names-differ [] (y ∷ ys) d = refl
-names-differ (x ∷ xs) [] d = refl
-names-differ (x ∷ xs) (y ∷ ys) d = ap (λ (b : Bool). eqb x y && b) (names-differ xs ys (λ e. d (ap suc e))) ∙ none (eqb x y)
-  where
-    none : (b : Bool) → (b && false) ≡ false
-    none true = refl
-    none false = refl
-
--- what is left to compare after k bytes
-abbrev pub namesLeft : List ℕ → ℕ → ℕ → ℕ → ℕ → Bool
-namesLeft text a b long k = sameName (take (long - k) (drop (a + k) text)) (take (long - k) (drop (b + k) text))
-
-pub names-all : (text : List ℕ) (a b long : ℕ) → sameName (take long (drop a text)) (take long (drop b text)) ≡ namesLeft text a b long 0
-names-all text a b long = let x : long - 0 ≡ long = omega arith in let y : a + 0 ≡ a = omega arith in let z : b + 0 ≡ b = omega arith in rw (x, y, z)
-
-pub names-none : (text : List ℕ) (a b long k : ℕ) → long ≤ k → namesLeft text a b long k ≡ true
-names-none text a b long k h = let z : long - k ≡ 0 = omega arith in rw z
-
-module _ (text : List ℕ) (a b long k : ℕ) (some : k < long) (inside : a + long ≤ length text) (within : b + long ≤ length text) where
-  names-step : namesLeft text a b long k ≡ (eqb (getD text (a + k) 0) (getD text (b + k) 0) && namesLeft text a b long (k + 1))
-  names-step =
-      let x : long - k - 1 ≡ long - (k + 1) = omega arith in
-      let y : a + k + 1 ≡ a + (k + 1) = omega arith in
-      let z : b + k + 1 ≡ b + (k + 1) = omega arith in
-      rw (take-here text (a + k) (long - k) (omega arith) (omega arith), take-here text (b + k) (long - k) (omega arith) (omega arith), x, y, z)
-
-  pub names-on : getD text (a + k) 0 ≡ getD text (b + k) 0 → namesLeft text a b long k ≡ namesLeft text a b long (k + 1)
-  names-on e = names-step ∙ ap (λ (x : Bool). x && namesLeft text a b long (k + 1)) (eq-eqb _ _ e)
-
-  pub names-stop : ¬ (getD text (a + k) 0 ≡ getD text (b + k) 0) → namesLeft text a b long k ≡ false
-  names-stop e = names-step ∙ ap (λ (x : Bool). x && namesLeft text a b long (k + 1)) (ne-eqb _ _ e)
-
--- two parts of a text that are not as long as one another
-pub parts-differ : (text : List ℕ) (start end other stop : ℕ) → start ≤ end → end ≤ length text → other ≤ stop → stop ≤ length text → ¬ (end - start ≡ stop - other) → false ≡ sameName (take (end - start) (drop start text)) (take (stop - other) (drop other text))
-parts-differ text start end other stop h g i j d = sym (names-differ (take (end - start) (drop start text)) (take (stop - other) (drop other text)) (λ e. d (sym (length-take-le (end - start) (drop start text) (omega (arith, length-drop start text))) ∙ e ∙ length-take-le (stop - other) (drop other text) (omega (arith, length-drop other text)))))

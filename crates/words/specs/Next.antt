@@ -1,11 +1,11 @@
 -- The word that stands next from an offset on, with its place and the offset behind it. Assumes nothing.
 use Prim.Native.Nat.{ℕ, _+_}
-use mathlib.Core.Bool.{false, cond}
-use mathlib.Core.List.{List}
+use mathlib.Core.Bool.{Bool, false, _&&_, cond}
+use mathlib.Core.List.{List, [], _∷_}
 use lib.Dec.{eqb}
 use lib.ListN.{length, take, drop}
 use Rattle.calculus.specs.Answer.{Answer, good, refused}
-use Rattle.notation_calculus.specs.Words.{ends, Token, sign, reserved, gap, run, Read, named, wordAt}
+use Rattle.notation_calculus.specs.Words.{ends, Token, sign, inName, reserved, gap, run, Read, named, wordAt}
 use Rattle.words.specs.Tables.{tokenCode, tokenValue}
 use Rattle.words.specs.declared.Word.{Word}
 
@@ -18,6 +18,17 @@ pub record FoundWord : Type 0 where
 abbrev pub foundAt : ℕ → Answer Read → Answer FoundWord
 foundAt from (good w) = good (record { token = w .token; place = from; end = from + w .long })
 foundAt from (refused why) = refused why
+
+-- the first byte goes on a name
+abbrev pub goesOn : List ℕ → Bool
+goesOn [] = false
+goesOn (c ∷ s) = inName c
+
+-- the same first byte, which goes on a name
+abbrev pub alikeIn : List ℕ → List ℕ → Bool
+alikeIn [] u = false
+alikeIn (c ∷ s) [] = false
+alikeIn (c ∷ s) (d ∷ u) = eqb c d && inName c
 
 -- the letters and digits from an offset on
 abbrev pub runAt : List ℕ → ℕ → List ℕ

@@ -7,7 +7,7 @@ ghost use lib.ListN.{length, getD, take, drop};
 ghost use Rattle.calculus.specs.Answer.{good};
 ghost use Rattle.notation_calculus.specs.Words.{sameName, between, blank, endsLine, digit, letter, inName, first, gap, run, capped, numberWord, signAt, signs};
 ghost use Rattle.words.specs.Steps.{CommentTo, StepTo};
-ghost use Rattle.words.specs.Next.{runAt, foundAt, namedAt, nextOf, saidWord, told};
+ghost use Rattle.words.specs.Next.{goesOn, alikeIn, runAt, foundAt, namedAt, nextOf, saidWord, told};
 ghost use Rattle.words.specs.Lexed.{Lexed, Stands, Passed};
 
 mod spelling;
@@ -281,23 +281,47 @@ pub fn word_at(text: &[u8], at: usize) -> Word
     next(text, at)
 }
 
-// Two names, each from its place to its end, are the same.
-pub fn same_name(text: &[u8], start: usize, end: usize, other: usize, stop: usize) -> bool
-    requires { ⌜ (start ≤ end) × (end ≤ length (now text)) × (other ≤ stop) × (stop ≤ length (now text)) ⌝ }
-    ensures { λ r. ⌜ r ≡ sameName (take (end - start) (drop start (now (text .entry)))) (take (stop - other) (drop other (now (text .entry)))) ⌝ }
+// What stands at an offset goes on a name.
+fn goes_on(text: &[u8], at: usize) -> bool
+    ensures { λ r. ⌜ r ≡ goesOn (drop at (now (text .entry))) ⌝ }
 {
-    let long = end - start;
-    if long != stop - other {
+    if text.len() <= at {
         return false;
     }
-    let mut k: usize = 0;
-    while k < long {
-        if text[start + k] != text[other + k] {
-            return false;
-        }
-        k = k + 1;
+    in_name(text[at])
+}
+
+// The same byte of a name stands at two offsets.
+fn alike(text: &[u8], a: usize, b: usize) -> bool
+    ensures { λ r. ⌜ r ≡ alikeIn (drop a (now (text .entry))) (drop b (now (text .entry))) ⌝ }
+{
+    if text.len() <= a {
+        return false;
     }
-    true
+    if text.len() <= b {
+        return false;
+    }
+    if text[a] != text[b] {
+        return false;
+    }
+    in_name(text[a])
+}
+
+// Two names, each at its place, are the same. Bytes are compared before an end is sought: a long name that is passed over costs nothing.
+pub fn same_run(text: &[u8], a: usize, b: usize) -> bool
+    requires { ⌜ (a ≤ length (now text)) × (b ≤ length (now text)) ⌝ }
+    ensures { λ r. ⌜ r ≡ sameName (runAt (now (text .entry)) a) (runAt (now (text .entry)) b) ⌝ }
+{
+    let mut p = a;
+    let mut q = b;
+    while alike(text, p, q) {
+        p = p + 1;
+        q = q + 1;
+    }
+    if goes_on(text, p) {
+        return false;
+    }
+    !goes_on(text, q)
 }
 
 // A refusal's number, 0 for none, and its place.
