@@ -1,4 +1,10 @@
-// What the walk is at, and a level that waits.
+// What the walk is at, and the levels that wait.
+ghost use mathlib.Core.Path.{_≡_};
+ghost use Prim.Native.Nat.{_+_};
+ghost use Rattle.walk_levels.specs.Levels.{InLevels, levelIn, pushed};
+ghost use Rattle.walk_levels.specs.TypeLevels.{flagNumber};
+ghost use Rattle.type_walk.specs.Holding.{aroundOf, hereIn};
+ghost use Rattle.type_walk.specs.Moves.{CanWait, Waited};
 use walk_levels::Around;
 use walk_levels::Level;
 
@@ -33,35 +39,20 @@ pub struct Here {
     pub top: usize,
 }
 
-// What it waits for: a form (0 for what stands in parentheses, 1 for a body, 2 for an argument, 3 to 5 for a side), the place of a sign or a
-// name, how many arguments are there, the type left of a sign, and the offset behind a definition's name and arguments.
-pub struct Waits {
-    pub form: u16,
-    pub place: usize,
-    pub count: usize,
-    pub ty: u16,
-    pub next: usize,
-}
-
-fn flag_of(tight: bool) -> u16 {
+pub fn flag_of(tight: bool) -> u16
+    ensures { λ r. ⌜ r ≡ flagNumber tight ⌝ }
+{
     if tight {
         return 1;
     }
     0
 }
 
-// The level waits from now on.
-pub fn wait(work: &mut [u16], h: Here, x: Waits) {
-    let l = Level {
-        form: x.form,
-        flag: flag_of(h.tight),
-        place: x.place as u16,
-        count: x.count as u16,
-        node: 0,
-        ty: x.ty,
-        deep: 0,
-        next: x.next as u16,
-    };
+// The level waits for the type that is wanted now.
+pub fn wait(work: &mut [u16], h: Here, l: Level, q: Want) -> Walking
+    requires { ⌜ CanWait (now work) h ⌝ }
+    ensures { λ r. ⌜ Waited (now (work .entry)) h l q r (now (work .exit)) ⌝ }
+{
     let s = Around {
         frame: h.frame as u16,
         top: h.top as u16,
@@ -69,10 +60,23 @@ pub fn wait(work: &mut [u16], h: Here, x: Waits) {
     };
     let m = h.more + 1;
     walk_levels::push(work, m as u16, l, s);
+    Walking::Wanted(q)
 }
 
-// The level with so many levels below it that waits.
-pub fn waiting_at(work: &[u16], more: usize) -> Here {
+// What the level with so many levels below it waits for.
+pub fn waits_at(work: &[u16], more: usize) -> Level
+    requires { ⌜ InLevels (now work) (more + 1) ⌝ }
+    ensures { λ r. ⌜ r ≡ levelIn (now (work .entry)) (more + 1) ⌝ }
+{
+    let m = more + 1;
+    walk_levels::level_at(work, m as u16)
+}
+
+// .. and the level itself.
+pub fn here_at(work: &[u16], more: usize) -> Here
+    requires { ⌜ InLevels (now work) (more + 1) ⌝ }
+    ensures { λ r. ⌜ r ≡ hereIn (now (work .entry)) more ⌝ }
+{
     let m = more + 1;
     let l = walk_levels::level_at(work, m as u16);
     let s = walk_levels::scope_at(work, m as u16);
@@ -81,18 +85,5 @@ pub fn waiting_at(work: &[u16], more: usize) -> Here {
         tight: l.flag == 1,
         frame: made_types::wide(s.frame),
         top: made_types::wide(s.top),
-    }
-}
-
-// .. and what it waits for.
-pub fn waits_at(work: &[u16], more: usize) -> Waits {
-    let m = more + 1;
-    let l = walk_levels::level_at(work, m as u16);
-    Waits {
-        form: l.form,
-        place: made_types::wide(l.place),
-        count: made_types::wide(l.count),
-        ty: l.ty,
-        next: made_types::wide(l.next),
     }
 }

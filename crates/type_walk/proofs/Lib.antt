@@ -1,0 +1,5 @@
+pub mod HoldLaws
+pub mod AskLaws
+pub mod MoveLaws
+pub mod NameLaws
+pub mod StepLaws

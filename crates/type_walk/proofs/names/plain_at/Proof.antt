@@ -1,0 +1,65 @@
+use borrow.Author.Needs.{needs}
+use Rattle.type_walk.proofs.names.plain_at.Statement.{statement}
+use Rattle.type_walk.proofs.names.plain_at.Tie as tie
+use Rattle.type_walk.proofs.names.plain_at.Reads as reads
+use Rattle.type_walk.proofs.names.plain_at.Lts as lts
+use Rattle.scopes.proofs.entries.first_of.Reads as first-of-reads
+use Rattle.scopes.proofs.entries.value_of.Reads as value-of-reads
+use Rattle.scopes.proofs.frames.frame_at.Reads as frame-at-reads
+use Rattle.type_walk.proofs.names.put_type.Reads as put-type-reads
+use Rattle.type_walk.proofs.sides.side_from.Reads as side-from-reads
+
+-- src/names.rt:103:9
+frame-at-requires : tie.Need-frame-at-requires
+frame-at-requires c κs = search needs
+
+-- src/names.rt:104:9
+first-of-requires : tie.Need-first-of-requires
+first-of-requires c κs = ?
+
+-- src/names.rt:106:9
+put-type-requires : tie.Need-put-type-requires
+put-type-requires c κs = ?
+
+-- src/names.rt:106:9
+same-length : tie.Need-same-length
+same-length c = search needs
+
+-- src/names.rt:106:9
+returns : tie.Need-returns
+returns c = ?
+
+-- src/names.rt:108:9
+value-of-requires : tie.Need-value-of-requires
+value-of-requires c κs = ?
+
+-- src/names.rt:109:37
+cast-side-from : tie.Need-cast-side-from
+cast-side-from c = search needs
+
+-- src/names.rt:109:5
+side-from-requires : tie.Need-side-from-requires
+side-from-requires c κs = ?
+
+-- src/names.rt:99:1
+same-length-2 : tie.Need-same-length-2
+same-length-2 c = search needs
+
+-- src/names.rt:99:1
+returns-2 : tie.Need-returns-2
+returns-2 c = ?
+
+pub plain-at-spec : {M : Type 1} → statement M
+plain-at-spec =
+    tie.close
+    (tie.spec
+    frame-at-requires
+    first-of-requires
+    put-type-requires
+    same-length
+    returns
+    value-of-requires
+    cast-side-from
+    side-from-requires
+    same-length-2
+    returns-2)

@@ -1,0 +1,52 @@
+use borrow.Author.Needs.{needs}
+use Rattle.type_walk.proofs.names.put_type.Statement.{statement}
+use Rattle.type_walk.proofs.names.put_type.Tie as tie
+use Rattle.type_walk.proofs.names.put_type.Reads as reads
+use Rattle.type_walk.proofs.names.put_type.Lts as lts
+use Rattle.type_walk.proofs.names.ask_body.Reads as ask-body-reads
+use Rattle.type_walk.proofs.putting.put_in.Reads as put-in-reads
+
+-- src/names.rt:91:9
+put-in-requires : tie.Need-put-in-requires
+put-in-requires c κs = search needs
+
+-- src/names.rt:93:20
+enum-known-p : tie.Need-enum-known-p
+enum-known-p c = search needs
+
+-- src/names.rt:93:26
+ask-body-requires : tie.Need-ask-body-requires
+ask-body-requires c κs = ?
+
+-- src/names.rt:94:25
+enum-known-p-2 : tie.Need-enum-known-p-2
+enum-known-p-2 c = search needs
+
+-- src/names.rt:80:1
+same-length : tie.Need-same-length
+same-length c = search needs
+
+-- src/names.rt:80:1
+returns : tie.Need-returns
+returns c = ?
+
+-- src/names.rt:80:1
+same-length-2 : tie.Need-same-length-2
+same-length-2 c = search needs
+
+-- src/names.rt:80:1
+returns-2 : tie.Need-returns-2
+returns-2 c = ?
+
+pub put-type-spec : {M : Type 1} → statement M
+put-type-spec =
+    tie.close
+    (tie.spec
+    put-in-requires
+    enum-known-p
+    ask-body-requires
+    enum-known-p-2
+    same-length
+    returns
+    same-length-2
+    returns-2)

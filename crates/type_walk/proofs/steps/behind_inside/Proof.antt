@@ -1,0 +1,31 @@
+use borrow.Author.Needs.{needs}
+use Rattle.type_walk.proofs.steps.behind_inside.Statement.{statement}
+use Rattle.type_walk.proofs.steps.behind_inside.Tie as tie
+use Rattle.type_walk.proofs.steps.behind_inside.Reads as reads
+use Rattle.type_walk.proofs.steps.behind_inside.Lts as lts
+use Rattle.type_walk.proofs.sides.side_from.Reads as side-from-reads
+use Rattle.words.proofs.word_at.Reads as word-at-reads
+
+-- src/steps.rt:96:9
+word-at-requires : tie.Need-word-at-requires
+word-at-requires c κs = search needs
+
+-- src/steps.rt:98:9
+side-from-requires : tie.Need-side-from-requires
+side-from-requires c κs = ?
+
+-- src/steps.rt:98:9
+same-length : tie.Need-same-length
+same-length c = search needs
+
+-- src/steps.rt:98:9
+returns : tie.Need-returns
+returns c = ?
+
+-- src/steps.rt:92:1
+returns-2 : tie.Need-returns-2
+returns-2 c = ?
+
+pub behind-inside-spec : {M : Type 1} → statement M
+behind-inside-spec =
+    tie.close (tie.spec word-at-requires side-from-requires same-length returns returns-2)

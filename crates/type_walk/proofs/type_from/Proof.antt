@@ -1,0 +1,31 @@
+use borrow.Author.Needs.{needs}
+use Rattle.type_walk.proofs.type_from.Statement.{statement}
+use Rattle.type_walk.proofs.type_from.Tie as tie
+use Rattle.type_walk.proofs.type_from.Reads as reads
+use Rattle.type_walk.proofs.type_from.Lts as lts
+use Rattle.grammar.proofs.types.type_end.Reads as type-end-reads
+use Rattle.type_walk.proofs.type_at.Reads as type-at-reads
+
+-- src/lib.rt:69:9
+type-end-requires : tie.Need-type-end-requires
+type-end-requires c κs = ?
+
+-- src/lib.rt:71:9
+returns : tie.Need-returns
+returns c = search needs
+
+-- src/lib.rt:73:5
+type-at-requires : tie.Need-type-at-requires
+type-at-requires c κs = search needs
+
+-- src/lib.rt:61:1
+same-length : tie.Need-same-length
+same-length c = search needs
+
+-- src/lib.rt:61:1
+returns-2 : tie.Need-returns-2
+returns-2 c = search needs
+
+pub type-from-spec : {M : Type 1} → statement M
+type-from-spec =
+    tie.close (tie.spec type-end-requires returns type-at-requires same-length returns-2)
