@@ -9,14 +9,14 @@ use Rattle.notation_calculus.specs.Making.{State, Scope, mostEntries}
 use Rattle.notation_machine.specs.TypeMachine.{Wish, enclosed, argument, body, other, TypeLevel}
 use Rattle.making_memory.specs.Map.{scopeAt, levelsAt}
 use Rattle.made_types.specs.Held.{HoldsState}
-use Rattle.scopes.specs.Entries.{valueAt}
+use Rattle.scopes.specs.Entries.{valueAt, Places}
 use Rattle.walk_levels.specs.declared.Level.{Level}
 use Rattle.walk_levels.specs.declared.Around.{Around}
 use Rattle.walk_levels.specs.Levels.{scopesAt, levelIn, scopeIn}
 use Rattle.walk_levels.specs.TypeLevels.{GivenIn, waitingFor, HoldsWish}
 use Rattle.walks.specs.Walkable.{Walkable}
 use Rattle.walks.specs.Walked.{TypesWalked}
-use Rattle.walks.proofs.Kept.{types-walked-none, types-walked-then, walkable-on, table-on}
+use Rattle.walks.proofs.Kept.{types-walked-none, types-walked-then, walkable-on, table-on, places-on}
 use Rattle.type_walk.specs.declared.levels.Here.{Here}
 use Rattle.type_walk.specs.Holding.{AllBelow, WishKnown, LevelHeld, LevelsHeld, AtLevel}
 
@@ -72,6 +72,7 @@ module _ (text w w′ : List ℕ) (X : Text) (σ σ′ : State) (H′ : HoldsSta
         walkable = subst (λ (x : Around). Walkable text w′ (x .frame) (x .top) X (l .scope) σ′) (sym f) (walkable-on m top text w w′ W (scopeIn w (m + 1) .frame) t X (l .scope) σ σ′ G (omega (arith, g .level)) (omega arith) H′);
         wish = subst (λ (x : Around). HoldsWish text w′ (x .top) (levelIn w′ (m + 1)) (l .wish)) (sym f) (subst (λ (x : Level). HoldsWish text w′ t x (l .wish)) (sym e) (wish-kept w w′ top (λ e q. W .entries (scopeAt + 2 * e + 1) (omega arith) (omega arith)) text t (levelIn w (m + 1)) (l .wish) b (g .wish)));
         known = subst (λ (x : Around). WishKnown text (length (σ′ .table)) (x .top) (l .wish)) (sym f) (known-more text (length (σ .table)) (length (σ′ .table)) t (table-on m top text w w′ W σ σ′ (G .state) H′) (l .wish) (g .known));
+        places = subst (λ (x : Around). Places text w′ 0 (x .top + waitingFor (l .wish))) (sym f) (places-on text w w′ (t + waitingFor (l .wish)) (λ j a c. W .entries j a (omega arith)) (W .same) (g .places));
       }
 
   -- the levels above stay

@@ -3,3 +3,5 @@ pub mod AskLaws
 pub mod MoveLaws
 pub mod NameLaws
 pub mod StepLaws
+pub mod ComeLaws
+pub mod LoopLaws

@@ -30,7 +30,7 @@ use Rattle.type_walk.specs.declared.levels.Walking.the-variants as walki
 use Rattle.type_walk.specs.Holding.{hereOf, AtLevel, Answered}
 use Rattle.type_walk.specs.Moves.{CanMove, Waited, Moving, Moved, Known, foundIn, doneAt, formBy, sideAfter, arrowAfter, doneAfter, sideAsk, sideDone}
 use Rattle.type_walk.proofs.HoldLaws.{at-on}
-use Rattle.type_walk.proofs.AskLaws.{can-wait, ask-held, waited-moved}
+use Rattle.type_walk.proofs.AskLaws.{can-wait, ask-held, places-none, waited-moved}
 
 -- ---- places
 
@@ -123,7 +123,7 @@ pub side-asked :
     → Moved text w h (Known ty) (sideAsk text form tight ty sign end) r w′
 side-asked text w w′ h form ty sign end flag tight r C l a b f g =
     let waits = can-wait text w (C .X) (C .m₀) (C .base) (C .σ) h (C .S) (C .K) (C .held) in
-    waited-moved text w h _ _ r w′ (Known ty) (sideAsk text form tight ty sign end) waits g (λ X m₀ base σ S K A k. ask-held w h _ waits text X m₀ base σ S K A (other (formBy form) sign ty) tight (h .frame) (h .top) end S f (form-number form a b, refl, refl) k (omega (arith, A .level)) (omega arith) (A .walkable) l)
+    waited-moved text w h _ _ r w′ (Known ty) (sideAsk text form tight ty sign end) waits g (λ X m₀ base σ S K A k. ask-held w h _ waits text X m₀ base σ S K A (other (formBy form) sign ty) tight (h .frame) (h .top) end S f (form-number form a b, refl, refl) k (places-none text w (h .top) (A .walkable .scope .places)) (omega (arith, A .level)) (omega arith) (A .walkable) l)
 
 -- the side behind the sign that stands at an offset
 module _ (text : List ℕ) (at : ℕ) (v : Said) (s : Stands text at v) where

@@ -14,7 +14,7 @@ use Rattle.notation_machine.specs.TypeMachine.{Wish, enclosed, argument, body, 
 use Rattle.words.specs.Next.{runAt}
 use Rattle.words.specs.Lexed.{from, Lexed}
 use Rattle.made_types.specs.Held.{HoldsState}
-use Rattle.scopes.specs.Entries.{valueAt}
+use Rattle.scopes.specs.Entries.{valueAt, Places}
 use Rattle.walk_levels.specs.declared.Level.{Level}
 use Rattle.walk_levels.specs.declared.Around.{Around}
 use Rattle.walk_levels.specs.Levels.{levelIn, scopeIn}
@@ -55,6 +55,7 @@ pub record LevelHeld (text w : List ℕ) (X : Text) (σ : State) (m : ℕ) (l : 
   pub walkable : Walkable text w (scopeIn w (m + 1) .frame) (scopeIn w (m + 1) .top) X (l .scope) σ
   pub wish : HoldsWish text w (scopeIn w (m + 1) .top) (levelIn w (m + 1)) (l .wish)
   pub known : WishKnown text (length (σ .table)) (scopeIn w (m + 1) .top) (l .wish)
+  pub places : Places text w 0 (scopeIn w (m + 1) .top + waitingFor (l .wish))
 
 -- the levels above one that has m levels below it and so many entries, up to the first, which has m₀ and `base` of them
 abbrev pub LevelsHeld : List ℕ → List ℕ → Text → State → ℕ → ℕ → ℕ → ℕ → List TypeLevel → Type 0

@@ -2,7 +2,6 @@
 // done. One round of the loop is one step of the machine of types (`typeMove`).
 pub mod levels;
 pub mod names;
-pub mod putting;
 pub mod sides;
 pub mod steps;
 
@@ -12,12 +11,17 @@ use grammar::steps::COMMA;
 use grammar::steps::SQUARE;
 use walks::TypeEnd;
 use walks::TypesEnd;
+ghost use mathlib.Core.Path.{_≡_};
+ghost use Rattle.walks.specs.Says.{CanType, TypeSays, TypesSay};
+ghost use Rattle.type_walk.specs.Loop.{goingIn, endedAs, CanTypeAt};
 
 // More steps than any walk takes: `type-start`, for a text of 65,535 bytes.
-const STEPS: u64 = 4295065604;
+const STEPS: u64 = 4295032831;
 
 // A level waits, or a type is wanted.
-fn going(s: Walking, more: usize) -> bool {
+fn going(s: Walking, more: usize) -> bool
+    ensures { λ r. ⌜ r ≡ goingIn s more ⌝ }
+{
     match s {
         Walking::Wanted(_) => true,
         Walking::Came(q) => q.more < more,
@@ -25,7 +29,9 @@ fn going(s: Walking, more: usize) -> bool {
     }
 }
 
-fn ended(s: Walking) -> TypeEnd {
+fn ended(s: Walking) -> TypeEnd
+    ensures { λ r. ⌜ r ≡ endedAs s ⌝ }
+{
     match s {
         Walking::Wanted(q) => TypeEnd::Refused(0, q.at),
         Walking::Came(q) => TypeEnd::At(q.ty, q.at),
@@ -41,7 +47,10 @@ fn type_at(
     more: usize,
     frame: usize,
     top: usize,
-) -> TypeEnd {
+) -> TypeEnd
+    requires { ⌜ CanTypeAt (now text) (now work) at more frame top ⌝ }
+    ensures { λ r. ⌜ TypeSays (now (text .entry)) (now (work .entry)) at more frame top r (now (work .exit)) ⌝ }
+{
     let mut s = Walking::Wanted(Want {
         more,
         tight: false,
@@ -65,7 +74,10 @@ pub fn type_from(
     more: usize,
     frame: usize,
     top: usize,
-) -> TypeEnd {
+) -> TypeEnd
+    requires { ⌜ CanType (now text) (now work) at more frame top ⌝ }
+    ensures { λ r. ⌜ TypeSays (now (text .entry)) (now (work .entry)) at more frame top r (now (work .exit)) ⌝ }
+{
     let e = grammar::types::type_end(text, at, 80, false);
     if e.number != 0 {
         return TypeEnd::Refused(e.number, e.at);
@@ -117,7 +129,10 @@ pub fn types_from(
     frame: usize,
     top: usize,
     name: usize,
-) -> TypesEnd {
+) -> TypesEnd
+    requires { ⌜ CanType (now text) (now work) at more frame top ⌝ }
+    ensures { λ r. ⌜ TypesSay (now (text .entry)) (now (work .entry)) at more frame top name r (now (work .exit)) ⌝ }
+{
     let e = grammar::types::arguments_end(text, at, 80);
     if e.number != 0 {
         return TypesEnd::Refused(e.number, e.at);

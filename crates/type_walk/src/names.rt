@@ -14,6 +14,7 @@ ghost use mathlib.Core.List.{[]};
 ghost use lib.ListN.{length};
 ghost use Rattle.notation_calculus.specs.Making.{mostEntries};
 ghost use Rattle.words.specs.Lexed.{Lexed};
+ghost use Rattle.scopes.specs.Entries.{Places};
 ghost use Rattle.type_walk.specs.Moves.{CanMove, Moved, NameAt, Given, Valued, Anything, argumentAsk, putAfter, plainAfter, namedAfter, CanAskBody, BodyAsked};
 
 // The next argument is wanted, of a name at a place, where so many wait already.
@@ -25,7 +26,7 @@ pub fn ask_argument(
     given: usize,
     at: usize,
 ) -> Walking
-    requires { ⌜ (CanMove (now text) (now work) h (Given (now work) (h .top) given)) × ((Lexed (now text) at) × ((name ≤ length (now text)) × (h .top + given ≤ mostEntries))) ⌝ }
+    requires { ⌜ (CanMove (now text) (now work) h (Given (now work) (h .top) given)) × ((Lexed (now text) at) × ((name ≤ length (now text)) × (Places (now text) (now work) 0 (h .top + given)))) ⌝ }
     ensures { λ r. ⌜ Moved (now (text .entry)) (now (work .entry)) h (Given (now (work .entry)) (h .top) given) (argumentAsk (now (text .entry)) (now (work .entry)) (h .top) name given at) r (now (work .exit)) ⌝ }
 {
     if !scopes::entries::has_room(h.top, given + 1) {
@@ -88,7 +89,7 @@ pub fn put_type(
     requires { ⌜ (CanMove (now text) (now work) h (Valued (now work) (h .top) given)) × ((Lexed (now text) at) × ((name ≤ length (now text)) × (h .top + given ≤ mostEntries))) ⌝ }
     ensures { λ r. ⌜ Moved (now (text .entry)) (now (work .entry)) h (Valued (now (work .entry)) (h .top) given) (putAfter (now (text .entry)) (now (work .entry)) (h .top) name given at) r (now (work .exit)) ⌝ }
 {
-    let p = crate::putting::put_in(text, work, true, name, at, given, h.frame, h.top, h.more);
+    let p = putting::put_in(text, work, true, name, at, given, h.frame, h.top, h.more);
     match p {
         PutEnd::At(q) => ask_body(text, work, h, q),
         PutEnd::Refused(number, place) => Walking::Refused(number, place),

@@ -6,23 +6,23 @@ use Rattle.type_walk.proofs.type_from.Lts as lts
 use Rattle.grammar.proofs.types.type_end.Reads as type-end-reads
 use Rattle.type_walk.proofs.type_at.Reads as type-at-reads
 
--- src/lib.rt:69:9
+-- src/lib.rt:81:9
 type-end-requires : tie.Need-type-end-requires
-type-end-requires c κs = ?
+type-end-requires c κs = search needs
 
--- src/lib.rt:71:9
+-- src/lib.rt:83:9
 returns : tie.Need-returns
-returns c = search needs
+returns c = ?
 
--- src/lib.rt:73:5
+-- src/lib.rt:85:5
 type-at-requires : tie.Need-type-at-requires
-type-at-requires c κs = search needs
+type-at-requires c κs = ?
 
--- src/lib.rt:61:1
+-- src/lib.rt:70:1
 same-length : tie.Need-same-length
 same-length c = search needs
 
--- src/lib.rt:61:1
+-- src/lib.rt:70:1
 returns-2 : tie.Need-returns-2
 returns-2 c = search needs
 

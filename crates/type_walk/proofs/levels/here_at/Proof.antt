@@ -1,3 +1,5 @@
+-- `type_walk::levels::here_at` meets its contract: the numbers of the level and of its scope are read. Assumes nothing.
+use Rattle.type_walk.proofs.AskLaws.{here-read}
 use borrow.Author.Needs.{needs}
 use Rattle.type_walk.proofs.levels.here_at.Statement.{statement}
 use Rattle.type_walk.proofs.levels.here_at.Tie as tie
@@ -37,7 +39,7 @@ wide-requires-2 c κs = search needs
 
 -- src/levels.rt:76:1
 returns : tie.Need-returns
-returns c = ?
+returns c = here-read (c .before .before .before .before .before .before .args .work .now) (c .before .before .before .before .before .before .args .more) (c .before .before .before .before .level-at .result) (c .before .before .before .scope-at .result) _ _ (c .before .before .before .before .level-at .ensures) (c .before .before .before .scope-at .ensures) (c .before .wide .ensures) (c .wide2 .ensures)
 
 pub here-at-spec : {M : Type 1} → statement M
 here-at-spec =

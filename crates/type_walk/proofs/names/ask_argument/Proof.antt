@@ -1,3 +1,6 @@
+-- `type_walk::names::ask_argument` meets its contract: room is asked for, and the level waits for the argument. Assumes nothing.
+use Rattle.words.proofs.WordLaws.{not-yes, not-no}
+use Rattle.type_walk.proofs.NameLaws.{argument-full, argument-asked}
 use borrow.Author.Needs.{needs}
 use Rattle.type_walk.proofs.names.ask_argument.Statement.{statement}
 use Rattle.type_walk.proofs.names.ask_argument.Tie as tie
@@ -17,7 +20,7 @@ has-room-requires c κs = search needs
 
 -- src/names.rt:32:9
 returns : tie.Need-returns
-returns c = ?
+returns c = argument-full _ _ _ _ _ _ (c .before .has-room .result) (c .before .has-room .ensures) (not-yes _ (c .if1 .taken))
 
 -- src/names.rt:36:15
 flag-of-requires : tie.Need-flag-of-requires
@@ -45,7 +48,7 @@ same-length c = search needs
 
 -- src/names.rt:20:1
 returns-2 : tie.Need-returns-2
-returns-2 c = ?
+returns-2 c = argument-asked _ _ _ _ _ _ _ _ _ (c .before .before .before .before .before .before .before .has-room .result) (c .before .before .before .before .before .before .before .has-room .ensures) (not-no _ (c .before .before .before .before .before .before .if1 .left)) (c .before .before .before .before .before .before .before .before .before .before .pre .0) (c .before .before .before .before .before .before .before .before .before .before .pre .1 .0) (c .before .before .before .before .before .before .before .before .before .before .pre .1 .1 .0) (c .before .before .before .before .before .before .before .before .before .before .pre .1 .1 .1) (c .before .before .before .before .before .flag-of .ensures) (c .before .before .wait .ensures)
 
 pub ask-argument-spec : {M : Type 1} → statement M
 ask-argument-spec =

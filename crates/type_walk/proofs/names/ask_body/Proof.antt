@@ -1,3 +1,5 @@
+-- `type_walk::names::ask_body` meets its contract: the level waits for the body, in the scope that its frame holds. Assumes nothing.
+use Rattle.type_walk.proofs.NameLaws.{body-asked}
 use borrow.Author.Needs.{needs}
 use Rattle.type_walk.proofs.names.ask_body.Statement.{statement}
 use Rattle.type_walk.proofs.names.ask_body.Tie as tie
@@ -24,7 +26,7 @@ same-length c = search needs
 
 -- src/names.rt:55:1
 returns : tie.Need-returns
-returns c = ?
+returns c = body-asked _ _ _ _ _ _ _ (c .before .before .before .before .before .before .before .before .pre .can) (c .before .before .before .before .before .flag-of .ensures) (c .before .before .wait .ensures)
 
 pub ask-body-spec : {M : Type 1} → statement M
 ask-body-spec = tie.close (tie.spec flag-of-requires cast-t8 wait-requires same-length returns)

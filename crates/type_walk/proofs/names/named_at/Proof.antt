@@ -1,3 +1,8 @@
+-- `type_walk::names::named_at` meets its contract: arguments in brackets, numbers, or neither. Assumes nothing.
+use Rattle.words.specs.Next.{saidWord}
+use Rattle.type_walk.proofs.MoveLaws.{onward}
+use Rattle.type_walk.specs.Moves.{Anything}
+use Rattle.type_walk.proofs.NameLaws.{named-square, named-curly, named-plain, can-places, can-top}
 use borrow.Author.Needs.{needs}
 use Rattle.type_walk.proofs.names.named_at.Statement.{statement}
 use Rattle.type_walk.proofs.names.named_at.Tie as tie
@@ -14,7 +19,7 @@ word-at-requires c κs = search needs
 
 -- src/names.rt:119:9
 ask-argument-requires : tie.Need-ask-argument-requires
-ask-argument-requires c κs = ?
+ask-argument-requires c κs = (c .before .before .before .before .before .before .pre .0, (onward _ _ (saidWord (c .before .before .before .word-at .result)) (c .before .before .before .word-at .ensures) 16 (c .before .if1 .taken) .lexed, (c .before .before .before .before .before .before .pre .1 .1 .inside, can-places _ _ _ Anything (c .before .before .before .before .before .before .pre .0))))
 
 -- src/names.rt:119:9
 same-length : tie.Need-same-length
@@ -22,11 +27,11 @@ same-length c = search needs
 
 -- src/names.rt:119:9
 returns : tie.Need-returns
-returns c = ?
+returns c = named-square _ _ _ _ _ _ _ (saidWord (c .before .before .before .before .before .before .word-at .result)) (c .before .before .before .before .before .before .word-at .ensures) (c .before .before .before .before .if1 .taken) (c .before .before .ask-argument .ensures)
 
 -- src/names.rt:122:9
 put-type-requires : tie.Need-put-type-requires
-put-type-requires c κs = ?
+put-type-requires c κs = (c .before .before .before .before .before .before .before .before .pre .0, (c .before .before .before .before .before .before .before .before .pre .1 .0, (c .before .before .before .before .before .before .before .before .pre .1 .1 .inside, can-top _ _ _ Anything (c .before .before .before .before .before .before .before .before .pre .0))))
 
 -- src/names.rt:122:9
 same-length-2 : tie.Need-same-length-2
@@ -34,7 +39,7 @@ same-length-2 c = search needs
 
 -- src/names.rt:122:9
 returns-2 : tie.Need-returns-2
-returns-2 c = ?
+returns-2 c = named-curly _ _ _ _ _ _ _ (saidWord (c .before .before .before .before .before .before .before .before .word-at .result)) (c .before .before .before .before .before .before .before .before .word-at .ensures) (c .before .before .before .before .before .before .if1 .left) (c .before .before .before .before .if2 .taken) (c .before .before .put-type .ensures)
 
 -- src/names.rt:124:5
 plain-at-requires : tie.Need-plain-at-requires
@@ -46,7 +51,7 @@ same-length-3 c = search needs
 
 -- src/names.rt:113:1
 returns-3 : tie.Need-returns-3
-returns-3 c = ?
+returns-3 c = named-plain _ _ _ _ _ _ _ (saidWord (c .before .before .before .before .before .before .before .before .word-at .result)) (c .before .before .before .before .before .before .before .before .word-at .ensures) (c .before .before .before .before .before .before .if1 .left) (c .before .before .before .before .if2 .left) (c .before .before .plain-at .ensures)
 
 pub named-at-spec : {M : Type 1} → statement M
 named-at-spec =

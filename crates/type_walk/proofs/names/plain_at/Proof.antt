@@ -1,3 +1,7 @@
+-- `type_walk::names::plain_at` meets its contract: the first parameter of that name, or a definition. Assumes nothing.
+use native.Mathlib.Omega.{arith}
+use Rattle.type_walk.proofs.NameLaws.{plain-asked, plain-none, plain-low, plain-found, can-side, can-top}
+use Rattle.type_walk.specs.Moves.{Anything}
 use borrow.Author.Needs.{needs}
 use Rattle.type_walk.proofs.names.plain_at.Statement.{statement}
 use Rattle.type_walk.proofs.names.plain_at.Tie as tie
@@ -15,11 +19,11 @@ frame-at-requires c κs = search needs
 
 -- src/names.rt:104:9
 first-of-requires : tie.Need-first-of-requires
-first-of-requires c κs = ?
+first-of-requires c κs = plain-asked _ _ _ _ (c .before .before .before .before .before .args .at) (c .before .before .before .before .before .pre .1 .1) _ (c .before .frame-at .ensures) (c .before .before .before .before .before .pre .0)
 
 -- src/names.rt:106:9
 put-type-requires : tie.Need-put-type-requires
-put-type-requires c κs = ?
+put-type-requires c κs = (c .before .before .before .before .before .before .before .before .before .pre .0, (c .before .before .before .before .before .before .before .before .before .pre .1 .0, (c .before .before .before .before .before .before .before .before .before .pre .1 .1 .inside, can-top _ _ _ Anything (c .before .before .before .before .before .before .before .before .before .pre .0))))
 
 -- src/names.rt:106:9
 same-length : tie.Need-same-length
@@ -27,11 +31,11 @@ same-length c = search needs
 
 -- src/names.rt:106:9
 returns : tie.Need-returns
-returns c = ?
+returns c = plain-none _ _ _ _ _ (c .before .before .before .before .before .before .before .before .before .before .before .before .pre .1 .1) _ (c .before .before .before .before .before .before .before .before .frame-at .ensures) _ (c .before .before .before .before .before .before .first-of .ensures) _ _ (c .before .before .before .before .if1 .taken) (c .before .before .put-type .ensures)
 
 -- src/names.rt:108:9
 value-of-requires : tie.Need-value-of-requires
-value-of-requires c κs = ?
+value-of-requires c κs = (plain-low _ _ _ _ (c .before .before .before .before .before .before .before .before .before .args .at) (c .before .before .before .before .before .before .before .before .before .pre .1 .1) _ (c .before .before .before .before .before .frame-at .ensures) _ (c .before .before .before .first-of .ensures) (c .before .if1 .left) (c .before .before .before .before .before .before .before .before .before .pre .0), c .before .before .before .before .before .before .before .before .before .pre .0 .held .walkable .room)
 
 -- src/names.rt:109:37
 cast-side-from : tie.Need-cast-side-from
@@ -39,7 +43,7 @@ cast-side-from c = search needs
 
 -- src/names.rt:109:5
 side-from-requires : tie.Need-side-from-requires
-side-from-requires c κs = ?
+side-from-requires c κs = (can-side _ _ _ _ (c .before .before .before .before .before .before .before .before .before .before .before .args .at) (c .before .before .before .before .before .before .before .before .before .before .before .pre .1 .1) _ (c .before .before .before .before .before .before .before .frame-at .ensures) _ (c .before .before .before .before .before .first-of .ensures) _ (c .before .before .before .if1 .left) (c .before .value-of .ensures .0) (c .before .before .before .before .before .before .before .before .before .before .before .pre .0), c .before .before .before .before .before .before .before .before .before .before .before .pre .1 .0)
 
 -- src/names.rt:99:1
 same-length-2 : tie.Need-same-length-2
@@ -47,7 +51,7 @@ same-length-2 c = search needs
 
 -- src/names.rt:99:1
 returns-2 : tie.Need-returns-2
-returns-2 c = ?
+returns-2 c = plain-found _ _ _ _ _ (c .before .before .before .before .before .before .before .before .before .before .before .before .before .before .pre .1 .1) _ (c .before .before .before .before .before .before .before .before .before .before .frame-at .ensures) _ (c .before .before .before .before .before .before .before .before .first-of .ensures) _ _ _ (c .before .before .before .before .before .before .if1 .left) (c .before .before .before .before .value-of .ensures .0) (c .before .before .side-from .ensures)
 
 pub plain-at-spec : {M : Type 1} → statement M
 plain-at-spec =

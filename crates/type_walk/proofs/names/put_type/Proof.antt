@@ -1,14 +1,15 @@
+-- `type_walk::names::put_type` meets its contract: the definition is put in with a frame of its own, and its body is wanted. Assumes nothing.
+use Rattle.type_walk.proofs.NameLaws.{can-put, put-refused, can-ask-body, put-came}
 use borrow.Author.Needs.{needs}
 use Rattle.type_walk.proofs.names.put_type.Statement.{statement}
 use Rattle.type_walk.proofs.names.put_type.Tie as tie
 use Rattle.type_walk.proofs.names.put_type.Reads as reads
 use Rattle.type_walk.proofs.names.put_type.Lts as lts
 use Rattle.type_walk.proofs.names.ask_body.Reads as ask-body-reads
-use Rattle.type_walk.proofs.putting.put_in.Reads as put-in-reads
 
 -- src/names.rt:91:9
 put-in-requires : tie.Need-put-in-requires
-put-in-requires c κs = search needs
+put-in-requires c κs = can-put _ _ _ _ _ _ (c .before .before .before .pre .0) (c .before .before .before .pre .1 .0) (c .before .before .before .pre .1 .1 .0) (c .before .before .before .pre .1 .1 .1)
 
 -- src/names.rt:93:20
 enum-known-p : tie.Need-enum-known-p
@@ -16,7 +17,7 @@ enum-known-p c = search needs
 
 -- src/names.rt:93:26
 ask-body-requires : tie.Need-ask-body-requires
-ask-body-requires c κs = ?
+ask-body-requires c κs = can-ask-body _ _ _ _ _ _ _ _ _ (c .before .before .p .given .1) (c .before .before .before .before .before .before .put-in .ensures) (c .before .before .before .before .before .before .before .before .before .before .pre .0)
 
 -- src/names.rt:94:25
 enum-known-p-2 : tie.Need-enum-known-p-2
@@ -28,7 +29,7 @@ same-length c = search needs
 
 -- src/names.rt:80:1
 returns : tie.Need-returns
-returns c = ?
+returns c = put-came _ _ _ _ _ _ _ _ _ (c .before .before .before .before .before .p .given .1) (c .before .before .before .before .before .before .before .before .before .put-in .ensures) _ _ (c .before .before .ask-body .ensures)
 
 -- src/names.rt:80:1
 same-length-2 : tie.Need-same-length-2
@@ -36,7 +37,7 @@ same-length-2 c = search needs
 
 -- src/names.rt:80:1
 returns-2 : tie.Need-returns-2
-returns-2 c = ?
+returns-2 c = put-refused _ _ _ _ _ _ _ _ _ _ (c .before .p2 .given .1) (c .before .before .before .before .before .put-in .ensures)
 
 pub put-type-spec : {M : Type 1} → statement M
 put-type-spec =

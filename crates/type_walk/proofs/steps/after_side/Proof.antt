@@ -1,3 +1,6 @@
+-- `type_walk::steps::after_side` meets its contract: an arrow may follow a product, and nothing else. Assumes nothing.
+use Rattle.type_walk.proofs.MoveLaws.{done-moved}
+use Rattle.type_walk.proofs.StepLaws.{side-product, side-done}
 use borrow.Author.Needs.{needs}
 use Rattle.type_walk.proofs.steps.after_side.Statement.{statement}
 use Rattle.type_walk.proofs.steps.after_side.Tie as tie
@@ -16,7 +19,7 @@ same-length c = search needs
 
 -- src/steps.rt:133:9
 returns : tie.Need-returns
-returns c = ?
+returns c = side-product _ _ _ _ _ _ _ _ (c .before .before .before .before .if1 .taken) (c .before .before .arrow-from .ensures)
 
 -- src/steps.rt:135:5
 done-requires : tie.Need-done-requires
@@ -24,7 +27,7 @@ done-requires c κs = search needs
 
 -- src/steps.rt:128:1
 returns-2 : tie.Need-returns-2
-returns-2 c = ?
+returns-2 c = side-done _ _ _ _ _ _ _ _ (c .before .if1 .left) (done-moved _ _ _ _ _ _ (c .before .before .before .before .pre .1) (c .done .ensures))
 
 pub after-side-spec : {M : Type 1} → statement M
 after-side-spec =

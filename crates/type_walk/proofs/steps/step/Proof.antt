@@ -1,3 +1,5 @@
+-- `type_walk::steps::step` meets its contract: by whether a type is wanted or came; a refusal is no step. Assumes nothing.
+use Rattle.type_walk.proofs.StepLaws.{step-can, step-as, step-refused}
 use borrow.Author.Needs.{needs}
 use Rattle.type_walk.proofs.steps.step.Statement.{statement}
 use Rattle.type_walk.proofs.steps.step.Tie as tie
@@ -12,7 +14,7 @@ enum-known-s c = search needs
 
 -- src/steps.rt:180:31
 want-step-requires : tie.Need-want-step-requires
-want-step-requires c κs = ?
+want-step-requires c κs = step-can _ _ _ _ (c .before .before .s .given .1) (c .before .before .before .before .before .before .pre)
 
 -- src/steps.rt:181:23
 enum-known-s-2 : tie.Need-enum-known-s-2
@@ -20,7 +22,7 @@ enum-known-s-2 c = search needs
 
 -- src/steps.rt:181:29
 come-step-requires : tie.Need-come-step-requires
-come-step-requires c κs = ?
+come-step-requires c κs = step-can _ _ _ _ (c .before .before .s2 .given .1) (c .before .before .before .before .before .before .pre)
 
 -- src/steps.rt:182:26
 enum-known-s-3 : tie.Need-enum-known-s-3
@@ -32,7 +34,7 @@ same-length c = search needs
 
 -- src/steps.rt:175:1
 returns : tie.Need-returns
-returns c = ?
+returns c = step-as _ _ _ _ _ _ (c .before .before .before .before .before .s .given .1) (c .before .before .want-step .ensures)
 
 -- src/steps.rt:175:1
 same-length-2 : tie.Need-same-length-2
@@ -40,11 +42,11 @@ same-length-2 c = search needs
 
 -- src/steps.rt:175:1
 returns-2 : tie.Need-returns-2
-returns-2 c = ?
+returns-2 c = step-as _ _ _ _ _ _ (c .before .before .before .before .before .s2 .given .1) (c .before .before .come-step .ensures)
 
 -- src/steps.rt:175:1
 returns-3 : tie.Need-returns-3
-returns-3 c = ?
+returns-3 c = step-refused _ _ _ _ _ _ (c .before .s3 .given .1)
 
 pub step-spec : {M : Type 1} → statement M
 step-spec =

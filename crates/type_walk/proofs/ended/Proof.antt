@@ -1,0 +1,33 @@
+use borrow.Author.Needs.{needs}
+use Rattle.type_walk.proofs.ended.Statement.{statement}
+use Rattle.type_walk.proofs.ended.Tie as tie
+use Rattle.type_walk.proofs.ended.Reads as reads
+use Rattle.type_walk.proofs.ended.Lts as lts
+
+-- src/lib.rt:36:25
+enum-known-s : tie.Need-enum-known-s
+enum-known-s c = search needs
+
+-- src/lib.rt:37:23
+enum-known-s-2 : tie.Need-enum-known-s-2
+enum-known-s-2 c = search needs
+
+-- src/lib.rt:38:26
+enum-known-s-3 : tie.Need-enum-known-s-3
+enum-known-s-3 c = search needs
+
+-- src/lib.rt:32:1
+returns : tie.Need-returns
+returns c = ?
+
+-- src/lib.rt:32:1
+returns-2 : tie.Need-returns-2
+returns-2 c = ?
+
+-- src/lib.rt:32:1
+returns-3 : tie.Need-returns-3
+returns-3 c = ?
+
+pub ended-spec : {M : Type 1} → statement M
+ended-spec =
+    tie.close (tie.spec enum-known-s enum-known-s-2 enum-known-s-3 returns returns-2 returns-3)
