@@ -5,3 +5,4 @@ pub mod NameLaws
 pub mod StepLaws
 pub mod ComeLaws
 pub mod LoopLaws
+pub mod ManyLaws

@@ -50,7 +50,7 @@ given-in w top zero = tt
 given-in w top (suc n) = (ap (λ (k : ℕ). valueAt w (top + k)) (given-length w top n), given-in w top n)
 
 -- where an argument is worked out
-walkable-waiting : (text w : List ℕ) (frame top n : ℕ) (X : Text) (S : Scope) (σ : State) → Walkable text w frame top X S σ → Places text w 0 (top + n) → Walkable text w frame (top + n) X (waiting S n) σ
+pub walkable-waiting : (text w : List ℕ) (frame top n : ℕ) (X : Text) (S : Scope) (σ : State) → Walkable text w frame top X S σ → Places text w 0 (top + n) → Walkable text w frame (top + n) X (waiting S n) σ
 walkable-waiting text w frame top n X S σ G p =
     let H = G .scope in
     let Q = H .parameters in

@@ -14,6 +14,7 @@ use walks::TypesEnd;
 ghost use mathlib.Core.Path.{_≡_};
 ghost use Rattle.walks.specs.Says.{CanType, TypeSays, TypesSay};
 ghost use Rattle.type_walk.specs.Loop.{goingIn, endedAs, CanTypeAt};
+ghost use Rattle.type_walk.specs.Many.{CanTypeAll, AllTypesSay, typesRefused};
 
 // More steps than any walk takes: `type-start`, for a text of 65,535 bytes.
 const STEPS: u64 = 4295032831;
@@ -94,7 +95,10 @@ fn arguments(
     frame: usize,
     top: usize,
     name: usize,
-) -> TypesEnd {
+) -> TypesEnd
+    requires { ⌜ CanTypeAll (now text) (now work) at more frame top ⌝ }
+    ensures { λ r. ⌜ AllTypesSay (now (text .entry)) (now (work .entry)) at more frame top name r (now (work .exit)) ⌝ }
+{
     let mut i: usize = 0;
     let mut p = at;
     while scopes::entries::has_room(top, i + 1) {
@@ -113,7 +117,9 @@ fn arguments(
     TypesEnd::Refused(34, name)
 }
 
-fn types_refused(t: TypeEnd) -> TypesEnd {
+fn types_refused(t: TypeEnd) -> TypesEnd
+    ensures { λ r. ⌜ r ≡ typesRefused t ⌝ }
+{
     match t {
         TypeEnd::At(_, end) => TypesEnd::Refused(0, end),
         TypeEnd::Refused(number, place) => TypesEnd::Refused(number, place),

@@ -15,87 +15,87 @@ Inv-loop text work₀ at more frame top name i₀ p₀ work i p = ?
 abbrev μ-loop : tie.MeasureT-loop
 μ-loop text work₀ at more frame top name i₀ p₀ work i p = ?
 
--- src/lib.rt:100:5
+-- src/lib.rt:104:5
 loop-holds : tie.Need-loop-holds Inv-loop μ-loop
 loop-holds c = ?
 
--- src/lib.rt:100:42
+-- src/lib.rt:104:42
 add-has-room : tie.Need-add-has-room Inv-loop μ-loop
 add-has-room c = ?
 
--- src/lib.rt:100:11
+-- src/lib.rt:104:11
 has-room-requires : tie.Need-has-room-requires Inv-loop μ-loop
 has-room-requires c κs = ?
 
--- src/lib.rt:101:55
+-- src/lib.rt:105:55
 add-type-from : tie.Need-add-type-from Inv-loop μ-loop
 add-type-from c = ?
 
--- src/lib.rt:101:13
+-- src/lib.rt:105:13
 type-from-requires : tie.Need-type-from-requires Inv-loop μ-loop
 type-from-requires c κs = ?
 
--- src/lib.rt:102:25
+-- src/lib.rt:106:25
 enum-known-t : tie.Need-enum-known-t Inv-loop μ-loop
 enum-known-t c = ?
 
--- src/lib.rt:103:13
+-- src/lib.rt:107:13
 enum-told : tie.Need-enum-told Inv-loop μ-loop
 enum-told c = ?
 
--- src/lib.rt:103:13
+-- src/lib.rt:107:13
 types-refused-requires : tie.Need-types-refused-requires Inv-loop μ-loop
 types-refused-requires c κs = ?
 
--- src/lib.rt:103:13
+-- src/lib.rt:107:13
 same-length : tie.Need-same-length Inv-loop μ-loop
 same-length c = ?
 
--- src/lib.rt:103:13
+-- src/lib.rt:107:13
 returns : tie.Need-returns Inv-loop μ-loop
 returns c = ?
 
--- src/lib.rt:105:37
+-- src/lib.rt:109:37
 add-bind : tie.Need-add-bind Inv-loop μ-loop
 add-bind c = ?
 
--- src/lib.rt:105:49
+-- src/lib.rt:109:49
 wide-requires : tie.Need-wide-requires Inv-loop μ-loop
 wide-requires c κs = ?
 
--- src/lib.rt:105:9
+-- src/lib.rt:109:9
 bind-requires : tie.Need-bind-requires Inv-loop μ-loop
 bind-requires c κs = ?
 
--- src/lib.rt:106:13
+-- src/lib.rt:110:13
 add-i : tie.Need-add-i Inv-loop μ-loop
 add-i c = ?
 
--- src/lib.rt:107:13
+-- src/lib.rt:111:13
 word-at-requires : tie.Need-word-at-requires Inv-loop μ-loop
 word-at-requires c κs = ?
 
--- src/lib.rt:109:13
+-- src/lib.rt:113:13
 same-length-2 : tie.Need-same-length-2 Inv-loop μ-loop
 same-length-2 c = ?
 
--- src/lib.rt:109:13
+-- src/lib.rt:113:13
 returns-2 : tie.Need-returns-2 Inv-loop μ-loop
 returns-2 c = ?
 
--- src/lib.rt:100:5
+-- src/lib.rt:104:5
 loop-less : tie.Need-loop-less Inv-loop μ-loop
 loop-less c = ?
 
--- src/lib.rt:100:5
+-- src/lib.rt:104:5
 loop-again : tie.Need-loop-again Inv-loop μ-loop
 loop-again c = ?
 
--- src/lib.rt:89:1
+-- src/lib.rt:90:1
 same-length-3 : tie.Need-same-length-3 Inv-loop μ-loop
 same-length-3 c = ?
 
--- src/lib.rt:89:1
+-- src/lib.rt:90:1
 returns-3 : tie.Need-returns-3 Inv-loop μ-loop
 returns-3 c = ?
 

@@ -1,3 +1,7 @@
+-- `type_walk::going` meets its contract: by what the walk is at. Assumes nothing.
+use mathlib.Core.Path.{sym, ap}
+use Rattle.type_walk.specs.declared.levels.Walking as code
+use Rattle.type_walk.specs.Loop.{goingIn}
 use borrow.Author.Needs.{needs}
 use Rattle.type_walk.proofs.going.Statement.{statement}
 use Rattle.type_walk.proofs.going.Tie as tie
@@ -22,7 +26,7 @@ returns c = search needs
 
 -- src/lib.rt:22:1
 returns-2 : tie.Need-returns-2
-returns-2 c = ?
+returns-2 c = sym (ap (λ (y : code.Walking). goingIn y (c .before .before .before .before .args .more)) (c .before .before .s .given .1))
 
 -- src/lib.rt:22:1
 returns-3 : tie.Need-returns-3

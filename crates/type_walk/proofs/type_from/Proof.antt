@@ -1,3 +1,5 @@
+-- `type_walk::type_from` meets its contract: the grammar refuses, or what it reads is worked out. Assumes nothing.
+use Rattle.type_walk.proofs.LoopLaws.{type-refused, type-read-there}
 use borrow.Author.Needs.{needs}
 use Rattle.type_walk.proofs.type_from.Statement.{statement}
 use Rattle.type_walk.proofs.type_from.Tie as tie
@@ -12,11 +14,11 @@ type-end-requires c κs = search needs
 
 -- src/lib.rt:83:9
 returns : tie.Need-returns
-returns c = ?
+returns c = type-refused _ _ _ _ _ _ _ _ (c .before .before .type-end .ensures) (c .if1 .taken)
 
 -- src/lib.rt:85:5
 type-at-requires : tie.Need-type-at-requires
-type-at-requires c κs = ?
+type-at-requires c κs = type-read-there _ _ _ _ _ _ _ _ (c .before .before .before .type-end .ensures) (c .before .before .before .before .before .before .pre) (c .before .if1 .left)
 
 -- src/lib.rt:70:1
 same-length : tie.Need-same-length
