@@ -178,6 +178,14 @@ module _ (text w₀ : List ℕ) (more frame top name : ℕ) (X : Text) (S : Scop
       listing-refused n pl e v z =
           subst (λ (y : types-code.TypesEnd). TypesAnswer text w₁ top y a) (sym (z ∙ ap typesRefused e)) (subst (TypesAnswer text w₁ top (types-end.Refused n pl)) (sym total-now) (refused-by n pl m (subst (λ (y : type.TypeEnd). TypeAnswers text w₁ y (m >>= λ y. got y (F .first .rest))) e answers)))
 
+      there-by : (ty end : ℕ) (q : Answer Found) → TypeAnswers text w₁ (type-end.At ty end) (q >>= λ y. got y (F .first .rest)) → Lexed text end × (ty < 256)
+      there-by ty end (good y) c = let few = c .state .types .ok .few in (c .rest .lexed, omega (arith, c .known))
+      there-by ty end (refused why) c = absurd c
+
+      -- the offset behind a type, and its number
+      pub listing-there : (ty end : ℕ) → r ≡ type-end.At ty end → Lexed text end × (ty < 256)
+      listing-there ty end e = there-by ty end m (subst (λ (y : type.TypeEnd). TypeAnswers text w₁ y (m >>= λ y. got y (F .first .rest))) e answers)
+
       module _ (ty end u : ℕ) (is-r : r ≡ type-end.At ty end) (is-ty : u ≡ ty) (w₂ : List ℕ) (stored : w₂ ≡ withEntry w₁ (top + i) 0 u) (v : Said) (s : Stands text end v) where
         room-now : top + i < mostEntries
         room-now = omega (arith, leb→le (top + (i + 1)) mostEntries (subst T (sym roomy ∙ is-b) tt))
@@ -284,6 +292,53 @@ module _ (text w₀ : List ℕ) (more frame top name : ℕ) (X : Text) (S : Scop
 
             end-not : v .code ≡ 0 → is endSquare (from text end) ≡ true → ⊥
             end-not z e = true≢false (sym e ∙ is-no text end v s endSquare (λ q. omega arith))
+
+-- ---- the loop
+
+module _ (text w₀ : List ℕ) (at more frame top name : ℕ) (C : CanTypeAll text w₀ at more frame top) where
+  -- for every text, scope, state and list that there were
+  abbrev pub Keeps : List ℕ → ℕ → ℕ → Type 0
+  Keeps w i p = (X : Text) (S : Scope) (σ : State) → Walkable text w₀ frame top X S σ → (rounds : ℕ) (g : Got (List TypeTree)) → ListRead text at rounds g → Listing text w₀ more frame top name X S (foundAll (λ R τ t. typeOf X more R τ t) S name 0 σ (typesOf (g .value)) >>= λ xs. got xs (behind (g .rest))) w i p
+
+  pub keeps-first : Keeps w₀ 0 at
+  keeps-first = λ X S σ G rounds g R. listing-first text w₀ more frame top name X S at σ G (C .can .lexed) rounds g R
+
+  module _ (w : List ℕ) (i p : ℕ) (K : Keeps w i p) where
+    abbrev L : Listing text w₀ more frame top name (C .can .walk .X) (C .can .walk .S) (foundAll (λ R τ t. typeOf (C .can .walk .X) more R τ t) (C .can .walk .S) name 0 (C .can .walk .σ) (typesOf (C .trees .value)) >>= λ xs. got xs (behind (C .trees .rest))) w i p
+    L = K (C .can .walk .X) (C .can .walk .S) (C .can .walk .σ) (C .can .walk .walkable) (C .rounds) (C .trees) (C .list)
+
+    pub keeps-same : length w ≡ length w₀
+    keeps-same = L .kept .same
+
+    pub keeps-few : top + i ≤ mostEntries
+    keeps-few = L .places .most
+
+    pub keeps-can : CanType text w p more frame (top + i)
+    keeps-can = listing-can text w₀ more frame top name (C .can .walk .X) (C .can .walk .S) (C .can .walk .σ) (C .can .walk .walkable) (C .can .above) _ w i p L (C .can .levels)
+
+    module _ (b : Bool) (is-b : b ≡ leb (top + (i + 1)) mostEntries) where
+      pub keeps-full : b ≡ false → AllTypesSay text w₀ at more frame top name (types-end.Refused 34 name) w
+      keeps-full f = record { walked = L .kept; says = λ X S σ G rounds g R. listing-full text w₀ more frame top name X S σ G (C .can .above) _ w i p (K X S σ G rounds g R) b is-b f }
+
+      pub keeps-room : b ≡ true → top + i + 1 ≤ mostEntries
+      keeps-room o = omega (arith, leb→le (top + (i + 1)) mostEntries (subst T (sym o ∙ is-b) tt))
+
+      module _ (o : b ≡ true) (r : type.TypeEnd) (w₁ : List ℕ) (Z : TypeSays text w p more frame (top + i) r w₁) where
+        pub keeps-long : makingSize ≤ length w₁
+        keeps-long = omega (arith, L .places .room, Z .walked .same)
+
+        pub keeps-there : (ty end : ℕ) → r ≡ type-end.At ty end → Lexed text end × (ty < 256)
+        keeps-there = listing-there text w₀ more frame top name (C .can .walk .X) (C .can .walk .S) (C .can .walk .σ) (C .can .walk .walkable) (C .can .above) _ w i p L b is-b o r w₁ Z
+
+        pub keeps-refused : (n pl : ℕ) → r ≡ type-end.Refused n pl → (v : types-code.TypesEnd) → v ≡ typesRefused r → AllTypesSay text w₀ at more frame top name v w₁
+        keeps-refused n pl e v z = record { walked = types-walked-then more more more top (top + i) top w₀ w w₁ (omega arith) (omega arith) (omega arith) (omega arith) (L .kept) (Z .walked); says = λ X S σ G rounds g R. listing-refused text w₀ more frame top name X S σ G (C .can .above) _ w i p (K X S σ G rounds g R) b is-b o r w₁ Z n pl e v z }
+
+        module _ (ty end u : ℕ) (is-r : r ≡ type-end.At ty end) (is-ty : u ≡ ty) (w₂ : List ℕ) (stored : w₂ ≡ withEntry w₁ (top + i) 0 u) (v : Said) (s : Stands text end v) where
+          pub keeps-more : v .code ≡ 14 → Keeps w₂ (i + 1) (v .end)
+          keeps-more c = λ X S σ G rounds g R. listing-more text w₀ more frame top name X S σ G (C .can .above) _ w i p (K X S σ G rounds g R) b is-b o r w₁ Z ty end u is-r is-ty w₂ stored v s c
+
+          pub keeps-last : ¬ (v .code ≡ 14) → AllTypesSay text w₀ at more frame top name (types-end.At (i + 1) (v .end)) w₂
+          keeps-last c = record { walked = listing-walked text w₀ more frame top name (C .can .walk .X) (C .can .walk .S) (C .can .walk .σ) (C .can .walk .walkable) (C .can .above) _ w i p L b is-b o r w₁ Z ty end u is-r is-ty w₂ stored v s; says = λ X S σ G rounds g R. listing-last text w₀ more frame top name X S σ G (C .can .above) _ w i p (K X S σ G rounds g R) b is-b o r w₁ Z ty end u is-r is-ty w₂ stored v s c }
 
 -- ---- as a term wants them
 
