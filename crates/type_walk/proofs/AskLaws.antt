@@ -31,7 +31,7 @@ use Rattle.type_walk.specs.declared.levels.Want.{Want}
 use Rattle.type_walk.specs.declared.levels.Here.{Here}
 use Rattle.type_walk.specs.declared.levels.Walking as code
 use Rattle.type_walk.specs.declared.levels.Walking.the-variants as walking
-use Rattle.type_walk.specs.Holding.{WishKnown, LevelHeld, LevelsHeld, hereOf, hereIn, aroundOf, AtLevel, Wanting, Answered}
+use Rattle.type_walk.specs.Holding.{WishKnown, LevelHeld, LevelsHeld, hereWith, hereIn, aroundOf, AtLevel, Wanting, Answered}
 use Rattle.type_walk.specs.Moves.{CanWait, Waited, Moving, Moved}
 use Rattle.type_walk.proofs.HoldLaws.{levels-on, wish-kept}
 
@@ -81,7 +81,7 @@ module _ (w : List ℕ) (h : Here) (l : Level) (C : CanWait w h) where
       (text : List ℕ) (X : Text) (m₀ base : ℕ) (σ : State) (S : Scope) (K : List TypeLevel) → AtLevel text w X m₀ base σ h S K
       → (x : Wish) (tight : Bool) (frame top at : ℕ) (R : Scope) → l .flag ≡ flagNumber (h .tight) → HoldsWish text w (h .top) l x → WishKnown text (length (σ .table)) (h .top) x
       → Places text w 0 (h .top + waitingFor x) → h .more ≤ frame → h .top + waitingFor x ≤ top → Walkable text w frame top X R σ → Lexed text at
-      → Wanting text w′ X m₀ base (record { more = h .more; tight = tight; frame = frame; top = top; at = at }) (good (askType (hereOf h S K) x tight R σ (from text at)))
+      → Wanting text w′ X m₀ base (record { more = h .more; tight = tight; frame = frame; top = top; at = at }) (good (askType (hereWith h S K) x tight R σ (from text at)))
   ask-held text X m₀ base σ S K A x tight frame top at R flag wish known places level few G lexed =
       let e : levelIn w′ (h .more + 1) ≡ l = pushed-level w (h .more + 1) l (aroundOf h) (C .room) (C .level) in
       let f : scopeIn w′ (h .more + 1) ≡ aroundOf h = pushed-scope w (h .more + 1) l (aroundOf h) (C .room) (C .level) in
@@ -115,7 +115,7 @@ places-none text w t p = subst (λ (n : ℕ). Places text w 0 n) (sym (add-zero 
 -- what waits was asked for
 pub waited-moved :
     (text w : List ℕ) (h : Here) (l : Level) (q : Want) (r : code.Walking) (w′ : List ℕ) (P : State → Type 0) (go : Moving) → CanWait w h → Waited w h l q r w′
-    → ((X : Text) (m₀ base : ℕ) (σ : State) (S : Scope) (K : List TypeLevel) → AtLevel text w X m₀ base σ h S K → P σ → Wanting text (pushed w (h .more + 1) l (aroundOf h)) X m₀ base q (go X (rowBodies text w 0 (length (X .clauses))) (hereOf h S K) σ))
+    → ((X : Text) (m₀ base : ℕ) (σ : State) (S : Scope) (K : List TypeLevel) → AtLevel text w X m₀ base σ h S K → P σ → Wanting text (pushed w (h .more + 1) l (aroundOf h)) X m₀ base q (go X (rowBodies text w 0 (length (X .clauses))) (hereWith h S K) σ))
     → Moved text w h P go r w′
 waited-moved text w h l q r w′ P go C G says =
     subst (λ (y : code.Walking). Moved text w h P go y w′) (sym (G .wants)) (subst (λ (v : List ℕ). Moved text w h P go (walking.Wanted q) v) (sym (G .stored)) (record { walked = waited-walked w h l C; says = says }))

@@ -27,7 +27,7 @@ use Rattle.walks.proofs.Kept.{types-walked-none, types-walked-then, bodies-on}
 use Rattle.type_walk.specs.declared.levels.Here.{Here}
 use Rattle.type_walk.specs.declared.levels.Walking as code
 use Rattle.type_walk.specs.declared.levels.Walking.the-variants as walking
-use Rattle.type_walk.specs.Holding.{hereOf, AtLevel, Answered}
+use Rattle.type_walk.specs.Holding.{hereWith, AtLevel, Answered}
 use Rattle.type_walk.specs.Moves.{CanMove, Waited, Moving, Moved, Known, foundIn, doneAt, formBy, sideAfter, arrowAfter, doneAfter, sideAsk, sideDone}
 use Rattle.type_walk.proofs.HoldLaws.{at-on}
 use Rattle.type_walk.proofs.AskLaws.{can-wait, ask-held, places-none, waited-moved}
@@ -71,7 +71,7 @@ answered-as text w X m₀ base r e a = subst (λ (x : Answer Typing). Answered t
 -- the same machine, written otherwise
 pub moved-by :
     {text w w′ : List ℕ} {h : Here} {r : code.Walking} (P Q : State → Type 0) (go go′ : Moving)
-    → ((X : Text) (m₀ base : ℕ) (σ : State) (S : Scope) (K : List TypeLevel) → AtLevel text w X m₀ base σ h S K → Q σ → P σ × ((bodies : List (List Word)) → go′ X bodies (hereOf h S K) σ ≡ go X bodies (hereOf h S K) σ))
+    → ((X : Text) (m₀ base : ℕ) (σ : State) (S : Scope) (K : List TypeLevel) → AtLevel text w X m₀ base σ h S K → Q σ → P σ × ((bodies : List (List Word)) → go′ X bodies (hereWith h S K) σ ≡ go X bodies (hereWith h S K) σ))
     → Moved text w h P go r w′ → Moved text w h Q go′ r w′
 moved-by {text} {w} {w′} {h} {r} P Q go go′ f M = record {
   walked = M .walked;
@@ -79,16 +79,16 @@ moved-by {text} {w} {w′} {h} {r} P Q go go′ f M = record {
 }
 
 -- .. of which nothing more has to be known
-pub moved-as : {text w w′ : List ℕ} {h : Here} {r : code.Walking} (P : State → Type 0) (go go′ : Moving) → ((X : Text) (bodies : List (List Word)) (σ : State) (S : Scope) (K : List TypeLevel) → go′ X bodies (hereOf h S K) σ ≡ go X bodies (hereOf h S K) σ) → Moved text w h P go r w′ → Moved text w h P go′ r w′
+pub moved-as : {text w w′ : List ℕ} {h : Here} {r : code.Walking} (P : State → Type 0) (go go′ : Moving) → ((X : Text) (bodies : List (List Word)) (σ : State) (S : Scope) (K : List TypeLevel) → go′ X bodies (hereWith h S K) σ ≡ go X bodies (hereWith h S K) σ) → Moved text w h P go r w′ → Moved text w h P go′ r w′
 moved-as P go go′ f M = moved-by P P go go′ (λ X m₀ base σ S K A q. (q, λ bodies. f X bodies σ S K)) M
 
-pub refused-moved : {text w : List ℕ} {h : Here} (P : State → Type 0) (go : Moving) (number at : ℕ) → ((X : Text) (m₀ base : ℕ) (σ : State) (S : Scope) (K : List TypeLevel) → AtLevel text w X m₀ base σ h S K → P σ → (bodies : List (List Word)) → go X bodies (hereOf h S K) σ ≡ refuse number at) → Moved text w h P go (walking.Refused number at) w
+pub refused-moved : {text w : List ℕ} {h : Here} (P : State → Type 0) (go : Moving) (number at : ℕ) → ((X : Text) (m₀ base : ℕ) (σ : State) (S : Scope) (K : List TypeLevel) → AtLevel text w X m₀ base σ h S K → P σ → (bodies : List (List Word)) → go X bodies (hereWith h S K) σ ≡ refuse number at) → Moved text w h P go (walking.Refused number at) w
 refused-moved {text} {w} {h} P go number at f = record { walked = types-walked-none (h .more + 1) (h .top) w; says = λ X m₀ base σ S K A q. f X m₀ base σ S K A q (rowBodies text w 0 (length (X .clauses))) }
 
 -- behind a store that leaves the state as it was
 pub moved-after :
     {text w w₁ w′ : List ℕ} {h : Here} {r : code.Walking} (P Q : State → Type 0) (go go′ : Moving) → TypesWalked (h .more + 1) (h .top) w w₁ → ((σ : State) → HoldsState w σ → HoldsState w₁ σ)
-    → ((X : Text) (m₀ base : ℕ) (σ : State) (S : Scope) (K : List TypeLevel) → AtLevel text w X m₀ base σ h S K → Q σ → P σ × ((bodies : List (List Word)) → go′ X bodies (hereOf h S K) σ ≡ go X bodies (hereOf h S K) σ))
+    → ((X : Text) (m₀ base : ℕ) (σ : State) (S : Scope) (K : List TypeLevel) → AtLevel text w X m₀ base σ h S K → Q σ → P σ × ((bodies : List (List Word)) → go′ X bodies (hereWith h S K) σ ≡ go X bodies (hereWith h S K) σ))
     → Moved text w₁ h P go r w′ → Moved text w h Q go′ r w′
 moved-after {text} {w} {w₁} {w′} {h} {r} P Q go go′ W stays f M = record {
   walked = types-walked-then (h .more + 1) (h .more + 1) (h .more + 1) (h .top) (h .top) (h .top) w w₁ w′ (omega arith) (omega arith) (omega arith) (omega arith) W (M .walked);
@@ -96,7 +96,7 @@ moved-after {text} {w} {w₁} {w′} {h} {r} P Q go go′ W stays f M = record {
       let d = f X m₀ base σ S K A q in
       let few = A .walkable .clauses .rows .few in
       let e : rowBodies text w₁ 0 (length (X .clauses)) ≡ rowBodies text w 0 (length (X .clauses)) = bodies-on (h .more + 1) (h .top) text w w₁ W 0 (length (X .clauses)) (omega arith) in
-      answered-as text w′ X m₀ base r (d .1 (rowBodies text w 0 (length (X .clauses))) ∙ ap (λ (b : List (List Word)). go X b (hereOf h S K) σ) (sym e)) (M .says X m₀ base σ S K (at-on text w w₁ X σ σ (stays σ (A .walkable .state)) m₀ base h S K W A) (d .0));
+      answered-as text w′ X m₀ base r (d .1 (rowBodies text w 0 (length (X .clauses))) ∙ ap (λ (b : List (List Word)). go X b (hereWith h S K) σ) (sym e)) (M .says X m₀ base σ S K (at-on text w w₁ X σ σ (stays σ (A .walkable .state)) m₀ base h S K W A) (d .0));
 }
 
 -- ---- a type that is done
@@ -137,26 +137,26 @@ module _ (text : List ℕ) (at : ℕ) (v : Said) (s : Stands text at v) where
   arrowIf ty a b c t σ = good (cond a (typeDone t (foundIn ty σ) ws) (cond b (askSide t Trees.arrow false (foundIn ty σ) ws) (cond c (askSide t Trees.linear false (foundIn ty σ) ws) (typeDone t (foundIn ty σ) ws))))
 
   module _ (w w′ : List ℕ) (h : Here) (ty : ℕ) (r : code.Walking) where
-    arrow-if : (a b c : Bool) (S : Scope) (K : List TypeLevel) (σ : State) → h .tight ≡ a → is arrow ws ≡ b → is linear ws ≡ c → good (arrowFrom (hereOf h S K) (foundIn ty σ) ws) ≡ arrowIf ty a b c (hereOf h S K) σ
+    arrow-if : (a b c : Bool) (S : Scope) (K : List TypeLevel) (σ : State) → h .tight ≡ a → is arrow ws ≡ b → is linear ws ≡ c → good (arrowFrom (hereWith h S K) (foundIn ty σ) ws) ≡ arrowIf ty a b c (hereWith h S K) σ
     arrow-if a b c S K σ e f g =
-        ap (λ (x : Bool). arrowIf ty x (is arrow ws) (is linear ws) (hereOf h S K) σ) e
-        ∙ ap (λ (x : Bool). arrowIf ty a x (is linear ws) (hereOf h S K) σ) f
-        ∙ ap (λ (x : Bool). arrowIf ty a b x (hereOf h S K) σ) g
+        ap (λ (x : Bool). arrowIf ty x (is arrow ws) (is linear ws) (hereWith h S K) σ) e
+        ∙ ap (λ (x : Bool). arrowIf ty a x (is linear ws) (hereWith h S K) σ) f
+        ∙ ap (λ (x : Bool). arrowIf ty a b x (hereWith h S K) σ) g
 
     pub arrow-arrow : h .tight ≡ false → v .code ≡ 8 → Moved text w h (Known ty) (sideAsk text 4 false ty (v .place) (v .end)) r w′ → Moved text w h (Known ty) (arrowAfter text ty at) r w′
-    arrow-arrow t e M = moved-as (Known ty) (sideAsk text 4 false ty (v .place) (v .end)) (arrowAfter text ty at) (λ X bodies σ S K. arrow-if false true (is linear ws) S K σ t (is-yes text at v s arrow e) refl ∙ asked-words 7 e (hereOf h S K) Trees.arrow false ty σ) M
+    arrow-arrow t e M = moved-as (Known ty) (sideAsk text 4 false ty (v .place) (v .end)) (arrowAfter text ty at) (λ X bodies σ S K. arrow-if false true (is linear ws) S K σ t (is-yes text at v s arrow e) refl ∙ asked-words 7 e (hereWith h S K) Trees.arrow false ty σ) M
 
     pub arrow-linear : h .tight ≡ false → ¬ (v .code ≡ 8) → v .code ≡ 9 → Moved text w h (Known ty) (sideAsk text 5 false ty (v .place) (v .end)) r w′ → Moved text w h (Known ty) (arrowAfter text ty at) r w′
-    arrow-linear t n e M = moved-as (Known ty) (sideAsk text 5 false ty (v .place) (v .end)) (arrowAfter text ty at) (λ X bodies σ S K. arrow-if false false true S K σ t (is-no text at v s arrow n) (is-yes text at v s linear e) ∙ asked-words 8 e (hereOf h S K) Trees.linear false ty σ) M
+    arrow-linear t n e M = moved-as (Known ty) (sideAsk text 5 false ty (v .place) (v .end)) (arrowAfter text ty at) (λ X bodies σ S K. arrow-if false false true S K σ t (is-no text at v s arrow n) (is-yes text at v s linear e) ∙ asked-words 8 e (hereWith h S K) Trees.linear false ty σ) M
 
     pub arrow-none : h .tight ≡ false → ¬ (v .code ≡ 8) → ¬ (v .code ≡ 9) → Moved text w h (Known ty) (doneAfter text ty at) r w′ → Moved text w h (Known ty) (arrowAfter text ty at) r w′
     arrow-none t n o M = moved-as (Known ty) (doneAfter text ty at) (arrowAfter text ty at) (λ X bodies σ S K. arrow-if false false false S K σ t (is-no text at v s arrow n) (is-no text at v s linear o)) M
 
     pub side-times : v .code ≡ 10 → Moved text w h (Known ty) (sideAsk text 3 true ty (v .place) (v .end)) r w′ → Moved text w h (Known ty) (sideAfter text ty at) r w′
-    side-times e M = moved-as (Known ty) (sideAsk text 3 true ty (v .place) (v .end)) (sideAfter text ty at) (λ X bodies σ S K. ap (λ (b : Bool). good (cond b (askSide (hereOf h S K) product true (foundIn ty σ) ws) (arrowFrom (hereOf h S K) (foundIn ty σ) ws))) (is-yes text at v s times e) ∙ asked-words 9 e (hereOf h S K) product true ty σ) M
+    side-times e M = moved-as (Known ty) (sideAsk text 3 true ty (v .place) (v .end)) (sideAfter text ty at) (λ X bodies σ S K. ap (λ (b : Bool). good (cond b (askSide (hereWith h S K) product true (foundIn ty σ) ws) (arrowFrom (hereWith h S K) (foundIn ty σ) ws))) (is-yes text at v s times e) ∙ asked-words 9 e (hereWith h S K) product true ty σ) M
 
     pub side-none : ¬ (v .code ≡ 10) → Moved text w h (Known ty) (arrowAfter text ty at) r w′ → Moved text w h (Known ty) (sideAfter text ty at) r w′
-    side-none n M = moved-as (Known ty) (arrowAfter text ty at) (sideAfter text ty at) (λ X bodies σ S K. ap (λ (b : Bool). good (cond b (askSide (hereOf h S K) product true (foundIn ty σ) ws) (arrowFrom (hereOf h S K) (foundIn ty σ) ws))) (is-no text at v s times n)) M
+    side-none n M = moved-as (Known ty) (arrowAfter text ty at) (sideAfter text ty at) (λ X bodies σ S K. ap (λ (b : Bool). good (cond b (askSide (hereWith h S K) product true (foundIn ty σ) ws) (arrowFrom (hereWith h S K) (foundIn ty σ) ws))) (is-no text at v s times n)) M
 
 pub arrow-tight : (text w w′ : List ℕ) (h : Here) (ty at : ℕ) (r : code.Walking) → h .tight ≡ true → Moved text w h (Known ty) (doneAfter text ty at) r w′ → Moved text w h (Known ty) (arrowAfter text ty at) r w′
-arrow-tight text w w′ h ty at r t M = moved-as (Known ty) (doneAfter text ty at) (arrowAfter text ty at) (λ X bodies σ S K. ap (λ (b : Bool). good (cond b (typeDone (hereOf h S K) (foundIn ty σ) (from text at)) (cond (is arrow (from text at)) (askSide (hereOf h S K) Trees.arrow false (foundIn ty σ) (from text at)) (cond (is linear (from text at)) (askSide (hereOf h S K) Trees.linear false (foundIn ty σ) (from text at)) (typeDone (hereOf h S K) (foundIn ty σ) (from text at)))))) t) M
+arrow-tight text w w′ h ty at r t M = moved-as (Known ty) (doneAfter text ty at) (arrowAfter text ty at) (λ X bodies σ S K. ap (λ (b : Bool). good (cond b (typeDone (hereWith h S K) (foundIn ty σ) (from text at)) (cond (is arrow (from text at)) (askSide (hereWith h S K) Trees.arrow false (foundIn ty σ) (from text at)) (cond (is linear (from text at)) (askSide (hereWith h S K) Trees.linear false (foundIn ty σ) (from text at)) (typeDone (hereWith h S K) (foundIn ty σ) (from text at)))))) t) M

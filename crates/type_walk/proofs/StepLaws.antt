@@ -44,7 +44,7 @@ use Rattle.type_walk.specs.declared.levels.Come.{Come}
 use Rattle.type_walk.specs.declared.levels.Here.{Here}
 use Rattle.type_walk.specs.declared.levels.Walking as code
 use Rattle.type_walk.specs.declared.levels.Walking.the-variants as walking
-use Rattle.type_walk.specs.Holding.{boundAt, givenFrom, AllBelow, LevelHeld, LevelsHeld, hereOf, hereIn, AtLevel, Wanting, Coming, Answered}
+use Rattle.type_walk.specs.Holding.{boundAt, givenFrom, AllBelow, LevelHeld, LevelsHeld, hereWith, hereIn, AtLevel, Wanting, Coming, Answered}
 use Rattle.type_walk.specs.Moves.{CanMove, Waited, Moving, Moved, Known, foundIn, Given, Valued, Both, Anything, NameAt, formBy, sideAfter, arrowAfter, doneAfter, argumentAsk, putAfter, namedAfter, insideAsk, enterAt, leftWith, sideDone, CanStep, Stepped}
 use Rattle.type_walk.proofs.HoldLaws.{at-on, walked-wider, levels-within}
 use Rattle.type_walk.proofs.AskLaws.{can-wait, ask-held, places-none, waited-moved}
@@ -90,28 +90,28 @@ module _ (text : List ℕ) (at : ℕ) (v : Said) (s : Stands text at v) where
     pub enter-name : v .code ≡ 24 → Moved text w h Anything (namedAfter text (v .place) (v .end)) r w′ → Moved text w h Anything (enterAt text at) r w′
     enter-name e M = moved-as Anything (namedAfter text (v .place) (v .end)) (enterAt text at) (λ X bodies σ S K.
         let long : v .end - v .place ≡ run (drop (v .place) text) = omega (arith, s .whole e) in
-        ap (λ (k : Token). typeEntered X bodies (hereOf h S K) σ k ws) (s .named e)
-        ∙ ap (λ (k : ℕ). typeNamedAt X bodies (hereOf h S K) σ (record { name = take k (drop (v .place) text); place = place ws }) (behind ws)) long
-        ∙ ap (λ (p : ℕ). typeNamedAt X bodies (hereOf h S K) σ (record { name = runAt text (v .place); place = p }) (behind ws)) (sym (s .place))
-        ∙ ap (λ (us : List Word). typeNamedAt X bodies (hereOf h S K) σ (boundAt text (v .place)) us) (onward text at v s 23 e .rest)) M
+        ap (λ (k : Token). typeEntered X bodies (hereWith h S K) σ k ws) (s .named e)
+        ∙ ap (λ (k : ℕ). typeNamedAt X bodies (hereWith h S K) σ (record { name = take k (drop (v .place) text); place = place ws }) (behind ws)) long
+        ∙ ap (λ (p : ℕ). typeNamedAt X bodies (hereWith h S K) σ (record { name = runAt text (v .place); place = p }) (behind ws)) (sym (s .place))
+        ∙ ap (λ (us : List Word). typeNamedAt X bodies (hereWith h S K) σ (boundAt text (v .place)) us) (onward text at v s 23 e .rest)) M
 
     pub enter-number : v .code ≡ 23 → Moved text w h (Known 0) (sideAfter text 0 (v .end)) r w′ → Moved text w h Anything (enterAt text at) r w′
-    enter-number e M = moved-by (Known 0) Anything (sideAfter text 0 (v .end)) (enterAt text at) (λ X m₀ base σ S K A _. (A .walkable .state .types .some, λ bodies. number-enters X bodies (hereOf h S K) σ ws (peek ws .token) (sym (s .code) ∙ e) ∙ ap (λ (us : List Word). good (sideFrom (hereOf h S K) (foundIn 0 σ) us)) (onward text at v s 22 e .rest))) M
+    enter-number e M = moved-by (Known 0) Anything (sideAfter text 0 (v .end)) (enterAt text at) (λ X m₀ base σ S K A _. (A .walkable .state .types .some, λ bodies. number-enters X bodies (hereWith h S K) σ ws (peek ws .token) (sym (s .code) ∙ e) ∙ ap (λ (us : List Word). good (sideFrom (hereWith h S K) (foundIn 0 σ) us)) (onward text at v s 22 e .rest))) M
 
     pub enter-round : v .code ≡ 11 → Moved text w h Anything (insideAsk text (v .end)) r w′ → Moved text w h Anything (enterAt text at) r w′
-    enter-round e M = moved-as Anything (insideAsk text (v .end)) (enterAt text at) (λ X bodies σ S K. round-enters X bodies (hereOf h S K) σ ws (peek ws .token) (sym (s .code) ∙ e) ∙ ap (λ (us : List Word). good (askType (hereOf h S K) enclosed false S σ us)) (onward text at v s 10 e .rest)) M
+    enter-round e M = moved-as Anything (insideAsk text (v .end)) (enterAt text at) (λ X bodies σ S K. round-enters X bodies (hereWith h S K) σ ws (peek ws .token) (sym (s .code) ∙ e) ∙ ap (λ (us : List Word). good (askType (hereWith h S K) enclosed false S σ us)) (onward text at v s 10 e .rest)) M
 
     -- ---- behind a type in parentheses
 
     pub inside-closed : (ty : ℕ) → v .code ≡ 12 → Moved text w h (Known ty) (sideAfter text ty (v .end)) r w′ → Moved text w h (Known ty) (leftWith text enclosed ty at) r w′
-    inside-closed ty e M = moved-as (Known ty) (sideAfter text ty (v .end)) (leftWith text enclosed ty at) (λ X bodies σ S K. ap (λ (b : Bool). need b 32 (place ws) >>= λ _. good (sideFrom (hereOf h S K) (foundIn ty σ) (behind ws))) (is-yes text at v s endRound e) ∙ ap (λ (us : List Word). good (sideFrom (hereOf h S K) (foundIn ty σ) us)) (onward text at v s 11 e .rest)) M
+    inside-closed ty e M = moved-as (Known ty) (sideAfter text ty (v .end)) (leftWith text enclosed ty at) (λ X bodies σ S K. ap (λ (b : Bool). need b 32 (place ws) >>= λ _. good (sideFrom (hereWith h S K) (foundIn ty σ) (behind ws))) (is-yes text at v s endRound e) ∙ ap (λ (us : List Word). good (sideFrom (hereWith h S K) (foundIn ty σ) us)) (onward text at v s 11 e .rest)) M
 
   module _ (w : List ℕ) (h : Here) where
     pub enter-none : ¬ (v .code ≡ 24) → ¬ (v .code ≡ 23) → ¬ (v .code ≡ 11) → Moved text w h Anything (enterAt text at) (walking.Refused 32 (v .place)) w
-    enter-none a b c = refused-moved Anything (enterAt text at) 32 (v .place) (λ X m₀ base σ S K A _ bodies. none-enters X bodies (hereOf h S K) σ ws (peek ws .token) (λ e. a (s .code ∙ e)) (λ e. b (s .code ∙ e)) (λ e. c (s .code ∙ e)) ∙ ap (λ (p : ℕ). refuse 32 p) (sym (s .place)))
+    enter-none a b c = refused-moved Anything (enterAt text at) 32 (v .place) (λ X m₀ base σ S K A _ bodies. none-enters X bodies (hereWith h S K) σ ws (peek ws .token) (λ e. a (s .code ∙ e)) (λ e. b (s .code ∙ e)) (λ e. c (s .code ∙ e)) ∙ ap (λ (p : ℕ). refuse 32 p) (sym (s .place)))
 
     pub inside-open : (ty : ℕ) → ¬ (v .code ≡ 12) → Moved text w h (Known ty) (leftWith text enclosed ty at) (walking.Refused 32 (v .place)) w
-    inside-open ty n = refused-moved (Known ty) (leftWith text enclosed ty at) 32 (v .place) (λ X m₀ base σ S K A _ bodies. ap (λ (b : Bool). need b 32 (place ws) >>= λ _. good (sideFrom (hereOf h S K) (foundIn ty σ) (behind ws))) (is-no text at v s endRound n) ∙ ap (λ (p : ℕ). refuse 32 p) (sym (s .place)))
+    inside-open ty n = refused-moved (Known ty) (leftWith text enclosed ty at) 32 (v .place) (λ X m₀ base σ S K A _ bodies. ap (λ (b : Bool). need b 32 (place ws) >>= λ _. good (sideFrom (hereWith h S K) (foundIn ty σ) (behind ws))) (is-no text at v s endRound n) ∙ ap (λ (p : ℕ). refuse 32 p) (sym (s .place)))
 
 -- anything known is enough for **1**
 pub can-one : (text w : List ℕ) (h : Here) → CanMove text w h Anything → CanMove text w h (Known 0)
@@ -231,8 +231,8 @@ module _ (text w w₁ : List ℕ) (h : Here) (nm given ty : ℕ) (room : makingS
     abbrev left : Moving
     left = leftWith text (argument (boundAt text nm) args) ty at
 
-    behind-if : (a b : Bool) → is comma us ≡ a → is endSquare us ≡ b → (X : Text) (bodies : List (List Word)) (σ : State) (S : Scope) (K : List TypeLevel) → left X bodies (hereOf h S K) σ ≡ behindIf a b X bodies (hereOf h S K) σ
-    behind-if a b e f X bodies σ S K = ap (λ (c : Bool). behindIf c (is endSquare us) X bodies (hereOf h S K) σ) e ∙ ap (λ (c : Bool). behindIf a c X bodies (hereOf h S K) σ) f
+    behind-if : (a b : Bool) → is comma us ≡ a → is endSquare us ≡ b → (X : Text) (bodies : List (List Word)) (σ : State) (S : Scope) (K : List TypeLevel) → left X bodies (hereWith h S K) σ ≡ behindIf a b X bodies (hereWith h S K) σ
+    behind-if a b e f X bodies σ S K = ap (λ (c : Bool). behindIf c (is endSquare us) X bodies (hereWith h S K) σ) e ∙ ap (λ (c : Bool). behindIf a c X bodies (hereWith h S K) σ) f
 
     pub argument-open : ¬ (v .code ≡ 14) → ¬ (v .code ≡ 18) → Moved text w h (Both (Known ty) (Given w (h .top) given)) left (walking.Refused 32 (v .place)) w₁
     argument-open n o = moved-after Anything (Both (Known ty) (Given w (h .top) given)) left left bound-walked bound-state (λ X m₀ base σ S K A k. (tt, λ bodies. refl)) (refused-moved Anything left 32 (v .place) (λ X m₀ base σ S K A _ bodies. behind-if false false (is-no text at v s comma n) (is-no text at v s endSquare o) X bodies σ S K ∙ ap (λ (p : ℕ). refuse 32 p) (sym (s .place))))
@@ -243,8 +243,8 @@ module _ (text w w₁ : List ℕ) (h : Here) (nm given ty : ℕ) (room : makingS
         bound-known σ k,
         λ bodies.
             behind-if true (is endSquare us) (is-yes text at v s comma e) refl X bodies σ S K
-            ∙ ap (λ (xs : List Word). askArgument (hereOf h S K) σ (boundAt text nm) (ty ∷ args) xs) (onward text at v s 13 e .rest)
-            ∙ ap (λ (ts : List ℕ). askArgument (hereOf h S K) σ (boundAt text nm) ts (from text (v .end))) (sym bound-given),
+            ∙ ap (λ (xs : List Word). askArgument (hereWith h S K) σ (boundAt text nm) (ty ∷ args) xs) (onward text at v s 13 e .rest)
+            ∙ ap (λ (ts : List ℕ). askArgument (hereWith h S K) σ (boundAt text nm) ts (from text (v .end))) (sym bound-given),
       )) M
 
       pub argument-closed : ¬ (v .code ≡ 14) → v .code ≡ 18 → Moved text w₁ h (Valued w₁ (h .top) (given + 1)) (putAfter text w₁ (h .top) nm (given + 1) (v .end)) r w′ → Moved text w h (Both (Known ty) (Given w (h .top) given)) left r w′
@@ -252,22 +252,22 @@ module _ (text w w₁ : List ℕ) (h : Here) (nm given ty : ℕ) (room : makingS
         bound-valued σ k,
         λ bodies.
             behind-if false true (is-no text at v s comma n) (is-yes text at v s endSquare e) X bodies σ S K
-            ∙ ap (λ (xs : List Word). typePutIn X bodies (hereOf h S K) σ (boundAt text nm) (inOrder (ty ∷ args) []) xs) (onward text at v s 17 e .rest)
-            ∙ ap (λ (ts : List ℕ). typePutIn X bodies (hereOf h S K) σ (boundAt text nm) ts (from text (v .end))) (ap (λ (ts : List ℕ). inOrder ts []) (sym bound-given) ∙ given-order w₁ (h .top) (given + 1)),
+            ∙ ap (λ (xs : List Word). typePutIn X bodies (hereWith h S K) σ (boundAt text nm) (inOrder (ty ∷ args) []) xs) (onward text at v s 17 e .rest)
+            ∙ ap (λ (ts : List ℕ). typePutIn X bodies (hereWith h S K) σ (boundAt text nm) ts (from text (v .end))) (ap (λ (ts : List ℕ). inOrder ts []) (sym bound-given) ∙ given-order w₁ (h .top) (given + 1)),
       )) M
 
 -- ---- sides
 
 module _ (text w w′ : List ℕ) (h : Here) (form ty at : ℕ) (r : code.Walking) where
   pub side-product : form ≡ 3 → Moved text w h (Known ty) (arrowAfter text ty at) r w′ → Moved text w h (Known ty) (sideDone text form ty at) r w′
-  side-product e M = moved-as (Known ty) (arrowAfter text ty at) (sideDone text form ty at) (λ X bodies σ S K. ap (λ (n : ℕ). sideDone text n ty at X bodies (hereOf h S K) σ) e) M
+  side-product e M = moved-as (Known ty) (arrowAfter text ty at) (sideDone text form ty at) (λ X bodies σ S K. ap (λ (n : ℕ). sideDone text n ty at X bodies (hereWith h S K) σ) e) M
 
   done-by : (b : Bool) (t : TypeHere) (x : Found) (us : List Word) → behindSide (cond b arrow linear) t x us ≡ typeDone t x us
   done-by true t x us = refl
   done-by false t x us = refl
 
   pub side-done : ¬ (form ≡ 3) → Moved text w h (Known ty) (doneAfter text ty at) r w′ → Moved text w h (Known ty) (sideDone text form ty at) r w′
-  side-done n M = moved-as (Known ty) (doneAfter text ty at) (sideDone text form ty at) (λ X bodies σ S K. ap (λ (b : Bool). good (behindSide (cond b product (cond (eqb form 4) arrow linear)) (hereOf h S K) (foundIn ty σ) (from text at))) (ne-eqb form 3 n) ∙ ap good (done-by (eqb form 4) (hereOf h S K) (foundIn ty σ) (from text at))) M
+  side-done n M = moved-as (Known ty) (doneAfter text ty at) (sideDone text form ty at) (λ X bodies σ S K. ap (λ (b : Bool). good (behindSide (cond b product (cond (eqb form 4) arrow linear)) (hereWith h S K) (foundIn ty σ) (from text at))) (ne-eqb form 3 n) ∙ ap good (done-by (eqb form 4) (hereWith h S K) (foundIn ty σ) (from text at))) M
 
 -- 3, 4 or 5
 by-form : (P : ℕ → Type 0) → P 3 → P 4 → P 5 → (n : ℕ) → 3 ≤ n → n ≤ 5 → P n
@@ -316,7 +316,7 @@ module _ (text w w₁ : List ℕ) (h : Here) (l : Level) (ty at : ℕ) (low : 3 
   pub side-refused : CanMove text w h P → (x : found-code.FoundType) (n p p′ : ℕ) → x ≡ found-type.Refused n p → p′ ≡ p → ListedSays w rec (l .place) x w₁ → Moved text w h P (leftWith text (other (formBy (l .form)) (l .place) (l .ty)) ty at) (walking.Refused n p′) w₁
   side-refused C x n p p′ e z L = record {
     walked = types-of-listed (h .more + 1) (h .top) w w₁ (C .held .walkable .scope .places .most) (L .only);
-    says = λ X m₀ base σ S K A (a, b). left-is X (rowBodies text w 0 (length (X .clauses))) (hereOf h S K) σ ∙ none-by (hereOf h S K) n p (answer σ) (subst (λ (y : found-code.FoundType). FoundIn w₁ y (answer σ)) e (L .says σ (A .walkable .state) (form-below (length (σ .table)) (l .form) (l .ty) ty low high a b))) ∙ ap (λ (k : ℕ). refuse n k) (sym z);
+    says = λ X m₀ base σ S K A (a, b). left-is X (rowBodies text w 0 (length (X .clauses))) (hereWith h S K) σ ∙ none-by (hereWith h S K) n p (answer σ) (subst (λ (y : found-code.FoundType). FoundIn w₁ y (answer σ)) e (L .says σ (A .walkable .state) (form-below (length (σ .table)) (l .form) (l .ty) ty low high a b))) ∙ ap (λ (k : ℕ). refuse n k) (sym z);
   }
 
   module _ (C : CanMove text w h P) (x : found-code.FoundType) (t : ℕ) (is-x : x ≡ found-type.At t) (L : ListedSays w rec (l .place) x w₁) where
@@ -334,14 +334,14 @@ module _ (text w w₁ : List ℕ) (h : Here) (l : Level) (ty at : ℕ) (low : 3 
     can-after = can-by (C .X) (C .m₀) (C .base) (C .σ) (C .S) (C .K) (C .held) (answer (C .σ)) (said (C .σ) (C .held .walkable .state) (C .known))
 
     module _ (w₂ : List ℕ) (r : code.Walking) (M : Moved text w₁ h (Known t) (sideDone text (l .form) t at) r w₂) where
-      listed-by : (X : Text) (m₀ base : ℕ) (σ : State) (S : Scope) (K : List TypeLevel) → AtLevel text w X m₀ base σ h S K → (a : Answer Found) → FoundIn w₁ (found-type.At t) a → Answered text w₂ X m₀ base r (a >>= goOn (hereOf h S K))
-      listed-by X m₀ base σ S K A (good y) (e, (k, H)) = answered-as text w₂ X m₀ base r (ap (λ (u : ℕ). goOn (hereOf h S K) (record { type = u; state = y .state })) (sym e)) (M .says X m₀ base (y .state) S K (at-on text w w₁ X σ (y .state) H m₀ base h S K walked₁ A) k)
+      listed-by : (X : Text) (m₀ base : ℕ) (σ : State) (S : Scope) (K : List TypeLevel) → AtLevel text w X m₀ base σ h S K → (a : Answer Found) → FoundIn w₁ (found-type.At t) a → Answered text w₂ X m₀ base r (a >>= goOn (hereWith h S K))
+      listed-by X m₀ base σ S K A (good y) (e, (k, H)) = answered-as text w₂ X m₀ base r (ap (λ (u : ℕ). goOn (hereWith h S K) (record { type = u; state = y .state })) (sym e)) (M .says X m₀ base (y .state) S K (at-on text w w₁ X σ (y .state) H m₀ base h S K walked₁ A) k)
       listed-by X m₀ base σ S K A (refused why) e = absurd e
 
       pub side-listed : Moved text w h P (leftWith text (other (formBy (l .form)) (l .place) (l .ty)) ty at) r w₂
       side-listed = record {
         walked = types-walked-then (h .more + 1) (h .more + 1) (h .more + 1) (h .top) (h .top) (h .top) w w₁ w₂ (omega arith) (omega arith) (omega arith) (omega arith) walked₁ (M .walked);
-        says = λ X m₀ base σ S K A k. answered-as text w₂ X m₀ base r (left-is X (rowBodies text w 0 (length (X .clauses))) (hereOf h S K) σ) (listed-by X m₀ base σ S K A (answer σ) (said σ (A .walkable .state) k));
+        says = λ X m₀ base σ S K A k. answered-as text w₂ X m₀ base r (left-is X (rowBodies text w 0 (length (X .clauses))) (hereWith h S K) σ) (listed-by X m₀ base σ S K A (answer σ) (said σ (A .walkable .state) k));
       }
 
 -- ---- a step at a type that came
@@ -393,7 +393,7 @@ module _ (text w : List ℕ) (q : Come) where
         let i = levels-within text w X (D .state) m₀ base (q .more + 1) (here .top) (D .K) (D .at .levels) in
         let B : List (List Word) = rowBodies text w 0 (length (X .clauses)) in
         let tight : D .l .tight ≡ here .tight = sym (ap (λ (n : ℕ). eqb n 1) (D .level .flag) ∙ flag-tight (D .l .tight)) in
-        (walked-wider (q .more + 1) m₀ (here .top) base w w′ (omega (arith, i .0)) (omega (arith, i .1)) (M .walked), answered-as text w′ X m₀ base r (ap (λ (u : Typing). typeMove X B u) (D .is) ∙ ap (λ (b : Bool). typeLeft X B (record { more = q .more; tight = b; scope = D .l .scope; above = D .K }) (D .l .wish) (foundIn (q .ty) (D .state)) (from text (q .at))) tight ∙ T .does X (D .state) (D .l) (D .level) (D .known) B (hereOf here (D .l .scope) (D .K))) (M .says X m₀ base (D .state) (D .l .scope) (D .K) (D .at) (T .knows X (D .state) (D .l) (D .level) (D .known))));
+        (walked-wider (q .more + 1) m₀ (here .top) base w w′ (omega (arith, i .0)) (omega (arith, i .1)) (M .walked), answered-as text w′ X m₀ base r (ap (λ (u : Typing). typeMove X B u) (D .is) ∙ ap (λ (b : Bool). typeLeft X B (record { more = q .more; tight = b; scope = D .l .scope; above = D .K }) (D .l .wish) (foundIn (q .ty) (D .state)) (from text (q .at))) tight ∙ T .does X (D .state) (D .l) (D .level) (D .known) B (hereWith here (D .l .scope) (D .K))) (M .says X m₀ base (D .state) (D .l .scope) (D .K) (D .at) (T .knows X (D .state) (D .l) (D .level) (D .known))));
   }
 
 -- ---- a step

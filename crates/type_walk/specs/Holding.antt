@@ -64,8 +64,8 @@ LevelsHeld text w X σ m₀ base m top (l ∷ K) = LevelHeld text w X σ m l × 
 
 -- ---- the level that the walk is at
 
-abbrev pub hereOf : Here → Scope → List TypeLevel → TypeHere
-hereOf h S K = record { more = h .more; tight = h .tight; scope = S; above = K }
+abbrev pub hereWith : Here → Scope → List TypeLevel → TypeHere
+hereWith h S K = record { more = h .more; tight = h .tight; scope = S; above = K }
 
 -- .. by the memory, where it waits
 abbrev pub hereIn : List ℕ → ℕ → Here

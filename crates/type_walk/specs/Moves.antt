@@ -25,7 +25,7 @@ use Rattle.type_walk.specs.declared.levels.Want.{Want}
 use Rattle.type_walk.specs.declared.levels.Here.{Here}
 use Rattle.type_walk.specs.declared.levels.Walking as code
 use Rattle.type_walk.specs.declared.levels.Walking.the-variants as walking
-use Rattle.type_walk.specs.Holding.{boundAt, givenFrom, AllBelow, hereOf, aroundOf, AtLevel, Answered}
+use Rattle.type_walk.specs.Holding.{boundAt, givenFrom, AllBelow, hereWith, aroundOf, AtLevel, Answered}
 
 -- ---- a level that waits
 
@@ -58,7 +58,7 @@ Moving = Text → List (List Word) → TypeHere → State → Answer Typing
 
 pub record Moved (text w : List ℕ) (h : Here) (P : State → Type 0) (go : Moving) (r : code.Walking) (w′ : List ℕ) : Type 0 where
   pub walked : TypesWalked (h .more + 1) (h .top) w w′
-  pub says : (X : Text) (m₀ base : ℕ) (σ : State) (S : Scope) (K : List TypeLevel) → AtLevel text w X m₀ base σ h S K → P σ → Answered text w′ X m₀ base r (go X (rowBodies text w 0 (length (X .clauses))) (hereOf h S K) σ)
+  pub says : (X : Text) (m₀ base : ℕ) (σ : State) (S : Scope) (K : List TypeLevel) → AtLevel text w X m₀ base σ h S K → P σ → Answered text w′ X m₀ base r (go X (rowBodies text w 0 (length (X .clauses))) (hereWith h S K) σ)
 
 -- a type of the table
 abbrev pub Known : ℕ → State → Type 0
@@ -163,4 +163,4 @@ pub record CanAskBody (text w : List ℕ) (h : Here) (p : PutAt) : Type 0 where
 -- whatever scope and state its frame holds
 pub record BodyAsked (text w : List ℕ) (h : Here) (p : PutAt) (r : code.Walking) (w′ : List ℕ) : Type 0 where
   pub walked : TypesWalked (h .more + 1) (h .top) w w′
-  pub says : (X : Text) (m₀ base : ℕ) (σ : State) (S R : Scope) (K : List TypeLevel) → AtLevel text w X m₀ base σ h S K → Walkable text w (h .more) (p .top) X R σ → h .top ≤ p .top → Lexed text (p .body) → Lexed text (p .end) → Answered text w′ X m₀ base r (good (askType (hereOf h S K) (body (from text (p .end))) false R σ (from text (p .body))))
+  pub says : (X : Text) (m₀ base : ℕ) (σ : State) (S R : Scope) (K : List TypeLevel) → AtLevel text w X m₀ base σ h S K → Walkable text w (h .more) (p .top) X R σ → h .top ≤ p .top → Lexed text (p .body) → Lexed text (p .end) → Answered text w′ X m₀ base r (good (askType (hereWith h S K) (body (from text (p .end))) false R σ (from text (p .body))))

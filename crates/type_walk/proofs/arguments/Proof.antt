@@ -5,17 +5,10 @@ use Rattle.words.specs.Next.{saidWord}
 use Rattle.words.proofs.WordLaws.{not-yes, not-no}
 use Rattle.type_walk.specs.Many.{CanTypeAll}
 use Rattle.type_walk.proofs.ManyLaws.{Keeps, keeps-first, keeps-same, keeps-few, keeps-can, keeps-full, keeps-room, keeps-long, keeps-there, keeps-refused, keeps-more, keeps-last}
+use mathlib.Core.Path.{_∙_}
 use borrow.Author.Needs.{needs}
 use Rattle.type_walk.proofs.arguments.Statement.{statement}
 use Rattle.type_walk.proofs.arguments.Tie as tie
-use Rattle.type_walk.proofs.arguments.Reads as reads
-use Rattle.type_walk.proofs.arguments.Lts as lts
-use Rattle.made_types.proofs.wide.Reads as wide-reads
-use Rattle.scopes.proofs.entries.bind.Reads as bind-reads
-use Rattle.scopes.proofs.entries.has_room.Reads as has-room-reads
-use Rattle.type_walk.proofs.type_from.Reads as type-from-reads
-use Rattle.type_walk.proofs.types_refused.Reads as types-refused-reads
-use Rattle.words.proofs.word_at.Reads as word-at-reads
 
 abbrev Inv-loop : tie.InvT-loop
 Inv-loop text work₀ at more frame top name i₀ p₀ work i p = (C : CanTypeAll text work₀ at more frame top) → Keeps text work₀ at more frame top name C work i p
@@ -23,87 +16,66 @@ Inv-loop text work₀ at more frame top name i₀ p₀ work i p = (C : CanTypeAl
 abbrev μ-loop : tie.MeasureT-loop
 μ-loop text work₀ at more frame top name i₀ p₀ work i p = 1024 - i
 
--- src/lib.rt:104:5
 loop-holds : tie.Need-loop-holds Inv-loop μ-loop
 loop-holds c = λ C. keeps-first _ _ _ _ _ _ _ C
 
--- src/lib.rt:104:42
 add-has-room : tie.Need-add-has-room Inv-loop μ-loop
 add-has-room c = omega (arith, keeps-few _ _ _ _ _ _ _ (c .before .before .before .pre) _ _ _ (c .loop .inv (c .before .before .before .pre)))
 
--- src/lib.rt:104:11
 has-room-requires : tie.Need-has-room-requires Inv-loop μ-loop
 has-room-requires c κs = (omega (arith, keeps-few _ _ _ _ _ _ _ (c .before .before .before .pre) _ _ _ (c .loop .inv (c .before .before .before .pre))), omega (arith, keeps-few _ _ _ _ _ _ _ (c .before .before .before .pre) _ _ _ (c .loop .inv (c .before .before .before .pre))))
 
--- src/lib.rt:105:55
 add-type-from : tie.Need-add-type-from Inv-loop μ-loop
 add-type-from c = omega (arith, keeps-few _ _ _ _ _ _ _ (c .before .before .before .before .before .before .pre) _ _ _ (c .before .before .before .loop .inv (c .before .before .before .before .before .before .pre)))
 
--- src/lib.rt:105:13
 type-from-requires : tie.Need-type-from-requires Inv-loop μ-loop
 type-from-requires c κs = keeps-can _ _ _ _ _ _ _ (c .before .before .before .before .before .before .pre) _ _ _ (c .before .before .before .loop .inv (c .before .before .before .before .before .before .pre))
 
--- src/lib.rt:106:25
 enum-known-t : tie.Need-enum-known-t Inv-loop μ-loop
 enum-known-t c = search needs
 
--- src/lib.rt:107:13
 enum-told : tie.Need-enum-told Inv-loop μ-loop
 enum-told c = search needs
 
--- src/lib.rt:107:13
 types-refused-requires : tie.Need-types-refused-requires Inv-loop μ-loop
 types-refused-requires c κs = search needs
 
--- src/lib.rt:107:13
 same-length : tie.Need-same-length Inv-loop μ-loop
-same-length c = search needs
+same-length c = c .before .before .before .before .before .type-from .ensures .walked .same ∙ keeps-same _ _ _ _ _ _ _ (c .before .before .before .before .before .before .before .before .before .before .before .before .pre) _ _ _ (c .before .before .before .before .before .before .before .before .before .loop .inv (c .before .before .before .before .before .before .before .before .before .before .before .before .pre))
 
--- src/lib.rt:107:13
 returns : tie.Need-returns Inv-loop μ-loop
 returns c = keeps-refused _ _ _ _ _ _ _ (c .before .before .before .before .before .before .before .before .before .before .before .before .pre) _ _ _ (c .before .before .before .before .before .before .before .before .before .loop .inv (c .before .before .before .before .before .before .before .before .before .before .before .before .pre)) (c .before .before .before .before .before .before .before .before .has-room .result) (c .before .before .before .before .before .before .before .before .has-room .ensures) (c .before .before .before .before .before .before .before .if1 .taken) _ _ (c .before .before .before .before .before .type-from .ensures) _ _ (c .before .enum-told .given .1) _ (c .types-refused .ensures)
 
--- src/lib.rt:109:37
 add-bind : tie.Need-add-bind Inv-loop μ-loop
 add-bind c = omega (arith, keeps-few _ _ _ _ _ _ _ (c .before .before .before .before .before .before .before .before .before .before .before .before .before .pre) _ _ _ (c .before .before .before .before .before .before .before .before .before .before .loop .inv (c .before .before .before .before .before .before .before .before .before .before .before .before .before .pre)))
 
--- src/lib.rt:109:49
 wide-requires : tie.Need-wide-requires Inv-loop μ-loop
 wide-requires c κs = search needs
 
--- src/lib.rt:109:9
 bind-requires : tie.Need-bind-requires Inv-loop μ-loop
 bind-requires c κs = (omega (arith, keeps-room _ _ _ _ _ _ _ (c .before .before .before .before .before .before .before .before .before .before .before .before .before .before .pre) _ _ _ (c .before .before .before .before .before .before .before .before .before .before .before .loop .inv (c .before .before .before .before .before .before .before .before .before .before .before .before .before .before .pre)) (c .before .before .before .before .before .before .before .before .before .before .has-room .result) (c .before .before .before .before .before .before .before .before .before .before .has-room .ensures) (c .before .before .before .before .before .before .before .before .before .if1 .taken)), (keeps-long _ _ _ _ _ _ _ (c .before .before .before .before .before .before .before .before .before .before .before .before .before .before .pre) _ _ _ (c .before .before .before .before .before .before .before .before .before .before .before .loop .inv (c .before .before .before .before .before .before .before .before .before .before .before .before .before .before .pre)) (c .before .before .before .before .before .before .before .before .before .before .has-room .result) (c .before .before .before .before .before .before .before .before .before .before .has-room .ensures) (c .before .before .before .before .before .before .before .before .before .if1 .taken) _ _ (c .before .before .before .before .before .before .before .type-from .ensures), (omega arith, omega (arith, c .wide .ensures, keeps-there _ _ _ _ _ _ _ (c .before .before .before .before .before .before .before .before .before .before .before .before .before .before .pre) _ _ _ (c .before .before .before .before .before .before .before .before .before .before .before .loop .inv (c .before .before .before .before .before .before .before .before .before .before .before .before .before .before .pre)) (c .before .before .before .before .before .before .before .before .before .before .has-room .result) (c .before .before .before .before .before .before .before .before .before .before .has-room .ensures) (c .before .before .before .before .before .before .before .before .before .if1 .taken) _ _ (c .before .before .before .before .before .before .before .type-from .ensures) _ _ (c .before .before .before .t .given .1) .1))))
 
--- src/lib.rt:110:13
 add-i : tie.Need-add-i Inv-loop μ-loop
 add-i c = omega (arith, keeps-few _ _ _ _ _ _ _ (c .before .before .before .before .before .before .before .before .before .before .before .before .before .before .before .before .before .pre) _ _ _ (c .before .before .before .before .before .before .before .before .before .before .before .before .before .before .loop .inv (c .before .before .before .before .before .before .before .before .before .before .before .before .before .before .before .before .before .pre)))
 
--- src/lib.rt:111:13
 word-at-requires : tie.Need-word-at-requires Inv-loop μ-loop
 word-at-requires c κs = keeps-there _ _ _ _ _ _ _ (c .before .before .before .before .before .before .before .before .before .before .before .before .before .before .before .before .before .pre) _ _ _ (c .before .before .before .before .before .before .before .before .before .before .before .before .before .before .loop .inv (c .before .before .before .before .before .before .before .before .before .before .before .before .before .before .before .before .before .pre)) (c .before .before .before .before .before .before .before .before .before .before .before .before .before .has-room .result) (c .before .before .before .before .before .before .before .before .before .before .before .before .before .has-room .ensures) (c .before .before .before .before .before .before .before .before .before .before .before .before .if1 .taken) _ _ (c .before .before .before .before .before .before .before .before .before .before .type-from .ensures) _ _ (c .before .before .before .before .before .before .t .given .1) .0
 
--- src/lib.rt:113:13
 same-length-2 : tie.Need-same-length-2 Inv-loop μ-loop
-same-length-2 c = search needs
+same-length-2 c = keeps-last _ _ _ _ _ _ _ (c .before .before .before .before .before .before .before .before .before .before .before .before .before .before .before .before .before .before .before .before .pre) _ _ _ (c .before .before .before .before .before .before .before .before .before .before .before .before .before .before .before .before .before .loop .inv (c .before .before .before .before .before .before .before .before .before .before .before .before .before .before .before .before .before .before .before .before .pre)) (c .before .before .before .before .before .before .before .before .before .before .before .before .before .before .before .before .has-room .result) (c .before .before .before .before .before .before .before .before .before .before .before .before .before .before .before .before .has-room .ensures) (c .before .before .before .before .before .before .before .before .before .before .before .before .before .before .before .if1 .taken) _ _ (c .before .before .before .before .before .before .before .before .before .before .before .before .before .type-from .ensures) _ _ _ (c .before .before .before .before .before .before .before .before .before .t .given .1) (c .before .before .before .before .before .before .wide .ensures) _ (c .before .before .before .before .before .bind .ensures) (saidWord (c .before .before .word-at .result)) (c .before .before .word-at .ensures) (c .if2 .taken) .walked .same
 
--- src/lib.rt:113:13
 returns-2 : tie.Need-returns-2 Inv-loop μ-loop
 returns-2 c = keeps-last _ _ _ _ _ _ _ (c .before .before .before .before .before .before .before .before .before .before .before .before .before .before .before .before .before .before .before .before .pre) _ _ _ (c .before .before .before .before .before .before .before .before .before .before .before .before .before .before .before .before .before .loop .inv (c .before .before .before .before .before .before .before .before .before .before .before .before .before .before .before .before .before .before .before .before .pre)) (c .before .before .before .before .before .before .before .before .before .before .before .before .before .before .before .before .has-room .result) (c .before .before .before .before .before .before .before .before .before .before .before .before .before .before .before .before .has-room .ensures) (c .before .before .before .before .before .before .before .before .before .before .before .before .before .before .before .if1 .taken) _ _ (c .before .before .before .before .before .before .before .before .before .before .before .before .before .type-from .ensures) _ _ _ (c .before .before .before .before .before .before .before .before .before .t .given .1) (c .before .before .before .before .before .before .wide .ensures) _ (c .before .before .before .before .before .bind .ensures) (saidWord (c .before .before .word-at .result)) (c .before .before .word-at .ensures) (c .if2 .taken)
 
--- src/lib.rt:104:5
 loop-less : tie.Need-loop-less Inv-loop μ-loop
 loop-less c = omega (arith, keeps-room _ _ _ _ _ _ _ (c .before .before .before .before .before .before .before .before .before .before .before .before .before .before .before .before .before .before .before .before .pre) _ _ _ (c .before .before .before .before .before .before .before .before .before .before .before .before .before .before .before .before .before .loop .inv (c .before .before .before .before .before .before .before .before .before .before .before .before .before .before .before .before .before .before .before .before .pre)) (c .before .before .before .before .before .before .before .before .before .before .before .before .before .before .before .before .has-room .result) (c .before .before .before .before .before .before .before .before .before .before .before .before .before .before .before .before .has-room .ensures) (c .before .before .before .before .before .before .before .before .before .before .before .before .before .before .before .if1 .taken))
 
--- src/lib.rt:104:5
 loop-again : tie.Need-loop-again Inv-loop μ-loop
 loop-again c = λ C. keeps-more _ _ _ _ _ _ _ C _ _ _ (c .before .before .before .before .before .before .before .before .before .before .before .before .before .before .before .before .before .loop .inv C) (c .before .before .before .before .before .before .before .before .before .before .before .before .before .before .before .before .has-room .result) (c .before .before .before .before .before .before .before .before .before .before .before .before .before .before .before .before .has-room .ensures) (c .before .before .before .before .before .before .before .before .before .before .before .before .before .before .before .if1 .taken) _ _ (c .before .before .before .before .before .before .before .before .before .before .before .before .before .type-from .ensures) _ _ _ (c .before .before .before .before .before .before .before .before .before .t .given .1) (c .before .before .before .before .before .before .wide .ensures) _ (c .before .before .before .before .before .bind .ensures) (saidWord (c .before .before .word-at .result)) (c .before .before .word-at .ensures) (c .if2 .left)
 
--- src/lib.rt:90:1
 same-length-3 : tie.Need-same-length-3 Inv-loop μ-loop
 same-length-3 c = keeps-same _ _ _ _ _ _ _ (c .before .before .before .before .before .pre) _ _ _ (c .before .before .loop .inv (c .before .before .before .before .before .pre))
 
--- src/lib.rt:90:1
 returns-3 : tie.Need-returns-3 Inv-loop μ-loop
 returns-3 c = keeps-full _ _ _ _ _ _ _ (c .before .before .before .before .before .pre) _ _ _ (c .before .before .loop .inv (c .before .before .before .before .before .pre)) (c .before .has-room .result) (c .before .has-room .ensures) (c .if1 .left)
 

@@ -4,30 +4,22 @@ use Rattle.type_walk.specs.Loop.{endedAs}
 use borrow.Author.Needs.{needs}
 use Rattle.type_walk.proofs.ended.Statement.{statement}
 use Rattle.type_walk.proofs.ended.Tie as tie
-use Rattle.type_walk.proofs.ended.Reads as reads
-use Rattle.type_walk.proofs.ended.Lts as lts
 
--- src/lib.rt:36:25
 enum-known-s : tie.Need-enum-known-s
 enum-known-s c = search needs
 
--- src/lib.rt:37:23
 enum-known-s-2 : tie.Need-enum-known-s-2
 enum-known-s-2 c = search needs
 
--- src/lib.rt:38:26
 enum-known-s-3 : tie.Need-enum-known-s-3
 enum-known-s-3 c = search needs
 
--- src/lib.rt:32:1
 returns : tie.Need-returns
 returns c = sym (ap endedAs (c .before .s .given .1))
 
--- src/lib.rt:32:1
 returns-2 : tie.Need-returns-2
 returns-2 c = sym (ap endedAs (c .before .s2 .given .1))
 
--- src/lib.rt:32:1
 returns-3 : tie.Need-returns-3
 returns-3 c = sym (ap endedAs (c .before .s3 .given .1))
 

@@ -5,30 +5,22 @@ use Rattle.type_walk.specs.Loop.{goingIn}
 use borrow.Author.Needs.{needs}
 use Rattle.type_walk.proofs.going.Statement.{statement}
 use Rattle.type_walk.proofs.going.Tie as tie
-use Rattle.type_walk.proofs.going.Reads as reads
-use Rattle.type_walk.proofs.going.Lts as lts
 
--- src/lib.rt:26:31
 enum-told : tie.Need-enum-told
 enum-told c = search needs
 
--- src/lib.rt:27:23
 enum-known-s : tie.Need-enum-known-s
 enum-known-s c = search needs
 
--- src/lib.rt:28:35
 enum-told-2 : tie.Need-enum-told-2
 enum-told-2 c = search needs
 
--- src/lib.rt:22:1
 returns : tie.Need-returns
 returns c = search needs
 
--- src/lib.rt:22:1
 returns-2 : tie.Need-returns-2
 returns-2 c = sym (ap (λ (y : code.Walking). goingIn y (c .before .before .before .before .args .more)) (c .before .before .s .given .1))
 
--- src/lib.rt:22:1
 returns-3 : tie.Need-returns-3
 returns-3 c = search needs
 

@@ -9,11 +9,6 @@ use Rattle.type_walk.proofs.LoopLaws.{Walks, leads, walks-first, walks-
 use borrow.Author.Needs.{needs}
 use Rattle.type_walk.proofs.type_at.Statement.{statement}
 use Rattle.type_walk.proofs.type_at.Tie as tie
-use Rattle.type_walk.proofs.type_at.Reads as reads
-use Rattle.type_walk.proofs.type_at.Lts as lts
-use Rattle.type_walk.proofs.ended.Reads as ended-reads
-use Rattle.type_walk.proofs.going.Reads as going-reads
-use Rattle.type_walk.proofs.steps.step.Reads as step-reads
 
 abbrev Inv-loop : tie.InvT-loop
 Inv-loop text work₀ at more frame top s₀ left₀ work s left = (X : Text) (S : Scope) (σ : State) → Walkable text work₀ frame top X S σ → Walks text work₀ X (leads X more S σ (from text at)) more top work s left
@@ -21,39 +16,30 @@ Inv-loop text work₀ at more frame top s₀ left₀ work s left = (X : Text) (S
 abbrev μ-loop : tie.MeasureT-loop
 μ-loop text work₀ at more frame top s₀ left₀ work s left = left
 
--- src/lib.rt:53:5
 loop-holds : tie.Need-loop-holds Inv-loop μ-loop
 loop-holds c = λ X S σ G. walks-first _ _ _ _ _ _ (c .before .before .pre) X S σ G
 
--- src/lib.rt:53:11
 going-requires : tie.Need-going-requires Inv-loop μ-loop
 going-requires c κs = search needs
 
--- src/lib.rt:54:9
 step-requires : tie.Need-step-requires Inv-loop μ-loop
 step-requires c κs = walks-can _ _ _ _ _ _ (c .before .before .before .before .before .before .pre) (c .before .before .before .before .before .before .pre .can .walk .X) (c .before .before .before .before .before .before .pre .can .walk .S) (c .before .before .before .before .before .before .pre .can .walk .σ) (c .before .before .before .before .before .before .pre .can .walk .walkable) _ _ _ (c .before .before .before .loop .inv (c .before .before .before .before .before .before .pre .can .walk .X) (c .before .before .before .before .before .before .pre .can .walk .S) (c .before .before .before .before .before .before .pre .can .walk .σ) (c .before .before .before .before .before .before .pre .can .walk .walkable)) (sym (c .before .before .going .ensures) ∙ c .before .if1 .taken)
 
--- src/lib.rt:55:16
 sub-left : tie.Need-sub-left Inv-loop μ-loop
 sub-left c = omega (arith, walks-left _ _ _ _ _ _ (c .before .before .before .before .before .before .before .before .before .pre) (c .before .before .before .before .before .before .before .before .before .pre .can .walk .X) (c .before .before .before .before .before .before .before .before .before .pre .can .walk .S) (c .before .before .before .before .before .before .before .before .before .pre .can .walk .σ) (c .before .before .before .before .before .before .before .before .before .pre .can .walk .walkable) _ _ _ (c .before .before .before .before .before .before .loop .inv (c .before .before .before .before .before .before .before .before .before .pre .can .walk .X) (c .before .before .before .before .before .before .before .before .before .pre .can .walk .S) (c .before .before .before .before .before .before .before .before .before .pre .can .walk .σ) (c .before .before .before .before .before .before .before .before .before .pre .can .walk .walkable)) (sym (c .before .before .before .before .before .going .ensures) ∙ c .before .before .before .before .if1 .taken))
 
--- src/lib.rt:53:5
 loop-less : tie.Need-loop-less Inv-loop μ-loop
 loop-less c = omega (arith, walks-left _ _ _ _ _ _ (c .before .before .before .before .before .before .before .before .before .pre) (c .before .before .before .before .before .before .before .before .before .pre .can .walk .X) (c .before .before .before .before .before .before .before .before .before .pre .can .walk .S) (c .before .before .before .before .before .before .before .before .before .pre .can .walk .σ) (c .before .before .before .before .before .before .before .before .before .pre .can .walk .walkable) _ _ _ (c .before .before .before .before .before .before .loop .inv (c .before .before .before .before .before .before .before .before .before .pre .can .walk .X) (c .before .before .before .before .before .before .before .before .before .pre .can .walk .S) (c .before .before .before .before .before .before .before .before .before .pre .can .walk .σ) (c .before .before .before .before .before .before .before .before .before .pre .can .walk .walkable)) (sym (c .before .before .before .before .before .going .ensures) ∙ c .before .before .before .before .if1 .taken))
 
--- src/lib.rt:53:5
 loop-again : tie.Need-loop-again Inv-loop μ-loop
 loop-again c = λ X S σ G. walks-on _ _ _ _ _ _ (c .before .before .before .before .before .before .before .before .before .pre) X S σ G _ _ _ (c .before .before .before .before .before .before .loop .inv X S σ G) (sym (c .before .before .before .before .before .going .ensures) ∙ c .before .before .before .before .if1 .taken) _ _ (c .before .before .step .ensures)
 
--- src/lib.rt:57:5
 ended-requires : tie.Need-ended-requires Inv-loop μ-loop
 ended-requires c κs = search needs
 
--- src/lib.rt:37:1
 same-length : tie.Need-same-length Inv-loop μ-loop
 same-length c = c .before .before .before .loop .inv (c .before .before .before .before .before .before .pre .can .walk .X) (c .before .before .before .before .before .before .pre .can .walk .S) (c .before .before .before .before .before .before .pre .can .walk .σ) (c .before .before .before .before .before .before .pre .can .walk .walkable) .kept .same
 
--- src/lib.rt:37:1
 returns : tie.Need-returns Inv-loop μ-loop
 returns c = record { walked = c .before .before .before .loop .inv (c .before .before .before .before .before .before .pre .can .walk .X) (c .before .before .before .before .before .before .pre .can .walk .S) (c .before .before .before .before .before .before .pre .can .walk .σ) (c .before .before .before .before .before .before .pre .can .walk .walkable) .kept; says = λ X S σ G. walks-end _ _ _ _ _ _ (c .before .before .before .before .before .before .pre) X S σ G _ _ _ (c .before .before .before .loop .inv X S σ G) (sym (c .before .before .going .ensures) ∙ c .before .if1 .left) _ (c .ended .ensures) }
 

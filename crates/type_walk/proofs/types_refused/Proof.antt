@@ -4,22 +4,16 @@ use Rattle.type_walk.specs.Many.{typesRefused}
 use borrow.Author.Needs.{needs}
 use Rattle.type_walk.proofs.types_refused.Statement.{statement}
 use Rattle.type_walk.proofs.types_refused.Tie as tie
-use Rattle.type_walk.proofs.types_refused.Reads as reads
-use Rattle.type_walk.proofs.types_refused.Lts as lts
 
--- src/lib.rt:124:24
 enum-known-t : tie.Need-enum-known-t
 enum-known-t c = search needs
 
--- src/lib.rt:125:26
 enum-known-t-2 : tie.Need-enum-known-t-2
 enum-known-t-2 c = search needs
 
--- src/lib.rt:120:1
 returns : tie.Need-returns
 returns c = sym (ap typesRefused (c .before .t .given .1))
 
--- src/lib.rt:120:1
 returns-2 : tie.Need-returns-2
 returns-2 c = sym (ap typesRefused (c .before .t2 .given .1))
 

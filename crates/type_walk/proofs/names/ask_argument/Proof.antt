@@ -4,49 +4,34 @@ use Rattle.type_walk.proofs.NameLaws.{argument-full, argument-asked}
 use borrow.Author.Needs.{needs}
 use Rattle.type_walk.proofs.names.ask_argument.Statement.{statement}
 use Rattle.type_walk.proofs.names.ask_argument.Tie as tie
-use Rattle.type_walk.proofs.names.ask_argument.Reads as reads
-use Rattle.type_walk.proofs.names.ask_argument.Lts as lts
-use Rattle.scopes.proofs.entries.has_room.Reads as has-room-reads
-use Rattle.type_walk.proofs.levels.flag_of.Reads as flag-of-reads
-use Rattle.type_walk.proofs.levels.wait.Reads as wait-reads
 
--- src/names.rt:31:42
 add-has-room : tie.Need-add-has-room
 add-has-room c = search needs
 
--- src/names.rt:31:9
 has-room-requires : tie.Need-has-room-requires
 has-room-requires c κs = search needs
 
--- src/names.rt:32:9
 returns : tie.Need-returns
 returns c = argument-full _ _ _ _ _ _ (c .before .has-room .result) (c .before .has-room .ensures) (not-yes _ (c .if1 .taken))
 
--- src/names.rt:36:15
 flag-of-requires : tie.Need-flag-of-requires
 flag-of-requires c κs = search needs
 
--- src/names.rt:37:16
 cast-t13 : tie.Need-cast-t13
 cast-t13 c = search needs
 
--- src/names.rt:38:16
 cast-t14 : tie.Need-cast-t14
 cast-t14 c = search needs
 
--- src/names.rt:48:14
 add-t10 : tie.Need-add-t10
 add-t10 c = search needs
 
--- src/names.rt:51:5
 wait-requires : tie.Need-wait-requires
 wait-requires c κs = search needs
 
--- src/names.rt:20:1
 same-length : tie.Need-same-length
 same-length c = search needs
 
--- src/names.rt:20:1
 returns-2 : tie.Need-returns-2
 returns-2 c = argument-asked _ _ _ _ _ _ _ _ _ (c .before .before .before .before .before .before .before .has-room .result) (c .before .before .before .before .before .before .before .has-room .ensures) (not-no _ (c .before .before .before .before .before .before .if1 .left)) (c .before .before .before .before .before .before .before .before .before .before .pre .0) (c .before .before .before .before .before .before .before .before .before .before .pre .1 .0) (c .before .before .before .before .before .before .before .before .before .before .pre .1 .1 .0) (c .before .before .before .before .before .before .before .before .before .before .pre .1 .1 .1) (c .before .before .before .before .before .flag-of .ensures) (c .before .before .wait .ensures)
 

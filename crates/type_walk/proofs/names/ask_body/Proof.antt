@@ -3,28 +3,19 @@ use Rattle.type_walk.proofs.NameLaws.{body-asked}
 use borrow.Author.Needs.{needs}
 use Rattle.type_walk.proofs.names.ask_body.Statement.{statement}
 use Rattle.type_walk.proofs.names.ask_body.Tie as tie
-use Rattle.type_walk.proofs.names.ask_body.Reads as reads
-use Rattle.type_walk.proofs.names.ask_body.Lts as lts
-use Rattle.type_walk.proofs.levels.flag_of.Reads as flag-of-reads
-use Rattle.type_walk.proofs.levels.wait.Reads as wait-reads
 
--- src/names.rt:61:15
 flag-of-requires : tie.Need-flag-of-requires
 flag-of-requires c κs = search needs
 
--- src/names.rt:67:15
 cast-t8 : tie.Need-cast-t8
 cast-t8 c = search needs
 
--- src/names.rt:76:5
 wait-requires : tie.Need-wait-requires
 wait-requires c κs = search needs
 
--- src/names.rt:55:1
 same-length : tie.Need-same-length
 same-length c = search needs
 
--- src/names.rt:55:1
 returns : tie.Need-returns
 returns c = body-asked _ _ _ _ _ _ _ (c .before .before .before .before .before .before .before .before .pre .can) (c .before .before .before .before .before .flag-of .ensures) (c .before .before .wait .ensures)
 

@@ -6,50 +6,34 @@ use Rattle.type_walk.proofs.NameLaws.{named-square, named-curly, named-
 use borrow.Author.Needs.{needs}
 use Rattle.type_walk.proofs.names.named_at.Statement.{statement}
 use Rattle.type_walk.proofs.names.named_at.Tie as tie
-use Rattle.type_walk.proofs.names.named_at.Reads as reads
-use Rattle.type_walk.proofs.names.named_at.Lts as lts
-use Rattle.type_walk.proofs.names.ask_argument.Reads as ask-argument-reads
-use Rattle.type_walk.proofs.names.plain_at.Reads as plain-at-reads
-use Rattle.type_walk.proofs.names.put_type.Reads as put-type-reads
-use Rattle.words.proofs.word_at.Reads as word-at-reads
 
--- src/names.rt:117:9
 word-at-requires : tie.Need-word-at-requires
 word-at-requires c κs = search needs
 
--- src/names.rt:119:9
 ask-argument-requires : tie.Need-ask-argument-requires
 ask-argument-requires c κs = (c .before .before .before .before .before .before .pre .0, (onward _ _ (saidWord (c .before .before .before .word-at .result)) (c .before .before .before .word-at .ensures) 16 (c .before .if1 .taken) .lexed, (c .before .before .before .before .before .before .pre .1 .1 .inside, can-places _ _ _ Anything (c .before .before .before .before .before .before .pre .0))))
 
--- src/names.rt:119:9
 same-length : tie.Need-same-length
 same-length c = search needs
 
--- src/names.rt:119:9
 returns : tie.Need-returns
 returns c = named-square _ _ _ _ _ _ _ (saidWord (c .before .before .before .before .before .before .word-at .result)) (c .before .before .before .before .before .before .word-at .ensures) (c .before .before .before .before .if1 .taken) (c .before .before .ask-argument .ensures)
 
--- src/names.rt:122:9
 put-type-requires : tie.Need-put-type-requires
 put-type-requires c κs = (c .before .before .before .before .before .before .before .before .pre .0, (c .before .before .before .before .before .before .before .before .pre .1 .0, (c .before .before .before .before .before .before .before .before .pre .1 .1 .inside, can-top _ _ _ Anything (c .before .before .before .before .before .before .before .before .pre .0))))
 
--- src/names.rt:122:9
 same-length-2 : tie.Need-same-length-2
 same-length-2 c = search needs
 
--- src/names.rt:122:9
 returns-2 : tie.Need-returns-2
 returns-2 c = named-curly _ _ _ _ _ _ _ (saidWord (c .before .before .before .before .before .before .before .before .word-at .result)) (c .before .before .before .before .before .before .before .before .word-at .ensures) (c .before .before .before .before .before .before .if1 .left) (c .before .before .before .before .if2 .taken) (c .before .before .put-type .ensures)
 
--- src/names.rt:124:5
 plain-at-requires : tie.Need-plain-at-requires
 plain-at-requires c κs = search needs
 
--- src/names.rt:113:1
 same-length-3 : tie.Need-same-length-3
 same-length-3 c = search needs
 
--- src/names.rt:113:1
 returns-3 : tie.Need-returns-3
 returns-3 c = named-plain _ _ _ _ _ _ _ (saidWord (c .before .before .before .before .before .before .before .before .word-at .result)) (c .before .before .before .before .before .before .before .before .word-at .ensures) (c .before .before .before .before .before .before .if1 .left) (c .before .before .before .before .if2 .left) (c .before .before .plain-at .ensures)
 

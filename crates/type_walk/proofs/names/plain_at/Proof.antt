@@ -5,51 +5,34 @@ use Rattle.type_walk.specs.Moves.{Anything}
 use borrow.Author.Needs.{needs}
 use Rattle.type_walk.proofs.names.plain_at.Statement.{statement}
 use Rattle.type_walk.proofs.names.plain_at.Tie as tie
-use Rattle.type_walk.proofs.names.plain_at.Reads as reads
-use Rattle.type_walk.proofs.names.plain_at.Lts as lts
-use Rattle.scopes.proofs.entries.first_of.Reads as first-of-reads
-use Rattle.scopes.proofs.entries.value_of.Reads as value-of-reads
-use Rattle.scopes.proofs.frames.frame_at.Reads as frame-at-reads
-use Rattle.type_walk.proofs.names.put_type.Reads as put-type-reads
-use Rattle.type_walk.proofs.sides.side_from.Reads as side-from-reads
 
--- src/names.rt:103:9
 frame-at-requires : tie.Need-frame-at-requires
 frame-at-requires c κs = search needs
 
--- src/names.rt:104:9
 first-of-requires : tie.Need-first-of-requires
 first-of-requires c κs = plain-asked _ _ _ _ (c .before .before .before .before .before .args .at) (c .before .before .before .before .before .pre .1 .1) _ (c .before .frame-at .ensures) (c .before .before .before .before .before .pre .0)
 
--- src/names.rt:106:9
 put-type-requires : tie.Need-put-type-requires
 put-type-requires c κs = (c .before .before .before .before .before .before .before .before .before .pre .0, (c .before .before .before .before .before .before .before .before .before .pre .1 .0, (c .before .before .before .before .before .before .before .before .before .pre .1 .1 .inside, can-top _ _ _ Anything (c .before .before .before .before .before .before .before .before .before .pre .0))))
 
--- src/names.rt:106:9
 same-length : tie.Need-same-length
 same-length c = search needs
 
--- src/names.rt:106:9
 returns : tie.Need-returns
 returns c = plain-none _ _ _ _ _ (c .before .before .before .before .before .before .before .before .before .before .before .before .pre .1 .1) _ (c .before .before .before .before .before .before .before .before .frame-at .ensures) _ (c .before .before .before .before .before .before .first-of .ensures) _ _ (c .before .before .before .before .if1 .taken) (c .before .before .put-type .ensures)
 
--- src/names.rt:108:9
 value-of-requires : tie.Need-value-of-requires
 value-of-requires c κs = (plain-low _ _ _ _ (c .before .before .before .before .before .before .before .before .before .args .at) (c .before .before .before .before .before .before .before .before .before .pre .1 .1) _ (c .before .before .before .before .before .frame-at .ensures) _ (c .before .before .before .first-of .ensures) (c .before .if1 .left) (c .before .before .before .before .before .before .before .before .before .pre .0), c .before .before .before .before .before .before .before .before .before .pre .0 .held .walkable .room)
 
--- src/names.rt:109:37
 cast-side-from : tie.Need-cast-side-from
 cast-side-from c = search needs
 
--- src/names.rt:109:5
 side-from-requires : tie.Need-side-from-requires
 side-from-requires c κs = (can-side _ _ _ _ (c .before .before .before .before .before .before .before .before .before .before .before .args .at) (c .before .before .before .before .before .before .before .before .before .before .before .pre .1 .1) _ (c .before .before .before .before .before .before .before .frame-at .ensures) _ (c .before .before .before .before .before .first-of .ensures) _ (c .before .before .before .if1 .left) (c .before .value-of .ensures .0) (c .before .before .before .before .before .before .before .before .before .before .before .pre .0), c .before .before .before .before .before .before .before .before .before .before .before .pre .1 .0)
 
--- src/names.rt:99:1
 same-length-2 : tie.Need-same-length-2
 same-length-2 c = search needs
 
--- src/names.rt:99:1
 returns-2 : tie.Need-returns-2
 returns-2 c = plain-found _ _ _ _ _ (c .before .before .before .before .before .before .before .before .before .before .before .before .before .before .pre .1 .1) _ (c .before .before .before .before .before .before .before .before .before .before .frame-at .ensures) _ (c .before .before .before .before .before .before .before .before .first-of .ensures) _ _ _ (c .before .before .before .before .before .before .if1 .left) (c .before .before .before .before .value-of .ensures .0) (c .before .before .side-from .ensures)
 

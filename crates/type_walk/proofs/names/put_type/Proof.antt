@@ -3,39 +3,28 @@ use Rattle.type_walk.proofs.NameLaws.{can-put, put-refused, can-ask-bod
 use borrow.Author.Needs.{needs}
 use Rattle.type_walk.proofs.names.put_type.Statement.{statement}
 use Rattle.type_walk.proofs.names.put_type.Tie as tie
-use Rattle.type_walk.proofs.names.put_type.Reads as reads
-use Rattle.type_walk.proofs.names.put_type.Lts as lts
-use Rattle.type_walk.proofs.names.ask_body.Reads as ask-body-reads
 
--- src/names.rt:91:9
 put-in-requires : tie.Need-put-in-requires
 put-in-requires c κs = can-put _ _ _ _ _ _ (c .before .before .before .pre .0) (c .before .before .before .pre .1 .0) (c .before .before .before .pre .1 .1 .0) (c .before .before .before .pre .1 .1 .1)
 
--- src/names.rt:93:20
 enum-known-p : tie.Need-enum-known-p
 enum-known-p c = search needs
 
--- src/names.rt:93:26
 ask-body-requires : tie.Need-ask-body-requires
 ask-body-requires c κs = can-ask-body _ _ _ _ _ _ _ _ _ (c .before .before .p .given .1) (c .before .before .before .before .before .before .put-in .ensures) (c .before .before .before .before .before .before .before .before .before .before .pre .0)
 
--- src/names.rt:94:25
 enum-known-p-2 : tie.Need-enum-known-p-2
 enum-known-p-2 c = search needs
 
--- src/names.rt:80:1
 same-length : tie.Need-same-length
 same-length c = search needs
 
--- src/names.rt:80:1
 returns : tie.Need-returns
 returns c = put-came _ _ _ _ _ _ _ _ _ (c .before .before .before .before .before .p .given .1) (c .before .before .before .before .before .before .before .before .before .put-in .ensures) _ _ (c .before .before .ask-body .ensures)
 
--- src/names.rt:80:1
 same-length-2 : tie.Need-same-length-2
 same-length-2 c = search needs
 
--- src/names.rt:80:1
 returns-2 : tie.Need-returns-2
 returns-2 c = put-refused _ _ _ _ _ _ _ _ _ _ (c .before .p2 .given .1) (c .before .before .before .before .before .put-in .ensures)
 

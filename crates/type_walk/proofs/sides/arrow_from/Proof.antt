@@ -6,53 +6,37 @@ use native.Mathlib.Omega.{arith}
 use borrow.Author.Needs.{needs}
 use Rattle.type_walk.proofs.sides.arrow_from.Statement.{statement}
 use Rattle.type_walk.proofs.sides.arrow_from.Tie as tie
-use Rattle.type_walk.proofs.sides.arrow_from.Reads as reads
-use Rattle.type_walk.proofs.sides.arrow_from.Lts as lts
-use Rattle.type_walk.proofs.sides.ask_side.Reads as ask-side-reads
-use Rattle.type_walk.proofs.sides.done.Reads as done-reads
-use Rattle.words.proofs.word_at.Reads as word-at-reads
 
--- src/sides.rt:73:9
 done-requires : tie.Need-done-requires
 done-requires c κs = search needs
 
--- src/sides.rt:73:9
 returns : tie.Need-returns
 returns c = arrow-tight _ _ _ _ _ _ _ (c .before .if1 .taken) (done-moved _ _ _ _ _ _ (c .before .before .before .before .pre .1) (c .done .ensures))
 
--- src/sides.rt:75:9
 word-at-requires : tie.Need-word-at-requires
 word-at-requires c κs = search needs
 
--- src/sides.rt:77:9
 ask-side-requires : tie.Need-ask-side-requires
 ask-side-requires c κs = (c .before .before .before .before .before .before .before .pre .0, (onward _ _ (saidWord (c .before .before .before .word-at .result)) (c .before .before .before .word-at .ensures) 7 (c .before .if2 .taken) .lexed, (place-inside _ _ (c .before .before .before .before .before .before .before .pre .1) (saidWord (c .before .before .before .word-at .result)) (c .before .before .before .word-at .ensures), (omega arith, omega arith))))
 
--- src/sides.rt:77:9
 same-length : tie.Need-same-length
 same-length c = search needs
 
--- src/sides.rt:77:9
 returns-2 : tie.Need-returns-2
 returns-2 c = arrow-arrow _ _ (saidWord (c .before .before .before .before .before .before .word-at .result)) (c .before .before .before .before .before .before .word-at .ensures) _ _ _ _ _ (c .before .before .before .before .before .before .before .if1 .left) (c .before .before .before .before .if2 .taken) (c .before .before .ask-side .ensures)
 
--- src/sides.rt:80:9
 ask-side-requires-2 : tie.Need-ask-side-requires-2
 ask-side-requires-2 c κs = (c .before .before .before .before .before .before .before .before .before .pre .0, (onward _ _ (saidWord (c .before .before .before .before .before .word-at .result)) (c .before .before .before .before .before .word-at .ensures) 8 (c .before .if3 .taken) .lexed, (place-inside _ _ (c .before .before .before .before .before .before .before .before .before .pre .1) (saidWord (c .before .before .before .before .before .word-at .result)) (c .before .before .before .before .before .word-at .ensures), (omega arith, omega arith))))
 
--- src/sides.rt:80:9
 same-length-2 : tie.Need-same-length-2
 same-length-2 c = search needs
 
--- src/sides.rt:80:9
 returns-3 : tie.Need-returns-3
 returns-3 c = arrow-linear _ _ (saidWord (c .before .before .before .before .before .before .before .before .word-at .result)) (c .before .before .before .before .before .before .before .before .word-at .ensures) _ _ _ _ _ (c .before .before .before .before .before .before .before .before .before .if1 .left) (c .before .before .before .before .before .before .if2 .left) (c .before .before .before .before .if3 .taken) (c .before .before .ask-side2 .ensures)
 
--- src/sides.rt:82:5
 done-requires-2 : tie.Need-done-requires-2
 done-requires-2 c κs = search needs
 
--- src/sides.rt:68:1
 returns-4 : tie.Need-returns-4
 returns-4 c = arrow-none _ _ (saidWord (c .before .before .before .before .before .word-at .result)) (c .before .before .before .before .before .word-at .ensures) _ _ _ _ _ (c .before .before .before .before .before .before .if1 .left) (c .before .before .before .if2 .left) (c .before .if3 .left) (done-moved _ _ _ _ _ _ (c .before .before .before .before .before .before .before .before .before .pre .1) (c .done2 .ensures))
 

@@ -3,28 +3,19 @@ use Rattle.type_walk.proofs.MoveLaws.{side-asked}
 use borrow.Author.Needs.{needs}
 use Rattle.type_walk.proofs.sides.ask_side.Statement.{statement}
 use Rattle.type_walk.proofs.sides.ask_side.Tie as tie
-use Rattle.type_walk.proofs.sides.ask_side.Reads as reads
-use Rattle.type_walk.proofs.sides.ask_side.Lts as lts
-use Rattle.type_walk.proofs.levels.flag_of.Reads as flag-of-reads
-use Rattle.type_walk.proofs.levels.wait.Reads as wait-reads
 
--- src/sides.rt:49:15
 flag-of-requires : tie.Need-flag-of-requires
 flag-of-requires c κs = search needs
 
--- src/sides.rt:50:16
 cast-t12 : tie.Need-cast-t12
 cast-t12 c = search needs
 
--- src/sides.rt:64:5
 wait-requires : tie.Need-wait-requires
 wait-requires c κs = search needs
 
--- src/sides.rt:34:1
 same-length : tie.Need-same-length
 same-length c = search needs
 
--- src/sides.rt:34:1
 returns : tie.Need-returns
 returns c = side-asked _ _ _ _ _ _ _ _ _ _ _ (c .before .before .before .before .before .before .before .pre .0) (c .before .before .before .before .before .before .before .pre .1 .0) (c .before .before .before .before .before .before .before .pre .1 .1 .1 .0) (c .before .before .before .before .before .before .before .pre .1 .1 .1 .1) (c .before .before .before .before .flag-of .ensures) (c .before .before .wait .ensures)
 

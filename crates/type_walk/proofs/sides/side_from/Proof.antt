@@ -5,37 +5,25 @@ use native.Mathlib.Omega.{arith}
 use borrow.Author.Needs.{needs}
 use Rattle.type_walk.proofs.sides.side_from.Statement.{statement}
 use Rattle.type_walk.proofs.sides.side_from.Tie as tie
-use Rattle.type_walk.proofs.sides.side_from.Reads as reads
-use Rattle.type_walk.proofs.sides.side_from.Lts as lts
-use Rattle.type_walk.proofs.sides.arrow_from.Reads as arrow-from-reads
-use Rattle.type_walk.proofs.sides.ask_side.Reads as ask-side-reads
-use Rattle.words.proofs.word_at.Reads as word-at-reads
 
--- src/sides.rt:90:9
 word-at-requires : tie.Need-word-at-requires
 word-at-requires c κs = search needs
 
--- src/sides.rt:92:9
 ask-side-requires : tie.Need-ask-side-requires
 ask-side-requires c κs = (c .before .before .before .before .before .before .pre .0, (onward _ _ (saidWord (c .before .before .before .word-at .result)) (c .before .before .before .word-at .ensures) 9 (c .before .if1 .taken) .lexed, (place-inside _ _ (c .before .before .before .before .before .before .pre .1) (saidWord (c .before .before .before .word-at .result)) (c .before .before .before .word-at .ensures), (omega arith, omega arith))))
 
--- src/sides.rt:92:9
 same-length : tie.Need-same-length
 same-length c = search needs
 
--- src/sides.rt:92:9
 returns : tie.Need-returns
 returns c = side-times _ _ (saidWord (c .before .before .before .before .before .before .word-at .result)) (c .before .before .before .before .before .before .word-at .ensures) _ _ _ _ _ (c .before .before .before .before .if1 .taken) (c .before .before .ask-side .ensures)
 
--- src/sides.rt:94:5
 arrow-from-requires : tie.Need-arrow-from-requires
 arrow-from-requires c κs = search needs
 
--- src/sides.rt:86:1
 same-length-2 : tie.Need-same-length-2
 same-length-2 c = search needs
 
--- src/sides.rt:86:1
 returns-2 : tie.Need-returns-2
 returns-2 c = side-none _ _ (saidWord (c .before .before .before .before .before .before .word-at .result)) (c .before .before .before .before .before .before .word-at .ensures) _ _ _ _ _ (c .before .before .before .before .if1 .left) (c .before .before .arrow-from .ensures)
 

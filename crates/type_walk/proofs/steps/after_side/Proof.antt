@@ -4,28 +4,19 @@ use Rattle.type_walk.proofs.StepLaws.{side-product, side-done}
 use borrow.Author.Needs.{needs}
 use Rattle.type_walk.proofs.steps.after_side.Statement.{statement}
 use Rattle.type_walk.proofs.steps.after_side.Tie as tie
-use Rattle.type_walk.proofs.steps.after_side.Reads as reads
-use Rattle.type_walk.proofs.steps.after_side.Lts as lts
-use Rattle.type_walk.proofs.sides.arrow_from.Reads as arrow-from-reads
-use Rattle.type_walk.proofs.sides.done.Reads as done-reads
 
--- src/steps.rt:133:9
 arrow-from-requires : tie.Need-arrow-from-requires
 arrow-from-requires c κs = search needs
 
--- src/steps.rt:133:9
 same-length : tie.Need-same-length
 same-length c = search needs
 
--- src/steps.rt:133:9
 returns : tie.Need-returns
 returns c = side-product _ _ _ _ _ _ _ _ (c .before .before .before .before .if1 .taken) (c .before .before .arrow-from .ensures)
 
--- src/steps.rt:135:5
 done-requires : tie.Need-done-requires
 done-requires c κs = search needs
 
--- src/steps.rt:128:1
 returns-2 : tie.Need-returns-2
 returns-2 c = side-done _ _ _ _ _ _ _ _ (c .before .if1 .left) (done-moved _ _ _ _ _ _ (c .before .before .before .before .pre .1) (c .done .ensures))
 

@@ -5,28 +5,19 @@ use Rattle.type_walk.proofs.StepLaws.{inside-closed, inside-open}
 use borrow.Author.Needs.{needs}
 use Rattle.type_walk.proofs.steps.behind_inside.Statement.{statement}
 use Rattle.type_walk.proofs.steps.behind_inside.Tie as tie
-use Rattle.type_walk.proofs.steps.behind_inside.Reads as reads
-use Rattle.type_walk.proofs.steps.behind_inside.Lts as lts
-use Rattle.type_walk.proofs.sides.side_from.Reads as side-from-reads
-use Rattle.words.proofs.word_at.Reads as word-at-reads
 
--- src/steps.rt:96:9
 word-at-requires : tie.Need-word-at-requires
 word-at-requires c κs = search needs
 
--- src/steps.rt:98:9
 side-from-requires : tie.Need-side-from-requires
 side-from-requires c κs = (c .before .before .before .before .before .before .pre .0, onward _ _ (saidWord (c .before .before .before .word-at .result)) (c .before .before .before .word-at .ensures) 11 (c .before .if1 .taken) .lexed)
 
--- src/steps.rt:98:9
 same-length : tie.Need-same-length
 same-length c = search needs
 
--- src/steps.rt:98:9
 returns : tie.Need-returns
 returns c = inside-closed _ _ (saidWord (c .before .before .before .before .before .before .word-at .result)) (c .before .before .before .before .before .before .word-at .ensures) _ _ _ _ _ (c .before .before .before .before .if1 .taken) (c .before .before .side-from .ensures)
 
--- src/steps.rt:92:1
 returns-2 : tie.Need-returns-2
 returns-2 c = inside-open _ _ (saidWord (c .before .before .word-at .result)) (c .before .before .word-at .ensures) _ _ _ (c .if1 .left)
 

@@ -5,54 +5,37 @@ use Rattle.type_walk.proofs.StepLaws.{name-there, can-one, enter-name, 
 use borrow.Author.Needs.{needs}
 use Rattle.type_walk.proofs.steps.enter.Statement.{statement}
 use Rattle.type_walk.proofs.steps.enter.Tie as tie
-use Rattle.type_walk.proofs.steps.enter.Reads as reads
-use Rattle.type_walk.proofs.steps.enter.Lts as lts
-use Rattle.type_walk.proofs.names.named_at.Reads as named-at-reads
-use Rattle.type_walk.proofs.sides.side_from.Reads as side-from-reads
-use Rattle.type_walk.proofs.steps.ask_inside.Reads as ask-inside-reads
-use Rattle.words.proofs.word_at.Reads as word-at-reads
 
--- src/steps.rt:60:9
 word-at-requires : tie.Need-word-at-requires
 word-at-requires c κs = search needs
 
--- src/steps.rt:62:9
 named-at-requires : tie.Need-named-at-requires
 named-at-requires c κs = (c .before .before .before .before .before .before .pre .0, (onward _ _ (saidWord (c .before .before .before .word-at .result)) (c .before .before .before .word-at .ensures) 23 (c .before .if1 .taken) .lexed, name-there _ _ (saidWord (c .before .before .before .word-at .result)) (c .before .before .before .word-at .ensures) (c .before .if1 .taken)))
 
--- src/steps.rt:62:9
 same-length : tie.Need-same-length
 same-length c = search needs
 
--- src/steps.rt:62:9
 returns : tie.Need-returns
 returns c = enter-name _ _ (saidWord (c .before .before .before .before .before .before .word-at .result)) (c .before .before .before .before .before .before .word-at .ensures) _ _ _ _ (c .before .before .before .before .if1 .taken) (c .before .before .named-at .ensures)
 
--- src/steps.rt:65:9
 side-from-requires : tie.Need-side-from-requires
 side-from-requires c κs = (can-one _ _ _ (c .before .before .before .before .before .before .before .before .pre .0), onward _ _ (saidWord (c .before .before .before .before .before .word-at .result)) (c .before .before .before .before .before .word-at .ensures) 22 (c .before .if2 .taken) .lexed)
 
--- src/steps.rt:65:9
 same-length-2 : tie.Need-same-length-2
 same-length-2 c = search needs
 
--- src/steps.rt:65:9
 returns-2 : tie.Need-returns-2
 returns-2 c = enter-number _ _ (saidWord (c .before .before .before .before .before .before .before .before .word-at .result)) (c .before .before .before .before .before .before .before .before .word-at .ensures) _ _ _ _ (c .before .before .before .before .if2 .taken) (c .before .before .side-from .ensures)
 
--- src/steps.rt:68:9
 ask-inside-requires : tie.Need-ask-inside-requires
 ask-inside-requires c κs = (c .before .before .before .before .before .before .before .before .before .before .pre .0, onward _ _ (saidWord (c .before .before .before .before .before .before .before .word-at .result)) (c .before .before .before .before .before .before .before .word-at .ensures) 10 (c .before .if3 .taken) .lexed)
 
--- src/steps.rt:68:9
 same-length-3 : tie.Need-same-length-3
 same-length-3 c = search needs
 
--- src/steps.rt:68:9
 returns-3 : tie.Need-returns-3
 returns-3 c = enter-round _ _ (saidWord (c .before .before .before .before .before .before .before .before .before .before .word-at .result)) (c .before .before .before .before .before .before .before .before .before .before .word-at .ensures) _ _ _ _ (c .before .before .before .before .if3 .taken) (c .before .before .ask-inside .ensures)
 
--- src/steps.rt:56:1
 returns-4 : tie.Need-returns-4
 returns-4 c = enter-none _ _ (saidWord (c .before .before .before .before .before .before .word-at .result)) (c .before .before .before .before .before .before .word-at .ensures) _ _ (c .before .before .before .before .if1 .left) (c .before .before .if2 .left) (c .if3 .left)
 

@@ -3,48 +3,34 @@ use Rattle.type_walk.proofs.StepLaws.{step-can, step-as, step-refused}
 use borrow.Author.Needs.{needs}
 use Rattle.type_walk.proofs.steps.step.Statement.{statement}
 use Rattle.type_walk.proofs.steps.step.Tie as tie
-use Rattle.type_walk.proofs.steps.step.Reads as reads
-use Rattle.type_walk.proofs.steps.step.Lts as lts
-use Rattle.type_walk.proofs.steps.come_step.Reads as come-step-reads
-use Rattle.type_walk.proofs.steps.want_step.Reads as want-step-reads
 
--- src/steps.rt:180:25
 enum-known-s : tie.Need-enum-known-s
 enum-known-s c = search needs
 
--- src/steps.rt:180:31
 want-step-requires : tie.Need-want-step-requires
 want-step-requires c κs = step-can _ _ _ _ (c .before .before .s .given .1) (c .before .before .before .before .before .before .pre)
 
--- src/steps.rt:181:23
 enum-known-s-2 : tie.Need-enum-known-s-2
 enum-known-s-2 c = search needs
 
--- src/steps.rt:181:29
 come-step-requires : tie.Need-come-step-requires
 come-step-requires c κs = step-can _ _ _ _ (c .before .before .s2 .given .1) (c .before .before .before .before .before .before .pre)
 
--- src/steps.rt:182:26
 enum-known-s-3 : tie.Need-enum-known-s-3
 enum-known-s-3 c = search needs
 
--- src/steps.rt:175:1
 same-length : tie.Need-same-length
 same-length c = search needs
 
--- src/steps.rt:175:1
 returns : tie.Need-returns
 returns c = step-as _ _ _ _ _ _ (c .before .before .before .before .before .s .given .1) (c .before .before .want-step .ensures)
 
--- src/steps.rt:175:1
 same-length-2 : tie.Need-same-length-2
 same-length-2 c = search needs
 
--- src/steps.rt:175:1
 returns-2 : tie.Need-returns-2
 returns-2 c = step-as _ _ _ _ _ _ (c .before .before .before .before .before .s2 .given .1) (c .before .before .come-step .ensures)
 
--- src/steps.rt:175:1
 returns-3 : tie.Need-returns-3
 returns-3 c = step-refused _ _ _ _ _ _ (c .before .s3 .given .1)
 
