@@ -149,15 +149,40 @@ fn settle(work: &mut [u16], elements: usize, wires: usize, pins: usize, o: Out, 
     }
 }
 
-// Terminal n is settled, if it is an output.
+// The root of output o, which is not settled, where one step back tells it: o itself where it drives itself, else what the table has of its
+// driver; NONE where neither does.
+fn near(work: &[u16], elements: usize, wires: usize, pins: usize, o: Out) -> u16
+    requires { ⌜ Partly (now work) elements wires pins × (Output (now work) elements wires pins (o .0) × (entry (now work) (o .0) ≡ 65535)) ⌝ }
+    ensures { λ r. ⌜ ((r ≡ 65535 → ⊥) → r ≡ root (netIn (now (work .entry)) elements wires pins) (o .0)) ⌝ }
+{
+    let d = back_of(work, elements, wires, pins, o);
+    if d.0 == o.0 {
+        return o.0;
+    }
+    work[ROOTS + d.0 as usize]
+}
+
+// Output o, which is not settled, is: by what it comes to.
+fn root_far(work: &mut [u16], elements: usize, wires: usize, pins: usize, o: Out)
+    requires { ⌜ Partly (now work) elements wires pins × Output (now work) elements wires pins (o .0) ⌝ }
+    ensures { λ _. ⌜ Settled (now (work .entry)) (now (work .exit)) elements wires pins (o .0) ⌝ }
+{
+    let x = meet(work, elements, wires, pins, o);
+    let r = round(work, elements, wires, pins, x);
+    settle(work, elements, wires, pins, o, r);
+}
+
+// Terminal n is settled, if it is an output. Most are by one step back.
 pub fn root_one(work: &mut [u16], elements: usize, wires: usize, pins: usize, n: u16)
     requires { ⌜ Partly (now work) elements wires pins × (n < 8192) ⌝ }
     ensures { λ _. ⌜ Settled (now (work .entry)) (now (work .exit)) elements wires pins n ⌝ }
 {
     if work[ROOTS + n as usize] == NONE {
-        let o = Out(n);
-        let x = meet(work, elements, wires, pins, o);
-        let r = round(work, elements, wires, pins, x);
-        settle(work, elements, wires, pins, o, r);
+        let r = near(work, elements, wires, pins, Out(n));
+        if r == NONE {
+            root_far(work, elements, wires, pins, Out(n));
+        } else {
+            work[ROOTS + n as usize] = r;
+        }
     }
 }
