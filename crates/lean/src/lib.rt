@@ -29,10 +29,12 @@ pub fn roots(work: &mut [u16], elements: usize, wires: usize, pins: usize) -> u1
 {
     table::blank(work);
     let end = table::start(work, elements);
-    let mut n: u16 = 0;
-    while n < end {
-        table::root_one(work, elements, wires, pins, n);
-        n = n + 1;
+    // two at a time, since most need nothing
+    let mut half: u16 = 0;
+    while 2 * half < end {
+        table::root_one(work, elements, wires, pins, 2 * half);
+        table::root_one(work, elements, wires, pins, 2 * half + 1);
+        half = half + 1;
     }
     end
 }

@@ -15,8 +15,8 @@ ghost use lib.ListN.{length, getD, drop};
 ghost use Rattle.memory.specs.Map.{rootsAt, makersAt};
 ghost use Rattle.netlist.specs.Elements.{nodeSize};
 ghost use Rattle.lean.specs.Table.{entry};
-ghost use Rattle.lean.specs.Layout.{leanPinsAt, rowIn, leftAfter, LeanReady};
-ghost use Rattle.lean.specs.Rows.{recordBytesAt, wireBytesAt, pinBytesAt, recordsIn, entrySize, sizesIn};
+ghost use Rattle.lean.specs.Layout.{leanPinsAt, rowIn, LeanReady};
+ghost use Rattle.lean.specs.Rows.{recordBytesAt, wireBytesAt, pinBytesAt, recordsIn, Behind, entrySize, sizesIn};
 
 // The i-th maker; 0 past the memory's end.
 fn maker_at(work: &[u16], i: usize) -> u16
@@ -56,12 +56,27 @@ fn put_element(
     netlist::put_element(out, at, kind, pass::first_of(kind, x), node, plain)
 }
 
-// The next maker's place: an output takes one.
-fn after(work: &[u16], end: usize, pins: usize, x: usize, i: usize) -> usize
+// Where the writer goes on: at a terminal, with the maker that the next output takes.
+struct Next {
+    x: usize,
+    i: usize,
+}
+
+// Behind terminal x; behind both terminals of a point that is left out, which give nothing. An output takes a maker, kept or not.
+fn behind(work: &[u16], end: usize, pins: usize, x: usize, i: usize) -> Next
     requires { ⌜ LeanReady (now work) end pins × ((x < end) × (i ≤ x)) ⌝ }
-    ensures { λ r. ⌜ (r ≤ x + 1) × (drop r (drop makersAt (now (work .entry))) ≡ leftAfter (entry (now (work .entry)) x) (drop i (drop makersAt (now (work .entry))))) ⌝ }
+    ensures { λ r. ⌜ Behind (now (work .entry)) end x i (r .x) (r .i) ⌝ }
 {
-    if work[LEAN + x] < KIND { i } else { i + 1 }
+    let v = work[LEAN + x];
+    if v == 0 {
+        if work[LEAN + (x + 1)] == LEFT_OUT {
+            return Next { x: x + 2, i: i + 1 };
+        }
+    }
+    if v < KIND {
+        return Next { x: x + 1, i: i };
+    }
+    Next { x: x + 1, i: i + 1 }
 }
 
 // The records of all elements.
@@ -82,8 +97,9 @@ pub fn put_elements(
     let mut x: usize = 0;
     while x < end {
         at = put_element(work, end, pins, x, i, out, at, plain);
-        i = after(work, end, pins, x, i);
-        x = x + 1;
+        let n = behind(work, end, pins, x, i);
+        i = n.i;
+        x = n.x;
     }
     at
 }
@@ -114,7 +130,8 @@ pub fn put_wires(work: &[u16], end: usize, pins: usize, out: &mut [u8], from: us
     let mut x: usize = 0;
     while x < end {
         at = put_wire(work, end, pins, x, out, at);
-        x = x + 1;
+        let n = behind(work, end, pins, x, 0);
+        x = n.x;
     }
     at
 }

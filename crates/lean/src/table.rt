@@ -25,12 +25,11 @@ pub fn blank(work: &mut [u16])
     }
 }
 
-// An output that stays is its own root; any other is not settled yet.
-fn first_of(work: &[u16], kind: u16, n: u16) -> u16
-    requires { ⌜ (memorySize ≤ length (now work)) × (after kind n ≤ 8192) ⌝ }
+// Of an element's output o: one that stays is its own root; any other is not settled yet.
+fn first_of(work: &[u16], kind: u16, n: u16, o: Out) -> u16
+    requires { ⌜ (memorySize ≤ length (now work)) × ((after kind n ≤ 8192) × (o .0 ≡ outputOf kind n)) ⌝ }
     ensures { λ r. ⌜ r ≡ startRoot (now (work .entry)) kind n ⌝ }
 {
-    let o = netlist::output_of(kind, n);
     if kind == POINT {
         if work[n as usize] != NONE {
             return NONE;
@@ -45,10 +44,10 @@ fn start_one(work: &mut [u16], kind: u16, n: u16) -> u16
     ensures { λ r. ⌜ (r ≡ after kind n)
         × (now (work .exit) ≡ set (now (work .entry)) (rootsAt + outputOf kind n) (startRoot (now (work .entry)) kind n)) ⌝ }
 {
-    let first = first_of(work, kind, n);
     let o = netlist::output_of(kind, n);
+    let first = first_of(work, kind, n, o);
     work[ROOTS + o.0 as usize] = first;
-    netlist::next_after(kind, n)
+    o.0 + 1
 }
 
 // The table as it starts; the first terminal that no element takes.
