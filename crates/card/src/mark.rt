@@ -38,7 +38,7 @@ pub fn mark_wires(work: &mut [u16], end: usize, pins: usize)
     while x < end {
         let v = work[LEAN + x];
         mark_wire(work, v);
-        x = x + 1;
+        x = lean::behind(&work[..], x);
     }
 }
 

@@ -17,7 +17,7 @@ use Rattle.netlist.specs.Elements.{elementSize, nodeSize, elementRecords}
 use Rattle.netlist.proofs.Elements.{records-are, records-append, records-length, kinds-length, kind-size}
 use Rattle.netlist.proofs.Records.{wires-append}
 use Rattle.lean.specs.Table.{entry}
-use Rattle.lean.specs.Layout.{leanPinsAt, kindsFrom, leftOut, firstTerminal, elementAt, wireAt, rowIn, leftAfter, leanMakersIn, leanIn, LeanReady}
+use Rattle.lean.specs.Layout.{leanPinsAt, kindsFrom, leftOut, firstTerminal, elementAt, wireAt, rowIn, leftAfter, leanMakersIn, leanIn, LeanReady, Passed}
 use Rattle.lean.specs.Rows.{recordBytesAt, wireBytesAt, pinBytesAt, recordsIn, Behind, entrySize, sizesIn}
 use Rattle.lean.proofs.KindLaws.{region-next, region-end}
 use Rattle.lean.proofs.Rows.{row-text, rest-first, rest-end}
@@ -87,7 +87,6 @@ module _ (w : List ℕ) (end x i : ℕ) (lt : x < end) (few : i ≤ x) where
     low = omega arith;
     few = omega arith;
     records = λ plain. ap (recordsIn plain w (end - (x + 1)) (x + 1)) (sym (after-input (entry w x) i (drop makersAt w) h));
-    wires = refl;
   }
 
   pub behind-output : kindsFrom ≤ entry w x → Behind w end x i (x + 1) (i + 1)
@@ -96,21 +95,15 @@ module _ (w : List ℕ) (end x i : ℕ) (lt : x < end) (few : i ≤ x) where
     low = omega arith;
     few = omega arith;
     records = λ plain. ap (recordsIn plain w (end - (x + 1)) (x + 1)) (sym (after-output (entry w x) i (drop makersAt w) h));
-    wires = refl;
   }
 
-  pub behind-point : entry w x ≡ 0 → entry w (x + 1) ≡ leftOut → Behind w end x i (x + 2) (i + 1)
-  behind-point z l = record {
+  -- an input, and the output of a point that is left out
+  pub behind-point : entry w x < kindsFrom → entry w (x + 1) ≡ leftOut → Behind w end x i (x + 2) (i + 1)
+  behind-point h l = record {
     rises = omega arith;
     low = omega arith;
     few = omega arith;
-    records = λ plain. ap (recordsIn plain w (end - (x + 1)) (x + 1)) (sym (after-input (entry w x) i js (omega arith))) ∙ skipped plain;
-    wires = elim (decLe end (x + 1)) [
-      | yes g ↦ rest-end wireBytesAt rootsAt w end (x + 1) g ∙ sym (rest-end wireBytesAt rootsAt w end (x + 2) (omega arith))
-      | no g ↦ rest-first wireBytesAt rootsAt w end (x + 1) (omega arith)
-          ∙ ap (λ (t : List ℕ). t ++ rowIn wireBytesAt rootsAt w (end - (x + 1 + 1)) (x + 1 + 1)) (output-wire (entry w (x + 1)) (x + 1) (omega arith))
-          ∙ ap (λ (y : ℕ). rowIn wireBytesAt rootsAt w (end - y) y) two
-    ];
+    records = λ plain. ap (recordsIn plain w (end - (x + 1)) (x + 1)) (sym (after-input (entry w x) i js h)) ∙ skipped plain;
   }
     where
       js : List ℕ
@@ -127,6 +120,24 @@ module _ (w : List ℕ) (end x i : ℕ) (lt : x < end) (few : i ≤ x) where
             ∙ ap (recordsIn plain w (end - (x + 1 + 1)) (x + 1 + 1)) (sym (after-output (entry w (x + 1)) i js (omega arith)))
             ∙ ap (λ (y : ℕ). recordsIn plain w (end - y) y (drop (i + 1) js)) two
       ]
+
+-- what is passed has no wire
+pub wires-behind : (w : List ℕ) (end x y : ℕ) → x < end → Passed w x y → rowIn wireBytesAt rootsAt w (end - (x + 1)) (x + 1) ≡ rowIn wireBytesAt rootsAt w (end - y) y
+wires-behind w end x y lt p = elim (ℕ-discrete y (x + 2)) [
+  | yes e ↦ (elim (decLe end (x + 1)) [
+    | yes g ↦ rest-end wireBytesAt rootsAt w end (x + 1) g ∙ sym (rest-end wireBytesAt rootsAt w end y (omega arith))
+    | no g ↦ rest-first wireBytesAt rootsAt w end (x + 1) (omega arith)
+        ∙ ap (λ (t : List ℕ). t ++ rowIn wireBytesAt rootsAt w (end - (x + 1 + 1)) (x + 1 + 1)) (output-wire (entry w (x + 1)) (x + 1) (p .output e))
+        ∙ ap (λ (z : ℕ). rowIn wireBytesAt rootsAt w (end - z) z) (two e)
+  ])
+  | no d ↦ ap (λ (z : ℕ). rowIn wireBytesAt rootsAt w (end - z) z) (one d)
+]
+  where
+    two : y ≡ x + 2 → x + 1 + 1 ≡ y
+    two e = omega arith
+
+    one : (y ≡ x + 2 → ⊥) → x + 1 ≡ y
+    one d = let r = p .rises in let f = p .few in omega arith
 
 -- ---- all
 

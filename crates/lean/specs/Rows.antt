@@ -7,10 +7,10 @@ use lib.Dec.{eqb, ltb}
 use lib.ListN.{drop}
 use Rattle.calculus.specs.Net.{wireBytes, pinBytes}
 use Rattle.calculus.specs.Makers.{maker}
-use Rattle.memory.specs.Map.{rootsAt, makersAt, terminalOf}
+use Rattle.memory.specs.Map.{makersAt, terminalOf}
 use Rattle.netlist.specs.Elements.{elementSize, nodeSize, elementRecords}
 use Rattle.lean.specs.Table.{entry}
-use Rattle.lean.specs.Layout.{kindsFrom, leftOut, elementAt, wireAt, leftAfter, rowIn}
+use Rattle.lean.specs.Layout.{kindsFrom, leftOut, elementAt, wireAt, leftAfter}
 
 -- of entry v of terminal x: its element's record, plain or with the node that made it; its wire's
 abbrev pub recordBytesAt : Bool → ℕ → ℕ → ℕ → List ℕ
@@ -35,7 +35,6 @@ pub record Behind (w : List ℕ) (end x i y j : ℕ) : Type 0 where
   pub few : j ≤ y
   pub records : (plain : Bool) → recordsIn plain w (end - (x + 1)) (x + 1) (leftAfter (entry w x) (drop i (drop makersAt w)))
       ≡ recordsIn plain w (end - y) y (drop j (drop makersAt w))
-  pub wires : rowIn wireBytesAt rootsAt w (end - (x + 1)) (x + 1) ≡ rowIn wireBytesAt rootsAt w (end - y) y
 
 -- the bytes of both
 abbrev pub entrySize : Bool → ℕ → ℕ

@@ -20,6 +20,7 @@ pub use pass::KIND;
 pub use pass::LEAN;
 pub use pass::LEFT_OUT;
 pub use pass::PINS;
+pub use pass::behind;
 pub use pass::first_of;
 
 // The root of every output; the first terminal that no element takes.
@@ -29,12 +30,10 @@ pub fn roots(work: &mut [u16], elements: usize, wires: usize, pins: usize) -> u1
 {
     table::blank(work);
     let end = table::start(work, elements);
-    // two at a time, since most need nothing
-    let mut half: u16 = 0;
-    while 2 * half < end {
-        table::root_one(work, elements, wires, pins, 2 * half);
-        table::root_one(work, elements, wires, pins, 2 * half + 1);
-        half = half + 1;
+    let mut n: u16 = 0;
+    while n < end {
+        table::root_one(work, elements, wires, pins, n);
+        n = n + 1;
     }
     end
 }

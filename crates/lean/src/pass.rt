@@ -12,7 +12,7 @@ ghost use Rattle.calculus.specs.Net.{point};
 ghost use Rattle.memory.specs.Map.{elementsAt, rootsAt, memorySize, region, elementsFrom};
 ghost use Rattle.netlist.specs.Elements.{outputOf, after, afterAll};
 ghost use Rattle.lean.specs.Table.{entry};
-ghost use Rattle.lean.specs.Layout.{firstTerminal, linkIn, Linkable, Linked, rootedIn, Rootable, Pinned, nameOne, namedAll};
+ghost use Rattle.lean.specs.Layout.{firstTerminal, linkIn, Linkable, Linked, rootedIn, Rootable, Pinned, nameOne, namedAll, Passed};
 
 // By terminal, what the pass says of it.
 pub const LEAN: usize = ROOTS;
@@ -122,4 +122,16 @@ pub fn first_of(kind: u16, x: usize) -> u16
 {
     let inputs = netlist::output_of(kind, 0);
     x as u16 - inputs.0
+}
+
+// Behind terminal x, and behind the output that follows it: to an output there is no wire.
+pub fn behind(work: &[u16], x: usize) -> usize
+    requires { ⌜ (memorySize ≤ length (now work)) × (x < 8192) ⌝ }
+    ensures { λ r. ⌜ Passed (now (work .entry)) x r ⌝ }
+{
+    if work[LEAN + (x + 1)] >= KIND {
+        x + 2
+    } else {
+        x + 1
+    }
 }

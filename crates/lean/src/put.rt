@@ -56,27 +56,49 @@ fn put_element(
     netlist::put_element(out, at, kind, pass::first_of(kind, x), node, plain)
 }
 
-// Where the writer goes on: at a terminal, with the maker that the next output takes.
+// Where the writer goes on: at an offset and a terminal, with the maker that the next output takes.
 struct Next {
+    at: usize,
     x: usize,
     i: usize,
 }
 
-// Behind terminal x; behind both terminals of a point that is left out, which give nothing. An output takes a maker, kept or not.
-fn behind(work: &[u16], end: usize, pins: usize, x: usize, i: usize) -> Next
-    requires { ⌜ LeanReady (now work) end pins × ((x < end) × (i ≤ x)) ⌝ }
-    ensures { λ r. ⌜ Behind (now (work .entry)) end x i (r .x) (r .i) ⌝ }
+// The record at terminal x. Behind an input, the output of a point that is left out is passed too. An output takes a maker, kept or not.
+fn put_at(
+    work: &[u16],
+    end: usize,
+    pins: usize,
+    x: usize,
+    i: usize,
+    out: &mut [u8],
+    at: usize,
+    plain: bool,
+) -> Next
+    requires { ⌜ LeanReady (now work) end pins × ((x < end) × ((i ≤ x) × (at + length (recordBytesAt plain (getD (now work) (makersAt + i) 0) (entry (now work) x) x) ≤ length (now out)))) ⌝ }
+    ensures { λ r. ⌜ ((r .at ≡ at + length (recordBytesAt plain (getD (now (work .entry)) (makersAt + i) 0) (entry (now (work .entry)) x) x))
+        × (now (out .exit) ≡ sets (now (out .entry)) at (recordBytesAt plain (getD (now (work .entry)) (makersAt + i) 0) (entry (now (work .entry)) x) x)))
+        × Behind (now (work .entry)) end x i (r .x) (r .i) ⌝ }
 {
-    let v = work[LEAN + x];
-    if v == 0 {
+    if work[LEAN + x] < KIND {
         if work[LEAN + (x + 1)] == LEFT_OUT {
-            return Next { x: x + 2, i: i + 1 };
+            return Next {
+                at: at,
+                x: x + 2,
+                i: i + 1,
+            };
         }
+        return Next {
+            at: at,
+            x: x + 1,
+            i: i,
+        };
     }
-    if v < KIND {
-        return Next { x: x + 1, i: i };
+    let past = put_element(work, end, pins, x, i, out, at, plain);
+    Next {
+        at: past,
+        x: x + 1,
+        i: i + 1,
     }
-    Next { x: x + 1, i: i + 1 }
 }
 
 // The records of all elements.
@@ -96,8 +118,8 @@ pub fn put_elements(
     let mut i: usize = 0;
     let mut x: usize = 0;
     while x < end {
-        at = put_element(work, end, pins, x, i, out, at, plain);
-        let n = behind(work, end, pins, x, i);
+        let n = put_at(work, end, pins, x, i, out, at, plain);
+        at = n.at;
         i = n.i;
         x = n.x;
     }
@@ -130,8 +152,7 @@ pub fn put_wires(work: &[u16], end: usize, pins: usize, out: &mut [u8], from: us
     let mut x: usize = 0;
     while x < end {
         at = put_wire(work, end, pins, x, out, at);
-        let n = behind(work, end, pins, x, 0);
-        x = n.x;
+        x = pass::behind(work, x);
     }
     at
 }

@@ -11,7 +11,7 @@ ghost use lib.ListN.{length, getD, set};
 ghost use Rattle.calculus.specs.Lean.{root};
 ghost use Rattle.memory.specs.Map.{elementsAt, rootsAt, memorySize, region, netIn};
 ghost use Rattle.netlist.specs.Elements.{outputOf, after, afterAll};
-ghost use Rattle.lean.specs.Table.{entry, Blank, startRoot, started, Partly, Output, Comes, Met, Settled};
+ghost use Rattle.lean.specs.Table.{entry, Blank, startRoot, started, Partly, Output, Comes, Walked, Met, Settled};
 
 // Every entry of the table is 0.
 pub fn blank(work: &mut [u16])
@@ -74,33 +74,45 @@ fn back_of(work: &[u16], elements: usize, wires: usize, pins: usize, x: Out) -> 
     Out(work[x.0 as usize - 1])
 }
 
-// Steps back from output o, to one that is settled or comes round: Brent's way, with a mark that moves up after 1, 2, 4, 8, .. steps.
-fn meet(work: &[u16], elements: usize, wires: usize, pins: usize, o: Out) -> Out
-    requires { ⌜ Partly (now work) elements wires pins × Output (now work) elements wires pins (o .0) ⌝ }
-    ensures { λ r. ⌜ Met (now (work .entry)) elements wires pins (o .0) (r .0) ⌝ }
+// At most so many steps back from an output, to one that is settled or to the start again.
+fn walk(work: &[u16], elements: usize, wires: usize, pins: usize, mark: Out, steps: usize) -> Out
+    requires { ⌜ Partly (now work) elements wires pins × (Output (now work) elements wires pins (mark .0) × (1 ≤ steps)) ⌝ }
+    ensures { λ r. ⌜ Walked (now (work .entry)) elements wires pins (mark .0) steps (r .0) ⌝ }
 {
-    let mut x = o;
-    let mut mark = o;
-    let mut steps: usize = 0;
-    let mut span: usize = 1;
-    let mut left = TERMINALS;
+    let mut x = mark;
+    let mut left = steps;
     while left > 0 {
         if work[ROOTS + x.0 as usize] != NONE {
             return x;
         }
         x = back_of(work, elements, wires, pins, x);
-        steps = steps + 1;
         left = left - 1;
         if x.0 == mark.0 {
             return x;
         }
-        if steps == span {
-            mark = x;
-            steps = 0;
-            span = 2 * span;
-        }
     }
     x
+}
+
+// Steps back from output o, to one that is settled or comes round: Brent's way, with a mark that moves up after 1, 2, 4, 8, .. steps.
+fn meet(work: &[u16], elements: usize, wires: usize, pins: usize, o: Out) -> Out
+    requires { ⌜ Partly (now work) elements wires pins × Output (now work) elements wires pins (o .0) ⌝ }
+    ensures { λ r. ⌜ Met (now (work .entry)) elements wires pins (o .0) (r .0) ⌝ }
+{
+    let mut mark = o;
+    let mut span: usize = 1;
+    while span <= TERMINALS {
+        let x = walk(work, elements, wires, pins, mark, span);
+        if work[ROOTS + x.0 as usize] != NONE {
+            return x;
+        }
+        if x.0 == mark.0 {
+            return x;
+        }
+        mark = x;
+        span = 2 * span;
+    }
+    mark
 }
 
 // The root of output o, which is settled or comes round: the lowest, once round.

@@ -1,6 +1,6 @@
--- The invariant: the table is partly done, and what stands before 2 half is settled. No output is past the end. Assumes nothing.
+-- The invariant: the table is partly done, and what stands before o is settled. No output is past the end. Assumes nothing.
 use native.Mathlib.Omega.{arith}
-use Prim.Native.Nat.{ℕ, _<_, _≤_, _+_, _-_, _*_}
+use Prim.Native.Nat.{ℕ, _<_, _≤_, _-_}
 use mathlib.Core.Path.{_≡_}
 use borrow.Author.Count.{below-more}
 use Rattle.lean.specs.Table.{entry, Within, Partly}
@@ -16,11 +16,11 @@ use Rattle.lean.proofs.table.root_one.Reads as root-one-reads
 use Rattle.lean.proofs.table.start.Reads as start-reads
 
 abbrev Inv-loop : tie.InvT-loop
-Inv-loop work₀ elements wires pins end half₀ work half =
-    ((2 * half ≤ end + 1) × (end ≤ 8192)) × (Within work₀ work × (Partly work elements wires pins × ((x : ℕ) → x < 2 * half → entry work x ≡ 65535 → ⊥)))
+Inv-loop work₀ elements wires pins end o₀ work o =
+    ((o ≤ end) × (end ≤ 8192)) × (Within work₀ work × (Partly work elements wires pins × ((x : ℕ) → x < o → entry work x ≡ 65535 → ⊥)))
 
 abbrev μ-loop : tie.MeasureT-loop
-μ-loop work₀ elements wires pins end half₀ work half = end - 2 * half
+μ-loop work₀ elements wires pins end o₀ work o = end - o
 
 blank-requires : tie.Need-blank-requires Inv-loop μ-loop
 blank-requires c κs = c .before .before .pre .size
@@ -53,24 +53,12 @@ loop-holds c =
 root-one-requires : tie.Need-root-one-requires Inv-loop μ-loop
 root-one-requires c κs = let l = c .before .before .loop in (l .inv .1 .1 .0, let h = c .before .loop-test .taken in omega (arith, l .inv .0 .1))
 
-root-one-requires-2 : tie.Need-root-one-requires-2 Inv-loop μ-loop
-root-one-requires-2 c κs =
-    let r = c .before .before .before in
-    let t = r .before .before in
-    (r .root-one .ensures .partly, let h = t .loop-test .taken in omega (arith, t .before .loop .inv .0 .1))
-
 loop-again : tie.Need-loop-again Inv-loop μ-loop
 loop-again c =
-    let r₂ = c .before .before in
-    let r = r₂ .before .before .before .before in
-    let t = r .before .before in
-    let l = t .before .loop in
+    let r = c .before .before in
+    let l = r .before .before .before .loop in
     let e = r .root-one .ensures in
-    let e₂ = r₂ .root-one2 .ensures in
-    let settled = below-more _ _ (λ x h. e₂ .still x (below-more _ _ (λ y g. e .still y (l .inv .1 .1 .1 y g)) (e .done) x h)) (e₂ .done) in (
-      (omega arith, l .inv .0 .1),
-      (within-then (within-then (l .inv .1 .0) (e .within)) (e₂ .within), (e₂ .partly, λ x h. settled x (omega arith))),
-    )
+    ((omega arith, l .inv .0 .1), (within-then (l .inv .1 .0) (e .within), (e .partly, below-more _ _ (λ x h. e .still x (l .inv .1 .1 .1 x h)) (e .done))))
 
 same-length : tie.Need-same-length Inv-loop μ-loop
 same-length c = within-then (started (c .before .before .before .before) .within) (c .before .loop .inv .1 .0) .size
@@ -96,12 +84,7 @@ roots-spec =
     blank-requires
     start-requires
     loop-holds
-    (λ c. omega arith)
-    (λ c. omega arith)
     root-one-requires
-    (λ c. omega arith)
-    (λ c. omega arith)
-    root-one-requires-2
     (λ c. omega arith)
     (λ c. omega arith)
     loop-again

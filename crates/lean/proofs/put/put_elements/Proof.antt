@@ -26,8 +26,8 @@ loop-holds c =
     let w = a .work .now in
     (omega arith, (omega arith, subst (Writing (a .out .now) (a .from) _ (a .out .now) (a .from)) (sym (records-start (a .plain) w (a .end) (drop makersAt w))) (writing-start (a .out .now) (a .from) _)))
 
-put-element-requires : tie.Need-put-element-requires Inv-loop μ-loop
-put-element-requires c κs =
+put-at-requires : tie.Need-put-at-requires Inv-loop μ-loop
+put-at-requires c κs =
     let s = c .before .before .before .before .before in
     let a = s .args in
     let w = a .work .now in
@@ -44,25 +44,18 @@ put-element-requires c κs =
       ),
     )
 
-behind-requires : tie.Need-behind-requires Inv-loop μ-loop
-behind-requires c κs =
-    let t = c .before .before .before .before in
-    let l = t .before .loop in
-    let s = t .before .before .before .before in
-    (s .pre .0, (t .loop-test .taken, l .inv .1 .0))
-
 loop-less : tie.Need-loop-less Inv-loop μ-loop
-loop-less c = let b = c .behind .ensures .rises in let l = c .behind .ensures .low in omega arith
+loop-less c = let b = c .before .before .put-at .ensures .1 .rises in let l = c .before .before .put-at .ensures .1 .low in omega arith
 
 loop-again : tie.Need-loop-again Inv-loop μ-loop
 loop-again c =
-    let p = c .before .before .before in
+    let p = c .before .before in
     let t = p .before .before in
     let l = t .before .loop in
     let a = t .before .before .before .before .args in
     let w = a .work .now in
-    let e = rw (maker-left w (l .i)) at (p .put-element .ensures) in
-    let b = c .behind .ensures in
+    let e = rw (maker-left w (l .i)) at (p .put-at .ensures .0) in
+    let b = p .put-at .ensures .1 in
     (b .low, (b .few, subst (Writing (a .out .now) (a .from) _ _ _) (b .records (a .plain)) (writing-step (a .out .now) (a .from) _ (l .out) (l .at) _ (recordBytesAt (a .plain) (maker (drop (l .i) (drop makersAt w))) (entry w (l .x)) (l .x)) (recordsIn (a .plain) w (a .end - (l .x + 1)) (l .x + 1) (leftAfter (entry w (l .x)) (drop (l .i) (drop makersAt w)))) (l .inv .1 .1) (records-first (a .plain) w (a .end) (drop makersAt w) (l .x) (l .i) (t .loop-test .taken)) _ _ (e .0) (e .1))))
 
 returns : tie.Need-returns Inv-loop μ-loop
@@ -74,4 +67,4 @@ returns c =
 pub put-elements-spec : {M : Type 1} → statement M
 put-elements-spec =
     tie.close
-    (tie.spec Inv-loop μ-loop loop-holds put-element-requires behind-requires loop-less loop-again (λ c. c .before .loop .inv .1 .1 .size) returns)
+    (tie.spec Inv-loop μ-loop loop-holds put-at-requires loop-less loop-again (λ c. c .before .loop .inv .1 .1 .size) returns)

@@ -8,6 +8,7 @@ use Rattle.lean.specs.Layout.{rowIn}
 use Rattle.lean.specs.Rows.{wireBytesAt}
 use Rattle.lean.proofs.Writing.{Writing, writing-start, writing-fits, writing-step, writing-end}
 use Rattle.lean.proofs.Rows.{rest-start, rest-first, rest-end}
+use Rattle.lean.proofs.PutLaws.{wires-behind}
 use Rattle.lean.proofs.put.put_wires.Statement.{statement}
 use Rattle.lean.proofs.put.put_wires.Tie as tie
 
@@ -40,10 +41,14 @@ behind-requires : tie.Need-behind-requires Inv-loop μ-loop
 behind-requires c κs =
     let t = c .before .before .before .before in
     let s = t .before .before .before .before in
-    (s .pre .0, (t .loop-test .taken, omega arith))
+    let b = s .pre .0 .below in
+    (s .pre .0 .size, let h = t .loop-test .taken in omega arith)
 
 loop-less : tie.Need-loop-less Inv-loop μ-loop
-loop-less c = let b = c .behind .ensures .rises in let l = c .behind .ensures .low in omega arith
+loop-less c =
+    let h = c .before .before .before .before .before .loop-test .taken in
+    let b = c .behind .ensures .rises in
+    omega arith
 
 loop-again : tie.Need-loop-again Inv-loop μ-loop
 loop-again c =
@@ -53,7 +58,8 @@ loop-again c =
     let a = t .before .before .before .before .args in
     let e = p .put-wire .ensures in
     let b = c .behind .ensures in
-    (b .low, subst (Writing (a .out .now) (a .from) _ _ _) (b .wires) (writing-step (a .out .now) (a .from) _ (l .out) (l .at) _ (wireBytesAt (getD (a .work .now) (rootsAt + l .x) 0) (l .x)) (rowIn wireBytesAt rootsAt (a .work .now) (a .end - (l .x + 1)) (l .x + 1)) (l .inv .1) (rest-first wireBytesAt rootsAt (a .work .now) (a .end) (l .x) (t .loop-test .taken)) _ _ (e .0) (e .1)))
+    let h = t .loop-test .taken in
+    ((let f = b .few in omega arith), subst (Writing (a .out .now) (a .from) _ _ _) (wires-behind (a .work .now) (a .end) (l .x) (c .behind .result) h b) (writing-step (a .out .now) (a .from) _ (l .out) (l .at) _ (wireBytesAt (getD (a .work .now) (rootsAt + l .x) 0) (l .x)) (rowIn wireBytesAt rootsAt (a .work .now) (a .end - (l .x + 1)) (l .x + 1)) (l .inv .1) (rest-first wireBytesAt rootsAt (a .work .now) (a .end) (l .x) h) _ _ (e .0) (e .1)))
 
 returns : tie.Need-returns Inv-loop μ-loop
 returns c =
