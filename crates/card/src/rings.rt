@@ -5,7 +5,7 @@ use memory::POINT;
 use memory::TERMINALS;
 ghost use mathlib.Core.Path.{_≡_};
 ghost use mathlib.Core.Bool.{cond};
-ghost use Prim.Native.Nat.{_+_, _-_, _≤_, _<_};
+ghost use Prim.Native.Nat.{_-_, _≤_, _<_};
 ghost use Rattle.lean.specs.Layout.{LeanReady};
 ghost use Rattle.card.specs.Rings.{ringBy, ringAt, lowestFrom, Ringless};
 
@@ -50,7 +50,7 @@ fn ring_of(v: u16, u: u16) -> u16
 
 // How many there are in a block of outputs.
 fn rings_in(work: &[u16], end: usize, pins: usize, from: usize, to: usize) -> u16
-    requires { ⌜ LeanReady (now work) end pins × ((to ≤ end) × (to ≤ from + 512)) ⌝ }
+    requires { ⌜ LeanReady (now work) end pins × ((from ≤ to) × (to ≤ end)) ⌝ }
     ensures { λ r. ⌜ (r ≡ 0 → Ringless (now (work .entry)) from to) ⌝ }
 {
     let mut sum: u16 = 0;
@@ -65,7 +65,7 @@ fn rings_in(work: &[u16], end: usize, pins: usize, from: usize, to: usize) -> u1
 // The end of the block that begins at x.
 fn block_end(end: usize, x: usize) -> usize
     requires { ⌜ (x < end) × (end ≤ 8192) ⌝ }
-    ensures { λ r. ⌜ (x < r) × ((r ≤ end) × (r ≤ x + 512)) ⌝ }
+    ensures { λ r. ⌜ (x < r) × (r ≤ end) ⌝ }
 {
     if end - x < BLOCK { end } else { x + BLOCK }
 }

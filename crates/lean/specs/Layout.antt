@@ -101,6 +101,7 @@ pub record Passed (w : List ℕ) (x y : ℕ) : Type 0 where
   pub rises : x < y
   pub few : y ≤ x + 2
   pub output : y ≡ x + 2 → kindsFrom ≤ entry w (x + 1)
+  pub input : y ≡ x + 1 → entry w (x + 1) < kindsFrom
 
 -- ---- the inputs: each that has a driver gets the driver's root
 
