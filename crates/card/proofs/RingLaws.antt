@@ -67,12 +67,12 @@ pub count-small : (b : Bool) → cond b 1 0 ≤ 1
 count-small true = omega arith
 count-small false = omega arith
 
-none-counted : (b : Bool) → cond b 1 0 ≡ 0 → b ≡ false
+none-counted : (b : Bool) → _≡_ {A = ℕ} (cond b 1 0) 0 → b ≡ false
 none-counted true e = absurd (omega arith)
 none-counted false e = refl
 
 -- the terminal before x tells as much as its input
-ring-none : (w : List ℕ) (end pins : ℕ) → LeanReady w end pins → (x : ℕ) → x < end → cond (ringBy (entry w x) (getD w (rootsAt + x - 1) 0)) 1 0 ≡ 0 → ringAt w x ≡ false
+ring-none : (w : List ℕ) (end pins : ℕ) → LeanReady w end pins → (x : ℕ) → x < end → _≡_ {A = ℕ} (cond (ringBy (entry w x) (getD w (rootsAt + x - 1) 0)) 1 0) 0 → ringAt w x ≡ false
 ring-none w end pins r x h e = elim (ℕ-discrete (entry w x) (kindsFrom + 7)) [
   | yes z ↦ (let l = point-up w end pins r x h z in
       let i : rootsAt + x - 1 ≡ rootsAt + (x - 1) = omega arith in
