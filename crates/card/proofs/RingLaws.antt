@@ -17,7 +17,7 @@ use Rattle.netlist.specs.Elements.{outputOf}
 use Rattle.lean.specs.Table.{entry}
 use Rattle.lean.specs.Layout.{leanPinsAt, kindsFrom, leftOut, firstTerminal, elementAt, rowIn, leanIn, LeanReady}
 use Rattle.lean.proofs.MakeLaws.{element-input, element-left, element-here}
-use Rattle.card.specs.Rings.{ringBy, ringAt, Ringless, lowestFrom, answerOf}
+use Rattle.card.specs.Rings.{ringBy, ringAt, RingFree, lowestFrom, answerOf}
 
 -- one more is done
 pub lowest-next : (w : List ℕ) (end x : ℕ) → x < end → lowestFrom w (end - x) x ≡ cond (ringAt w x) (x - 1) (lowestFrom w (end - (x + 1)) (x + 1))
@@ -30,14 +30,14 @@ pub lowest-start : (w : List ℕ) (end : ℕ) → lowestFrom w (end - 0) 0 ≡ l
 lowest-start w end = let e : end - 0 ≡ end = omega arith in ap (λ (c : ℕ). lowestFrom w c 0) e
 
 -- a stretch without one is passed
-pub lowest-skip : (w : List ℕ) (end c x : ℕ) → x + c ≤ end → Ringless w x (x + c) → lowestFrom w (end - x) x ≡ lowestFrom w (end - (x + c)) (x + c)
+pub lowest-skip : (w : List ℕ) (end c x : ℕ) → x + c ≤ end → RingFree w x (x + c) → lowestFrom w (end - x) x ≡ lowestFrom w (end - (x + c)) (x + c)
 lowest-skip w end zero x h r = let e : x ≡ x + 0 = omega arith in ap (λ (y : ℕ). lowestFrom w (end - y) y) e
 lowest-skip w end (suc c) x h r =
     let e : x + 1 + c ≡ x + suc c = omega arith in
     lowest-next w end x (omega arith) ∙ ap (λ (b : Bool). cond b (x - 1) (lowestFrom w (end - (x + 1)) (x + 1))) (r x (omega arith) (omega arith))
     ∙ lowest-skip w end c (x + 1) (omega arith) (λ o a b. r o (omega arith) (omega arith)) ∙ ap (λ (y : ℕ). lowestFrom w (end - y) y) e
 
-pub lowest-block : (w : List ℕ) (end x to : ℕ) → x ≤ to → to ≤ end → Ringless w x to → lowestFrom w (end - x) x ≡ lowestFrom w (end - to) to
+pub lowest-block : (w : List ℕ) (end x to : ℕ) → x ≤ to → to ≤ end → RingFree w x to → lowestFrom w (end - x) x ≡ lowestFrom w (end - to) to
 lowest-block w end x to a b r =
     let e : x + (to - x) ≡ to = omega arith in
     lowest-skip w end (to - x) x (omega arith) (λ o g h. r o g (omega arith)) ∙ ap (λ (y : ℕ). lowestFrom w (end - y) y) e
@@ -80,8 +80,8 @@ ring-none w end pins r x h e = elim (ℕ-discrete (entry w x) (kindsFrom + 7)) [
   | no d ↦ sym (no-point w x d)
 ]
 
-pub ringless-more : (w : List ℕ) (end pins : ℕ) → LeanReady w end pins → (from x sum one : ℕ) → x < end → (sum ≡ 0 → Ringless w from x)
-    → one ≡ cond (ringBy (entry w x) (getD w (rootsAt + x - 1) 0)) 1 0 → sum + one ≡ 0 → Ringless w from (x + 1)
+pub ringless-more : (w : List ℕ) (end pins : ℕ) → LeanReady w end pins → (from x sum one : ℕ) → x < end → (sum ≡ 0 → RingFree w from x)
+    → one ≡ cond (ringBy (entry w x) (getD w (rootsAt + x - 1) 0)) 1 0 → sum + one ≡ 0 → RingFree w from (x + 1)
 ringless-more w end pins r from x sum one h before e z o a b =
     elim (ℕ-discrete o x) [
       | yes q ↦ (let n : one ≡ 0 = omega arith in ap (ringAt w) q ∙ ring-none w end pins r x h (sym e ∙ n))

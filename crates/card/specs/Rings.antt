@@ -16,8 +16,8 @@ abbrev pub ringAt : List ℕ → ℕ → Bool
 ringAt w x = ringBy (entry w x) (entry w (x - 1))
 
 -- none stands from x on and before y
-abbrev pub Ringless : List ℕ → ℕ → ℕ → Type 0
-Ringless w x y = (o : ℕ) → x ≤ o → o < y → ringAt w o ≡ false
+abbrev pub RingFree : List ℕ → ℕ → ℕ → Type 0
+RingFree w x y = (o : ℕ) → x ≤ o → o < y → ringAt w o ≡ false
 
 -- the input of the first, among c outputs from x on; 8,192 where there is none
 abbrev pub lowestFrom : List ℕ → ℕ → ℕ → ℕ

@@ -7,7 +7,7 @@ ghost use mathlib.Core.Path.{_≡_};
 ghost use mathlib.Core.Bool.{cond};
 ghost use Prim.Native.Nat.{_-_, _≤_, _<_};
 ghost use Rattle.lean.specs.Layout.{LeanReady};
-ghost use Rattle.card.specs.Rings.{ringBy, ringAt, lowestFrom, Ringless};
+ghost use Rattle.card.specs.Rings.{ringBy, ringAt, lowestFrom, RingFree};
 
 // So many terminals are first looked at without a way out, so that the compiler takes several at once.
 const BLOCK: usize = 512;
@@ -51,7 +51,7 @@ fn ring_of(v: u16, u: u16) -> u16
 // How many there are in a block of outputs.
 fn rings_in(work: &[u16], end: usize, pins: usize, from: usize, to: usize) -> u16
     requires { ⌜ LeanReady (now work) end pins × ((from ≤ to) × (to ≤ end)) ⌝ }
-    ensures { λ r. ⌜ (r ≡ 0 → Ringless (now (work .entry)) from to) ⌝ }
+    ensures { λ r. ⌜ (r ≡ 0 → RingFree (now (work .entry)) from to) ⌝ }
 {
     let mut sum: u16 = 0;
     let mut x = from;

@@ -18,7 +18,7 @@ use Rattle.netlist.proofs.Elements.{records-are, records-append, records-length
 use Rattle.netlist.proofs.Records.{wires-append}
 use Rattle.lean.specs.Table.{entry}
 use Rattle.lean.specs.Layout.{leanPinsAt, kindsFrom, leftOut, firstTerminal, elementAt, wireAt, rowIn, leftAfter, leanMakersIn, leanIn, LeanReady, Passed}
-use Rattle.lean.specs.Rows.{recordBytesAt, wireBytesAt, pinBytesAt, recordsIn, Behind, entrySize, sizesIn}
+use Rattle.lean.specs.Rows.{recordBytesAt, wireBytesAt, pinBytesAt, recordsIn, WritesOn, entrySize, sizesIn}
 use Rattle.lean.proofs.KindLaws.{region-next, region-end}
 use Rattle.lean.proofs.Rows.{row-text, rest-first, rest-end}
 use Rattle.lean.proofs.MakeLaws.{element-input, element-left, element-here, wire-none, wire-output, wire-here}
@@ -81,7 +81,7 @@ module _ (plain : Bool) (w : List ℕ) (end : ℕ) (js : List ℕ) where
 -- ---- where the writer goes on
 
 module _ (w : List ℕ) (end x i : ℕ) (lt : x < end) (few : i ≤ x) where
-  pub behind-input : entry w x < kindsFrom → Behind w end x i (x + 1) i
+  pub behind-input : entry w x < kindsFrom → WritesOn w end x i (x + 1) i
   behind-input h = record {
     rises = omega arith;
     low = omega arith;
@@ -89,7 +89,7 @@ module _ (w : List ℕ) (end x i : ℕ) (lt : x < end) (few : i ≤ x) where
     records = λ plain. ap (recordsIn plain w (end - (x + 1)) (x + 1)) (sym (after-input (entry w x) i (drop makersAt w) h));
   }
 
-  pub behind-output : kindsFrom ≤ entry w x → Behind w end x i (x + 1) (i + 1)
+  pub behind-output : kindsFrom ≤ entry w x → WritesOn w end x i (x + 1) (i + 1)
   behind-output h = record {
     rises = omega arith;
     low = omega arith;
@@ -98,7 +98,7 @@ module _ (w : List ℕ) (end x i : ℕ) (lt : x < end) (few : i ≤ x) where
   }
 
   -- an input, and the output of a point that is left out
-  pub behind-point : entry w x < kindsFrom → entry w (x + 1) ≡ leftOut → Behind w end x i (x + 2) (i + 1)
+  pub behind-point : entry w x < kindsFrom → entry w (x + 1) ≡ leftOut → WritesOn w end x i (x + 2) (i + 1)
   behind-point h l = record {
     rises = omega arith;
     low = omega arith;

@@ -17,7 +17,7 @@ use Rattle.circuit_theorems.specs.Formed.{Rising}
 use Rattle.circuit_theorems.proofs.Rings.{Round, count, backs-add}
 use Rattle.circuit_theorems.proofs.RootLaws.{lowest-reached, backs-back, still, root-steps, ring-reached, ring-le, root-lowest}
 use Rattle.memory.specs.Map.{netIn}
-use Rattle.lean.specs.Table.{entry, Partly, Comes, Walked, Met}
+use Rattle.lean.specs.Table.{entry, Partly, Comes, WalkedBack, Met}
 use Rattle.lean.proofs.DriverLaws.{rising}
 use Rattle.lean.proofs.SettleLaws.{back-below}
 
@@ -106,13 +106,13 @@ module _ (w : List ℕ) (e k p : ℕ) (q : Partly w e k p) where
         few = let l = g .few in omega arith;
       }
 
-  pub walked-settled : (mark x steps left : ℕ) → Walking m mark x steps left → (entry w x ≡ 65535 → ⊥) → Walked w e k p mark steps x
+  pub walked-settled : (mark x steps left : ℕ) → Walking m mark x steps left → (entry w x ≡ 65535 → ⊥) → WalkedBack w e k p mark steps x
   walked-settled mark x steps left g d = record { taken = steps - left; few = omega arith; output = g .output; near = g .near; some = λ _ z. absurd (d z); whole = λ _ z. absurd (d z) }
 
-  pub walked-mark : (mark x steps left : ℕ) → Walking m mark x steps left → left < steps → x ≡ mark → Walked w e k p mark steps x
+  pub walked-mark : (mark x steps left : ℕ) → Walking m mark x steps left → left < steps → x ≡ mark → WalkedBack w e k p mark steps x
   walked-mark mark x steps left g h z = record { taken = steps - left; few = omega arith; output = g .output; near = g .near; some = λ _ _. omega arith; whole = λ d _. absurd (d z) }
 
-  pub walked-end : (mark x steps left : ℕ) → Walking m mark x steps left → left ≡ 0 → 1 ≤ steps → Walked w e k p mark steps x
+  pub walked-end : (mark x steps left : ℕ) → Walking m mark x steps left → left ≡ 0 → 1 ≤ steps → WalkedBack w e k p mark steps x
   walked-end mark x steps left g z h = record { taken = steps - left; few = omega arith; output = g .output; near = g .near; some = λ _ _. omega arith; whole = λ _ _. omega arith }
 
   -- ---- one walk after the other
@@ -120,7 +120,7 @@ module _ (w : List ℕ) (e k p : ℕ) (q : Partly w e k p) where
   pub meeting-start : (o : ℕ) → T (isOut (m .elements) o) → Meeting m o o 1
   meeting-start o t = record { output = t; far = refl; some = omega arith }
 
-  module _ (o mark span x : ℕ) (g : Meeting m o mark span) (a : Walked w e k p mark span x) where
+  module _ (o mark span x : ℕ) (g : Meeting m o mark span) (a : WalkedBack w e k p mark span x) where
     x-far : backs (span - 1 + a .taken) m o ≡ x
     x-far = backs-add m (span - 1) (a .taken) o ∙ ap (backs (a .taken) m) (g .far) ∙ a .near
 

@@ -29,7 +29,7 @@ recordsIn plain w zero x js = []
 recordsIn plain w (suc c) x js = recordBytesAt plain (maker js) (entry w x) x ++ recordsIn plain w c (x + 1) (leftAfter (entry w x) js)
 
 -- the writer goes on at y with the j-th maker, behind terminal x, whose maker is the i-th
-pub record Behind (w : List ℕ) (end x i y j : ℕ) : Type 0 where
+pub record WritesOn (w : List ℕ) (end x i y j : ℕ) : Type 0 where
   pub rises : x < y
   pub low : y ≤ end + 1
   pub few : j ≤ y

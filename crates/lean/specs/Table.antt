@@ -59,7 +59,7 @@ pub record Comes (m : Net) (o : ℕ) : Type 0 where
   pub same : backs steps m o ≡ o
 
 -- r is reached from the mark, at most so many steps back: it is settled, or the mark again, or all steps are made
-pub record Walked (w : List ℕ) (elements wires pins mark steps r : ℕ) : Type 0 where
+pub record WalkedBack (w : List ℕ) (elements wires pins mark steps r : ℕ) : Type 0 where
   pub taken : ℕ
   pub few : taken ≤ steps
   pub output : Output w elements wires pins r

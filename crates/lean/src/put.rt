@@ -16,7 +16,7 @@ ghost use Rattle.memory.specs.Map.{rootsAt, makersAt};
 ghost use Rattle.netlist.specs.Elements.{nodeSize};
 ghost use Rattle.lean.specs.Table.{entry};
 ghost use Rattle.lean.specs.Layout.{leanPinsAt, rowIn, LeanReady};
-ghost use Rattle.lean.specs.Rows.{recordBytesAt, wireBytesAt, pinBytesAt, recordsIn, Behind, entrySize, sizesIn};
+ghost use Rattle.lean.specs.Rows.{recordBytesAt, wireBytesAt, pinBytesAt, recordsIn, WritesOn, entrySize, sizesIn};
 
 // The i-th maker; 0 past the memory's end.
 fn maker_at(work: &[u16], i: usize) -> u16
@@ -77,7 +77,7 @@ fn put_at(
     requires { ⌜ LeanReady (now work) end pins × ((x < end) × ((i ≤ x) × (at + length (recordBytesAt plain (getD (now work) (makersAt + i) 0) (entry (now work) x) x) ≤ length (now out)))) ⌝ }
     ensures { λ r. ⌜ ((r .at ≡ at + length (recordBytesAt plain (getD (now (work .entry)) (makersAt + i) 0) (entry (now (work .entry)) x) x))
         × (now (out .exit) ≡ sets (now (out .entry)) at (recordBytesAt plain (getD (now (work .entry)) (makersAt + i) 0) (entry (now (work .entry)) x) x)))
-        × Behind (now (work .entry)) end x i (r .x) (r .i) ⌝ }
+        × WritesOn (now (work .entry)) end x i (r .x) (r .i) ⌝ }
 {
     if work[LEAN + x] < KIND {
         if work[LEAN + (x + 1)] == LEFT_OUT {

@@ -11,7 +11,7 @@ ghost use lib.ListN.{length, getD, set};
 ghost use Rattle.calculus.specs.Lean.{root};
 ghost use Rattle.memory.specs.Map.{elementsAt, rootsAt, memorySize, region, netIn};
 ghost use Rattle.netlist.specs.Elements.{outputOf, after, afterAll};
-ghost use Rattle.lean.specs.Table.{entry, Blank, startRoot, started, Partly, Output, Comes, Walked, Met, Settled};
+ghost use Rattle.lean.specs.Table.{entry, Blank, startRoot, started, Partly, Output, Comes, WalkedBack, Met, Settled};
 
 // Every entry of the table is 0.
 pub fn blank(work: &mut [u16])
@@ -77,7 +77,7 @@ fn back_of(work: &[u16], elements: usize, wires: usize, pins: usize, x: Out) -> 
 // At most so many steps back from an output, to one that is settled or to the start again.
 fn walk(work: &[u16], elements: usize, wires: usize, pins: usize, mark: Out, steps: usize) -> Out
     requires { ⌜ Partly (now work) elements wires pins × (Output (now work) elements wires pins (mark .0) × (1 ≤ steps)) ⌝ }
-    ensures { λ r. ⌜ Walked (now (work .entry)) elements wires pins (mark .0) steps (r .0) ⌝ }
+    ensures { λ r. ⌜ WalkedBack (now (work .entry)) elements wires pins (mark .0) steps (r .0) ⌝ }
 {
     let mut x = mark;
     let mut left = steps;

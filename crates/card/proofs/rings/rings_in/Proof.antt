@@ -6,13 +6,13 @@ use lib.ListN.{getD}
 use Prim.Native.Nat.{ℕ, _≤_, _-_, _+_}
 use Rattle.memory.specs.Map.{rootsAt}
 use Rattle.lean.specs.Table.{entry}
-use Rattle.card.specs.Rings.{ringBy, Ringless}
+use Rattle.card.specs.Rings.{ringBy, RingFree}
 use Rattle.card.proofs.RingLaws.{count-small, ringless-more}
 use Rattle.card.proofs.rings.rings_in.Statement.{statement}
 use Rattle.card.proofs.rings.rings_in.Tie as tie
 
 abbrev Inv-loop : tie.InvT-loop
-Inv-loop work end pins from to sum₀ x₀ sum x = (x ≤ to) × ((sum + from ≤ x) × (sum ≡ 0 → Ringless work from x))
+Inv-loop work end pins from to sum₀ x₀ sum x = (x ≤ to) × ((sum + from ≤ x) × (sum ≡ 0 → RingFree work from x))
 
 abbrev μ-loop : tie.MeasureT-loop
 μ-loop work end pins from to sum₀ x₀ sum x = to - x
@@ -81,7 +81,7 @@ returns c =
     let l = c .before .loop in
     let a = c .before .before .before .args in
     let e : l .x ≡ a .to = (let i = l .inv .0 in let h = c .loop-test .left in omega arith) in
-    subst (λ (y : ℕ). l .sum ≡ 0 → Ringless (a .work .now) (a .from) y) e (l .inv .1 .1)
+    subst (λ (y : ℕ). l .sum ≡ 0 → RingFree (a .work .now) (a .from) y) e (l .inv .1 .1)
 
 pub rings-in-spec : {M : Type 1} → statement M
 rings-in-spec =
