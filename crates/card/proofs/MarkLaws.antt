@@ -17,7 +17,7 @@ use Rattle.export_calculus.specs.Card.{needAll, drives, isOutPin, isRead, outpu
 use Rattle.memory.specs.Map.{rootsAt, region, terminalOf, Ready}
 use Rattle.netlist.specs.Elements.{outputOf}
 use Rattle.lean.specs.Table.{entry}
-use Rattle.lean.specs.Layout.{leanPinsAt, kindsFrom, leftOut, elementAt, wireAt, rowIn, leanIn, Leant}
+use Rattle.lean.specs.Layout.{leanPinsAt, kindsFrom, leftOut, elementAt, wireAt, rowIn, leanIn, Leant, Passed}
 use Rattle.lean.proofs.DriverLaws.{output-below, driver-out}
 use Rattle.lean.proofs.EntryLaws.{source-out, pin-out, lean-free}
 use Rattle.lean.proofs.Rows.{row-more}
@@ -102,6 +102,31 @@ module _ (w : List ℕ) (end pins : ℕ) (p : Markable w end pins) where
               (marked-one (v - 1) (p .ready .below) big (p .sources x h d (omega arith)) m))
         ]
       ]
+
+  -- an output has no wire
+  wired-output : (x j : ℕ) → kindsFrom ≤ entry w x → Wired (x + 1) j ≡ Wired x j
+  wired-output x j g = wired-more x j ∙ ap (λ (ws : List Wire). Wired x j || drives ws j) (wire-output (entry w x) x g) ∙ or-none (Wired x j)
+
+  -- what is passed is an output
+  pub wires-passed : {w′ : List ℕ} (x y : ℕ) → Passed w′ x y → MarkedWhere w end (Wired (x + 1)) w′ → MarkedWhere w end (Wired y) w′
+  wires-passed {w′} x y q m = elim (ℕ-discrete y (x + 2)) [
+    | yes e ↦ (let two : x + 1 + 1 ≡ y = omega arith in
+        subst (λ (z : ℕ). MarkedWhere w end (Wired z) w′) two (marked-same (λ j. sym (wired-output (x + 1) j (subst (λ (v : ℕ). kindsFrom ≤ v) (m .high (rootsAt + (x + 1)) (omega arith)) (q .output e)))) m))
+    | no d ↦ (let one : x + 1 ≡ y = (let r = q .rises in let f = q .few in omega arith) in subst (λ (z : ℕ). MarkedWhere w end (Wired z) w′) one m)
+  ]
+
+  -- what is passed at the end
+  pub passed-end : {w′ : List ℕ} (x y : ℕ) → x < end → Passed w′ x y → MarkedWhere w end (Wired (x + 1)) w′ → y ≡ end + 1 → kindsFrom ≤ entry w end
+  passed-end {w′} x y h q m e =
+      let f = q .few in
+      let last : x + 1 ≡ end = omega arith in
+      subst (λ (z : ℕ). kindsFrom ≤ entry w z) last (subst (λ (v : ℕ). kindsFrom ≤ v) (m .high (rootsAt + (x + 1)) (omega arith)) (q .output (omega arith)))
+
+  pub wires-end : {w′ : List ℕ} (x : ℕ) → end ≤ x → x ≤ end + 1 → (x ≡ end + 1 → kindsFrom ≤ entry w end) → MarkedWhere w end (Wired x) w′ → MarkedWhere w end (Wired end) w′
+  wires-end {w′} x g l h m = elim (ℕ-discrete x (end + 1)) [
+    | yes e ↦ marked-same (λ j. wired-output end j (h e)) (subst (λ (z : ℕ). MarkedWhere w end (Wired z) w′) e m)
+    | no d ↦ (let e : x ≡ end = omega arith in subst (λ (z : ℕ). MarkedWhere w end (Wired z) w′) e m)
+  ]
 
   -- what pins show too
 

@@ -6,6 +6,7 @@ use mathlib.Core.List.{List, [], _∷_, _++_, map}
 use native.Mathlib.Omega.{arith}
 use native.Mathlib.Decide.{ℕ-discrete, decLe}
 use lib.Dec.{T, eqb}
+use lib.ListN.{getD}
 use borrow.Author.Tests.{ne-eqb, eq-eqb, lt-ltb}
 use Rattle.calculus.specs.Answer.{Answer}
 use Rattle.calculus.specs.Net.{Interface, Element, point}
@@ -16,7 +17,7 @@ use Rattle.netlist.specs.Elements.{outputOf}
 use Rattle.lean.specs.Table.{entry}
 use Rattle.lean.specs.Layout.{leanPinsAt, kindsFrom, leftOut, firstTerminal, elementAt, rowIn, leanIn, LeanReady}
 use Rattle.lean.proofs.MakeLaws.{element-input, element-left, element-here}
-use Rattle.card.specs.Rings.{ringAt, lowestFrom, answerOf}
+use Rattle.card.specs.Rings.{ringBy, ringAt, RingFree, lowestFrom, answerOf}
 
 -- one more is done
 pub lowest-next : (w : List ℕ) (end x : ℕ) → x < end → lowestFrom w (end - x) x ≡ cond (ringAt w x) (x - 1) (lowestFrom w (end - (x + 1)) (x + 1))
@@ -27,6 +28,19 @@ lowest-end w end x h = let e : end - x ≡ 0 = omega arith in ap (λ (c : ℕ). 
 
 pub lowest-start : (w : List ℕ) (end : ℕ) → lowestFrom w (end - 0) 0 ≡ lowestFrom w end 0
 lowest-start w end = let e : end - 0 ≡ end = omega arith in ap (λ (c : ℕ). lowestFrom w c 0) e
+
+-- a stretch without one is passed
+pub lowest-skip : (w : List ℕ) (end c x : ℕ) → x + c ≤ end → RingFree w x (x + c) → lowestFrom w (end - x) x ≡ lowestFrom w (end - (x + c)) (x + c)
+lowest-skip w end zero x h r = let e : x ≡ x + 0 = omega arith in ap (λ (y : ℕ). lowestFrom w (end - y) y) e
+lowest-skip w end (suc c) x h r =
+    let e : x + 1 + c ≡ x + suc c = omega arith in
+    lowest-next w end x (omega arith) ∙ ap (λ (b : Bool). cond b (x - 1) (lowestFrom w (end - (x + 1)) (x + 1))) (r x (omega arith) (omega arith))
+    ∙ lowest-skip w end c (x + 1) (omega arith) (λ o a b. r o (omega arith) (omega arith)) ∙ ap (λ (y : ℕ). lowestFrom w (end - y) y) e
+
+pub lowest-block : (w : List ℕ) (end x to : ℕ) → x ≤ to → to ≤ end → RingFree w x to → lowestFrom w (end - x) x ≡ lowestFrom w (end - to) to
+lowest-block w end x to a b r =
+    let e : x + (to - x) ≡ to = omega arith in
+    lowest-skip w end (to - x) x (omega arith) (λ o g h. r o g (omega arith)) ∙ ap (λ (y : ℕ). lowestFrom w (end - y) y) e
 
 -- a point's output has its input before it
 pub point-up : (w : List ℕ) (end pins : ℕ) → LeanReady w end pins → (x : ℕ) → x < end → entry w x ≡ kindsFrom + 7 → 1 ≤ x
@@ -46,6 +60,33 @@ no-point w x d = rw (ne-eqb (entry w x) (kindsFrom + 7) d)
 
 pub by-wire : (w : List ℕ) (x : ℕ) → entry w x ≡ kindsFrom + 7 → not (eqb (entry w (x - 1)) 0) ≡ ringAt w x
 by-wire w x e = rw (eq-eqb (entry w x) (kindsFrom + 7) e)
+
+-- ---- how many there are in a block
+
+pub count-small : (b : Bool) → cond b 1 0 ≤ 1
+count-small true = omega arith
+count-small false = omega arith
+
+none-counted : (b : Bool) → _≡_ {A = ℕ} (cond b 1 0) 0 → b ≡ false
+none-counted true e = absurd (omega arith)
+none-counted false e = refl
+
+-- the terminal before x tells as much as its input
+ring-none : (w : List ℕ) (end pins : ℕ) → LeanReady w end pins → (x : ℕ) → x < end → _≡_ {A = ℕ} (cond (ringBy (entry w x) (getD w (rootsAt + x - 1) 0)) 1 0) 0 → ringAt w x ≡ false
+ring-none w end pins r x h e = elim (ℕ-discrete (entry w x) (kindsFrom + 7)) [
+  | yes z ↦ (let l = point-up w end pins r x h z in
+      let i : rootsAt + x - 1 ≡ rootsAt + (x - 1) = omega arith in
+      subst (λ (j : ℕ). ringBy (entry w x) (getD w j 0) ≡ false) i (none-counted (ringBy (entry w x) (getD w (rootsAt + x - 1) 0)) e))
+  | no d ↦ sym (no-point w x d)
+]
+
+pub ringless-more : (w : List ℕ) (end pins : ℕ) → LeanReady w end pins → (from x sum one : ℕ) → x < end → (sum ≡ 0 → RingFree w from x)
+    → one ≡ cond (ringBy (entry w x) (getD w (rootsAt + x - 1) 0)) 1 0 → sum + one ≡ 0 → RingFree w from (x + 1)
+ringless-more w end pins r from x sum one h before e z o a b =
+    elim (ℕ-discrete o x) [
+      | yes q ↦ (let n : one ≡ 0 = omega arith in ap (ringAt w) q ∙ ring-none w end pins r x h (sym e ∙ n))
+      | no d ↦ before (omega arith) o a (omega arith)
+    ]
 
 module _ (w : List ℕ) (end pins : ℕ) (r : LeanReady w end pins) (number : ℕ) where
   abbrev ps : Interface

@@ -1,15 +1,23 @@
 -- The kept ring points of the lean netlist that stands in the working memory by terminal. Assumes nothing.
-use Prim.Native.Nat.{ℕ, zero, suc, _+_, _-_}
-use mathlib.Core.Bool.{Bool, not, _&&_, cond}
+use Prim.Native.Nat.{ℕ, zero, suc, _+_, _-_, _≤_, _<_}
+use mathlib.Core.Path.{_≡_}
+use mathlib.Core.Bool.{Bool, false, not, _&&_, cond}
 use mathlib.Core.List.{List}
 use lib.Dec.{eqb, ltb}
 use Rattle.calculus.specs.Answer.{Answer, good, refuse}
 use Rattle.lean.specs.Table.{entry}
 use Rattle.lean.specs.Layout.{kindsFrom}
 
--- x is the output of one: a point's, whose input has a wire
+-- v is the entry of the output of one: a point's, whose input has a wire by its entry u
+abbrev pub ringBy : ℕ → ℕ → Bool
+ringBy v u = eqb v (kindsFrom + 7) && not (eqb u 0)
+
 abbrev pub ringAt : List ℕ → ℕ → Bool
-ringAt w x = eqb (entry w x) (kindsFrom + 7) && not (eqb (entry w (x - 1)) 0)
+ringAt w x = ringBy (entry w x) (entry w (x - 1))
+
+-- none stands from x on and before y
+abbrev pub RingFree : List ℕ → ℕ → ℕ → Type 0
+RingFree w x y = (o : ℕ) → x ≤ o → o < y → ringAt w o ≡ false
 
 -- the input of the first, among c outputs from x on; 8,192 where there is none
 abbrev pub lowestFrom : List ℕ → ℕ → ℕ → ℕ

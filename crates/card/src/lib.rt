@@ -40,11 +40,11 @@ pub fn judge(records: &[u8], root: u8, work: &mut [u16], end: usize, pins: usize
         return Judged::Refused(27, 0);
     }
     let ring = rings::lowest(&work[..], end, pins);
-    if ring < 8192 {
+    if ring < memory::TERMINALS {
         return Judged::Refused(28, ring);
     }
     let lowest = unread(work, end, pins);
-    if lowest < 8192 {
+    if lowest < memory::TERMINALS {
         return Judged::Refused(29, lowest);
     }
     Judged::Passes

@@ -15,6 +15,9 @@ ghost use Rattle.card.specs.Marks.{markWire, markPin, Markable, MarkedWh
 // No output's number, and not NONE.
 pub const READ: u16 = 65534;
 
+// No terminal's number.
+const NOWHERE: u16 = memory::TERMINALS as u16;
+
 // At the output that an entry tells.
 fn mark_wire(work: &mut [u16], v: u16)
     requires { ⌜ (8192 ≤ length (now work)) × (v < kindsFrom → v ≤ 8192) ⌝ }
@@ -38,7 +41,7 @@ pub fn mark_wires(work: &mut [u16], end: usize, pins: usize)
     while x < end {
         let v = work[LEAN + x];
         mark_wire(work, v);
-        x = x + 1;
+        x = lean::behind(&work[..], x);
     }
 }
 
@@ -71,13 +74,13 @@ fn place_of(m: u16, v: u16, x: u16) -> u16
     ensures { λ r. ⌜ r ≡ cond (unreadBy m v) x 8192 ⌝ }
 {
     if m == READ {
-        return 8192;
+        return NOWHERE;
     }
     if v < KIND {
-        return 8192;
+        return NOWHERE;
     }
     if v >= KIND + memory::POINT {
-        return 8192;
+        return NOWHERE;
     }
     x
 }
@@ -100,7 +103,7 @@ pub fn clean(work: &mut [u16], end: usize) -> u16
     requires { ⌜ (memorySize ≤ length (now work)) × (end ≤ 8192) ⌝ }
     ensures { λ r. ⌜ (r ≡ unreadFrom (now (work .entry)) end 0) × Cleaned (now (work .entry)) end (now (work .exit)) ⌝ }
 {
-    let mut lowest: u16 = 8192;
+    let mut lowest = NOWHERE;
     let mut x: usize = 0;
     while x < end {
         let m = work[x];

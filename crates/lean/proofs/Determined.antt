@@ -5,7 +5,7 @@ use mathlib.Core.Bool.{cond}
 use mathlib.Core.List.{List}
 use Prim.Native.Nat.{ℕ, _+_, _-_, _<_}
 use native.Mathlib.Omega.{arith}
-use native.Mathlib.Decide.{decLe}
+use native.Mathlib.Decide.{ℕ-discrete, decLe}
 use lib.ListN.{getD}
 use lib.Seq.{ext-getD}
 use contract.Lifetimes.{Lfts}
@@ -17,11 +17,13 @@ use Rattle.calculus.specs.Lean.{root}
 use Rattle.calculus.specs.Inputs.{isOut}
 use Rattle.memory.specs.Map.{rootsAt, rootsEnd}
 use Rattle.lean.specs.Table.{entry, Rooted}
-use Rattle.lean.specs.Layout.{leanIn}
+use Rattle.lean.specs.Layout.{leanIn, Passed}
 use Rattle.lean.proofs.roots.Kinds as roots
 use Rattle.lean.proofs.roots.Reads as roots-reads
 use Rattle.lean.proofs.make_lean.Kinds as make-lean
 use Rattle.lean.proofs.make_lean.Reads as make-lean-reads
+use Rattle.lean.proofs.pass.behind.Kinds as behind
+use Rattle.lean.proofs.pass.behind.Reads as behind-reads
 use Rattle.lean.proofs.pass.first_of.Kinds as first-of
 use Rattle.lean.proofs.pass.first_of.Reads as first-of-reads
 use Rattle.lean.proofs.lean_length.Kinds as lean-length
@@ -56,6 +58,26 @@ make-lean-determined κs a x y s t f g = f .net ∙ sym (g .net)
 
 pub first-of-determined : Result first-of.ps first-of.r first-of-reads.Post
 first-of-determined κs a x y s t f g = f ∙ sym g
+
+one-passed : (w : List ℕ) (x y z : ℕ) → Passed w x y → Passed w x z → y ≡ z
+one-passed w x y z a b =
+    let ar = a .rises in
+    let af = a .few in
+    let br = b .rises in
+    let bf = b .few in
+    elim (ℕ-discrete y (x + 2)) [
+      | yes e ↦ (elim (ℕ-discrete z (x + 2)) [
+        | yes f ↦ omega arith
+        | no f ↦ absurd (omega (arith, a .output e, b .input (omega arith)))
+      ])
+      | no e ↦ (elim (ℕ-discrete z (x + 2)) [
+        | yes f ↦ absurd (omega (arith, a .input (omega arith), b .output f))
+        | no f ↦ omega arith
+      ])
+    ]
+
+pub behind-determined : Result behind.ps behind.r behind-reads.Post
+behind-determined κs a x y s t f g = one-passed _ _ _ _ f g
 
 pub lean-length-determined : Result lean-length.ps lean-length.r lean-length-reads.Post
 lean-length-determined κs a x y s t f g = f ∙ sym g

@@ -8,7 +8,7 @@ use native.Mathlib.Omega.{arith}
 use native.Mathlib.Decide.{ℕ-discrete, decLe}
 use lib.Dec.{eqb}
 use lib.ListN.{length, getD, set, drop, length-set}
-use lib.Seq.{getD-set-same, getD-set-other}
+use lib.Seq.{getD-set-same, getD-set-other, set-getD}
 use borrow.Author.Tests.{ne-eqb, eq-eqb}
 use Rattle.laws.proofs.Tests.{by-eqb}
 use Rattle.calculus.specs.Terms.{partAt}
@@ -28,6 +28,10 @@ link-none w x e = sym (ap (λ (b : Bool). cond b (entry w x) (entry w (getD w x 
 
 pub link-driven : (w : List ℕ) (x : ℕ) → (getD w x 0 ≡ 65535 → ⊥) → entry w (getD w x 0) + 1 ≡ linkIn w x
 link-driven w x d = sym (ap (λ (b : Bool). cond b (entry w x) (entry w (getD w x 0) + 1)) (ne-eqb (getD w x 0) 65535 d))
+
+-- a store of what stands there already
+pub link-stays : (w : List ℕ) (x : ℕ) → getD w x 0 ≡ 65535 → w ≡ set w (rootsAt + x) (linkIn w x)
+link-stays w x e = sym (ap (set w (rootsAt + x)) (sym (link-none w x e)) ∙ set-getD w (rootsAt + x) 0)
 
 pub link-start : (u : List ℕ) → Linked u 0 u
 link-start u = record { within = within-none u; links = λ x h. absurd (omega arith); others = λ x h l. refl }

@@ -17,10 +17,10 @@ use Rattle.netlist.specs.Elements.{elementSize, nodeSize, elementRecords}
 use Rattle.netlist.proofs.Elements.{records-are, records-append, records-length, kinds-length, kind-size}
 use Rattle.netlist.proofs.Records.{wires-append}
 use Rattle.lean.specs.Table.{entry}
-use Rattle.lean.specs.Layout.{leanPinsAt, kindsFrom, leftOut, firstTerminal, elementAt, wireAt, rowIn, leftAfter, leanMakersIn, leanIn, LeanReady}
-use Rattle.lean.specs.Rows.{recordBytesAt, wireBytesAt, pinBytesAt, recordsIn, entrySize, sizesIn}
+use Rattle.lean.specs.Layout.{leanPinsAt, kindsFrom, leftOut, firstTerminal, elementAt, wireAt, rowIn, leftAfter, leanMakersIn, leanIn, LeanReady, Passed}
+use Rattle.lean.specs.Rows.{recordBytesAt, wireBytesAt, pinBytesAt, recordsIn, WritesOn, entrySize, sizesIn}
 use Rattle.lean.proofs.KindLaws.{region-next, region-end}
-use Rattle.lean.proofs.Rows.{row-text}
+use Rattle.lean.proofs.Rows.{row-text, rest-first, rest-end}
 use Rattle.lean.proofs.MakeLaws.{element-input, element-left, element-here, wire-none, wire-output, wire-here}
 
 -- ---- one entry
@@ -77,6 +77,67 @@ module _ (plain : Bool) (w : List ℕ) (end : ℕ) (js : List ℕ) where
 
   pub records-end : (x i : ℕ) → end ≤ x → recordsIn plain w (end - x) x (drop i js) ≡ []
   records-end x i h = let e : end - x ≡ 0 = omega arith in ap (λ (n : ℕ). recordsIn plain w n x (drop i js)) e
+
+-- ---- where the writer goes on
+
+module _ (w : List ℕ) (end x i : ℕ) (lt : x < end) (few : i ≤ x) where
+  pub behind-input : entry w x < kindsFrom → WritesOn w end x i (x + 1) i
+  behind-input h = record {
+    rises = omega arith;
+    low = omega arith;
+    few = omega arith;
+    records = λ plain. ap (recordsIn plain w (end - (x + 1)) (x + 1)) (sym (after-input (entry w x) i (drop makersAt w) h));
+  }
+
+  pub behind-output : kindsFrom ≤ entry w x → WritesOn w end x i (x + 1) (i + 1)
+  behind-output h = record {
+    rises = omega arith;
+    low = omega arith;
+    few = omega arith;
+    records = λ plain. ap (recordsIn plain w (end - (x + 1)) (x + 1)) (sym (after-output (entry w x) i (drop makersAt w) h));
+  }
+
+  -- an input, and the output of a point that is left out
+  pub behind-point : entry w x < kindsFrom → entry w (x + 1) ≡ leftOut → WritesOn w end x i (x + 2) (i + 1)
+  behind-point h l = record {
+    rises = omega arith;
+    low = omega arith;
+    few = omega arith;
+    records = λ plain. ap (recordsIn plain w (end - (x + 1)) (x + 1)) (sym (after-input (entry w x) i js h)) ∙ skipped plain;
+  }
+    where
+      js : List ℕ
+      js = drop makersAt w
+
+      two : x + 1 + 1 ≡ x + 2
+      two = omega arith
+
+      skipped : (plain : Bool) → recordsIn plain w (end - (x + 1)) (x + 1) (drop i js) ≡ recordsIn plain w (end - (x + 2)) (x + 2) (drop (i + 1) js)
+      skipped plain = elim (decLe end (x + 1)) [
+        | yes g ↦ records-end plain w end js (x + 1) i g ∙ sym (records-end plain w end js (x + 2) (i + 1) (omega arith))
+        | no g ↦ records-first plain w end js (x + 1) i (omega arith)
+            ∙ ap (λ (t : List ℕ). t ++ recordsIn plain w (end - (x + 1 + 1)) (x + 1 + 1) (leftAfter (entry w (x + 1)) (drop i js))) (left-record plain (maker (drop i js)) (entry w (x + 1)) (x + 1) (omega arith))
+            ∙ ap (recordsIn plain w (end - (x + 1 + 1)) (x + 1 + 1)) (sym (after-output (entry w (x + 1)) i js (omega arith)))
+            ∙ ap (λ (y : ℕ). recordsIn plain w (end - y) y (drop (i + 1) js)) two
+      ]
+
+-- what is passed has no wire
+pub wires-behind : (w : List ℕ) (end x y : ℕ) → x < end → Passed w x y → rowIn wireBytesAt rootsAt w (end - (x + 1)) (x + 1) ≡ rowIn wireBytesAt rootsAt w (end - y) y
+wires-behind w end x y lt p = elim (ℕ-discrete y (x + 2)) [
+  | yes e ↦ (elim (decLe end (x + 1)) [
+    | yes g ↦ rest-end wireBytesAt rootsAt w end (x + 1) g ∙ sym (rest-end wireBytesAt rootsAt w end y (omega arith))
+    | no g ↦ rest-first wireBytesAt rootsAt w end (x + 1) (omega arith)
+        ∙ ap (λ (t : List ℕ). t ++ rowIn wireBytesAt rootsAt w (end - (x + 1 + 1)) (x + 1 + 1)) (output-wire (entry w (x + 1)) (x + 1) (p .output e))
+        ∙ ap (λ (z : ℕ). rowIn wireBytesAt rootsAt w (end - z) z) (two e)
+  ])
+  | no d ↦ ap (λ (z : ℕ). rowIn wireBytesAt rootsAt w (end - z) z) (one d)
+]
+  where
+    two : y ≡ x + 2 → x + 1 + 1 ≡ y
+    two e = omega arith
+
+    one : (y ≡ x + 2 → ⊥) → x + 1 ≡ y
+    one d = let r = p .rises in let f = p .few in omega arith
 
 -- ---- all
 

@@ -14,10 +14,10 @@ use Rattle.calculus.specs.Net.{Element, point, part, Net}
 use Rattle.calculus.specs.Lean.{pointCount, back, backs, lowest, root}
 use Rattle.calculus.specs.Inputs.{isOut}
 use Rattle.circuit_theorems.specs.Formed.{Rising}
-use Rattle.circuit_theorems.proofs.Rings.{Round, count}
+use Rattle.circuit_theorems.proofs.Rings.{Round, count, backs-add}
 use Rattle.circuit_theorems.proofs.RootLaws.{lowest-reached, backs-back, still, root-steps, ring-reached, ring-le, root-lowest}
 use Rattle.memory.specs.Map.{netIn}
-use Rattle.lean.specs.Table.{entry, Partly, Comes, Met}
+use Rattle.lean.specs.Table.{entry, Partly, Comes, WalkedBack, Met}
 use Rattle.lean.proofs.DriverLaws.{rising}
 use Rattle.lean.proofs.SettleLaws.{back-below}
 
@@ -49,12 +49,17 @@ module _ (m : Net) where
   pub backs-more : (k o : ℕ) → backs (k + 1) m o ≡ back m (backs k m o)
   backs-more k o = rw (add-one k) (backs-back m k o)
 
--- on the way back from o: x is reached, some steps behind the mark
-pub record Going (m : Net) (o x mark steps left : ℕ) : Type 0 where
+-- on the way back from the mark: x is reached
+pub record Walking (m : Net) (mark x steps left : ℕ) : Type 0 where
   pub output : T (isOut (m .elements) x)
-  pub far : backs (8192 - left) m o ≡ x
-  pub near : backs steps m mark ≡ x
-  pub few : steps + left ≤ 8192
+  pub near : backs (steps - left) m mark ≡ x
+  pub few : left ≤ steps
+
+-- on the way back from o: the mark stands where all walks before have ended
+pub record Meeting (m : Net) (o mark span : ℕ) : Type 0 where
+  pub output : T (isOut (m .elements) mark)
+  pub far : backs (span - 1) m o ≡ mark
+  pub some : 1 ≤ span
 
 -- on the way round from o: x is reached, and the lowest so far is low
 pub record Rounding (w : List ℕ) (m : Net) (o x low left : ℕ) : Type 0 where
@@ -83,42 +88,65 @@ module _ (w : List ℕ) (e k p : ℕ) (q : Partly w e k p) where
           let l = r .few in
           record { steps = r .steps; some = r .some; few = omega arith; same = r .same }
 
-  pub going-start : (o : ℕ) → T (isOut (m .elements) o) → Going m o o o 0 8192
-  going-start o t = record { output = t; far = refl; near = refl; few = omega arith }
+  -- .. and any more steps back
+  comes-far : (o n : ℕ) → 8192 ≤ n → Comes m (backs n m o)
+  comes-far o n h =
+      let z : n - 8192 + 8192 ≡ n = omega arith in
+      subst (Comes m) (sym (backs-add m (n - 8192) 8192 o) ∙ ap (λ (y : ℕ). backs y m o) z) (comes (backs (n - 8192) m o))
 
-  pub going-step : (o x mark steps left : ℕ) → Going m o x mark steps left → 0 < left → entry w x ≡ 65535 → Going m o (getD w (x - 1) 0) mark (steps + 1) (left - 1)
-  going-step o x mark steps left g h z =
-      let s = q .loose x (g .output) z .1 in
-      let f : 8192 - (left - 1) ≡ 8192 - left + 1 = let l = g .few in omega arith in
+  pub walking-start : (mark steps : ℕ) → T (isOut (m .elements) mark) → Walking m mark mark steps steps
+  walking-start mark steps t = let z : steps - steps ≡ 0 = omega arith in record { output = t; near = ap (λ (y : ℕ). backs y m mark) z; few = omega arith }
+
+  pub walking-step : (mark x steps left : ℕ) → Walking m mark x steps left → 0 < left → entry w x ≡ 65535 → Walking m mark (getD w (x - 1) 0) steps (left - 1)
+  walking-step mark x steps left g h z =
+      let f : steps - (left - 1) ≡ steps - left + 1 = let l = g .few in omega arith in
       record {
         output = back-below w e k p q x (g .output) z;
-        far = ap (λ (y : ℕ). backs y m o) f ∙ backs-more m (8192 - left) o ∙ ap (back m) (g .far) ∙ s;
-        near = backs-more m steps mark ∙ ap (back m) (g .near) ∙ s;
+        near = ap (λ (y : ℕ). backs y m mark) f ∙ backs-more m (steps - left) mark ∙ ap (back m) (g .near) ∙ q .loose x (g .output) z .1;
         few = let l = g .few in omega arith;
       }
 
-  -- the mark moves up
-  pub going-mark : (o x mark steps left : ℕ) → Going m o x mark steps left → Going m o x x 0 left
-  going-mark o x mark steps left g = record { output = g .output; far = g .far; near = refl; few = let l = g .few in omega arith }
+  pub walked-settled : (mark x steps left : ℕ) → Walking m mark x steps left → (entry w x ≡ 65535 → ⊥) → WalkedBack w e k p mark steps x
+  walked-settled mark x steps left g d = record { taken = steps - left; few = omega arith; output = g .output; near = g .near; some = λ _ z. absurd (d z); whole = λ _ z. absurd (d z) }
 
-  same-root : (o x mark steps left : ℕ) → Going m o x mark steps left → root m x ≡ root m o
-  same-root o x mark steps left g = ap (root m) (sym (g .far)) ∙ root-steps m (8192 - left) o
+  pub walked-mark : (mark x steps left : ℕ) → Walking m mark x steps left → left < steps → x ≡ mark → WalkedBack w e k p mark steps x
+  walked-mark mark x steps left g h z = record { taken = steps - left; few = omega arith; output = g .output; near = g .near; some = λ _ _. omega arith; whole = λ d _. absurd (d z) }
 
-  pub met-settled : (o x mark steps left : ℕ) → Going m o x mark steps left → (entry w x ≡ 65535 → ⊥) → Met w e k p o x
-  met-settled o x mark steps left g d = record { output = g .output; same = same-root o x mark steps left g; ring = λ z. absurd (d z) }
+  pub walked-end : (mark x steps left : ℕ) → Walking m mark x steps left → left ≡ 0 → 1 ≤ steps → WalkedBack w e k p mark steps x
+  walked-end mark x steps left g z h = record { taken = steps - left; few = omega arith; output = g .output; near = g .near; some = λ _ _. omega arith; whole = λ _ _. omega arith }
 
-  pub met-mark : (o x mark steps left : ℕ) → Going m o x mark steps left → 1 ≤ steps → x ≡ mark → Met w e k p o x
-  met-mark o x mark steps left g one z = record {
+  -- ---- one walk after the other
+
+  pub meeting-start : (o : ℕ) → T (isOut (m .elements) o) → Meeting m o o 1
+  meeting-start o t = record { output = t; far = refl; some = omega arith }
+
+  module _ (o mark span x : ℕ) (g : Meeting m o mark span) (a : WalkedBack w e k p mark span x) where
+    x-far : backs (span - 1 + a .taken) m o ≡ x
+    x-far = backs-add m (span - 1) (a .taken) o ∙ ap (backs (a .taken) m) (g .far) ∙ a .near
+
+    x-root : root m x ≡ root m o
+    x-root = ap (root m) (sym x-far) ∙ root-steps m (span - 1 + a .taken) o
+
+    pub meeting-step : (x ≡ mark → ⊥) → entry w x ≡ 65535 → Meeting m o x (2 * span)
+    meeting-step d z =
+        let n : span - 1 + a .taken ≡ 2 * span - 1 = let h = a .whole d z in let s = g .some in omega arith in
+        record { output = a .output; far = sym (ap (λ (y : ℕ). backs y m o) n) ∙ x-far; some = let s = g .some in omega arith }
+
+    pub met-settled : (entry w x ≡ 65535 → ⊥) → Met w e k p o x
+    met-settled d = record { output = a .output; same = x-root; ring = λ z. absurd (d z) }
+
+    pub met-mark : span ≤ 8192 → x ≡ mark → Met w e k p o x
+    met-mark h y = record {
+      output = a .output;
+      same = x-root;
+      ring = λ z. record { steps = a .taken; some = a .some y z; few = let l = a .few in omega arith; same = ap (backs (a .taken) m) y ∙ a .near };
+    }
+
+  pub met-end : (o mark span : ℕ) → Meeting m o mark span → 8192 < span → Met w e k p o mark
+  met-end o mark span g h = record {
     output = g .output;
-    same = same-root o x mark steps left g;
-    ring = λ _. record { steps = steps; some = one; few = let l = g .few in omega arith; same = ap (backs steps m) z ∙ g .near };
-  }
-
-  pub met-end : (o x mark steps left : ℕ) → Going m o x mark steps left → left ≡ 0 → Met w e k p o x
-  met-end o x mark steps left g z = record {
-    output = g .output;
-    same = same-root o x mark steps left g;
-    ring = λ _. subst (Comes m) (ap (λ (y : ℕ). backs (8192 - y) m o) (sym z) ∙ g .far) (comes o);
+    same = ap (root m) (sym (g .far)) ∙ root-steps m (span - 1) o;
+    ring = λ _. subst (Comes m) (g .far) (comes-far o (span - 1) (omega arith));
   }
 
   -- ---- once round

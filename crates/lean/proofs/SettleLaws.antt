@@ -9,9 +9,9 @@ use lib.Dec.{T}
 use lib.ListN.{getD, set}
 use Rattle.laws.proofs.Tests.{false-not-T}
 use Rattle.calculus.specs.Net.{Net}
-use Rattle.calculus.specs.Lean.{root}
+use Rattle.calculus.specs.Lean.{back, root}
 use Rattle.calculus.specs.Inputs.{isOut}
-use Rattle.circuit_theorems.proofs.RootLaws.{root-reached, root-back}
+use Rattle.circuit_theorems.proofs.RootLaws.{root-reached, root-back, root-stays}
 use Rattle.circuit_theorems.proofs.BackLaws.{back-out, backs-out}
 use Rattle.memory.specs.Map.{rootsAt, netIn, Ready}
 use Rattle.lean.specs.Table.{entry, Within, Partly, Met, Settled, Rooted}
@@ -93,7 +93,8 @@ module _ (w₀ w : List ℕ) (e k p o r x left : ℕ) (s : SettlingOne w₀ w e 
     still = s .still;
   }
 
-  pub settled-end : left ≡ 0 → Settled w₀ w e k p o
+  -- a step was made
+  pub settled-end : left < 8192 → Settled w₀ w e k p o
   settled-end l = record {
     within = s .within;
     partly = s .partly;
@@ -140,6 +141,32 @@ module _ (w₀ w : List ℕ) (e k p o r x left : ℕ) (s : SettlingOne w₀ w e 
         still = λ y d. set-still y (s .still y d);
         first = λ f. absurd (set-first f);
       }
+
+-- ---- by one step back
+
+module _ (w : List ℕ) (e k p o : ℕ) (q : Partly w e k p) (t : T (isOut (netIn w e k p .elements) o)) (z : entry w o ≡ 65535) where
+  abbrev m₂ : Net
+  m₂ = netIn w e k p
+
+  -- to itself
+  pub near-itself : getD w (o - 1) 0 ≡ o → o ≡ root m₂ o
+  near-itself h = sym (root-stays m₂ o (q .loose o t z .1 ∙ h))
+
+  -- to one that is settled
+  pub near-settled : (d : ℕ) → d ≡ getD w (o - 1) 0 → (entry w d ≡ 65535 → ⊥) → entry w d ≡ root m₂ o
+  near-settled d h n =
+      let b : back m₂ o ≡ d = q .loose o t z .1 ∙ sym h in
+      let out = subst (λ (x : ℕ). T (isOut (m₂ .elements) x)) b (back-out m₂ (q .ready .formed) o t) in
+      q .right d out n ∙ ap (root m₂) (sym b) ∙ root-back m₂ o
+
+  pub near-out : (d : ℕ) → d ≡ getD w (o - 1) 0 → d < 8192
+  near-out d h = rw h (output-below w e k p (q .ready) (getD w (o - 1) 0) (back-below w e k p q o t z))
+
+  -- that root is entered
+  pub settled-near : (r : ℕ) → r ≡ root m₂ o → Settled w (set w (rootsAt + o) r) e k p o
+  settled-near r h =
+      settled-end w (set w (rootsAt + o) r) e k p o r (getD w (o - 1) 0) 8191
+      (settling-step w w e k p o r o 8192 (settling-start w e k p o r q t h) z) (omega arith)
 
 -- ---- all are settled
 

@@ -96,6 +96,13 @@ pub record Leant (u : List ℕ) (elements wires pins : ℕ) (w : List ℕ) (end 
   pub left : (x : ℕ) → x < end → leftOut ≤ entry w x → T (isOut (netIn u elements wires pins .elements) x)
   pub past : (x : ℕ) → end ≤ x → x < 8192 → entry w x ≡ 0
 
+-- a walk over the wires goes on at y, behind terminal x: what it passes is an output
+pub record Passed (w : List ℕ) (x y : ℕ) : Type 0 where
+  pub rises : x < y
+  pub few : y ≤ x + 2
+  pub output : y ≡ x + 2 → kindsFrom ≤ entry w (x + 1)
+  pub input : y ≡ x + 1 → entry w (x + 1) < kindsFrom
+
 -- ---- the inputs: each that has a driver gets the driver's root
 
 abbrev pub linkIn : List ℕ → ℕ → ℕ

@@ -58,6 +58,15 @@ pub record Comes (m : Net) (o : ℕ) : Type 0 where
   pub few : steps ≤ 8192
   pub same : backs steps m o ≡ o
 
+-- r is reached from the mark, at most so many steps back: it is settled, or the mark again, or all steps are made
+pub record WalkedBack (w : List ℕ) (elements wires pins mark steps r : ℕ) : Type 0 where
+  pub taken : ℕ
+  pub few : taken ≤ steps
+  pub output : Output w elements wires pins r
+  pub near : backs taken (netIn w elements wires pins) mark ≡ r
+  pub some : r ≡ mark → entry w r ≡ 65535 → 1 ≤ taken
+  pub whole : (r ≡ mark → ⊥) → entry w r ≡ 65535 → taken ≡ steps
+
 -- going back from o, r is met: settled, or on a ring
 pub record Met (w : List ℕ) (elements wires pins o r : ℕ) : Type 0 where
   pub output : Output w elements wires pins r

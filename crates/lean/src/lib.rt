@@ -20,6 +20,7 @@ pub use pass::KIND;
 pub use pass::LEAN;
 pub use pass::LEFT_OUT;
 pub use pass::PINS;
+pub use pass::behind;
 pub use pass::first_of;
 
 // The root of every output; the first terminal that no element takes.

@@ -7,12 +7,12 @@ use memory::STACK;
 ghost use mathlib.Core.Path.{_≡_};
 ghost use Prim.Native.Nat.{ℕ, _+_, _/_, _≤_, _<_};
 ghost use mathlib.Core.List.{_∷_, []};
-ghost use lib.ListN.{length, getD};
+ghost use lib.ListN.{length, getD, set};
 ghost use Rattle.calculus.specs.Net.{point};
-ghost use Rattle.memory.specs.Map.{elementsAt, memorySize, region, elementsFrom};
+ghost use Rattle.memory.specs.Map.{elementsAt, rootsAt, memorySize, region, elementsFrom};
 ghost use Rattle.netlist.specs.Elements.{outputOf, after, afterAll};
 ghost use Rattle.lean.specs.Table.{entry};
-ghost use Rattle.lean.specs.Layout.{firstTerminal, linkIn, Linkable, Linked, rootedIn, Rootable, Pinned, nameOne, namedAll};
+ghost use Rattle.lean.specs.Layout.{firstTerminal, linkIn, Linkable, Linked, rootedIn, Rootable, Pinned, nameOne, namedAll, Passed};
 
 // By terminal, what the pass says of it.
 pub const LEAN: usize = ROOTS;
@@ -25,16 +25,15 @@ pub const KIND: u16 = 65520;
 
 pub const LEFT_OUT: u16 = 65528;
 
-// What stands at terminal x afterwards: one more than the root of its driver, where it has one.
-fn link_of(work: &[u16], x: usize) -> u16
+// Terminal x gets one more than the root of its driver, where it has one.
+fn link_one(work: &mut [u16], x: usize)
     requires { ⌜ (memorySize ≤ length (now work)) × ((x < 8192) × ((getD (now work) x 0 ≡ 65535 → ⊥) → (getD (now work) x 0 < 8192) × (entry (now work) (getD (now work) x 0) < 8192))) ⌝ }
-    ensures { λ r. ⌜ r ≡ linkIn (now (work .entry)) x ⌝ }
+    ensures { λ _. ⌜ now (work .exit) ≡ set (now (work .entry)) (rootsAt + x) (linkIn (now (work .entry)) x) ⌝ }
 {
     let d = work[x];
-    if d == NONE {
-        return work[ROOTS + x];
+    if d != NONE {
+        work[ROOTS + x] = work[ROOTS + d as usize] + 1;
     }
-    work[ROOTS + d as usize] + 1
 }
 
 // The inputs that have a driver.
@@ -44,7 +43,7 @@ pub fn link(work: &mut [u16], end: u16)
 {
     let mut x: usize = 0;
     while x < end as usize {
-        work[ROOTS + x] = link_of(&work[..], x);
+        link_one(work, x);
         x = x + 1;
     }
 }
@@ -98,7 +97,7 @@ fn name_one(work: &mut [u16], kind: u16, n: u16) -> u16
     }
     let o = netlist::output_of(kind, n);
     work[ROOTS + o.0 as usize] = KIND + kind;
-    netlist::next_after(kind, n)
+    o.0 + 1
 }
 
 // All elements.
@@ -123,4 +122,16 @@ pub fn first_of(kind: u16, x: usize) -> u16
 {
     let inputs = netlist::output_of(kind, 0);
     x as u16 - inputs.0
+}
+
+// Behind terminal x, and behind the output that follows it: to an output there is no wire.
+pub fn behind(work: &[u16], x: usize) -> usize
+    requires { ⌜ (memorySize ≤ length (now work)) × (x < 8192) ⌝ }
+    ensures { λ r. ⌜ Passed (now (work .entry)) x r ⌝ }
+{
+    if work[LEAN + (x + 1)] >= KIND {
+        x + 2
+    } else {
+        x + 1
+    }
 }

@@ -15,8 +15,8 @@ ghost use lib.ListN.{length, getD, drop};
 ghost use Rattle.memory.specs.Map.{rootsAt, makersAt};
 ghost use Rattle.netlist.specs.Elements.{nodeSize};
 ghost use Rattle.lean.specs.Table.{entry};
-ghost use Rattle.lean.specs.Layout.{leanPinsAt, rowIn, leftAfter, LeanReady};
-ghost use Rattle.lean.specs.Rows.{recordBytesAt, wireBytesAt, pinBytesAt, recordsIn, entrySize, sizesIn};
+ghost use Rattle.lean.specs.Layout.{leanPinsAt, rowIn, LeanReady};
+ghost use Rattle.lean.specs.Rows.{recordBytesAt, wireBytesAt, pinBytesAt, recordsIn, WritesOn, entrySize, sizesIn};
 
 // The i-th maker; 0 past the memory's end.
 fn maker_at(work: &[u16], i: usize) -> u16
@@ -56,12 +56,49 @@ fn put_element(
     netlist::put_element(out, at, kind, pass::first_of(kind, x), node, plain)
 }
 
-// The next maker's place: an output takes one.
-fn after(work: &[u16], end: usize, pins: usize, x: usize, i: usize) -> usize
-    requires { ⌜ LeanReady (now work) end pins × ((x < end) × (i ≤ x)) ⌝ }
-    ensures { λ r. ⌜ (r ≤ x + 1) × (drop r (drop makersAt (now (work .entry))) ≡ leftAfter (entry (now (work .entry)) x) (drop i (drop makersAt (now (work .entry))))) ⌝ }
+// Where the writer goes on: at an offset and a terminal, with the maker that the next output takes.
+struct Next {
+    at: usize,
+    x: usize,
+    i: usize,
+}
+
+// The record at terminal x. Behind an input, the output of a point that is left out is passed too. An output takes a maker, kept or not.
+fn put_at(
+    work: &[u16],
+    end: usize,
+    pins: usize,
+    x: usize,
+    i: usize,
+    out: &mut [u8],
+    at: usize,
+    plain: bool,
+) -> Next
+    requires { ⌜ LeanReady (now work) end pins × ((x < end) × ((i ≤ x) × (at + length (recordBytesAt plain (getD (now work) (makersAt + i) 0) (entry (now work) x) x) ≤ length (now out)))) ⌝ }
+    ensures { λ r. ⌜ ((r .at ≡ at + length (recordBytesAt plain (getD (now (work .entry)) (makersAt + i) 0) (entry (now (work .entry)) x) x))
+        × (now (out .exit) ≡ sets (now (out .entry)) at (recordBytesAt plain (getD (now (work .entry)) (makersAt + i) 0) (entry (now (work .entry)) x) x)))
+        × WritesOn (now (work .entry)) end x i (r .x) (r .i) ⌝ }
 {
-    if work[LEAN + x] < KIND { i } else { i + 1 }
+    if work[LEAN + x] < KIND {
+        if work[LEAN + (x + 1)] == LEFT_OUT {
+            return Next {
+                at: at,
+                x: x + 2,
+                i: i + 1,
+            };
+        }
+        return Next {
+            at: at,
+            x: x + 1,
+            i: i,
+        };
+    }
+    let past = put_element(work, end, pins, x, i, out, at, plain);
+    Next {
+        at: past,
+        x: x + 1,
+        i: i + 1,
+    }
 }
 
 // The records of all elements.
@@ -81,9 +118,10 @@ pub fn put_elements(
     let mut i: usize = 0;
     let mut x: usize = 0;
     while x < end {
-        at = put_element(work, end, pins, x, i, out, at, plain);
-        i = after(work, end, pins, x, i);
-        x = x + 1;
+        let n = put_at(work, end, pins, x, i, out, at, plain);
+        at = n.at;
+        i = n.i;
+        x = n.x;
     }
     at
 }
@@ -114,7 +152,7 @@ pub fn put_wires(work: &[u16], end: usize, pins: usize, out: &mut [u8], from: us
     let mut x: usize = 0;
     while x < end {
         at = put_wire(work, end, pins, x, out, at);
-        x = x + 1;
+        x = pass::behind(work, x);
     }
     at
 }

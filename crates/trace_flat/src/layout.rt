@@ -20,6 +20,9 @@ ghost use Rattle.trace_flat.specs.Flat.{flatMost, gatesAt, insAt, zeroAt
 // So many gates, and so many registers, have room.
 pub const FEW: usize = 1280;
 
+// A netlist has at most so many pins.
+pub const MOST_PINS: usize = 128;
+
 pub const SOURCES: usize = REGISTERS + FEW;
 
 pub const NEXT: usize = SOURCES + FEW;
@@ -36,9 +39,9 @@ pub const GATES: usize = THIRD + FEW;
 
 pub const INS: usize = GATES + FEW;
 
-pub const OUTS: usize = INS + 128;
+pub const OUTS: usize = INS + MOST_PINS;
 
-pub const ZERO: usize = OUTS + 128;
+pub const ZERO: usize = OUTS + MOST_PINS;
 
 pub const ONE: usize = ZERO + 1;
 

@@ -40,7 +40,7 @@ fn export_lean(work: &[u16], out: &mut [u8], end: usize, pins: usize) -> Answer
     ensures { λ r. ⌜ AnswerSays r (now (out .entry)) (now (out .exit)) (leanExported (leanIn (now (work .entry)) end pins) (length (now (out .entry)))) ⌝ }
 {
     let place = card::rings::lowest(work, end, pins);
-    if place < 8192 {
+    if place < memory::TERMINALS {
         return translator::refused(18, place);
     }
     let mut none = [0u8; 1];

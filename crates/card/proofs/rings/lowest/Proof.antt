@@ -1,10 +1,9 @@
--- The invariant: no ring point's output stands before terminal x. Assumes nothing.
+-- The invariant: no ring point's output stands before terminal x. A block without one is passed. Assumes nothing.
 use native.Mathlib.Omega.{arith}
-use mathlib.Core.Path.{_≡_, sym, ap, _∙_}
-use mathlib.Core.Bool.{Bool, cond}
-use Prim.Native.Nat.{_≤_, _-_, _+_}
+use mathlib.Core.Path.{_≡_, sym, _∙_}
+use Prim.Native.Nat.{_≤_, _-_}
 use Rattle.card.specs.Rings.{lowestFrom}
-use Rattle.card.proofs.RingLaws.{lowest-start, lowest-next, lowest-end, ring-up}
+use Rattle.card.proofs.RingLaws.{lowest-start, lowest-block, lowest-end}
 use Rattle.card.proofs.rings.lowest.Statement.{statement}
 use Rattle.card.proofs.rings.lowest.Tie as tie
 
@@ -14,28 +13,30 @@ Inv-loop work end pins x₀ x = (x ≤ end) × (lowestFrom work (end - x) x ≡ 
 abbrev μ-loop : tie.MeasureT-loop
 μ-loop work end pins x₀ x = end - x
 
-is-ring-at-requires : tie.Need-is-ring-at-requires Inv-loop μ-loop
-is-ring-at-requires c κs = (c .before .before .before .pre, c .loop-test .taken)
+block-end-requires : tie.Need-block-end-requires Inv-loop μ-loop
+block-end-requires c κs = (c .loop-test .taken, c .before .before .before .pre .below)
 
-sub-result : tie.Need-sub-result Inv-loop μ-loop
-sub-result c =
-    let s = c .before .before .before .before .before in
-    let a = s .args in
-    ring-up (a .work .now) (a .end) (a .pins) (s .pre) (c .before .before .before .loop .x) (c .before .before .loop-test .taken) (sym (c .before .is-ring-at .ensures) ∙ c .if1 .taken)
+rings-in-requires : tie.Need-rings-in-requires Inv-loop μ-loop
+rings-in-requires c κs = let e = c .block-end .ensures in (c .before .before .before .before .pre, ((let h = e .0 in omega arith), e .1))
+
+lowest-from-requires : tie.Need-lowest-from-requires Inv-loop μ-loop
+lowest-from-requires c κs = c .before .before .before .before .before .before .pre
 
 returns : tie.Need-returns Inv-loop μ-loop
-returns c =
-    let a = c .before .before .before .before .before .args in
-    let l = c .before .before .before .loop in
-    let w = a .work .now in
-    sym (ap (λ (b : Bool). cond b (l .x - 1) (lowestFrom w (a .end - (l .x + 1)) (l .x + 1))) (sym (c .before .is-ring-at .ensures) ∙ c .if1 .taken)) ∙ sym (lowest-next w (a .end) (l .x) (c .before .before .loop-test .taken)) ∙ l .inv .1
+returns c = c .lowest-from .ensures ∙ c .before .before .before .before .before .loop .inv .1
+
+loop-less : tie.Need-loop-less Inv-loop μ-loop
+loop-less c = let e = c .before .before .block-end .ensures in let h = e .0 in let g = e .1 in omega arith
 
 loop-again : tie.Need-loop-again Inv-loop μ-loop
 loop-again c =
-    let a = c .before .before .before .before .before .args in
-    let l = c .before .before .before .loop in
-    let w = a .work .now in
-    (omega arith, sym (ap (λ (b : Bool). cond b (l .x - 1) (lowestFrom w (a .end - (l .x + 1)) (l .x + 1))) (sym (c .before .is-ring-at .ensures) ∙ c .if1 .left)) ∙ sym (lowest-next w (a .end) (l .x) (c .before .before .loop-test .taken)) ∙ l .inv .1)
+    let r = c .before in
+    let b = r .before in
+    let l = b .before .before .loop in
+    let a = b .before .before .before .before .args in
+    let e = b .block-end .ensures in
+    let h = e .0 in
+    (e .1, sym (lowest-block (a .work .now) (a .end) (l .x) (b .block-end .result) (omega arith) (e .1) (r .rings-in .ensures (c .if1 .left))) ∙ l .inv .1)
 
 returns-2 : tie.Need-returns-2 Inv-loop μ-loop
 returns-2 c = let a = c .before .before .before .args in let l = c .before .loop in sym (lowest-end (a .work .now) (a .end) (l .x) (c .loop-test .left)) ∙ l .inv .1
@@ -43,4 +44,4 @@ returns-2 c = let a = c .before .before .before .args in let l = c .before .loop
 pub lowest-spec : {M : Type 1} → statement M
 lowest-spec =
     tie.close
-    (tie.spec Inv-loop μ-loop (λ c. (omega arith, lowest-start (c .before .args .work .now) (c .before .args .end))) is-ring-at-requires sub-result returns (λ c. omega arith) (λ c. omega arith) loop-again returns-2)
+    (tie.spec Inv-loop μ-loop (λ c. (omega arith, lowest-start (c .before .args .work .now) (c .before .args .end))) block-end-requires rings-in-requires lowest-from-requires returns loop-less loop-again returns-2)

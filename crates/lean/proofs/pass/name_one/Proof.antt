@@ -1,8 +1,9 @@
 -- By the kind. Assumes nothing.
 use borrow.Author.Needs.{needs}
 use native.Mathlib.Omega.{arith}
-use mathlib.Core.Path.{_∙_}
-use Rattle.lean.proofs.KindLaws.{first-low, output-low, point-low}
+use mathlib.Core.Path.{_∙_, ap}
+use Prim.Native.Nat.{ℕ, _+_}
+use Rattle.lean.proofs.KindLaws.{first-low, output-low, point-low, after-output}
 use Rattle.lean.proofs.PassLaws.{name-point, name-part}
 use Rattle.lean.proofs.pass.name_one.Statement.{statement}
 use Rattle.lean.proofs.pass.name_one.Tie as tie
@@ -22,16 +23,16 @@ output-of-requires c κs = let s = c .before .before in omega (arith, first-low 
 slice-write-work : tie.Need-slice-write-work
 slice-write-work c = let s = c .before .before .before .before in let e = c .before .output-of .ensures in omega (arith, output-low (s .args .kind) (s .args .n) 8192 (s .pre .1 .1))
 
-next-after-requires : tie.Need-next-after-requires
-next-after-requires c κs = let s = c .before .before .before .before in omega (arith, first-low (s .args .kind) (s .args .n) 8192 (s .pre .1 .1))
+add-result-2 : tie.Need-add-result-2
+add-result-2 c = let s = c .before .before .before .before .before in let e = c .before .before .output-of .ensures in omega (arith, output-low (s .args .kind) (s .args .n) 8192 (s .pre .1 .1))
 
 returns-2 : tie.Need-returns-2
 returns-2 c =
     let o = c .before .before in
     let a = o .before .before .before .args in
-    (c .next-after .ensures, rw (o .output-of .ensures) (name-part (a .work .now) (a .kind) (a .n) (o .before .if1 .left)))
+    (ap (λ (x : ℕ). x + 1) (o .output-of .ensures) ∙ after-output (a .kind) (a .n), rw (o .output-of .ensures) (name-part (a .work .now) (a .kind) (a .n) (o .before .if1 .left)))
 
 pub name-one-spec : {M : Type 1} → statement M
 name-one-spec =
     tie.close
-    (tie.spec name-point-requires add-result (λ c. search needs) returns output-of-requires (λ c. search needs) (λ c. search needs) (λ c. search needs) (λ c. search needs) slice-write-work next-after-requires (λ c. search needs) returns-2)
+    (tie.spec name-point-requires add-result (λ c. search needs) returns output-of-requires (λ c. search needs) (λ c. search needs) (λ c. search needs) (λ c. search needs) slice-write-work add-result-2 (λ c. search needs) returns-2)

@@ -15,10 +15,10 @@ use Rattle.lean.proofs.put.put_elements.Tie as tie
 
 abbrev Inv-loop : tie.InvT-loop
 Inv-loop work end pins out₀ from plain at₀ i₀ x₀ out at i x =
-    (x ≤ end) × ((i ≤ x) × Writing out₀ from (recordsIn plain work end 0 (drop makersAt work)) out at (recordsIn plain work (end - x) x (drop i (drop makersAt work))))
+    (x ≤ end + 1) × ((i ≤ x) × Writing out₀ from (recordsIn plain work end 0 (drop makersAt work)) out at (recordsIn plain work (end - x) x (drop i (drop makersAt work))))
 
 abbrev μ-loop : tie.MeasureT-loop
-μ-loop work end pins out₀ from plain at₀ i₀ x₀ out at i x = end - x
+μ-loop work end pins out₀ from plain at₀ i₀ x₀ out at i x = end + 1 - x
 
 loop-holds : tie.Need-loop-holds Inv-loop μ-loop
 loop-holds c =
@@ -26,8 +26,8 @@ loop-holds c =
     let w = a .work .now in
     (omega arith, (omega arith, subst (Writing (a .out .now) (a .from) _ (a .out .now) (a .from)) (sym (records-start (a .plain) w (a .end) (drop makersAt w))) (writing-start (a .out .now) (a .from) _)))
 
-put-element-requires : tie.Need-put-element-requires Inv-loop μ-loop
-put-element-requires c κs =
+put-at-requires : tie.Need-put-at-requires Inv-loop μ-loop
+put-at-requires c κs =
     let s = c .before .before .before .before .before in
     let a = s .args in
     let w = a .work .now in
@@ -44,17 +44,19 @@ put-element-requires c κs =
       ),
     )
 
-after-requires : tie.Need-after-requires Inv-loop μ-loop
-after-requires c κs = let s = c .before .before .before .before .before .before .before .before in let l = c .before .before .before .before .before .loop in (s .pre .0, (c .before .before .before .before .loop-test .taken, l .inv .1 .0))
+loop-less : tie.Need-loop-less Inv-loop μ-loop
+loop-less c = let b = c .before .before .put-at .ensures .1 .rises in let l = c .before .before .put-at .ensures .1 .low in omega arith
 
 loop-again : tie.Need-loop-again Inv-loop μ-loop
 loop-again c =
-    let a = c .before .before .before .before .before .before .before .before .before .args in
+    let p = c .before .before in
+    let t = p .before .before in
+    let l = t .before .loop in
+    let a = t .before .before .before .before .args in
     let w = a .work .now in
-    let l = c .before .before .before .before .before .before .loop in
-    let p = rw (maker-left w (l .i)) at (c .before .before .before .put-element .ensures) in
-    let e = c .after .ensures in
-    (omega arith, (e .0, rw (e .1) (writing-step (a .out .now) (a .from) _ (l .out) (l .at) _ (recordBytesAt (a .plain) (maker (drop (l .i) (drop makersAt w))) (entry w (l .x)) (l .x)) (recordsIn (a .plain) w (a .end - (l .x + 1)) (l .x + 1) (leftAfter (entry w (l .x)) (drop (l .i) (drop makersAt w)))) (l .inv .1 .1) (records-first (a .plain) w (a .end) (drop makersAt w) (l .x) (l .i) (c .before .before .before .before .before .loop-test .taken)) _ _ (p .0) (p .1))))
+    let e = rw (maker-left w (l .i)) at (p .put-at .ensures .0) in
+    let b = p .put-at .ensures .1 in
+    (b .low, (b .few, subst (Writing (a .out .now) (a .from) _ _ _) (b .records (a .plain)) (writing-step (a .out .now) (a .from) _ (l .out) (l .at) _ (recordBytesAt (a .plain) (maker (drop (l .i) (drop makersAt w))) (entry w (l .x)) (l .x)) (recordsIn (a .plain) w (a .end - (l .x + 1)) (l .x + 1) (leftAfter (entry w (l .x)) (drop (l .i) (drop makersAt w)))) (l .inv .1 .1) (records-first (a .plain) w (a .end) (drop makersAt w) (l .x) (l .i) (t .loop-test .taken)) _ _ (e .0) (e .1))))
 
 returns : tie.Need-returns Inv-loop μ-loop
 returns c =
@@ -65,4 +67,4 @@ returns c =
 pub put-elements-spec : {M : Type 1} → statement M
 put-elements-spec =
     tie.close
-    (tie.spec Inv-loop μ-loop loop-holds put-element-requires after-requires (λ c. omega arith) (λ c. omega arith) loop-again (λ c. c .before .loop .inv .1 .1 .size) returns)
+    (tie.spec Inv-loop μ-loop loop-holds put-at-requires loop-less loop-again (λ c. c .before .loop .inv .1 .1 .size) returns)

@@ -1,58 +1,47 @@
--- What is met has the same root as o, and it is settled or comes round. Assumes nothing.
+-- An output that is not settled is by one step back, or by what is met. Assumes nothing.
 use borrow.Author.Needs.{needs}
-use Rattle.lean.proofs.SettleLaws.{loose-out, met-root}
+use Rattle.lean.proofs.SettleLaws.{loose-out, settled-near}
 use Rattle.lean.proofs.table.root_one.Statement.{statement}
 use Rattle.lean.proofs.table.root_one.Tie as tie
 
-add-if1 : tie.Need-add-if1
-add-if1 c = search needs
-
-mul-if1 : tie.Need-mul-if1
-mul-if1 c = search needs
-
-slice-read-if1 : tie.Need-slice-read-if1
-slice-read-if1 c = search needs
-
-meet-requires : tie.Need-meet-requires
-meet-requires c κs =
+near-requires : tie.Need-near-requires
+near-requires c κs =
     let s = c .before .before .before .before in
     let a = s .args in
-    (s .pre .0, loose-out (a .work .now) (a .elements) (a .wires) (a .pins) (s .pre .0) (a .n) (s .pre .1) (c .before .if1 .taken))
+    let z = c .before .if1 .taken in
+    (s .pre .0, (loose-out (a .work .now) (a .elements) (a .wires) (a .pins) (s .pre .0) (a .n) (s .pre .1) z, z))
 
-round-requires : tie.Need-round-requires
-round-requires c κs = search needs
-
-settle-requires : tie.Need-settle-requires
-settle-requires c κs =
-    let s = c .before .before .before .before .before .before .before .before in
+root-far-requires : tie.Need-root-far-requires
+root-far-requires c κs =
+    let t = c .before .before .before .before in
+    let s = t .before .before .before in
     let a = s .args in
-    let met = c .before .before .before .meet in (
-      s .pre .0,
-      (
-        loose-out (a .work .now) (a .elements) (a .wires) (a .pins) (s .pre .0) (a .n) (s .pre .1) (c .before .before .before .before .before .if1 .taken),
-        met-root (a .work .now) (a .elements) (a .wires) (a .pins) (a .n) (met .result .0) (c .before .round .result .0) (met .ensures) (c .before .round .ensures),
-      ),
-    )
-
-same-length : tie.Need-same-length
-same-length c = search needs
-
-returns : tie.Need-returns
-returns c = search needs
+    (s .pre .0, loose-out (a .work .now) (a .elements) (a .wires) (a .pins) (s .pre .0) (a .n) (s .pre .1) (t .if1 .taken))
 
 returns-2 : tie.Need-returns-2
-returns-2 c = search needs
+returns-2 c =
+    let n = c .before in
+    let t = n .before .before in
+    let s = t .before .before .before in
+    let a = s .args in
+    let z = t .if1 .taken in
+    settled-near (a .work .now) (a .elements) (a .wires) (a .pins) (a .n) (s .pre .0) (loose-out (a .work .now) (a .elements) (a .wires) (a .pins) (s .pre .0) (a .n) (s .pre .1) z) z
+    (n .near .result) (n .near .ensures (c .if2 .left))
 
 pub root-one-spec : {M : Type 1} → statement M
 root-one-spec =
     tie.close
     (tie.spec
-    add-if1
-    mul-if1
-    slice-read-if1
-    meet-requires
-    round-requires
-    settle-requires
-    same-length
-    returns
-    returns-2)
+    (λ c. search needs)
+    (λ c. search needs)
+    (λ c. search needs)
+    near-requires
+    root-far-requires
+    (λ c. search needs)
+    (λ c. search needs)
+    (λ c. search needs)
+    (λ c. search needs)
+    (λ c. search needs)
+    (λ c. search needs)
+    returns-2
+    (λ c. search needs))
