@@ -1,0 +1,5 @@
+pub mod Stages
+pub mod Lines
+pub mod Judged
+pub mod Made
+pub mod Stub
