@@ -5,6 +5,7 @@ use mathlib.Core.Bool.{Bool, true, false, cond}
 use mathlib.Core.List.{List, [], _∷_, _++_, append-assoc}
 use native.Mathlib.Omega.{arith}
 use lib.ListN.{length, length-append}
+use lib.Seq.{sets}
 use Rattle.calculus.specs.Answer.{Answer, good, refused, refuse, numbered, _>>=_}
 use Rattle.calculus.proofs.Answers.{refused≢good, good-inj}
 use Rattle.notation_calculus.specs.Words.{comma, ends, table, type, Word}
@@ -18,20 +19,20 @@ use Rattle.notation_machine.proofs.Behind.{type-left}
 use Rattle.words.specs.Next.{Said}
 use Rattle.words.specs.Lexed.{from, Lexed, Onward, Stands}
 use Rattle.grammar.proofs.EndLaws.{is-yes, is-no}
+use Rattle.making_memory.specs.Map.{framesAt}
 use Rattle.made_types.specs.Held.{HoldsState}
 use Rattle.walks.specs.declared.TypeEnd as type
 use Rattle.walks.specs.declared.TypeEnd.the-variants as type-end
 use Rattle.walks.specs.Walkable.{Walkable}
 use Rattle.walks.specs.Walked.{TypesWalked}
 use Rattle.walks.specs.Says.{CanWalk, Offset, TypeAnswers, CanType, TypeSays}
-use Rattle.walks.proofs.Kept.{walkable-on}
 use Rattle.maker.specs.declared.lines.Typed as typed
 use Rattle.maker.specs.declared.lines.Typed.the-variants as typed-is
 use Rattle.maker.specs.declared.lines.Went as went
 use Rattle.maker.specs.declared.lines.Went.the-variants as went-is
 use Rattle.maker.specs.Stages.{FarKept, TextStands, KnowsAbove}
-use Rattle.maker.specs.Lines.{typesLine, LineThere, CanTypeOne, LineOn, LineDone, TypedAs, TypedSays}
-use Rattle.maker.proofs.StageLaws.{far-types}
+use Rattle.maker.specs.Lines.{typesLine, LineThere, CanTypeOne, LineOn, LineDone, TypedAs, TypedSays, CanTypes, LineTypes, CanLine, LineSays}
+use Rattle.maker.proofs.StageLaws.{far-none, far-types, far-then, stands-of, knows-on-types, framed, framed-far, framed-knows}
 
 pub bind-good : {A B : Type 0} (m : Answer A) (f : A → Answer B) (a : A) → m ≡ good a → (m >>= f) ≡ f a
 bind-good m f a e = ap (λ (q : Answer _). q >>= f) e
@@ -96,10 +97,10 @@ type-from-is X more S σ ws t e = from-read (typeAt mostNested false ws) (λ t. 
 
 -- a type is worked out in the text's own scope
 pub own-type : (text w : List ℕ) (at : ℕ) → Lexed text at → (X : Text) (seen : ℕ) (σ : State) → KnowsAbove text w X seen σ → CanType text w at 80 81 0
-own-type text w at l X seen σ K = record { walk = record { X = X; S = above seen; σ = σ; walkable = K }; lexed = l; above = omega arith; levels = omega arith }
+own-type text w at l X seen σ K = record { walk = record { X = X; S = above seen; σ = σ; walkable = K .walkable }; lexed = l; above = omega arith; levels = omega arith }
 
 typed-more : (text w : List ℕ) (at more : ℕ) (r : type.TypeEnd) (w′ : List ℕ) → TypeSays text w at more 81 0 r w′ → (X : Text) (seen : ℕ) (σ : State) → KnowsAbove text w X seen σ → (t : Got TypeTree) → typeAt mostNested false (from text at) ≡ good t → TypedBy text w′ (typeOf X more (above seen) σ (t .value)) (t .rest) r
-typed-more text w at more r w′ T X seen σ K t e = typed-by text w′ (typeOf X more (above seen) σ (t .value)) (t .rest) r (subst (λ (q : Answer (Got Found)). TypeAnswers text w′ r q) (type-from-is X more (above seen) σ (from text at) t e) (T .says X (above seen) σ K))
+typed-more text w at more r w′ T X seen σ K t e = typed-by text w′ (typeOf X more (above seen) σ (t .value)) (t .rest) r (subst (λ (q : Answer (Got Found)). TypeAnswers text w′ r q) (type-from-is X more (above seen) σ (from text at) t e) (T .says X (above seen) σ (K .walkable)))
 
 pub own-typed : (text w : List ℕ) (at : ℕ) (r : type.TypeEnd) (w′ : List ℕ) → TypeSays text w at 80 81 0 r w′ → (X : Text) (seen : ℕ) (σ : State) → KnowsAbove text w X seen σ → (t : Got TypeTree) → typeAt mostNested false (from text at) ≡ good t → TypedBy text w′ (typeOf X mostNested (above seen) σ (t .value)) (t .rest) r
 own-typed text w at r w′ T X seen σ K t e = typed-more text w at mostNested r w′ T X seen σ K t e
@@ -140,7 +141,7 @@ module _ (text w : List ℕ) (at : ℕ) (r : type.TypeEnd) (w′ : List ℕ) (T 
       rest-is = typed-at .1 .1 .1 .is
 
       one-knows : KnowsAbove text w′ X seen (typed-at .0 .state)
-      one-knows = walkable-on 80 0 text w w′ (T .walked) 81 0 X (above seen) σ (typed-at .0 .state) K (omega arith) (omega arith) (typed-at .1 .1 .0)
+      one-knows = knows-on-types text w w′ X seen σ (typed-at .0 .state) (T .walked) K (typed-at .1 .1 .0)
 
       one-table : linesTable X σ (linesOf seen ts) ≡ linesTable X (typed-at .0 .state) (linesOf seen (head .others))
       one-table = tables _ (table-first X seen σ (head .first .value) (head .others) (typed-at .0) (typed-at .1 .0))
@@ -186,3 +187,77 @@ module _ (text w : List ℕ) (at : ℕ) (r : type.TypeEnd) (w′ : List ℕ) (T 
 
     pub says-last : (v : Said) → Stands text end v → ¬ (v .code ≡ 14) → TypedSays text w at (typed-is.Last end) w′
     says-last v s c = record { kept = one-far; says = λ X seen σ ts us K L. one-last X seen σ ts us K L t end e v s c }
+
+-- ---- a line: the loop
+
+pub record LineGoing (text w₀ : List ℕ) (start seen : ℕ) (w : List ℕ) (at : ℕ) : Type 0 where
+  pub kept : FarKept w₀ w
+  pub goes : (X : Text) (σ : State) (ts : List TypeTree) (us : List Word) → KnowsAbove text w₀ X seen σ → LineThere text start ts us → LineOn text w X seen σ ts us (length (from text start) + 1) at
+
+pub line-first : (text w : List ℕ) (start seen : ℕ) → LineGoing text w start seen w start
+line-first text w start seen = record {
+  kept = far-none w;
+  goes = λ X σ ts us K L. record { next = σ; others = ts; knows = K; there = L; table = refl; fewer = omega arith };
+}
+
+module _ (text w₀ : List ℕ) (start seen : ℕ) (q : CanTypes text w₀ start seen) (w : List ℕ) (at : ℕ) (G : LineGoing text w₀ start seen w at) where
+  so-far : LineOn text w (q .X) seen (q .σ) (q .ts) (q .us) (length (from text start) + 1) at
+  so-far = G .goes (q .X) (q .σ) (q .ts) (q .us) (q .knows) (q .there)
+
+  pub line-can : CanTypeOne text w at
+  line-can = record { X = q .X; seen = seen; σ = so-far .next; ts = so-far .others; us = q .us; knows = so-far .knows; there = so-far .there }
+
+  module _ (r : typed.Typed) (w′ : List ℕ) (T : TypedSays text w at r w′) where
+    pub line-kept : FarKept w₀ w′
+    line-kept = far-then w₀ w w′ (G .kept) (T .kept)
+
+    as-typed : (r′ : typed.Typed) → r ≡ r′ → (X : Text) (σ : State) (ts : List TypeTree) (us : List Word) → KnowsAbove text w X seen σ → LineThere text at ts us → TypedAs text w′ X seen σ ts us (length (from text at)) r′
+    as-typed r′ e X σ ts us K L = subst (λ (x : typed.Typed). TypedAs text w′ X seen σ ts us (length (from text at)) x) e (T .says X seen σ ts us K L)
+
+    pub line-more : (next : ℕ) → r ≡ typed-is.More next → LineGoing text w₀ start seen w′ next
+    line-more next e = record {
+      kept = line-kept;
+      goes = λ X σ ts us K L.
+        let a = G .goes X σ ts us K L in
+        let b = as-typed (typed-is.More next) e X (a .next) (a .others) us (a .knows) (a .there) in
+        record { next = b .next; others = b .others; knows = b .knows; there = b .there; table = a .table ∙ b .table; fewer = omega (arith, a .fewer, b .fewer) };
+    }
+
+    pub line-less : (next : ℕ) → r ≡ typed-is.More next → length (from text next) < length (from text at)
+    line-less next e = as-typed (typed-is.More next) e (q .X) (so-far .next) (so-far .others) (q .us) (so-far .knows) (so-far .there) .fewer
+
+    pub line-last : (end : ℕ) → r ≡ typed-is.Last end → LineTypes text w₀ start seen (went-is.On end seen) w′
+    line-last end e = record {
+      kept = line-kept;
+      says = λ X σ ts us K L.
+        let a = G .goes X σ ts us K L in
+        let b = as-typed (typed-is.Last end) e X (a .next) (a .others) us (a .knows) (a .there) in
+        record { next = b .next; stands = stands-of (b .knows); rest = b .rest; table = a .table ∙ b .table; fewer = omega (arith, a .fewer, b .fewer); same = refl };
+    }
+
+    pub line-refused : (n p : ℕ) → r ≡ typed-is.Refused n p → LineTypes text w₀ start seen (went-is.Refused n p) w′
+    line-refused n p e = record {
+      kept = line-kept;
+      says = λ X σ ts us K L.
+        let a = G .goes X σ ts us K L in
+        a .table ∙ as-typed (typed-is.Refused n p) e X (a .next) (a .others) us (a .knows) (a .there);
+    }
+
+-- ---- a line in the text's own scope
+
+module _ (text w₀ : List ℕ) (start seen : ℕ) (q : CanLine text w₀ start seen) where
+  pub line-low : seen < 65536
+  line-low = omega (arith, q .few, q .stands .clauses .rows .few)
+
+  module _ (w : List ℕ) (e : w ≡ sets w₀ (framesAt + 4 * 81) (seen ∷ 0 ∷ 0 ∷ 0 ∷ [])) where
+    line-knows : (X : Text) (σ : State) → TextStands text w₀ X σ → seen ≤ length (X .clauses) → KnowsAbove text w X seen σ
+    line-knows X σ S h = subst (λ (v : List ℕ). KnowsAbove text v X seen σ) (sym e) (framed-knows w₀ seen (q .stands .room) text X σ S h)
+
+    pub line-types : CanTypes text w start seen
+    line-types = record { X = q .X; σ = q .σ; ts = q .ts; us = q .us; knows = line-knows (q .X) (q .σ) (q .stands) (q .few); there = q .there }
+
+    pub line-says : (r : went.Went) (w′ : List ℕ) → LineTypes text w start seen r w′ → LineSays text w₀ start seen r w′
+    line-says r w′ T = record {
+      kept = far-then w₀ w w′ (subst (λ (v : List ℕ). FarKept w₀ v) (sym e) (framed-far w₀ seen (q .stands .room))) (T .kept);
+      says = λ X σ ts us S h L. T .says X σ ts us (line-knows X σ S h) L;
+    }

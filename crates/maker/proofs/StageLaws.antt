@@ -20,7 +20,7 @@ use Rattle.scopes.proofs.EntryLaws.{frame-parts}
 use Rattle.scopes.proofs.KeepLaws.{rows-kept}
 use Rattle.walks.specs.Walkable.{Walkable}
 use Rattle.walks.specs.Walked.{TypesWalked, TermsWalked}
-use Rattle.walks.proofs.Kept.{terms-of-types}
+use Rattle.walks.proofs.Kept.{terms-of-types, frame-on-terms, walkable-on-terms}
 use Rattle.maker.specs.declared.Stage as code
 use Rattle.maker.specs.declared.Stage.the-variants as stage
 use Rattle.maker.specs.Stages.{FarKept, TextStands, KnowsAbove, StageAnswers}
@@ -42,7 +42,17 @@ far-types m top w w′ h W = far-terms m top w w′ h (terms-of-types m top w w�
 -- ---- the text's own frame
 
 pub stands-of : {text w : List ℕ} {X : Text} {seen : ℕ} {σ : State} → KnowsAbove text w X seen σ → TextStands text w X σ
-stands-of K = record { short = K .short; room = K .room; clauses = K .clauses; state = K .state }
+stands-of K = let W = K .walkable in record { short = W .short; room = W .room; clauses = W .clauses; state = W .state }
+
+-- a walk leaves the scope, with another state
+pub knows-on-terms : (text w w′ : List ℕ) (X : Text) (seen : ℕ) (σ σ′ : State) → TermsWalked 80 0 w w′ → KnowsAbove text w X seen σ → HoldsState w′ σ′ → KnowsAbove text w′ X seen σ′
+knows-on-terms text w w′ X seen σ σ′ W K H = record {
+  walkable = walkable-on-terms 80 0 text w w′ W 81 0 X (above seen) σ σ′ (K .walkable) (omega arith) (omega arith) H;
+  variables = ap (λ (f : Frame). f .variables) (frame-on-terms 80 0 text w w′ W 81 (omega arith) (omega arith)) ∙ K .variables;
+}
+
+pub knows-on-types : (text w w′ : List ℕ) (X : Text) (seen : ℕ) (σ σ′ : State) → TypesWalked 80 0 w w′ → KnowsAbove text w X seen σ → HoldsState w′ σ′ → KnowsAbove text w′ X seen σ′
+knows-on-types text w w′ X seen σ σ′ W K H = knows-on-terms text w w′ X seen σ σ′ (terms-of-types 80 0 w w′ W) K H
 
 module _ (w : List ℕ) (seen : ℕ) (room : makingSize ≤ length w) where
   abbrev pub framed : List ℕ
@@ -60,33 +70,33 @@ module _ (w : List ℕ) (seen : ℕ) (room : makingSize ≤ length w) where
   pub framed-far : FarKept w framed
   framed-far = record { same = length-sets w (framesAt + 4 * 81) (seen ∷ 0 ∷ 0 ∷ 0 ∷ []); far = λ j h. framed-behind j (omega arith) }
 
-  own-frame : Frame
-  own-frame = record { seen = seen; types = 0; numbers = 0; variables = 0 }
-
   frame-is : frameIn framed 81 ≡ record { seen = seen; types = 0; numbers = 0; variables = 0 }
   frame-is = frame-parts (record { seen = seen; types = 0; numbers = 0; variables = 0 }) _ _ _ _ (framed-at 0 (omega arith)) (framed-at 1 (omega arith)) (framed-at 2 (omega arith)) (framed-at 3 (omega arith))
 
   -- where the memory holds a text and a state, its own frame is set
   pub framed-knows : (text : List ℕ) (X : Text) (σ : State) → TextStands text w X σ → seen ≤ length (X .clauses) → KnowsAbove text framed X seen σ
   framed-knows text X σ S h = record {
-    short = S .short;
-    room = omega (arith, framed-far .same);
-    level = omega arith;
-    clauses = record {
-      rows = rows-kept text w framed (X .clauses) (S .clauses .rows) (λ j a b. framed-before j b) (framed-behind clauseCountAt (omega arith));
-      edition = framed-behind secondAt (omega arith) ∙ S .clauses .edition;
+    variables = ap (λ (f : Frame). f .variables) frame-is;
+    walkable = record {
+      short = S .short;
+      room = omega (arith, framed-far .same);
+      level = omega arith;
+      clauses = record {
+        rows = rows-kept text w framed (X .clauses) (S .clauses .rows) (λ j a b. framed-before j b) (framed-behind clauseCountAt (omega arith));
+        edition = framed-behind secondAt (omega arith) ∙ S .clauses .edition;
+      };
+      state = state-kept w framed σ (S .state) (framed-far .same) (λ i a b. framed-before i (omega arith)) (framed-behind typeCountAt (omega arith)) (framed-behind nodeCountAt (omega arith)) (framed-behind putCountAt (omega arith));
+      scope = record {
+        places = record { room = omega (arith, framed-far .same); most = omega arith; inside = λ e a b. absurd (omega arith) };
+        parameters = subst (λ (f : Frame). HoldsParameters text framed f (above seen)) (sym frame-is) (record { seen = refl; types-first = omega arith; numbers-next = omega arith; types = refl; numbers = refl });
+        under = subst (λ (f : Frame). f .variables ≤ 0) (sym frame-is) (omega arith);
+        variables = refl;
+        entries = refl;
+      };
+      seen = h;
+      types = tt;
+      variables = tt;
     };
-    state = state-kept w framed σ (S .state) (framed-far .same) (λ i a b. framed-before i (omega arith)) (framed-behind typeCountAt (omega arith)) (framed-behind nodeCountAt (omega arith)) (framed-behind putCountAt (omega arith));
-    scope = record {
-      places = record { room = omega (arith, framed-far .same); most = omega arith; inside = λ e a b. absurd (omega arith) };
-      parameters = subst (λ (f : Frame). HoldsParameters text framed f (above seen)) (sym frame-is) (record { seen = refl; types-first = omega arith; numbers-next = omega arith; types = refl; numbers = refl });
-      under = subst (λ (f : Frame). f .variables ≤ 0) (sym frame-is) (omega arith);
-      variables = refl;
-      entries = refl;
-    };
-    seen = h;
-    types = tt;
-    variables = tt;
   }
 
 -- ---- answers of stages

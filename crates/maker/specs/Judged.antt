@@ -26,35 +26,35 @@ unfoldable pub rowJudged : List ℕ → Row → Bool
 rowJudged text r = eqb (r .types) 0 && (eqb (r .numbers) 0 && (not (not (r .sort) && sameName (runAt text (r .name)) mainName)))
 
 -- a body of a sort stands at an offset
-pub record BodyThere (text : List ℕ) (at : ℕ) (sort : Bool) (b : Body) : Type 0 where
+pub record BodyRead (text : List ℕ) (at : ℕ) (sort : Bool) (b : Body) : Type 0 where
   pub lexed : Lexed text at
   pub rest : ℕ
   pub reads : bodyAt sort (from text at) ≡ got b (from text rest)
 
-pub record CanJudge (text w : List ℕ) (at : ℕ) (sort : Bool) : Type 0 where
+pub record CanTry (text w : List ℕ) (at : ℕ) (sort : Bool) : Type 0 where
   pub X : Text
   pub seen : ℕ
   pub σ : State
   pub body : Body
   pub knows : KnowsAbove text w X seen σ
-  pub there : BodyThere text at sort body
+  pub there : BodyRead text at sort body
 
 -- a body was made behind a state: what there was is the beginning of what there is now
-pub record BodyMade (text w : List ℕ) (X : Text) (σ : State) (puts : ℕ) : Type 0 where
+pub record TryMade (text w : List ℕ) (X : Text) (σ : State) (puts : ℕ) : Type 0 where
   pub next : State
   pub stands : TextStands text w X next
   pub begins : Beginning (σ .table) (next .table)
   pub nodes : σ .nodes ≤ next .nodes
   pub cost : next .puts ≡ puts
 
-abbrev pub BodyAnswers : List ℕ → List ℕ → Text → State → code.Stage → Answer ℕ → Type 0
-BodyAnswers text w X σ stage.Passed (good puts) = BodyMade text w X σ puts
-BodyAnswers text w X σ stage.Passed (refused why) = ⊥
-BodyAnswers text w X σ (stage.Refused number place) a = a ≡ refuse number place
+abbrev pub TryAnswers : List ℕ → List ℕ → Text → State → code.Stage → Answer ℕ → Type 0
+TryAnswers text w X σ stage.Passed (good puts) = TryMade text w X σ puts
+TryAnswers text w X σ stage.Passed (refused why) = ⊥
+TryAnswers text w X σ (stage.Refused number place) a = a ≡ refuse number place
 
-pub record BodySays (text w : List ℕ) (at : ℕ) (sort : Bool) (r : code.Stage) (w′ : List ℕ) : Type 0 where
+pub record TrySays (text w : List ℕ) (at : ℕ) (sort : Bool) (r : code.Stage) (w′ : List ℕ) : Type 0 where
   pub kept : FarKept w w′
-  pub says : (X : Text) (seen : ℕ) (σ : State) (b : Body) → KnowsAbove text w X seen σ → BodyThere text at sort b → BodyAnswers text w′ X σ r (judgedBody X seen σ b)
+  pub says : (X : Text) (seen : ℕ) (σ : State) (b : Body) → KnowsAbove text w X seen σ → BodyRead text at sort b → TryAnswers text w′ X σ r (judgedBody X seen σ b)
 
 -- .. and is forgotten
 abbrev pub TriedAs : List ℕ → List ℕ → Text → State → code.Stage → Answer ℕ → Type 0
@@ -64,7 +64,7 @@ TriedAs text w X σ (stage.Refused number place) a = a ≡ refuse number place
 
 pub record TriedSays (text w : List ℕ) (at : ℕ) (sort : Bool) (r : code.Stage) (w′ : List ℕ) : Type 0 where
   pub kept : FarKept w w′
-  pub says : (X : Text) (seen : ℕ) (σ : State) (b : Body) → KnowsAbove text w X seen σ → BodyThere text at sort b → TriedAs text w′ X σ r (judgedBody X seen σ b)
+  pub says : (X : Text) (seen : ℕ) (σ : State) (b : Body) → KnowsAbove text w X seen σ → BodyRead text at sort b → TriedAs text w′ X σ r (judgedBody X seen σ b)
 
 -- a text and a state are held, with clause number k
 pub record HasClause (text w : List ℕ) (k : ℕ) : Type 0 where

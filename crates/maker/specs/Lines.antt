@@ -90,6 +90,18 @@ LineAs text w X seen σ ts us b (went-is.On end known) = LineMade text w X seen 
 LineAs text w X seen σ ts us b went-is.Ends = ⊥
 LineAs text w X seen σ ts us b (went-is.Refused number place) = linesTable X σ (linesOf seen ts) ≡ refuse number place
 
+pub record CanTypes (text w : List ℕ) (at seen : ℕ) : Type 0 where
+  pub X : Text
+  pub σ : State
+  pub ts : List TypeTree
+  pub us : List Word
+  pub knows : KnowsAbove text w X seen σ
+  pub there : LineThere text at ts us
+
+pub record LineTypes (text w : List ℕ) (at seen : ℕ) (r : went.Went) (w′ : List ℕ) : Type 0 where
+  pub kept : FarKept w w′
+  pub says : (X : Text) (σ : State) (ts : List TypeTree) (us : List Word) → KnowsAbove text w X seen σ → LineThere text at ts us → LineAs text w′ X seen σ ts us (length (from text at)) r
+
 pub record LineSays (text w : List ℕ) (at seen : ℕ) (r : went.Went) (w′ : List ℕ) : Type 0 where
   pub kept : FarKept w w′
   pub says : (X : Text) (σ : State) (ts : List TypeTree) (us : List Word) → TextStands text w X σ → seen ≤ length (X .clauses) → LineThere text at ts us → LineAs text w′ X seen σ ts us (length (from text at)) r

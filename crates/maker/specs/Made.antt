@@ -30,8 +30,8 @@ use Rattle.maker.specs.Lines.{ItemsLeft}
 -- ---- `main`
 
 -- `main`, put in at the text's end
-unfoldable pub mainPut : Text → State → Answer Made
-mainPut X σ = putIn X false (above (length (X .clauses))) (λ S τ t. typeOf X mostNested S τ t) (bodyTerm (λ S τ e. termOf X mostNested S τ e)) σ (X .end) mainName noTypes []
+unfoldable pub mainMade : Text → State → Answer Made
+mainMade X σ = putIn X false (above (length (X .clauses))) (λ S τ t. typeOf X mostNested S τ t) (bodyTerm (λ S τ e. termOf X mostNested S τ e)) σ (X .end) mainName noTypes []
 
 abbrev pub TextTerm : List ℕ → List ℕ → Text → term.TermEnd → Answer Made → Type 0
 TextTerm text w X (term-end.At s) (good m) = (TextStands text w X (m .state)) × (TermHeld w s m)
@@ -48,12 +48,12 @@ pub record CanEnd (text w : List ℕ) (end : ℕ) : Type 0 where
 
 pub record MainMade (text w : List ℕ) (end : ℕ) (r : term.TermEnd) (w′ : List ℕ) : Type 0 where
   pub kept : FarKept w w′
-  pub says : (X : Text) (σ : State) → TextStands text w X σ → X .end ≡ end → TextTerm text w′ X r (mainPut X σ)
+  pub says : (X : Text) (σ : State) → TextStands text w X σ → X .end ≡ end → TextTerm text w′ X r (mainMade X σ)
 
 -- .. behind the judging of the definitions
 pub record BehindMade (text w : List ℕ) (end : ℕ) (r : term.TermEnd) (w′ : List ℕ) : Type 0 where
   pub kept : FarKept w w′
-  pub says : (X : Text) (σ : State) → TextStands text w X σ → X .end ≡ end → TextTerm text w′ X r (judgedFrom X 0 σ (X .clauses) >>= λ σ₁. mainPut X σ₁)
+  pub says : (X : Text) (σ : State) → TextStands text w X σ → X .end ≡ end → TextTerm text w′ X r (judgedFrom X 0 σ (X .clauses) >>= λ σ₁. mainMade X σ₁)
 
 -- a text's clauses stand in the memory, and its items and its end in the text
 pub record TextThere (text w : List ℕ) (items end : ℕ) (X : Text) : Type 0 where

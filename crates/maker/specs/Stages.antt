@@ -10,6 +10,7 @@ use Rattle.notation_calculus.specs.Make.{above}
 use Rattle.making_memory.specs.Map.{makingSize}
 use Rattle.made_types.specs.Held.{HoldsState}
 use Rattle.clauses.specs.Texts.{HoldsClauses}
+use Rattle.scopes.specs.Frames.{frameIn}
 use Rattle.walks.specs.Walkable.{Walkable}
 use Rattle.maker.specs.declared.Stage as code
 use Rattle.maker.specs.declared.Stage.the-variants as stage
@@ -27,8 +28,9 @@ pub record TextStands (text w : List ℕ) (X : Text) (σ : State) : Type 0 where
   pub state : HoldsState w σ
 
 -- .. and in the text's own frame the scope behind so many clauses
-abbrev pub KnowsAbove : List ℕ → List ℕ → Text → ℕ → State → Type 0
-KnowsAbove text w X seen σ = Walkable text w 81 0 X (above seen) σ
+pub record KnowsAbove (text w : List ℕ) (X : Text) (seen : ℕ) (σ : State) : Type 0 where
+  pub walkable : Walkable text w 81 0 X (above seen) σ
+  pub variables : frameIn w 81 .variables ≡ 0
 
 -- a stage passes and leaves the state, or it refuses, as the definition says
 abbrev pub StageAnswers : List ℕ → List ℕ → Text → code.Stage → Answer State → Type 0

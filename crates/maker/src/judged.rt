@@ -15,7 +15,7 @@ ghost use lib.ListN.{length};
 ghost use Rattle.notation_calculus.specs.Words.{sameName};
 ghost use Rattle.notation_calculus.specs.Make.{mainName};
 ghost use Rattle.words.specs.Next.{runAt};
-ghost use Rattle.maker.specs.Judged.{rowJudged, CanJudge, BodySays, TriedSays, HasClause, JudgeSays, SomeText, JudgedSay};
+ghost use Rattle.maker.specs.Judged.{rowJudged, CanTry, TrySays, TriedSays, HasClause, JudgeSays, SomeText, JudgedSay};
 
 // The name at an offset is `main`.
 fn names_main(text: &[u8], at: usize) -> bool
@@ -57,8 +57,8 @@ fn is_judged(text: &[u8], r: Row) -> bool
 
 // The body of a definition: a type is worked out.
 fn type_body(text: &[u8], work: &mut [u16], at: usize) -> Stage
-    requires { ⌜ CanJudge (now text) (now work) at true ⌝ }
-    ensures { λ r. ⌜ BodySays (now (text .entry)) (now (work .entry)) at true r (now (work .exit)) ⌝ }
+    requires { ⌜ CanTry (now text) (now work) at true ⌝ }
+    ensures { λ r. ⌜ TrySays (now (text .entry)) (now (work .entry)) at true r (now (work .exit)) ⌝ }
 {
     match type_from(text, work, at, 80, 81, 0) {
         TypeEnd::Refused(number, place) => Stage::Refused(number, place),
@@ -68,8 +68,8 @@ fn type_body(text: &[u8], work: &mut [u16], at: usize) -> Stage
 
 // .. a term is made.
 fn term_body(text: &[u8], work: &mut [u16], at: usize) -> Stage
-    requires { ⌜ CanJudge (now text) (now work) at false ⌝ }
-    ensures { λ r. ⌜ BodySays (now (text .entry)) (now (work .entry)) at false r (now (work .exit)) ⌝ }
+    requires { ⌜ CanTry (now text) (now work) at false ⌝ }
+    ensures { λ r. ⌜ TrySays (now (text .entry)) (now (work .entry)) at false r (now (work .exit)) ⌝ }
 {
     match term_from(text, work, at, 80, 81, 0) {
         TermEnd::Refused(number, place) => Stage::Refused(number, place),
@@ -78,8 +78,8 @@ fn term_body(text: &[u8], work: &mut [u16], at: usize) -> Stage
 }
 
 fn body(text: &[u8], work: &mut [u16], at: usize, sort: bool) -> Stage
-    requires { ⌜ CanJudge (now text) (now work) at sort ⌝ }
-    ensures { λ r. ⌜ BodySays (now (text .entry)) (now (work .entry)) at sort r (now (work .exit)) ⌝ }
+    requires { ⌜ CanTry (now text) (now work) at sort ⌝ }
+    ensures { λ r. ⌜ TrySays (now (text .entry)) (now (work .entry)) at sort r (now (work .exit)) ⌝ }
 {
     if sort {
         return type_body(text, work, at);
@@ -89,7 +89,7 @@ fn body(text: &[u8], work: &mut [u16], at: usize, sort: bool) -> Stage
 
 // .. is made and forgotten.
 fn tried(text: &[u8], work: &mut [u16], at: usize, sort: bool) -> Stage
-    requires { ⌜ CanJudge (now text) (now work) at sort ⌝ }
+    requires { ⌜ CanTry (now text) (now work) at sort ⌝ }
     ensures { λ r. ⌜ TriedSays (now (text .entry)) (now (work .entry)) at sort r (now (work .exit)) ⌝ }
 {
     let types = work[making_memory::TYPE_COUNT];

@@ -11,7 +11,7 @@ ghost use Prim.Native.Nat.{_+_, _*_, _≤_, _<_};
 ghost use lib.ListN.{length};
 ghost use lib.Seq.{sets};
 ghost use Rattle.making_memory.specs.Map.{framesAt, makingSize};
-ghost use Rattle.maker.specs.Lines.{CanTypeOne, TypedSays, CanLine, LineSays, CanItem, ItemSays, LinesSay};
+ghost use Rattle.maker.specs.Lines.{CanTypeOne, TypedSays, CanTypes, LineTypes, CanLine, LineSays, CanItem, ItemSays, LinesSay};
 
 const TABLE: u8 = 7;
 
@@ -65,12 +65,11 @@ fn one_type(text: &[u8], work: &mut [u16], at: usize) -> Typed
     }
 }
 
-// Types with commas between, behind `table`.
-fn line(text: &[u8], work: &mut [u16], start: usize, seen: usize) -> Went
-    requires { ⌜ CanLine (now text) (now work) start seen ⌝ }
-    ensures { λ r. ⌜ LineSays (now (text .entry)) (now (work .entry)) start seen r (now (work .exit)) ⌝ }
+// Types with commas between.
+fn types(text: &[u8], work: &mut [u16], start: usize, seen: usize) -> Went
+    requires { ⌜ CanTypes (now text) (now work) start seen ⌝ }
+    ensures { λ r. ⌜ LineTypes (now (text .entry)) (now (work .entry)) start seen r (now (work .exit)) ⌝ }
 {
-    know(work, seen);
     let mut at = start;
     loop {
         match one_type(text, work, at) {
@@ -85,6 +84,15 @@ fn line(text: &[u8], work: &mut [u16], start: usize, seen: usize) -> Went
             }
         }
     }
+}
+
+// .. behind `table`, in the text's own scope.
+fn line(text: &[u8], work: &mut [u16], start: usize, seen: usize) -> Went
+    requires { ⌜ CanLine (now text) (now work) start seen ⌝ }
+    ensures { λ r. ⌜ LineSays (now (text .entry)) (now (work .entry)) start seen r (now (work .exit)) ⌝ }
+{
+    know(work, seen);
+    types(text, work, start, seen)
 }
 
 // The item at an offset, behind so many clauses.

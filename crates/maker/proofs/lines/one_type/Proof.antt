@@ -1,50 +1,58 @@
+-- The first type of the line is worked out; the word behind it tells whether there are others. Assumes nothing.
 use borrow.Author.Needs.{needs}
+use Rattle.words.specs.Next.{saidWord}
+use Rattle.maker.proofs.LineLaws.{own-type, says-refused, says-lexed, says-more, says-last}
 use Rattle.maker.proofs.lines.one_type.Statement.{statement}
 use Rattle.maker.proofs.lines.one_type.Tie as tie
-use Rattle.maker.proofs.lines.one_type.Reads as reads
-use Rattle.maker.proofs.lines.one_type.Lts as lts
-use Rattle.maker.proofs.walks_stub.type_from.Reads as type-from-reads
-use Rattle.words.proofs.word_at.Reads as word-at-reads
 
--- src/lines.rt:56:11
 type-from-requires : tie.Need-type-from-requires
-type-from-requires c κs = search needs
+type-from-requires c κs =
+    let x = c .before .before .before in
+    let q = x .pre in
+    own-type (x .args .text .now) (x .args .work .now) (x .args .at) (q .there .lexed) (q .X) (q .seen) (q .σ) (q .knows)
 
--- src/lines.rt:57:26
 enum-known-number : tie.Need-enum-known-number
 enum-known-number c = search needs
 
--- src/lines.rt:58:24
 enum-known-end : tie.Need-enum-known-end
 enum-known-end c = search needs
 
--- src/lines.rt:59:17
 word-at-requires : tie.Need-word-at-requires
-word-at-requires c κs = ?
+word-at-requires c κs =
+    let f = c .before .before .before .before .before in
+    let x = f .before .before .before .before in
+    says-lexed (x .args .text .now) (x .args .work .now) (x .args .at) (f .type-from .result) _ (f .type-from .ensures) _ _ (c .before .end .given .1) (x .pre)
 
--- src/lines.rt:61:17
 same-length : tie.Need-same-length
 same-length c = search needs
 
--- src/lines.rt:61:17
 returns : tie.Need-returns
-returns c = ?
+returns c =
+    let d = c .before .before .before in
+    let f = d .before .before .before .before .before in
+    let x = f .before .before .before .before in
+    let v = c .before .before .word-at in
+    says-more (x .args .text .now) (x .args .work .now) (x .args .at) (f .type-from .result) _ (f .type-from .ensures) _ _ (d .before .end .given .1) (x .pre) (saidWord (v .result)) (v .ensures) (c .if1 .taken)
 
--- src/lines.rt:52:1
 same-length-2 : tie.Need-same-length-2
 same-length-2 c = search needs
 
--- src/lines.rt:52:1
 returns-2 : tie.Need-returns-2
-returns-2 c = ?
+returns-2 c =
+    let f = c .before .before .before .before .before in
+    let x = f .before .before .before .before in
+    says-refused (x .args .text .now) (x .args .work .now) (x .args .at) (f .type-from .result) _ (f .type-from .ensures) _ _ (c .before .number .given .1)
 
--- src/lines.rt:52:1
 same-length-3 : tie.Need-same-length-3
 same-length-3 c = search needs
 
--- src/lines.rt:52:1
 returns-3 : tie.Need-returns-3
-returns-3 c = ?
+returns-3 c =
+    let d = c .before .before .before in
+    let f = d .before .before .before .before .before in
+    let x = f .before .before .before .before in
+    let v = c .before .before .word-at in
+    says-last (x .args .text .now) (x .args .work .now) (x .args .at) (f .type-from .result) _ (f .type-from .ensures) _ _ (d .before .end .given .1) (x .pre) (saidWord (v .result)) (v .ensures) (c .if1 .left)
 
 pub one-type-spec : {M : Type 1} → statement M
 one-type-spec =
