@@ -1,2 +1,3 @@
 pub mod StageLaws
 pub mod LineLaws
+pub mod ItemSteps

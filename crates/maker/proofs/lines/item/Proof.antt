@@ -1,43 +1,54 @@
+-- By the item's first word: the end, a line, or a definition, which the grammar passes. Assumes nothing.
 use borrow.Author.Needs.{needs}
+use native.Mathlib.Omega.{arith}
+use Rattle.words.specs.Next.{saidWord}
+use Rattle.maker.proofs.ItemSteps.{item-few, item-ends, item-line, item-says, item-clause}
 use Rattle.maker.proofs.lines.item.Statement.{statement}
 use Rattle.maker.proofs.lines.item.Tie as tie
-use Rattle.maker.proofs.lines.item.Reads as reads
-use Rattle.maker.proofs.lines.item.Lts as lts
-use Rattle.grammar.proofs.items.item_end.Reads as item-end-reads
-use Rattle.maker.proofs.lines.line.Reads as line-reads
-use Rattle.words.proofs.word_at.Reads as word-at-reads
 
--- src/lines.rt:103:9
 word-at-requires : tie.Need-word-at-requires
-word-at-requires c κs = search needs
+word-at-requires c κs = c .before .before .pre .left .lexed
 
--- src/lines.rt:105:9
 returns : tie.Need-returns
-returns c = ?
+returns c =
+    let v = c .before .before .word-at in
+    let x = c .before .before .before .before .before in
+    item-ends (x .args .text .now) (x .args .work .now) (x .args .at) (x .args .seen) (x .pre) (saidWord (v .result)) (v .ensures) (c .if1 .taken)
 
--- src/lines.rt:108:9
 line-requires : tie.Need-line-requires
-line-requires c κs = ?
+line-requires c κs =
+    let w = c .before .before .before .before .before in
+    let v = w .word-at in
+    let x = w .before .before .before in
+    item-line (x .args .text .now) (x .args .work .now) (x .args .at) (x .args .seen) (x .pre) (saidWord (v .result)) (v .ensures) (c .before .before .before .if1 .left) (c .before .if2 .taken)
 
--- src/lines.rt:108:9
 same-length : tie.Need-same-length
 same-length c = search needs
 
--- src/lines.rt:108:9
 returns-2 : tie.Need-returns-2
-returns-2 c = ?
+returns-2 c =
+    let l = c .before .before in
+    let w = l .before .before .before .before .before .before in
+    let v = w .word-at in
+    let x = w .before .before .before in
+    item-says (x .args .text .now) (x .args .work .now) (x .args .at) (x .args .seen) (x .pre) (saidWord (v .result)) (v .ensures) (l .before .before .before .before .if1 .left) (l .before .before .if2 .taken) (l .line .result) _ (l .line .ensures)
 
--- src/lines.rt:110:9
 item-end-requires : tie.Need-item-end-requires
-item-end-requires c κs = search needs
+item-end-requires c κs = c .before .before .before .before .before .before .before .pre .left .lexed
 
--- src/lines.rt:111:20
 add-t10 : tie.Need-add-t10
-add-t10 c = ?
+add-t10 c =
+    let w = c .before .before .before .before .before in
+    let v = w .word-at in
+    let x = w .before .before .before in
+    omega (arith, item-few (x .args .text .now) (x .args .work .now) (x .args .at) (x .args .seen) (x .pre) (saidWord (v .result)) (v .ensures))
 
--- src/lines.rt:99:1
 returns-3 : tie.Need-returns-3
-returns-3 c = ?
+returns-3 c =
+    let w = c .before .before .before .before .before in
+    let v = w .word-at in
+    let x = w .before .before .before in
+    item-clause (x .args .text .now) (x .args .work .now) (x .args .at) (x .args .seen) (x .pre) (saidWord (v .result)) (v .ensures) (c .before .before .before .if1 .left) (c .before .if2 .left) (c .item-end .result) (c .item-end .ensures)
 
 pub item-spec : {M : Type 1} → statement M
 item-spec =

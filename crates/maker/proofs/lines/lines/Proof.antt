@@ -1,58 +1,79 @@
+-- The invariant: the lines that are left make of the state what all lines make of the first one. The measure is the words that are left.
+-- Assumes nothing.
+use borrow.Author.Needs.{needs}
+use lib.ListN.{length}
+use Rattle.words.specs.Lexed.{from}
+use Rattle.maker.proofs.ItemSteps.{ItemsGoing, items-first, items-can, items-kept, items-more, items-less, items-end, items-refused}
 use Rattle.maker.proofs.lines.lines.Statement.{statement}
 use Rattle.maker.proofs.lines.lines.Tie as tie
-use Rattle.maker.proofs.lines.lines.Reads as reads
-use Rattle.maker.proofs.lines.lines.Lts as lts
-use Rattle.maker.proofs.lines.item.Reads as item-reads
 
 abbrev Inv-loop : tie.InvT-loop
-Inv-loop text work₀ start at₀ seen₀ work at seen = ?
+Inv-loop text work₀ start at₀ seen₀ work at seen = ItemsGoing text work₀ start work at seen
 
 abbrev μ-loop : tie.MeasureT-loop
-μ-loop text work₀ start at₀ seen₀ work at seen = ?
+μ-loop text work₀ start at₀ seen₀ work at seen = length (from text at)
 
--- src/lines.rt:113:5
 loop-holds : tie.Need-loop-holds Inv-loop μ-loop
-loop-holds c = ?
+loop-holds c =
+    let a = c .before .before .args in
+    items-first (a .text .now) (a .work .now) (a .start)
 
--- src/lines.rt:114:15
 item-requires : tie.Need-item-requires Inv-loop μ-loop
-item-requires c κs = ?
+item-requires c κs =
+    let o = c .before .loop in
+    let x = c .before .before .before .before in
+    items-can (x .args .text .now) (x .args .work .now) (x .args .start) (x .pre) (o .work) (o .at) (o .seen) (o .inv)
 
--- src/lines.rt:115:22
 enum-known-next : tie.Need-enum-known-next Inv-loop μ-loop
-enum-known-next c = ?
+enum-known-next c = search needs
 
--- src/lines.rt:113:5
 loop-less : tie.Need-loop-less Inv-loop μ-loop
-loop-less c = ?
+loop-less c =
+    let f = c .before .before .before .before .before in
+    let o = f .before .before .loop in
+    let x = f .before .before .before .before .before in
+    items-less (x .args .text .now) (x .args .work .now) (x .args .start) (x .pre) (o .work) (o .at) (o .seen) (o .inv) (f .item .result) _ (f .item .ensures) _ _ (c .before .next .given .1)
 
--- src/lines.rt:113:5
 loop-again : tie.Need-loop-again Inv-loop μ-loop
-loop-again c = ?
+loop-again c =
+    let f = c .before .before .before .before .before in
+    let o = f .before .before .loop in
+    let x = f .before .before .before .before .before in
+    items-more (x .args .text .now) (x .args .work .now) (x .args .start) (x .pre) (o .work) (o .at) (o .seen) (o .inv) (f .item .result) _ (f .item .ensures) _ _ (c .before .next .given .1)
 
--- src/lines.rt:120:17
 enum-told : tie.Need-enum-told Inv-loop μ-loop
-enum-told c = ?
+enum-told c = search needs
 
--- src/lines.rt:120:17
 same-length : tie.Need-same-length Inv-loop μ-loop
-same-length c = ?
+same-length c =
+    let f = c .before .before .before .before in
+    let o = f .before .before .loop in
+    let x = f .before .before .before .before .before in
+    items-kept (x .args .text .now) (x .args .work .now) (x .args .start) (x .pre) (o .work) (o .at) (o .seen) (o .inv) (f .item .result) _ (f .item .ensures) .same
 
--- src/lines.rt:120:17
 returns : tie.Need-returns Inv-loop μ-loop
-returns c = ?
+returns c =
+    let f = c .before .before .before .before in
+    let o = f .before .before .loop in
+    let x = f .before .before .before .before .before in
+    items-end (x .args .text .now) (x .args .work .now) (x .args .start) (x .pre) (o .work) (o .at) (o .seen) (o .inv) (f .item .result) _ (f .item .ensures) (c .enum-told .given .1)
 
--- src/lines.rt:122:27
 enum-known-number : tie.Need-enum-known-number Inv-loop μ-loop
-enum-known-number c = ?
+enum-known-number c = search needs
 
--- src/lines.rt:123:17
 same-length-2 : tie.Need-same-length-2 Inv-loop μ-loop
-same-length-2 c = ?
+same-length-2 c =
+    let f = c .before .before .before .before .before in
+    let o = f .before .before .loop in
+    let x = f .before .before .before .before .before in
+    items-kept (x .args .text .now) (x .args .work .now) (x .args .start) (x .pre) (o .work) (o .at) (o .seen) (o .inv) (f .item .result) _ (f .item .ensures) .same
 
--- src/lines.rt:123:17
 returns-2 : tie.Need-returns-2 Inv-loop μ-loop
-returns-2 c = ?
+returns-2 c =
+    let f = c .before .before .before .before .before in
+    let o = f .before .before .loop in
+    let x = f .before .before .before .before .before in
+    items-refused (x .args .text .now) (x .args .work .now) (x .args .start) (x .pre) (o .work) (o .at) (o .seen) (o .inv) (f .item .result) _ (f .item .ensures) _ _ (c .before .number .given .1)
 
 pub lines-spec : {M : Type 1} → statement M
 lines-spec =

@@ -15,7 +15,9 @@ abbrev μ-loop : tie.MeasureT-loop
 μ-loop text work₀ start seen at₀ work at = length (from text at)
 
 loop-holds : tie.Need-loop-holds Inv-loop μ-loop
-loop-holds c = ?
+loop-holds c =
+    let a = c .before .before .args in
+    line-first (a .text .now) (a .work .now) (a .start) (a .seen)
 
 one-type-requires : tie.Need-one-type-requires Inv-loop μ-loop
 one-type-requires c κs =
