@@ -1,3 +1,5 @@
 pub mod StageLaws
 pub mod LineLaws
 pub mod ItemSteps
+pub mod JudgedLaws
+pub mod TriedLaws

@@ -78,7 +78,7 @@ line-head {text} {at} {ts} {us} L = line-headed (λ vs. typeAt mostNested false 
 -- ---- one type
 
 -- the walk's answer, by what the definition works out
-abbrev TypedBy : List ℕ → List ℕ → Answer Found → List Word → type.TypeEnd → Type 0
+abbrev pub TypedBy : List ℕ → List ℕ → Answer Found → List Word → type.TypeEnd → Type 0
 TypedBy text w m us (type-end.At t end) = (x : Found) × ((m ≡ good x) × ((HoldsState w (x .state)) × (Offset text end us)))
 TypedBy text w m us (type-end.Refused number place) = m ≡ refuse number place
 

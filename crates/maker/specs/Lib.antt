@@ -2,4 +2,3 @@ pub mod Stages
 pub mod Lines
 pub mod Judged
 pub mod Made
-pub mod Stub

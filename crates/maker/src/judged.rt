@@ -5,6 +5,7 @@ use crate::walks_stub::type_from;
 use crate::Stage;
 use clauses::rows;
 use clauses::rows::Row;
+use putting::mains;
 use scopes::puts;
 use walks::TermEnd;
 use walks::TypeEnd;
@@ -12,31 +13,7 @@ ghost use mathlib.Core.Path.{_≡_};
 ghost use mathlib.Core.Bool.{true, false};
 ghost use Prim.Native.Nat.{_≤_};
 ghost use lib.ListN.{length};
-ghost use Rattle.notation_calculus.specs.Words.{sameName};
-ghost use Rattle.notation_calculus.specs.Make.{mainName};
-ghost use Rattle.words.specs.Next.{runAt};
 ghost use Rattle.maker.specs.Judged.{rowJudged, CanTry, TrySays, TriedSays, HasClause, JudgeSays, SomeText, JudgedSay};
-
-// The name at an offset is `main`.
-fn names_main(text: &[u8], at: usize) -> bool
-    requires { ⌜ at ≤ length (now text) ⌝ }
-    ensures { λ r. ⌜ r ≡ sameName (runAt (now (text .entry)) at) mainName ⌝ }
-{
-    let end = words::run_end(text, at);
-    if end != at + 4 {
-        return false;
-    }
-    if text[at] != b'm' {
-        return false;
-    }
-    if text[at + 1] != b'a' {
-        return false;
-    }
-    if text[at + 2] != b'i' {
-        return false;
-    }
-    text[at + 3] == b'n'
-}
 
 // It has no parameters, and is not `main`.
 fn is_judged(text: &[u8], r: Row) -> bool
@@ -52,7 +29,7 @@ fn is_judged(text: &[u8], r: Row) -> bool
     if r.sort {
         return true;
     }
-    !names_main(text, r.name)
+    !mains::named_main(text, r.name)
 }
 
 // The body of a definition: a type is worked out.

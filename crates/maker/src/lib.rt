@@ -3,9 +3,9 @@ mod judged;
 mod lines;
 mod walks_stub;
 
+use putting::BodyEnd;
 use sheet_writer::WroteSheet;
 use translator::Answer;
-use walks::PutEnd;
 use walks::TermEnd;
 ghost use mathlib.Core.Path.{_≡_};
 ghost use Prim.Native.Nat.{_≤_};
@@ -26,9 +26,9 @@ fn main_term(text: &[u8], work: &mut [u16], end: usize) -> TermEnd
     requires { ⌜ CanEnd (now text) (now work) end ⌝ }
     ensures { λ r. ⌜ MainMade (now (text .entry)) (now (work .entry)) end r (now (work .exit)) ⌝ }
 {
-    match walks_stub::put_main(text, work, 80, end) {
-        PutEnd::Refused(number, place) => TermEnd::Refused(number, place),
-        PutEnd::At(q) => walks_stub::term_from(text, work, q.body, 80, 80, q.top),
+    match putting::put_main(text, work, 80, end) {
+        BodyEnd::Refused(number, place) => TermEnd::Refused(number, place),
+        BodyEnd::At(body, top) => walks_stub::term_from(text, work, body, 80, 80, top),
     }
 }
 

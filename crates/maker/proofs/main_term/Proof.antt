@@ -3,22 +3,22 @@ use Rattle.maker.proofs.main_term.Statement.{statement}
 use Rattle.maker.proofs.main_term.Tie as tie
 use Rattle.maker.proofs.main_term.Reads as reads
 use Rattle.maker.proofs.main_term.Lts as lts
-use Rattle.maker.proofs.walks_stub.put_main.Reads as put-main-reads
 use Rattle.maker.proofs.walks_stub.term_from.Reads as term-from-reads
+use Rattle.putting.proofs.put_main.Reads as put-main-reads
 
 -- src/lib.rt:29:11
 put-main-requires : tie.Need-put-main-requires
 put-main-requires c κs = search needs
 
--- src/lib.rt:30:25
+-- src/lib.rt:30:26
 enum-known-number : tie.Need-enum-known-number
 enum-known-number c = search needs
 
--- src/lib.rt:31:20
-enum-known-q : tie.Need-enum-known-q
-enum-known-q c = search needs
+-- src/lib.rt:31:21
+enum-known-body : tie.Need-enum-known-body
+enum-known-body c = search needs
 
--- src/lib.rt:31:26
+-- src/lib.rt:31:35
 term-from-requires : tie.Need-term-from-requires
 term-from-requires c κs = ?
 
@@ -44,7 +44,7 @@ main-term-spec =
     (tie.spec
     put-main-requires
     enum-known-number
-    enum-known-q
+    enum-known-body
     term-from-requires
     same-length
     returns

@@ -1,62 +1,75 @@
+-- A clause that is judged is counted, and tried in the scope of the clauses above it. Assumes nothing.
 use borrow.Author.Needs.{needs}
+use borrow.Author.Tests.{not-true, not-false}
+use Rattle.maker.proofs.TriedLaws.{judge-row, judge-skipped, judge-full, judge-can, judge-says}
 use Rattle.maker.proofs.judged.judge.Statement.{statement}
 use Rattle.maker.proofs.judged.judge.Tie as tie
-use Rattle.maker.proofs.judged.judge.Reads as reads
-use Rattle.maker.proofs.judged.judge.Lts as lts
-use Rattle.clauses.proofs.rows.row_at.Reads as row-at-reads
-use Rattle.maker.proofs.judged.is_judged.Reads as is-judged-reads
-use Rattle.maker.proofs.judged.tried.Reads as tried-reads
-use Rattle.maker.proofs.lines.know.Reads as know-reads
-use Rattle.scopes.proofs.puts.cost_of.Reads as cost-of-reads
-use Rattle.scopes.proofs.puts.count_put.Reads as count-put-reads
 
--- src/judged.rt:111:9
 row-at-requires : tie.Need-row-at-requires
 row-at-requires c κs = search needs
 
--- src/judged.rt:112:9
 is-judged-requires : tie.Need-is-judged-requires
-is-judged-requires c κs = ?
+is-judged-requires c κs =
+    let x = c .before .before .before .before in
+    judge-row (x .args .text .now) (x .args .work .now) (x .args .k) (x .pre) (c .row-at .result) (c .row-at .ensures) .name-inside
 
--- src/judged.rt:113:9
 same-length : tie.Need-same-length
 same-length c = search needs
 
--- src/judged.rt:113:9
 returns : tie.Need-returns
-returns c = ?
+returns c =
+    let j = c .before in
+    let r = j .before in
+    let x = r .before .before .before .before in
+    judge-skipped (x .args .text .now) (x .args .work .now) (x .args .k) (x .pre) (r .row-at .result) (r .row-at .ensures) (j .is-judged .result) (j .is-judged .ensures) (not-true _ (c .if1 .taken))
 
--- src/judged.rt:115:9
 cost-of-requires : tie.Need-cost-of-requires
-cost-of-requires c κs = ?
+cost-of-requires c κs =
+    let r = c .before .before in
+    let x = r .before .before .before .before in
+    judge-row (x .args .text .now) (x .args .work .now) (x .args .k) (x .pre) (r .row-at .result) (r .row-at .ensures) .end-lexed
 
--- src/judged.rt:116:9
 count-put-requires : tie.Need-count-put-requires
 count-put-requires c κs = search needs
 
--- src/judged.rt:117:9
 same-length-2 : tie.Need-same-length-2
 same-length-2 c = search needs
 
--- src/judged.rt:117:9
 returns-2 : tie.Need-returns-2
-returns-2 c = ?
+returns-2 c =
+    let p = c .before .before .before in
+    let k = p .before .before in
+    let j = k .before .before in
+    let r = j .before in
+    let x = r .before .before .before .before in
+    judge-full (x .args .text .now) (x .args .work .now) (x .args .k) (x .pre) (r .row-at .result) (r .row-at .ensures) (j .is-judged .result) (j .is-judged .ensures) (not-false _ (k .before .if1 .left)) (k .cost-of .result) (k .cost-of .ensures) _ (p .count-put .result) (p .count-put .ensures) (not-true _ (c .if2 .taken))
 
--- src/judged.rt:119:5
 know-requires : tie.Need-know-requires
 know-requires c κs = search needs
 
--- src/judged.rt:120:5
 tried-requires : tie.Need-tried-requires
-tried-requires c κs = ?
+tried-requires c κs =
+    let o = c .before .before .before in
+    let p = o .before .before .before .before .before in
+    let k = p .before .before in
+    let j = k .before .before in
+    let r = j .before in
+    let x = r .before .before .before .before in
+    judge-can (x .args .text .now) (x .args .work .now) (x .args .k) (x .pre) (r .row-at .result) (r .row-at .ensures) (j .is-judged .result) (j .is-judged .ensures) (not-false _ (k .before .if1 .left)) (k .cost-of .result) (k .cost-of .ensures) _ (p .count-put .result) (p .count-put .ensures) (not-false _ (o .before .before .if2 .left)) _ (o .know .ensures)
 
--- src/judged.rt:107:1
 same-length-3 : tie.Need-same-length-3
 same-length-3 c = search needs
 
--- src/judged.rt:107:1
 returns-3 : tie.Need-returns-3
-returns-3 c = ?
+returns-3 c =
+    let t = c .before .before in
+    let o = t .before .before .before .before in
+    let p = o .before .before .before .before .before in
+    let k = p .before .before in
+    let j = k .before .before in
+    let r = j .before in
+    let x = r .before .before .before .before in
+    judge-says (x .args .text .now) (x .args .work .now) (x .args .k) (x .pre) (r .row-at .result) (r .row-at .ensures) (j .is-judged .result) (j .is-judged .ensures) (not-false _ (k .before .if1 .left)) (k .cost-of .result) (k .cost-of .ensures) _ (p .count-put .result) (p .count-put .ensures) (not-false _ (o .before .before .if2 .left)) _ (o .know .ensures) (t .tried .result) _ (t .tried .ensures)
 
 pub judge-spec : {M : Type 1} → statement M
 judge-spec =

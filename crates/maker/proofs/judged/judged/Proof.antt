@@ -1,67 +1,83 @@
+-- The invariant: the clauses that are left make of the state what all clauses make of the first one. The measure is the clauses that are left.
+-- Assumes nothing.
+use borrow.Author.Needs.{needs}
+use native.Mathlib.Omega.{arith}
+use Prim.Native.Nat.{_-_}
+use Rattle.maker.proofs.TriedLaws.{JudgedGoing, judged-first, judged-low, judged-can, judged-kept, judged-more, judged-refused, judged-done}
 use Rattle.maker.proofs.judged.judged.Statement.{statement}
 use Rattle.maker.proofs.judged.judged.Tie as tie
-use Rattle.maker.proofs.judged.judged.Reads as reads
-use Rattle.maker.proofs.judged.judged.Lts as lts
-use Rattle.clauses.proofs.rows.wide.Reads as wide-reads
-use Rattle.maker.proofs.judged.judge.Reads as judge-reads
 
 abbrev Inv-loop : tie.InvT-loop
-Inv-loop text work₀ n k₀ work k = ?
+Inv-loop text work₀ n k₀ work k = JudgedGoing text work₀ work k
 
 abbrev μ-loop : tie.MeasureT-loop
-μ-loop text work₀ n k₀ work k = ?
+μ-loop text work₀ n k₀ work k = n - k
 
--- src/judged.rt:128:24
 slice-read-wide : tie.Need-slice-read-wide Inv-loop μ-loop
-slice-read-wide c = ?
+slice-read-wide c = let r = c .before .before .before .pre .stands .room in omega arith
 
--- src/judged.rt:128:9
 wide-requires : tie.Need-wide-requires Inv-loop μ-loop
-wide-requires c κs = ?
+wide-requires c κs = search needs
 
--- src/judged.rt:130:5
 loop-holds : tie.Need-loop-holds Inv-loop μ-loop
-loop-holds c = ?
+loop-holds c = let a = c .before .before .before .before .args in judged-first (a .text .now) (a .work .now)
 
--- src/judged.rt:131:15
 judge-requires : tie.Need-judge-requires Inv-loop μ-loop
-judge-requires c κs = ?
+judge-requires c κs =
+    let o = c .before .before in
+    let n = o .before in
+    let x = n .before .before .before .before in
+    judged-can (x .args .text .now) (x .args .work .now) (x .pre) (n .wide .result) (n .wide .ensures) (o .loop .work) (o .loop .k) (o .loop .inv) (omega arith)
 
--- src/judged.rt:132:28
 enum-known-number : tie.Need-enum-known-number Inv-loop μ-loop
-enum-known-number c = ?
+enum-known-number c = search needs
 
--- src/judged.rt:133:17
 same-length : tie.Need-same-length Inv-loop μ-loop
-same-length c = ?
+same-length c =
+    let o = c .before .before .before .before .before .before .before .before in
+    let n = o .before in
+    let x = n .before .before .before .before in
+    let f = c .before .before .before .before .before in
+    judged-kept (x .args .text .now) (x .args .work .now) (x .pre) (n .wide .result) (n .wide .ensures) (o .loop .work) (o .loop .k) (o .loop .inv) (omega arith) (f .judge .result) _ (f .judge .ensures) .same
 
--- src/judged.rt:133:17
 returns : tie.Need-returns Inv-loop μ-loop
-returns c = ?
+returns c =
+    let o = c .before .before .before .before .before .before .before .before in
+    let n = o .before in
+    let x = n .before .before .before .before in
+    let f = c .before .before .before .before .before in
+    judged-refused (x .args .text .now) (x .args .work .now) (x .pre) (n .wide .result) (n .wide .ensures) (o .loop .work) (o .loop .k) (o .loop .inv) (omega arith) (f .judge .result) _ (f .judge .ensures) _ _ (c .before .number .given .1)
 
--- src/judged.rt:136:21
 enum-told : tie.Need-enum-told Inv-loop μ-loop
-enum-told c = ?
+enum-told c = search needs
 
--- src/judged.rt:136:21
 add-k : tie.Need-add-k Inv-loop μ-loop
-add-k c = ?
+add-k c =
+    let o = c .before .before .before .before .before .before .before in
+    let n = o .before in
+    let x = n .before .before .before .before in
+    omega (arith, judged-low (x .args .text .now) (x .args .work .now) (x .pre) (n .wide .result) (n .wide .ensures) (o .loop .work) (o .loop .k) (o .loop .inv))
 
--- src/judged.rt:130:5
 loop-less : tie.Need-loop-less Inv-loop μ-loop
-loop-less c = ?
+loop-less c = omega arith
 
--- src/judged.rt:130:5
 loop-again : tie.Need-loop-again Inv-loop μ-loop
-loop-again c = ?
+loop-again c =
+    let o = c .before .before .before .before .before .before .before in
+    let n = o .before in
+    let x = n .before .before .before .before in
+    let f = c .before .before .before .before in
+    judged-more (x .args .text .now) (x .args .work .now) (x .pre) (n .wide .result) (n .wide .ensures) (o .loop .work) (o .loop .k) (o .loop .inv) (omega arith) (f .judge .result) _ (f .judge .ensures) (c .enum-told .given .1)
 
--- src/judged.rt:124:1
 same-length-2 : tie.Need-same-length-2 Inv-loop μ-loop
-same-length-2 c = ?
+same-length-2 c = let o = c .before .loop in o .inv .kept .same
 
--- src/judged.rt:124:1
 returns-2 : tie.Need-returns-2 Inv-loop μ-loop
-returns-2 c = ?
+returns-2 c =
+    let o = c .before in
+    let n = o .before in
+    let x = n .before .before .before .before in
+    judged-done (x .args .text .now) (x .args .work .now) (x .pre) (n .wide .result) (n .wide .ensures) (o .loop .work) (o .loop .k) (o .loop .inv) (omega arith)
 
 pub judged-spec : {M : Type 1} → statement M
 judged-spec =

@@ -1,37 +1,37 @@
+-- The walk over terms answers as the definition does. Assumes nothing.
 use borrow.Author.Needs.{needs}
+use Rattle.maker.proofs.JudgedLaws.{own-term, tries-term, tries-term-refused}
 use Rattle.maker.proofs.judged.term_body.Statement.{statement}
 use Rattle.maker.proofs.judged.term_body.Tie as tie
-use Rattle.maker.proofs.judged.term_body.Reads as reads
-use Rattle.maker.proofs.judged.term_body.Lts as lts
-use Rattle.maker.proofs.walks_stub.term_from.Reads as term-from-reads
 
--- src/judged.rt:74:11
 term-from-requires : tie.Need-term-from-requires
-term-from-requires c κs = ?
+term-from-requires c κs =
+    let x = c .before .before .before in
+    own-term (x .args .text .now) (x .args .work .now) (x .args .at) (x .pre)
 
--- src/judged.rt:75:26
 enum-known-number : tie.Need-enum-known-number
 enum-known-number c = search needs
 
--- src/judged.rt:76:27
 enum-told : tie.Need-enum-told
 enum-told c = search needs
 
--- src/judged.rt:70:1
 same-length : tie.Need-same-length
 same-length c = search needs
 
--- src/judged.rt:70:1
 returns : tie.Need-returns
-returns c = ?
+returns c =
+    let f = c .before .before .before .before .before in
+    let x = f .before .before .before .before in
+    tries-term-refused (x .args .text .now) (x .args .work .now) (x .args .at) (f .term-from .result) _ (f .term-from .ensures) _ _ (c .before .number .given .1)
 
--- src/judged.rt:70:1
 same-length-2 : tie.Need-same-length-2
 same-length-2 c = search needs
 
--- src/judged.rt:70:1
 returns-2 : tie.Need-returns-2
-returns-2 c = ?
+returns-2 c =
+    let f = c .before .before .before .before in
+    let x = f .before .before .before .before in
+    tries-term (x .args .text .now) (x .args .work .now) (x .args .at) (f .term-from .result) _ (f .term-from .ensures) (c .enum-told .given .1)
 
 pub term-body-spec : {M : Type 1} → statement M
 term-body-spec =

@@ -1,37 +1,39 @@
+-- The walk over types answers as the definition does. Assumes nothing.
 use borrow.Author.Needs.{needs}
+use Rattle.maker.proofs.LineLaws.{own-type}
+use Rattle.maker.proofs.JudgedLaws.{tries-type, tries-type-refused}
 use Rattle.maker.proofs.judged.type_body.Statement.{statement}
 use Rattle.maker.proofs.judged.type_body.Tie as tie
-use Rattle.maker.proofs.judged.type_body.Reads as reads
-use Rattle.maker.proofs.judged.type_body.Lts as lts
-use Rattle.maker.proofs.walks_stub.type_from.Reads as type-from-reads
 
--- src/judged.rt:63:11
 type-from-requires : tie.Need-type-from-requires
-type-from-requires c κs = search needs
+type-from-requires c κs =
+    let x = c .before .before .before in
+    let q = x .pre in
+    own-type (x .args .text .now) (x .args .work .now) (x .args .at) (q .there .lexed) (q .X) (q .seen) (q .σ) (q .knows)
 
--- src/judged.rt:64:26
 enum-known-number : tie.Need-enum-known-number
 enum-known-number c = search needs
 
--- src/judged.rt:65:30
 enum-told : tie.Need-enum-told
 enum-told c = search needs
 
--- src/judged.rt:59:1
 same-length : tie.Need-same-length
 same-length c = search needs
 
--- src/judged.rt:59:1
 returns : tie.Need-returns
-returns c = ?
+returns c =
+    let f = c .before .before .before .before .before in
+    let x = f .before .before .before .before in
+    tries-type-refused (x .args .text .now) (x .args .work .now) (x .args .at) (f .type-from .result) _ (f .type-from .ensures) _ _ (c .before .number .given .1)
 
--- src/judged.rt:59:1
 same-length-2 : tie.Need-same-length-2
 same-length-2 c = search needs
 
--- src/judged.rt:59:1
 returns-2 : tie.Need-returns-2
-returns-2 c = ?
+returns-2 c =
+    let f = c .before .before .before .before in
+    let x = f .before .before .before .before in
+    tries-type (x .args .text .now) (x .args .work .now) (x .args .at) (f .type-from .result) _ (f .type-from .ensures) _ _ (c .enum-told .given .1)
 
 pub type-body-spec : {M : Type 1} → statement M
 type-body-spec =
