@@ -3,3 +3,5 @@ pub mod LineLaws
 pub mod ItemSteps
 pub mod JudgedLaws
 pub mod TriedLaws
+pub mod MainLaws
+pub mod MadeLaws

@@ -1,46 +1,57 @@
+-- 30, the words, the clauses, and then the term. Assumes nothing.
+use borrow.Author.Needs.{needs}
+use native.Mathlib.Omega.{arith}
+use Rattle.maker.proofs.MadeLaws.{made-long, made-words, made-lexed, made-clauses, made-can, made-text}
 use Rattle.maker.proofs.made.Statement.{statement}
 use Rattle.maker.proofs.made.Tie as tie
-use Rattle.maker.proofs.made.Reads as reads
-use Rattle.maker.proofs.made.Lts as lts
-use Rattle.clauses.proofs.texts.read.Reads as read-reads
-use Rattle.maker.proofs.text_term.Reads as text-term-reads
-use Rattle.words.proofs.check_words.Reads as check-words-reads
 
--- src/lib.rt:64:9
 returns : tie.Need-returns
-returns c = ?
+returns c =
+    let x = c .before .before .before in
+    made-long (x .args .text .now) (x .args .work .now) (omega arith)
 
--- src/lib.rt:66:9
 check-words-requires : tie.Need-check-words-requires
-check-words-requires c κs = ?
+check-words-requires c κs = search needs
 
--- src/lib.rt:68:9
 returns-2 : tie.Need-returns-2
-returns-2 c = ?
+returns-2 c =
+    let v = c .before .before in
+    let x = v .before .before .before .before in
+    made-words (x .args .text .now) (x .args .work .now) (omega arith) (v .check-words .result .number) (v .check-words .result .place) (v .check-words .ensures) (c .if2 .taken)
 
--- src/lib.rt:70:9
 read-requires : tie.Need-read-requires
-read-requires c κs = ?
+read-requires c κs =
+    let v = c .before .before .before in
+    let x = v .before .before .before .before in
+    (made-lexed (x .args .text .now) (x .args .work .now) (omega arith) (v .check-words .result .number) (v .check-words .result .place) (v .check-words .ensures) (c .before .if2 .left), (omega arith, x .pre))
 
--- src/lib.rt:72:9
 same-length : tie.Need-same-length
-same-length c = ?
+same-length c = search needs
 
--- src/lib.rt:72:9
 returns-3 : tie.Need-returns-3
-returns-3 c = ?
+returns-3 c =
+    let r = c .before .before .before .before in
+    let v = r .before .before .before .before in
+    let x = v .before .before .before .before in
+    made-clauses (x .args .text .now) (x .args .work .now) (omega arith) (v .check-words .result .number) (v .check-words .result .place) (v .check-words .ensures) (r .before .before .if2 .left) (r .read .result) _ (r .read .ensures) (c .if3 .taken)
 
--- src/lib.rt:74:5
 text-term-requires : tie.Need-text-term-requires
-text-term-requires c κs = ?
+text-term-requires c κs =
+    let r = c .before .before .before .before .before in
+    let v = r .before .before .before .before in
+    let x = v .before .before .before .before in
+    made-can (x .args .text .now) (x .args .work .now) (omega arith) (v .check-words .result .number) (v .check-words .result .place) (v .check-words .ensures) (r .before .before .if2 .left) (r .read .result) _ (r .read .ensures) (c .before .if3 .left) (x .pre)
 
--- src/lib.rt:59:1
 same-length-2 : tie.Need-same-length-2
-same-length-2 c = ?
+same-length-2 c = search needs
 
--- src/lib.rt:59:1
 returns-4 : tie.Need-returns-4
-returns-4 c = ?
+returns-4 c =
+    let t = c .before .before in
+    let r = t .before .before .before .before .before .before in
+    let v = r .before .before .before .before in
+    let x = v .before .before .before .before in
+    made-text (x .args .text .now) (x .args .work .now) (omega arith) (v .check-words .result .number) (v .check-words .result .place) (v .check-words .ensures) (r .before .before .if2 .left) (r .read .result) _ (r .read .ensures) (t .before .before .if3 .left) (x .pre) (t .text-term .result) _ (t .text-term .ensures)
 
 pub made-spec : {M : Type 1} → statement M
 made-spec =

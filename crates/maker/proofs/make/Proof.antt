@@ -1,35 +1,39 @@
+-- What the call leaves of the working memory is cleared. Assumes nothing.
+use borrow.Author.Needs.{needs}
+use native.Mathlib.Omega.{arith}
+use Rattle.maker.proofs.MadeLaws.{call-is}
 use Rattle.maker.proofs.make.Statement.{statement}
 use Rattle.maker.proofs.make.Tie as tie
-use Rattle.maker.proofs.make.Reads as reads
-use Rattle.maker.proofs.make.Lts as lts
-use Rattle.maker.proofs.run.Reads as run-reads
-use Rattle.translator.proofs.clear.Reads as clear-reads
 
--- src/lib.rt:107:9
 run-requires : tie.Need-run-requires
-run-requires c κs = ?
+run-requires c κs = search needs
 
--- src/lib.rt:108:5
 clear-requires : tie.Need-clear-requires
-clear-requires c κs = ?
+clear-requires c κs = search needs
 
--- src/lib.rt:104:1
 same-length : tie.Need-same-length
-same-length c = ?
+same-length c = search needs
 
--- src/lib.rt:104:1
 same-length-2 : tie.Need-same-length-2
-same-length-2 c = ?
+same-length-2 c = search needs
 
--- src/lib.rt:104:1
 same-length-3 : tie.Need-same-length-3
-same-length-3 c = ?
+same-length-3 c = search needs
 
--- src/lib.rt:104:1
 returns : tie.Need-returns
-returns c = ?
+returns c =
+    let k = c .before .before in
+    let r = k .before .before .before .before .before .before .before .before in
+    let x = r .before .before .before .before .before .before .before .before in
+    call-is (x .args .text .now) (x .args .out .now) (x .args .places .now) (x .args .work .now) (r .run .result) _ _ _ _ (r .run .ensures) (k .clear .ensures)
 
 pub make-spec : {M : Type 1} → statement M
 make-spec =
     tie.close
-    (tie.spec run-requires clear-requires same-length same-length-2 same-length-3 returns)
+    (tie.spec
+    run-requires
+    clear-requires
+    same-length
+    same-length-2
+    same-length-3
+    returns)

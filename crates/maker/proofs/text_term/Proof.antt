@@ -1,46 +1,54 @@
+-- The table begins with **1**; the lines; what stands behind them. Assumes nothing.
+use borrow.Author.Needs.{needs}
+use native.Mathlib.Omega.{arith}
+use Rattle.maker.specs.declared.Stage.the-variants as stage
+use Rattle.maker.proofs.MainLaws.{lines-as, text-items, text-refused, text-can, text-made}
 use Rattle.maker.proofs.text_term.Statement.{statement}
 use Rattle.maker.proofs.text_term.Tie as tie
-use Rattle.maker.proofs.text_term.Reads as reads
-use Rattle.maker.proofs.text_term.Lts as lts
-use Rattle.made_types.proofs.begin.Reads as begin-reads
-use Rattle.maker.proofs.behind_lines.Reads as behind-lines-reads
-use Rattle.maker.proofs.lines.lines.Reads as lines-reads
 
--- src/lib.rt:51:5
 begin-requires : tie.Need-begin-requires
-begin-requires c κs = ?
+begin-requires c κs = c .before .before .before .pre .there .room
 
--- src/lib.rt:52:11
 lines-requires : tie.Need-lines-requires
-lines-requires c κs = ?
+lines-requires c κs =
+    let b = c .before .before .before in
+    let x = b .before .before .before .before in
+    text-items (x .args .text .now) (x .args .work .now) (x .args .items) (x .args .end) _ (b .begin .ensures) (x .pre)
 
--- src/lib.rt:53:24
 enum-known-number : tie.Need-enum-known-number
-enum-known-number c = ?
+enum-known-number c = search needs
 
--- src/lib.rt:54:45
 enum-told : tie.Need-enum-told
-enum-told c = ?
+enum-told c = search needs
 
--- src/lib.rt:54:26
 behind-lines-requires : tie.Need-behind-lines-requires
-behind-lines-requires c κs = ?
+behind-lines-requires c κs =
+    let l = c .before .before .before .before .before in
+    let b = l .before .before .before .before in
+    let x = b .before .before .before .before in
+    text-can (x .args .text .now) (x .args .work .now) (x .args .items) (x .args .end) _ (b .begin .ensures) _ (lines-as (x .args .text .now) _ (x .args .items) (l .lines .result) stage.Passed _ (c .before .enum-told .given .1) (l .lines .ensures)) (x .pre)
 
--- src/lib.rt:47:1
 same-length : tie.Need-same-length
-same-length c = ?
+same-length c = search needs
 
--- src/lib.rt:47:1
 returns : tie.Need-returns
-returns c = ?
+returns c =
+    let l = c .before .before .before .before .before in
+    let b = l .before .before .before .before in
+    let x = b .before .before .before .before in
+    text-refused (x .args .text .now) (x .args .work .now) (x .args .items) (x .args .end) _ (b .begin .ensures) _ _ _ (lines-as (x .args .text .now) _ (x .args .items) (l .lines .result) (stage.Refused _ _) _ (c .before .number .given .1) (l .lines .ensures))
 
--- src/lib.rt:47:1
 same-length-2 : tie.Need-same-length-2
-same-length-2 c = ?
+same-length-2 c = search needs
 
--- src/lib.rt:47:1
 returns-2 : tie.Need-returns-2
-returns-2 c = ?
+returns-2 c =
+    let m = c .before .before in
+    let e = m .before .before in
+    let l = e .before .before .before .before in
+    let b = l .before .before .before .before in
+    let x = b .before .before .before .before in
+    text-made (x .args .text .now) (x .args .work .now) (x .args .items) (x .args .end) _ (b .begin .ensures) _ (lines-as (x .args .text .now) _ (x .args .items) (l .lines .result) stage.Passed _ (e .enum-told .given .1) (l .lines .ensures)) (m .behind-lines .result) _ (m .behind-lines .ensures)
 
 pub text-term-spec : {M : Type 1} → statement M
 text-term-spec =
