@@ -5,3 +5,5 @@ pub mod JudgedLaws
 pub mod TriedLaws
 pub mod MainLaws
 pub mod MadeLaws
+pub mod Determined
+pub mod CallMeans
