@@ -20,6 +20,8 @@
 enum {
     DELTAWOBBLE_ROOM = 57728,    /* output bytes that always do for a netlist; 41344 in plain kinds */
     DELTAWOBBLE_MODULE = 395400, /* .. and for a module of Verilog */
+    DELTAWOBBLE_SHEET = 16384,   /* .. and for the sheet of a text */
+    DELTAWOBBLE_NODES = 2048,    /* places that always do for its nodes */
     DELTAWOBBLE_MEMORY = 32768   /* numbers of working memory that are needed */
 };
 
@@ -86,4 +88,13 @@ uint64_t deltawobble_never(const uint8_t *sheet, size_t sheet_len, const uint8_t
    393 bytes of output always do. */
 uint64_t deltawobble_back(const uint8_t *net, size_t net_len, uint8_t *out, size_t out_len,
                           uint16_t *work, size_t work_len, bool lean);
+
+/* Writes the sheet of a text in the notation (docs/NOTATION.md), and to places, for each of its nodes in the order of
+   the sheet, the offset of the word in the text that the node came from. After 1: 30, place 0: more than 65,535 bytes;
+   31 a byte that begins no word; 32 a word that the grammar does not expect; 33 a name that means nothing there; 34 a
+   limit is passed; 35 sides whose sorts do not fit the type; 36 a clause that can never be meant: the place of 31 to 36
+   is an offset of the text. Then 17 as in every call, place the bytes that are needed; then 37: fewer numbers in places
+   than nodes, place how many there are. DELTAWOBBLE_SHEET bytes and DELTAWOBBLE_NODES numbers always do. */
+uint64_t deltawobble_make(const uint8_t *text, size_t text_len, uint8_t *out, size_t out_len,
+                          uint16_t *places, size_t places_len, uint16_t *work, size_t work_len);
 #endif

@@ -39,8 +39,10 @@ use Rattle.back.proofs.Places.{back-places, back-fits}
 use Rattle.foreign.specs.Walk.{saidCheck, calledCheck as checked}
 use Rattle.foreign.specs.declared.Verdict.{Verdict}
 use Rattle.foreign.specs.declared.Verdict.the-variants as verdict
-use Rattle.deltawobble.specs.Boundary.{Packs, PacksBatch, checkedValue, PacksCheck, PacksLanes, PacksNever}
+use Rattle.deltawobble.specs.Boundary.{Packs, PacksBatch, checkedValue, PacksCheck, PacksLanes, PacksNever, PacksMake}
 use Rattle.never_calculus.specs.Search.{NeverCall}
+use Rattle.notation_calculus.specs.Make.{MakeCall}
+use Rattle.maker.specs.Made.{calledMake}
 use Rattle.never.specs.Told.{calledNever}
 
 -- ---- a call
@@ -51,6 +53,14 @@ answer-packs r o w c e = record {
   said = ap (λ (x : Call). packed (x .said)) e;
   wrote = ap (λ (x : Call). x .out) e;
   kept = ap (λ (x : Call). x .work) e;
+}
+
+pub make-packs : (r : code.Answer) (o p w : List ℕ) (c : MakeCall) → calledMake r o p w ≡ c → PacksMake (packed (saidAnswer r)) o p w c
+make-packs r o p w c e = record {
+  said = ap (λ (x : MakeCall). packed (x .said)) e;
+  wrote = ap (λ (x : MakeCall). x .out) e;
+  told = ap (λ (x : MakeCall). x .places) e;
+  kept = ap (λ (x : MakeCall). x .work) e;
 }
 
 pub never-packs : (r : code.Answer) (o w t q : List ℕ) (c : NeverCall) → calledNever r o w t q ≡ c → PacksNever (packed (saidAnswer r)) o w t q c

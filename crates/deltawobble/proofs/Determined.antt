@@ -22,6 +22,8 @@ use Rattle.deltawobble.proofs.deltawobble_verilog.Kinds as c-verilog
 use Rattle.deltawobble.proofs.deltawobble_verilog.Reads as c-verilog-reads
 use Rattle.deltawobble.proofs.deltawobble_back.Kinds as c-back
 use Rattle.deltawobble.proofs.deltawobble_back.Reads as c-back-reads
+use Rattle.deltawobble.proofs.deltawobble_make.Kinds as c-make
+use Rattle.deltawobble.proofs.deltawobble_make.Reads as c-make-reads
 use Rattle.deltawobble.proofs.deltawobble_stretch.Kinds as c-stretch
 use Rattle.deltawobble.proofs.deltawobble_stretch.Reads as c-stretch-reads
 
@@ -65,6 +67,12 @@ determined-deltawobble-verilog κs a x y s t f g = record { answer = f .said ∙
 pub determined-deltawobble-back : (κs : Lfts 3) (a : Dens κs c-back.ps) (x y : resT c-back.r κs .Denot) (s t : AtExit (endedOf 3 c-back.ps c-back.r) κs)
     → c-back-reads.Post κs a x s → c-back-reads.Post κs a y t → SameResult x y (s .1 .0 .now) (t .1 .0 .now) (s .1 .1 .0 .now) (t .1 .1 .0 .now)
 determined-deltawobble-back κs a x y s t f g = record { answer = f .said ∙ sym (g .said); out = f .wrote ∙ sym (g .wrote); work = f .kept ∙ sym (g .kept) }
+
+pub determined-deltawobble-make : (κs : Lfts 4) (a : Dens κs c-make.ps) (x y : resT c-make.r κs .Denot) (s t : AtExit (endedOf 4 c-make.ps c-make.r) κs)
+    → c-make-reads.Post κs a x s → c-make-reads.Post κs a y t
+    → SameResult x y (s .1 .0 .now) (t .1 .0 .now) (s .1 .1 .1 .0 .now) (t .1 .1 .1 .0 .now) × (s .1 .1 .0 .now ≡ t .1 .1 .0 .now)
+determined-deltawobble-make κs a x y s t f g =
+    (record { answer = f .said ∙ sym (g .said); out = f .wrote ∙ sym (g .wrote); work = f .kept ∙ sym (g .kept) }, f .told ∙ sym (g .told))
 
 pub determined-deltawobble-stretch : (κs : Lfts 1) (a : Dens κs c-stretch.ps) (x y : resT c-stretch.r κs .Denot) (s t : AtExit (endedOf 1 c-stretch.ps c-stretch.r) κs)
     → c-stretch-reads.Post κs a x s → c-stretch-reads.Post κs a y t → x ≡ y

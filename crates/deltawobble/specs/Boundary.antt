@@ -10,6 +10,7 @@ use Rattle.batch.specs.Batch.{Batch}
 use Rattle.foreign_theorems.specs.Foreign.{Checked}
 use Rattle.trace_calculus.specs.Lanes.{LanesCall}
 use Rattle.never_calculus.specs.Search.{NeverCall}
+use Rattle.notation_calculus.specs.Make.{MakeCall}
 
 -- where a stretch begins, and its length
 abbrev pub packedStretch : Stretch → ℕ
@@ -40,6 +41,13 @@ pub record PacksNever (r : ℕ) (out work trail queue : List ℕ) (c : NeverCall
   pub packs : Packs r out work (c .call)
   pub left-trail : trail ≡ c .trail
   pub left-queue : queue ≡ c .queue
+
+-- .. and the places, those of a call that makes a sheet of a text
+pub record PacksMake (r : ℕ) (out places work : List ℕ) (c : MakeCall) : Type 0 where
+  pub said : r ≡ packed (c .said)
+  pub wrote : out ≡ c .out
+  pub told : places ≡ c .places
+  pub kept : work ≡ c .work
 
 -- accepted is the value 0
 abbrev pub checkedValue : Answer (Unit {0}) → Answer ℕ

@@ -12,7 +12,8 @@ ghost use Rattle.trace_calculus.specs.Lanes.{lanesCall};
 ghost use Rattle.never_calculus.specs.Search.{neverCall};
 ghost use Rattle.export_calculus.specs.Verilog.{verilogCall};
 ghost use Rattle.back_theorems.specs.Returned.{backCall};
-ghost use Rattle.deltawobble.specs.Boundary.{Packs, PacksBatch, PacksLanes, PacksCheck, PacksNever, packedStretch};
+ghost use Rattle.notation_calculus.specs.Make.{makeCall};
+ghost use Rattle.deltawobble.specs.Boundary.{Packs, PacksBatch, PacksLanes, PacksCheck, PacksNever, PacksMake, packedStretch};
 
 // The netlist of a sheet. Bits 0 to 31 of the answer are the number of bytes written or the place, 32 to 39 the refusal's number, 0 for none,
 // 40 to 51 the type number wanted and 52 to 63 the one found.
@@ -134,6 +135,20 @@ pub extern "C" fn deltawobble_back(net: &[u8], out: &mut [u8], work: &mut [u16],
     ensures { λ r. ⌜ Packs r (now (out .exit)) (now (work .exit)) (backCall lean (now (net .entry)) (now (out .entry)) (now (work .entry))) ⌝ }
 {
     let answer = back::back(net, out, work, lean);
+    translator::word(answer)
+}
+
+// The sheet of a text in the notation, and for each of its nodes the offset of the word in the text that it came from; the answer likewise.
+#[no_mangle]
+pub extern "C" fn deltawobble_make(
+    text: &[u8],
+    out: &mut [u8],
+    places: &mut [u16],
+    work: &mut [u16],
+) -> u64
+    ensures { λ r. ⌜ PacksMake r (now (out .exit)) (now (places .exit)) (now (work .exit)) (makeCall (now (text .entry)) (now (out .entry)) (now (places .entry)) (now (work .entry))) ⌝ }
+{
+    let answer = maker::make(text, out, places, work);
     translator::word(answer)
 }
 

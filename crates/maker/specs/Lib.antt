@@ -1,0 +1,4 @@
+pub mod Stages
+pub mod Lines
+pub mod Judged
+pub mod Made
