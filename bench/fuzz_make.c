@@ -182,7 +182,7 @@ int LLVMFuzzerTestOneInput(const uint8_t *data, size_t size) {
     held(text, length, (struct lent){near(data[0], bytes, ROOM), near(data[1], nodes, NODES), memories[data[2] & 7]}, first, nodes);
     /* what 17 and 37 ask for does, and no less */
     held(text, length, (struct lent){bytes, nodes, CLEARED}, first, nodes);
-    if (nodes) held(text, length, (struct lent){bytes - 1, nodes, CLEARED}, first, nodes);
+    if (nodes) held(text, length, (struct lent){bytes - 1, nodes - 1, CLEARED}, first, nodes);
     if (nodes) held(text, length, (struct lent){bytes, nodes - 1, CLEARED}, first, nodes);
     return 0;
 }
