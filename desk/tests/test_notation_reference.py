@@ -65,6 +65,13 @@ class KnownResults(unittest.TestCase):
         self.assertGreaterEqual(sum(map(self.refused, LARGER)), 3)
 
 
+class OfTheTestsAlone(unittest.TestCase):
+    def test_the_package_has_no_maker(self) -> None:
+        for path in (ROOT / "desk" / "package").rglob("*.py"):
+            self.assertNotIn("make_by_definition", path.read_text(), path)
+            self.assertNotEqual(path.name, "definitions.py")
+
+
 @unittest.skipUnless(shutil.which("cargo"), "NOT RUN: there is no cargo to build the second program")
 class AgainstSecond(unittest.TestCase):
     def test_generated_texts(self) -> None:
