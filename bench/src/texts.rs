@@ -233,7 +233,7 @@ pub fn ordinary() -> Vec<Text> {
     vec![
         text("189 definitions of a line", short_definitions()),
         text("39 definitions of five lines", long_definitions()),
-        text("the blocks: an adder of 32 bits", blocks("main = adder{5}")),
-        text("the blocks: a sorter of 16", blocks("main = bitonic{0, 4}")),
+        text("blocks: an adder of 32 bits", blocks("main = adder{5}")),
+        text("blocks: a sorter of 16", blocks("main = bitonic{0, 4}")),
     ]
 }
