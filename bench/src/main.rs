@@ -1,6 +1,6 @@
 //! The bench program. The scripts beside it build it and call it from the repository's root:
 //! `differential COUNT SEED CALL..`, `put-in COUNT SEED`, `exact COUNT SEED` (for memcheck), `table [plain]`, `stack`,
-//! `sheets FOLDER`, `nets FOLDER`, `texts FOLDER`, `make-times`.
+//! `sheets FOLDER`, `nets FOLDER`, `texts FOLDER`, `slow-texts FOLDER`, `make-times`.
 
 mod boundary;
 mod circuit;
@@ -21,6 +21,7 @@ mod stack;
 #[cfg(linked)]
 mod table;
 mod tally;
+#[cfg_attr(not(linked), allow(dead_code))]
 mod texts;
 #[cfg(linked)]
 mod timing;
@@ -70,6 +71,10 @@ fn main() {
             nets(&words[1]);
             true
         }
+        Some("slow-texts") if words.len() == 2 => {
+            slow_texts(&words[1]);
+            true
+        }
         Some("texts") if words.len() == 2 => {
             texts(&words[1]);
             true
@@ -81,7 +86,9 @@ fn main() {
 
 fn usage() -> ! {
     eprintln!("usage: bench differential [COUNT] [SEED] [CALL..] | put-in [COUNT] [SEED]");
-    eprintln!("       bench stack | sheets FOLDER | nets FOLDER | texts FOLDER");
+    eprintln!(
+        "       bench stack | sheets FOLDER | nets FOLDER | texts FOLDER | slow-texts FOLDER"
+    );
     eprintln!("and where the archive is linked in: bench exact [COUNT] [SEED] | table [plain] | make-times");
     exit(2)
 }
@@ -105,6 +112,15 @@ fn nets(folder: &str) {
     for (at, net) in named.chain(generated).filter(|net| net.len() < 16_000).enumerate() {
         let path = format!("{folder}/{at}");
         std::fs::write(&path, net).unwrap_or_else(|why| panic!("{path}: {why}"));
+    }
+}
+
+/// The texts that take longest as files, and a line for each: number, name.
+fn slow_texts(folder: &str) {
+    for (at, texts::Text { name, text }) in texts::slow().into_iter().enumerate() {
+        println!("{at} {name}");
+        let path = format!("{folder}/{at}");
+        std::fs::write(&path, text).unwrap_or_else(|why| panic!("{path}: {why}"));
     }
 }
 

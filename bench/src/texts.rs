@@ -104,6 +104,13 @@ fn long_names(length: usize) -> String {
     doubling(&above.concat(), &names[0], "")
 }
 
+/// The same above a family with a short name: what is compared is the clauses' names, and what is paid for the short one.
+fn passed_names(length: usize) -> String {
+    let above =
+        alike(250, length).iter().map(|name| format!("type {name} = 1\n")).collect::<String>();
+    doubling(&above, "f", "")
+}
+
 /// Rows of 100 arguments in `z`, so many.
 fn rows(times: usize, argument: &str) -> String {
     row(times, &format!("z[{}]", row(100, argument, ",")), "->")
@@ -113,6 +120,12 @@ fn rows(times: usize, argument: &str) -> String {
 fn parameters(length: usize, times: usize) -> String {
     let names = alike(900, length);
     let clause = format!("type f[{}] = {}", names.join(","), rows(times, &names[899]));
+    over_and_over(&clause, &format!("f[{}]", row(900, "1", ",")))
+}
+
+/// Type parameters with long names, and behind them one with a short name, which the body names and nothing else.
+fn passed_parameters(length: usize, times: usize) -> String {
+    let clause = format!("type f[{},x] = {}", alike(899, length).join(","), rows(times, "x"));
     over_and_over(&clause, &format!("f[{}]", row(900, "1", ",")))
 }
 
@@ -176,6 +189,8 @@ pub fn slow() -> Vec<Text> {
         text("250 clauses, names of 20 bytes", long_names(20)),
         text("250 clauses, names of 60 bytes", long_names(60)),
         text("250 clauses, names of 220 bytes", long_names(220)),
+        text("250 names of 220 bytes passed", passed_names(220)),
+        text("899 parameters of 55 bytes passed", passed_parameters(55, 40)),
         text("240 clauses of 50 numbers", numbers()),
         text("900 type arguments of 3 bytes", parameters(3, 70)),
         text("900 type arguments of 30 bytes", parameters(30, 9)),
