@@ -10,7 +10,7 @@
 #include <sys/mman.h>
 #include <unistd.h>
 
-enum { CLEARED = 32768, SEEN = 1 << 14, STRETCH = 1 << 17, GUARD = 64 };
+enum { CLEARED = 32768, SEEN = 1 << 14, STRETCH = 1 << 17, GUARD = 64, NUMBERS = 48 };
 
 /* libFuzzer reads this section as counters; fuzz_alone.c reads it by name */
 __attribute__((section("__libfuzzer_extra_counters"))) uint8_t seen[SEEN];
@@ -61,16 +61,16 @@ static bool cleared(const uint16_t *work, size_t numbers, uint32_t refusal) {
 static void mark(uint32_t hash) { seen[hash * 2654435761u >> 18] = 1; }
 
 /* How often each number was answered, told at the end: a run that never met one has not tried it. */
-static uint64_t answers[32];
+static uint64_t answers[NUMBERS];
 
 static void tell(void) {
-    for (int number = 0; number < 32; number++)
+    for (int number = 0; number < NUMBERS; number++)
         if (answers[number]) fprintf(stderr, "answer %d: %llu\n", number, (unsigned long long)answers[number]);
 }
 
 static void tally(uint32_t number) {
     static bool asked;
-    DEMAND(number < 32 && (asked || atexit(tell) == 0));
+    DEMAND(number < NUMBERS && (asked || atexit(tell) == 0));
     asked = true;
     answers[number]++;
 }

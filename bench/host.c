@@ -29,8 +29,9 @@ uint64_t deltawobble_lanes(SLICE(const uint8_t), SLICE(const uint16_t), SLICE(ui
                            SLICE(uint16_t), uint16_t);
 uint64_t deltawobble_never(SLICE(const uint8_t), SLICE(const uint8_t), SLICE(uint32_t), SLICE(uint32_t), SLICE(uint8_t),
                            SLICE(uint16_t), uint16_t);
+uint64_t deltawobble_make(SLICE(const uint8_t), SLICE(uint8_t), SLICE(uint16_t), SLICE(uint16_t));
 
-enum { TRANSLATE, STRETCH, BATCH, VERILOG, RUN, CHECK, BACK, LANES, NEVER, PAINTED = 16 };
+enum { TRANSLATE, STRETCH, BATCH, VERILOG, RUN, CHECK, BACK, LANES, NEVER, MAKE, PAINTED = 16 };
 enum { STACK = 1 << 20, PAINT = 0xA5 };
 
 static uint8_t *base;
@@ -59,6 +60,7 @@ static uint64_t call(void) {
     case NEVER:
         return deltawobble_never(AT(0, uint8_t), AT(1, uint8_t), AT(2, uint32_t), AT(3, uint32_t), AT(4, uint8_t),
                                  AT(5, uint16_t), last);
+    case MAKE: return deltawobble_make(AT(0, uint8_t), AT(1, uint8_t), AT(2, uint16_t), AT(3, uint16_t));
     }
     fprintf(stderr, "the archive has no call %d\n", (int)request[0]);
     exit(2);

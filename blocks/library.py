@@ -1,7 +1,7 @@
-"""Texts of blocks to sheets, by the desk's own `use` and `make`. This step is not proved yet (deltawobble/notation/call.py says who does it).
+"""Texts of blocks to sheets: the desk's own `use` joins the files, and the proved call `make` makes the sheet.
 
-What is behind a sheet's bytes comes from the proved calls, through the desk's package. `by_second` is the second program, which `blocks/test` holds
-every sheet of a block against.
+What is behind a sheet's bytes comes from the proved calls too, through the desk's package. `by_second` is the second program, which `blocks/test`
+holds every sheet of a block against.
 """
 from __future__ import annotations
 

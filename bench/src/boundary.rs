@@ -20,6 +20,7 @@ pub enum Call {
     Back,
     Lanes,
     Never,
+    Make,
 }
 
 /// What users are told there is.
@@ -37,6 +38,7 @@ impl Call {
             Call::Back => "back",
             Call::Lanes => "lanes",
             Call::Never => "never",
+            Call::Make => "make",
         }
     }
 
@@ -193,6 +195,17 @@ pub mod linked {
             work_len: usize,
             pin: u16,
         ) -> u64;
+        #[rustfmt::skip]
+        fn deltawobble_make(
+            text: *const u8,
+            text_len: usize,
+            out: *mut u8,
+            out_len: usize,
+            places: *mut u16,
+            places_len: usize,
+            work: *mut u16,
+            work_len: usize,
+        ) -> u64;
     }
 
     /// The call on slices, each an address and its number of elements.
@@ -231,6 +244,9 @@ pub mod linked {
             (Call::Never, &[(sheet, n), (starts, s), (trail, t), (queue, q), (out, m), (work, k)]) => {
                 deltawobble_never(sheet, n, starts, s, trail.cast(), t, queue.cast(), q, out, m, work.cast(), k, last as u16)
             },
+            (Call::Make, &[(text, n), (out, m), (places, p), (work, k)]) => {
+                deltawobble_make(text, n, out, m, places.cast(), p, work.cast(), k)
+            }
             _ => unreachable!("{call:?} on {} slices", slices.len()),
         }
     }

@@ -1,6 +1,6 @@
 //! The bench program. The scripts beside it build it and call it from the repository's root:
 //! `differential COUNT SEED CALL..`, `put-in COUNT SEED`, `exact COUNT SEED` (for memcheck), `table [plain]`, `stack`,
-//! `sheets FOLDER`, `nets FOLDER`.
+//! `sheets FOLDER`, `nets FOLDER`, `texts FOLDER`, `slow-texts FOLDER`, `make-times`.
 
 mod boundary;
 mod circuit;
@@ -10,6 +10,8 @@ mod differential;
 #[cfg(linked)]
 mod exact;
 mod fences;
+#[cfg(linked)]
+mod make_times;
 mod modes;
 #[cfg(linked)]
 mod others;
@@ -19,12 +21,15 @@ mod stack;
 #[cfg(linked)]
 mod table;
 mod tally;
+#[cfg_attr(not(linked), allow(dead_code))]
+mod texts;
 #[cfg(linked)]
 mod timing;
 mod try_back;
 mod try_batch;
 mod try_check;
 mod try_lanes;
+mod try_make;
 mod try_never;
 mod try_run;
 mod try_translate;
@@ -32,7 +37,7 @@ mod try_verilog;
 mod worst;
 
 use second::random::Random;
-use second::{edges_foreign, nets};
+use second::{edges_foreign, edges_notation, nets, notation_texts};
 use std::process::exit;
 
 fn main() {
@@ -55,6 +60,8 @@ fn main() {
             table::print(table::Kinds { plain });
             true
         }
+        #[cfg(linked)]
+        Some("make-times") => make_times::print(),
         Some("stack") => stack::print().map_err(|why| println!("{why}")).is_ok(),
         Some("sheets") if words.len() == 2 => {
             sheets(&words[1]);
@@ -64,6 +71,14 @@ fn main() {
             nets(&words[1]);
             true
         }
+        Some("slow-texts") if words.len() == 2 => {
+            slow_texts(&words[1]);
+            true
+        }
+        Some("texts") if words.len() == 2 => {
+            texts(&words[1]);
+            true
+        }
         _ => usage(),
     };
     exit(if well { 0 } else { 1 })
@@ -71,8 +86,10 @@ fn main() {
 
 fn usage() -> ! {
     eprintln!("usage: bench differential [COUNT] [SEED] [CALL..] | put-in [COUNT] [SEED]");
-    eprintln!("       bench stack | sheets FOLDER | nets FOLDER");
-    eprintln!("and where the archive is linked in: bench exact [COUNT] [SEED] | table [plain]");
+    eprintln!(
+        "       bench stack | sheets FOLDER | nets FOLDER | texts FOLDER | slow-texts FOLDER"
+    );
+    eprintln!("and where the archive is linked in: bench exact [COUNT] [SEED] | table [plain] | make-times");
     exit(2)
 }
 
@@ -95,5 +112,27 @@ fn nets(folder: &str) {
     for (at, net) in named.chain(generated).filter(|net| net.len() < 16_000).enumerate() {
         let path = format!("{folder}/{at}");
         std::fs::write(&path, net).unwrap_or_else(|why| panic!("{path}: {why}"));
+    }
+}
+
+/// The texts that take longest as files, and a line for each: number, name.
+fn slow_texts(folder: &str) {
+    for (at, texts::Text { name, text }) in texts::slow().into_iter().enumerate() {
+        println!("{at} {name}");
+        let path = format!("{folder}/{at}");
+        std::fs::write(&path, text).unwrap_or_else(|why| panic!("{path}: {why}"));
+    }
+}
+
+/// Texts as files, named and generated: seeds for the fuzzer of `make`.
+fn texts(folder: &str) {
+    let mut random = Random::new(33);
+    let named = edges_notation::edges().into_iter().map(|edge| edge.text);
+    let limits = edges_notation::within_the_limits().into_iter().map(|(_, text)| text.into_bytes());
+    let generated = (0..600).map(|index| notation_texts::any(&mut random, index));
+    let short = |text: &Vec<u8>| text.len() < 16_000;
+    for (at, text) in named.chain(limits).chain(generated).filter(short).enumerate() {
+        let path = format!("{folder}/{at}");
+        std::fs::write(&path, text).unwrap_or_else(|why| panic!("{path}: {why}"));
     }
 }

@@ -4,7 +4,8 @@ use crate::boundary::Call;
 use crate::request::Cases;
 use crate::tally::Key;
 use crate::{
-    try_back, try_batch, try_check, try_lanes, try_never, try_run, try_translate, try_verilog,
+    try_back, try_batch, try_check, try_lanes, try_make, try_never, try_run, try_translate,
+    try_verilog,
 };
 use second::netlist::ENOUGH;
 use second::random::Random;
@@ -29,7 +30,7 @@ impl Mode {
 }
 
 #[rustfmt::skip]
-pub const MODES: [Mode; 8] = [
+pub const MODES: [Mode; 9] = [
     Mode { call: Call::Translate, named: try_translate::named, generated: try_translate::generated, due: try_translate::due, hundredths: 50 },
     Mode { call: Call::Batch, named: try_batch::named, generated: try_batch::generated, due: try_batch::due, hundredths: 20 },
     Mode { call: Call::Verilog, named: try_verilog::named, generated: try_verilog::generated, due: try_verilog::due, hundredths: 40 },
@@ -38,6 +39,7 @@ pub const MODES: [Mode; 8] = [
     Mode { call: Call::Back, named: try_back::named, generated: try_back::generated, due: try_back::due, hundredths: 100 },
     Mode { call: Call::Lanes, named: try_lanes::named, generated: try_lanes::generated, due: try_lanes::due, hundredths: 50 },
     Mode { call: Call::Never, named: try_never::named, generated: try_never::generated, due: try_never::due, hundredths: 100 },
+    Mode { call: Call::Make, named: try_make::named, generated: try_make::generated, due: try_make::due, hundredths: 100 },
 ];
 
 /// Room near what is needed, or anything; `needed` is None where nothing is written.

@@ -1,9 +1,10 @@
-//! Times of the other calls: the check of netlists from outside, the way back to a sheet and modules of
-//! Verilog, each against the second program; and a batch against its calls one by one.
+//! Times of the other calls: the check of netlists from outside, the way back to a sheet, modules of
+//! Verilog and sheets of texts, each against the second program; and a batch against its calls one by one.
 
 use crate::boundary::linked;
 use crate::boundary::{told, Call};
 use crate::classes::{classes, Class};
+use crate::texts::ordinary;
 use crate::timing::{least, ROUNDS};
 use second::sheet::MEMORY;
 use second::Wish;
@@ -13,15 +14,20 @@ use std::hint::black_box;
 /// Bytes that do for each call timed here.
 const ROOM: usize = 1 << 20;
 
+/// Places that always do: a sheet has no more nodes.
+const NODES: usize = 2_048;
+
 /// What calls write to.
 struct Storage {
     out: Vec<u8>,
+    places: Vec<u16>,
     work: Vec<u16>,
 }
 
 impl Storage {
     fn new() -> RefCell<Storage> {
-        RefCell::new(Storage { out: vec![0; ROOM], work: vec![0; MEMORY] })
+        let (out, places) = (vec![0; ROOM], vec![0; NODES]);
+        RefCell::new(Storage { out, places, work: vec![0; MEMORY] })
     }
 }
 
@@ -55,16 +61,19 @@ fn gates(count: u8) -> Vec<u8> {
 /// One call on bytes, by the proved program.
 fn proved(call: Call, bytes: &[u8], storage: &mut Storage) -> u64 {
     let (out, work) = (lent(&mut storage.out), lent(&mut storage.work));
+    let places = lent(&mut storage.places);
     match call {
         Call::Check => unsafe { linked::call(call, &[given(bytes), work], 0) },
+        Call::Make => unsafe { linked::call(call, &[given(bytes), out, places, work], 0) },
         _ => unsafe { linked::call(call, &[given(bytes), out, work], 0) },
     }
 }
 
 /// The same by the second program.
 fn second(call: Call, bytes: &[u8], storage: &mut Storage) -> u64 {
-    let Storage { out, work } = storage;
+    let Storage { out, places, work } = storage;
     match call {
+        Call::Make => second::notation_make::call(bytes, out, places, work),
         Call::Check => second::foreign::call(bytes, work, false),
         Call::Back => second::back::call(bytes, out, work, false),
         Call::Verilog => second::verilog::call(bytes, out, work),
@@ -102,12 +111,12 @@ fn batch(class: &Class) {
     let mut results = vec![0u64; lengths.len()];
     let storage = Storage::new();
     let mut one = || {
-        let Storage { out, work } = &mut *storage.borrow_mut();
+        let Storage { out, work, .. } = &mut *storage.borrow_mut();
         let slices = [given(&sheets), given(&lengths), lent(out), lent(&mut results), lent(work)];
         black_box(unsafe { linked::call(Call::Batch, black_box(&slices), told(Wish::default())) })
     };
     let each = || {
-        let Storage { out, work } = &mut *storage.borrow_mut();
+        let Storage { out, work, .. } = &mut *storage.borrow_mut();
         let mut used = 0;
         for sheet in &class.sheets {
             let answer =
@@ -140,6 +149,9 @@ pub fn print() {
     }
     for class in &classes()[..3] {
         row(Call::Verilog, &format!("verilog, {}", class.name), &class.sheets);
+    }
+    for text in ordinary() {
+        row(Call::Make, &format!("make, {}", text.name), &[text.text.into_bytes()]);
     }
     println!(
         "\nA batch: nanoseconds for all sheets of a class, by one call and by a call for each."

@@ -6,6 +6,7 @@ use crate::classes::classes;
 use crate::differential::lay;
 use crate::fences::Fences;
 use crate::modes::{Mode, MODES};
+use crate::texts::{nested, Nested};
 use second::random::Random;
 use second::sheet::MEMORY;
 use second::Wish;
@@ -31,7 +32,7 @@ pub fn print() -> Result<(), String> {
     for mode in MODES.iter().filter(others) {
         by_call(mode, &mut fences, &mut host)?;
     }
-    Ok(())
+    by_text(&mut fences, &mut host)
 }
 
 /// Most of all named cases of a call.
@@ -48,6 +49,30 @@ fn by_call(mode: &Mode, fences: &mut Fences, host: &mut Host) -> Result<(), Stri
     }
     println!("{:<27}{most:>9}  ({cases} named cases)", mode.call.name());
     within(mode.call.name(), most, MOST).map(|_| ())
+}
+
+/// Of texts in which one thing stands in another: as deep as it is taken, and refused one deeper.
+fn by_text(fences: &mut Fences, host: &mut Host) -> Result<(), String> {
+    println!("\nStack: of texts, by what stands in itself: taken, and refused one deeper.");
+    println!("{:<27}{:>9}{:>9}{:>9}", "text", "levels", "taken", "refused");
+    for Nested { name, levels, taken, refused } in nested() {
+        let most = [make(fences, host, &taken)?, make(fences, host, &refused)?];
+        println!("{name:<27}{levels:>9}{:>9}{:>9}", most[0], most[1]);
+        within(name, most[0].max(most[1]), MOST)?;
+    }
+    Ok(())
+}
+
+/// The stack of one text.
+fn make(fences: &mut Fences, host: &mut Host, text: &str) -> Result<u64, String> {
+    let lent = [
+        fences.place(0, text.len(), 1, true),
+        fences.place(1, 1 << 16, 1, true),
+        fences.place(2, 2_048, 2, true),
+        fences.place(3, MEMORY, 2, true),
+    ];
+    fences.bytes_mut(lent[0].offset, text.len()).copy_from_slice(text.as_bytes());
+    host.stack(Call::Make, &lent, 0)
 }
 
 /// Functions one in the other, as deep as is said: the innermost is the variable with this number.

@@ -72,6 +72,14 @@ uint64_t deltawobble_never(LENT(sheet), LENT(starts), uint32_t *trail, size_t tr
     uint64_t word = answer(out, room, work, numbers, pin);
     return sum % 2 ? word : sum % 1000 | 40ull << 32;
 }
+#ifndef WITHOUT_MAKE
+uint64_t deltawobble_make(LENT(text), uint8_t *out, size_t room, uint16_t *places, size_t places_len, uint16_t *work, size_t numbers) {
+    START(text);
+    add(places, 2 * places_len);
+    for (size_t i = 0; i < places_len && i < 30; i++) places[i] = (uint16_t)(sum >> i);
+    return answer(out, room, work, numbers, 0);
+}
+#endif
 #ifndef WITHOUT_BACK
 uint64_t deltawobble_back(LENT(net), OUT, bool lean) {
     START(net);

@@ -406,7 +406,7 @@ class Everywhere(unittest.TestCase):
             self.assertEqual((run.returncode, b"Traceback" in run.stderr, run.stdout[-1:]), (status, False, b"\n"), run.stderr)
 
     def test_every_number_has_a_sentence(self):
-        self.assertEqual(sorted(RULES), [*range(1, 30), *range(40, 46)])
+        self.assertEqual(sorted(RULES), [*range(1, 38), *range(40, 46)])
         for number in RULES:
             self.assertIn(RULES[number], str(deltawobble.Refused(number, 5)))
 

@@ -11,7 +11,7 @@ import unittest
 from pathlib import Path
 from unittest import mock
 
-from deltawobble import NoCall, NoLibrary, calls, engine
+from deltawobble import NoCall, NoLibrary, Refused, calls, engine
 from deltawobble.engine import Host, Library, Request
 
 from .support import EXAMPLES, ROOT, command
@@ -27,7 +27,7 @@ class BackEnds(unittest.TestCase):
         made = Path(cls.folder.name)
         for words in (["-shared", "-fPIC", "-o", made / "echo.so", HERE / "echo.c"],
                       ["-o", made / "host", HERE / "echo.c", ROOT / "desk" / "host.c"],
-                      ["-DWITHOUT_BACK", "-o", made / "less", HERE / "echo.c", ROOT / "desk" / "host.c"]):
+                      ["-DWITHOUT_BACK", "-DWITHOUT_MAKE", "-o", made / "less", HERE / "echo.c", ROOT / "desk" / "host.c"]):
             subprocess.run(["gcc", "-O1", "-Wall", *words], check=True)
         cls.library, cls.host, cls.less = Library(made / "echo.so"), Host([str(made / "host")]), Host([str(made / "less")])
 
@@ -52,10 +52,16 @@ class BackEnds(unittest.TestCase):
     def test_which_calls_there_are(self):
         for name in engine.CALLS:
             self.assertTrue(self.library.has(name) and self.host.has(name))
-            self.assertEqual(self.less.has(name), name != "back")
+            self.assertEqual(self.less.has(name), name not in ("back", "make"))
         with mock.patch.object(engine, "_found", self.less), self.assertRaises(NoCall) as caught:
             calls.back(b"")
         self.assertEqual(str(caught.exception), "this library has no back: it is older than this desk, build it again with desk/build")
+
+    def test_a_text_needs_the_call(self):
+        with mock.patch.object(engine, "_found", self.less):
+            status, out, err = command("make", str(EXAMPLES / "P3.dw"))
+        self.assertEqual((status, out), (2, ""))
+        self.assertEqual(err, "deltawobble: this library has no make: it is older than this desk, build it again with desk/build\n")
 
     def test_a_host_that_ends_is_told(self):
         gone = Host([str(Path(self.folder.name) / "host")])
@@ -69,6 +75,34 @@ class BackEnds(unittest.TestCase):
     def test_a_large_frame(self):
         request = Request("run", b"s" * 16384, inputs=bytes(1 << 20), starts=bytes(100), room=1 << 20, number=65535)
         self.assertEqual(self.library.call(request), self.host.call(request))
+
+
+class Texts(unittest.TestCase):
+    """The call from a text to a sheet: what it is lent, and what it brings back."""
+
+    TEXT = b"main = fun x : 1. x"
+
+    def test_sheet_and_places(self):
+        self.assertEqual(calls.make(self.TEXT), (bytes.fromhex("01 030000 1301 1100"), [11, 18]))
+
+    def test_what_is_lent_always_does(self):
+        most = b"d{0} = zero d{n + 1} = d{n} d{n} main = fix x : 1. d{10}"
+        sheet, places = calls.make(most)
+        self.assertEqual(len(places), calls.NODES)
+        self.assertLessEqual(len(sheet), calls.SHEET)
+
+    def test_too_little_room(self):
+        for room, places, word in ((8, 2, 8), (7, 1, 17 << 32 | 8), (8, 1, 37 << 32 | 2)):
+            reply = engine.find().call(Request("make", self.TEXT, room=room, number=places))
+            self.assertEqual(reply.word, word)
+            self.assertEqual(reply.state, b"\x0b\0\x12\0" if word == 8 else b"\xff\xff" * places)
+
+    def test_a_refusal(self):
+        for text, said in ((b"main = x", "refused 33 at offset 7: This name means nothing here; at the end, there is no main."),
+                           (b" " * 65536, "refused 30: A text has at most 65535 bytes, and this one has more."), (b"main = \0", "refused 31 at offset 7: No word of the notation begins here.")):
+            with self.assertRaises(Refused) as caught:
+                calls.make(text)
+            self.assertEqual(str(caught.exception), said)
 
 
 class Proved(unittest.TestCase):

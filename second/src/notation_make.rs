@@ -1,10 +1,11 @@
 //! docs/NOTATION.md: the call from a text to a sheet, and the order of its refusals.
 
+use crate::lent::leave;
 use crate::notation_grammar::parsed;
 use crate::notation_making::{MadeTerm, Maker};
 use crate::notation_scope::Place;
 use crate::notation_tree::Text;
-use crate::refusal::{need, Refusal};
+use crate::refusal::{need, word, Refusal};
 use crate::sheet::{MEMORY, SECOND_EDITION};
 
 const MAIN: &[u8] = b"main";
@@ -28,23 +29,26 @@ pub fn make(text: &[u8]) -> Result<Made, Refusal> {
     Ok(written(&maker, term))
 }
 
-/// The call with lent slices: 1 first; 17 and 37 last. Only what is accepted is written.
-pub fn call(
-    text: &[u8],
-    output: &mut [u8],
-    places: &mut [u16],
-    memory: &[u16],
-) -> Result<usize, Refusal> {
-    need(memory.len() >= MEMORY, 1, 0)?;
-    let made = make(text)?;
-    let (bytes, nodes) = (made.sheet.len(), made.places.len());
-    need(output.len() >= bytes, 17, bytes)?;
-    need(places.len() >= nodes, 37, nodes)?;
-    output[..bytes].copy_from_slice(&made.sheet);
-    for (place, at) in places.iter_mut().zip(made.places) {
-        *place = at as u16;
+/// The call with lent slices: 1 first; 17 and 37 last. Only what is accepted is written. The answer's value is the number
+/// of bytes written.
+pub fn call(text: &[u8], output: &mut [u8], places: &mut [u16], memory: &mut [u16]) -> u64 {
+    let made = need(memory.len() >= MEMORY, 1, 0)
+        .and_then(|()| make(text))
+        .and_then(|made| fitting(made, output.len(), places.len()));
+    if let Ok(Made { places: offsets, .. }) = &made {
+        for (place, &at) in places.iter_mut().zip(offsets) {
+            *place = at as u16;
+        }
     }
-    Ok(bytes)
+    word(leave(made.map(|made| made.sheet), output, memory))
+}
+
+/// What was made, where the room does; 17 before 37.
+fn fitting(made: Made, room: usize, places: usize) -> Result<Made, Refusal> {
+    let (bytes, nodes) = (made.sheet.len(), made.places.len());
+    need(room >= bytes, 17, bytes)?;
+    need(places >= nodes, 37, nodes)?;
+    Ok(made)
 }
 
 fn table_lines<'a>(text: &Text<'a>, maker: &mut Maker<'_, 'a>) -> Result<(), Refusal> {

@@ -5,7 +5,6 @@ use second::edges_notation::{edges, within_the_limits};
 use second::notation_make::{call, make, Made};
 use second::notation_texts::{any, packed, unpacked};
 use second::random::Random;
-use second::refusal::Refusal;
 use second::write::hex;
 use second::{check, read, translate};
 use std::collections::BTreeSet;
@@ -44,18 +43,23 @@ fn room_memory_and_places() {
     let text = b"main = fun x : 1. x";
     let said = |output: usize, places: usize, memory: usize| {
         let (mut bytes, mut offsets) = (vec![7; output], vec![7; places]);
-        let answer = call(text, &mut bytes, &mut offsets, &vec![0; memory]);
-        assert!(answer.is_ok() || (bytes == vec![7; output] && offsets == vec![7; places]));
+        let mut work = vec![7; memory];
+        let answer = call(text, &mut bytes, &mut offsets, &mut work);
+        let cleared = if memory < 32_768 { 0 } else { 32_768 };
+        assert!(work[..cleared].iter().all(|&number| number == 0));
+        assert!(work[cleared..].iter().all(|&number| number == 7));
+        assert!(answer < 1 << 32 || (bytes == vec![7; output] && offsets == vec![7; places]));
         (answer, bytes, offsets)
     };
-    let (answer, bytes, places) = said(9, 3, 32_768);
-    assert_eq!(answer, Ok(8));
+    let refused = |number: u64, place: u64| number << 32 | place;
+    let (answer, bytes, places) = said(9, 3, 32_769);
+    assert_eq!(answer, 8);
     assert_eq!(bytes, [1, 3, 0, 0, 0x13, 1, 0x11, 0, 7]);
     assert_eq!(places, [11, 18, 7]);
-    assert_eq!(said(8, 2, 32_768).0, Ok(8));
-    assert_eq!(said(7, 1, 32_768).0, Err(Refusal::new(17, 8)));
-    assert_eq!(said(8, 1, 32_768).0, Err(Refusal::new(37, 2)));
-    assert_eq!(said(7, 1, 32_767).0, Err(Refusal::new(1, 0)));
+    assert_eq!(said(8, 2, 32_768).0, 8);
+    assert_eq!(said(7, 1, 32_768).0, refused(17, 8));
+    assert_eq!(said(8, 1, 32_768).0, refused(37, 2));
+    assert_eq!(said(7, 1, 32_767).0, refused(1, 0));
 }
 
 /// "refusals 2 to 9 never come"; a variable is in scope and of its sort, and a part is known (10, 11, 15).

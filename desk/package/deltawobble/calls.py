@@ -7,7 +7,7 @@ from dataclasses import dataclass, replace
 from typing import Optional, Sequence, Union
 
 from .answer import Refused, unpack
-from .engine import NoCall, Reply, Request, find
+from .engine import UNUSED, NoCall, Reply, Request, find
 from .netlist import Netlist
 
 #: output bytes that always do for a netlist (document 02, L6)
@@ -132,6 +132,18 @@ def never(sheet: bytes, starts: bytes, pin: int, lent: Optional[int] = None) -> 
     size = len(starts) + (tick + 1) * pins
     out = reply.out if size <= TRACE else _call(replace(request, room=size)).out
     return Searched(tick=tick, starts=out[:len(starts)], inputs=out[len(starts):size])
+
+
+#: output bytes and places that always do for a sheet: an edition's byte, 256 types and 2048 nodes, each record of at most 3 bytes
+SHEET, NODES = 1 + 3 * 256 + 3 * 2048, 2048
+
+
+def make(text: bytes) -> tuple[bytes, list[int]]:
+    """The sheet of a text in the notation (docs/NOTATION.md), and for each of its nodes where its word begins; Refused, 30 to 36, at an offset."""
+    reply = _call(Request("make", text, room=SHEET, number=NODES))
+    unpack(reply.word)
+    places = numbers_of(reply.state).tolist()
+    return reply.out, places[:places.index(UNUSED)] if UNUSED in places else places
 
 
 def low_first(numbers: Sequence[int]) -> bytes:

@@ -35,7 +35,8 @@ CALLS: dict[str, tuple[str, ...]] = {
     "check": ("data", "work", "lean"),
     "back": ("data", "out", "work", "lean"),
     "lanes": ("data", "numbers", "state", "out", "work", "ticks"),
-    "never": ("data", "starts", "trail", "queue", "out", "work", "ticks")}
+    "never": ("data", "starts", "trail", "queue", "out", "work", "ticks"),
+    "make": ("data", "out", "places", "work")}
 
 
 class NoLibrary(Exception):
@@ -54,7 +55,8 @@ class Request:
     """One call: its name, the bytes lent, and the room lent for what it writes.
 
     Of lanes, `inputs` and `starts`, which is the state, are 16-bit numbers, low byte first; the room is in bytes there too. Of never,
-    `number` is the pin, and `states` how many numbers of 32 bits the trail and the queue have, each.
+    `number` is the pin, and `states` how many numbers of 32 bits the trail and the queue have, each. Of make, `data` is the text, and
+    `number` how many places are lent.
     """
 
     name: str
@@ -77,12 +79,17 @@ class Request:
 
 @dataclass
 class Reply:
-    """The answer word, the bytes written, the batch's results, and the state that lanes left."""
+    """The answer word, the bytes written, the batch's results; and the 16-bit numbers, low byte first, that lanes left as its state or make
+    as its places: all that were lent, and UNUSED where no node has one."""
 
     word: int
     out: bytes = b""
     results: list[int] = field(default_factory=list)
     state: bytes = b""
+
+
+#: what stands in a place that make did not write: no word begins there, since a text has at most 65535 bytes
+UNUSED = 0xFFFF
 
 
 class Engine(Protocol):
@@ -103,13 +110,20 @@ def _used(request: Request, word: int) -> int:
     return min(word * request.unit, request.room) if word >> 32 == 0 else 0
 
 
+def _state(request: Request) -> bytes:
+    """What a call is lent for 16-bit numbers that it may change, and that are brought back."""
+    if request.name == "make":
+        return b"\xFF\xFF" * request.number
+    return request.starts if request.name == "lanes" else b""
+
+
 class _Lent:
     """What one call is lent for writing. It is this call's own, since other threads run while the library does."""
 
     def __init__(self, request: Request):
         self.out = ctypes.create_string_buffer(max(request.room, 2))
         self.results = (ctypes.c_uint64 * max(len(request.lengths), 1))()
-        self.state = ctypes.create_string_buffer(request.starts if request.name == "lanes" else b"")
+        self.state = ctypes.create_string_buffer(_state(request))
         self.work = (ctypes.c_uint16 * MEMORY)()
         self.trail, self.queue = ((ctypes.c_uint32 * max(request.states, 1))() for _ in range(2))
 
@@ -138,7 +152,7 @@ class Library:
         for parameter in CALLS[request.name]:
             words += self._parameter(parameter, request, lent)
         word = self._calls[request.name](*words)
-        state = ctypes.string_at(lent.state, len(request.starts)) if request.name == "lanes" else b""
+        state = ctypes.string_at(lent.state, len(_state(request)))
         return Reply(word, ctypes.string_at(lent.out, _used(request, word)), list(lent.results[:len(request.lengths)]), state)
 
     @staticmethod
@@ -151,6 +165,8 @@ class Library:
             return [ctypes.c_char_p(request.inputs), size(len(request.inputs) // 2)]
         if parameter == "state":
             return [lent.state, size(len(request.starts) // 2)]
+        if parameter == "places":
+            return [lent.state, size(request.number)]
         if parameter == "lengths":
             return [(ctypes.c_uint32 * max(len(request.lengths), 1))(*request.lengths), size(len(request.lengths))]
         if parameter == "out":
@@ -181,9 +197,9 @@ class Host:
     would be taken for the next answer. A forked process starts a host of its own.
     """
 
-    #: the request's number, which call, lengths of data, inputs, starts, lengths; room; the wishes; the node, the ticks or the pin; states
+    #: the request's number, which call, lengths of data, inputs, starts, lengths; room; the wishes; the node, the ticks, the pin or the places; states
     HEAD = struct.Struct("<10Q")
-    #: the request's number again, the word, the bytes written, the bytes of state
+    #: the request's number again, the word, the bytes written, the bytes of state or places
     ANSWER = struct.Struct("<4Q")
 
     def __init__(self, words: list[str]):

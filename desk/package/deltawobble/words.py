@@ -43,6 +43,14 @@ RULES: dict[int, str] = {
     27: "The root's type is no chain of sharable arrows that ends in a sharable type.",
     28: "A point is kept that drives itself: nothing on the card would set its bit.",
     29: "Nobody reads this part's output: it drives no wire of the lean netlist and is no pin of it.",
+    30: "A text has at most 65535 bytes, and this one has more.",
+    31: "No word of the notation begins here.",
+    32: "The grammar wants another word here.",
+    33: "This name means nothing here; at the end, there is no main.",
+    34: "A limit of the notation is passed here.",
+    35: "A side of this type has the wrong sort: * takes two sharable types, -> a sharable one left, -o an arrow left.",
+    36: "A clause above covers this one, or has another number of parameters.",
+    37: "There are fewer places than the sheet has nodes.",
     40: "The pin can be 1.",
     41: "A search goes through the states of at most 20 registers, and there are more.",
     42: "A search tries all inputs of at most 12 input pins, and there are more.",
@@ -53,7 +61,7 @@ RULES: dict[int, str] = {
 
 def place_word(number: int) -> str:
     """What the place of a refusal counts: an offset, a node, a terminal, a length, a tick, or nothing."""
-    if 3 <= number <= 9 or number in (21, 22, 25):
+    if 3 <= number <= 9 or 31 <= number <= 36 or number in (21, 22, 25):
         return "offset"
     if 10 <= number <= 15:
         return "node"

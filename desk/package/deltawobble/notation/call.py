@@ -1,11 +1,9 @@
-"""The call `make`: the bytes of a text to the bytes of a sheet and, for each node, the offset of its word; or one refusal, 30 to 36.
-
-The proved call is not there yet. `definitions` stands in for it, and is not proved: whoever brings the call in changes `make` below, and nothing
-else of the desk.
-"""
+"""The proved call `make`, as the desk asks it: the bytes of a text to the bytes of a sheet and, for each node, the offset of its word; or one
+refusal, 30 to 36."""
 from __future__ import annotations
 
-from .definitions import make_by_definition
+from .. import calls
+from ..answer import Refused
 
 
 class Refusal(Exception):
@@ -18,7 +16,7 @@ class Refusal(Exception):
 
 def make(text: bytes) -> tuple[bytes, list[int]]:
     """The sheet's bytes, and for each of its nodes the place of its word. Refusal where the text means none."""
-    answer = make_by_definition(text)
-    if answer[0] == "refused":
-        raise Refusal(answer[1], answer[2])
-    return answer[1], answer[2]
+    try:
+        return calls.make(text)
+    except Refused as refused:
+        raise Refusal(refused.number, refused.place) from None

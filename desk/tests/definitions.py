@@ -1,7 +1,8 @@
-"""NOT PROVED. The definitions of crates/notation_calculus (Words, Grammar, Making, Make) written in Python, one function after the other.
+"""The definitions of crates/notation_calculus (Words, Grammar, Making, Make) written in Python, one function after the other: what the tests
+hold the proved call `make` to, beside the second program. Nothing of the package asks it.
 
-It stands in for the proved call `make`, and goes when that lands; `call` is the one place that asks it. It is held to every known result that the
-definitions are proved to give (desk/tests/test_notation_reference.py), and to `second make` on 100,000 generated texts (bench/texts).
+It is held to every known result that the definitions are proved to give (test_notation_reference), and to `second make` on 100,000 generated
+texts (bench/texts).
 """
 import sys
 from collections import namedtuple

@@ -1,0 +1,254 @@
+//! Texts in the notation that take the most stack or the most time, and ordinary ones of 200 lines.
+
+use second::notation_make::make;
+
+pub struct Text {
+    pub name: &'static str,
+    pub text: String,
+}
+
+/// A call takes so many bytes of text.
+const MOST_BYTES: usize = 65_535;
+
+/// Texts in which one thing stands in another so many times.
+#[rustfmt::skip]
+const NESTED: [(&str, fn(usize) -> String); 18] = [
+    ("parentheses", |n| format!("main = {}zero{}", "(".repeat(n), ")".repeat(n))),
+    ("functions", |n| format!("main = {}zero", "fun x : 1. ".repeat(n))),
+    ("fixed points", |n| format!("main = {}x", "fix x : 1. ".repeat(n))),
+    ("let, in its body", |n| format!("edition 2 main = {}x", "let x = zero in ".repeat(n))),
+    ("let, in its value", |n| format!("edition 2 main = {}zero{}", "let x = ".repeat(n), " in x".repeat(n))),
+    ("let of two, in its value", |n| format!("main = {}(zero, zero){}", "let (x, y) = ".repeat(n), " in (x, y)".repeat(n))),
+    ("applications", |n| format!("main = {}zero{}", "inv (".repeat(n), ")".repeat(n))),
+    ("pairs", |n| format!("main = {}zero{}", "(zero, ".repeat(n), ")".repeat(n))),
+    ("types in parentheses", |n| format!("main = fun x : {}1{}. x", "(".repeat(n), ")".repeat(n))),
+    ("products", |n| format!("type t = {}1 main = zero", "1 * ".repeat(n))),
+    ("arrows", |n| format!("type t = {}1 main = zero", "1 -> ".repeat(n))),
+    ("arrows to the left", |n| format!("main = fun x : {}1{}. x", "(".repeat(n), " -> 1) -o 1".repeat(n))),
+    ("type arguments", |n| format!("type k[a] = a main = fun x : {}1{}. x", "k[".repeat(n), "]".repeat(n))),
+    ("definitions put in", |n| format!("d{{0}} = zero d{{n + 1}} = d{{n}} main = d{{{n}}}")),
+    ("definitions in parentheses", |n| format!("d{{0}} = zero d{{n + 1}} = (d{{n}}) main = d{{{n}}}")),
+    ("definitions, with let", |n| format!("edition 2 d{{0}} = zero d{{n + 1}} = let x = d{{n}} in x main = d{{{n}}}")),
+    ("types put in", |n| format!("type t{{0}} = 1 type t{{n + 1}} = t{{n}} main = fun x : t{{{n}}}. x")),
+    ("types put in, as arguments", |n| format!("type k[a] = a type t{{0}} = 1 type t{{n + 1}} = k[t{{n}}] main = fun x : t{{{n}}}. x")),
+];
+
+/// One thing in another: as deep as it is taken, and one deeper.
+pub struct Nested {
+    pub name: &'static str,
+    pub levels: usize,
+    pub taken: String,
+    pub refused: String,
+}
+
+pub fn nested() -> Vec<Nested> {
+    let deepest = |(name, shape): (&'static str, fn(usize) -> String)| {
+        let levels = (1..=100).rev().find(|&levels| make(shape(levels).as_bytes()).is_ok());
+        let levels = levels.expect("one of each is taken");
+        Nested { name, levels, taken: shape(levels), refused: shape(levels + 1) }
+    };
+    NESTED.into_iter().map(deepest).collect()
+}
+
+fn row(times: usize, one: &str, between: &str) -> String {
+    vec![one; times].join(between)
+}
+
+/// So many names of one length, the first bytes of which are the same.
+fn alike(count: usize, length: usize) -> Vec<String> {
+    let digit = |number: usize| char::from(b"0123456789abcdefghijklmnopqrstuvwxyz"[number % 36]);
+    let name = |number: usize| {
+        format!("{}{}{}", "n".repeat(length - 2), digit(number / 36), digit(number))
+    };
+    (0..count).map(name).collect()
+}
+
+/// The text with as much of a thing as it may have.
+fn most(text: impl Fn(usize) -> String) -> String {
+    let taken = |much: usize| {
+        let text = text(much);
+        text.len() <= MOST_BYTES && make(text.as_bytes()).is_ok()
+    };
+    let once = make(text(1).as_bytes());
+    assert!(taken(1), "{} bytes, {:?}", text(1).len(), once.err());
+    let steps = (0..12).rev().map(|step| 1 << step);
+    text(steps.fold(1, |found, step| if taken(found + step) { found + step } else { found }))
+}
+
+/// A type that is put in as often as it may be. `z` has 100 parameters, and throws them away.
+fn over_and_over(clauses: &str, one: &str) -> String {
+    let z = row(100, "a", ",");
+    most(|times| {
+        let lines = row(times, "w", ",");
+        format!("type z[{z}] = 1\n{clauses}\ntype w = {one}\ntable {lines}\nmain = zero")
+    })
+}
+
+/// A type family that doubles, below other clauses: f{n} puts in 2 to the n and more, and is 1.
+fn doubling(above: &str, name: &str, comment: &str) -> String {
+    let clauses = format!(
+        "{above}type k[a] = 1 type {name}{{0}} = 1\ntype {name}{{n + 1}} = k[{comment}{name}{{n}} * {name}{{n}}]"
+    );
+    let text = |lines: &str| format!("{clauses}\ntable {lines}\nmain = zero");
+    let once = |depth: usize| format!("{name}{{{depth}}}");
+    let taken = |depth: &usize| make(text(&once(*depth)).as_bytes()).is_ok();
+    let deepest = (1..16).rev().find(taken).expect("a depth that is taken");
+    let rest = deepest.saturating_sub(3);
+    most(|times| text(&format!("{},{}", once(deepest), row(times, &once(rest), ","))))
+}
+
+/// 250 clauses with long names that differ in their last bytes, above a family that doubles.
+fn long_names(length: usize) -> String {
+    let names = alike(250, length);
+    let above: Vec<String> = names[1..].iter().map(|name| format!("type {name} = 1\n")).collect();
+    doubling(&above.concat(), &names[0], "")
+}
+
+/// The same above a family with a short name: what is compared is the clauses' names, and what is paid for the short one.
+fn passed_names(length: usize) -> String {
+    let above =
+        alike(250, length).iter().map(|name| format!("type {name} = 1\n")).collect::<String>();
+    doubling(&above, "f", "")
+}
+
+/// Rows of 100 arguments in `z`, so many.
+fn rows(times: usize, argument: &str) -> String {
+    row(times, &format!("z[{}]", row(100, argument, ",")), "->")
+}
+
+/// 900 type parameters, of which the body names the last, and nothing else.
+fn parameters(length: usize, times: usize) -> String {
+    let names = alike(900, length);
+    let clause = format!("type f[{}] = {}", names.join(","), rows(times, &names[899]));
+    over_and_over(&clause, &format!("f[{}]", row(900, "1", ",")))
+}
+
+/// Type parameters with long names, and behind them one with a short name, which the body names and nothing else.
+fn passed_parameters(length: usize, times: usize) -> String {
+    let clause = format!("type f[{},x] = {}", alike(899, length).join(","), rows(times, "x"));
+    over_and_over(&clause, &format!("f[{}]", row(900, "1", ",")))
+}
+
+/// 240 clauses of 50 numbers that differ in their last, of which the last one is meant.
+fn numbers() -> String {
+    let head = |last: usize| format!("d{{{},{last}}}", row(49, "n", ","));
+    let clauses: Vec<String> = (0..240).map(|last| format!("type {} = 1\n", head(last))).collect();
+    over_and_over(&clauses.concat(), &rows(1, &format!("d{{{},239}}", row(49, "0", ","))))
+}
+
+/// A table of 240 products, from 2 to 16 bits on the left and 1 to 16 on the right.
+fn products() -> String {
+    let bits = |count: usize| row(count, "1", "*");
+    let all = (2..=16).flat_map(|left| (1..=16).map(move |right| (left, right)));
+    let line = |(left, right): (usize, usize)| format!("table ({})*{}\n", bits(left), bits(right));
+    all.take(238).map(line).collect()
+}
+
+/// A full table, in which the type that is asked for stands last.
+fn last_types() -> String {
+    let full = rows(1, "1->1");
+    let nested = format!("z[{},{}]", row(40, &full, ","), row(60, "1", ","));
+    over_and_over(&format!("{}table 1->1->1", products()), &nested)
+}
+
+/// 250 definitions of 720 gates, whose types stand last in a full table.
+fn last_gates() -> String {
+    let gates = row(16, &format!("({})", row(45, "or", " ")), ",");
+    let uses = |times: usize| -> String {
+        (0..times).map(|number| format!("e{number} = d{{0}}\n")).collect()
+    };
+    most(|times| {
+        let times = times.min(250);
+        format!("{}table 1->1->1\nd{{n}} = ({gates})\n{}main = zero", products(), uses(times))
+    })
+}
+
+/// Definitions of 2,047 nodes, judged one after the other.
+fn many_nodes() -> String {
+    most(|times| {
+        let uses: String =
+            (0..times.min(250)).map(|number| format!("e{number} = d{{10}}\n")).collect();
+        format!("d{{0}} = zero d{{n + 1}} = d{{n}} d{{n}}\n{uses}main = zero")
+    })
+}
+
+/// One word and another behind a comment as long as a text may be, put in as often as it may be.
+fn comments() -> String {
+    let comment = format!("--{}\n", "-".repeat(60_000));
+    over_and_over(&format!("type f[a] = 1 * {comment} a"), "f[1]")
+}
+
+/// The texts that took longest of those that were tried.
+#[rustfmt::skip]
+pub fn slow() -> Vec<Text> {
+    let text = |name, text| Text { name, text };
+    vec![
+        text("a type family that doubles", doubling("", "f", "")),
+        text("with a comment of 300 bytes", doubling("", "f", &format!("--{}\n", "-".repeat(300)))),
+        text("a comment of 60,000 bytes", comments()),
+        text("250 clauses, names of 20 bytes", long_names(20)),
+        text("250 clauses, names of 60 bytes", long_names(60)),
+        text("250 clauses, names of 220 bytes", long_names(220)),
+        text("250 names of 220 bytes passed", passed_names(220)),
+        text("899 parameters of 55 bytes passed", passed_parameters(55, 40)),
+        text("240 clauses of 50 numbers", numbers()),
+        text("900 type arguments of 3 bytes", parameters(3, 70)),
+        text("900 type arguments of 30 bytes", parameters(30, 9)),
+        text("256 types, the last one meant", last_types()),
+        text("256 types, the gates' are last", last_gates()),
+        text("2,047 nodes over and over", many_nodes()),
+        text("65,535 bytes, one name", format!("main = {}", "x".repeat(MOST_BYTES - 7))),
+        text("65,535 bytes, one comment", format!("main = zero --{}", "-".repeat(MOST_BYTES - 14))),
+        text("65,535 bytes of parentheses", format!("main = {}", "(".repeat(MOST_BYTES - 7))),
+        text("65,535 bytes of brackets", format!("main = zero x{}", "[".repeat(MOST_BYTES - 13))),
+        text("65,535 bytes of names", format!("main = zero{}", " x".repeat((MOST_BYTES - 11) / 2))),
+    ]
+}
+
+/// The blocks' files as one text, without the lines that say which files they use.
+fn blocks(main: &str) -> String {
+    let files = [
+        include_str!("../../blocks/functions.dw"),
+        include_str!("../../blocks/bits.dw"),
+        include_str!("../../blocks/decisions.dw"),
+    ];
+    let lines = files.iter().flat_map(|file| file.lines());
+    let own = lines.filter(|line| !line.starts_with("edition") && !line.starts_with("use "));
+    format!("edition 2\n{}\n{main}", own.collect::<Vec<&str>>().join("\n"))
+}
+
+/// Definitions of one line, each put in once: rows of 21 in one another.
+fn short_definitions() -> String {
+    let one =
+        |number: usize| format!("step{number} = fun x : 1. xor x (reg x) -- does x change?\n");
+    let chain = |row: usize| {
+        let names: Vec<String> = (0..21).map(|k| format!("step{}", 21 * row + k)).collect();
+        format!("{} x{}", names.join(" ("), ")".repeat(20))
+    };
+    let rows: Vec<String> = (0..9).map(chain).collect();
+    let all: Vec<String> = (0..189).map(one).collect();
+    format!("{}main = fun x : 1. (\n  {})\n", all.concat(), rows.join(",\n  "))
+}
+
+/// Definitions of five lines, each put in once.
+fn long_definitions() -> String {
+    let one = |number: usize| {
+        format!(
+            "-- a full adder, number {number}\nadd{number} = fun p : 1 * 1. fun c : 1.\n  let (a, b) = p in\n  let s = xor (a, b) in\n  (xor (s, c), or (and (a, b), and (s, c)))\n"
+        )
+    };
+    let all: Vec<String> = (0..39).map(one).collect();
+    let uses: Vec<String> = (0..39).map(|number| format!("add{number} (x, y) z")).collect();
+    format!("edition 2\n{}main = fun x y z : 1. (\n  {})\n", all.concat(), uses.join(", "))
+}
+
+/// Texts of about 200 lines, as people write them.
+pub fn ordinary() -> Vec<Text> {
+    let text = |name, text| Text { name, text };
+    vec![
+        text("189 definitions of a line", short_definitions()),
+        text("39 definitions of five lines", long_definitions()),
+        text("blocks: an adder of 32 bits", blocks("main = adder{5}")),
+        text("blocks: a sorter of 16", blocks("main = bitonic{0, 4}")),
+    ]
+}
