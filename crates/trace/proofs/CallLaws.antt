@@ -10,8 +10,8 @@ use Rattle.calculus.specs.Net.{Net}
 use Rattle.calculus.specs.Lean.{lean}
 use Rattle.calculus.specs.Translate.{full, workOf}
 use Rattle.memory.specs.Map.{memorySize}
-use Rattle.typing.specs.declared.Refusal.{Refusal}
-use Rattle.typing.specs.Verdicts.{saidWhy}
+use Rattle.answers.specs.declared.Refusal.{Refusal}
+use Rattle.answers.specs.Refusals.{saidWhy}
 use Rattle.translator.specs.Made.{lent, Keeps}
 use Rattle.trace_calculus.specs.Trace.{ran, trace, runCall}
 use Rattle.trace_calculus.specs.Lanes.{LanesEnd, lanesRan, lanesTrace, lanesCall}

@@ -5,8 +5,8 @@ use mathlib.Core.List.{List}
 use lib.ListN.{length}
 use Prim.Native.Nat.{ℕ}
 use Rattle.calculus.specs.Answer.{Answer, good, refused, _>>=_, need}
-use Rattle.typing.specs.declared.Refusal.{Refusal}
-use Rattle.typing.specs.Verdicts.{saidWhy}
+use Rattle.answers.specs.declared.Refusal.{Refusal}
+use Rattle.answers.specs.Refusals.{saidWhy}
 use Rattle.calculus.specs.Net.{Net}
 use Rattle.calculus.specs.Makers.{makersOf}
 use Rattle.memory.specs.Map.{makersAt, region, netIn}

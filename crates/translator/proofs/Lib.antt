@@ -3,7 +3,5 @@ pub mod StageLaws
 pub mod NameLaws
 pub mod Lent
 pub mod SaidLaws
-pub mod WordLaws
 pub mod Places
 pub mod Determined
-pub mod WorkedWords
