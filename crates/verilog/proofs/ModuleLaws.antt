@@ -17,7 +17,7 @@ use Rattle.lean.proofs.Rows.{row-text, row-few}
 use Rattle.lines.specs.Wrote.{WroteText}
 use Rattle.lines.proofs.Stores.{wrote-two}
 use Rattle.verilog.specs.InMemory.{elementText, wireText, elementLineAt, wireLineAt, pinLineAt, portLineAt}
-use Rattle.verilog.specs.Groups.{countOf, tableAt, lineAt, groupText, openingText, bodyText}
+use Rattle.verilog.specs.Groups.{countOf, tableAt, groupLineAt, groupText, openingText, bodyText}
 use Rattle.verilog.specs.declared.walk.Group.{Group}
 use Rattle.verilog.specs.declared.walk.Group.the-variants as group
 use Rattle.verilog.proofs.Filling.{filled-few}
@@ -88,7 +88,7 @@ pins-few v x = line-few assignForms assigns-short (lineOfPin x (terminalOf v))
 ports-few : (v x : ℕ) → length (portLineAt v x) ≤ 256
 ports-few v x = line-few portForms ports-short (lineOfPort x (terminalOf v))
 
-pub lines-few : (g : Group) (v x : ℕ) → length (lineAt g v x) ≤ 256
+pub lines-few : (g : Group) (v x : ℕ) → length (groupLineAt g v x) ≤ 256
 lines-few group.Ports v x = ports-few v x
 lines-few group.Elements v x = elements-few v x
 lines-few group.Wires v x = wires-few v x
@@ -154,7 +154,7 @@ module _ (w : List ℕ) (end p : ℕ) (f : LeanReady w end p) where
   count-low group.Pins = omega (arith, f .few-pins)
 
   pub group-low : (g : Group) {o o₁ : List ℕ} {a b : ℕ} → WroteText o a (groupText g w end p) o₁ b → b ≤ a + 2097152
-  group-low g q = omega (arith, q .offset, row-few (lineAt g) (tableAt g) w 256 (lines-few g) (countOf g end p) 0, count-low g)
+  group-low g q = omega (arith, q .offset, row-few (groupLineAt g) (tableAt g) w 256 (lines-few g) (countOf g end p) 0, count-low g)
 
   pub header-low : {o o₁ : List ℕ} {a : ℕ} → WroteText o 0 (filled header 0 0 0) o₁ a → a ≤ 30
   header-low q = omega (arith, q .offset, opening-length)

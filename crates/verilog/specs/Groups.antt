@@ -21,14 +21,14 @@ tableAt group.Wires = rootsAt
 tableAt group.Pins = leanPinsAt
 
 -- of entry v of terminal x, or of the pin of code v at position x
-abbrev pub lineAt : Group → ℕ → ℕ → List ℕ
-lineAt group.Ports = portLineAt
-lineAt group.Elements = elementLineAt
-lineAt group.Wires = wireLineAt
-lineAt group.Pins = pinLineAt
+abbrev pub groupLineAt : Group → ℕ → ℕ → List ℕ
+groupLineAt group.Ports = portLineAt
+groupLineAt group.Elements = elementLineAt
+groupLineAt group.Wires = wireLineAt
+groupLineAt group.Pins = pinLineAt
 
 abbrev pub groupText : Group → List ℕ → ℕ → ℕ → List ℕ
-groupText g w end pins = rowIn (lineAt g) (tableAt g) w (countOf g end pins) 0
+groupText g w end pins = rowIn (groupLineAt g) (tableAt g) w (countOf g end pins) 0
 
 -- ---- the module is an opening, a body and an end
 

@@ -17,7 +17,7 @@ ghost use Rattle.netlist.specs.Said.{saidTerminal};
 ghost use Rattle.lean.specs.Layout.{leanPinsAt, LeanReady};
 ghost use Rattle.lines.specs.Wrote.{WroteText};
 ghost use Rattle.verilog.specs.InMemory.{elementLineAt, wireLineAt};
-ghost use Rattle.verilog.specs.Groups.{countOf, tableAt, lineAt, groupText};
+ghost use Rattle.verilog.specs.Groups.{countOf, tableAt, groupLineAt, groupText};
 
 // The groups of lines, as they stand in the module.
 pub enum Group {
@@ -89,7 +89,7 @@ fn put_line(
     at: usize,
 ) -> usize
     requires { ⌜ LeanReady (now work) end pins × ((x < countOf group end pins) × (at ≤ 4294967296)) ⌝ }
-    ensures { λ r. ⌜ WroteText (now (out .entry)) at (lineAt group (getD (now (work .entry)) (tableAt group + x) 0) x) (now (out .exit)) r ⌝ }
+    ensures { λ r. ⌜ WroteText (now (out .entry)) at (groupLineAt group (getD (now (work .entry)) (tableAt group + x) 0) x) (now (out .exit)) r ⌝ }
 {
     match group {
         Group::Ports => line::put_port(out, at, x, pin_at(work, end, pins, x)),
