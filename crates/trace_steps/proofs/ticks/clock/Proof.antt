@@ -1,20 +1,20 @@
--- The invariant: the first j registers hold their inputs. Assumes nothing.
+-- The invariant: the first j registers hold their inputs, or have turned. Assumes nothing.
 use native.Mathlib.Omega.{arith}
-use mathlib.Core.Path.{_≡_, refl, sym, ap, _∙_, subst}
+use mathlib.Core.Path.{_≡_, refl, sym, _∙_, subst}
 use Prim.Native.Nat.{ℕ, _≤_, _-_}
 use Rattle.lean.specs.Table.{Within}
 use Rattle.lean.proofs.TableLaws.{within-none}
 use Rattle.trace_steps.specs.Turns.{takeTurns}
-use Rattle.trace_steps.specs.Steps.{holdOne, holdAt, Register}
-use Rattle.trace_steps.proofs.Laws.{loop-step, hold-within, turns-all, register-at}
-use Rattle.trace_steps.proofs.ticks.hold.Statement.{statement}
-use Rattle.trace_steps.proofs.ticks.hold.Tie as tie
+use Rattle.trace_steps.specs.Steps.{clockOne, Register}
+use Rattle.trace_steps.proofs.Laws.{loop-step, clock-within, clock-is, turns-all, register-at}
+use Rattle.trace_steps.proofs.ticks.clock.Statement.{statement}
+use Rattle.trace_steps.proofs.ticks.clock.Tie as tie
 
 abbrev Inv-loop : tie.InvT-loop
-Inv-loop work₀ regs j₀ work j = (j ≤ regs) × (Within work₀ work × (work ≡ takeTurns holdOne j 0 work₀))
+Inv-loop work₀ regs turning j₀ work j = (j ≤ regs) × (Within work₀ work × (work ≡ takeTurns (clockOne turning) j 0 work₀))
 
 abbrev μ-loop : tie.MeasureT-loop
-μ-loop work₀ regs j₀ work j = regs - j
+μ-loop work₀ regs turning j₀ work j = regs - j
 
 loop-holds : tie.Need-loop-holds Inv-loop μ-loop
 loop-holds c = (omega arith, (within-none _, refl))
@@ -25,8 +25,8 @@ add-at c = omega arith
 at-requires : tie.Need-at-requires Inv-loop μ-loop
 at-requires c κs = let z = c .before .before .loop .inv .1 .0 .size in omega arith
 
-hold-one-requires : tie.Need-hold-one-requires Inv-loop μ-loop
-hold-one-requires c κs =
+clock-one-requires : tie.Need-clock-one-requires Inv-loop μ-loop
+clock-one-requires c κs =
     let s = c .before .before .before .before .before .before in
     let l = c .before .before .before .before .loop in
     let z = l .inv .1 .0 .size in
@@ -42,11 +42,14 @@ loop-less c = omega arith
 
 loop-again : tie.Need-loop-again Inv-loop μ-loop
 loop-again c =
-    let s = c .before .before .before .before .before .before .before .before .before in
-    let l = c .before .before .before .before .before .before .before .loop in
-    let h = c .before .before .before .before .before .before .loop-test .taken in
-    loop-step holdOne (s .args .work .now) (l .work) (c .before .before .hold-one .last .0) (l .j) (s .args .regs) h (l .inv .1 .0) (l .inv .1 .1)
-    (c .before .before .hold-one .ensures ∙ ap (holdAt (l .work)) (c .before .before .before .before .at .ensures)) (hold-within (l .work) (l .j) (register-at (l .inv .1 .0) (s .pre) (l .j) h))
+    let k = c .before .before in
+    let o = k .before .before in
+    let t = o .before .before in
+    let l = t .before .loop in
+    let s = t .before .before .before in
+    let r = register-at (l .inv .1 .0) (s .pre) (l .j) (t .loop-test .taken) in
+    loop-step (clockOne (s .args .turning)) (s .args .work .now) (l .work) (k .clock-one .last .0) (l .j) (s .args .regs) (t .loop-test .taken) (l .inv .1 .0) (l .inv .1 .1)
+    (k .clock-one .ensures ∙ clock-is (s .args .turning) (l .work) (l .j) _ (o .at .ensures)) (clock-within (s .args .turning) (l .work) (l .j) r)
 
 same-length : tie.Need-same-length Inv-loop μ-loop
 same-length c = c .before .loop .inv .1 .0 .size
@@ -55,10 +58,10 @@ returns : tie.Need-returns Inv-loop μ-loop
 returns c =
     let l = c .before .loop in
     let a = c .before .before .before .args in
-    record { within = l .inv .1 .0; whole = turns-all holdOne (l .j) (a .regs) (a .work .now) (l .work) (omega arith) (l .inv .1 .1) }
+    record { within = l .inv .1 .0; whole = turns-all (clockOne (a .turning)) (l .j) (a .regs) (a .work .now) (l .work) (omega arith) (l .inv .1 .1) }
 
-pub hold-spec : {M : Type 1} → statement M
-hold-spec =
+pub clock-spec : {M : Type 1} → statement M
+clock-spec =
     tie.close
     (tie.spec
     Inv-loop
@@ -66,7 +69,7 @@ hold-spec =
     loop-holds
     add-at
     at-requires
-    hold-one-requires
+    clock-one-requires
     add-j
     loop-less
     loop-again
