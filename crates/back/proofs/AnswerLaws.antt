@@ -13,13 +13,13 @@ use Rattle.calculus.specs.NetRead.{Known, readNet}
 use Rattle.calculus.specs.Record.{All}
 use Rattle.calculus.specs.Translate.{workOf}
 use Rattle.calculus.proofs.Answers.{refused≢good, good-inj, refused-inj}
-use Rattle.foreign_theorems.specs.Foreign.{Bytes, check, Checked, checkCall}
+use Rattle.foreign_calculus.specs.Foreign.{Bytes, check, Checked, checkCall}
 use Rattle.foreign_theorems.proofs.Exact.{check-exact}
 use Rattle.foreign.specs.Walk.{saidCheck, calledCheck}
 use Rattle.foreign.specs.declared.Verdict.{Verdict}
 use Rattle.foreign.specs.declared.Verdict.the-variants as verdict
-use Rattle.back_theorems.specs.Back.{gates, openIns, backSheet}
-use Rattle.back_theorems.specs.Returned.{noPoint, within, returned, backAnswer, backCall}
+use Rattle.back_calculus.specs.Back.{gates, openIns, backSheet}
+use Rattle.back_calculus.specs.Returned.{noPoint, within, returned, backAnswer, backCall}
 use Rattle.back_theorems.proofs.Main.{accepts-read, parts-of}
 use Rattle.back.specs.Gates.{netHere, AcceptedNet, OfParts, PartsTo, partsOr25}
 use Rattle.translator.specs.Said.{inRoom, AnswerSays, called, refusedAs}

@@ -5,10 +5,10 @@ use mathlib.Core.Bool.{Bool}
 use mathlib.Core.List.{List}
 use lib.ListN.{length}
 use Rattle.calculus.specs.Answer.{good}
-use Rattle.foreign_theorems.specs.Foreign.{Bytes}
-use Rattle.back_theorems.specs.Back.{gates, openIns, backSheet}
-use Rattle.back_theorems.specs.Returned.{returned}
-use Rattle.back_theorems.specs.Promises.{Returns, Back}
+use Rattle.foreign_calculus.specs.Foreign.{Bytes}
+use Rattle.back_calculus.specs.Back.{gates, openIns, backSheet}
+use Rattle.back_calculus.specs.Returned.{returned}
+use Rattle.back_calculus.specs.Promises.{Returns, Back}
 use Rattle.back_theorems.proofs.Main.{back-exact}
 use Rattle.back.specs.Gates.{netHere, AcceptedNet, Limited}
 use Rattle.back.proofs.GateLaws.{here-is}

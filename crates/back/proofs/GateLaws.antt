@@ -15,8 +15,8 @@ use Rattle.circuit_theorems.proofs.Lists.{all-left, all-right}
 use Rattle.circuit_theorems.proofs.NetRead.{itemsOf, ends-here, item-here}
 use Rattle.circuit_theorems.proofs.Told.{items-fit}
 use Rattle.foreign_theorems.proofs.Standing.{item-inj}
-use Rattle.back_theorems.specs.Returned.{noPoint}
-use Rattle.back_theorems.specs.Promises.{PartOnly}
+use Rattle.back_calculus.specs.Returned.{noPoint}
+use Rattle.back_calculus.specs.Promises.{PartOnly}
 use Rattle.back_theorems.proofs.Main.{accepts-read}
 use Rattle.back.specs.Said.{SaidGate}
 use Rattle.back.specs.declared.gates.Gate.{Gate}

@@ -15,14 +15,14 @@ use Rattle.calculus.specs.Net.{Element, point, part, Net, elementBytes, wireByt
 use Rattle.calculus.specs.NetRead.{readNet}
 use Rattle.calculus.specs.Translate.{saidOf}
 use Rattle.sheet_theorems.proofs.Judging.{Judged, value, refusal, Any, of-bind, of-require, weaker}
-use Rattle.foreign_theorems.specs.Foreign.{Bytes, Accepts, check}
+use Rattle.foreign_calculus.specs.Foreign.{Bytes, Accepts, check}
 use Rattle.foreign_theorems.proofs.Exact.{check-exact}
 use Rattle.foreign_theorems.proofs.Places.{CheckPlace, check-places}
-use Rattle.back_theorems.specs.Back.{gates, openIns, backSheet}
-use Rattle.back_theorems.specs.Promises.{Returns}
-use Rattle.back_theorems.specs.Returned.{noPoint, within, returned, backAnswer, backCall}
+use Rattle.back_calculus.specs.Back.{gates, openIns, backSheet}
+use Rattle.back_calculus.specs.Promises.{Returns}
+use Rattle.back_calculus.specs.Returned.{noPoint, within, returned, backAnswer, backCall}
 use Rattle.back_theorems.proofs.Main.{accepts-read, returns-of}
-use Rattle.translator.specs.Word.{FitsWord}
+use Rattle.answers.specs.Word.{FitsWord}
 use Rattle.back.specs.Gates.{netHere, AcceptedNet, Limited}
 use Rattle.back.proofs.GateLaws.{here-is}
 use Rattle.back.proofs.SheetLaws.{sheet-enough}

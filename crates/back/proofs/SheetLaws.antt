@@ -10,8 +10,8 @@ use Rattle.calculus.specs.Terms.{partAt, fix}
 use Rattle.calculus.specs.Write.{tableBytes, termBytes, recordBytes, sheetBytes}
 use Rattle.calculus.specs.Net.{Element, point, part, Net}
 use Rattle.calculus.specs.Record.{All}
-use Rattle.back_theorems.specs.Back.{Gate, sources, undrivens, gatesFrom, gates, openIns, tuple, backTable, tupleTerm, projections, backTerm, gatesSheet, backSheet}
-use Rattle.back_theorems.specs.Promises.{PartOnly}
+use Rattle.back_calculus.specs.Back.{Gate, sources, undrivens, gatesFrom, gates, openIns, tuple, backTable, tupleTerm, projections, backTerm, gatesSheet, backSheet}
+use Rattle.back_calculus.specs.Promises.{PartOnly}
 use Rattle.back_theorems.proofs.Typing.{few}
 use Rattle.back_theorems.proofs.CameBack.{gates-length}
 use Rattle.back.specs.Gates.{netHere, inputTotal, Limited}

@@ -17,7 +17,7 @@ use Rattle.calculus.specs.Record.{All}
 use Rattle.laws.proofs.Tests.{by-eqb}
 use Rattle.circuit_theorems.proofs.Lists.{all-map}
 use Rattle.circuit_theorems.proofs.Terminals.{out-high}
-use Rattle.back_theorems.specs.Back.{DrivenBy, undriven, output, partBefore, sources, undrivens, gatesFrom, openIns}
+use Rattle.back_calculus.specs.Back.{DrivenBy, undriven, output, partBefore, sources, undrivens, gatesFrom, openIns}
 use Rattle.back_theorems.proofs.Typing.{few}
 use Rattle.back.specs.Gates.{netHere, AcceptedNet, inputTotal}
 use Rattle.back.proofs.GateLaws.{here-is}

@@ -13,7 +13,7 @@ use Rattle.calculus.specs.Terms.{Term, var, app, con, partAt}
 use Rattle.calculus.specs.Write.{tableBytes, termBytes}
 use Rattle.calculus.specs.Record.{All}
 use Rattle.sheet_theorems.proofs.Laying.{table-snoc}
-use Rattle.back_theorems.specs.Back.{DrivenBy, Gate, tuple, base, products, arrows, backTable, binderNumber, applied, gateTerm, tupleTerm, projections, functions}
+use Rattle.back_calculus.specs.Back.{DrivenBy, Gate, tuple, base, products, arrows, backTable, binderNumber, applied, gateTerm, tupleTerm, projections, functions}
 use Rattle.back.specs.Rows.{rowsUpTo, productRow, arrowRow, functionRow, projectionRow, applicationRow, headRow, sourceRows, tupleRows, arrowLength}
 use Rattle.laws.proofs.Regions.{written-more}
 use Rattle.back.proofs.RowLaws.{rows-length}

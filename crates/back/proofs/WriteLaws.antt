@@ -11,8 +11,8 @@ use Rattle.calculus.specs.Net.{Element, point, part, Net}
 use Rattle.calculus.specs.Write.{termBytes}
 use Rattle.calculus.specs.Lean.{driver}
 use Rattle.calculus.specs.Record.{All}
-use Rattle.back_theorems.specs.Back.{DrivenBy, Gate, partBefore, sources, undrivens, gatesFrom, gates, openIns, tupleTerm}
-use Rattle.back_theorems.specs.Promises.{PartOnly}
+use Rattle.back_calculus.specs.Back.{DrivenBy, Gate, partBefore, sources, undrivens, gatesFrom, gates, openIns, tupleTerm}
+use Rattle.back_calculus.specs.Promises.{PartOnly}
 use Rattle.back_theorems.proofs.CameBack.{gates-length}
 use Rattle.circuit_theorems.proofs.Lists.{all-at, all-drop}
 use Rattle.back.specs.Gates.{netHere, AcceptedNet}

@@ -4,8 +4,8 @@ use mathlib.Core.List.{List}
 use Rattle.calculus.specs.Answer.{Answer, need, _>>=_}
 use Rattle.calculus.specs.Net.{Net}
 use Rattle.translator.specs.Said.{inRoom}
-use Rattle.back_theorems.specs.Back.{backSheet}
-use Rattle.back_theorems.specs.Returned.{noPoint, within}
+use Rattle.back_calculus.specs.Back.{backSheet}
+use Rattle.back_calculus.specs.Returned.{noPoint, within}
 
 unfoldable pub limitAnswer : Net → ℕ → Answer (List ℕ)
 limitAnswer m room = do

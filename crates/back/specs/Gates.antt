@@ -9,10 +9,10 @@ use Rattle.calculus.specs.Terms.{partAt}
 use Rattle.calculus.specs.Net.{Element, point, part, Net, element, wire, pin}
 use Rattle.calculus.specs.NetRead.{Front, item, ended, broken, readNet}
 use Rattle.calculus.specs.Record.{All}
-use Rattle.foreign_theorems.specs.Foreign.{Accepts}
-use Rattle.back_theorems.specs.Back.{gates, openIns}
-use Rattle.back_theorems.specs.Returned.{noPoint}
-use Rattle.back_theorems.specs.Promises.{PartOnly}
+use Rattle.foreign_calculus.specs.Foreign.{Accepts}
+use Rattle.back_calculus.specs.Back.{gates, openIns}
+use Rattle.back_calculus.specs.Returned.{noPoint}
+use Rattle.back_calculus.specs.Promises.{PartOnly}
 
 -- the netlist that bytes stand for; an empty one where they are none
 abbrev pub orNone : Answer Net → Net

@@ -6,7 +6,7 @@ use mathlib.Core.List.{List}
 use lib.ListN.{length, getD}
 use Rattle.calculus.specs.Write.{termBytes}
 use Rattle.calculus.specs.Net.{point}
-use Rattle.back_theorems.specs.Back.{sources, undrivens, gates, tupleTerm, backSheet}
+use Rattle.back_calculus.specs.Back.{sources, undrivens, gates, tupleTerm, backSheet}
 use Rattle.back.specs.Gates.{netHere, Limited}
 use Rattle.back.specs.Rows.{gateOf, gateRow}
 

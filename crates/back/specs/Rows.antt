@@ -6,7 +6,7 @@ use lib.Dec.{ltb, eqb}
 use lib.ListN.{length}
 use Rattle.calculus.specs.Terms.{partAt}
 use Rattle.calculus.specs.Net.{Element, point, part, Net}
-use Rattle.back_theorems.specs.Back.{DrivenBy, Gate, sources, tuple, binderNumber}
+use Rattle.back_calculus.specs.Back.{DrivenBy, Gate, sources, tuple, binderNumber}
 
 -- n rows one behind the other
 abbrev pub rowsUpTo : (ℕ → List ℕ) → ℕ → List ℕ

@@ -5,7 +5,7 @@ ghost use mathlib.Core.Path.{_≡_};
 ghost use Prim.Native.Nat.{_*_, _≤_, _<_};
 ghost use Rattle.calculus.specs.Lean.{driver as driverOf};
 ghost use Rattle.net_reader.specs.Said.{saidRecord};
-ghost use Rattle.back_theorems.specs.Back.{partBefore, sources, undrivens};
+ghost use Rattle.back_calculus.specs.Back.{partBefore, sources, undrivens};
 ghost use Rattle.back.specs.Gates.{netHere, AcceptedNet, OfParts, PartHere, WiresHere, partsOr25, partsEnd, CountedNet};
 ghost use Rattle.back.specs.Said.{saidParts, SaidGate};
 

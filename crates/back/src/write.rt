@@ -7,7 +7,7 @@ ghost use lib.ListN.{length, getD};
 ghost use lib.Seq.{sets};
 ghost use Rattle.calculus.specs.Net.{point};
 ghost use Rattle.calculus.specs.Write.{tableBytes, termBytes};
-ghost use Rattle.back_theorems.specs.Back.{undriven as undrivenInput, output, sources, undrivens, gates as gatesOf, tuple as tupleOf, base, backTable, binderNumber, tupleTerm, backSheet};
+ghost use Rattle.back_calculus.specs.Back.{undriven as undrivenInput, output, sources, undrivens, gates as gatesOf, tuple as tupleOf, base, backTable, binderNumber, tupleTerm, backSheet};
 ghost use Rattle.back.specs.Gates.{netHere};
 ghost use Rattle.back.specs.Rows.{rowsUpTo, productRow, arrowRow, functionRow, projectionRow, applicationRow, pairRow, headRow, sourceRows, gateRow, gateOf, arrowLength, sheetLength};
 ghost use Rattle.back.specs.Room.{SourceRoom, SourcesRoom, PartRoom, PartsRoom, SheetRoom};

@@ -19,9 +19,9 @@ use Rattle.calculus.specs.Translate.{full, answer, saidOf, outOf, call}
 use Rattle.calculus.specs.Known.{leanPlain}
 use Rattle.circuit_theorems.proofs.Bounds.{length-enough, lean-shorter}
 use Rattle.circuit_theorems.proofs.Told.{bytes-tell}
-use Rattle.foreign_theorems.specs.Foreign.{Bytes}
-use Rattle.back_theorems.specs.Returned.{returned, backAnswer, backCall}
-use Rattle.back_theorems.specs.Promises.{LeanOf, TranslatesBack}
+use Rattle.foreign_calculus.specs.Foreign.{Bytes}
+use Rattle.back_calculus.specs.Returned.{returned, backAnswer, backCall}
+use Rattle.back_calculus.specs.Promises.{LeanOf, TranslatesBack}
 use Rattle.back_theorems.proofs.Main.{came-back, same-parts, same-drivers}
 
 -- the bytes that a call of `back` wrote are the definition's sheet

@@ -18,8 +18,8 @@ use Rattle.circuit_theorems.specs.Formed.{Tiled}
 use Rattle.laws.proofs.Tests.{by-eqb}
 use Rattle.circuit_theorems.proofs.Outputs.{tiled}
 use Rattle.circuit_theorems.proofs.Main.{accepted-by}
-use Rattle.back_theorems.specs.Back.{DrivenBy, undriven, output, Gate, partBefore, sources, undrivens, gatesFrom, gates, openIns, backTable, backTerm, gatesSheet, backSheet, pointsFrom, partsFrom, backNet}
-use Rattle.back_theorems.specs.Promises.{PartOnly, Returns, LeanOf}
+use Rattle.back_calculus.specs.Back.{DrivenBy, undriven, output, Gate, partBefore, sources, undrivens, gatesFrom, gates, openIns, backTable, backTerm, gatesSheet, backSheet, pointsFrom, partsFrom, backNet}
+use Rattle.back_calculus.specs.Promises.{PartOnly, Returns, LeanOf}
 use Rattle.back_theorems.proofs.Typing.{tupleType, towards, few, SourceIn, GateIn, back-typed}
 use Rattle.back_theorems.proofs.Making.{full-made}
 use Rattle.back_theorems.proofs.Leaning.{lean-back}

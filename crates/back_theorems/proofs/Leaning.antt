@@ -11,7 +11,7 @@ use Rattle.calculus.specs.Terms.{partAt}
 use Rattle.calculus.specs.Net.{inp, out, Interface, Element, point, part, Wire, Net, join, make, netOf}
 use Rattle.calculus.specs.Lean.{driver, isPin, backIn, back, root, kept, keep, toInputs, leanWires, leanPin, lean}
 use Rattle.calculus.specs.Record.{All}
-use Rattle.back_theorems.specs.Back.{DrivenBy, undriven, output, Gate, backTable, backTerm, pointsFrom, partsFrom, outputAt, sourceAt, gateWires, allWires, inputsFrom, outputsFrom, backNet}
+use Rattle.back_calculus.specs.Back.{DrivenBy, undriven, output, Gate, backTable, backTerm, pointsFrom, partsFrom, outputAt, sourceAt, gateWires, allWires, inputsFrom, outputsFrom, backNet}
 use Rattle.laws.proofs.Tests.{or-left, or-right, by-eqb}
 use Rattle.circuit_theorems.proofs.Lists.{all-left, all-right}
 use Rattle.circuit_theorems.proofs.RootLaws.{root-stays, root-back}

@@ -7,5 +7,4 @@ pub mod SameParts
 pub mod SameDrivers
 pub mod Main
 pub mod Pins
-pub mod Worked
 pub mod Again

@@ -21,12 +21,12 @@ use Rattle.circuit_theorems.specs.Formed.{Formed}
 use Rattle.circuit_theorems.proofs.Main.{formed-lean}
 use Rattle.circuit_theorems.proofs.NetRead.{read-back}
 use Rattle.circuit_theorems.proofs.Told.{items-fit}
-use Rattle.foreign_theorems.specs.Foreign.{Bytes, Accepts, check}
+use Rattle.foreign_calculus.specs.Foreign.{Bytes, Accepts, check}
 use Rattle.foreign_theorems.proofs.Exact.{check-exact}
-use Rattle.back_theorems.specs.Back.{gates, openIns, backSheet, backNet}
-use Rattle.back_theorems.specs.Returned.{noPoint, within, returned}
-use Rattle.back_theorems.specs.Promises.{PartOnly, Returns, Back, BackWithin, LeanOf, SameParts}
-use Rattle.back_theorems.specs.Drivers.{SameDrivers}
+use Rattle.back_calculus.specs.Back.{gates, openIns, backSheet, backNet}
+use Rattle.back_calculus.specs.Returned.{noPoint, within, returned}
+use Rattle.back_calculus.specs.Promises.{PartOnly, Returns, Back, BackWithin, LeanOf, SameParts}
+use Rattle.back_calculus.specs.Drivers.{SameDrivers}
 use Rattle.back_theorems.proofs.CameBack.{net-came-back}
 use Rattle.back_theorems.proofs.SameParts.{same-gates}
 use Rattle.back_theorems.proofs.SameDrivers.{open-counted, drivers-same}

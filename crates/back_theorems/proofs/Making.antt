@@ -9,7 +9,7 @@ use Rattle.calculus.specs.Types.{Ty, bit, size, Table}
 use Rattle.calculus.specs.Terms.{Term, var, app, fix, con, partAt}
 use Rattle.calculus.specs.Net.{inp, out, Interface, turns, Element, point, part, Wire, Net, points, inSide, outSide, join, partSide, Bound, unbound, Made, leftOf, binder, madeVar, madeFun, madeApp, madeFix, make, netOf}
 use Rattle.calculus.specs.Record.{All}
-use Rattle.back_theorems.specs.Back.{DrivenBy, undriven, output, Gate, tuple, backTable, binderNumber, applied, gateTerm, tupleTerm, projections, functions, backTerm, pointsFrom, partsFrom, gateWires, allWires, inputsFrom, outputsFrom}
+use Rattle.back_calculus.specs.Back.{DrivenBy, undriven, output, Gate, tuple, backTable, binderNumber, applied, gateTerm, tupleTerm, projections, functions, backTerm, pointsFrom, partsFrom, gateWires, allWires, inputsFrom, outputsFrom}
 use Rattle.back_theorems.proofs.Typing.{tupleType, towards, HoldsTypes, holds, SourceIn, GateIn, few}
 
 -- ---- a variable of c tupleType

@@ -16,12 +16,12 @@ use Rattle.calculus.specs.Inputs.{hasWire}
 use Rattle.calculus.specs.NetRead.{readNet}
 use Rattle.calculus.specs.Record.{All}
 use Rattle.calculus.specs.Translate.{full}
-use Rattle.foreign_theorems.specs.Foreign.{Bytes}
+use Rattle.foreign_calculus.specs.Foreign.{Bytes}
 use Rattle.circuit_theorems.proofs.Lists.{all-append}
-use Rattle.back_theorems.specs.Back.{DrivenBy, Gate, gates, openIns, pointsFrom, partsFrom, inputsFrom, outputsFrom, sourceAt, gateWires, allWires, backNet}
-use Rattle.back_theorems.specs.Returned.{returned}
-use Rattle.back_theorems.specs.Promises.{Returns, Back, LeanOf}
-use Rattle.back_theorems.specs.Pins.{pointIns, partOuts, InputsWired, NewPins}
+use Rattle.back_calculus.specs.Back.{DrivenBy, Gate, gates, openIns, pointsFrom, partsFrom, inputsFrom, outputsFrom, sourceAt, gateWires, allWires, backNet}
+use Rattle.back_calculus.specs.Returned.{returned}
+use Rattle.back_calculus.specs.Promises.{Returns, Back, LeanOf}
+use Rattle.back_calculus.specs.Pins.{pointIns, partOuts, InputsWired, NewPins}
 use Rattle.back_theorems.proofs.Typing.{GateIn}
 use Rattle.back_theorems.proofs.CameBack.{gates-length, gates-in}
 use Rattle.back_theorems.proofs.Main.{accepts-read, back-exact, came-back}

@@ -16,7 +16,7 @@ use Rattle.sheet_theorems.specs.Laid.{TableOk, depth, Ranged}
 use Rattle.laws.proofs.Tests.{and-of, false-not}
 use Rattle.sheet_theorems.proofs.Tables.{grown, empty-ok}
 use Rattle.sheet_theorems.proofs.SheetRead.{sheet-read}
-use Rattle.back_theorems.specs.Back.{DrivenBy, Gate, tuple, base, products, arrows, backTable, binderNumber, applied, gateTerm, tupleTerm, projections, functions, backTerm}
+use Rattle.back_calculus.specs.Back.{DrivenBy, Gate, tuple, base, products, arrows, backTable, binderNumber, applied, gateTerm, tupleTerm, projections, functions, backTerm}
 use Rattle.back_theorems.proofs.Typing.{tupleType, towards, tupleType-sharable, few, GateIn, products-length, arrows-length, products-old, products-top, arrows-old, arrows-new, tuple-low}
 use Rattle.back_theorems.proofs.Making.{size-tupleType}
 

@@ -18,9 +18,9 @@ use Rattle.calculus.specs.Inputs.{ins, madeAt, targets, hasWire, isOut}
 use Rattle.calculus.specs.Record.{All, Among, here, there}
 use Rattle.circuit_theorems.specs.Formed.{Rising, Formed}
 use Rattle.circuit_theorems.proofs.Terminals.{made-low, made-one, unique}
-use Rattle.back_theorems.specs.Back.{DrivenBy, undriven, output, Gate, partBefore, sources, undrivens, gatesFrom, gates, openIns, pointsFrom, inputsFrom, partsFrom, outputsFrom, outputAt, sourceAt, gateWires, allWires, backNet}
-use Rattle.back_theorems.specs.Promises.{PartOnly, Returns}
-use Rattle.back_theorems.specs.Drivers.{NthPart, this-part, past-point, past-part, RunsTo, FromPart, isUndriven, undrivenBelow, NthUndriven, FromPin, SameDriver, SameDrivers}
+use Rattle.back_calculus.specs.Back.{DrivenBy, undriven, output, Gate, partBefore, sources, undrivens, gatesFrom, gates, openIns, pointsFrom, inputsFrom, partsFrom, outputsFrom, outputAt, sourceAt, gateWires, allWires, backNet}
+use Rattle.back_calculus.specs.Promises.{PartOnly, Returns}
+use Rattle.back_calculus.specs.Drivers.{NthPart, this-part, past-point, past-part, RunsTo, FromPart, isUndriven, undrivenBelow, NthUndriven, FromPin, SameDriver, SameDrivers}
 use Rattle.back_theorems.proofs.Typing.{SourceIn, GateIn}
 use Rattle.back_theorems.proofs.CameBack.{gates-length, gates-in}
 

@@ -10,9 +10,9 @@ use Rattle.calculus.specs.Terms.{partAt}
 use Rattle.calculus.specs.Net.{Interface, Element, part, Wire, Net}
 use Rattle.calculus.specs.Lean.{driver}
 use Rattle.calculus.specs.Record.{All}
-use Rattle.back_theorems.specs.Back.{DrivenBy, undriven, output, Gate, partBefore, gates, openIns, pointsFrom, partsFrom, outputAt, sourceAt, gateWires, allWires, inputsFrom, outputsFrom, backNet, pointOut, pinBefore, sourceSeen, sourcesSeen, gatesSeen}
+use Rattle.back_calculus.specs.Back.{DrivenBy, undriven, output, Gate, partBefore, gates, openIns, pointsFrom, partsFrom, outputAt, sourceAt, gateWires, allWires, inputsFrom, outputsFrom, backNet, pointOut, pinBefore, sourceSeen, sourcesSeen, gatesSeen}
 use Rattle.circuit_theorems.proofs.Lists.{all-append, all-map}
-use Rattle.back_theorems.specs.Promises.{Returns}
+use Rattle.back_calculus.specs.Promises.{Returns}
 use Rattle.back_theorems.proofs.Typing.{SourceIn, GateIn}
 use Rattle.back_theorems.proofs.Leaning.{output-high}
 use Rattle.back_theorems.proofs.CameBack.{gates-length, gates-in}

@@ -11,7 +11,7 @@ use Rattle.calculus.specs.Types.{Ty, bit, prod, arrow, sharable, rec02, rec03, 
 use Rattle.calculus.specs.Terms.{first, Term, var, app, con, partAt}
 use Rattle.calculus.specs.Rules.{many, once, away, Ctx, NoLinear, none-end, none-many, InΓ, in-here, in-many, Split, split-end, split-many, Typed, Var, →I, →E, ×I, ×E, Fix, Con}
 use Rattle.calculus.specs.Record.{All}
-use Rattle.back_theorems.specs.Back.{DrivenBy, undriven, output, Gate, tuple, base, products, arrows, backTable, binderNumber, applied, gateTerm, tupleTerm, projections, functions, backTerm}
+use Rattle.back_calculus.specs.Back.{DrivenBy, undriven, output, Gate, tuple, base, products, arrows, backTable, binderNumber, applied, gateTerm, tupleTerm, projections, functions, backTerm}
 use Rattle.sheet_theorems.proofs.Tables.{tree-new}
 use Rattle.sheet_theorems.proofs.TableRead.{tree-prefix}
 use Rattle.circuit_theorems.proofs.Counts.{part-inputs}

@@ -7,7 +7,7 @@ use lib.ListN.{length}
 use borrow.Author.Tests.{lt-leb, le-leb}
 use Rattle.calculus.specs.Answer.{refuse}
 use Rattle.export_calculus.specs.CardCall.{Wished}
-use Rattle.batch.specs.Batch.{oneByOne, addUp, Batch, ofRow, batchCall}
+use Rattle.batch_calculus.specs.Batch.{oneByOne, addUp, Batch, ofRow, batchCall}
 
 module _ (w : Wished) (s lengths out results work : List ℕ) where
   abbrev untouched : Batch

@@ -14,13 +14,13 @@ use Rattle.calculus.proofs.Answers.{refused≢good}
 use Rattle.calculus.specs.Translate.{zeroed, workOf, Call, saidOf, outOf}
 use Rattle.export_calculus.specs.CardCall.{Wished, cardAnswer, cardCall, wishedCall}
 use Rattle.memory.proofs.Zeroed.{zeroed-length, zeroed-same, zeroed-later}
-use Rattle.translator.specs.Word.{packed}
+use Rattle.answers.specs.Word.{packed}
 use Rattle.translator.proofs.Keeping.{work-small, work-large}
-use Rattle.translation.specs.Demands.{Circuit}
+use Rattle.translation_calculus.specs.Demands.{Circuit}
 use Rattle.translation.proofs.CardCall.{card-accepted}
 use Rattle.translation.proofs.Demands.{demand-3}
-use Rattle.batch.specs.Batch.{usedBy, CallsMade, oneByOne, sum, Batch, ofRow, batchCall}
-use Rattle.batch.specs.Promise.{sheetAt, callAt, AsCalls, EachCircuit}
+use Rattle.batch_calculus.specs.Batch.{usedBy, CallsMade, oneByOne, sum, Batch, ofRow, batchCall}
+use Rattle.batch_calculus.specs.Promise.{sheetAt, callAt, AsCalls, EachCircuit}
 use Rattle.batch.proofs.RowLaws.{used-within}
 use Rattle.batch.proofs.BatchLaws.{no-room, no-sum, fitting}
 

@@ -8,7 +8,7 @@ use denote.Triple.Clauses.{AtExit}
 use borrow.Fn.Kinds.{Dens, resT, endedOf}
 use Rattle.translator.proofs.SaidLaws.{SameResult, same-call}
 use Rattle.translator.specs.declared.Answer as code
-use Rattle.batch.specs.Batch.{Batch}
+use Rattle.batch_calculus.specs.Batch.{Batch}
 use Rattle.batch.specs.Left.{left}
 use Rattle.batch.proofs.batch.Kinds as batch
 use Rattle.batch.proofs.batch.Reads as batch-reads

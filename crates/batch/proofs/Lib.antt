@@ -3,5 +3,4 @@ pub mod RowLaws
 pub mod BatchLaws
 pub mod Calls
 pub mod Determined
-pub mod Worked
 pub mod Refused

@@ -8,7 +8,7 @@ use Rattle.calculus.specs.Answer.{Refusal, refused}
 use Rattle.export_calculus.specs.CardCall.{Wished}
 use Rattle.refusal_theorems.specs.CardRefusedBy.{CardRefusedBy}
 use Rattle.refusal_theorems.proofs.CardExact.{card-refused-by-exact}
-use Rattle.batch.specs.Promise.{sheetAt, callAt}
+use Rattle.batch_calculus.specs.Promise.{sheetAt, callAt}
 
 -- sheet i, where `used` bytes of the output are used before it
 pub batch-refused-by : (w : Wished) (s lengths out work : List ℕ) (used i : ℕ) (why : Refusal)

@@ -9,14 +9,14 @@ use lib.Seq.{take-all, length-take-le, drop-length, take-append-add, drop-append
 use Rattle.calculus.specs.Answer.{Answer, good, refused}
 use Rattle.calculus.specs.Translate.{Call, saidOf, outOf}
 use Rattle.export_calculus.specs.CardCall.{Wished, cardAnswer, cardCall, wishedCall}
-use Rattle.translator.specs.Word.{packed}
+use Rattle.answers.specs.Word.{packed}
 use Rattle.translator.specs.declared.Answer.the-variants as variant
 use Rattle.laws.proofs.Regions.{drop-past}
 use Rattle.translator.proofs.SaidLaws.{written-in}
 use Rattle.sheet_theorems.proofs.Judging.{Judged, value, refusal}
 use Rattle.translation.proofs.Places.{CallPlace, CallCount, call-places}
 use Rattle.translation.proofs.CardCall.{card-accepted}
-use Rattle.batch.specs.Batch.{usedBy, CallsMade, oneByOne, sum, Batch, ofRow}
+use Rattle.batch_calculus.specs.Batch.{usedBy, CallsMade, oneByOne, sum, Batch, ofRow}
 use Rattle.batch.specs.Left.{OneLeft, left}
 use Rattle.batch.proofs.SumLaws.{drop-at-place, sum-drop}
 

@@ -8,7 +8,7 @@ use lib.ListN.{length, getD, drop}
 use lib.Seq.{drop-cons, drop-length}
 use borrow.Author.Tests.{eq-eqb, ne-eqb}
 use Rattle.laws.proofs.Tests.{by-eqb}
-use Rattle.batch.specs.Batch.{sum}
+use Rattle.batch_calculus.specs.Batch.{sum}
 
 pub drop-at-place : (l : List ℕ) (k : ℕ) → k < length l → drop k l ≡ getD l k 0 ∷ drop (k + 1) l
 drop-at-place l k h = drop-cons l k 0 h ∙ ap (λ (j : ℕ). getD l k 0 ∷ drop j l) (sym (add-one k))

@@ -5,9 +5,9 @@ use mathlib.Core.List.{List}
 use lib.ListN.{set}
 use Rattle.calculus.specs.Translate.{Call}
 use Rattle.translator.specs.Said.{saidAnswer}
-use Rattle.translator.specs.Word.{packed}
+use Rattle.answers.specs.Word.{packed}
 use Rattle.translator.specs.declared.Answer as code
-use Rattle.batch.specs.Batch.{usedBy, Batch}
+use Rattle.batch_calculus.specs.Batch.{usedBy, Batch}
 
 -- after one sheet: its call's output and working memory, its result at place k, and the bytes used
 pub record OneLeft (r k : ℕ) (out results results′ work : List ℕ) (c : Call) : Type 0 where

@@ -1,4 +1,1 @@
-pub mod Batch
 pub mod Left
-pub mod Promise
-pub mod Worked

@@ -9,7 +9,7 @@ ghost use Rattle.export_calculus.specs.CardCall.{wishedCall};
 ghost use Rattle.translator.specs.Said.{saidAnswer};
 ghost use Rattle.translator.specs.declared.Answer.the-variants as answer;
 ghost use Rattle.translation.specs.Wished.{allWish};
-ghost use Rattle.batch.specs.Batch.{usedBy, sum, oneByOne, ofRow, batchCall};
+ghost use Rattle.batch_calculus.specs.Batch.{usedBy, sum, oneByOne, ofRow, batchCall};
 ghost use Rattle.batch.specs.Left.{OneLeft, left};
 
 fn wide(x: u32) -> usize

@@ -18,23 +18,23 @@ use Rattle.sheet_theorems.proofs.Laying.{opened}
 use Rattle.sheet_theorems.proofs.StretchHolds.{stretch-holds, stretch-past, stretch-refused}
 use Rattle.sheet_theorems.proofs.Judging.{Judged, value, refusal, Any}
 use Rattle.sheet.proofs.StretchLaws.{stretch-within}
-use Rattle.translator.specs.Word.{packed, FitsWord}
+use Rattle.answers.specs.Word.{packed, FitsWord}
 use Rattle.translator.specs.Said.{saidAnswer, refusedAs, called}
 use Rattle.translator.specs.declared.Answer as code
 use Rattle.translator.proofs.Places.{names-small}
-use Rattle.translator.proofs.WordLaws.{word-tells}
+use Rattle.answers.proofs.WordLaws.{word-tells}
 use Rattle.export_calculus.specs.CardCall.{cardCall}
 use Rattle.export_calculus.specs.Verilog.{verilogCall}
 use Rattle.verilog.proofs.Places.{verilog-places, verilog-fits}
 use Rattle.translation.proofs.Places.{CallPlace, CallCount, ProfilePlace, CardPlace, card-places}
-use Rattle.batch.specs.Batch.{Batch}
+use Rattle.batch_calculus.specs.Batch.{Batch}
 use Rattle.batch.specs.Left.{left}
 use Rattle.trace_calculus.specs.Lanes.{LanesCall}
 use Rattle.trace.specs.Said.{lanesCalled}
 use Rattle.translator.specs.declared.Answer.the-variants as answer
-use Rattle.foreign_theorems.specs.Foreign.{Bytes, check, Checked, checkCall}
+use Rattle.foreign_calculus.specs.Foreign.{Bytes, check, Checked, checkCall}
 use Rattle.foreign_theorems.proofs.Places.{CheckPlace, check-places}
-use Rattle.back_theorems.specs.Returned.{backCall}
+use Rattle.back_calculus.specs.Returned.{backCall}
 use Rattle.back.proofs.Places.{back-places, back-fits}
 use Rattle.foreign.specs.Walk.{saidCheck, calledCheck as checked}
 use Rattle.foreign.specs.declared.Verdict.{Verdict}

@@ -10,7 +10,7 @@ use borrow.Author.Tests.{le-leb}
 use Rattle.calculus.specs.Answer.{good}
 use Rattle.calculus.specs.Makers.{makersOf}
 use Rattle.calculus.specs.Translate.{askedBytes, workOf, call}
-use Rattle.foreign_theorems.specs.Foreign.{check, checkCall}
+use Rattle.foreign_calculus.specs.Foreign.{check, checkCall}
 use Rattle.foreign_theorems.proofs.Own.{own-accepted}
 use Rattle.translation.proofs.Demands.{demand-3}
 use Rattle.translation.proofs.Nodes.{inPlain}

@@ -5,9 +5,9 @@ use mathlib.Core.List.{List}
 use Rattle.calculus.specs.Answer.{Answer, good, refused}
 use Rattle.calculus.specs.Stretch.{Stretch}
 use Rattle.calculus.specs.Translate.{Call}
-use Rattle.translator.specs.Word.{upperLower, packed}
-use Rattle.batch.specs.Batch.{Batch}
-use Rattle.foreign_theorems.specs.Foreign.{Checked}
+use Rattle.answers.specs.Word.{upperLower, packed}
+use Rattle.batch_calculus.specs.Batch.{Batch}
+use Rattle.foreign_calculus.specs.Foreign.{Checked}
 use Rattle.trace_calculus.specs.Lanes.{LanesCall}
 use Rattle.never_calculus.specs.Search.{NeverCall}
 use Rattle.notation_calculus.specs.Make.{MakeCall}

@@ -4,14 +4,14 @@ use translation::Wish;
 use translator::Answer;
 ghost use mathlib.Core.Path.{_≡_};
 ghost use Rattle.calculus.specs.Stretch.{stretchOf};
-ghost use Rattle.batch.specs.Batch.{batchCall};
-ghost use Rattle.foreign_theorems.specs.Foreign.{checkCall};
+ghost use Rattle.batch_calculus.specs.Batch.{batchCall};
+ghost use Rattle.foreign_calculus.specs.Foreign.{checkCall};
 ghost use Rattle.export_calculus.specs.CardCall.{cardCall};
 ghost use Rattle.trace_calculus.specs.Trace.{runCall};
 ghost use Rattle.trace_calculus.specs.Lanes.{lanesCall};
 ghost use Rattle.never_calculus.specs.Search.{neverCall};
 ghost use Rattle.export_calculus.specs.Verilog.{verilogCall};
-ghost use Rattle.back_theorems.specs.Returned.{backCall};
+ghost use Rattle.back_calculus.specs.Returned.{backCall};
 ghost use Rattle.notation_calculus.specs.Make.{makeCall};
 ghost use Rattle.deltawobble.specs.Boundary.{Packs, PacksBatch, PacksLanes, PacksCheck, PacksNever, PacksMake, packedStretch};
 

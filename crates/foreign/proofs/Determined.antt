@@ -4,7 +4,7 @@ use mathlib.Core.Path.{_≡_, refl, sym, ap, _∙_}
 use Rattle.calculus.specs.Answer.{Refusal}
 use Rattle.calculus.proofs.Answers.{refused≢good, refused-inj}
 use Rattle.laws.proofs.OneResult.{Results}
-use Rattle.foreign_theorems.specs.Foreign.{Checked}
+use Rattle.foreign_calculus.specs.Foreign.{Checked}
 use Rattle.foreign.specs.Walk.{saidCheck}
 use Rattle.foreign.specs.declared.Verdict.{Verdict}
 use Rattle.foreign.specs.declared.Verdict.the-variants as verdict

@@ -13,11 +13,11 @@ use Rattle.calculus.specs.Net.{Net}
 use Rattle.calculus.specs.Inputs.{ins, madeAt, targets, isOut}
 use Rattle.circuit_theorems.specs.Formed.{Rising}
 use Rattle.memory.specs.Map.{memorySize}
-use Rattle.foreign_theorems.specs.Foreign.{Reading, begin, readOn, oneEach, check, Checked, checkCall, Bytes}
+use Rattle.foreign_calculus.specs.Foreign.{Reading, begin, readOn, oneEach, check, Checked, checkCall, Bytes}
 use Rattle.calculus.specs.Translate.{zeroed, workOf}
 use Rattle.memory.proofs.Zeroed.{zeroed-length, zeroed-zeros, zeroed-same, zeroed-later}
 use Rattle.circuit_theorems.proofs.Terminals.{made-one}
-use Rattle.foreign_theorems.specs.Refused.{ReadAs, OneFeed}
+use Rattle.foreign_calculus.specs.Refused.{ReadAs, OneFeed}
 use Rattle.foreign_theorems.proofs.Sound.{read-none, read-all, numbered-rising, no-targets, no-inputs}
 use Rattle.circuit_theorems.proofs.NetRead.{out-not-made}
 use Rattle.foreign.specs.Table.{TableHolds, LaterKept, TableClear}

@@ -20,8 +20,8 @@ use Rattle.circuit_theorems.proofs.Terminals.{out-high, made-high}
 use Rattle.circuit_theorems.proofs.Drivers.{made-append, targets-append}
 use Rattle.calculus.specs.NetRead.{item}
 use Rattle.memory.specs.Map.{memorySize}
-use Rattle.foreign_theorems.specs.Foreign.{Reading, firstOf, pastOf, starts, isIn, moreElement, moreWire, morePin, judge}
-use Rattle.foreign_theorems.specs.Refused.{ReadAs}
+use Rattle.foreign_calculus.specs.Foreign.{Reading, firstOf, pastOf, starts, isIn, moreElement, moreWire, morePin, judge}
+use Rattle.foreign_calculus.specs.Refused.{ReadAs}
 use Rattle.foreign_theorems.proofs.Sound.{numbered-rising}
 use Rattle.circuit_theorems.proofs.NetRead.{out-not-made}
 use Rattle.foreign.specs.Table.{cellsOf, driven, cellAt, cellOf, TableHolds, LaterKept}

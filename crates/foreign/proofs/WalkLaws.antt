@@ -9,10 +9,10 @@ use Rattle.calculus.specs.Answer.{Answer, good, refused, refuse, _>>=_}
 use Rattle.calculus.specs.Net.{Item}
 use Rattle.calculus.specs.NetRead.{Front, item, ended, broken, itemAt, itemSize}
 use Rattle.memory.specs.Map.{memorySize}
-use Rattle.foreign_theorems.specs.Foreign.{Reading, begin, judge, onFront, readOn, Bytes}
+use Rattle.foreign_calculus.specs.Foreign.{Reading, begin, judge, onFront, readOn, Bytes}
 use Rattle.foreign_theorems.proofs.Standing.{Stood, item-stood, ended-stood}
 use Rattle.circuit_theorems.proofs.NetRead.{item-some, ends-here}
-use Rattle.foreign_theorems.specs.Refused.{ReadAs}
+use Rattle.foreign_calculus.specs.Refused.{ReadAs}
 use Rattle.foreign_theorems.proofs.Sound.{read-more, read-none, more-taken}
 use Rattle.net_reader.specs.Said.{saidRecord, frontSize, SaidStep}
 use Rattle.net_reader.specs.declared.Step.{Step}

@@ -9,7 +9,7 @@ use lib.ListN.{length, getD, set, drop, replicate}
 use Rattle.calculus.specs.Net.{Net}
 use Rattle.calculus.specs.Inputs.{ins, targets, isOut}
 use Rattle.memory.specs.Map.{memorySize}
-use Rattle.foreign_theorems.specs.Foreign.{isIn}
+use Rattle.foreign_calculus.specs.Foreign.{isIn}
 
 -- an element of k inputs: they, then its output
 abbrev pub cellsOf : ℕ → List ℕ

@@ -7,7 +7,7 @@ use lib.Seq.{sets}
 use Rattle.calculus.specs.Terms.{partAt}
 use Rattle.calculus.specs.Net.{point, part, element, wire, pin}
 use Rattle.calculus.specs.NetRead.{Front, item, ended, broken}
-use Rattle.foreign_theorems.specs.Foreign.{starts}
+use Rattle.foreign_calculus.specs.Foreign.{starts}
 use Rattle.foreign.specs.Table.{cellsOf, cellAt, driven}
 use Rattle.foreign.specs.declared.take.Taken.{Taken}
 use Rattle.foreign.specs.declared.take.Taken.the-variants as taken

@@ -3,7 +3,7 @@ use Prim.Native.Nat.{ℕ}
 use mathlib.Core.Path.{_≡_}
 use mathlib.Core.List.{List}
 use Rattle.calculus.specs.Answer.{Answer, good, refuse}
-use Rattle.foreign_theorems.specs.Foreign.{Reading, Checked}
+use Rattle.foreign_calculus.specs.Foreign.{Reading, Checked}
 use Rattle.foreign.specs.Table.{TableHolds}
 use Rattle.foreign.specs.Take.{Took, next, wrong}
 use Rattle.foreign.specs.declared.Went.{Went}

@@ -9,7 +9,7 @@ ghost use Prim.Native.Nat.{_+_, _≤_, _<_};
 ghost use lib.ListN.{length};
 ghost use Rattle.net_reader.specs.Said.{frontSize};
 ghost use Rattle.calculus.specs.NetRead.{itemAt};
-ghost use Rattle.foreign_theorems.specs.Foreign.{begin, readOn, check as checkOf, checkCall};
+ghost use Rattle.foreign_calculus.specs.Foreign.{begin, readOn, check as checkOf, checkCall};
 ghost use Rattle.foreign.specs.Table.{LaterKept, TableClear};
 ghost use Rattle.foreign.specs.Take.{took};
 ghost use Rattle.foreign.specs.Walk.{saidWent, goneTo, WalkAgrees, saidCheck, calledCheck};

@@ -6,7 +6,7 @@ ghost use Prim.Native.Nat.{_+_, _≤_, _<_};
 ghost use lib.ListN.{length};
 ghost use Rattle.net_reader.specs.Said.{saidRecord};
 ghost use Rattle.calculus.specs.Terms.{partAt};
-ghost use Rattle.foreign_theorems.specs.Foreign.{starts};
+ghost use Rattle.foreign_calculus.specs.Foreign.{starts};
 ghost use Rattle.foreign.specs.Take.{saidTaken, tookElement, tookWire, tookPin, took};
 
 // How far the records came (0 elements, 1 wires, 2 pins), and the first terminal above those taken.

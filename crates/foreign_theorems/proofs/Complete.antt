@@ -20,7 +20,7 @@ use Rattle.circuit_theorems.proofs.Terminals.{rising-end}
 use Rattle.circuit_theorems.proofs.Wiring.{wires-run, pins-show}
 use Rattle.circuit_theorems.proofs.NetRead.{itemsOf, itemsBytes, records-in-a-row, item-length, item-some, ends-here, item-here, Shows, terminal-is}
 use Rattle.circuit_theorems.proofs.Told.{items-fit}
-use Rattle.foreign_theorems.specs.Foreign.{Numbered, Accepts, Reading, begin, firstOf, pastOf, starts, isIn, judge, onFront, readOn, oneEach, check}
+use Rattle.foreign_calculus.specs.Foreign.{Numbered, Accepts, Reading, begin, firstOf, pastOf, starts, isIn, judge, onFront, readOn, oneEach, check}
 use Rattle.foreign_theorems.proofs.Sound.{numbered-rising}
 
 -- ---- a row of records that stands in the bytes is judged record by record

@@ -15,8 +15,8 @@ use Rattle.calculus.proofs.Answers.{refused≢good, good-inj, refused-inj}
 use Rattle.calculus.specs.Net.{Element, Wire, Net, Item, element, wire, pin, itemBytes}
 use Rattle.calculus.specs.Inputs.{ins, madeAt, targets, isOut}
 use Rattle.calculus.specs.NetRead.{itemSize, Front, item, ended, broken, itemAt}
-use Rattle.foreign_theorems.specs.Foreign.{Bytes, Accepts, Reading, begin, firstOf, pastOf, starts, isIn, moreElement, moreWire, morePin, withItem, judge, onFront, readOn, oneEach, check}
-use Rattle.foreign_theorems.specs.Refused.{ReadAs, StandsAt, Misplaced, late-element, late-wire, StartsAfter, Misnumbered, not-next, too-high, from-no-output, to-no-input, no-terminal, RecordsInOrder, nothing-yet, one-more, WrongRecord, no-record, misplaced, misnumbered, OneFeed, RefusedNet, first-wrong, lowest-undriven}
+use Rattle.foreign_calculus.specs.Foreign.{Bytes, Accepts, Reading, begin, firstOf, pastOf, starts, isIn, moreElement, moreWire, morePin, withItem, judge, onFront, readOn, oneEach, check}
+use Rattle.foreign_calculus.specs.Refused.{ReadAs, StandsAt, Misplaced, late-element, late-wire, StartsAfter, Misnumbered, not-next, too-high, from-no-output, to-no-input, no-terminal, RecordsInOrder, nothing-yet, one-more, WrongRecord, no-record, misplaced, misnumbered, OneFeed, RefusedNet, first-wrong, lowest-undriven}
 use Rattle.foreign_theorems.proofs.Standing.{item-stood, ended-stood}
 use Rattle.foreign_theorems.proofs.Sound.{numbered-rising, read-more, read-none, more-taken, read-all, no-targets, no-inputs, accepted}
 use Rattle.sheet_theorems.proofs.Going.{passes}

@@ -4,4 +4,3 @@ pub mod Complete
 pub mod Exact
 pub mod Places
 pub mod Own
-pub mod Worked

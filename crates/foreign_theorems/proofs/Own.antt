@@ -12,7 +12,7 @@ use Rattle.circuit_theorems.proofs.Forming.{lean-formed, lean-end}
 use Rattle.circuit_theorems.proofs.NetRead.{net-bytes-only}
 use Rattle.circuit_theorems.proofs.Told.{items-fit, full-known, lean-known}
 use Rattle.circuit_theorems.proofs.Main.{formed}
-use Rattle.foreign_theorems.specs.Foreign.{Accepts, check}
+use Rattle.foreign_calculus.specs.Foreign.{Accepts, check}
 use Rattle.foreign_theorems.proofs.Complete.{accepts-check}
 
 module _ (s : List ℕ) (m : Net) (ok : full s ≡ good m) where

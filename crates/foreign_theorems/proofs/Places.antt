@@ -14,7 +14,7 @@ use Rattle.calculus.specs.Inputs.{ins, madeAt, targets, isOut}
 use Rattle.calculus.specs.NetRead.{itemSize, Front, item, ended, broken, itemAt}
 use Rattle.sheet_theorems.proofs.Judging.{Judged, value, refusal, Any, of-bind, of-require}
 use Rattle.circuit_theorems.proofs.NetRead.{ends-here}
-use Rattle.foreign_theorems.specs.Foreign.{Reading, begin, firstOf, pastOf, starts, isIn, judge, onFront, readOn, oneEach, check}
+use Rattle.foreign_calculus.specs.Foreign.{Reading, begin, firstOf, pastOf, starts, isIn, judge, onFront, readOn, oneEach, check}
 
 -- 21 and 22 at an offset of the netlist, 23 at an input; none names types
 pub record CheckPlace (s : List ℕ) (why : Refusal) : Type 0 where

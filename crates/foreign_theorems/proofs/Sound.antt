@@ -20,8 +20,8 @@ use Rattle.circuit_theorems.specs.Formed.{Shown, Tiled, Rising}
 use Rattle.circuit_theorems.proofs.Lists.{all-map, all-append}
 use Rattle.circuit_theorems.proofs.Terminals.{tiled-rising, made-high}
 use Rattle.circuit_theorems.proofs.NetRead.{itemsOf, itemsBytes, items-append, records-in-a-row, item-length, item-some}
-use Rattle.foreign_theorems.specs.Foreign.{Bytes, Numbered, Accepts, Reading, begin, firstOf, pastOf, starts, isIn, moreElement, moreWire, morePin, judge, onFront, readOn, oneEach, check}
-use Rattle.foreign_theorems.specs.Refused.{PinStands, WireRuns, ReadAs}
+use Rattle.foreign_calculus.specs.Foreign.{Bytes, Numbered, Accepts, Reading, begin, firstOf, pastOf, starts, isIn, moreElement, moreWire, morePin, judge, onFront, readOn, oneEach, check}
+use Rattle.foreign_calculus.specs.Refused.{PinStands, WireRuns, ReadAs}
 use Rattle.foreign_theorems.proofs.Standing.{Stood, item-stood, ended-stood}
 
 -- ---- the numbering with one more element

@@ -15,7 +15,7 @@ use Rattle.calculus.specs.Net.{point, part, Item, element, wire, pin, two, item
 use Rattle.calculus.specs.NetRead.{Fits, itemSize, item, ended, broken, twoAt, ofKind, itemAt}
 use Rattle.sheet_theorems.proofs.Bytes.{front-one, front-two}
 use Rattle.circuit_theorems.proofs.Lists.{all-getD}
-use Rattle.foreign_theorems.specs.Foreign.{Bytes}
+use Rattle.foreign_calculus.specs.Foreign.{Bytes}
 
 pub record Stood (s : List ℕ) (at : ℕ) (r : Item) : Type 0 where
   pub fits : Fits r

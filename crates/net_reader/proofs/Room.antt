@@ -5,7 +5,7 @@ use mathlib.Core.List.{List, [], _∷_}
 use native.Mathlib.Omega.{arith}
 use lib.ListN.{length, getD}
 use Rattle.calculus.specs.NetRead.{Front, item, ended, broken, itemAt}
-use Rattle.foreign_theorems.specs.Foreign.{Bytes}
+use Rattle.foreign_calculus.specs.Foreign.{Bytes}
 use Rattle.foreign_theorems.proofs.Standing.{item-stood}
 use Rattle.net_reader.specs.Said.{frontSize}
 

@@ -16,7 +16,8 @@ use Rattle.circuit_theorems.specs.Terminals.{has}
 use Rattle.circuit_theorems.specs.Formed.{Rising}
 use Rattle.circuit_theorems.proofs.Drivers.{made-append}
 use Rattle.trace_calculus.specs.Trace.{terminals}
-use Rattle.trace_theorems.proofs.Sources.{ins-range, ins-of, out-of-point, out-of-part, out-not-made, terminal-is, point-terminal, part-terminal, out-terminal}
+use Rattle.circuit_theorems.proofs.NetRead.{out-not-made}
+use Rattle.trace_theorems.proofs.Sources.{ins-range, ins-of, out-of-point, out-of-part, terminal-is, point-terminal, part-terminal, out-terminal}
 use Rattle.trace_theorems.proofs.Owners.{start, last}
 
 pub out-in : (es : List Element) (x : ℕ) → T (isOut es x) → (a : Element) × Among a es × (last a ≡ x)

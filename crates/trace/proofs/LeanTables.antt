@@ -24,7 +24,8 @@ use Rattle.lean.specs.Layout.{leanPinsAt, leftOut, leanIn, Leant, kindsFrom}
 use Rattle.lean.proofs.DriverLaws.{rising}
 use Rattle.lean.proofs.EntryLaws.{EntryTells, element-entry, wire-entry, entry-wire, entry-element, lean-ok}
 use Rattle.trace_calculus.specs.Trace.{Source, from, source, terminals}
-use Rattle.trace_theorems.proofs.Sources.{in-all, Decided, is-pin, is-wire, is-point, is-part, decided, at-wire, out-terminal, out-not-made, not-out}
+use Rattle.circuit_theorems.proofs.NetRead.{out-not-made}
+use Rattle.trace_theorems.proofs.Sources.{in-all, Decided, is-pin, is-wire, is-point, is-part, decided, at-wire, out-terminal, not-out}
 use Rattle.trace_theorems.proofs.Owners.{start, last, keep-in}
 use Rattle.trace_steps.specs.Map.{pinsAt}
 use Rattle.trace_steps.specs.Copied.{TableCopied, PinsCopied}

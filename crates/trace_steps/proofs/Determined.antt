@@ -48,10 +48,8 @@ use Rattle.trace_steps.proofs.table.pick.Kinds as pick
 use Rattle.trace_steps.proofs.table.pick.Reads as pick-reads
 use Rattle.trace_steps.proofs.ticks.pass.Kinds as pass
 use Rattle.trace_steps.proofs.ticks.pass.Reads as pass-reads
-use Rattle.trace_steps.proofs.ticks.hold.Kinds as hold
-use Rattle.trace_steps.proofs.ticks.hold.Reads as hold-reads
-use Rattle.trace_steps.proofs.ticks.turn.Kinds as turn
-use Rattle.trace_steps.proofs.ticks.turn.Reads as turn-reads
+use Rattle.trace_steps.proofs.ticks.clock.Kinds as clock
+use Rattle.trace_steps.proofs.ticks.clock.Reads as clock-reads
 
 pub at-determined : Result at.ps at.r at-reads.Post
 at-determined κs a x y s t f g = f ∙ sym g
@@ -115,8 +113,5 @@ pick-determined κs a x y s t f g = f ∙ sym g
 pub pass-determined : Left pass.ps pass.r pass-reads.Post (λ κs s. s .0 .now)
 pass-determined κs a x y s t f g = f .whole ∙ sym (g .whole)
 
-pub hold-determined : Left hold.ps hold.r hold-reads.Post (λ κs s. s .0 .now)
-hold-determined κs a x y s t f g = f .whole ∙ sym (g .whole)
-
-pub turn-determined : Left turn.ps turn.r turn-reads.Post (λ κs s. s .0 .now)
-turn-determined κs a x y s t f g = f .whole ∙ sym (g .whole)
+pub clock-determined : Left clock.ps clock.r clock-reads.Post (λ κs s. s .0 .now)
+clock-determined κs a x y s t f g = f .whole ∙ sym (g .whole)

@@ -16,7 +16,7 @@ use Rattle.lean.specs.Table.{Within}
 use Rattle.lean.specs.Layout.{kindsFrom}
 use Rattle.trace_steps.specs.Map.{registersAt, orderAt, bitsAt, inverterEntry}
 use Rattle.trace_steps.specs.Turns.{takeTurns}
-use Rattle.trace_steps.specs.Steps.{firstIn, inputBit, readyIn, Looks, Ordered, Register, Registers, holdOne, turnOne, wakeOne}
+use Rattle.trace_steps.specs.Steps.{firstIn, inputBit, readyIn, Looks, Ordered, Register, Registers, holdAt, turnAt, clockAt, holdOne, turnOne, clockOne, wakeOne}
 use Rattle.trace_steps.specs.Words.{chosenWord, inputWord, gateWord, wordStep, wordPass}
 use Rattle.lean.proofs.TableLaws.{within-then, within-set}
 
@@ -137,6 +137,14 @@ hold-within w j r = let l = r .low in within-set w (getD w (registersAt + j) 0 -
 
 pub turn-within : (w : List ℕ) (j : ℕ) → Register w (getD w (registersAt + j) 0) → Within w (turnOne j w)
 turn-within w j r = within-set w (getD w (registersAt + j) 0) _ (r .low)
+
+pub clock-within : (turning : Bool) (w : List ℕ) (j : ℕ) → Register w (getD w (registersAt + j) 0) → Within w (clockOne turning j w)
+clock-within false = hold-within
+clock-within true = turn-within
+
+pub clock-is : (turning : Bool) (w : List ℕ) (j o : ℕ) → o ≡ getD w (registersAt + j) 0 → clockAt turning w o ≡ clockOne turning j w
+clock-is false w j o e = ap (holdAt w) e
+clock-is true w j o e = ap (turnAt w) e
 
 pub wake-within : (starts w : List ℕ) (j : ℕ) → Register w (getD w (registersAt + j) 0) → Within w (wakeOne starts j w)
 wake-within starts w j r = within-set w (getD w (registersAt + j) 0) _ (r .low)

@@ -1,6 +1,6 @@
 -- The steps of a run, over the working memory (specs/Map says what stands where). Assumes nothing.
 use Prim.Native.Nat.{ℕ, _+_, _-_, _/_, _≤_, _<_}
-use mathlib.Core.Bool.{Bool, cond, not, _&&_, _||_, xor}
+use mathlib.Core.Bool.{Bool, true, false, cond, not, _&&_, _||_, xor}
 use mathlib.Core.List.{List}
 use lib.ListN.{length, getD, set}
 use lib.Dec.{eqb, ltb}
@@ -80,6 +80,15 @@ turnAt w o = set w (bitsAt + o) (getD w (bitsAt + (o - 1)) 0)
 
 abbrev pub turnOne : ℕ → List ℕ → List ℕ
 turnOne j w = turnAt w (getD w (registersAt + j) 0)
+
+-- all registers hold, and then all turn
+abbrev pub clockAt : Bool → List ℕ → ℕ → List ℕ
+clockAt false = holdAt
+clockAt true = turnAt
+
+abbrev pub clockOne : Bool → ℕ → List ℕ → List ℕ
+clockOne false = holdOne
+clockOne true = turnOne
 
 -- ---- the table
 

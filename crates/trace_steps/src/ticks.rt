@@ -9,7 +9,7 @@ ghost use Prim.Native.Nat.{_+_, _-_, _≤_, _<_};
 ghost use lib.ListN.{length};
 ghost use Rattle.memory.specs.Map.{memorySize};
 ghost use Rattle.lean.specs.Layout.{kindsFrom};
-ghost use Rattle.trace_steps.specs.Steps.{Looks, Ordered, Register, Registers, holdAt, turnAt, wakeOne, holdOne, turnOne};
+ghost use Rattle.trace_steps.specs.Steps.{Looks, Ordered, Register, Registers, holdAt, turnAt, clockAt, wakeOne, clockOne};
 ghost use Rattle.trace_steps.specs.Words.{gateWord, wordStep, wordPass, wordBegin, laneZero};
 ghost use Rattle.trace_steps.specs.Turns.{Looped};
 ghost use Rattle.trace_steps.specs.Pins.{inPinCount, outPinCount, Listable, RegistersListed};
@@ -92,28 +92,27 @@ fn turn_one(work: &mut [u16], o: usize)
     work[BITS + o] = work[BITS + (o - 1)];
 }
 
-// Each register's input terminal gets its bit ..
-pub fn hold(work: &mut [u16], regs: usize)
-    requires { ⌜ Registers (now work) regs ⌝ }
-    ensures { λ _. ⌜ Looped holdOne regs (now (work .entry)) (now (work .exit)) ⌝ }
+// One of the two.
+fn clock_one(work: &mut [u16], o: usize, turning: bool)
+    requires { ⌜ (memorySize ≤ length (now work)) × Register (now work) o ⌝ }
+    ensures { λ _. ⌜ now (work .exit) ≡ clockAt turning (now (work .entry)) o ⌝ }
 {
-    let mut j: usize = 0;
-    while j < regs {
-        let o = table::at(&work[..], REGISTERS + j);
-        hold_one(work, o);
-        j = j + 1;
+    if turning {
+        turn_one(work, o)
+    } else {
+        hold_one(work, o)
     }
 }
 
-// .. and then its output that of its input.
-pub fn turn(work: &mut [u16], regs: usize)
+// Each register's input terminal gets its bit; or, turning, its output gets that of its input.
+pub fn clock(work: &mut [u16], regs: usize, turning: bool)
     requires { ⌜ Registers (now work) regs ⌝ }
-    ensures { λ _. ⌜ Looped turnOne regs (now (work .entry)) (now (work .exit)) ⌝ }
+    ensures { λ _. ⌜ Looped (clockOne turning) regs (now (work .entry)) (now (work .exit)) ⌝ }
 {
     let mut j: usize = 0;
     while j < regs {
         let o = table::at(&work[..], REGISTERS + j);
-        turn_one(work, o);
+        clock_one(work, o, turning);
         j = j + 1;
     }
 }
@@ -135,8 +134,8 @@ fn tick(
     let read = pins::load(work, inputs, pins, from);
     pass(work, settled);
     let written = pins::store(&work[..], out, pins, to);
-    hold(work, regs);
-    turn(work, regs);
+    clock(work, regs, false);
+    clock(work, regs, true);
 }
 
 // So many ticks, each with so many input and output bits.

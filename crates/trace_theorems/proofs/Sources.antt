@@ -18,7 +18,8 @@ use Rattle.calculus.specs.Inputs.{ins, madeAt, targets, isOut, hasWire}
 use Rattle.circuit_theorems.specs.Terminals.{has}
 use Rattle.circuit_theorems.specs.Formed.{Rising, Formed}
 use Rattle.laws.proofs.Tests.{by-eqb, or-elim, or-left, or-right, is-false, T-is}
-use Rattle.circuit_theorems.proofs.Terminals.{out-low, made-low, each-target, unique, pin-ins, ins-pin}
+use Rattle.circuit_theorems.proofs.NetRead.{out-not-made}
+use Rattle.circuit_theorems.proofs.Terminals.{each-target, unique, pin-ins, ins-pin}
 use Rattle.circuit_theorems.proofs.Wiring.{input-once, target-one}
 
 -- ---- members
@@ -84,20 +85,6 @@ part-source {p = p} {i = i} n e d (there {y = part q j} {xs = es} h) r =
 pub ins-range : (k i x : ℕ) → 1 ≤ ins (partSide k i) x → (i ≤ x) × (x < i + k)
 ins-range zero i x h = absurd (omega arith)
 ins-range (suc k) i x h = by-eqb (λ b. 1 ≤ cond b 1 0 + ins (partSide k (i + 1)) x → (i ≤ x) × (x < i + suc k)) i x (λ e _. (omega arith, omega arith)) (λ d l. let r = ins-range k (i + 1) x (omega arith) in (omega arith, omega arith)) h
-
-part-high : (k i x : ℕ) → i + k ≤ x → ins (partSide k i) x ≡ 0
-part-high k i x h = elim (decLe 1 (ins (partSide k i) x)) [ yes l ↦ absurd (let r = ins-range k i x l in omega arith) | no l ↦ omega arith ]
-
-pub out-not-made : (es : List Element) (n e x : ℕ) → Rising es n e → T (isOut es x) → madeAt es x ≡ 0
-out-not-made [] n e x r h = refl
-out-not-made (point i ∷ es) n e x r h =
-    or-elim (eqb (i + 1) x) (isOut es x) h
-    (λ t. let q = eqb→eq (i + 1) x t in by-eqb (λ b. cond b 1 0 + madeAt es x ≡ 0) i x (λ u. absurd (omega arith)) (λ u. omega (arith, made-low es (i + 2) e x (r .1) (omega arith))))
-    (λ t. let q = out-low es (i + 2) e x (r .1) t in by-eqb (λ b. cond b 1 0 + madeAt es x ≡ 0) i x (λ u. absurd (omega arith)) (λ u. omega (arith, out-not-made es (i + 2) e x (r .1) t)))
-out-not-made (part p i ∷ es) n e x r h =
-    or-elim (eqb (i + partAt p .inputs) x) (isOut es x) h
-    (λ t. let q = eqb→eq (i + partAt p .inputs) x t in omega (arith, part-high (partAt p .inputs) i x (omega arith), made-low es (i + partAt p .inputs + 1) e x (r .1) (omega arith)))
-    (λ t. let q = out-low es (i + partAt p .inputs + 1) e x (r .1) t in omega (arith, part-high (partAt p .inputs) i x (omega arith), out-not-made es (i + partAt p .inputs + 1) e x (r .1) t))
 
 -- ---- wires
 

@@ -21,7 +21,7 @@ use Rattle.circuit_theorems.proofs.Main.{accepts, accepted-by, driven, undriven
 use Rattle.circuit_theorems.proofs.Told.{bytes-tell}
 use Rattle.memory.proofs.Zeroed.{zeroed-length, zeroed-zeros, zeroed-later}
 use Rattle.translator.proofs.Keeping.{work-small}
-use Rattle.translation.specs.Demands.{Wrote, Cleared, Demand1, Derivable, Demand2, OneDriver, Circuit, Demand3}
+use Rattle.translation_calculus.specs.Demands.{Wrote, Cleared, Demand1, Derivable, Demand2, OneDriver, Circuit, Demand3}
 use Rattle.sheet_theorems.proofs.Judging.{Judged, value, refusal}
 use Rattle.export_calculus.specs.CardCall.{cardAnswer, cardCall}
 use Rattle.translation.proofs.Places.{CallPlace, CallBytes, answer-places, CardPlace, card-answer-places}

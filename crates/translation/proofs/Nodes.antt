@@ -16,8 +16,8 @@ use Rattle.calculus.specs.Translate.{full, Wish, asked, askedMakers, askedBytes
 use Rattle.circuit_theorems.proofs.Main.{accepts}
 use Rattle.circuit_theorems.proofs.Makers.{each-length, node-made-lean, as-many}
 use Rattle.circuit_theorems.proofs.NodeBytes.{written-dropped, node-bytes}
-use Rattle.translation.specs.Demands.{Conditions, Circuit}
-use Rattle.translation.specs.NodesTold.{readNodes}
+use Rattle.translation_calculus.specs.Demands.{Conditions, Circuit}
+use Rattle.translation_calculus.specs.NodesTold.{readNodes}
 use Rattle.translation.proofs.Demands.{demand-2, demand-3}
 use Rattle.translation.proofs.NodesTold.{nodes-told}
 

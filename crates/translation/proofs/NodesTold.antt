@@ -6,7 +6,7 @@ use native.Mathlib.Omega.{arith}
 use lib.ListN.{length, drop, length-append}
 use Rattle.calculus.specs.Net.{Interface, Element, point, part, Wire, Net, wireBytes, pinBytes}
 use Rattle.calculus.specs.Makers.{elementNodeBytes, netNodeBytes}
-use Rattle.translation.specs.NodesTold.{nodesFrom, readNodes}
+use Rattle.translation_calculus.specs.NodesTold.{nodesFrom, readNodes}
 
 -- what stands behind the elements begins with neither kind
 others : (ws : List Wire) (ps : Interface) (left : ℕ) → nodesFrom left (wireBytes ws ++ pinBytes ps) ≡ []

@@ -13,8 +13,8 @@ use Rattle.calculus.specs.Makers.{makersOf}
 use Rattle.calculus.specs.Translate.{full, Wish, answer, Call, call}
 use Rattle.calculus.specs.Known.{P1, P2, P3, fullPlain, leanPlain}
 use Rattle.calculus.specs.Useless.{refusesAll, writesP1, writesNothing, longer, inventsLength, leanCopiesFull}
-use Rattle.translation.specs.Demands.{Demand2}
-use Rattle.translation.specs.ShutOut.{ShutOut}
+use Rattle.translation_calculus.specs.Demands.{Demand2}
+use Rattle.translation_calculus.specs.ShutOut.{ShutOut}
 use Rattle.translation.proofs.Demands.{demand-2}
 
 -- ---- what meets demand 2 says and writes what a call does, where that is accepted

@@ -1,4 +1,1 @@
-pub mod Demands
 pub mod Wished
-pub mod ShutOut
-pub mod NodesTold

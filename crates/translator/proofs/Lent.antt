@@ -5,8 +5,8 @@ use mathlib.Core.List.{List}
 use lib.ListN.{length}
 use Prim.Native.Nat.{ℕ}
 use Rattle.calculus.specs.Answer.{Answer, good, refused, _>>=_, need}
-use Rattle.typing.specs.declared.Refusal.{Refusal}
-use Rattle.typing.specs.Verdicts.{saidWhy}
+use Rattle.answers.specs.declared.Refusal.{Refusal}
+use Rattle.answers.specs.Refusals.{saidWhy}
 use Rattle.calculus.specs.Net.{Net}
 use Rattle.calculus.specs.Makers.{makersOf}
 use Rattle.memory.specs.Map.{makersAt, region, netIn}
@@ -16,7 +16,7 @@ use Rattle.translator.specs.declared.Made as code
 use Rattle.translator.specs.declared.Made.the-variants as made
 
 -- a call's answer is that of the netlist, once there is a full one
-pub need-first : (t : Bool) (a : Answer Net) (f : Net → Answer (List ℕ)) → (need t 1 0 >>= λ _. a >>= f) ≡ ((need t 1 0 >>= λ _. a) >>= f)
+pub need-first : {B : Type 0} (t : Bool) (a : Answer Net) (f : Net → Answer B) → (need t 1 0 >>= λ _. a >>= f) ≡ ((need t 1 0 >>= λ _. a) >>= f)
 need-first true a f = refl
 need-first false a f = refl
 

@@ -2,8 +2,7 @@ pub mod Keeping
 pub mod StageLaws
 pub mod NameLaws
 pub mod Lent
+pub mod CallLaws
 pub mod SaidLaws
-pub mod WordLaws
 pub mod Places
 pub mod Determined
-pub mod WorkedWords

@@ -13,8 +13,8 @@ use Rattle.calculus.specs.Walk.{Found, walk}
 use Rattle.calculus.specs.Net.{Net, make, netOf}
 use Rattle.calculus.specs.Translate.{full}
 use Rattle.sheet_theorems.proofs.Laying.{opened, laid}
-use Rattle.typing.specs.declared.Refusal.{Refusal as Why}
-use Rattle.typing.specs.Verdicts.{saidWhy}
+use Rattle.answers.specs.declared.Refusal.{Refusal as Why}
+use Rattle.answers.specs.Refusals.{saidWhy}
 use Rattle.records.specs.Editions.{editionBy}
 use Rattle.typing.specs.Answers.{TermAt, typeOf, checkOf}
 use Rattle.wiring.specs.declared.Counts.{Counts}

@@ -7,7 +7,7 @@ use mathlib.Core.List.{List, []}
 use lib.Dec.{leb}
 use lib.ListN.{length}
 use Rattle.calculus.specs.Answer.{Answer, good, refused, _>>=_, need}
-use Rattle.typing.specs.Verdicts.{saidWhy}
+use Rattle.answers.specs.Refusals.{saidWhy}
 use Rattle.calculus.specs.Net.{Net}
 use Rattle.calculus.specs.Record.{All}
 use Rattle.calculus.specs.Read.{readSheet}

@@ -5,7 +5,7 @@ use mathlib.Core.List.{List}
 use lib.Dec.{leb}
 use lib.ListN.{length}
 use Rattle.calculus.specs.Answer.{Answer, good, refused, _>>=_, need}
-use Rattle.typing.specs.Verdicts.{saidWhy}
+use Rattle.answers.specs.Refusals.{saidWhy}
 use Rattle.calculus.specs.Translate.{saidOf, outOf, Call}
 use Rattle.translator.specs.declared.Answer as code
 use Rattle.translator.specs.declared.Answer.the-variants as answer

@@ -1,7 +1,7 @@
 // The stages that every call begins with, from a sheet's bytes to its full netlist in the working memory, and the clearing that every
 // call ends with.
+use answers::Refusal;
 use sheet::Verdict;
-use typing::Refusal;
 use typing::Typing;
 use wiring::Counts;
 ghost use mathlib.Core.Path.{_≡_};
@@ -11,7 +11,7 @@ ghost use Rattle.calculus.specs.Translate.{workOf};
 ghost use Rattle.translator.specs.Stages.{ReadStage, WellTyped};
 ghost use Rattle.translator.specs.Made.{madeRefused, MakeLeaves};
 ghost use Rattle.translator.specs.Said.{saidAnswer, refusedAs};
-ghost use Rattle.translator.specs.Word.{packed};
+ghost use Rattle.answers.specs.Word.{packed};
 
 // What a call that writes answers: the number of bytes written, or a refusal, its number and place, and for 12 the type number wanted and
 // the one found.

@@ -11,9 +11,10 @@ use Rattle.sheet_theorems.proofs.Standing.{sheet-stands}
 use Rattle.binders.specs.declared.Binders.{Binders}
 use Rattle.binders.specs.Stacks.{stackOf}
 use Rattle.typing.specs.declared.Verdict.the-variants as verdict
-use Rattle.typing.specs.declared.Refusal.{Refusal}
+use Rattle.answers.specs.declared.Refusal.{Refusal}
 use Rattle.typing.specs.declared.Checked.{Checked}
-use Rattle.typing.specs.Verdicts.{saidWhy, held, said}
+use Rattle.answers.specs.Refusals.{saidWhy}
+use Rattle.typing.specs.Verdicts.{held, said}
 use Rattle.typing.specs.Answers.{checkOf, TermAt}
 use Rattle.typing.specs.Walkable.{Walkable, Walked}
 use Rattle.typing.proofs.VerdictLaws.{said-fine, said-refused}

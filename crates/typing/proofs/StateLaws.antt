@@ -30,7 +30,7 @@ use Rattle.typing.specs.declared.rules.Fit.{Fit}
 use Rattle.typing.specs.declared.rules.Fit.the-variants as how
 use Rattle.typing.specs.declared.Verdict.{Verdict}
 use Rattle.typing.specs.declared.Verdict.the-variants as verdict
-use Rattle.typing.specs.declared.Refusal.{Refusal}
+use Rattle.answers.specs.declared.Refusal.{Refusal}
 use Rattle.records.specs.TypeNumbers.{leftNo, rightNo}
 use Rattle.typing.specs.Steps.{Types, constantOf, leafOf, openingOf, bindingOf, openedStack, enterOf, wantedOf, usedUp, leaveOne, entersOf, halvesIn, halvesOf, betweenOf, joinedOf, closesOf, leaveTwo}
 use Rattle.typing.specs.Verdicts.{Held, reached, halves, FollowsOn, FollowsHeld}

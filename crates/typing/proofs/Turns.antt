@@ -20,7 +20,7 @@ use Rattle.binders.specs.Stacks.{stackOf}
 use Rattle.binders.proofs.Laws.{length-of}
 use Rattle.typing.specs.declared.Verdict.{Verdict}
 use Rattle.typing.specs.declared.Verdict.the-variants as verdict
-use Rattle.typing.specs.declared.Refusal.{Refusal}
+use Rattle.answers.specs.declared.Refusal.{Refusal}
 use Rattle.typing.specs.Steps.{leafOf, enterOf, leaveOne, betweenOf, leaveTwo}
 use Rattle.typing.specs.Verdicts.{Held, said, EndsAt, HeldSays, FollowsHeld}
 use Rattle.typing.specs.Walkable.{Walkable, CountsOf, CountsIn}

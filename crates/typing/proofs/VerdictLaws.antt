@@ -13,9 +13,10 @@ use Rattle.binders.specs.declared.Use.{Use}
 use Rattle.binders.specs.declared.Use.the-variants as use·
 use Rattle.typing.specs.declared.Verdict.{Verdict}
 use Rattle.typing.specs.declared.Verdict.the-variants as verdict
-use Rattle.typing.specs.declared.Refusal.{Refusal}
+use Rattle.answers.specs.declared.Refusal.{Refusal}
 use Rattle.typing.specs.declared.Checked.{Checked}
-use Rattle.typing.specs.Verdicts.{saidWhy, saidVerdict, checked, Held, reached, withMarks, held, atCount, said, settledOf, EndsAt, HeldSays, FollowsOn, FollowsHeld}
+use Rattle.answers.specs.Refusals.{saidWhy}
+use Rattle.typing.specs.Verdicts.{saidVerdict, checked, Held, reached, withMarks, held, atCount, said, settledOf, EndsAt, HeldSays, FollowsOn, FollowsHeld}
 use Rattle.typing.specs.Walkable.{CountsOf, CountsIn}
 
 -- a type and a stack

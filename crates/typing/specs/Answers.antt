@@ -8,7 +8,7 @@ use Rattle.calculus.specs.Read.{Sheet, readRecords}
 use Rattle.calculus.specs.Terms.{Edition}
 use Rattle.calculus.specs.Write.{tableBytes}
 use Rattle.calculus.specs.Walk.{walk}
-use Rattle.typing.specs.Verdicts.{saidWhy}
+use Rattle.answers.specs.Refusals.{saidWhy}
 use Rattle.typing.specs.declared.Typing.{Typing}
 use Rattle.typing.specs.declared.Typing.the-variants as typing
 

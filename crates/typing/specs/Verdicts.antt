@@ -2,21 +2,18 @@
 use Prim.Native.Nat.{ℕ, _+_}
 use mathlib.Core.Path.{_≡_}
 use mathlib.Core.List.{List}
-use Rattle.calculus.specs.Answer.{Refusal, Answer, refused, _>>=_}
+use Rattle.calculus.specs.Answer.{Answer, refused, _>>=_}
 use Rattle.calculus.specs.Walk.{Stack, Found, found}
+use Rattle.answers.specs.Refusals.{saidWhy}
 use Rattle.records.specs.declared.Rule.{Rule}
 use Rattle.binders.specs.Stacks.{stackOf}
 use Rattle.binders.specs.declared.Binders.{Binders}
 use Rattle.binders.specs.declared.Use.{Use}
 use Rattle.binders.specs.declared.Use.the-variants as use·
-use Rattle.typing.specs.declared.Refusal.{Refusal as Why}
 use Rattle.typing.specs.declared.Verdict.{Verdict}
 use Rattle.typing.specs.declared.Verdict.the-variants as verdict
 use Rattle.typing.specs.declared.Checked.{Checked}
 use Rattle.typing.specs.Steps.{Types, halvesOf}
-
-abbrev pub saidWhy : Why → Refusal
-saidWhy r = record { number = r .number; place = r .place; wanted = r .wanted; found = r .found }
 
 abbrev pub saidVerdict : Verdict → Stack → Answer Found
 saidVerdict (verdict.Fine t next count) st = found t st

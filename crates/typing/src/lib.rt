@@ -1,4 +1,5 @@
 // The typing walk (document 01, "Numbers of the refusals": 10 to 15; document 02, L3 and L7), on type numbers. Places are node numbers.
+use answers::Refusal;
 use binders::Binders;
 use binders::Use;
 use parts::Named;
@@ -20,14 +21,6 @@ ghost use Rattle.typing.specs.Answers.{saidTyping, checkOf, TermAt};
 ghost use Rattle.typing.specs.Walkable.{Placed, Walked, CountsOf, Names};
 
 mod rules;
-
-// A refusal: its number and its place, and for 12 the type number wanted and the one found. Callers pass it on unread.
-pub struct Refusal {
-    pub number: u8,
-    pub place: usize,
-    pub wanted: u16,
-    pub found: u8,
-}
 
 // A term's type number, the offset past it and the nodes up to there; or a refusal.
 pub enum Verdict {

@@ -2,7 +2,7 @@
 use Prim.Native.Nat.{ℕ, zero, suc, _+_, _-_, _*_, _≤_}
 use mathlib.Core.Path.{_≡_, refl, ap}
 use mathlib.Core.Bool.{Bool, true, false, cond}
-use mathlib.Core.List.{List, [], _∷_, _++_, map}
+use mathlib.Core.List.{List, [], _∷_, _++_, map, append-assoc}
 use native.Mathlib.Omega.{arith}
 use lib.Dec.{T, leb, leb→le, eqb, ltb}
 use lib.ListN.{length, getD, drop, length-append, length-map, List·getD-eq-default}
@@ -16,7 +16,10 @@ use Rattle.lean.proofs.KindLaws.{region-next, region-end}
 use Rattle.lean.proofs.Rows.{row-text, row-few}
 use Rattle.lines.specs.Wrote.{WroteText}
 use Rattle.lines.proofs.Stores.{wrote-two}
-use Rattle.verilog.specs.InMemory.{elementText, wireText, elementLineAt, wireLineAt, pinLineAt, portLineAt, elementsText, wiresText, pinsText, portsText}
+use Rattle.verilog.specs.InMemory.{elementText, wireText, elementLineAt, wireLineAt, pinLineAt, portLineAt}
+use Rattle.verilog.specs.Groups.{countOf, tableAt, groupLineAt, groupText, openingText, bodyText}
+use Rattle.verilog.specs.declared.walk.Group.{Group}
+use Rattle.verilog.specs.declared.walk.Group.the-variants as group
 use Rattle.verilog.proofs.Filling.{filled-few}
 use Rattle.verilog.proofs.TextRows.{elements-append, wires-append}
 
@@ -54,7 +57,7 @@ line-few : (fs : List (List ℕ)) → Short fs → (l : Line) → length (lineTe
 unfolding lineText
 line-few fs h l = omega (arith, filled-few (l .x) (l .y) (l .z) (getD fs (l .form) []), h (l .form))
 
-pub elements-few : (v x : ℕ) → length (elementLineAt v x) ≤ 256
+elements-few : (v x : ℕ) → length (elementLineAt v x) ≤ 256
 unfolding elementText
 elements-few v x = omega (arith, texts-few elementForms elements-short (map lineOfElement (elementAt v x)), length-map (elementAt v x) lineOfElement, by (ltb v kindsFrom) (ltb v leftOut))
   where
@@ -70,7 +73,7 @@ elements-few v x = omega (arith, texts-few elementForms elements-short (map line
     by false true = one (v - kindsFrom) (firstTerminal (v - kindsFrom) x)
     by false false = omega arith
 
-pub wires-few : (v x : ℕ) → length (wireLineAt v x) ≤ 256
+wires-few : (v x : ℕ) → length (wireLineAt v x) ≤ 256
 unfolding wireText
 wires-few v x = omega (arith, texts-few assignForms assigns-short (map lineOfWire (wireAt v x)), length-map (wireAt v x) lineOfWire, by (eqb v 0) (ltb v kindsFrom))
   where
@@ -79,23 +82,29 @@ wires-few v x = omega (arith, texts-few assignForms assigns-short (map lineOfWir
     by false true = omega arith
     by false false = omega arith
 
-pub pins-few : (v x : ℕ) → length (pinLineAt v x) ≤ 256
+pins-few : (v x : ℕ) → length (pinLineAt v x) ≤ 256
 pins-few v x = line-few assignForms assigns-short (lineOfPin x (terminalOf v))
 
-pub ports-few : (v x : ℕ) → length (portLineAt v x) ≤ 256
+ports-few : (v x : ℕ) → length (portLineAt v x) ≤ 256
 ports-few v x = line-few portForms ports-short (lineOfPort x (terminalOf v))
 
--- ---- the seven pieces
+pub lines-few : (g : Group) (v x : ℕ) → length (groupLineAt g v x) ≤ 256
+lines-few group.Ports v x = ports-few v x
+lines-few group.Elements v x = elements-few v x
+lines-few group.Wires v x = wires-few v x
+lines-few group.Pins v x = pins-few v x
 
-pub opening-is : filled header 0 0 0 ≡ header
+-- ---- the pieces
+
+opening-is : filled header 0 0 0 ≡ header
 unfolding header letter
 opening-is = refl
 
-pub closing-is : filled portsEnd 0 0 0 ≡ portsEnd
+closing-is : filled portsEnd 0 0 0 ≡ portsEnd
 unfolding portsEnd letter
 closing-is = refl
 
-pub ending-is : filled moduleEnd 0 0 0 ≡ moduleEnd
+ending-is : filled moduleEnd 0 0 0 ≡ moduleEnd
 unfolding moduleEnd letter
 ending-is = refl
 
@@ -122,33 +131,48 @@ module _ (w : List ℕ) (end p : ℕ) (f : LeanReady w end p) where
   pins-size : leanPinsAt + p ≤ length w
   pins-size = let z = f .size in let l = f .few-pins in omega arith
 
-  pub module-is : moduleText (leanIn w end p) ≡ header ++ (portsText w p ++ (portsEnd ++ (elementsText w end ++ (wiresText w end ++ (pinsText w p ++ moduleEnd)))))
+  module-is : moduleText (leanIn w end p) ≡ openingText w end p ++ (bodyText w end p ++ moduleEnd)
   unfolding moduleText elementText wireText leanIn
   module-is =
-      rw (← row-text elementAt rootsAt w elementText refl elements-append end 0, ← row-text wireAt rootsAt w wireText refl wires-append end 0, ← pins-are w leanPinsAt p pins-size p 0 (omega arith), ← ports-are w leanPinsAt p pins-size p 0 (omega arith))
+      rw (
+        append-assoc header (groupText group.Ports w end p ++ portsEnd) (bodyText w end p ++ moduleEnd),
+        append-assoc (groupText group.Ports w end p) portsEnd (bodyText w end p ++ moduleEnd),
+        append-assoc (groupText group.Elements w end p) (groupText group.Wires w end p ++ groupText group.Pins w end p) moduleEnd,
+        append-assoc (groupText group.Wires w end p) (groupText group.Pins w end p) moduleEnd,
+        ← row-text elementAt rootsAt w elementText refl elements-append end 0,
+        ← row-text wireAt rootsAt w wireText refl wires-append end 0,
+        ← pins-are w leanPinsAt p pins-size p 0 (omega arith),
+        ← ports-are w leanPinsAt p pins-size p 0 (omega arith),
+      )
 
   -- how far each piece comes
 
-  pub opening-low : {o o₁ : List ℕ} {a : ℕ} → WroteText o 0 (filled header 0 0 0) o₁ a → a ≤ 30
-  opening-low q = omega (arith, q .offset, opening-length)
+  pub count-low : (g : Group) → countOf g end p ≤ 8192
+  count-low group.Ports = omega (arith, f .few-pins)
+  count-low group.Elements = f .below
+  count-low group.Wires = f .below
+  count-low group.Pins = omega (arith, f .few-pins)
 
-  pub ports-low : {o o₁ : List ℕ} {a b : ℕ} → a ≤ 30 → WroteText o a (portsText w p) o₁ b → b ≤ 100000
-  ports-low h q = let l = f .few-pins in omega (arith, q .offset, row-few portLineAt leanPinsAt w 256 ports-few p 0)
+  pub group-low : (g : Group) {o o₁ : List ℕ} {a b : ℕ} → WroteText o a (groupText g w end p) o₁ b → b ≤ a + 2097152
+  group-low g q = omega (arith, q .offset, row-few (groupLineAt g) (tableAt g) w 256 (lines-few g) (countOf g end p) 0, count-low g)
 
-  pub closing-low : {o o₁ : List ℕ} {b c : ℕ} → b ≤ 100000 → WroteText o b (filled portsEnd 0 0 0) o₁ c → c ≤ 100004
-  closing-low h q = omega (arith, q .offset, closing-length)
+  pub header-low : {o o₁ : List ℕ} {a : ℕ} → WroteText o 0 (filled header 0 0 0) o₁ a → a ≤ 30
+  header-low q = omega (arith, q .offset, opening-length)
 
-  pub elements-low : {o o₁ : List ℕ} {c d : ℕ} → c ≤ 100004 → WroteText o c (elementsText w end) o₁ d → d ≤ 3000000
-  elements-low h q = let l = f .below in omega (arith, q .offset, row-few elementLineAt rootsAt w 256 elements-few end 0)
+  pub opening-low : {o o₁ : List ℕ} {a : ℕ} → WroteText o 0 (openingText w end p) o₁ a → a ≤ 4194304
+  opening-low q =
+      omega (arith, q .offset, length-append header (groupText group.Ports w end p ++ portsEnd), length-append (groupText group.Ports w end p) portsEnd, ap length opening-is, opening-length, ap length closing-is, closing-length, row-few portLineAt leanPinsAt w 256 ports-few p 0, f .few-pins)
 
-  pub wires-low : {o o₁ : List ℕ} {d t : ℕ} → d ≤ 3000000 → WroteText o d (wiresText w end) o₁ t → t ≤ 6000000
-  wires-low h q = let l = f .below in omega (arith, q .offset, row-few wireLineAt rootsAt w 256 wires-few end 0)
+  pub body-low : {o o₁ : List ℕ} {a b : ℕ} → a ≤ 4194304 → WroteText o a (bodyText w end p) o₁ b → b ≤ 16777216
+  body-low h q =
+      omega (arith, q .offset, length-append (groupText group.Elements w end p) (groupText group.Wires w end p ++ groupText group.Pins w end p), length-append (groupText group.Wires w end p) (groupText group.Pins w end p), row-few elementLineAt rootsAt w 256 elements-few end 0, row-few wireLineAt rootsAt w 256 wires-few end 0, row-few pinLineAt leanPinsAt w 256 pins-few p 0, f .few-pins, f .below)
 
-  pub pins-low : {o o₁ : List ℕ} {t l : ℕ} → t ≤ 6000000 → WroteText o t (pinsText w p) o₁ l → l ≤ 16777216
-  pins-low h q = let l = f .few-pins in omega (arith, q .offset, row-few pinLineAt leanPinsAt w 256 pins-few p 0)
+  -- .. and one behind the other
 
-  pub module-wrote : {o o₁ o₂ o₃ o₄ o₅ o₆ o₇ : List ℕ} {a b c d t l r : ℕ} → WroteText o 0 (filled header 0 0 0) o₁ a → WroteText o₁ a (portsText w p) o₂ b → WroteText o₂ b (filled portsEnd 0 0 0) o₃ c
-      → WroteText o₃ c (elementsText w end) o₄ d → WroteText o₄ d (wiresText w end) o₅ t → WroteText o₅ t (pinsText w p) o₆ l → WroteText o₆ l (filled moduleEnd 0 0 0) o₇ r
-      → WroteText o 0 (moduleText (leanIn w end p)) o₇ r
-  module-wrote p₁ p₂ p₃ p₄ p₅ p₆ p₇ =
-      rw (module-is, ← opening-is, ← closing-is, ← ending-is) (wrote-two p₁ (wrote-two p₂ (wrote-two p₃ (wrote-two p₄ (wrote-two p₅ (wrote-two p₆ p₇))))))
+  pub opening-wrote : {o o₁ o₂ o₃ : List ℕ} {a b c : ℕ} → WroteText o 0 (filled header 0 0 0) o₁ a → WroteText o₁ a (groupText group.Ports w end p) o₂ b → WroteText o₂ b (filled portsEnd 0 0 0) o₃ c
+      → WroteText o 0 (openingText w end p) o₃ c
+  opening-wrote p₁ p₂ p₃ = rw (← opening-is, ← closing-is) (wrote-two p₁ (wrote-two p₂ p₃))
+
+  pub module-wrote : {o o₁ o₂ o₃ : List ℕ} {a b c : ℕ} → WroteText o 0 (openingText w end p) o₁ a → WroteText o₁ a (bodyText w end p) o₂ b → WroteText o₂ b (filled moduleEnd 0 0 0) o₃ c
+      → WroteText o 0 (moduleText (leanIn w end p)) o₃ c
+  module-wrote p₁ p₂ p₃ = rw (module-is, ← ending-is) (wrote-two p₁ (wrote-two p₂ p₃))

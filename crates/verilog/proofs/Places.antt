@@ -16,7 +16,7 @@ use Rattle.export_calculus.specs.Verilog.{moduleText, exported, export, verilog
 use Rattle.export_theorems.proofs.CardLaws.{ring-refused}
 use Rattle.export_theorems.proofs.Verilog.{ring-low, verilog-enough}
 use Rattle.sheet_theorems.proofs.Judging.{Judged, value, refusal, Any, of-bind, of-require, weaker}
-use Rattle.translator.specs.Word.{FitsWord}
+use Rattle.answers.specs.Word.{FitsWord}
 use Rattle.translator.proofs.Places.{TypesNamed, no-names, names-small, full-places}
 
 -- a refusal of a call with an output of so many bytes

@@ -7,8 +7,8 @@ use Rattle.calculus.specs.Answer.{Answer, good, _>>=_, need}
 use Rattle.calculus.specs.Net.{Element, Wire, Net}
 use Rattle.export_calculus.specs.Card.{needAll, noRing, inputPlace}
 use Rattle.export_calculus.specs.Verilog.{elementForms, portForms, assignForms, lineText, linesText, lineOfElement, lineOfWire, lineOfPin, lineOfPort, moduleText}
-use Rattle.memory.specs.Map.{rootsAt, terminalOf}
-use Rattle.lean.specs.Layout.{leanPinsAt, elementAt, wireAt, rowIn}
+use Rattle.memory.specs.Map.{terminalOf}
+use Rattle.lean.specs.Layout.{elementAt, wireAt}
 
 unfoldable pub elementText : List Element → List ℕ
 elementText es = linesText elementForms (map lineOfElement es)
@@ -29,20 +29,6 @@ pinLineAt v x = lineText assignForms (lineOfPin x (terminalOf v))
 
 abbrev pub portLineAt : ℕ → ℕ → List ℕ
 portLineAt v x = lineText portForms (lineOfPort x (terminalOf v))
-
--- ---- of the first so many
-
-abbrev pub elementsText : List ℕ → ℕ → List ℕ
-elementsText w c = rowIn elementLineAt rootsAt w c 0
-
-abbrev pub wiresText : List ℕ → ℕ → List ℕ
-wiresText w c = rowIn wireLineAt rootsAt w c 0
-
-abbrev pub pinsText : List ℕ → ℕ → List ℕ
-pinsText w c = rowIn pinLineAt leanPinsAt w c 0
-
-abbrev pub portsText : List ℕ → ℕ → List ℕ
-portsText w c = rowIn portLineAt leanPinsAt w c 0
 
 -- ---- 18 for a kept ring point, then 17
 

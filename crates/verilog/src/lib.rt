@@ -5,9 +5,11 @@ mod walk;
 
 use translator::Answer;
 use translator::Made;
+use walk::Group;
 use wiring::Counts;
 ghost use mathlib.Core.Path.{_≡_};
 ghost use lib.ListN.{length};
+ghost use Prim.Native.Nat.{_≤_};
 ghost use Rattle.calculus.specs.NetRead.{Known};
 ghost use Rattle.calculus.specs.Record.{All};
 ghost use Rattle.lean.specs.Layout.{leanIn, LeanReady};
@@ -15,8 +17,29 @@ ghost use Rattle.export_calculus.specs.Verilog.{moduleText, exported, export, v
 ghost use Rattle.memory.specs.Map.{netIn, Ready};
 ghost use Rattle.lines.specs.Wrote.{WroteText};
 ghost use Rattle.verilog.specs.InMemory.{leanExported};
+ghost use Rattle.verilog.specs.Groups.{openingText, bodyText};
 ghost use Rattle.translator.specs.Made.{Keeps};
 ghost use Rattle.translator.specs.Said.{AnswerSays, called};
+
+// What stands before the elements. As each function that follows, it answers the offset past what it wrote.
+fn put_opening(work: &[u16], out: &mut [u8], end: usize, pins: usize) -> usize
+    requires { ⌜ LeanReady (now work) end pins ⌝ }
+    ensures { λ r. ⌜ WroteText (now (out .entry)) 0 (openingText (now (work .entry)) end pins) (now (out .exit)) r ⌝ }
+{
+    let ports = form::put_form(out, 0, b"module circuit (\n  input clock", 0, 0, 0);
+    let closing = walk::put_group(work, end, pins, Group::Ports, out, ports);
+    form::put_form(out, closing, b"\n);\n", 0, 0, 0)
+}
+
+// Elements, wires and pins.
+fn put_body(work: &[u16], out: &mut [u8], end: usize, pins: usize, first: usize) -> usize
+    requires { ⌜ LeanReady (now work) end pins × (first ≤ 4194304) ⌝ }
+    ensures { λ r. ⌜ WroteText (now (out .entry)) first (bodyText (now (work .entry)) end pins) (now (out .exit)) r ⌝ }
+{
+    let second = walk::put_group(work, end, pins, Group::Elements, out, first);
+    let third = walk::put_group(work, end, pins, Group::Wires, out, second);
+    walk::put_group(work, end, pins, Group::Pins, out, third)
+}
 
 // The module's text, stored as far as the output reaches, and its length. So an output of any length tells the length, and one that is
 // long enough has the whole text.
@@ -24,12 +47,8 @@ fn put_module(work: &[u16], out: &mut [u8], end: usize, pins: usize) -> usize
     requires { ⌜ LeanReady (now work) end pins ⌝ }
     ensures { λ r. ⌜ WroteText (now (out .entry)) 0 (moduleText (leanIn (now (work .entry)) end pins)) (now (out .exit)) r ⌝ }
 {
-    let ports = form::put_form(out, 0, b"module circuit (\n  input clock", 0, 0, 0);
-    let closing = walk::put_ports(work, end, pins, out, ports);
-    let first = form::put_form(out, closing, b"\n);\n", 0, 0, 0);
-    let second = walk::put_elements(work, end, pins, out, first);
-    let third = walk::put_wires(work, end, pins, out, second);
-    let last = walk::put_pins(work, end, pins, out, third);
+    let first = put_opening(work, out, end, pins);
+    let last = put_body(work, out, end, pins, first);
     form::put_form(out, last, b"endmodule\n", 0, 0, 0)
 }
 

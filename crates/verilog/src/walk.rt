@@ -7,11 +7,25 @@ use lean::LEFT_OUT;
 use lean::PINS;
 use netlist::In;
 use netlist::Out;
-ghost use Prim.Native.Nat.{_≤_, _<_};
+use netlist::Terminal;
+ghost use mathlib.Core.Path.{_≡_};
+ghost use Prim.Native.Nat.{_+_, _≤_, _<_};
+ghost use lib.ListN.{getD};
 ghost use Rattle.lean.specs.Table.{entry};
-ghost use Rattle.lean.specs.Layout.{LeanReady};
+ghost use Rattle.memory.specs.Map.{terminalOf};
+ghost use Rattle.netlist.specs.Said.{saidTerminal};
+ghost use Rattle.lean.specs.Layout.{leanPinsAt, LeanReady};
 ghost use Rattle.lines.specs.Wrote.{WroteText};
-ghost use Rattle.verilog.specs.InMemory.{elementLineAt, wireLineAt, elementsText, wiresText, pinsText, portsText};
+ghost use Rattle.verilog.specs.InMemory.{elementLineAt, wireLineAt};
+ghost use Rattle.verilog.specs.Groups.{countOf, tableAt, groupLineAt, groupText};
+
+// The groups of lines, as they stand in the module.
+pub enum Group {
+    Ports,
+    Elements,
+    Wires,
+    Pins,
+}
 
 // The lines of the element whose output is x. As each function that follows, it answers the offset past what it wrote.
 fn put_element(work: &[u16], end: usize, pins: usize, x: usize, out: &mut [u8], at: usize) -> usize
@@ -44,58 +58,65 @@ fn put_wire(work: &[u16], end: usize, pins: usize, x: usize, out: &mut [u8], at:
     line::put_wire(out, at, Out(v - 1), In(x as u16))
 }
 
-// The lines of all elements.
-pub fn put_elements(work: &[u16], end: usize, pins: usize, out: &mut [u8], from: usize) -> usize
-    requires { ⌜ LeanReady (now work) end pins × (from ≤ 16777216) ⌝ }
-    ensures { λ r. ⌜ WroteText (now (out .entry)) from (elementsText (now (work .entry)) end) (now (out .exit)) r ⌝ }
+// The pin at position x.
+fn pin_at(work: &[u16], end: usize, pins: usize, x: usize) -> Terminal
+    requires { ⌜ LeanReady (now work) end pins × (x < pins) ⌝ }
+    ensures { λ r. ⌜ saidTerminal r ≡ terminalOf (getD (now (work .entry)) (leanPinsAt + x) 0) ⌝ }
 {
+    netlist::terminal_of(work[PINS + x])
+}
+
+// How many terminals or pins a group goes over.
+fn count(group: Group, end: usize, pins: usize) -> usize
+    ensures { λ r. ⌜ r ≡ countOf group end pins ⌝ }
+{
+    match group {
+        Group::Ports => pins,
+        Group::Elements => end,
+        Group::Wires => end,
+        Group::Pins => pins,
+    }
+}
+
+// What a group has of terminal x, or of the pin at position x.
+fn put_line(
+    work: &[u16],
+    end: usize,
+    pins: usize,
+    group: Group,
+    x: usize,
+    out: &mut [u8],
+    at: usize,
+) -> usize
+    requires { ⌜ LeanReady (now work) end pins × ((x < countOf group end pins) × (at ≤ 4294967296)) ⌝ }
+    ensures { λ r. ⌜ WroteText (now (out .entry)) at (groupLineAt group (getD (now (work .entry)) (tableAt group + x) 0) x) (now (out .exit)) r ⌝ }
+{
+    match group {
+        Group::Ports => line::put_port(out, at, x, pin_at(work, end, pins, x)),
+        Group::Elements => put_element(work, end, pins, x, out, at),
+        Group::Wires => put_wire(work, end, pins, x, out, at),
+        Group::Pins => line::put_pin(out, at, x, pin_at(work, end, pins, x)),
+    }
+}
+
+// The lines of a group, by rising terminal or position.
+pub fn put_group(
+    work: &[u16],
+    end: usize,
+    pins: usize,
+    group: Group,
+    out: &mut [u8],
+    from: usize,
+) -> usize
+    requires { ⌜ LeanReady (now work) end pins × (from ≤ 16777216) ⌝ }
+    ensures { λ r. ⌜ WroteText (now (out .entry)) from (groupText group (now (work .entry)) end pins) (now (out .exit)) r ⌝ }
+{
+    let n = count(group, end, pins);
     let mut at = from;
     let mut x: usize = 0;
-    while x < end {
-        at = put_element(work, end, pins, x, out, at);
+    while x < n {
+        at = put_line(work, end, pins, group, x, out, at);
         x = x + 1;
-    }
-    at
-}
-
-// The lines of all wires, by rising target.
-pub fn put_wires(work: &[u16], end: usize, pins: usize, out: &mut [u8], from: usize) -> usize
-    requires { ⌜ LeanReady (now work) end pins × (from ≤ 16777216) ⌝ }
-    ensures { λ r. ⌜ WroteText (now (out .entry)) from (wiresText (now (work .entry)) end) (now (out .exit)) r ⌝ }
-{
-    let mut at = from;
-    let mut x: usize = 0;
-    while x < end {
-        at = put_wire(work, end, pins, x, out, at);
-        x = x + 1;
-    }
-    at
-}
-
-// The ports of all pins.
-pub fn put_ports(work: &[u16], end: usize, pins: usize, out: &mut [u8], from: usize) -> usize
-    requires { ⌜ LeanReady (now work) end pins × (from ≤ 16777216) ⌝ }
-    ensures { λ r. ⌜ WroteText (now (out .entry)) from (portsText (now (work .entry)) pins) (now (out .exit)) r ⌝ }
-{
-    let mut at = from;
-    let mut i: usize = 0;
-    while i < pins {
-        at = line::put_port(out, at, i, netlist::terminal_of(work[PINS + i]));
-        i = i + 1;
-    }
-    at
-}
-
-// The assignments of all pins.
-pub fn put_pins(work: &[u16], end: usize, pins: usize, out: &mut [u8], from: usize) -> usize
-    requires { ⌜ LeanReady (now work) end pins × (from ≤ 16777216) ⌝ }
-    ensures { λ r. ⌜ WroteText (now (out .entry)) from (pinsText (now (work .entry)) pins) (now (out .exit)) r ⌝ }
-{
-    let mut at = from;
-    let mut i: usize = 0;
-    while i < pins {
-        at = line::put_pin(out, at, i, netlist::terminal_of(work[PINS + i]));
-        i = i + 1;
     }
     at
 }

@@ -3,7 +3,7 @@ use borrow.Author.Needs.{needs}
 use native.Mathlib.Omega.{arith}
 use mathlib.Core.Path.{_∙_}
 use lib.ListN.{length}
-use Rattle.back_theorems.specs.Back.{backSheet}
+use Rattle.back_calculus.specs.Back.{backSheet}
 use Rattle.back.specs.Gates.{netHere}
 use Rattle.back.proofs.SheetLaws.{sheet-length, inputs-few}
 use Rattle.translator.proofs.SaidLaws.{says-short, says-fits}

@@ -6,7 +6,7 @@ use native.Mathlib.Omega.{arith}
 use lib.ListN.{length, drop}
 use borrow.Author.Needs.{needs}
 use borrow.Author.Tests.{ne-eqb}
-use Rattle.batch.specs.Batch.{sum}
+use Rattle.batch_calculus.specs.Batch.{sum}
 use Rattle.batch.proofs.SumLaws.{sum-drop, sum-end, same-test}
 use Rattle.batch.proofs.adds_up.Statement.{statement}
 use Rattle.batch.proofs.adds_up.Tie as tie

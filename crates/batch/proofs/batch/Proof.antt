@@ -3,7 +3,7 @@ use mathlib.Core.Path.{sym, _∙_}
 use lib.ListN.{length}
 use borrow.Author.Tests.{eqb-true}
 use Rattle.translation.specs.Wished.{allWish}
-use Rattle.batch.specs.Batch.{sum}
+use Rattle.batch_calculus.specs.Batch.{sum}
 use Rattle.batch.proofs.BatchLaws.{no-room, no-sum, fitting}
 use borrow.Author.Needs.{needs}
 use Rattle.batch.proofs.batch.Statement.{statement}

@@ -3,8 +3,8 @@ use mathlib.Core.Path.{ap, _∙_}
 use Prim.Native.Nat.{ℕ}
 use lib.ListN.{set}
 use Rattle.calculus.specs.Translate.{Call}
-use Rattle.translator.specs.Word.{packed}
-use Rattle.batch.specs.Batch.{usedBy}
+use Rattle.answers.specs.Word.{packed}
+use Rattle.batch_calculus.specs.Batch.{usedBy}
 use borrow.Author.Needs.{needs}
 use Rattle.batch.proofs.one.Statement.{statement}
 use Rattle.batch.proofs.one.Tie as tie

@@ -5,7 +5,7 @@ use native.Mathlib.Omega.{arith}
 use lib.ListN.{length}
 use Rattle.calculus.specs.Stretch.{Stretch}
 use Rattle.deltawobble.specs.Boundary.{packedStretch}
-use Rattle.translator.specs.Word.{upperLower}
+use Rattle.answers.specs.Word.{upperLower}
 use Rattle.deltawobble.proofs.BoundaryLaws.{stretch-fits, part-length}
 use borrow.Author.Needs.{needs}
 use Rattle.deltawobble.proofs.deltawobble_stretch.Statement.{statement}

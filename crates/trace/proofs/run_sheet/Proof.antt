@@ -2,8 +2,10 @@
 use mathlib.Core.Path.{_∙_}
 use mathlib.Core.Bool.{true}
 use native.Mathlib.Omega.{arith}
+use lib.ListN.{length}
 use Rattle.translator.proofs.Lent.{net-stands, net-lent, refusal-lent}
-use Rattle.trace.proofs.CallLaws.{refused-says, net-says}
+use Rattle.translator.proofs.CallLaws.{refused-says, net-says}
+use Rattle.trace.proofs.CallLaws.{trace-lent}
 use Rattle.trace.proofs.PartBounds.{lent-parts}
 use borrow.Author.Needs.{needs}
 use Rattle.trace.proofs.run_sheet.Statement.{statement}
@@ -23,7 +25,7 @@ returns : tie.Need-returns
 returns c =
     let m = c .before .before .before .before .before in
     let a = m .before .before .before .before .before .before .before .args in (
-      refused-says (a .sheet .now) (a .inputs .now) (a .starts .now) (a .out .now) (a .ticks) _ _ (refusal-lent true (m .make .result) (a .sheet .now) (a .work .now) _ (m .make .ensures) _ (c .before .refusal .given .1)),
+      refused-says _ _ _ (trace-lent (a .sheet .now) (a .inputs .now) (a .starts .now) (a .ticks) (length (a .out .now)) (length (a .work .now))) (a .out .now) _ (refusal-lent true (m .make .result) (a .sheet .now) (a .work .now) _ (m .make .ensures) _ (c .before .refusal .given .1)),
       m .make .ensures .keeps,
     )
 
@@ -33,7 +35,7 @@ returns-2 c =
     let v = w .before .before .before .before in
     let m = v .before .before .before .before in
     let a = m .before .before .before .before .before .before .before .args in (
-      net-says (a .sheet .now) (a .inputs .now) (a .starts .now) (a .out .now) (a .ticks) _ (w .run-net .result) _ _ (net-lent true (m .make .result) (a .sheet .now) (a .work .now) _ (m .make .ensures) _ (v .counts .given .1)) (w .run-net .ensures .0),
+      net-says _ _ _ (trace-lent (a .sheet .now) (a .inputs .now) (a .starts .now) (a .ticks) (length (a .out .now)) (length (a .work .now))) (a .out .now) (w .run-net .result) _ _ (net-lent true (m .make .result) (a .sheet .now) (a .work .now) _ (m .make .ensures) _ (v .counts .given .1)) (w .run-net .ensures .0),
       w .run-net .ensures .1 ∙ m .make .ensures .keeps,
     )
 

@@ -1,8 +1,10 @@
 -- `translation::run` meets its contract: what was made is checked and written, and a refusal passes through. Assumes nothing.
 use mathlib.Core.Path.{_∙_}
+use lib.ListN.{length}
 use Rattle.translator.proofs.Lent.{net-stands, net-named, net-lent, net-root, refusal-lent}
 use Rattle.translation.specs.Wished.{saidWish}
-use Rattle.translation.proofs.CallLaws.{refused-says, net-says}
+use Rattle.translator.proofs.CallLaws.{refused-says}
+use Rattle.translation.proofs.CallLaws.{answer-lent, net-says}
 use Rattle.translation.proofs.CardLaws.{check-same}
 use borrow.Author.Needs.{needs}
 use Rattle.translation.proofs.run.Statement.{statement}
@@ -31,7 +33,7 @@ returns : tie.Need-returns
 returns c =
     let m = c .before .before .before .before .before in
     let a = c .before .before .before .before .before .before .before .before .before .before .args in (
-      refused-says (a .wish .card) (saidWish (a .wish)) (a .sheet .now) (a .out .now) _ _ (refusal-lent (a .wish .plain) (m .make .result) (a .sheet .now) (a .work .now) _ (m .make .ensures) _ (c .before .refusal .given .1)),
+      refused-says _ _ _ (answer-lent (a .wish .card) (length (a .work .now)) (saidWish (a .wish)) (a .sheet .now) (length (a .out .now))) (a .out .now) _ (refusal-lent (a .wish .plain) (m .make .result) (a .sheet .now) (a .work .now) _ (m .make .ensures) _ (c .before .refusal .given .1)),
       m .make .ensures .keeps,
     )
 

@@ -1,7 +1,7 @@
 -- `translator::word` meets its contract: each part fits its bits, since what is larger shows as the largest number. Assumes nothing.
 use mathlib.Core.Path.{sym, ap, _∙_}
 use Rattle.translator.specs.Said.{saidAnswer}
-use Rattle.translator.specs.Word.{packed}
+use Rattle.answers.specs.Word.{packed}
 use Rattle.translator.specs.declared.Answer as code
 use borrow.Author.Needs.{needs}
 use Rattle.translator.proofs.word.Statement.{statement}

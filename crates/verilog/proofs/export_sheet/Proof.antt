@@ -1,8 +1,10 @@
 -- `verilog::export_sheet` meets its contract: what was made is exported, and a refusal passes through. Assumes nothing.
 use mathlib.Core.Path.{_∙_}
 use mathlib.Core.Bool.{true}
+use lib.ListN.{length}
 use Rattle.translator.proofs.Lent.{net-stands, net-lent, refusal-lent}
-use Rattle.verilog.proofs.CallLaws.{refused-says, net-says}
+use Rattle.translator.proofs.CallLaws.{refused-says, net-says}
+use Rattle.verilog.proofs.CallLaws.{export-lent}
 use borrow.Author.Needs.{needs}
 use Rattle.verilog.proofs.export_sheet.Statement.{statement}
 use Rattle.verilog.proofs.export_sheet.Tie as tie
@@ -30,7 +32,7 @@ returns : tie.Need-returns
 returns c =
     let m = c .before .before .before .before .before in
     let a = m .before .before .before .before .before .args in (
-      refused-says (a .sheet .now) (a .out .now) _ _ (refusal-lent true (m .make .result) (a .sheet .now) (a .work .now) _ (m .make .ensures) _ (c .before .refusal .given .1)),
+      refused-says _ _ _ (export-lent (length (a .work .now)) (a .sheet .now) (length (a .out .now))) (a .out .now) _ (refusal-lent true (m .make .result) (a .sheet .now) (a .work .now) _ (m .make .ensures) _ (c .before .refusal .given .1)),
       m .make .ensures .keeps,
     )
 
@@ -46,7 +48,7 @@ returns-2 c =
     let v = w .before .before .before .before in
     let m = v .before .before .before .before in
     let a = m .before .before .before .before .before .args in (
-      net-says (a .sheet .now) (a .out .now) _ (w .export-net .result) _ _ (net-lent true (m .make .result) (a .sheet .now) (a .work .now) _ (m .make .ensures) _ (v .counts .given .1)) (w .export-net .ensures .0),
+      net-says _ _ _ (export-lent (length (a .work .now)) (a .sheet .now) (length (a .out .now))) (a .out .now) (w .export-net .result) _ _ (net-lent true (m .make .result) (a .sheet .now) (a .work .now) _ (m .make .ensures) _ (v .counts .given .1)) (w .export-net .ensures .0),
       w .export-net .ensures .1 ∙ m .make .ensures .keeps,
     )
 

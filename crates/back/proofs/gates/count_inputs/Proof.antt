@@ -6,7 +6,7 @@ use mathlib.Core.List.{List}
 use Prim.Native.Nat.{ℕ, _-_, _+_, _*_, _≤_}
 use lib.ListN.{drop}
 use Rattle.calculus.specs.Net.{Element}
-use Rattle.back_theorems.specs.Back.{sources, undrivens, gatesFrom, gates, openIns}
+use Rattle.back_calculus.specs.Back.{sources, undrivens, gatesFrom, gates, openIns}
 use Rattle.back_theorems.proofs.Typing.{few}
 use Rattle.back.specs.Gates.{netHere, inputTotal}
 use Rattle.laws.proofs.Regions.{drop-past}

@@ -2,7 +2,7 @@
 use borrow.Author.Needs.{needs}
 use native.Mathlib.Omega.{arith}
 use mathlib.Core.Path.{ap, sym}
-use Rattle.back_theorems.specs.Back.{undrivens}
+use Rattle.back_calculus.specs.Back.{undrivens}
 use Rattle.back.proofs.SourceLaws.{source-open, source-wired}
 use Rattle.back.proofs.gates.open_at.Statement.{statement}
 use Rattle.back.proofs.gates.open_at.Tie as tie

@@ -6,7 +6,7 @@ use mathlib.Core.List.{List}
 use Prim.Native.Nat.{_-_, _+_, _*_, _≤_}
 use lib.ListN.{drop}
 use Rattle.calculus.specs.Net.{Element}
-use Rattle.back_theorems.specs.Back.{partBefore}
+use Rattle.back_calculus.specs.Back.{partBefore}
 use Rattle.back.specs.Gates.{netHere}
 use Rattle.laws.proofs.Regions.{drop-past}
 use Rattle.back.proofs.GateLaws.{gate-place}

@@ -5,7 +5,7 @@ use mathlib.Core.Path.{ap, _∙_}
 use Prim.Native.Nat.{ℕ, _+_, _-_}
 use lib.ListN.{length}
 use Rattle.calculus.specs.Net.{part}
-use Rattle.back_theorems.specs.Back.{undrivens, sources}
+use Rattle.back_calculus.specs.Back.{undrivens, sources}
 use Rattle.back_theorems.proofs.Typing.{few}
 use Rattle.back.specs.Gates.{netHere}
 use Rattle.back.proofs.GateLaws.{gate-place}

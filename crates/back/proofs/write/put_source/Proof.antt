@@ -7,7 +7,7 @@ use Prim.Native.Nat.{ℕ, _-_, _*_}
 use lib.Seq.{sets}
 use Rattle.back.specs.Gates.{netHere}
 use Rattle.back.proofs.SourceLaws.{before-few}
-use Rattle.back_theorems.specs.Back.{partBefore}
+use Rattle.back_calculus.specs.Back.{partBefore}
 use Rattle.back.proofs.WriteLaws.{open-row, wired-row}
 use Rattle.back.proofs.write.put_source.Statement.{statement}
 use Rattle.back.proofs.write.put_source.Tie as tie

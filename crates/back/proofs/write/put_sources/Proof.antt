@@ -3,7 +3,7 @@ use borrow.Author.Needs.{needs}
 use native.Mathlib.Omega.{arith}
 use mathlib.Core.Path.{_≡_, refl, _∙_}
 use Prim.Native.Nat.{_+_, _-_, _≤_}
-use Rattle.back_theorems.specs.Back.{sources, undrivens}
+use Rattle.back_calculus.specs.Back.{sources, undrivens}
 use Rattle.back.specs.Gates.{netHere}
 use Rattle.back.proofs.WriteLaws.{two-undriven, two-written}
 use Rattle.back.proofs.write.put_sources.Statement.{statement}

@@ -3,7 +3,7 @@ use borrow.Author.Needs.{needs}
 use native.Mathlib.Omega.{arith}
 use mathlib.Core.Path.{_≡_}
 use Prim.Native.Nat.{ℕ, zero, suc, _+_}
-use Rattle.back_theorems.specs.Back.{tuple}
+use Rattle.back_calculus.specs.Back.{tuple}
 use Rattle.back.proofs.write.tuple.Statement.{statement}
 use Rattle.back.proofs.write.tuple.Tie as tie
 

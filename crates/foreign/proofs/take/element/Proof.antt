@@ -6,7 +6,7 @@ use Prim.Native.Nat.{ℕ, _+_}
 use native.Mathlib.Omega.{arith}
 use borrow.Author.Tests.{eq-eqb, ne-eqb, le-leb, lt-leb, not-true, not-false}
 use Rattle.foreign.specs.Take.{next}
-use Rattle.foreign_theorems.specs.Foreign.{starts}
+use Rattle.foreign_calculus.specs.Foreign.{starts}
 use borrow.Author.Needs.{needs}
 use Rattle.foreign.proofs.take.element.Statement.{statement}
 use Rattle.foreign.proofs.take.element.Tie as tie

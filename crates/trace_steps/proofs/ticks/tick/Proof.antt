@@ -11,24 +11,36 @@ load-requires : tie.Need-load-requires
 load-requires c κs = search needs
 
 pass-requires : tie.Need-pass-requires
-pass-requires c κs = ordered-within (c .before .before .before .load .ensures .within) (c .before .before .before .before .before .before .before .before .pre .0 .order)
+pass-requires c κs =
+    let l = c .before .before .before in
+    let s = l .before .before .before .before .before in
+    ordered-within (l .load .ensures .within) (s .pre .0 .order)
 
 store-requires : tie.Need-store-requires
 store-requires c κs =
-    let s = c .before .before .before .before .before .before .before .before .before .before .before .before .before in
-    let i = within-then (c .before .before .before .before .before .before .before .before .load .ensures .within) (c .before .before .before .before .pass .ensures .within) in
+    let p = c .before .before .before .before in
+    let l = p .before .before .before .before in
+    let s = l .before .before .before .before .before in
+    let i = within-then (l .load .ensures .within) (p .pass .ensures .within) in
     let q = s .pre .1 .1 in
     (pins-within i (s .pre .0 .pins), omega (arith, outs-within _ _ i (s .args .pins) (s .pre .0 .pins .few)))
 
-hold-requires : tie.Need-hold-requires
-hold-requires c κs =
-    let s = c .before .before .before .before .before .before .before .before .before .before .before .before .before .before .before .before .before in
-    registers-within (within-then (c .before .before .before .before .before .before .before .before .before .before .before .before .load .ensures .within) (c .before .before .before .before .before .before .before .before .pass .ensures .within)) (s .pre .0 .registers)
+clock-requires : tie.Need-clock-requires
+clock-requires c κs =
+    let t = c .before .before .before in
+    let p = t .before .before .before .before .before in
+    let l = p .before .before .before .before in
+    let s = l .before .before .before .before .before in
+    registers-within (within-then (l .load .ensures .within) (p .pass .ensures .within)) (s .pre .0 .registers)
 
-turn-requires : tie.Need-turn-requires
-turn-requires c κs =
-    let s = c .before .before .before .before .before .before .before .before .before .before .before .before .before .before .before .before .before .before .before .before .before in
-    registers-within (within-then (within-then (c .before .before .before .before .before .before .before .before .before .before .before .before .before .before .before .before .load .ensures .within) (c .before .before .before .before .before .before .before .before .before .before .before .before .pass .ensures .within)) (c .before .before .before .hold .ensures .within)) (s .pre .0 .registers)
+clock-requires-2 : tie.Need-clock-requires-2
+clock-requires-2 c κs =
+    let h = c .before .before .before in
+    let t = h .before .before .before .before in
+    let p = t .before .before .before .before .before in
+    let l = p .before .before .before .before in
+    let s = l .before .before .before .before .before in
+    registers-within (within-then (within-then (l .load .ensures .within) (p .pass .ensures .within)) (h .clock .ensures .within)) (s .pre .0 .registers)
 
 same-length : tie.Need-same-length
 same-length c = search needs
@@ -38,9 +50,14 @@ same-length-2 c = search needs
 
 returns : tie.Need-returns
 returns c =
-    let a = c .before .before .before .before .before .before .before .before .before .before .before .before .before .before .before .before .before .before .before .before .before .before .before .before .args in
+    let u = c .before .before in
+    let h = u .before .before .before .before in
+    let t = h .before .before .before .before in
+    let p = t .before .before .before .before .before in
+    let l = p .before .before .before .before in
+    let a = l .before .before .before .before .before .args in
     tick-is laneZero (a .settled) (a .regs) (a .pins) (a .inputs .now) (a .from) (a .to) (a .work .now) (a .out .now) _ _ _ _ _ _ _
-    (c .before .before .before .before .before .before .before .before .before .before .before .before .before .before .before .before .before .before .before .load .ensures) (c .before .before .before .before .before .before .before .before .before .before .before .before .before .before .before .pass .ensures) (c .before .before .before .before .before .before .before .before .before .before .store .ensures) (c .before .before .before .before .before .before .hold .ensures) (c .before .before .turn .ensures)
+    (l .load .ensures) (p .pass .ensures) (t .store .ensures) (h .clock .ensures) (u .clock2 .ensures)
 
 pub tick-spec : {M : Type 1} → statement M
 tick-spec =
@@ -49,8 +66,8 @@ tick-spec =
     load-requires
     pass-requires
     store-requires
-    hold-requires
-    turn-requires
+    clock-requires
+    clock-requires-2
     same-length
     same-length-2
     returns)

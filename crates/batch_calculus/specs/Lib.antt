@@ -1,0 +1,3 @@
+pub mod Batch
+pub mod Promise
+pub mod Worked
