@@ -335,9 +335,9 @@ module _ (text w₀ : List ℕ) (start : ℕ) (q : CanItem text w₀ start 0) (w
     items-more next known e = record {
       kept = items-kept;
       goes = λ X σ ls S I.
-        let a = G .goes X σ ls S I in
-        let b = as-item (went-is.On next known) e X (a .next) (a .others) (a .stands) (a .left) in
-        record { next = b .next; others = b .others; stands = b .stands; left = b .left; table = a .table ∙ b .table; fewer = omega (arith, a .fewer, b .fewer) };
+          let a = G .goes X σ ls S I in
+          let b = as-item (went-is.On next known) e X (a .next) (a .others) (a .stands) (a .left) in
+          record { next = b .next; others = b .others; stands = b .stands; left = b .left; table = a .table ∙ b .table; fewer = omega (arith, a .fewer, b .fewer) };
     }
 
     pub items-less : (next known : ℕ) → r ≡ went-is.On next known → length (from text next) < length (from text at)
@@ -347,15 +347,15 @@ module _ (text w₀ : List ℕ) (start : ℕ) (q : CanItem text w₀ start 0) (w
     items-end e = record {
       kept = items-kept;
       says = λ X σ ls S I.
-        let a = G .goes X σ ls S I in
-        let (b, z) = as-item went-is.Ends e X (a .next) (a .others) (a .stands) (a .left) in
-        stage-passed text w′ X (a .next) stage.Passed (linesTable X σ ls) refl (a .table ∙ ap (λ (l : List Line). linesTable X (a .next) l) z) b;
+          let a = G .goes X σ ls S I in
+          let (b, z) = as-item went-is.Ends e X (a .next) (a .others) (a .stands) (a .left) in
+          stage-passed text w′ X (a .next) stage.Passed (linesTable X σ ls) refl (a .table ∙ ap (λ (l : List Line). linesTable X (a .next) l) z) b;
     }
 
     pub items-refused : (n p : ℕ) → r ≡ went-is.Refused n p → LinesSay text w₀ start (stage.Refused n p) w′
     items-refused n p e = record {
       kept = items-kept;
       says = λ X σ ls S I.
-        let a = G .goes X σ ls S I in
-        stage-refused text w′ X n p (linesTable X σ ls) (a .table ∙ as-item (went-is.Refused n p) e X (a .next) (a .others) (a .stands) (a .left));
+          let a = G .goes X σ ls S I in
+          stage-refused text w′ X n p (linesTable X σ ls) (a .table ∙ as-item (went-is.Refused n p) e X (a .next) (a .others) (a .stands) (a .left));
     }

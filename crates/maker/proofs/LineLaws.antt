@@ -218,9 +218,9 @@ module _ (text w₀ : List ℕ) (start seen : ℕ) (q : CanTypes text w₀ start
     line-more next e = record {
       kept = line-kept;
       goes = λ X σ ts us K L.
-        let a = G .goes X σ ts us K L in
-        let b = as-typed (typed-is.More next) e X (a .next) (a .others) us (a .knows) (a .there) in
-        record { next = b .next; others = b .others; knows = b .knows; there = b .there; table = a .table ∙ b .table; fewer = omega (arith, a .fewer, b .fewer) };
+          let a = G .goes X σ ts us K L in
+          let b = as-typed (typed-is.More next) e X (a .next) (a .others) us (a .knows) (a .there) in
+          record { next = b .next; others = b .others; knows = b .knows; there = b .there; table = a .table ∙ b .table; fewer = omega (arith, a .fewer, b .fewer) };
     }
 
     pub line-less : (next : ℕ) → r ≡ typed-is.More next → length (from text next) < length (from text at)
@@ -230,17 +230,17 @@ module _ (text w₀ : List ℕ) (start seen : ℕ) (q : CanTypes text w₀ start
     line-last end e = record {
       kept = line-kept;
       says = λ X σ ts us K L.
-        let a = G .goes X σ ts us K L in
-        let b = as-typed (typed-is.Last end) e X (a .next) (a .others) us (a .knows) (a .there) in
-        record { next = b .next; stands = stands-of (b .knows); rest = b .rest; table = a .table ∙ b .table; fewer = omega (arith, a .fewer, b .fewer); same = refl };
+          let a = G .goes X σ ts us K L in
+          let b = as-typed (typed-is.Last end) e X (a .next) (a .others) us (a .knows) (a .there) in
+          record { next = b .next; stands = stands-of (b .knows); rest = b .rest; table = a .table ∙ b .table; fewer = omega (arith, a .fewer, b .fewer); same = refl };
     }
 
     pub line-refused : (n p : ℕ) → r ≡ typed-is.Refused n p → LineTypes text w₀ start seen (went-is.Refused n p) w′
     line-refused n p e = record {
       kept = line-kept;
       says = λ X σ ts us K L.
-        let a = G .goes X σ ts us K L in
-        a .table ∙ as-typed (typed-is.Refused n p) e X (a .next) (a .others) us (a .knows) (a .there);
+          let a = G .goes X σ ts us K L in
+          a .table ∙ as-typed (typed-is.Refused n p) e X (a .next) (a .others) us (a .knows) (a .there);
     }
 
 -- ---- a line in the text's own scope

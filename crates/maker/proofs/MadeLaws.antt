@@ -142,15 +142,15 @@ module _ (w : List ℕ) (root : ℕ) (out places : List ℕ) (r : wrote.WroteShe
   pub wrote-refused : (n p : ℕ) (a : code.Answer) → a ≡ refusedAs n p → r ≡ wrote-is.Refused n p → SheetLeft w root out places a out′ places′
   wrote-refused n p a f e = record {
     says = λ E Θ t ps i H T.
-      let l = W .says E Θ t ps i H T in
-      record { said = ap saidAnswer f ∙ sym (ap saidWrote e) ∙ l .said; left = l .left; left-places = l .left-places };
+        let l = W .says E Θ t ps i H T in
+        record { said = ap saidAnswer f ∙ sym (ap saidWrote e) ∙ l .said; left = l .left; left-places = l .left-places };
   }
 
   pub wrote-bytes : (n : ℕ) → r ≡ wrote-is.Bytes n → SheetLeft w root out places (answer.Written n) out′ places′
   wrote-bytes n e = record {
     says = λ E Θ t ps i H T.
-      let l = W .says E Θ t ps i H T in
-      record { said = sym (ap saidWrote e) ∙ l .said; left = l .left; left-places = l .left-places };
+        let l = W .says E Θ t ps i H T in
+        record { said = sym (ap saidWrote e) ∙ l .said; left = l .left; left-places = l .left-places };
   }
 
 -- ---- the call before it clears

@@ -90,11 +90,11 @@ module _ (text w : List ℕ) (end : ℕ) (r : body.BodyEnd) (w₁ : List ℕ) (M
     main-made t w₂ N = record {
       kept = far-then w w₁ w₂ main-far (far-terms 80 top w₁ w₂ (omega arith) (N .walked));
       says = λ X σ S f.
-        let T = there X σ S f in
-        subst (TextTerm text w₂ X t) (sym (whole-is X σ ∙ T .goes .is))
-        (term-stands text w₂ X (termOf X mostNested (T .there .scope) (T .there .state) (T .goes .tree .value)) t
-        (λ τ H. record { short = S .short; room = omega (arith, S .room, M .walked .same, N .walked .same); clauses = clauses-on-terms 80 top text w₁ w₂ (N .walked) X (clauses-on 81 0 text w w₁ (M .walked) X (S .clauses)); state = H })
-        (N .says X (T .there .scope) (T .there .state) (T .goes .tree) (T .came .walkable) (T .came .variables) (T .goes .reads)));
+          let T = there X σ S f in
+          subst (TextTerm text w₂ X t) (sym (whole-is X σ ∙ T .goes .is))
+          (term-stands text w₂ X (termOf X mostNested (T .there .scope) (T .there .state) (T .goes .tree .value)) t
+          (λ τ H. record { short = S .short; room = omega (arith, S .room, M .walked .same, N .walked .same); clauses = clauses-on-terms 80 top text w₁ w₂ (N .walked) X (clauses-on 81 0 text w w₁ (M .walked) X (S .clauses)); state = H })
+          (N .says X (T .there .scope) (T .there .state) (T .goes .tree) (T .came .walkable) (T .came .variables) (T .goes .reads)));
     }
 
 -- ---- behind the judging

@@ -122,8 +122,8 @@ module _ (text w : List ℕ) (k : ℕ) (q : HasClause text w k) (r : Row) (is : 
       judge-full e = record {
         kept = subst (λ (v : List ℕ). FarKept w v) (sym (P .same e)) (far-none w);
         says = λ X σ S h.
-          stage-refused text w₁ X 34 (r .name) (judgedClause X k σ (clauseOf (X .clauses) k))
-          (tried-is X σ S h ∙ bind-refused (onePut σ (costOf (clauseOf (X .clauses) k)) (clauseOf (X .clauses) k .head .place)) (λ σ₁. judgedBody X k σ₁ (clauseOf (X .clauses) k .body) >>= λ n. good (record { table = σ .table; nodes = σ .nodes; puts = n })) 34 (r .name) (put-bad σ (costOf (clauseOf (X .clauses) k)) (clauseOf (X .clauses) k .head .place) b (test-of X σ S h) e ∙ ap (λ (n : ℕ). refuse 34 n) (row-of X σ S h .name-place)));
+            stage-refused text w₁ X 34 (r .name) (judgedClause X k σ (clauseOf (X .clauses) k))
+            (tried-is X σ S h ∙ bind-refused (onePut σ (costOf (clauseOf (X .clauses) k)) (clauseOf (X .clauses) k .head .place)) (λ σ₁. judgedBody X k σ₁ (clauseOf (X .clauses) k .body) >>= λ n. good (record { table = σ .table; nodes = σ .nodes; puts = n })) 34 (r .name) (put-bad σ (costOf (clauseOf (X .clauses) k)) (clauseOf (X .clauses) k .head .place) b (test-of X σ S h) e ∙ ap (λ (n : ℕ). refuse 34 n) (row-of X σ S h .name-place)));
       }
 
       module _ (f : b ≡ true) where
@@ -224,12 +224,12 @@ module _ (text w₀ : List ℕ) (q : SomeText text w₀) (n : ℕ) (counts : n �
       judged-more e = record {
         kept = judged-kept;
         goes = λ X σ S.
-          passed-with text w′ X (judgedClause X k (G .goes X σ S .next) (clauseOf (X .clauses) k)) (as-judged stage.Passed e X σ S) λ τ f t. record {
-            next = τ;
-            stands = t;
-            low = omega (arith, count-is X σ S);
-            is = first-is X σ S ∙ bind-good (judgedClause X k (G .goes X σ S .next) (clauseOf (X .clauses) k)) (λ τ. judgedFrom X (suc k) τ (drop (suc k) (X .clauses))) τ f ∙ ap (λ (i : ℕ). judgedFrom X i τ (drop i (X .clauses))) (sym (add-one k));
-          };
+            passed-with text w′ X (judgedClause X k (G .goes X σ S .next) (clauseOf (X .clauses) k)) (as-judged stage.Passed e X σ S) λ τ f t. record {
+              next = τ;
+              stands = t;
+              low = omega (arith, count-is X σ S);
+              is = first-is X σ S ∙ bind-good (judgedClause X k (G .goes X σ S .next) (clauseOf (X .clauses) k)) (λ τ. judgedFrom X (suc k) τ (drop (suc k) (X .clauses))) τ f ∙ ap (λ (i : ℕ). judgedFrom X i τ (drop i (X .clauses))) (sym (add-one k));
+            };
       }
 
       pub judged-refused : (m p : ℕ) → r ≡ stage.Refused m p → JudgedSay text w₀ (stage.Refused m p) w′
@@ -242,6 +242,6 @@ module _ (text w₀ : List ℕ) (q : SomeText text w₀) (n : ℕ) (counts : n �
   judged-done h = record {
     kept = G .kept;
     says = λ X σ S.
-      let g = G .goes X σ S in
-      stage-passed text w X (g .next) stage.Passed (judgedFrom X 0 σ (X .clauses)) refl (g .is ∙ ap (λ (cs : List Clause). judgedFrom X k (g .next) cs) (drop-of-length-le (X .clauses) {i = k} (omega (arith, count-is X σ S)))) (g .stands);
+        let g = G .goes X σ S in
+        stage-passed text w X (g .next) stage.Passed (judgedFrom X 0 σ (X .clauses)) refl (g .is ∙ ap (λ (cs : List Clause). judgedFrom X k (g .next) cs) (drop-of-length-le (X .clauses) {i = k} (omega (arith, count-is X σ S)))) (g .stands);
   }

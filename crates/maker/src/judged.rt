@@ -1,12 +1,12 @@
 // Definitions without parameters are judged, also those that `main` does not reach: each is made, and what it costs is all that is left of it.
+use crate::Stage;
 use crate::lines;
 use crate::walks_stub::term_from;
-use crate::walks_stub::type_from;
-use crate::Stage;
 use clauses::rows;
 use clauses::rows::Row;
 use putting::mains;
 use scopes::puts;
+use type_walk::type_from;
 use walks::TermEnd;
 use walks::TypeEnd;
 ghost use mathlib.Core.Path.{_≡_};

@@ -1,9 +1,9 @@
 // The lines `table` of a text whose clauses stand in the working memory: its items are read again, and each type of a line is worked out.
-use crate::walks_stub::type_from;
 use crate::Stage;
 use grammar::items;
 use scopes::frames;
 use scopes::frames::Frame;
+use type_walk::type_from;
 use walks::TypeEnd;
 ghost use mathlib.Core.Path.{_≡_};
 ghost use mathlib.Core.List.{[], _∷_};
