@@ -18,6 +18,7 @@ use Rattle.words.specs.Lexed.{from, Lexed}
 use Rattle.made_types.specs.Held.{HoldsState}
 use Rattle.made_nodes.specs.Held.{TermHeld}
 use Rattle.clauses.specs.Meant.{valuesIn}
+use Rattle.scopes.specs.Frames.{frameIn}
 use Rattle.walks.specs.declared.TypeEnd as type
 use Rattle.walks.specs.declared.TypeEnd.the-variants as type-end
 use Rattle.walks.specs.declared.TypesEnd as types
@@ -105,9 +106,10 @@ putFrom X bodies sort S σ x ts ws = do
   σ₁ ← onePut σ (p .cost) (x .place)
   good (record { scope = p .scope; state = σ₁; body = wordsFor bodies (take (S .seen) (X .clauses)) sort (x .name) (length ts) ns; rest = ks .rest })
 
--- its scope is held by a frame, over so many entries
+-- its scope is held by a frame, over so many entries; its variables begin where the frame says
 pub record PutCame (text w : List ℕ) (X : Text) (into start end top : ℕ) (p : PutThere) : Type 0 where
   pub walkable : Walkable text w into top X (p .scope) (p .state)
+  pub variables : frameIn w into .variables ≡ p .scope .under
   pub body : Offset text start (p .body)
   pub rest : Offset text end (p .rest)
 
@@ -139,9 +141,10 @@ TermAnswers w (term-end.At s) (refused why) = ⊥
 TermAnswers w (term-end.Refused number place) (good m) = ⊥
 TermAnswers w (term-end.Refused number place) (refused why) = why ≡ numbered number place
 
--- a term can be made at an offset, with so many levels: the grammar has read one there
+-- a term can be made at an offset, with so many levels: the grammar has read one there; the variables begin where the frame says
 pub record CanTerm (text w : List ℕ) (at more frame top : ℕ) : Type 0 where
   pub walk : CanWalk text w frame top
+  pub variables : frameIn w frame .variables ≡ walk .S .under
   pub lexed : Lexed text at
   pub above : more ≤ frame
   pub levels : more ≤ mostNested
@@ -150,4 +153,4 @@ pub record CanTerm (text w : List ℕ) (at more frame top : ℕ) : Type 0 where
 
 pub record TermSays (text w : List ℕ) (at more frame top : ℕ) (r : term.TermEnd) (w′ : List ℕ) : Type 0 where
   pub walked : TermsWalked more top w w′
-  pub says : (X : Text) (S : Scope) (σ : State) (g : Got Tree) → Walkable text w frame top X S σ → termAt mostNested (from text at) ≡ good g → TermAnswers w′ r (termOf X more S σ (g .value))
+  pub says : (X : Text) (S : Scope) (σ : State) (g : Got Tree) → Walkable text w frame top X S σ → frameIn w frame .variables ≡ S .under → termAt mostNested (from text at) ≡ good g → TermAnswers w′ r (termOf X more S σ (g .value))
