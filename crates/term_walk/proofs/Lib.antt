@@ -1,1 +1,4 @@
 pub mod LookLaws
+pub mod PartsStay
+pub mod HoldLaws
+pub mod StepLaws

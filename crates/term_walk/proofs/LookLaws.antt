@@ -1,9 +1,10 @@
 -- The word at an offset, by the cases of `look`. Assumes nothing.
-use Prim.Native.Nat.{ℕ, suc, _+_, _≤_, _<_}
+use Prim.Native.Nat.{ℕ, suc, _+_, _-_, _≤_, _<_}
 use mathlib.Core.Path.{_≡_, refl, sym, ap, subst, _∙_}
 use mathlib.Core.Bool.{Bool, true, false, not, _&&_, cond}
 use mathlib.Core.List.{List, [], _∷_}
 use native.Mathlib.Omega.{arith}
+use borrow.Author.Tests.{le-leb, lt-leb}
 use lib.Dec.{eqb, leb}
 use lib.ListN.{length, drop, take, length-drop}
 use Rattle.calculus.specs.Answer.{Answer, good, refused, _>>=_}
@@ -66,10 +67,10 @@ place-inside text at h = first-small (at + gap false (drop at text)) text (lexed
 -- ---- the words
 
 leb-yes : (a b : ℕ) → a ≤ b → leb a b ≡ true
-leb-yes a b h = ?
+leb-yes a b h = le-leb a b h
 
 leb-no : (a b : ℕ) → b < a → leb a b ≡ false
-leb-no a b h = ?
+leb-no a b h = lt-leb a b h
 
 pub words-inside : (text : List ℕ) (at : ℕ) → at ≤ length text → wordsAt text at ≡ from text at
 unfolding wordsAt
@@ -96,6 +97,7 @@ module _ (text : List ℕ) (at : ℕ) where
         rest = ap behind e ∙ sym (words-past text (length text + 1) (omega arith));
         readable = λ k. absurd (omega arith);
         onward = λ k. absurd (k refl);
+        fewer = λ k. absurd (k refl);
         named = λ k. absurd (omega arith);
       }
 
@@ -114,6 +116,7 @@ module _ (text : List ℕ) (at : ℕ) where
           rest = ap behind e ∙ s .last k ∙ sym (words-past text (length text + 1) (omega arith));
           readable = λ h. absurd (omega arith);
           onward = λ h. absurd (h refl);
+          fewer = λ h. absurd (h refl);
           named = λ h. absurd (omega arith);
         }
       where
@@ -135,6 +138,7 @@ module _ (text : List ℕ) (at : ℕ) where
           rest = ap behind e ∙ o .rest ∙ sym (words-lexed text (w .end) (o .lexed));
           readable = λ h. o .lexed;
           onward = λ h. o .lexed;
+          fewer = λ h. omega (arith, ap length e, ap length (ap behind e), ap length (o .rest), o .fewer);
           named = λ h. ap (λ (ws : List Words.Word). peek ws .token) e ∙ s .named h ∙ ap (λ (k : ℕ). name (take k (drop (w .start) text))) (run-long (s .whole h));
         }
       where

@@ -1,6 +1,6 @@
 -- The words from an offset of a walk on. The machine passes words without looking at them, so an offset may be behind the text's end,
 -- where no words are left. Assumes nothing.
-use Prim.Native.Nat.{ℕ, _≤_}
+use Prim.Native.Nat.{ℕ, _≤_, _<_}
 use mathlib.Core.Path.{_≡_}
 use mathlib.Core.Bool.{cond}
 use mathlib.Core.List.{List, []}
@@ -30,4 +30,5 @@ pub record Looks (text : List ℕ) (at : ℕ) (w : Word) : Type 0 where
   pub rest : behind (wordsAt text at) ≡ wordsAt text (w .end)
   pub readable : Readable text (w .end)
   pub onward : ¬ (w .kind ≡ 0) → Lexed text (w .end)
+  pub fewer : ¬ (w .kind ≡ 0) → length (behind (wordsAt text at)) < length (wordsAt text at)
   pub named : w .kind ≡ 24 → peek (wordsAt text at) .token ≡ name (runAt text (w .start))

@@ -3,11 +3,23 @@ use made_nodes::MadeTerm;
 use made_nodes::Sub;
 use walk_levels::Around;
 use walk_levels::Level;
+ghost use mathlib.Core.Path.{_≡_};
+ghost use Rattle.term_walk.specs.Steps.{nothingSub, partLevel, doneStep, appliesStep, CanAsk, Asks};
+
+pub mod looks;
+
+pub mod term_parts;
+
+pub mod type_walk;
+
+pub mod putting;
 
 pub mod atoms;
+
 pub mod binders;
+
 pub mod leaving;
-pub mod looks;
+
 pub mod rounds;
 
 // ---- the state, as numbers
@@ -65,7 +77,9 @@ pub const ELEMENT: u16 = 7;
 pub const OF_DEFINITION: u16 = 8;
 
 // No term.
-pub fn nothing() -> Sub {
+pub fn nothing() -> Sub
+    ensures { λ r. ⌜ r ≡ nothingSub ⌝ }
+{
     Sub {
         node: 0,
         ty: 0,
@@ -74,7 +88,9 @@ pub fn nothing() -> Sub {
 }
 
 // A level that waits for a part of an application: the function so far stays.
-pub fn part_level(form: u16, s: Left, count: u16, next: u16) -> Level {
+pub fn part_level(form: u16, s: Left, count: u16, next: u16) -> Level
+    ensures { λ r. ⌜ r ≡ partLevel form s count next ⌝ }
+{
     Level {
         form,
         flag: s.flag,
@@ -87,20 +103,27 @@ pub fn part_level(form: u16, s: Left, count: u16, next: u16) -> Level {
     }
 }
 
-// The level that the walk is at waits from now on.
-pub fn wait(work: &mut [u16], h: Walk, l: Level) {
+// ---- the next state
+
+// The level that the walk is at waits, and the term at an offset is wanted, one level below, in a scope.
+pub fn ask(
+    work: &mut [u16],
+    h: Walk,
+    l: Level,
+    frame: usize,
+    top: usize,
+    waiting: usize,
+    at: usize,
+) -> Step
+    requires { ⌜ CanAsk (now work) h ⌝ }
+    ensures { λ r. ⌜ Asks (now (work .entry)) h l frame top waiting at r (now (work .exit)) ⌝ }
+{
     let s = Around {
         frame: h.frame as u16,
         top: h.top as u16,
         waiting: h.waiting as u16,
     };
     walk_levels::push(work, h.more as u16, l, s);
-}
-
-// ---- the next state
-
-// The term at an offset is wanted, one level below, in a scope.
-pub fn wants(h: Walk, frame: usize, top: usize, waiting: usize, at: usize) -> Step {
     Step::Going(Walk {
         phase: WANTED,
         more: h.more - 1,
@@ -114,7 +137,9 @@ pub fn wants(h: Walk, frame: usize, top: usize, waiting: usize, at: usize) -> St
 }
 
 // The level is done with a term, if it could be made.
-pub fn done(h: Walk, made: MadeTerm, at: usize) -> Step {
+pub fn done(h: Walk, made: MadeTerm, at: usize) -> Step
+    ensures { λ r. ⌜ r ≡ doneStep h made at ⌝ }
+{
     match made {
         MadeTerm::Refused(number, place) => Step::Refused(number, made_types::wide(place)),
         MadeTerm::At(sub) => Step::Going(Walk {
@@ -131,16 +156,18 @@ pub fn done(h: Walk, made: MadeTerm, at: usize) -> Step {
 }
 
 // A term, if it could be made, is the function of the application that begins at a place.
-pub fn applies(h: Walk, place: u16, made: MadeTerm, at: usize) -> Step {
+pub fn applies(h: Walk, begins: u16, made: MadeTerm, at: usize) -> Step
+    ensures { λ r. ⌜ r ≡ appliesStep h begins made at ⌝ }
+{
     match made {
-        MadeTerm::Refused(number, at) => Step::Refused(number, made_types::wide(at)),
+        MadeTerm::Refused(number, place) => Step::Refused(number, made_types::wide(place)),
         MadeTerm::At(sub) => Step::Going(Walk {
             phase: APPLYING,
             more: h.more,
             frame: h.frame,
             top: h.top,
             waiting: h.waiting,
-            place,
+            place: begins,
             sub,
             at,
         }),

@@ -1,7 +1,10 @@
 // The word at an offset of a walk, which may be behind the text's end, where no words are left.
+ghost use mathlib.Core.Path.{_≡_};
 ghost use Prim.Native.Nat.{_<_};
 ghost use lib.ListN.{length};
-ghost use Rattle.term_walk.specs.Looks.{Readable, Looks};
+ghost use Rattle.notation_calculus.specs.Grammar.{beginsAtom};
+ghost use Rattle.term_walk.specs.Looks.{wordsAt, Readable, Looks};
+ghost use Rattle.term_walk.specs.Steps.{CanBehind, BehindType};
 use walks::TypeEnd;
 use words::Word;
 
@@ -38,15 +41,21 @@ pub fn type_behind(
     more: usize,
     frame: usize,
     top: usize,
-) -> TypeEnd {
+) -> TypeEnd
+    requires { ⌜ CanBehind (now text) (now work) at more frame top ⌝ }
+    ensures { λ r. ⌜ BehindType (now (text .entry)) (now (work .entry)) at more frame top r (now (work .exit)) ⌝ }
+{
     if text.len() < at {
         return TypeEnd::Refused(32, 0);
     }
-    type_walk::type_from(text, work, at, more, frame, top)
+    crate::type_walk::type_from(text, work, at, more, frame, top)
 }
 
 // An atom begins at an offset.
-pub fn begins_atom(text: &[u8], at: usize) -> bool {
+pub fn begins_atom(text: &[u8], at: usize) -> bool
+    requires { ⌜ Readable (now text) at ⌝ }
+    ensures { λ r. ⌜ r ≡ beginsAtom (wordsAt (now (text .entry)) at) ⌝ }
+{
     if text.len() < at {
         return false;
     }

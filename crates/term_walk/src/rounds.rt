@@ -1,12 +1,15 @@
 // The loop over steps.
-use crate::Left;
-use crate::Step;
-use crate::Walk;
 use crate::atoms;
 use crate::binders;
 use crate::leaving;
+use crate::Left;
 use crate::looks;
+use crate::Step;
+use crate::Walk;
 use walks::TermEnd;
+ghost use mathlib.Core.Path.{_≡_};
+ghost use Rattle.walks.specs.Says.{CanTerm, TermSays};
+ghost use Rattle.term_walk.specs.Steps.{CanStep, StepSays};
 
 const FUN: u8 = 1;
 
@@ -14,33 +17,37 @@ const FIX: u8 = 2;
 
 const LET: u8 = 3;
 
-// An application begins with the word at a place.
-fn spine_from(text: &[u8], work: &mut [u16], h: Walk, place: usize) -> Step {
+// A term is wanted at the offset.
+fn enter(text: &[u8], work: &mut [u16], h: Walk) -> Step
+    requires { ⌜ (CanStep (now text) (now work) h) × (h .phase ≡ 0) ⌝ }
+    ensures { λ r. ⌜ StepSays (now (text .entry)) (now (work .entry)) h r (now (work .exit)) ⌝ }
+{
+    let w = looks::look(text, h.at);
+    if h.more == 0 {
+        return Step::Refused(34, w.start);
+    }
+    if w.kind == FUN {
+        return binders::function_from(text, work, h, w.start, w.end);
+    }
+    if w.kind == FIX {
+        return binders::fix_from(text, work, h, w.start, w.end);
+    }
+    if w.kind == LET {
+        return binders::let_from(text, work, h, w.start, w.end);
+    }
     let s = Left {
-        place: place as u16,
+        place: w.start as u16,
         flag: 0,
         sub: crate::nothing(),
     };
     atoms::atom_at(text, work, h, s)
 }
 
-// A term is wanted at the offset.
-fn enter(text: &[u8], work: &mut [u16], h: Walk) -> Step {
-    let w = looks::look(text, h.at);
-    if h.more == 0 {
-        return Step::Refused(34, w.start);
-    }
-    let kind = w.kind;
-    match kind {
-        FUN => binders::function_from(text, work, h, w.end),
-        FIX => binders::fix_from(text, work, h, w.end),
-        LET => binders::let_from(text, work, h, w.start, w.end),
-        _ => spine_from(text, work, h, w.start),
-    }
-}
-
 // One step.
-fn step(text: &[u8], work: &mut [u16], n: Walk) -> Step {
+fn step(text: &[u8], work: &mut [u16], n: Walk) -> Step
+    requires { ⌜ CanStep (now text) (now work) n ⌝ }
+    ensures { λ r. ⌜ StepSays (now (text .entry)) (now (work .entry)) n r (now (work .exit)) ⌝ }
+{
     if n.phase == crate::WANTED {
         return enter(text, work, n);
     }
@@ -61,7 +68,10 @@ pub fn term_from(
     more: usize,
     frame: usize,
     top: usize,
-) -> TermEnd {
+) -> TermEnd
+    requires { ⌜ CanTerm (now text) (now work) at more frame top ⌝ }
+    ensures { λ r. ⌜ TermSays (now (text .entry)) (now (work .entry)) at more frame top r (now (work .exit)) ⌝ }
+{
     let mut n = Walk {
         phase: crate::WANTED,
         more,

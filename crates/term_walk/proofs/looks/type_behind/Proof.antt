@@ -1,0 +1,25 @@
+use borrow.Author.Needs.{needs}
+use Rattle.term_walk.proofs.looks.type_behind.Statement.{statement}
+use Rattle.term_walk.proofs.looks.type_behind.Tie as tie
+use Rattle.term_walk.proofs.looks.type_behind.Reads as reads
+use Rattle.term_walk.proofs.looks.type_behind.Lts as lts
+use Rattle.term_walk.proofs.type_walk.type_from.Reads as type-from-reads
+
+-- src/looks.rt:49:9
+returns : tie.Need-returns
+returns c = ?
+
+-- src/looks.rt:51:5
+type-from-requires : tie.Need-type-from-requires
+type-from-requires c κs = ?
+
+-- src/looks.rt:37:1
+same-length : tie.Need-same-length
+same-length c = search needs
+
+-- src/looks.rt:37:1
+returns-2 : tie.Need-returns-2
+returns-2 c = ?
+
+pub type-behind-spec : {M : Type 1} → statement M
+type-behind-spec = tie.close (tie.spec returns type-from-requires same-length returns-2)
