@@ -2,3 +2,9 @@ pub mod LookLaws
 pub mod PartsStay
 pub mod HoldLaws
 pub mod StepLaws
+pub mod PartsLook
+pub mod TypeBehind
+pub mod AtomLaws
+pub mod RoundLaws
+pub mod BinderLaws
+pub mod LeaveLaws

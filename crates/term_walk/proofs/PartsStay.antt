@@ -1,23 +1,23 @@
 -- What stays when a half, entries or nodes are written: states, terms, scopes, and the terms that wait. Assumes nothing.
-use Prim.Native.Nat.{ℕ, zero, suc, _+_, _*_, _≤_, _<_}
+use Prim.Native.Nat.{ℕ, suc, _+_, _*_, _≤_, _<_}
 use mathlib.Core.Path.{_≡_, refl, sym, ap, _∙_, subst}
 use mathlib.Core.List.{List, [], _∷_}
 use native.Mathlib.Omega.{arith}
 use native.Mathlib.Decide.{decLe}
 use lib.ListN.{length, getD}
-use lib.Seq.{sets, length-sets}
+use lib.Seq.{length-sets}
 use Rattle.laws.proofs.Regions.{sets-at, sets-before, sets-outside}
 use Rattle.notation_calculus.specs.Making.{State, Made, mostEntries}
-use Rattle.making_memory.specs.Map.{typesAt, scopeAt, halvesAt, clausesAt, typeCountAt, nodeCountAt, putCountAt, makingSize}
+use Rattle.making_memory.specs.Map.{halvesAt, typeCountAt, nodeCountAt, putCountAt}
 use Rattle.made_types.specs.Held.{HoldsState}
 use Rattle.made_types.proofs.Keeping.{state-kept}
 use Rattle.made_nodes.specs.Held.{TermHeld, MadeOnly, Workable}
 use Rattle.made_nodes.specs.declared.Sub.{Sub}
 use Rattle.scopes.specs.Entries.{OnlyEntries}
 use Rattle.walks.specs.Walked.{TermsWalked}
-use Rattle.walks.proofs.Kept.{terms-walked-none, terms-walked-then, terms-of-types, terms-of-made, types-of-entries}
+use Rattle.walks.proofs.Kept.{terms-walked-none, terms-walked-then, terms-of-types, terms-of-made, types-of-entries, term-on-terms}
 use Rattle.term_walk.specs.declared.term_parts.halves.Half.{Half}
-use Rattle.term_walk.specs.PartsHalves.{mostHalves, halfIn, subOf, withHalf, InHalves, HalvesIn, PartsOnly}
+use Rattle.term_walk.specs.PartsHalves.{mostHalves, halfIn, subOf, withHalf, InHalves, HalvesIn, PartsOnly, CanJoin}
 
 -- ---- a half is put
 
@@ -114,3 +114,17 @@ module _ {A : Type 0} (made : A → Made) (place : A → ℕ) where
     | yes b ↦ halves-small w from xs W (H .2) i b
     | no b ↦ let z : i ≡ length xs = omega arith in subst (λ (k : ℕ). halfIn w (from + k) .ty < 256) (sym z) (omega (arith, H .1 .known, W .few))
   ]
+
+  -- .. put there
+  pub halves-put : (w : List ℕ) (from i : ℕ) (xs : List A) (x : A) (s : Sub) (w′ : List ℕ) → i ≡ from + length xs → InHalves w i → w′ ≡ withHalf w i (record { node = s .node; ty = s .ty; deep = s .deep; place = place x }) → TermHeld w s (made x) → HalvesIn made place w from xs → HalvesIn made place w′ from (x ∷ xs)
+  halves-put w from i xs x s w′ e room is T H =
+      let h : Half = record { node = s .node; ty = s .ty; deep = s .deep; place = place x } in
+      let at : halfIn w′ (from + length xs) ≡ h = ap (λ (k : ℕ). halfIn w′ k) (sym e) ∙ ap (λ (l : List ℕ). halfIn l i) is ∙ half-put w i h room in
+      let walked : TermsWalked 0 0 w w′ = subst (TermsWalked 0 0 w) (sym is) (half-walked w i h room 0 (omega arith)) in
+      halves-more w′ from xs x (ap (λ (q : Half). q .place) at) (subst (λ (q : Half). TermHeld w′ (subOf q) (made x)) (sym at) (term-on-terms 0 0 [] w w′ walked s (made x) T)) (halves-stay w w′ from xs (λ j a b. ap (λ (l : List ℕ). getD l j 0) is ∙ half-below w i h room j (omega arith)) (λ t m U. term-on-terms 0 0 [] w w′ walked t m U) H)
+
+  -- they can be joined to a term
+  pub can-join : (w : List ℕ) (from count : ℕ) (xs : List A) (σ : State) (e : Sub) (m : Made) → length xs ≡ count → from + count ≤ mostHalves → HoldsState w σ → TermHeld w e m → HalvesIn made place w from xs → CanJoin w from count e
+  can-join w from count xs σ e m l few H T K =
+      let W : Workable w = record { room = H .types .room; few = omega (arith, H .types .count, H .types .ok .few) } in
+      record { workable = W; few = few; types = λ i h. halves-small w from xs W K i (omega arith); type = omega (arith, T .known, W .few) }

@@ -11,7 +11,7 @@ use Rattle.notation_calculus.specs.Making.{State, Scope, Made, mostEntries, app
 use Rattle.notation_machine.specs.TermMachine.{Function, none, some, Spine, TermWish, TermLevel, Terming, TermHere, askTerm, termDone, appliedTo, behindAtom, applying}
 use Rattle.making_memory.specs.Map.{nodeCountAt, makingSize}
 use Rattle.made_types.specs.Held.{HoldsState}
-use Rattle.made_nodes.specs.Held.{TermHeld, MadeIn, MadeOnly}
+use Rattle.made_nodes.specs.Held.{TermHeld, MadeIn, MadeOnly, Workable}
 use Rattle.made_nodes.specs.Forms.{AppliedSays}
 use Rattle.made_nodes.specs.declared.Sub.{Sub}
 use Rattle.made_nodes.specs.declared.MadeTerm as code
@@ -26,7 +26,7 @@ use Rattle.term_walk.specs.declared.Step as step
 use Rattle.term_walk.specs.declared.Step.the-variants as step-is
 use Rattle.term_walk.specs.Looks.{wordsAt, Readable}
 use Rattle.term_walk.specs.Holding.{Stepped, FunctionHeld, LeftHeld, entriesOf, halvesFor, WishHeld, ScopeHeld, LevelHeld, LevelsHeld, Here, TermCame, HoldsTerming}
-use Rattle.term_walk.specs.Steps.{wantsStep, doneStep, appliesStep, aroundOf, CanAsk, Asks, StepAnswers, hereOf, BehindSays, HereNow, MadeNodes, MadeSays}
+use Rattle.term_walk.specs.Steps.{nothingSub, wantsStep, doneStep, appliesStep, aroundOf, CanAsk, Asks, CanEnter, StepAnswers, hereOf, BehindSays, HereNow, MadeNodes, MadeSays}
 use Rattle.term_walk.proofs.HoldLaws.{stepped-none, stepped-made, stepped-pushed, wish-stays, scope-stays, levels-stay, here-now, pushed-state, pushed-scope-held, levels-within}
 
 -- ---- by the code
@@ -69,6 +69,14 @@ module _ (text : List ℕ) (X : Text) (most bottom : ℕ) (w : List ℕ) (h : Wa
 
 -- ---- an atom that is there
 
+-- the function so far has a type of the table
+pub left-small : (w : List ℕ) (s : Left) (p : Spine) → Workable w → LeftHeld w s p → ¬ (s .flag ≡ 0) → s .sub .ty < 256
+left-small w s p W l z = by (p .function) (l .function)
+  where
+    by : (f : Function) → FunctionHeld w s f → s .sub .ty < 256
+    by none e = absurd (z e)
+    by (some f) (e, t) = omega (arith, t .known, W .few)
+
 module _ (w : List ℕ) (h : Walk) (s : Left) (x : Sub) (at : ℕ) where
   pub behind-first : s .flag ≡ 0 → (r : step.Step) → r ≡ appliesStep h (s .place) (made.At x) at → BehindSays w h s x at r w
   behind-first z r e = record { stepped = λ a b. stepped-none (h .more) (h .top) (h .waiting) w; says = λ text X most bottom k S K p m q rd g t l. rw e (by text X most bottom k S K p m q rd g t l (p .function) (l .function)) }
@@ -105,6 +113,19 @@ module _ (w : List ℕ) (h : Walk) (s : Left) (x : code.MadeTerm) (at : ℕ) whe
       by text X most bottom k S K p (refused why) c rd g i few l = absurd i
 
 -- ---- a term that is wanted below
+
+pub asks-by : (w : List ℕ) (h : Walk) (l : Level) (frame top waiting at : ℕ) (x : Sub) (w′ : List ℕ) → w′ ≡ pushed w (h .more) l (aroundOf h) → x ≡ nothingSub → Asks w h l frame top waiting at (step-is.Going (record { phase = 0; more = h .more - 1; frame = frame; top = top; waiting = waiting; place = 0; sub = x; at = at })) w′
+asks-by w h l frame top waiting at x w′ m e = record { memory = m; state = ap (λ (y : Sub). step-is.Going (record { phase = 0; more = h .more - 1; frame = frame; top = top; waiting = waiting; place = 0; sub = y; at = at })) e }
+
+-- a level that is there can wait
+pub can-ask : (text w : List ℕ) (h : Walk) → CanEnter text w h → (w₁ : List ℕ) → length w₁ ≡ length w → CanAsk w₁ h
+can-ask text w h C w₁ e =
+    let g = C .here in
+    let W = g .scope .walkable in
+    record { room = omega (arith, W .room); more = omega (arith, g .nested, levels-within text (C .X) (C .most) (C .bottom) w (C .σ) (h .more) (h .top) (h .waiting) (C .K) (g .levels) .0); frame = W .level; top = W .scope .places .most; waiting = omega (arith, g .few, W .state .few); some = omega (arith, C .is) }
+
+pub stepped-asks : (w : List ℕ) (h : Walk) (l : Level) (frame top waiting at : ℕ) (r : step.Step) (w′ : List ℕ) → CanAsk w h → Asks w h l frame top waiting at r w′ → Stepped (h .more) (h .top) (h .waiting) w w′
+stepped-asks w h l frame top waiting at r w′ C A = subst (λ (v : List ℕ). Stepped (h .more) (h .top) (h .waiting) w v) (sym (A .memory)) (stepped-pushed (h .more) (h .top) (h .waiting) w l (aroundOf h) (omega (arith, C .more)) (C .room) (C .top) (C .waiting))
 
 module _ (text : List ℕ) (X : Text) (most bottom : ℕ) (w : List ℕ) (h : Walk) (S : Scope) (σ : State) (K : List TermLevel) (k : ℕ) (e : h .more ≡ suc k) (g : Here text X most bottom w h S σ K) where
   within-most : h .more ≤ most

@@ -1,6 +1,6 @@
 -- Terms that wait in the working memory, four numbers each: elements of a tuple before the comma behind them, and pairs that are taken apart
 -- for a name. Assumes nothing.
-use Prim.Native.Nat.{ℕ, suc, _+_, _*_, _≤_, _<_}
+use Prim.Native.Nat.{ℕ, _+_, _*_, _≤_, _<_}
 use mathlib.Core.Path.{_≡_}
 use mathlib.Core.List.{List, [], _∷_}
 use lib.ListN.{length, getD}

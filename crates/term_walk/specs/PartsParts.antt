@@ -16,7 +16,7 @@ use Rattle.words.specs.Next.{runAt}
 use Rattle.words.specs.Lexed.{from, Lexed}
 use Rattle.making_memory.specs.Map.{nodeCountAt, makingSize}
 use Rattle.made_types.specs.Held.{HoldsState}
-use Rattle.made_nodes.specs.Held.{TermHeld, MadeIn, SmallMade, MadeOnly}
+use Rattle.made_nodes.specs.Held.{TermHeld, MadeIn, MadeOnly}
 use Rattle.made_nodes.specs.Forms.{NamesIn}
 use Rattle.made_nodes.specs.declared.Sub.{Sub}
 use Rattle.made_nodes.specs.declared.MadeTerm as code
@@ -26,7 +26,6 @@ use Rattle.scopes.specs.Entries.{placeIn, OnlyEntries, Places}
 use Rattle.scopes.specs.Frames.{frameIn, HoldsScope}
 use Rattle.scopes.specs.Named.{CanName}
 use Rattle.walks.specs.Walkable.{AllTyped}
-use Rattle.term_walk.specs.declared.term_parts.halves.Half.{Half}
 use Rattle.term_walk.specs.declared.term_parts.apart.ApartEnd as parted
 use Rattle.term_walk.specs.declared.term_parts.apart.ApartEnd.the-variants as apart-end
 use Rattle.term_walk.specs.declared.term_parts.apart.RestEnd as ended
@@ -103,7 +102,6 @@ pub record TakeSays (w : List ℕ) (entry half place other : ℕ) (v : Sub) (w�
 -- the rest of a pair as a variable of its own
 pub record RestSays (w : List ℕ) (place : ℕ) (v : Sub) (r : code.MadeTerm) (w′ : List ℕ) : Type 0 where
   pub only : MadeOnly w w′
-  pub small : SmallMade r
   pub says : (σ : State) (m : Made) → HoldsState w σ → TermHeld w v m → MadeIn w′ r (node place (var 0) (halvesOf (recAt (σ .table) (m .type)) .right) 0 [] σ)
 
 -- the variables after a pair is taken apart for two names

@@ -1,7 +1,7 @@
 -- What the functions of one step answer: in each record, whatever state the memory held, the answer is that of the machine. Assumes nothing.
 use Prim.Native.Nat.{ℕ, suc, _+_, _-_, _≤_, _<_}
 use mathlib.Core.Path.{_≡_}
-use mathlib.Core.Bool.{Bool, false}
+use mathlib.Core.Bool.{Bool, true, false}
 use mathlib.Core.List.{List, []}
 use lib.ListN.{length, getD}
 use Rattle.calculus.specs.Answer.{Answer, good, refused, numbered, _>>=_}
@@ -309,3 +309,8 @@ pub record StepSays (text w : List ℕ) (n : Walk) (r : step.Step) (w′ : List 
   pub says :
       (X : Text) (most bottom : ℕ) (s : Terming) → HoldsTerming text X most bottom w n s → TermGoing s
       → TermsWalked most bottom w w′ × StepAnswers text X most bottom w′ r (termMove X (bodiesIn text w X) s)
+
+-- a term came at the level that the walk began with
+pub record Finished (n : Walk) (more : ℕ) (r : Bool) : Type 0 where
+  pub yes : r ≡ true → (n .phase ≡ 1) × (n .more ≡ more)
+  pub not : r ≡ false → n .phase ≡ 1 → ¬ (n .more ≡ more)

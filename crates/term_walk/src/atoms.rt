@@ -137,13 +137,14 @@ pub fn application_from(text: &[u8], work: &mut [u16], h: Walk) -> Step
     requires { ⌜ CanApplication (now text) (now work) h ⌝ }
     ensures { λ r. ⌜ ApplicationSays (now (text .entry)) (now (work .entry)) h r (now (work .exit)) ⌝ }
 {
+    let sub = h.sub;
     if looks::begins_atom(text, h.at) {
         let s = Left {
             place: h.place,
             flag: 1,
-            sub: h.sub,
+            sub,
         };
         return atom_at(text, work, h, s);
     }
-    crate::done(h, MadeTerm::At(h.sub), h.at)
+    crate::done(h, MadeTerm::At(sub), h.at)
 }

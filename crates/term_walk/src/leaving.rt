@@ -15,7 +15,8 @@ use crate::term_parts::halves::Half;
 use crate::term_parts::joined;
 use walk_levels::Level;
 ghost use mathlib.Core.Path.{_≡_};
-ghost use Prim.Native.Nat.{_+_, _≤_};
+ghost use Prim.Native.Nat.{_+_, _≤_, _<_};
+ghost use lib.Dec.{leb};
 ghost use Rattle.notation_calculus.specs.Making.{mostEntries};
 ghost use Rattle.term_walk.specs.Holding.{leftIn};
 ghost use Rattle.term_walk.specs.Steps.{CanLeave, LeaveSays, CanStep, StepSays};
@@ -112,12 +113,20 @@ fn take_apart(text: &[u8], work: &mut [u16], h: Walk, l: Level, x: Sub) -> Step
     }
 }
 
+// There is room for two entries a name.
+fn room_for_pairs(top: usize, count: usize) -> bool
+    requires { ⌜ (top < 65536) × (count < 65536) ⌝ }
+    ensures { λ r. ⌜ r ≡ leb (top + (count + count)) mostEntries ⌝ }
+{
+    top + (count + count) <= 1024
+}
+
 fn leave_values(text: &[u8], work: &mut [u16], h: Walk, l: Level, x: Sub) -> Step
     requires { ⌜ (CanLeave (now text) (now work) h l x) × (l .form ≡ 4) ⌝ }
     ensures { λ r. ⌜ LeaveSays (now (text .entry)) (now (work .entry)) h l x r (now (work .exit)) ⌝ }
 {
     let count = wide(l.count);
-    if entries::has_room(h.top, count + count) {
+    if room_for_pairs(h.top, count) {
         return take_apart(text, work, h, l, x);
     }
     Step::Refused(34, wide(l.place))
@@ -181,27 +190,35 @@ fn leave_let(text: &[u8], work: &mut [u16], h: Walk, l: Level, x: Sub) -> Step
     requires { ⌜ (CanLeave (now text) (now work) h l x) × ((3 ≤ l .form) × (l .form ≤ 6)) ⌝ }
     ensures { λ r. ⌜ LeaveSays (now (text .entry)) (now (work .entry)) h l x r (now (work .exit)) ⌝ }
 {
-    let form = l.form;
-    match form {
-        crate::VALUE_OF_NAME => leave_value(text, work, h, l, x),
-        crate::VALUE_OF_NAMES => leave_values(text, work, h, l, x),
-        crate::UNDER_NAME => leave_name(text, work, h, l, x),
-        _ => leave_names(text, work, h, l, x),
+    if l.form == crate::VALUE_OF_NAME {
+        return leave_value(text, work, h, l, x);
     }
+    if l.form == crate::VALUE_OF_NAMES {
+        return leave_values(text, work, h, l, x);
+    }
+    if l.form == crate::UNDER_NAME {
+        return leave_name(text, work, h, l, x);
+    }
+    leave_names(text, work, h, l, x)
 }
 
 fn leave_by(text: &[u8], work: &mut [u16], h: Walk, l: Level, x: Sub) -> Step
     requires { ⌜ CanLeave (now text) (now work) h l x ⌝ }
     ensures { λ r. ⌜ LeaveSays (now (text .entry)) (now (work .entry)) h l x r (now (work .exit)) ⌝ }
 {
-    let form = l.form;
-    match form {
-        crate::OF_FUNCTION => leave_function(text, work, h, l, x),
-        crate::OF_FIX => leave_fix(text, work, h, l, x),
-        crate::ELEMENT => leave_element(text, work, h, l, x),
-        crate::OF_DEFINITION => leave_definition(text, work, h, l, x),
-        _ => leave_let(text, work, h, l, x),
+    if l.form == crate::OF_FUNCTION {
+        return leave_function(text, work, h, l, x);
     }
+    if l.form == crate::OF_FIX {
+        return leave_fix(text, work, h, l, x);
+    }
+    if l.form == crate::ELEMENT {
+        return leave_element(text, work, h, l, x);
+    }
+    if l.form == crate::OF_DEFINITION {
+        return leave_definition(text, work, h, l, x);
+    }
+    leave_let(text, work, h, l, x)
 }
 
 // The term came that the nearest level waited for.
@@ -209,6 +226,7 @@ pub fn leave(text: &[u8], work: &mut [u16], n: Walk) -> Step
     requires { ⌜ (CanStep (now text) (now work) n) × (n .phase ≡ 1) ⌝ }
     ensures { λ r. ⌜ StepSays (now (text .entry)) (now (work .entry)) n r (now (work .exit)) ⌝ }
 {
+    let sub = n.sub;
     let m = n.more + 1;
     let l = walk_levels::level_at(work, m as u16);
     let s = walk_levels::scope_at(work, m as u16);
@@ -219,8 +237,8 @@ pub fn leave(text: &[u8], work: &mut [u16], n: Walk) -> Step
         top: wide(s.top),
         waiting: wide(s.waiting),
         place: 0,
-        sub: n.sub,
+        sub,
         at: n.at,
     };
-    leave_by(text, work, h, l, n.sub)
+    leave_by(text, work, h, l, sub)
 }

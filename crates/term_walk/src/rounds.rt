@@ -9,7 +9,7 @@ use crate::Walk;
 use walks::TermEnd;
 ghost use mathlib.Core.Path.{_≡_};
 ghost use Rattle.walks.specs.Says.{CanTerm, TermSays};
-ghost use Rattle.term_walk.specs.Steps.{CanStep, StepSays};
+ghost use Rattle.term_walk.specs.Steps.{CanStep, StepSays, Finished};
 
 const FUN: u8 = 1;
 
@@ -57,8 +57,18 @@ fn step(text: &[u8], work: &mut [u16], n: Walk) -> Step
     atoms::application_from(text, work, n)
 }
 
+// A term came at the level that the walk began with.
+fn finished(n: Walk, more: usize) -> bool
+    ensures { λ r. ⌜ Finished n more r ⌝ }
+{
+    if n.phase == crate::CAME {
+        return n.more == more;
+    }
+    false
+}
+
 // More steps than any walk takes: `term-start`, for a text of 65,535 bytes.
-const STEPS: u64 = 6442549246;
+const STEPS: u64 = 6442549247;
 
 // The term at an offset, with so many levels, in a scope. The counter of steps only shows that the loop ends.
 pub fn term_from(
@@ -84,15 +94,16 @@ pub fn term_from(
     };
     let mut left = STEPS;
     while 0 < left {
-        if n.phase == crate::CAME {
-            if n.more == more {
-                return TermEnd::At(n.sub);
-            }
+        if finished(n, more) {
+            let sub = n.sub;
+            return TermEnd::At(sub);
         }
         let r = step(text, work, n);
         match r {
             Step::Refused(number, place) => return TermEnd::Refused(number, place),
-            Step::Going(next) => n = next,
+            Step::Going(next) => {
+                n = next;
+            }
         }
         left = left - 1;
     }

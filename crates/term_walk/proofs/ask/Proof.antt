@@ -1,3 +1,4 @@
+use Rattle.term_walk.proofs.StepLaws.{asks-by}
 use borrow.Author.Needs.{needs}
 use Rattle.term_walk.proofs.ask.Statement.{statement}
 use Rattle.term_walk.proofs.ask.Tie as tie
@@ -40,7 +41,7 @@ same-length c = search needs
 
 -- src/lib.rt:101:1
 returns : tie.Need-returns
-returns c = ?
+returns c = asks-by (c .before .before .before .before .before .before .before .before .before .before .before .args .work .now) (c .before .before .before .before .before .before .before .before .before .before .before .args .h) (c .before .before .before .before .before .before .before .before .before .before .before .args .l) (c .before .before .before .before .before .before .before .before .before .before .before .args .frame) (c .before .before .before .before .before .before .before .before .before .before .before .args .top) (c .before .before .before .before .before .before .before .before .before .before .before .args .waiting) (c .before .before .before .before .before .before .before .before .before .before .before .args .at) _ _ (c .before .before .before .before .push .ensures) (c .nothing .ensures)
 
 pub ask-spec : {M : Type 1} → statement M
 ask-spec =
