@@ -199,7 +199,7 @@ later-no b k found e = sym (ap (λ (x : Bool). cond x (suc k) found) e)
 module _ (text work : List ℕ) (cs : List Clause) (H : HoldsRows text work cs) where
   -- clauses from number k on, up to those that are known
   module _ (under : ℕ) (q : Asked) (ts ns : List ℕ) (at : ℕ) (types : length ts ≡ q .types) (numbers : ns ≡ valuesIn work (q .first) (q .numbers)) where
-    meant-row : (k : ℕ) → k < length cs → meant (clauseOf cs k) (q .sort) (runAt text (q .name)) (length ts) ns ≡ rowMeant text work q (rowIn work k)
+    pub meant-row : (k : ℕ) → k < length cs → meant (clauseOf cs k) (q .sort) (runAt text (q .name)) (length ts) ns ≡ rowMeant text work q (rowIn work k)
     unfolding rowMeant
     meant-row k h =
         let R = H .rows k h in

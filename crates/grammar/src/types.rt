@@ -21,7 +21,7 @@ const ROUND: u8 = 11;
 const END_ROUND: u8 = 12;
 
 // [ type, type ], or nothing.
-fn arguments_end(text: &[u8], at: usize, more: usize) -> End
+pub fn arguments_end(text: &[u8], at: usize, more: usize) -> End
     requires { ⌜ Lexed (now text) at ⌝ }
     ensures { λ r. ⌜ Ends (now (text .entry)) (length (from (now (text .entry)) at) + 1) (groupEnd square endSquare (typeStep more false) (from (now (text .entry)) at)) r ⌝ }
 {

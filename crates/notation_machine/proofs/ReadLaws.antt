@@ -20,6 +20,14 @@ on-expect Q s ws f h = by (is s ws)
     by true = h
     by false = tt
 
+-- .. and what is made of the words behind it may know that
+pub on-expected : {B : Type 0} (Q : B → Type 0) (s : Sign) (ws : List Word) (f : List Word → Answer B) → (is s ws ≡ true → On Q (f (behind ws))) → On Q (expect s ws >>= f)
+on-expected Q s ws f h = by (is s ws) h
+  where
+    by : (b : Bool) → (b ≡ true → On Q (f (behind ws))) → On Q ((need b 32 (place ws) >>= λ _. good (behind ws)) >>= f)
+    by true h = h refl
+    by false h = tt
+
 pub on-pair : {A : Type 0} (P Q : A → Type 0) (m : Answer A) → On P m → On Q m → On (λ (a : A). P a × Q a) m
 on-pair P Q (good a) h k = (h, k)
 on-pair P Q (refused why) h k = tt

@@ -12,7 +12,7 @@ use Rattle.calculus.specs.Types.{TyRec, size, tyOf, tysFrom}
 use Rattle.calculus.specs.Read.{formed, repeated}
 use Rattle.calculus.specs.Record.{All}
 use Rattle.laws.proofs.Tests.{on-cond}
-use Rattle.notation_calculus.specs.Words.{Name, sameName, Sign, signCode, arrow, linear, times, round, comma, square, curly, Token, sign, part, number, name, Word}
+use Rattle.notation_calculus.specs.Words.{Name, sameName, Sign, signCode, arrow, linear, times, round, endRound, comma, square, endSquare, curly, Token, sign, part, number, name, Word}
 use Rattle.notation_calculus.specs.Trees.{Bound, Number, Form, product, Clause, Text}
 use Rattle.notation_calculus.specs.Trees as Trees
 use Rattle.notation_calculus.specs.Grammar.{Got, peek, behind, place, isToken, is, numbersAt}
@@ -155,8 +155,8 @@ module _ (X : Text) (bodies : List (List Word)) (most : ℕ) (short : AllShort m
   entered-falls h σ (name n) ws e = fall-by (here h (σ .puts) (behind ws)) (1 + here h (σ .puts) ws) (typeEntered X bodies h σ (name n) ws) (omega (arith, behind-less ws)) (named-falls h σ (record { name = n; place = place ws }) (behind ws))
 
   left-falls : (h : TypeHere) (w : Wish) (x : Found) (ws : List Word) → On (Falls (1 + wishSteps w + here h (x .state .puts) ws)) (typeLeft X bodies h w x ws)
-  left-falls h enclosed x ws = fall-by (here h (x .state .puts) (behind ws)) (1 + 0 + here h (x .state .puts) ws) (good (sideFrom h x (behind ws))) (omega (arith, behind-less ws)) (side-falls h x (behind ws))
-  left-falls h (argument n given) x ws = fall-by (here h (x .state .puts) ws) (1 + 0 + here h (x .state .puts) ws) (typeLeft X bodies h (argument n given) x ws) (omega arith) (on-tests (Most (here h (x .state .puts) ws)) (is comma ws) (askArgument h (x .state) n (x .type ∷ given) (behind ws)) (typePutIn X bodies h (x .state) n (inOrder (x .type ∷ given) []) (behind ws)) (λ t. ask-argument-falls comma h (x .state) n (x .type ∷ given) ws refl t) λ _. most-less (here h (x .state .puts) (behind ws)) (here h (x .state .puts) ws) (typePutIn X bodies h (x .state) n (inOrder (x .type ∷ given) []) (behind ws)) (omega (arith, behind-less ws)) (put-falls h (x .state) n (inOrder (x .type ∷ given) []) (behind ws)))
+  left-falls h enclosed x ws = on-test (Falls (1 + 0 + here h (x .state .puts) ws)) (is endRound ws) 32 (place ws) _ λ _. fall-by (here h (x .state .puts) (behind ws)) (1 + 0 + here h (x .state .puts) ws) (good (sideFrom h x (behind ws))) (omega (arith, behind-less ws)) (side-falls h x (behind ws))
+  left-falls h (argument n given) x ws = fall-by (here h (x .state .puts) ws) (1 + 0 + here h (x .state .puts) ws) (typeLeft X bodies h (argument n given) x ws) (omega arith) (on-tests (Most (here h (x .state .puts) ws)) (is comma ws) (askArgument h (x .state) n (x .type ∷ given) (behind ws)) (need (is endSquare ws) 32 (place ws) >>= λ _. typePutIn X bodies h (x .state) n (inOrder (x .type ∷ given) []) (behind ws)) (λ t. ask-argument-falls comma h (x .state) n (x .type ∷ given) ws refl t) λ _. on-test (Most (here h (x .state .puts) ws)) (is endSquare ws) 32 (place ws) _ λ _. most-less (here h (x .state .puts) (behind ws)) (here h (x .state .puts) ws) (typePutIn X bodies h (x .state) n (inOrder (x .type ∷ given) []) (behind ws)) (omega (arith, behind-less ws)) (put-falls h (x .state) n (inOrder (x .type ∷ given) []) (behind ws)))
   left-falls h (body us) x ws = fall-by (here h (x .state .puts) us) (1 + 2 * length us + here h (x .state .puts) ws) (good (sideFrom h x us)) (omega arith) (side-falls h x us)
   left-falls h (other f at t) x ws = on-step (λ (y : Found). y .state .puts ≡ x .state .puts) (Falls (1 + 0 + here h (x .state .puts) ws)) (listed (x .state) (formOf f t (x .type)) at) _ (listed-puts (x .state) (formOf f t (x .type)) at) λ y e. let q : here h (y .state .puts) ws ≡ here h (x .state .puts) ws = ap (λ (p : ℕ). here h p ws) e in omega (arith, behind-side-falls f h y ws)
 

@@ -15,7 +15,7 @@ use Rattle.notation_calculus.specs.Making.{State, Found, Entry, Scope, lookup, 
 use Rattle.notation_theorems.proofs.Answering.{On, on-step, on-any, on-test, on-either, on-map, on-is, on-good}
 use Rattle.notation_machine.specs.Walked.{walked, Runs}
 use Rattle.notation_machine.specs.Bodies.{wordsFor, AllRead}
-use Rattle.notation_machine.proofs.ReadLaws.{on-expect, on-pair, Some, list-some, some-arguments, Numbers, numbers-read, lookup-both}
+use Rattle.notation_machine.proofs.ReadLaws.{on-expected, on-pair, Some, list-some, some-arguments, Numbers, numbers-read, lookup-both}
 use Rattle.notation_machine.proofs.Bodies.{BodyFound, body-found, read-take}
 use Rattle.notation_machine.specs.TypeMachine.{Wish, enclosed, argument, body, other, TypeLevel, Typing, wanted, came, TypeHere, askType, typeDone, askSide, arrowFrom, sideFrom, behindSide, inOrder, askArgument, typePutIn, typeEntered, typeLeft, typeMove}
 use Rattle.notation_machine.proofs.Running.{Follows, follows-now, follows-step, follows-then, follows-to, follows-both, follows-same, follows-all}
@@ -83,7 +83,7 @@ module _ (X : Text) (bodies : List (List Word)) (reads : AllRead bodies (X .clau
 
     -- the first argument of a list is wanted: all are worked out, and then the definition is put in
     abbrev ListGoes : List Word → Got (List TypeTree) → Type 0
-    ListGoes vs g = (given : List ℕ) (x : Bound) (tight : Bool) (S : Scope) (K : List TypeLevel) (σ : State) → Follows move (askArgument (at tight S K) σ x given vs) (foundAll go S (x .place) (length given) σ (typesOf (g .value))) (λ xs. typePutIn X bodies (at tight S K) (xs .state) x (inOrder given (xs .types)) (behind (g .rest)))
+    ListGoes vs g = (given : List ℕ) (x : Bound) (tight : Bool) (S : Scope) (K : List TypeLevel) (σ : State) → Follows move (askArgument (at tight S K) σ x given vs) (foundAll go S (x .place) (length given) σ (typesOf (g .value))) (λ xs. need (is endSquare (g .rest)) 32 (place (g .rest)) >>= λ _. typePutIn X bodies (at tight S K) (xs .state) x (inOrder given (xs .types)) (behind (g .rest)))
 
     list-goes : (m rounds : ℕ) (vs : List Word) → On (ListGoes vs) (listFrom (λ us. typeAt m false us) rounds vs)
     list-goes m zero vs = tt
@@ -148,16 +148,16 @@ module _ (X : Text) (bodies : List (List Word)) (reads : AllRead bodies (X .clau
 
         by : (b : Bool) → is square (behind ws) ≡ b → On (NameGoes n ws) (cond b (read >>= λ ts. expect endSquare (ts .rest) >>= λ after. got (typesOf (ts .value)) after) (got noTypes us))
         by true e = on-step (λ (g : Got (List TypeTree)). ListGoes (behind us) g × Some (g .value)) (NameGoes n ws) read (λ ts. expect endSquare (ts .rest) >>= λ after. got (typesOf (ts .value)) after) (on-pair (ListGoes (behind us)) (λ (g : Got (List TypeTree)). Some (g .value)) read (list-goes m (length us) (behind us)) (list-some (λ vs. typeAt m false vs) (length us) (behind us))) λ ts (L, some).
-            on-expect (NameGoes n ws) endSquare (ts .rest) (λ after. got (typesOf (ts .value)) after) λ ks f tight S K σ.
-            rw (e, some-arguments (ts .value) some (ks .value)) (follows-then move (foundAll go S (place ws) 0 σ (typesOf (ts .value))) (λ xs. numbersIn S (place ws) (length (xs .types)) (ks .value) >>= λ ns. clauseFor (entries S) (X .clauses) (take (S .seen) (X .clauses)) 0 true n (xs .types) ns (place ws) >>= λ p. onePut (xs .state) (p .cost) (place ws) >>= λ σ₁. bodyType go (p .scope) σ₁ (p .body)) (L [] x tight S K σ) λ xs. put-goes (behind (ts .rest)) ks f x tight S K (xs .state) (xs .types))
+            on-expected (NameGoes n ws) endSquare (ts .rest) (λ after. got (typesOf (ts .value)) after) λ q ks f tight S K σ.
+            rw (e, some-arguments (ts .value) some (ks .value)) (follows-then move (foundAll go S (place ws) 0 σ (typesOf (ts .value))) (λ xs. numbersIn S (place ws) (length (xs .types)) (ks .value) >>= λ ns. clauseFor (entries S) (X .clauses) (take (S .seen) (X .clauses)) 0 true n (xs .types) ns (place ws) >>= λ p. onePut (xs .state) (p .cost) (place ws) >>= λ σ₁. bodyType go (p .scope) σ₁ (p .body)) (L [] x tight S K σ) λ xs. rw q (put-goes (behind (ts .rest)) ks f x tight S K (xs .state) (xs .types)))
         by false e = λ ks f tight S K σ. rw e (by-curly (is curly us) ks tight S K σ (on-good (Numbers (is curly us) us) (numbersAt us) ks (numbers-read us) f) (put-goes us ks f x tight S K σ []))
 
     atom-goes : (m : ℕ) (k : Token) (ws : List Word) → On (AtomGoes k ws) (typeAtomOf (λ us. typeAt m false us) k ws)
     atom-goes m (sign o) ws =
         on-test (AtomGoes (sign o) ws) (isToken round (sign o)) 32 (place ws) _ λ r.
         on-step (TypeGoes more false (behind ws)) (AtomGoes (sign o) ws) (typeAt m false (behind ws)) (λ t. expect endRound (t .rest) >>= λ after. got (inside (t .value)) after) (below m false (behind ws)) λ t G.
-        on-expect (AtomGoes (sign o) ws) endRound (t .rest) (λ after. got (inside (t .value)) after) λ tight S K σ.
-        rw (T-is (isToken round (sign o)) r) (follows-to move (go S σ (t .value)) (G S σ (record { wish = enclosed; tight = tight; scope = S } ∷ K)) λ y. follows-step move (follows-now move refl))
+        on-expected (AtomGoes (sign o) ws) endRound (t .rest) (λ after. got (inside (t .value)) after) λ q tight S K σ.
+        rw (T-is (isToken round (sign o)) r) (follows-to move (go S σ (t .value)) (G S σ (record { wish = enclosed; tight = tight; scope = S } ∷ K)) λ y. follows-step move (rw q (follows-now move refl)))
     atom-goes m (part p) ws = tt
     atom-goes m (number k) ws = on-any (AtomGoes (number k) ws) (need (eqb k 1) 32 (place ws)) _ λ _ tight S K σ. follows-now move refl
     atom-goes m (name n) ws =

@@ -5,7 +5,7 @@ use mathlib.Core.Bool.{Bool, true, false, not, _||_, cond}
 use mathlib.Core.List.{List, [], _∷_}
 use lib.ListN.{length, take}
 use Rattle.calculus.specs.Answer.{Answer, good, _>>=_, refuse, need}
-use Rattle.notation_calculus.specs.Words.{Sign, arrow, linear, times, round, comma, square, curly, Token, sign, part, number, name, Word}
+use Rattle.notation_calculus.specs.Words.{Sign, arrow, linear, times, round, endRound, comma, square, endSquare, curly, Token, sign, part, number, name, Word}
 use Rattle.notation_calculus.specs.Trees.{Bound, Form, product, Text}
 use Rattle.notation_calculus.specs.Trees as Trees
 use Rattle.notation_calculus.specs.Grammar.{peek, behind, place, isToken, is, numbersAt}
@@ -86,9 +86,11 @@ module _ (X : Text) (bodies : List (List Word)) where
     σ₁ ← onePut σ (p .cost) (x .place)
     good (askType h (body (ks .rest)) false (p .scope) σ₁ (wordsFor bodies (take (h .scope .seen) (X .clauses)) true (x .name) (length ts) ns))
 
-  -- behind an argument: a comma, or the closing bracket
+  -- behind an argument: a comma, or the closing bracket; the grammar has seen that it stands there, and 32 is never met
   abbrev pub behindArgument : TypeHere → State → Bound → List ℕ → List Word → Answer Typing
-  behindArgument h σ x given ws = cond (is comma ws) (askArgument h σ x given (behind ws)) (typePutIn h σ x (inOrder given []) (behind ws))
+  behindArgument h σ x given ws = cond (is comma ws) (askArgument h σ x given (behind ws)) (do
+    _ ← need (is endSquare ws) 32 (place ws)
+    typePutIn h σ x (inOrder given []) (behind ws))
 
   -- behind a name: a parameter of the definition, if no arguments follow; or a definition
   abbrev pub typeNamedAt : TypeHere → State → Bound → List Word → Answer Typing
@@ -107,9 +109,11 @@ module _ (X : Text) (bodies : List (List Word)) where
   typeEntered h σ (number k) ws = good (sideFrom h (record { type = 0; state = σ }) (behind ws))
   typeEntered h σ (name n) ws = typeNamedAt h σ (record { name = n; place = place ws }) (behind ws)
 
-  -- the type came that this level waited for
+  -- the type came that this level waited for; behind one in parentheses the closing one stands
   abbrev pub typeLeft : TypeHere → Wish → Found → List Word → Answer Typing
-  typeLeft h enclosed x ws = good (sideFrom h x (behind ws))
+  typeLeft h enclosed x ws = do
+    _ ← need (is endRound ws) 32 (place ws)
+    good (sideFrom h x (behind ws))
   typeLeft h (argument n given) x ws = behindArgument h (x .state) n (x .type ∷ given) ws
   typeLeft h (body us) x ws = good (sideFrom h x us)
   typeLeft h (other f at t) x ws = do

@@ -42,7 +42,7 @@ upto-small text work sort at (suc n) k found h = omega (arith, upto-small text w
     by true = omega arith
     by false = omega arith
 
-seen-small : (text work : List ℕ) (k : ℕ) → k < getD work clauseCountAt 0 → rowSeen text work k ≤ getD work clauseCountAt 0
+pub seen-small : (text work : List ℕ) (k : ℕ) → k < getD work clauseCountAt 0 → rowSeen text work k ≤ getD work clauseCountAt 0
 unfolding rowSeen
 seen-small text work k h = by (eqb (rowIn work k .numbers) 0)
   where

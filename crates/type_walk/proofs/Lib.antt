@@ -1,0 +1,8 @@
+pub mod HoldLaws
+pub mod AskLaws
+pub mod MoveLaws
+pub mod NameLaws
+pub mod StepLaws
+pub mod ComeLaws
+pub mod LoopLaws
+pub mod ManyLaws

@@ -1,0 +1,4 @@
+pub mod Holding
+pub mod Moves
+pub mod Loop
+pub mod Many
