@@ -163,6 +163,7 @@ module _ (text w : List ℕ) (k frame top : ℕ) (C : CanOpen text w k frame top
           pub opened : Opened text w k frame top w₃
           opened = record {
             scope = scope-now;
+            variables = ap (λ (g : Frame). g .variables) frame-is ∙ omega (arith, types-is, numbers-is);
             same = ap length stored ∙ length-sets w₂ (framesAt + 4 * frame) frameNumbers ∙ F .only .same ∙ E .only .same;
             below = λ j h. low j (omega (arith, C .few)) ∙ F .only .below j (omega arith) ∙ E .only .below j h;
             between = λ j h g. low j g ∙ F .only .above j (omega (arith, types-is, numbers-is, C .few)) ∙ E .only .above j (omega (arith, types-is, numbers-is, C .few));

@@ -9,7 +9,7 @@ use Rattle.making_memory.specs.Map.{scopeAt, halvesAt, framesAt}
 use Rattle.clauses.specs.Rows.{rowIn, clauseOf, HoldsRows}
 use Rattle.clauses.specs.Meant.{valuesIn}
 use Rattle.scopes.specs.Entries.{Places}
-use Rattle.scopes.specs.Frames.{HoldsScope}
+use Rattle.scopes.specs.Frames.{frameIn, HoldsScope}
 
 -- where a clause's numbers begin, and its variables, over so many entries
 abbrev pub numbersOver : List ℕ → ℕ → ℕ → ℕ
@@ -32,6 +32,7 @@ pub record CanOpen (text w : List ℕ) (k frame top : ℕ) : Type 0 where
 -- written
 pub record Opened (text w : List ℕ) (k frame top : ℕ) (w′ : List ℕ) : Type 0 where
   pub scope : (cs : List Clause) → HoldsRows text w cs → k < length cs → HoldsScope text w′ frame (variablesOver w k top) (putOf top cs (clauseOf cs k) k (valuesIn w top (rowIn w k .types)) (valuesIn w (numbersOver w k top) (rowIn w k .numbers)) .scope)
+  pub variables : frameIn w′ frame .variables ≡ variablesOver w k top
   pub same : length w′ ≡ length w
   pub below : (j : ℕ) → j < scopeAt + 2 * top → getD w′ j 0 ≡ getD w j 0
   pub between : (j : ℕ) → halvesAt ≤ j → j < framesAt + 4 * frame → getD w′ j 0 ≡ getD w j 0
