@@ -22,7 +22,7 @@ use Rattle.clauses.specs.Texts.{HoldsClauses}
 use Rattle.clauses.specs.Meant.{valuesIn}
 use Rattle.clauses.proofs.TableLaws.{row-same}
 use Rattle.clauses.proofs.MeantLaws.{seen-found}
-use Rattle.scopes.specs.Frames.{HoldsScope}
+use Rattle.scopes.specs.Frames.{frameIn, HoldsScope}
 use Rattle.scopes.specs.Opened.{numbersOver, variablesOver, CanOpen, Opened}
 use Rattle.scopes.specs.Puts.{rowCost, PutCounted}
 use Rattle.scopes.proofs.KeepLaws.{rows-kept}
@@ -192,6 +192,9 @@ module _ (text w : List ℕ) (k seen place top into : ℕ) where
                         types = types-typed (length (σ .table)) (clauseOf cs k .types) (valuesIn w top (rowIn w k .types)) (C .typed h);
                         variables = tt;
                       };
+                      variables =
+                          let v : frameIn w₂ into .variables ≡ top + c .types + c .numbers = opened .variables ∙ ap (λ (r : Row). top + r .types + r .numbers) row-on ∙ sym (ap (λ (r : Row). top + r .types + r .numbers) is) in
+                          omega (arith, v, scope-by cs (HC .rows) l .entries);
                       body = record { is = C .body h ∙ ap (λ (r : Row). from text (r .body)) (sym is); lexed = subst (λ (r : Row). Lexed text (r .body)) (sym is) (O .holds .rows k (O .known) .body-lexed) };
                     });
               }

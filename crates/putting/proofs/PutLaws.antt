@@ -41,7 +41,7 @@ module _ (text w : List ℕ) (X : Text) (into end : ℕ) (us : List Word) (rest 
   puttingBy p t = (need t 34 at >>= λ _. good (record { table = σ .table; nodes = σ .nodes; puts = σ .puts + p .cost })) >>= λ σ₁. good (record { scope = p .scope; state = σ₁; body = words; rest = us })
 
   ended-by : (b : body.BodyEnd) (p : Put) (t : Bool) → BodyAnswers text w X into b ((need t 34 at >>= λ _. good (record { table = σ .table; nodes = σ .nodes; puts = σ .puts + p .cost })) >>= λ σ₁. good (record { scope = p .scope; state = σ₁; body = words })) → PutAnswers text w X into (endedAt b end) (puttingBy p t)
-  ended-by (body-end.At start top) p true h = record { walkable = h .walkable; body = h .body; rest = rest }
+  ended-by (body-end.At start top) p true h = record { walkable = h .walkable; variables = h .variables; body = h .body; rest = rest }
   ended-by (body-end.At start top) p false h = absurd h
   ended-by (body-end.Refused number place) p true h = absurd h
   ended-by (body-end.Refused number place) p false h = h

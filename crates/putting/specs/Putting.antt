@@ -20,7 +20,7 @@ use Rattle.clauses.specs.Texts.{HoldsClauses}
 use Rattle.clauses.specs.declared.meant.Asked.{Asked}
 use Rattle.clauses.specs.Meant.{valuesIn}
 use Rattle.scopes.specs.Entries.{OnlyEntries}
-use Rattle.scopes.specs.Frames.{HoldsScope}
+use Rattle.scopes.specs.Frames.{frameIn, HoldsScope}
 use Rattle.scopes.specs.Opened.{numbersOver, CanOpen}
 use Rattle.walks.specs.declared.PutEnd as put
 use Rattle.walks.specs.declared.PutEnd.the-variants as put-end
@@ -67,6 +67,7 @@ pub record BodyThere : Type 0 where
 -- its scope is held by a frame, over so many entries
 pub record BodyCame (text w : List ℕ) (X : Text) (into start top : ℕ) (b : BodyThere) : Type 0 where
   pub walkable : Walkable text w into top X (b .scope) (b .state)
+  pub variables : frameIn w into .variables ≡ b .scope .under
   pub body : Offset text start (b .body)
 
 abbrev pub BodyAnswers : List ℕ → List ℕ → Text → ℕ → body.BodyEnd → Answer BodyThere → Type 0

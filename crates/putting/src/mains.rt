@@ -12,7 +12,7 @@ ghost use Rattle.clauses.specs.Follows.{RowsThere};
 ghost use Rattle.putting.specs.Main.{rowMain, firstMain};
 
 // The name at an offset is `main`.
-fn named_main(text: &[u8], at: usize) -> bool
+pub fn named_main(text: &[u8], at: usize) -> bool
     requires { ⌜ at ≤ length (now text) ⌝ }
     ensures { λ r. ⌜ r ≡ sameName (runAt (now (text .entry)) at) mainName ⌝ }
 {
