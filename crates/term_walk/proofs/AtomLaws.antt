@@ -49,14 +49,14 @@ use Rattle.term_walk.specs.declared.Walk.{Walk}
 use Rattle.term_walk.specs.declared.Left.{Left}
 use Rattle.term_walk.specs.declared.Step as step
 use Rattle.term_walk.specs.declared.Step.the-variants as step-is
-use Rattle.term_walk.specs.declared.term_parts.variables.Look as looked
-use Rattle.term_walk.specs.declared.term_parts.variables.Look.the-variants as look
-use Rattle.term_walk.specs.PartsNames.{boundAt}
-use Rattle.term_walk.specs.PartsParts.{Looked, here, nowhere, lookFor, LookSays}
+use Rattle.term_parts.specs.declared.variables.Look as looked
+use Rattle.term_parts.specs.declared.variables.Look.the-variants as look
+use Rattle.term_parts.specs.Names.{boundAt}
+use Rattle.term_parts.specs.Parts.{Looked, here, nowhere, lookFor, LookSays}
 use Rattle.term_walk.specs.Looks.{wordsAt, Readable, Looks}
 use Rattle.term_walk.specs.Holding.{Stepped, LeftHeld, WishHeld, ScopeHeld, Here, TermCame}
 use Rattle.term_walk.specs.Steps.{doneStep, partLevel, CanAsk, Asks, CanEnter, CanAtom, CanApplyMade, StepAnswers, hereOf, bodiesIn, AtomEntry, AtomSays, TypesWait, clauseEntry, putEntry, plainEntry, namedEntry, atomEntry, MadeNodes, MadeSays, ApplicationSays}
-use Rattle.term_walk.proofs.PartsLook.{looked-here, looked-nowhere, looked-typed}
+use Rattle.term_parts.proofs.LookFor.{looked-here, looked-nowhere, looked-typed}
 use Rattle.term_walk.proofs.LookLaws.{words-lexed}
 use Rattle.term_walk.proofs.HoldLaws.{stepped-none, stepped-then, stepped-types, stepped-made, stepped-pushed, left-stays, here-stays, here-now, levels-within}
 use Rattle.term_walk.proofs.StepLaws.{done-says, stepped-asks, asked}

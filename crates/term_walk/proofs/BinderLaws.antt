@@ -31,14 +31,14 @@ use Rattle.walks.specs.declared.TypeEnd.the-variants as type-end
 use Rattle.term_walk.specs.declared.Walk.{Walk}
 use Rattle.term_walk.specs.declared.Step as step
 use Rattle.term_walk.specs.declared.Step.the-variants as step-is
-use Rattle.term_walk.specs.declared.term_parts.names.NameEnd.{NameEnd}
-use Rattle.term_walk.specs.declared.term_parts.names.NamesEnd.{NamesEnd}
-use Rattle.term_walk.specs.PartsNames.{boundAt, namesBy, spaced, spacedNames, listedNames, NamesStand, NameSays, NamesSay, SpacedSay, ListedSay}
-use Rattle.term_walk.specs.PartsParts.{NameBound, NamesBound}
+use Rattle.term_parts.specs.declared.names.NameEnd.{NameEnd}
+use Rattle.term_parts.specs.declared.names.NamesEnd.{NamesEnd}
+use Rattle.term_parts.specs.Names.{boundAt, namesBy, spaced, spacedNames, listedNames, NamesStand, NameSays, NamesSay, SpacedSay, ListedSay}
+use Rattle.term_parts.specs.Parts.{NameBound, NamesBound}
 use Rattle.term_walk.specs.Looks.{wordsAt, Readable, Looks}
 use Rattle.term_walk.specs.Holding.{Stepped, entriesOf, halvesFor, WishHeld, ScopeHeld, Here}
 use Rattle.term_walk.specs.Steps.{CanAsk, Asks, StepAnswers, hereOf, bodiesIn, Entry, CanEnter, EnterSays, CanBound, CanNames, BehindType, boundEntry, typedEntry, functionEntry, fixBoundEntry, fixTypedEntry, fixEntry, valueEntry, valuesEntry, namesEntry, letEntry}
-use Rattle.term_walk.proofs.PartsStay.{entries-state}
+use Rattle.term_parts.proofs.Stay.{entries-state}
 use Rattle.term_walk.proofs.LookLaws.{words-lexed}
 use Rattle.term_walk.proofs.HoldLaws.{stepped-none, stepped-then, stepped-types, stepped-entries, here-stays}
 use Rattle.term_walk.proofs.StepLaws.{stepped-asks, asked}

@@ -24,8 +24,8 @@ use Rattle.walks.specs.Walked.{TypesWalked, TermsWalked}
 use Rattle.walks.proofs.Kept.{terms-walked-none, terms-walked-then, terms-of-types, terms-of-made, types-of-entries, types-of-pushed, clauses-on-terms, frame-on-terms, walkable-on-terms, term-on-terms, scope-same}
 use Rattle.term_walk.specs.declared.Walk.{Walk}
 use Rattle.term_walk.specs.declared.Left.{Left}
-use Rattle.term_walk.specs.PartsHalves.{HalvesIn, PartsOnly}
-use Rattle.term_walk.proofs.PartsStay.{halves-stay}
+use Rattle.term_parts.specs.Halves.{HalvesIn, PartsOnly}
+use Rattle.term_parts.proofs.Stay.{halves-stay}
 use Rattle.term_walk.specs.Holding.{Stepped, FunctionHeld, LeftHeld, subIn, leftIn, entriesOf, halvesFor, WishHeld, ScopeHeld, LevelHeld, LevelsHeld, Here}
 use Rattle.term_walk.specs.Steps.{aroundOf, HereNow}
 
@@ -156,11 +156,11 @@ walkable-below : (text w w′ : List ℕ) (frame t : ℕ) (X : Text) (S : Scope)
 walkable-below text w w′ frame t X S σ long same W H′ g =
     let few = g .level in
     let F : frameIn w′ frame ≡ frameIn w frame =
-        let b : getD w′ (framesAt + 4 * frame) 0 ≡ getD w (framesAt + 4 * frame) 0 = same (framesAt + 4 * frame) (omega arith) in
-        let c : getD w′ (framesAt + 4 * frame + 1) 0 ≡ getD w (framesAt + 4 * frame + 1) 0 = same (framesAt + 4 * frame + 1) (omega arith) in
-        let d : getD w′ (framesAt + 4 * frame + 2) 0 ≡ getD w (framesAt + 4 * frame + 2) 0 = same (framesAt + 4 * frame + 2) (omega arith) in
-        let e : getD w′ (framesAt + 4 * frame + 3) 0 ≡ getD w (framesAt + 4 * frame + 3) 0 = same (framesAt + 4 * frame + 3) (omega arith) in
-        rw (b, c, d, e) in
+    let b : getD w′ (framesAt + 4 * frame) 0 ≡ getD w (framesAt + 4 * frame) 0 = same (framesAt + 4 * frame) (omega arith) in
+    let c : getD w′ (framesAt + 4 * frame + 1) 0 ≡ getD w (framesAt + 4 * frame + 1) 0 = same (framesAt + 4 * frame + 1) (omega arith) in
+    let d : getD w′ (framesAt + 4 * frame + 2) 0 ≡ getD w (framesAt + 4 * frame + 2) 0 = same (framesAt + 4 * frame + 2) (omega arith) in
+    let e : getD w′ (framesAt + 4 * frame + 3) 0 ≡ getD w (framesAt + 4 * frame + 3) 0 = same (framesAt + 4 * frame + 3) (omega arith) in
+    rw (b, c, d, e) in
     record {
       short = g .short;
       room = omega (arith, g .room);

@@ -32,16 +32,16 @@ use Rattle.term_walk.specs.declared.Walk.{Walk}
 use Rattle.term_walk.specs.declared.Left.{Left}
 use Rattle.term_walk.specs.declared.Step as step
 use Rattle.term_walk.specs.declared.Step.the-variants as step-is
-use Rattle.term_walk.specs.declared.term_parts.halves.Half.{Half}
-use Rattle.term_walk.specs.declared.term_parts.apart.ApartEnd as parted
-use Rattle.term_walk.specs.declared.term_parts.apart.ApartEnd.the-variants as apart-end
-use Rattle.term_walk.specs.PartsNames.{listedNames, NamesStand}
-use Rattle.term_walk.specs.PartsHalves.{HalvesIn, ElementsIn, TakenIn, InHalves, withHalf, CanJoin, PairsSay, ProjectionsSay}
-use Rattle.term_walk.specs.PartsParts.{NameBound, CanApart, ApartHeld, ApartAnswers, ApartSays}
+use Rattle.term_parts.specs.declared.halves.Half.{Half}
+use Rattle.term_parts.specs.declared.apart.ApartEnd as parted
+use Rattle.term_parts.specs.declared.apart.ApartEnd.the-variants as apart-end
+use Rattle.term_parts.specs.Names.{listedNames, NamesStand}
+use Rattle.term_parts.specs.Halves.{HalvesIn, ElementsIn, TakenIn, InHalves, withHalf, CanJoin, PairsSay, ProjectionsSay}
+use Rattle.term_parts.specs.Parts.{NameBound, CanApart, ApartHeld, ApartAnswers, ApartSays}
 use Rattle.term_walk.specs.Looks.{wordsAt, Readable, Looks}
 use Rattle.term_walk.specs.Holding.{Stepped, LeftHeld, subIn, leftIn, entriesOf, halvesFor, WishHeld, ScopeHeld, Here, TermCame}
 use Rattle.term_walk.specs.Steps.{doneStep, partLevel, CanAsk, Asks, StepAnswers, hereOf, bodiesIn, CanEnter, CanApply, CanApplyMade, BehindSays, MadeNodes, MadeSays, CanLeave, LeaveSays}
-use Rattle.term_walk.proofs.PartsStay.{entries-state, half-long, half-state, parts-of-half, halves-put, can-join}
+use Rattle.term_parts.proofs.Stay.{entries-state, half-long, half-state, parts-of-half, halves-put, can-join}
 use Rattle.term_walk.proofs.LookLaws.{words-lexed}
 use Rattle.term_walk.proofs.HoldLaws.{stepped-none, stepped-then, stepped-made, stepped-parts, stepped-entries, stepped-less, term-stays, left-stays, here-stays, here-now}
 use Rattle.term_walk.proofs.StepLaws.{made-nodes, done-says, stepped-asks, asked}

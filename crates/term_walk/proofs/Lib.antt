@@ -1,8 +1,6 @@
 pub mod LookLaws
-pub mod PartsStay
 pub mod HoldLaws
 pub mod StepLaws
-pub mod PartsLook
 pub mod TypeBehind
 pub mod AtomLaws
 pub mod RoundLaws

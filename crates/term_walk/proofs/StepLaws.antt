@@ -138,7 +138,11 @@ module _ (text : List ℕ) (X : Text) (most bottom : ℕ) (w : List ℕ) (h : Wa
   asked l x frame top waiting at S′ held scope entries halves few rd r w′ A =
       subst (λ (v : List ℕ). StepAnswers text X most bottom v r (good (askTerm (hereOf k S K) x S′ σ (wordsAt text at)))) (sym (A .memory)) (
       subst (λ (q : step.Step). StepAnswers text X most bottom v′ q (good (askTerm (hereOf k S K) x S′ σ (wordsAt text at)))) (sym (A .state)) (
-      refl, omega (arith, e), record { is = refl; readable = rd }, record { scope = subst (λ (j : ℕ). ScopeHeld text v′ X j frame top S′ σ) one (pushed-scope-held w (h .more) l (aroundOf h) room small text X k frame top S′ σ scope); few = few; levels = subst (λ (j : ℕ). LevelsHeld text X most bottom v′ σ j top waiting (record { wish = x; scope = S } ∷ K)) one (subst (λ (j : ℕ). LevelHeld text X most v′ σ j top waiting (record { wish = x; scope = S })) e level, subst (λ (j : ℕ). LevelsHeld text X most bottom v′ σ j (scopeIn v′ j .top) (scopeIn v′ j .waiting) K) e others); nested = g .nested }))
+        refl,
+        omega (arith, e),
+        record { is = refl; readable = rd },
+        record { scope = subst (λ (j : ℕ). ScopeHeld text v′ X j frame top S′ σ) one (pushed-scope-held w (h .more) l (aroundOf h) room small text X k frame top S′ σ scope); few = few; levels = subst (λ (j : ℕ). LevelsHeld text X most bottom v′ σ j top waiting (record { wish = x; scope = S } ∷ K)) one (subst (λ (j : ℕ). LevelHeld text X most v′ σ j top waiting (record { wish = x; scope = S })) e level, subst (λ (j : ℕ). LevelsHeld text X most bottom v′ σ j (scopeIn v′ j .top) (scopeIn v′ j .waiting) K) e others); nested = g .nested },
+      ))
     where
       H : HoldsState w σ
       H = g .scope .walkable .state

@@ -20,8 +20,8 @@ use Rattle.walk_levels.specs.declared.Around.{Around}
 use Rattle.walk_levels.specs.Levels.{levelIn, scopeIn}
 use Rattle.walks.specs.Walkable.{Walkable}
 use Rattle.walks.specs.Walked.{TermsWalked}
-use Rattle.term_walk.specs.PartsNames.{NamesStand, listedNames}
-use Rattle.term_walk.specs.PartsHalves.{ElementsIn, TakenIn}
+use Rattle.term_parts.specs.Names.{NamesStand, listedNames}
+use Rattle.term_parts.specs.Halves.{ElementsIn, TakenIn}
 use Rattle.term_walk.specs.declared.Walk.{Walk}
 use Rattle.term_walk.specs.declared.Left.{Left}
 use Rattle.term_walk.specs.Looks.{wordsAt, Readable}

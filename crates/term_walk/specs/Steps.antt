@@ -33,7 +33,7 @@ use Rattle.term_walk.specs.declared.Walk.{Walk}
 use Rattle.term_walk.specs.declared.Left.{Left}
 use Rattle.term_walk.specs.declared.Step as step
 use Rattle.term_walk.specs.declared.Step.the-variants as step-is
-use Rattle.term_walk.specs.PartsNames.{boundAt, spacedNames, listedNames}
+use Rattle.term_parts.specs.Names.{boundAt, spacedNames, listedNames}
 use Rattle.term_walk.specs.Looks.{wordsAt, Readable}
 use Rattle.term_walk.specs.Holding.{Stepped, LeftHeld, entriesOf, halvesFor, WishHeld, Here, TermCame, HoldsTerming}
 

@@ -1,11 +1,11 @@
 // Atoms of an application: parentheses, parts, variables, and definitions put in.
 use crate::Left;
-use crate::looks;
 use crate::Step;
 use crate::Walk;
+use crate::looks;
 use made_nodes::MadeTerm;
 use made_nodes::Sub;
-use crate::term_parts::variables::Look;
+use term_parts::variables::Look;
 use walks::PutEnd;
 use walks::TypesEnd;
 ghost use mathlib.Core.Path.{_≡_};
@@ -60,7 +60,7 @@ fn put_clause(
     ensures { λ r. ⌜ AtomSays (now (text .entry)) (now (work .entry)) h s (clauseEntry (now (text .entry)) (now (work .entry)) name at (h .top) types) r (now (work .exit)) ⌝ }
 {
     let below = h.more - 1;
-    let put = crate::putting::put_in(text, work, false, name, at, types, h.frame, h.top, below);
+    let put = putting::put_in(text, work, false, name, at, types, h.frame, h.top, below);
     match put {
         PutEnd::Refused(number, place) => Step::Refused(number, place),
         PutEnd::At(q) => {
@@ -75,7 +75,7 @@ fn put_term(text: &[u8], work: &mut [u16], h: Walk, s: Left, name: usize, at: us
     requires { ⌜ (CanAtom (now text) (now work) h s) × ((Lexed (now text) at) × (name ≤ length (now text))) ⌝ }
     ensures { λ r. ⌜ AtomSays (now (text .entry)) (now (work .entry)) h s (putEntry (now (text .entry)) name at) r (now (work .exit)) ⌝ }
 {
-    let types = crate::type_walk::types_from(text, work, at, h.more - 1, h.frame, h.top, name);
+    let types = type_walk::types_from(text, work, at, h.more - 1, h.frame, h.top, name);
     match types {
         TypesEnd::Refused(number, place) => Step::Refused(number, place),
         TypesEnd::At(count, end) => put_clause(text, work, h, s, name, end, count),
@@ -87,7 +87,7 @@ fn plain_at(text: &[u8], work: &mut [u16], h: Walk, s: Left, name: usize, at: us
     requires { ⌜ (CanAtom (now text) (now work) h s) × ((Lexed (now text) at) × (name ≤ length (now text))) ⌝ }
     ensures { λ r. ⌜ AtomSays (now (text .entry)) (now (work .entry)) h s (plainEntry (now (text .entry)) name at) r (now (work .exit)) ⌝ }
 {
-    let v = crate::term_parts::variables::variable_at(text, work, name, h.frame, h.top);
+    let v = term_parts::variables::variable_at(text, work, name, h.frame, h.top);
     match v {
         Look::Nowhere => put_term(text, work, h, s, name, at),
         Look::Here(number, ty) => {

@@ -1,10 +1,10 @@
 // Functions, fixed points and names for terms, when they are entered; `place` is that of the word that the level begins with.
-use crate::looks;
 use crate::Step;
 use crate::Walk;
+use crate::looks;
 use scopes::entries;
-use crate::term_parts::bound;
-use crate::term_parts::names;
+use term_parts::bound;
+use term_parts::names;
 use walk_levels::Level;
 use walks::TypeEnd;
 ghost use mathlib.Core.Path.{_≡_};
@@ -13,7 +13,7 @@ ghost use lib.ListN.{length};
 ghost use Rattle.notation_calculus.specs.Grammar.{behind};
 ghost use Rattle.notation_calculus.specs.Making.{mostEntries};
 ghost use Rattle.words.specs.Lexed.{from, Lexed};
-ghost use Rattle.term_walk.specs.PartsNames.{NamesStand, spaced};
+ghost use Rattle.term_parts.specs.Names.{NamesStand, spaced};
 ghost use Rattle.term_walk.specs.Looks.{Readable};
 ghost use Rattle.term_walk.specs.Steps.{CanEnter, EnterSays, CanBound, CanNames, boundEntry, typedEntry, functionEntry, fixBoundEntry, fixTypedEntry, fixEntry, valueEntry, valuesEntry, namesEntry, letEntry};
 

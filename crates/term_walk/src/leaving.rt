@@ -1,18 +1,18 @@
 // What a level does with the term that it waited for; `h` is the level, with the offset behind the term.
-use crate::atoms;
 use crate::Left;
-use crate::looks;
 use crate::Step;
 use crate::Walk;
+use crate::atoms;
+use crate::looks;
 use made_nodes::Sub;
 use made_types::wide;
 use scopes::entries;
-use crate::term_parts::apart;
-use crate::term_parts::apart::ApartEnd;
-use crate::term_parts::bound;
-use crate::term_parts::halves;
-use crate::term_parts::halves::Half;
-use crate::term_parts::joined;
+use term_parts::apart;
+use term_parts::apart::ApartEnd;
+use term_parts::bound;
+use term_parts::halves;
+use term_parts::halves::Half;
+use term_parts::joined;
 use walk_levels::Level;
 ghost use mathlib.Core.Path.{_≡_};
 ghost use Prim.Native.Nat.{_+_, _≤_, _<_};

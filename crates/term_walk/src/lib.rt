@@ -6,20 +6,10 @@ use walk_levels::Level;
 ghost use mathlib.Core.Path.{_≡_};
 ghost use Rattle.term_walk.specs.Steps.{nothingSub, partLevel, doneStep, appliesStep, CanAsk, Asks};
 
-pub mod looks;
-
-pub mod term_parts;
-
-pub mod type_walk;
-
-pub mod putting;
-
 pub mod atoms;
-
 pub mod binders;
-
 pub mod leaving;
-
+pub mod looks;
 pub mod rounds;
 
 // ---- the state, as numbers

@@ -48,7 +48,7 @@ pub fn type_behind(
     if text.len() < at {
         return TypeEnd::Refused(32, 0);
     }
-    crate::type_walk::type_from(text, work, at, more, frame, top)
+    type_walk::type_from(text, work, at, more, frame, top)
 }
 
 // An atom begins at an offset.

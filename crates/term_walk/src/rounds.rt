@@ -1,11 +1,11 @@
 // The loop over steps.
+use crate::Left;
+use crate::Step;
+use crate::Walk;
 use crate::atoms;
 use crate::binders;
 use crate::leaving;
-use crate::Left;
 use crate::looks;
-use crate::Step;
-use crate::Walk;
 use walks::TermEnd;
 ghost use mathlib.Core.Path.{_≡_};
 ghost use Rattle.walks.specs.Says.{CanTerm, TermSays};

@@ -7,7 +7,7 @@ use Rattle.term_walk.proofs.atoms.plain_at.Lts as lts
 use Rattle.made_nodes.proofs.leaves.variable.Reads as variable-reads
 use Rattle.term_walk.proofs.atoms.behind_made.Reads as behind-made-reads
 use Rattle.term_walk.proofs.atoms.put_term.Reads as put-term-reads
-use Rattle.term_walk.proofs.term_parts.variables.variable_at.Reads as variable-at-reads
+use Rattle.term_parts.proofs.variables.variable_at.Reads as variable-at-reads
 
 -- src/atoms.rt:90:9
 variable-at-requires : tie.Need-variable-at-requires

@@ -8,7 +8,7 @@ use Rattle.term_walk.proofs.atoms.put_clause.Reads as reads
 use Rattle.term_walk.proofs.atoms.put_clause.Lts as lts
 use Rattle.term_walk.proofs.ask.Reads as ask-reads
 use Rattle.term_walk.proofs.part_level.Reads as part-level-reads
-use Rattle.term_walk.proofs.putting.put_in.Reads as put-in-reads
+use Rattle.putting.proofs.put_in.Reads as put-in-reads
 
 -- src/atoms.rt:62:17
 sub-below : tie.Need-sub-below

@@ -5,7 +5,7 @@ use Rattle.term_walk.proofs.atoms.put_term.Tie as tie
 use Rattle.term_walk.proofs.atoms.put_term.Reads as reads
 use Rattle.term_walk.proofs.atoms.put_term.Lts as lts
 use Rattle.term_walk.proofs.atoms.put_clause.Reads as put-clause-reads
-use Rattle.term_walk.proofs.type_walk.types_from.Reads as types-from-reads
+use Rattle.type_walk.proofs.types_from.Reads as types-from-reads
 
 -- src/atoms.rt:78:62
 sub-types-from : tie.Need-sub-types-from

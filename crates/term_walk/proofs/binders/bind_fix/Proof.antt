@@ -13,7 +13,7 @@ use Rattle.term_walk.proofs.binders.bind_fix.Lts as lts
 use Rattle.scopes.proofs.entries.has_room.Reads as has-room-reads
 use Rattle.term_walk.proofs.ask.Reads as ask-reads
 use Rattle.term_walk.proofs.looks.look.Reads as look-reads
-use Rattle.term_walk.proofs.term_parts.bound.bind_name.Reads as bind-name-reads
+use Rattle.term_parts.proofs.bound.bind_name.Reads as bind-name-reads
 
 -- src/binders.rt:104:9
 has-room-requires : tie.Need-has-room-requires

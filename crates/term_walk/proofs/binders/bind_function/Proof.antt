@@ -13,7 +13,7 @@ use Rattle.term_walk.proofs.binders.bind_function.Lts as lts
 use Rattle.scopes.proofs.entries.has_room.Reads as has-room-reads
 use Rattle.term_walk.proofs.ask.Reads as ask-reads
 use Rattle.term_walk.proofs.looks.look.Reads as look-reads
-use Rattle.term_walk.proofs.term_parts.bound.bind_names.Reads as bind-names-reads
+use Rattle.term_parts.proofs.bound.bind_names.Reads as bind-names-reads
 
 -- src/binders.rt:38:9
 has-room-requires : tie.Need-has-room-requires

@@ -7,7 +7,7 @@ use Rattle.term_walk.proofs.binders.fix_from.Tie as tie
 use Rattle.term_walk.proofs.binders.fix_from.Reads as reads
 use Rattle.term_walk.proofs.binders.fix_from.Lts as lts
 use Rattle.term_walk.proofs.binders.fix_type.Reads as fix-type-reads
-use Rattle.term_walk.proofs.term_parts.names.name_at.Reads as name-at-reads
+use Rattle.term_parts.proofs.names.name_at.Reads as name-at-reads
 
 -- src/binders.rt:140:9
 name-at-requires : tie.Need-name-at-requires

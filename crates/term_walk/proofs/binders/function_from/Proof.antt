@@ -7,7 +7,7 @@ use Rattle.term_walk.proofs.binders.function_from.Tie as tie
 use Rattle.term_walk.proofs.binders.function_from.Reads as reads
 use Rattle.term_walk.proofs.binders.function_from.Lts as lts
 use Rattle.term_walk.proofs.binders.function_type.Reads as function-type-reads
-use Rattle.term_walk.proofs.term_parts.names.count_names.Reads as count-names-reads
+use Rattle.term_parts.proofs.names.count_names.Reads as count-names-reads
 
 -- src/binders.rt:82:9
 count-names-requires : tie.Need-count-names-requires

@@ -8,7 +8,7 @@ use Rattle.term_walk.proofs.binders.let_from.Reads as reads
 use Rattle.term_walk.proofs.binders.let_from.Lts as lts
 use Rattle.term_walk.proofs.binders.ask_value.Reads as ask-value-reads
 use Rattle.term_walk.proofs.binders.names_from.Reads as names-from-reads
-use Rattle.term_walk.proofs.term_parts.names.name_at.Reads as name-at-reads
+use Rattle.term_parts.proofs.names.name_at.Reads as name-at-reads
 use Rattle.words.proofs.word_at.Reads as word-at-reads
 
 -- src/binders.rt:213:9

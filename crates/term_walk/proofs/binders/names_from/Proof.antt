@@ -7,7 +7,7 @@ use Rattle.term_walk.proofs.binders.names_from.Tie as tie
 use Rattle.term_walk.proofs.binders.names_from.Reads as reads
 use Rattle.term_walk.proofs.binders.names_from.Lts as lts
 use Rattle.term_walk.proofs.binders.ask_values.Reads as ask-values-reads
-use Rattle.term_walk.proofs.term_parts.names.count_listed.Reads as count-listed-reads
+use Rattle.term_parts.proofs.names.count_listed.Reads as count-listed-reads
 
 -- src/binders.rt:201:9
 count-listed-requires : tie.Need-count-listed-requires

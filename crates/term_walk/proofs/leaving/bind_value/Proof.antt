@@ -10,7 +10,7 @@ use Rattle.term_walk.proofs.leaving.bind_value.Lts as lts
 use Rattle.made_types.proofs.wide.Reads as wide-reads
 use Rattle.term_walk.proofs.ask.Reads as ask-reads
 use Rattle.term_walk.proofs.looks.look.Reads as look-reads
-use Rattle.term_walk.proofs.term_parts.bound.bind_name.Reads as bind-name-reads
+use Rattle.term_parts.proofs.bound.bind_name.Reads as bind-name-reads
 
 -- src/leaving.rt:65:9
 look-requires : tie.Need-look-requires

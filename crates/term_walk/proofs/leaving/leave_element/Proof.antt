@@ -13,8 +13,8 @@ use Rattle.term_walk.proofs.atoms.behind_made.Reads as behind-made-read
 use Rattle.term_walk.proofs.leaving.left_of.Reads as left-of-reads
 use Rattle.term_walk.proofs.looks.look.Reads as look-reads
 use Rattle.term_walk.proofs.part_level.Reads as part-level-reads
-use Rattle.term_walk.proofs.term_parts.halves.put_half.Reads as put-half-reads
-use Rattle.term_walk.proofs.term_parts.joined.pairs.Reads as pairs-reads
+use Rattle.term_parts.proofs.halves.put_half.Reads as put-half-reads
+use Rattle.term_parts.proofs.joined.pairs.Reads as pairs-reads
 
 -- src/leaving.rt:154:9
 look-requires : tie.Need-look-requires

@@ -6,7 +6,7 @@ use Rattle.term_walk.proofs.leaving.leave_names.Reads as reads
 use Rattle.term_walk.proofs.leaving.leave_names.Lts as lts
 use Rattle.made_types.proofs.wide.Reads as wide-reads
 use Rattle.term_walk.proofs.done.Reads as done-reads
-use Rattle.term_walk.proofs.term_parts.joined.projections.Reads as projections-reads
+use Rattle.term_parts.proofs.joined.projections.Reads as projections-reads
 
 -- src/leaving.rt:143:53
 wide-requires : tie.Need-wide-requires

@@ -9,7 +9,7 @@ use Rattle.term_walk.proofs.leaving.take_apart.Lts as lts
 use Rattle.made_types.proofs.wide.Reads as wide-reads
 use Rattle.term_walk.proofs.ask.Reads as ask-reads
 use Rattle.term_walk.proofs.looks.look.Reads as look-reads
-use Rattle.term_walk.proofs.term_parts.apart.apart.Reads as apart-reads
+use Rattle.term_parts.proofs.apart.apart.Reads as apart-reads
 
 -- src/leaving.rt:95:9
 look-requires : tie.Need-look-requires

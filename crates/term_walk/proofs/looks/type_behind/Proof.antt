@@ -5,7 +5,7 @@ use Rattle.term_walk.proofs.looks.type_behind.Statement.{statement}
 use Rattle.term_walk.proofs.looks.type_behind.Tie as tie
 use Rattle.term_walk.proofs.looks.type_behind.Reads as reads
 use Rattle.term_walk.proofs.looks.type_behind.Lts as lts
-use Rattle.term_walk.proofs.type_walk.type_from.Reads as type-from-reads
+use Rattle.type_walk.proofs.type_from.Reads as type-from-reads
 
 -- src/looks.rt:49:9
 returns : tie.Need-returns
