@@ -1,5 +1,5 @@
 -- `main` put in: the row that the code finds is the clause that Making finds, and its body is a term. Assumes nothing.
-use Prim.Native.Nat.{ℕ, zero, suc, _+_, _≤_, _<_}
+use Prim.Native.Nat.{ℕ, suc, _+_, _≤_, _<_}
 use mathlib.Core.Path.{_≡_, refl, sym, ap, _∙_, subst}
 use mathlib.Core.Bool.{Bool, true, false, not, _&&_, cond}
 use mathlib.Core.List.{List, [], _∷_}
@@ -8,32 +8,31 @@ use lib.Dec.{eqb, leb}
 use lib.ListN.{length, getD, take}
 use lib.Seq.{take-length}
 use borrow.Author.Tests.{eq-eqb, ne-eqb, eqb-true}
-use Rattle.calculus.specs.Answer.{Answer, good, refused, _>>=_, refuse, numbered, need}
+use Rattle.calculus.specs.Answer.{Answer, good, refused, _>>=_, refuse, need}
 use Rattle.calculus.specs.Record.{All}
 use Rattle.notation_calculus.specs.Words.{Name, Word, sameName}
 use Rattle.notation_calculus.specs.Trees.{Number, TypeTree, noTypes, Tree, Body, ofType, ofTerm, Clause, Text}
-use Rattle.notation_calculus.specs.Grammar.{mostNested, Got, termAt, sameSort, isType}
+use Rattle.notation_calculus.specs.Grammar.{mostNested, Got, termAt, sameSort}
 use Rattle.notation_calculus.specs.Making.{State, Found, Scope, fitAll, mostPuts, meant, Put, putOf, clauseFor, onePut, putIn}
 use Rattle.notation_calculus.specs.Make.{above, mainName}
-use Rattle.notation_machine.specs.Bodies.{numberFor, wordsFor, ReadsAs, AllRead}
+use Rattle.notation_machine.specs.Bodies.{numberFor, wordsFor, AllRead}
 use Rattle.notation_machine.proofs.Bodies.{BodyFound, body-found, read-take}
 use Rattle.notation_theorems.proofs.Answering.{On}
 use Rattle.words.specs.Next.{runAt}
 use Rattle.words.specs.Lexed.{from}
-use Rattle.making_memory.specs.Map.{clauseCountAt, makingSize}
+use Rattle.making_memory.specs.Map.{clauseCountAt}
 use Rattle.made_types.specs.Held.{HoldsState}
 use Rattle.clauses.specs.declared.rows.Row.{Row}
-use Rattle.clauses.specs.Rows.{RowOf, rowIn, noClause, clauseOf, HoldsRows}
+use Rattle.clauses.specs.Rows.{RowOf, rowIn, clauseOf}
 use Rattle.clauses.specs.Texts.{HoldsClauses}
 use Rattle.clauses.specs.Follows.{RowsThere}
 use Rattle.clauses.specs.Meant.{valuesIn}
 use Rattle.clauses.proofs.TableLaws.{rows-there}
 use Rattle.scopes.specs.Opened.{numbersOver}
 use Rattle.walks.specs.Walkable.{rowBodies}
-use Rattle.walks.specs.Says.{Offset}
 use Rattle.walks.proofs.Kept.{rows-read}
 use Rattle.putting.specs.Putting.{BodyThere, BodyCame, BodyAnswers, bodyPut, ClauseFound, CanPlace, PlacedSays}
-use Rattle.putting.specs.Main.{rowMain, firstOf, firstMain, CanMain, mainPut, MainSays}
+use Rattle.putting.specs.Main.{rowMain, firstMain, CanMain, mainPut, MainSays}
 use Rattle.putting.specs.declared.BodyEnd as body
 use Rattle.putting.specs.declared.BodyEnd.the-variants as body-end
 use Rattle.putting.proofs.ValueLaws.{body-at}

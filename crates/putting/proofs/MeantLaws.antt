@@ -3,7 +3,7 @@
 use Prim.Native.Nat.{ℕ, zero, suc, _+_, _≤_, _<_}
 use mathlib.Core.Path.{_≡_, refl, sym, ap, _∙_, subst}
 use mathlib.Core.Bool.{Bool, true, false, cond}
-use mathlib.Core.List.{List, [], _∷_}
+use mathlib.Core.List.{List, []}
 use native.Mathlib.Omega.{arith}
 use lib.Dec.{eqb}
 use lib.ListN.{length, getD, take}
@@ -29,7 +29,7 @@ use Rattle.scopes.specs.Frames.{frameIn, HoldsScope}
 use Rattle.scopes.specs.Opened.{numbersOver}
 use Rattle.walks.specs.Walkable.{rowBodies, Walkable}
 use Rattle.putting.specs.Putting.{ClauseFound, CanPlace, PlacedSays, CanMean, MeantSays}
-use Rattle.putting.specs.Main.{firstOf}
+use Rattle.putting.specs.Main.{firstPassing}
 use Rattle.putting.specs.declared.BodyEnd as body
 use Rattle.putting.proofs.ValueLaws.{body-at}
 use Rattle.putting.proofs.FirstLaws.{first-passes, number-first}
@@ -39,7 +39,7 @@ use Rattle.putting.proofs.FirstLaws.{first-passes, number-first}
 false-true : {C : Type 0} → _≡_ {A = Bool} false true → C
 false-true e = let z : _≡_ {A = ℕ} 0 1 = cc in absurd (omega arith)
 
-first-as : (text w : List ℕ) (q : Asked) (n k : ℕ) → firstMeant text w q k n ≡ firstOf (λ (j : ℕ). rowMeant text w q (rowIn w j)) k n
+first-as : (text w : List ℕ) (q : Asked) (n k : ℕ) → firstMeant text w q k n ≡ firstPassing (λ (j : ℕ). rowMeant text w q (rowIn w j)) k n
 first-as text w q zero k = refl
 first-as text w q (suc n) k = ap (λ (j : ℕ). cond (rowMeant text w q (rowIn w k)) k j) (first-as text w q n (suc k))
 

@@ -1,16 +1,16 @@
 -- Numbers as arguments: read by the grammar, worked out, and put behind the type arguments. Assumes nothing.
-use Prim.Native.Nat.{ℕ, _+_, _-_, _≤_, _<_}
+use Prim.Native.Nat.{ℕ, _+_, _-_, _≤_}
 use mathlib.Core.Path.{_≡_, refl, sym, ap, _∙_, subst}
 use mathlib.Core.List.{List}
 use native.Mathlib.Omega.{arith}
 use lib.ListN.{length}
-use Rattle.calculus.specs.Answer.{Answer, good, refused, _>>=_, refuse, numbered}
+use Rattle.calculus.specs.Answer.{Answer, good, refused, _>>=_, refuse}
 use Rattle.calculus.proofs.Answers.{refused≢good, good-inj, refused-inj}
 use Rattle.notation_calculus.specs.Words.{Word}
 use Rattle.notation_calculus.specs.Trees.{Number}
 use Rattle.notation_calculus.specs.Grammar.{Got, got, numberAt, numbersAt}
 use Rattle.notation_calculus.specs.Making.{Scope, entries, numbersIn, mostEntries}
-use Rattle.words.specs.Lexed.{from, Lexed}
+use Rattle.words.specs.Lexed.{from}
 use Rattle.grammar.specs.declared.steps.End.{End}
 use Rattle.grammar.specs.Ends.{restOf, Ends}
 use Rattle.grammar.specs.Skips.{numbersEnd}
@@ -23,9 +23,8 @@ use Rattle.clauses.specs.Meant.{valuesIn}
 use Rattle.clauses.proofs.ListLaws.{numbers-group}
 use Rattle.scopes.specs.declared.frames.Frame.{Frame}
 use Rattle.scopes.specs.declared.arguments.Given.{Given}
-use Rattle.scopes.specs.Entries.{OnlyEntries}
 use Rattle.scopes.specs.Frames.{frameIn, HoldsScope}
-use Rattle.scopes.specs.Arguments.{numbersKnown, NumbersKnown, NumbersGiven, CanGive}
+use Rattle.scopes.specs.Arguments.{numbersKnown, NumbersGiven, CanGive}
 use Rattle.scopes.proofs.KeepLaws.{only-none}
 use Rattle.walks.specs.Says.{CanPut}
 use Rattle.putting.specs.Putting.{numbersFor, NumbersAnswer, NumbersSay}

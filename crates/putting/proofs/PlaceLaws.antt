@@ -7,17 +7,16 @@ use native.Mathlib.Omega.{arith}
 use lib.Dec.{leb}
 use lib.ListN.{length, getD, set, length-set}
 use lib.Seq.{getD-set-same, getD-set-other}
-use Rattle.calculus.specs.Answer.{Answer, good, refused, _>>=_, refuse, need}
-use Rattle.calculus.specs.Record.{All}
+use Rattle.calculus.specs.Answer.{Answer, good, _>>=_, need}
 use Rattle.notation_calculus.specs.Words.{Word}
 use Rattle.notation_calculus.specs.Trees.{Clause, Text}
-use Rattle.notation_calculus.specs.Making.{State, Scope, mostEntries, mostPuts, costOf, seenBy, Put, putOf}
+use Rattle.notation_calculus.specs.Making.{State, mostEntries, mostPuts, costOf, seenBy, Put, putOf}
 use Rattle.words.specs.Lexed.{from, Lexed}
-use Rattle.making_memory.specs.Map.{typesAt, scopeAt, halvesAt, clausesAt, framesAt, typeCountAt, nodeCountAt, putCountAt, clauseCountAt, makingSize}
-use Rattle.made_types.specs.Held.{HoldsTypes, HoldsState}
+use Rattle.making_memory.specs.Map.{scopeAt, typeCountAt, nodeCountAt, putCountAt, clauseCountAt}
+use Rattle.made_types.specs.Held.{HoldsState}
 use Rattle.made_types.proofs.Keeping.{types-kept, state-kept}
 use Rattle.clauses.specs.declared.rows.Row.{Row}
-use Rattle.clauses.specs.Rows.{RowOf, rowIn, clauseOf, HoldsRows}
+use Rattle.clauses.specs.Rows.{rowIn, clauseOf, HoldsRows}
 use Rattle.clauses.specs.Texts.{HoldsClauses}
 use Rattle.clauses.specs.Meant.{valuesIn}
 use Rattle.clauses.proofs.TableLaws.{row-same}
@@ -28,7 +27,6 @@ use Rattle.scopes.specs.Puts.{rowCost, PutCounted}
 use Rattle.scopes.proofs.KeepLaws.{rows-kept}
 use Rattle.scopes.proofs.OpenLaws.{seen-small}
 use Rattle.scopes.proofs.PutLaws.{cost-is}
-use Rattle.walks.specs.Walkable.{AllTyped, Walkable}
 use Rattle.walks.specs.Walked.{TypesWalked}
 use Rattle.walks.proofs.Kept.{types-walked-none, types-walked-then, types-of-count, places-on, clauses-on}
 use Rattle.putting.specs.Putting.{BodyThere, BodyAnswers, bodyPut, ClauseFound, CanPlace, PlacedSays}

@@ -1,12 +1,12 @@
 -- A definition put in: its numbers, then the clause that is meant. Assumes nothing.
-use Prim.Native.Nat.{ℕ, suc, _+_, _*_, _≤_, _<_}
+use Prim.Native.Nat.{ℕ, suc, _+_, _≤_, _<_}
 use mathlib.Core.Path.{_≡_, refl, sym, ap, _∙_, subst}
 use mathlib.Core.Bool.{Bool, true, false}
 use mathlib.Core.List.{List}
 use native.Mathlib.Omega.{arith}
 use lib.Dec.{leb}
-use lib.ListN.{length, getD, take}
-use Rattle.calculus.specs.Answer.{Answer, good, refused, _>>=_, numbered, need}
+use lib.ListN.{length, take}
+use Rattle.calculus.specs.Answer.{Answer, good, refused, _>>=_, need}
 use Rattle.calculus.specs.Record.{All}
 use Rattle.notation_calculus.specs.Words.{Word}
 use Rattle.notation_calculus.specs.Trees.{Number, Text}
@@ -15,7 +15,7 @@ use Rattle.notation_calculus.specs.Making.{State, Scope, entries, mostEntries, 
 use Rattle.notation_machine.specs.Bodies.{wordsFor}
 use Rattle.words.specs.Next.{runAt}
 use Rattle.words.specs.Lexed.{from}
-use Rattle.making_memory.specs.Map.{scopeAt, typeCountAt, nodeCountAt, putCountAt}
+use Rattle.making_memory.specs.Map.{typeCountAt, nodeCountAt, putCountAt}
 use Rattle.made_types.specs.Held.{HoldsState}
 use Rattle.made_types.proofs.Keeping.{state-kept}
 use Rattle.clauses.specs.declared.meant.Asked.{Asked}

@@ -1,13 +1,12 @@
 -- Arguments that wait, rows and bodies, where the memory's numbers are as they were. Assumes nothing.
 use Prim.Native.Nat.{ℕ, zero, suc, _+_, _*_, _≤_, _<_}
-use mathlib.Core.Path.{_≡_, refl, sym, ap, _∙_, subst}
+use mathlib.Core.Path.{_≡_, refl, sym, ap, _∙_}
 use mathlib.Core.List.{List, [], _∷_}
 use native.Mathlib.Omega.{arith}
-use lib.ListN.{length, getD}
+use lib.ListN.{getD}
 use Rattle.calculus.specs.Record.{All}
-use Rattle.notation_calculus.specs.Words.{Word}
 use Rattle.notation_calculus.specs.Trees.{Bound}
-use Rattle.notation_calculus.specs.Making.{Entry, bindTypes, mostEntries}
+use Rattle.notation_calculus.specs.Making.{bindTypes}
 use Rattle.words.specs.Lexed.{from}
 use Rattle.making_memory.specs.Map.{scopeAt}
 use Rattle.clauses.specs.Rows.{rowIn}

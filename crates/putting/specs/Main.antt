@@ -27,15 +27,15 @@ abbrev pub rowMain : List ℕ → Row → Bool
 rowMain text r = not (r .sort) && sameName (runAt text (r .name)) mainName && eqb (r .types) 0 && eqb (r .numbers) 0
 
 -- the first of so many numbers from k on that passes a test, or the number behind them
-abbrev pub firstOf : (ℕ → Bool) → ℕ → ℕ → ℕ
-firstOf test k zero = k
-firstOf test k (suc n) =
-    let later = firstOf test (suc k) n in
+abbrev pub firstPassing : (ℕ → Bool) → ℕ → ℕ → ℕ
+firstPassing test k zero = k
+firstPassing test k (suc n) =
+    let later = firstPassing test (suc k) n in
     cond (test k) k later
 
 -- .. of the rows
 abbrev pub firstMain : List ℕ → List ℕ → ℕ → ℕ
-firstMain text w n = firstOf (λ (k : ℕ). rowMain text (rowIn w k)) 0 n
+firstMain text w n = firstPassing (λ (k : ℕ). rowMain text (rowIn w k)) 0 n
 
 -- some text's clauses are held
 pub record CanMain (text w : List ℕ) (into : ℕ) : Type 0 where

@@ -26,7 +26,7 @@ use Rattle.walks.specs.declared.PutEnd as put
 use Rattle.walks.specs.declared.PutEnd.the-variants as put-end
 use Rattle.walks.specs.Walkable.{rowBodies, Walkable}
 use Rattle.walks.specs.Walked.{TypesWalked}
-use Rattle.walks.specs.Says.{Offset, CanWalk, PutThere, PutAnswers}
+use Rattle.walks.specs.Says.{Offset, CanWalk}
 use Rattle.putting.specs.declared.NumbersEnd as numbers
 use Rattle.putting.specs.declared.NumbersEnd.the-variants as numbers-end
 use Rattle.putting.specs.declared.BodyEnd as body

@@ -1,7 +1,7 @@
 -- `putting::first_main` meets its contract. The invariant: no row that was passed is one of `main`. The measure is how many are left. Assumes
 -- nothing.
 use Prim.Native.Nat.{ℕ, _-_, _≤_}
-use mathlib.Core.Path.{_≡_, sym, ap, _∙_, subst}
+use mathlib.Core.Path.{sym, ap, _∙_, subst}
 use native.Mathlib.Omega.{arith}
 use lib.ListN.{length}
 use Rattle.clauses.specs.declared.rows.Row.{Row}

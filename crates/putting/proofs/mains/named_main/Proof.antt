@@ -1,5 +1,5 @@
 -- `putting::named_main` meets its contract: a name of four bytes, each of which is that of `main`. Assumes nothing.
-use mathlib.Core.Path.{refl, sym}
+use mathlib.Core.Path.{refl}
 use mathlib.Core.Bool.{true, false}
 use native.Mathlib.Omega.{arith}
 use borrow.Author.Tests.{eq-eqb, ne-eqb}
