@@ -53,9 +53,9 @@ use Rattle.term_parts.specs.declared.variables.Look as looked
 use Rattle.term_parts.specs.declared.variables.Look.the-variants as look
 use Rattle.term_parts.specs.Names.{boundAt}
 use Rattle.term_parts.specs.Parts.{Looked, here, nowhere, lookFor, LookSays}
-use Rattle.term_walk.specs.Looks.{wordsAt, Readable, Looks}
-use Rattle.term_walk.specs.Holding.{Stepped, LeftHeld, WishHeld, ScopeHeld, Here, TermCame}
-use Rattle.term_walk.specs.Steps.{doneStep, partLevel, CanAsk, Asks, CanEnter, CanAtom, CanApplyMade, StepAnswers, hereOf, bodiesIn, AtomEntry, AtomSays, TypesWait, clauseEntry, putEntry, plainEntry, namedEntry, atomEntry, MadeNodes, MadeSays, ApplicationSays}
+use Rattle.term_walk.specs.Looks.{wordsAt, ReadableFrom, Looks}
+use Rattle.term_walk.specs.Holding.{LevelWrites, LeftHeld, WishHeld, ScopeHeld, HereHeld, TermCame}
+use Rattle.term_walk.specs.Steps.{doneStep, partLevel, CanAskTerm, Asks, CanEnter, CanAtom, CanApplyMade, StepAnswers, termHereWith, bodiesIn, AtomEntry, AtomSays, TypesWait, clauseEntry, putEntry, plainEntry, namedEntry, atomEntry, MadeNodes, MadeSays, ApplicationSays}
 use Rattle.term_parts.proofs.LookFor.{looked-here, looked-nowhere, looked-typed}
 use Rattle.term_walk.proofs.LookLaws.{words-lexed}
 use Rattle.term_walk.proofs.HoldLaws.{stepped-none, stepped-then, stepped-types, stepped-made, stepped-pushed, left-stays, here-stays, here-now, levels-within}
@@ -68,10 +68,10 @@ refused-on text X most bottom w n q m f e = rw e refl
 
 -- ---- what a walkable memory has
 
-pub here-room : (text : List ℕ) (X : Text) (most bottom : ℕ) (w : List ℕ) (h : Walk) (S : Scope) (σ : State) (K : List TermLevel) → Here text X most bottom w h S σ K → (h .top ≤ mostEntries) × (h .waiting ≤ 2048) × (h .more ≤ 80)
+pub here-room : (text : List ℕ) (X : Text) (most bottom : ℕ) (w : List ℕ) (h : Walk) (S : Scope) (σ : State) (K : List TermLevel) → HereHeld text X most bottom w h S σ K → (h .top ≤ mostEntries) × (h .waiting ≤ 2048) × (h .more ≤ 80)
 here-room text X most bottom w h S σ K g = (g .scope .walkable .scope .places .most, omega (arith, g .few, g .scope .walkable .state .few), omega (arith, g .nested, levels-within text X most bottom w σ (h .more) (h .top) (h .waiting) K (g .levels) .0))
 
-pub here-workable : (text : List ℕ) (X : Text) (most bottom : ℕ) (w : List ℕ) (h : Walk) (S : Scope) (σ : State) (K : List TermLevel) → Here text X most bottom w h S σ K → Workable w
+pub here-workable : (text : List ℕ) (X : Text) (most bottom : ℕ) (w : List ℕ) (h : Walk) (S : Scope) (σ : State) (K : List TermLevel) → HereHeld text X most bottom w h S σ K → Workable w
 here-workable text X most bottom w h S σ K g = record { room = g .scope .walkable .room; few = omega (arith, g .scope .walkable .state .types .count, g .scope .walkable .state .types .ok .few) }
 
 -- the memory says which edition the text is of
@@ -104,7 +104,7 @@ types-typed : (n k : ℕ) → n ≡ k → (ts : List ℕ) → All (λ (t : ℕ).
 types-typed n k e ts a = subst (λ (j : ℕ). All (λ (t : ℕ). t < j) ts) e a
 
 module _ (text w : List ℕ) (h : Walk) (s : Left) (name at types : ℕ) (wait : TypesWait w (h .top) types) (some : 1 ≤ h .more) where
-  put-stepped : (h .waiting ≤ 2048) → (r : put.PutEnd) (w′ : List ℕ) → PutSays text w false name at types (h .frame) (h .top) (h .more - 1) r w′ → Stepped (h .more) (h .top) (h .waiting) w w′
+  put-stepped : (h .waiting ≤ 2048) → (r : put.PutEnd) (w′ : List ℕ) → PutSays text w false name at types (h .frame) (h .top) (h .more - 1) r w′ → LevelWrites (h .more) (h .top) (h .waiting) w w′
   put-stepped few r w′ P = stepped-types (h .more) (suc (h .more - 1)) (h .top) (h .waiting) w w′ (omega arith) few (P .walked)
 
   pub clause-refused : h .waiting ≤ 2048 → (n q : ℕ) (x : put.PutEnd) (w′ : List ℕ) → x ≡ put-end.Refused n q → PutSays text w false name at types (h .frame) (h .top) (h .more - 1) x w′ → AtomSays text w h s (clauseEntry text w name at (h .top) types) (step-is.Refused n q) w′
@@ -115,7 +115,7 @@ module _ (text w : List ℕ) (h : Walk) (s : Left) (name at types : ℕ) (wait :
         refused-on text X most bottom w′ n q (putFrom X (bodiesIn text w X) false S σ (boundAt text name) (valuesIn w (h .top) types) (from text at)) _ (put-refuses text w′ X (h .more - 1) n q _ (subst (λ (y : put.PutEnd). PutAnswers text w′ X (h .more - 1) y (putFrom X (bodiesIn text w X) false S σ (boundAt text name) (valuesIn w (h .top) types) (from text at))) e a));
   }
 
-  pub clause-put : h .waiting ≤ 2048 → (x : put.PutEnd) (q : PutAt) (w₁ : List ℕ) → CanAsk w₁ h → x ≡ put-end.At q → PutSays text w false name at types (h .frame) (h .top) (h .more - 1) x w₁ → (lv : Level) → lv ≡ partLevel 8 s 0 (q .end) → (r : step.Step) (w′ : List ℕ) → Asks w₁ h lv (h .more - 1) (q .top) (h .waiting) (q .body) r w′ → AtomSays text w h s (clauseEntry text w name at (h .top) types) r w′
+  pub clause-put : h .waiting ≤ 2048 → (x : put.PutEnd) (q : PutAt) (w₁ : List ℕ) → CanAskTerm w₁ h → x ≡ put-end.At q → PutSays text w false name at types (h .frame) (h .top) (h .more - 1) x w₁ → (lv : Level) → lv ≡ partLevel 8 s 0 (q .end) → (r : step.Step) (w′ : List ℕ) → Asks w₁ h lv (h .more - 1) (q .top) (h .waiting) (q .body) r w′ → AtomSays text w h s (clauseEntry text w name at (h .top) types) r w′
   clause-put few x q w₁ C e P lv el r w′ A₀ = record {
     stepped = stepped-then (h .more) (h .top) (h .waiting) w w₁ w′ (put-stepped few x w₁ P) (stepped-asks w₁ h (partLevel 8 s 0 (q .end)) (h .more - 1) (q .top) (h .waiting) (q .body) r w′ C A);
     says = λ X most bottom k S σ K p c g l. by X most bottom k S σ K p c g l (putFrom X (bodiesIn text w X) false S σ (boundAt text name) (valuesIn w (h .top) types) (from text at)) (subst (λ (y : put.PutEnd). PutAnswers text w₁ X (h .more - 1) y (putFrom X (bodiesIn text w X) false S σ (boundAt text name) (valuesIn w (h .top) types) (from text at))) e (P .says X S σ (g .scope .walkable) (types-typed _ _ (g .scope .walkable .state .types .count) (valuesIn w (h .top) types) wait))) (put-above X (bodiesIn text w X) S σ (boundAt text name) (valuesIn w (h .top) types) (from text at));
@@ -124,13 +124,13 @@ module _ (text w : List ℕ) (h : Walk) (s : Left) (name at types : ℕ) (wait :
       A : Asks w₁ h (partLevel 8 s 0 (q .end)) (h .more - 1) (q .top) (h .waiting) (q .body) r w′
       A = subst (λ (y : Level). Asks w₁ h y (h .more - 1) (q .top) (h .waiting) (q .body) r w′) el A₀
 
-      by : (X : Text) (most bottom k : ℕ) (S : Scope) (σ : State) (K : List TermLevel) (p : Spine) → h .more ≡ suc k → Here text X most bottom w h S σ K → LeftHeld w s p → (m : Answer PutThere) → PutAnswers text w₁ X (h .more - 1) (put-end.At q) m → On (λ (y : PutThere). entries S ≤ y .scope .under) m → StepAnswers text X most bottom w′ r (m >>= λ y. good (askTerm (hereOf k S K) (ofDefinition p (y .rest)) (y .scope) (y .state) (y .body)))
+      by : (X : Text) (most bottom k : ℕ) (S : Scope) (σ : State) (K : List TermLevel) (p : Spine) → h .more ≡ suc k → HereHeld text X most bottom w h S σ K → LeftHeld w s p → (m : Answer PutThere) → PutAnswers text w₁ X (h .more - 1) (put-end.At q) m → On (λ (y : PutThere). entries S ≤ y .scope .under) m → StepAnswers text X most bottom w′ r (m >>= λ y. good (askTerm (termHereWith k S K) (ofDefinition p (y .rest)) (y .scope) (y .state) (y .body)))
       by X most bottom k S σ K p c g l (refused why) i o = absurd i
       by X most bottom k S σ K p c g l (good y) i o =
           let st = put-stepped few x w₁ P in
           let g₁ = here-stays text X most bottom w w₁ h S σ K g st (y .state) (i .walkable .state) in
           let l₁ = left-stays (h .more) (h .top) (h .waiting) w w₁ st s p l in
-          subst (λ (us : List Word). StepAnswers text X most bottom w′ r (good (askTerm (hereOf k S K) (ofDefinition p (y .rest)) (y .scope) (y .state) us))) (words-lexed text (q .body) (i .body .lexed) ∙ sym (i .body .is)) (
+          subst (λ (us : List Word). StepAnswers text X most bottom w′ r (good (askTerm (termHereWith k S K) (ofDefinition p (y .rest)) (y .scope) (y .state) us))) (words-lexed text (q .body) (i .body .lexed) ∙ sym (i .body .is)) (
           asked text X most bottom w₁ h S (y .state) K k c g₁ (partLevel 8 s 0 (q .end)) (ofDefinition p (y .rest)) (h .more - 1) (q .top) (h .waiting) (q .body) (y .scope) (refl, record { place = l₁ .place; function = l₁ .function }, i .rest .is, i .rest .lexed) (record { walkable = i .walkable; above = omega (arith, c); variables = i .variables }) (omega (arith, o, g .scope .walkable .scope .entries, i .walkable .scope .entries)) (omega arith) (g₁ .few) (λ _. i .body .lexed) r w′ A)
 
 -- ---- type arguments first
@@ -167,22 +167,22 @@ module _ (text w : List ℕ) (h : Walk) (s : Left) (name at : ℕ) where
     says = λ X most bottom k S σ K p c g l. by X most bottom k S σ K p c g l (typesFrom X k S name σ (from text at)) (subst (λ (y : types.TypesEnd). TypesAnswer text w₁ (h .top) y (typesFrom X k S name σ (from text at))) e (subst (λ (j : ℕ). TypesAnswer text w₁ (h .top) x (typesFrom X j S name σ (from text at))) (more-is k c) (P .says X S σ (g .scope .walkable))));
   }
     where
-      st : Stepped (h .more) (h .top) (h .waiting) w w₁
+      st : LevelWrites (h .more) (h .top) (h .waiting) w w₁
       st = stepped-types (h .more) (h .more - 1) (h .top) (h .waiting) w w₁ (omega arith) few (P .walked)
 
       tail : (X : Text) (bodies : List (List Word)) (h′ : TermHere) (p : Spine) → Got FoundAll → Answer Terming
       tail X bodies h′ p ts = numbersAt (ts .rest) >>= λ ks. numbersIn (h′ .scope) name (length (ts .value .types)) (ks .value) >>= λ ns. clauseFor (entries (h′ .scope)) (X .clauses) (take (h′ .scope .seen) (X .clauses)) 0 false (runAt text name) (ts .value .types) ns name >>= λ q. onePut (ts .value .state) (q .cost) name >>= λ σ₁. good (askTerm h′ (ofDefinition p (ks .rest)) (q .scope) σ₁ (wordsFor bodies (take (h′ .scope .seen) (X .clauses)) false (runAt text name) (length (ts .value .types)) ns))
 
-      by : (X : Text) (most bottom k : ℕ) (S : Scope) (σ : State) (K : List TermLevel) (p : Spine) → h .more ≡ suc k → Here text X most bottom w h S σ K → LeftHeld w s p → (m : Answer (Got FoundAll)) → TypesAnswer text w₁ (h .top) (types-end.At n end) m → StepAnswers text X most bottom w′ r (m >>= λ ts. tail X (bodiesIn text w X) (hereOf k S K) p ts)
+      by : (X : Text) (most bottom k : ℕ) (S : Scope) (σ : State) (K : List TermLevel) (p : Spine) → h .more ≡ suc k → HereHeld text X most bottom w h S σ K → LeftHeld w s p → (m : Answer (Got FoundAll)) → TypesAnswer text w₁ (h .top) (types-end.At n end) m → StepAnswers text X most bottom w′ r (m >>= λ ts. tail X (bodiesIn text w X) (termHereWith k S K) p ts)
       by X most bottom k S σ K p c g l (refused why) i = absurd i
       by X most bottom k S σ K p c g l (good ts) i =
           let g₁ = here-stays text X most bottom w w₁ h S σ K g st (ts .value .state) (i .state) in
           let l₁ = left-stays (h .more) (h .top) (h .waiting) w w₁ st s p l in
           let same : bodiesIn text w₁ X ≡ bodiesIn text w X = bodies-on (h .more - 1) (h .top) text w w₁ (P .walked) 0 (length (X .clauses)) (omega (arith, g .scope .walkable .clauses .rows .few)) in
-          subst (λ (bs : List (List Word)). StepAnswers text X most bottom w′ r (tail X bs (hereOf k S K) p ts)) same (
-          subst (λ (us : List Word). StepAnswers text X most bottom w′ r (tail X (bodiesIn text w₁ X) (hereOf k S K) p (record { value = ts .value; rest = us }))) (sym (i .rest .is)) (
-          subst (λ (vs : List ℕ). StepAnswers text X most bottom w′ r (tail X (bodiesIn text w₁ X) (hereOf k S K) p (record { value = record { types = vs; state = ts .value .state }; rest = from text end }))) (i .types) (
-          subst (λ (m : Answer Terming). StepAnswers text X most bottom w′ r m) (put-is X (bodiesIn text w₁ X) (hereOf k S K) p (ts .value .state) (boundAt text name) (valuesIn w₁ (h .top) n) (from text end)) (A .says X most bottom k S (ts .value .state) K p c g₁ l₁))))
+          subst (λ (bs : List (List Word)). StepAnswers text X most bottom w′ r (tail X bs (termHereWith k S K) p ts)) same (
+          subst (λ (us : List Word). StepAnswers text X most bottom w′ r (tail X (bodiesIn text w₁ X) (termHereWith k S K) p (record { value = ts .value; rest = us }))) (sym (i .rest .is)) (
+          subst (λ (vs : List ℕ). StepAnswers text X most bottom w′ r (tail X (bodiesIn text w₁ X) (termHereWith k S K) p (record { value = record { types = vs; state = ts .value .state }; rest = from text end }))) (i .types) (
+          subst (λ (m : Answer Terming). StepAnswers text X most bottom w′ r m) (put-is X (bodiesIn text w₁ X) (termHereWith k S K) p (ts .value .state) (boundAt text name) (valuesIn w₁ (h .top) n) (from text end)) (A .says X most bottom k S (ts .value .state) K p c g₁ l₁))))
 
 -- ---- variables
 
@@ -215,7 +215,7 @@ module _ (text w : List ℕ) (h : Walk) (s : Left) (name at : ℕ) (lexed : Lexe
   pub plain-none : (x : looked.Look) → x ≡ look.Nowhere → LookSays text w name (h .frame) (h .top) x → (r : step.Step) (w′ : List ℕ) → AtomSays text w h s (putEntry text name at) r w′ → AtomSays text w h s (plainEntry text name at) r w′
   plain-none x ex L₀ r w′ A = let L = subst (LookSays text w name (h .frame) (h .top)) ex L₀ in record {
     stepped = A .stepped;
-    says = λ X most bottom k S σ K p c g l. subst (λ (m : Answer Terming). StepAnswers text X most bottom w′ r m) (sym (looked-nowhere (runAt text name) (λ i t. node name (variable (σ .table) i t) t 0 [] σ >>= λ m. behindAtom (hereOf k S K) p m (from text at)) (termPutIn X (bodiesIn text w X) (hereOf k S K) p σ (boundAt text name) (from text at)) (S .variables) (L .says S (g .scope .walkable .scope) (g .scope .variables)))) (A .says X most bottom k S σ K p c g l);
+    says = λ X most bottom k S σ K p c g l. subst (λ (m : Answer Terming). StepAnswers text X most bottom w′ r m) (sym (looked-nowhere (runAt text name) (λ i t. node name (variable (σ .table) i t) t 0 [] σ >>= λ m. behindAtom (termHereWith k S K) p m (from text at)) (termPutIn X (bodiesIn text w X) (termHereWith k S K) p σ (boundAt text name) (from text at)) (S .variables) (L .says S (g .scope .walkable .scope) (g .scope .variables)))) (A .says X most bottom k S σ K p c g l);
   }
 
   pub plain-here :
@@ -229,8 +229,8 @@ module _ (text w : List ℕ) (h : Walk) (s : Left) (name at : ℕ) (lexed : Lexe
         says = λ X most bottom k S σ K p c g l.
             let y = L .says S (g .scope .walkable .scope) (g .scope .variables) in
             let H = g .scope .walkable .state in
-            subst (λ (m : Answer Terming). StepAnswers text X most bottom w′ r m) (sym (looked-here (runAt text name) (λ i t. node name (variable (σ .table) i t) t 0 [] σ >>= λ m. behindAtom (hereOf k S K) p m (from text at)) (termPutIn X (bodiesIn text w X) (hereOf k S K) p σ (boundAt text name) (from text at)) (S .variables) i t y)) (
-            subst (λ (us : List Word). StepAnswers text X most bottom w′ r (node name (variable (σ .table) i t) t 0 [] σ >>= λ m. behindAtom (hereOf k S K) p m us)) (words-lexed text at lexed) (
+            subst (λ (m : Answer Terming). StepAnswers text X most bottom w′ r m) (sym (looked-here (runAt text name) (λ i t. node name (variable (σ .table) i t) t 0 [] σ >>= λ m. behindAtom (termHereWith k S K) p m (from text at)) (termPutIn X (bodiesIn text w X) (termHereWith k S K) p σ (boundAt text name) (from text at)) (S .variables) i t y)) (
+            subst (λ (us : List Word). StepAnswers text X most bottom w′ r (node name (variable (σ .table) i t) t 0 [] σ >>= λ m. behindAtom (termHereWith k S K) p m us)) (words-lexed text at lexed) (
             M .says text X most bottom k S K p (node name (variable (σ .table) i t) t 0 [] σ) c (λ _. lexed) (here-now text X most bottom w w₁ h S σ K g st) (Q .says σ H (looked-typed (length (σ .table)) (runAt text name) (S .variables) i t (g .scope .walkable .variables) y)) (counted-nodes (h .waiting) (σ .nodes) x _ (g .few) (node-counts name (variable (σ .table) i t) t 0 [] σ)) (left-stays (h .more) (h .top) (h .waiting) w w₁ st s p l)));
       }
 
@@ -290,7 +290,7 @@ put-can text w h s nm at C inside x n end w₁ e P =
     b : (h .top ≤ mostEntries) × (h .waiting ≤ 2048) × (h .more ≤ 80)
     b = enter-room text w h (C .can)
 
-    st : Stepped (h .more) (h .top) (h .waiting) w w₁
+    st : LevelWrites (h .more) (h .top) (h .waiting) w w₁
     st = stepped-types (h .more) (h .more - 1) (h .top) (h .waiting) w w₁ (omega arith) (b .1) (P .walked)
 
     by : (m : Answer (Got FoundAll)) → TypesAnswer text w₁ (h .top) (types-end.At n end) m → CanAtom text w₁ h s × (Lexed text end × ((nm ≤ length text) × ((h .top + n ≤ mostEntries) × TypesWait w₁ (h .top) n)))
@@ -337,10 +337,10 @@ module _ (text w : List ℕ) (h : Walk) (s : Left) (v : code-word.Word) (looks :
   kind-is : (n : ℕ) → v .kind ≡ n → tokenCode t ≡ n
   kind-is n e = sym (looks .code) ∙ e
 
-  pub atom-round : CanAsk w h → v .kind ≡ 11 → (lv : Level) → lv ≡ partLevel 7 s 0 0 → (r : step.Step) (w′ : List ℕ) → Asks w h lv (h .frame) (h .top) (h .waiting) (v .end) r w′ → AtomSays text w h s (atomEntry text (h .at)) r w′
+  pub atom-round : CanAskTerm w h → v .kind ≡ 11 → (lv : Level) → lv ≡ partLevel 7 s 0 0 → (r : step.Step) (w′ : List ℕ) → Asks w h lv (h .frame) (h .top) (h .waiting) (v .end) r w′ → AtomSays text w h s (atomEntry text (h .at)) r w′
   atom-round C e lv el r w′ A₀ = record {
     stepped = stepped-asks w h lv (h .frame) (h .top) (h .waiting) (v .end) r w′ C A₀;
-    says = λ X most bottom k S σ K p c g l. subst (λ (m : Answer Terming). StepAnswers text X most bottom w′ r m) (sym (enters-round X (bodiesIn text w X) (hereOf k S K) p σ t (kind-is 11 e) ∙ ap (λ (us : List Word). good (askTerm (hereOf k S K) (element p []) S σ us)) (looks .rest))) (
+    says = λ X most bottom k S σ K p c g l. subst (λ (m : Answer Terming). StepAnswers text X most bottom w′ r m) (sym (enters-round X (bodiesIn text w X) (termHereWith k S K) p σ t (kind-is 11 e) ∙ ap (λ (us : List Word). good (askTerm (termHereWith k S K) (element p []) S σ us)) (looks .rest))) (
         asked text X most bottom w h S σ K k c g (partLevel 7 s 0 0) (element p []) (h .frame) (h .top) (h .waiting) (v .end) S (refl, refl, record { place = l .place; function = l .function }, tt) (record { walkable = g .scope .walkable; above = omega (arith, g .scope .above, c); variables = g .scope .variables }) (omega arith) (omega arith) (g .few) (looks .readable) r w′ (subst (λ (y : Level). Asks w h y (h .frame) (h .top) (h .waiting) (v .end) r w′) el A₀));
   }
 
@@ -353,10 +353,10 @@ module _ (text w : List ℕ) (h : Walk) (s : Left) (v : code-word.Word) (looks :
         stepped = stepped-then (h .more) (h .top) (h .waiting) w w₁ w′ st (M .stepped top few);
         says = λ X most bottom k S σ K p c g l.
             let H = g .scope .walkable .state in
-            subst (λ (m : Answer Terming). StepAnswers text X most bottom w′ r m) (sym (enters-part X (bodiesIn text w X) (hereOf k S K) p σ t (kind-is 22 e))) (
-            subst (λ (us : List Word). StepAnswers text X most bottom w′ r (partOf (X .edition) σ (place ws) (tokenValue t) >>= λ m. behindAtom (hereOf k S K) p m us)) (sym (looks .rest)) (
-            subst (λ (n : ℕ). StepAnswers text X most bottom w′ r (partOf (X .edition) σ n (tokenValue t) >>= λ m. behindAtom (hereOf k S K) p m (wordsAt text (v .end)))) (looks .place) (
-            subst (λ (n : ℕ). StepAnswers text X most bottom w′ r (partOf (X .edition) σ (v .start) n >>= λ m. behindAtom (hereOf k S K) p m (wordsAt text (v .end)))) (looks .value) (
+            subst (λ (m : Answer Terming). StepAnswers text X most bottom w′ r m) (sym (enters-part X (bodiesIn text w X) (termHereWith k S K) p σ t (kind-is 22 e))) (
+            subst (λ (us : List Word). StepAnswers text X most bottom w′ r (partOf (X .edition) σ (place ws) (tokenValue t) >>= λ m. behindAtom (termHereWith k S K) p m us)) (sym (looks .rest)) (
+            subst (λ (n : ℕ). StepAnswers text X most bottom w′ r (partOf (X .edition) σ n (tokenValue t) >>= λ m. behindAtom (termHereWith k S K) p m (wordsAt text (v .end)))) (looks .place) (
+            subst (λ (n : ℕ). StepAnswers text X most bottom w′ r (partOf (X .edition) σ (v .start) n >>= λ m. behindAtom (termHereWith k S K) p m (wordsAt text (v .end)))) (looks .value) (
             M .says text X most bottom k S K p (partOf (X .edition) σ (v .start) (v .value)) c (looks .readable) (here-now text X most bottom w w₁ h S σ K g st) (P .says (X .edition) σ (edition-in w X (g .scope .walkable .clauses .edition)) H) (counted-nodes (h .waiting) (σ .nodes) x _ (g .few) (part-counts (X .edition) σ (v .start) (v .value))) (left-stays (h .more) (h .top) (h .waiting) w w₁ st s p l)))));
       }
 
@@ -365,20 +365,20 @@ module _ (text w : List ℕ) (h : Walk) (s : Left) (v : code-word.Word) (looks :
     stepped = A .stepped;
     says = λ X most bottom k S σ K p c g l.
         let o = looks .onward (λ z. absurd (omega (arith, e, z))) in
-        subst (λ (u : Token). StepAnswers text X most bottom w′ r (atomEntered X (bodiesIn text w X) (hereOf k S K) p σ u ws)) (sym (looks .named e)) (
-        subst (λ (us : List Word). StepAnswers text X most bottom w′ r (termNamedAt X (bodiesIn text w X) (hereOf k S K) p σ (record { name = runAt text (v .start); place = place ws }) us)) (sym (looks .rest ∙ words-lexed text (v .end) o)) (
-        subst (λ (n : ℕ). StepAnswers text X most bottom w′ r (termNamedAt X (bodiesIn text w X) (hereOf k S K) p σ (record { name = runAt text (v .start); place = n }) (from text (v .end)))) (looks .place) (A .says X most bottom k S σ K p c g l)));
+        subst (λ (u : Token). StepAnswers text X most bottom w′ r (atomEntered X (bodiesIn text w X) (termHereWith k S K) p σ u ws)) (sym (looks .named e)) (
+        subst (λ (us : List Word). StepAnswers text X most bottom w′ r (termNamedAt X (bodiesIn text w X) (termHereWith k S K) p σ (record { name = runAt text (v .start); place = place ws }) us)) (sym (looks .rest ∙ words-lexed text (v .end) o)) (
+        subst (λ (n : ℕ). StepAnswers text X most bottom w′ r (termNamedAt X (bodiesIn text w X) (termHereWith k S K) p σ (record { name = runAt text (v .start); place = n }) (from text (v .end)))) (looks .place) (A .says X most bottom k S σ K p c g l)));
   }
 
   pub atom-none : ¬ (v .kind ≡ 11) → ¬ (v .kind ≡ 22) → ¬ (v .kind ≡ 24) → AtomSays text w h s (atomEntry text (h .at)) (step-is.Refused 32 (v .start)) w
   atom-none a b d = record {
     stepped = stepped-none (h .more) (h .top) (h .waiting) w;
-    says = λ X most bottom k S σ K p c g l. subst (λ (m : Answer Terming). StepAnswers text X most bottom w (step-is.Refused 32 (v .start)) m) (sym (enters-none X (bodiesIn text w X) (hereOf k S K) p σ t (λ q. a (looks .code ∙ q)) (λ q. b (looks .code ∙ q)) (λ q. d (looks .code ∙ q)))) (ap (numbered 32) (sym (looks .place)));
+    says = λ X most bottom k S σ K p c g l. subst (λ (m : Answer Terming). StepAnswers text X most bottom w (step-is.Refused 32 (v .start)) m) (sym (enters-none X (bodiesIn text w X) (termHereWith k S K) p σ t (λ q. a (looks .code ∙ q)) (λ q. b (looks .code ∙ q)) (λ q. d (looks .code ∙ q)))) (ap (numbered 32) (sym (looks .place)));
   }
 
 -- ---- an application that goes on
 
-module _ (text w : List ℕ) (h : Walk) (readable : Readable text (h .at)) where
+module _ (text w : List ℕ) (h : Walk) (readable : ReadableFrom text (h .at)) where
   pub application-on : beginsAtom (wordsAt text (h .at)) ≡ true → (r : step.Step) (w′ : List ℕ) → AtomSays text w h (record { place = h .place; flag = 1; sub = h .sub }) (atomEntry text (h .at)) r w′ → ApplicationSays text w h r w′
   application-on e r w′ A = record {
     stepped = A .stepped;

@@ -26,15 +26,15 @@ use Rattle.term_walk.specs.declared.Walk.{Walk}
 use Rattle.term_walk.specs.declared.Left.{Left}
 use Rattle.term_parts.specs.Halves.{HalvesIn, PartsOnly}
 use Rattle.term_parts.proofs.Stay.{halves-stay}
-use Rattle.term_walk.specs.Holding.{Stepped, FunctionHeld, LeftHeld, subIn, leftIn, entriesOf, halvesFor, WishHeld, ScopeHeld, LevelHeld, LevelsHeld, Here}
-use Rattle.term_walk.specs.Steps.{aroundOf, HereNow}
+use Rattle.term_walk.specs.Holding.{LevelWrites, FunctionHeld, LeftHeld, subIn, leftBy, entriesOf, halvesFor, WishHeld, ScopeHeld, TermLevelHeld, TermLevelsHeld, HereHeld}
+use Rattle.term_walk.specs.Steps.{aroundWalk, HereNow}
 
 -- ---- what a level writes
 
-pub stepped-none : (m top waiting : ℕ) (w : List ℕ) → Stepped m top waiting w w
+pub stepped-none : (m top waiting : ℕ) (w : List ℕ) → LevelWrites m top waiting w w
 stepped-none m top waiting w = record { walked = terms-walked-none m top w; halves = λ j a b. refl }
 
-pub stepped-then : (m top waiting : ℕ) (u v w : List ℕ) → Stepped m top waiting u v → Stepped m top waiting v w → Stepped m top waiting u w
+pub stepped-then : (m top waiting : ℕ) (u v w : List ℕ) → LevelWrites m top waiting u v → LevelWrites m top waiting v w → LevelWrites m top waiting u w
 stepped-then m top waiting u v w a b = record {
   walked = terms-walked-then m m m top top top u v w (omega arith) (omega arith) (omega arith) (omega arith) (a .walked) (b .walked);
   halves = λ j h l. b .halves j h l ∙ a .halves j h l;
@@ -43,23 +43,23 @@ stepped-then m top waiting u v w a b = record {
 walked-more : (m k top : ℕ) (w w′ : List ℕ) → k ≤ m → TermsWalked k top w w′ → TermsWalked m top w w′
 walked-more m k top w w′ h a = terms-walked-then k m m top top top w w′ w′ h (omega arith) (omega arith) (omega arith) a (terms-walked-none m top w′)
 
-pub stepped-types : (m k top waiting : ℕ) (w w′ : List ℕ) → k ≤ m → waiting ≤ 2048 → TypesWalked k top w w′ → Stepped m top waiting w w′
+pub stepped-types : (m k top waiting : ℕ) (w w′ : List ℕ) → k ≤ m → waiting ≤ 2048 → TypesWalked k top w w′ → LevelWrites m top waiting w w′
 stepped-types m k top waiting w w′ h few a = record { walked = walked-more m k top w w′ h (terms-of-types k top w w′ a); halves = λ j b l. a .middle j b (omega arith) }
 
-pub stepped-made : (m top waiting : ℕ) (w w′ : List ℕ) → top ≤ mostEntries → waiting ≤ 2048 → MadeOnly w w′ → Stepped m top waiting w w′
+pub stepped-made : (m top waiting : ℕ) (w w′ : List ℕ) → top ≤ mostEntries → waiting ≤ 2048 → MadeOnly w w′ → LevelWrites m top waiting w w′
 stepped-made m top waiting w w′ h few a = record { walked = terms-of-made m top w w′ h a; halves = λ j b l. a .above j (omega arith) (λ e. omega arith) (λ e. omega arith) }
 
-pub stepped-parts : (m top waiting : ℕ) (w w′ : List ℕ) → PartsOnly top waiting w w′ → Stepped m top waiting w w′
+pub stepped-parts : (m top waiting : ℕ) (w w′ : List ℕ) → PartsOnly top waiting w w′ → LevelWrites m top waiting w w′
 stepped-parts m top waiting w w′ a = record { walked = walked-more m 0 top w w′ (omega arith) (a .walked); halves = a .halves }
 
-pub stepped-entries : (m top waiting from to : ℕ) (w w′ : List ℕ) → top ≤ from → to ≤ mostEntries → waiting ≤ 2048 → OnlyEntries from to w w′ → Stepped m top waiting w w′
+pub stepped-entries : (m top waiting from to : ℕ) (w w′ : List ℕ) → top ≤ from → to ≤ mostEntries → waiting ≤ 2048 → OnlyEntries from to w w′ → LevelWrites m top waiting w w′
 stepped-entries m top waiting from to w w′ h l few a = stepped-types m m top waiting w w′ (omega arith) few (types-of-entries m top from to w w′ h l a)
 
-pub stepped-pushed : (k top waiting : ℕ) (w : List ℕ) (l : Level) (s : Around) → k < 82 → makingSize ≤ length w → top ≤ mostEntries → waiting ≤ 2048 → Stepped k top waiting w (pushed w k l s)
+pub stepped-pushed : (k top waiting : ℕ) (w : List ℕ) (l : Level) (s : Around) → k < 82 → makingSize ≤ length w → top ≤ mostEntries → waiting ≤ 2048 → LevelWrites k top waiting w (pushed w k l s)
 stepped-pushed k top waiting w l s few room h most = stepped-types k k top waiting w (pushed w k l s) (omega arith) most (types-of-pushed k k top w l s (omega arith) few room h)
 
 -- .. fewer entries and terms are asked to stay
-pub stepped-less : (m k top top′ waiting waiting′ : ℕ) (w w′ : List ℕ) → m ≤ k → top′ ≤ top → waiting′ ≤ waiting → Stepped m top waiting w w′ → Stepped k top′ waiting′ w w′
+pub stepped-less : (m k top top′ waiting waiting′ : ℕ) (w w′ : List ℕ) → m ≤ k → top′ ≤ top → waiting′ ≤ waiting → LevelWrites m top waiting w w′ → LevelWrites k top′ waiting′ w w′
 stepped-less m k top top′ waiting waiting′ w w′ h t l a = record {
   walked = terms-walked-then m k k top top′ top′ w w′ w′ h (omega arith) t (omega arith) (a .walked) (terms-walked-none k top′ w′);
   halves = λ j b c. a .halves j b (omega arith);
@@ -67,7 +67,7 @@ stepped-less m k top top′ waiting waiting′ w w′ h t l a = record {
 
 -- ---- what stays
 
-module _ (m top waiting : ℕ) (w w′ : List ℕ) (a : Stepped m top waiting w w′) where
+module _ (m top waiting : ℕ) (w w′ : List ℕ) (a : LevelWrites m top waiting w w′) where
   level-same : (k : ℕ) → suc m ≤ k → k < 82 → levelIn w′ k ≡ levelIn w k
   level-same k h l =
       let s : (j : ℕ) → j < 8 → getD w′ (levelsAt + 8 * k + j) 0 ≡ getD w (levelsAt + 8 * k + j) 0 = λ j q. a .walked .levels (levelsAt + 8 * k + j) (omega arith) (omega arith) in
@@ -98,8 +98,8 @@ module _ (m top waiting : ℕ) (w w′ : List ℕ) (a : Stepped m top waiting w 
   wish-stays text t wt l (valueOfNames at xs) b c h = h
   wish-stays text t wt l (underName x v) b c (f, p, h) = (f, p, term-stays (subIn l) v h)
   wish-stays text t wt l (underNames ps) b c (f, n, h) = (f, n, halves-stay _ _ w w′ wt ps (λ j x y. a .halves j x (omega arith)) term-stays h)
-  wish-stays text t wt l (element s before) b c (f, n, s′, h) = (f, n, left-stays (leftIn l) s s′, halves-stay _ _ w w′ wt before (λ j x y. a .halves j x (omega arith)) term-stays h)
-  wish-stays text t wt l (ofDefinition s us) b c (f, s′, u, x) = (f, left-stays (leftIn l) s s′, u, x)
+  wish-stays text t wt l (element s before) b c (f, n, s′, h) = (f, n, left-stays (leftBy l) s s′, halves-stay _ _ w w′ wt before (λ j x y. a .halves j x (omega arith)) term-stays h)
+  wish-stays text t wt l (ofDefinition s us) b c (f, s′, u, x) = (f, left-stays (leftBy l) s s′, u, x)
 
   module _ (text : List ℕ) (X : Text) (σ σ′ : State) (H′ : HoldsState w′ σ′) where
     pub scope-stays : (k frame t : ℕ) (S : Scope) → m ≤ k → t ≤ top → ScopeHeld text w X k frame t S σ → ScopeHeld text w′ X k frame t S σ′
@@ -109,7 +109,7 @@ module _ (m top waiting : ℕ) (w w′ : List ℕ) (a : Stepped m top waiting w 
       variables = ap (λ (f : Frame). f .variables) (frame-on-terms m top text w w′ (a .walked) frame (omega (arith, g .above)) (g .walkable .level)) ∙ g .variables;
     }
 
-    level-stays : (most k t wt : ℕ) (l : TermLevel) → most ≤ 81 → m ≤ k → t ≤ top → wt ≤ waiting → LevelHeld text X most w σ (suc k) t wt l → LevelHeld text X most w′ σ′ (suc k) t wt l
+    level-stays : (most k t wt : ℕ) (l : TermLevel) → most ≤ 81 → m ≤ k → t ≤ top → wt ≤ waiting → TermLevelHeld text X most w σ (suc k) t wt l → TermLevelHeld text X most w′ σ′ (suc k) t wt l
     level-stays most k t wt l nested h b c g =
         let e = level-same (suc k) (omega arith) (omega (arith, g .within)) in
         let f = around-same (suc k) (omega arith) (omega (arith, g .within)) in
@@ -122,18 +122,18 @@ module _ (m top waiting : ℕ) (w w′ : List ℕ) (a : Stepped m top waiting w 
           halves = subst (λ (x : Around). x .waiting + halvesFor (l .wish) ≤ wt) (sym f) (g .halves);
         }
 
-    pub levels-stay : (most bottom k t wt : ℕ) (K : List TermLevel) → most ≤ 81 → m ≤ k → t ≤ top → wt ≤ waiting → LevelsHeld text X most bottom w σ k t wt K → LevelsHeld text X most bottom w′ σ′ k t wt K
+    pub levels-stay : (most bottom k t wt : ℕ) (K : List TermLevel) → most ≤ 81 → m ≤ k → t ≤ top → wt ≤ waiting → TermLevelsHeld text X most bottom w σ k t wt K → TermLevelsHeld text X most bottom w′ σ′ k t wt K
     levels-stay most bottom k t wt [] nested h b c g = g
     levels-stay most bottom k t wt (l ∷ K) nested h b c (g, r) =
         let f = around-same (suc k) (omega arith) (omega (arith, g .within)) in
         let p : scopeIn w (suc k) .top ≤ top = omega (arith, g .entries) in
         let q : scopeIn w (suc k) .waiting ≤ waiting = omega (arith, g .halves) in
-        (level-stays most k t wt l nested h b c g, subst (λ (x : Around). LevelsHeld text X most bottom w′ σ′ (suc k) (x .top) (x .waiting) K) (sym f) (levels-stay most bottom (suc k) (scopeIn w (suc k) .top) (scopeIn w (suc k) .waiting) K nested (omega arith) p q r))
+        (level-stays most k t wt l nested h b c g, subst (λ (x : Around). TermLevelsHeld text X most bottom w′ σ′ (suc k) (x .top) (x .waiting) K) (sym f) (levels-stay most bottom (suc k) (scopeIn w (suc k) .top) (scopeIn w (suc k) .waiting) K nested (omega arith) p q r))
 
 -- ---- the level that the walk is at
 
-module _ (text : List ℕ) (X : Text) (most bottom : ℕ) (w w′ : List ℕ) (n : Walk) (S : Scope) (σ : State) (K : List TermLevel) (g : Here text X most bottom w n S σ K) (a : Stepped (n .more) (n .top) (n .waiting) w w′) where
-  pub here-stays : (σ′ : State) → HoldsState w′ σ′ → Here text X most bottom w′ n S σ′ K
+module _ (text : List ℕ) (X : Text) (most bottom : ℕ) (w w′ : List ℕ) (n : Walk) (S : Scope) (σ : State) (K : List TermLevel) (g : HereHeld text X most bottom w n S σ K) (a : LevelWrites (n .more) (n .top) (n .waiting) w w′) where
+  pub here-stays : (σ′ : State) → HoldsState w′ σ′ → HereHeld text X most bottom w′ n S σ′ K
   here-stays σ′ H′ = record {
     scope = scope-stays (n .more) (n .top) (n .waiting) w w′ a text X σ σ′ H′ (n .more) (n .frame) (n .top) S (omega arith) (omega arith) (g .scope);
     few = omega (arith, g .few, g .scope .walkable .state .nodes, H′ .nodes, a .walked .more-nodes);
@@ -145,7 +145,7 @@ module _ (text : List ℕ) (X : Text) (most bottom : ℕ) (w w′ : List ℕ) (n
   here-now = record { now = here-stays }
 
 -- the walk is at no level above the first, and over no fewer entries
-pub levels-within : (text : List ℕ) (X : Text) (most bottom : ℕ) (w : List ℕ) (σ : State) (k t wt : ℕ) (K : List TermLevel) → LevelsHeld text X most bottom w σ k t wt K → (k ≤ most) × (bottom ≤ t)
+pub levels-within : (text : List ℕ) (X : Text) (most bottom : ℕ) (w : List ℕ) (σ : State) (k t wt : ℕ) (K : List TermLevel) → TermLevelsHeld text X most bottom w σ k t wt K → (k ≤ most) × (bottom ≤ t)
 levels-within text X most bottom w σ k t wt [] (e, h) = (omega arith, h)
 levels-within text X most bottom w σ k t wt (l ∷ K) (g, r) = let q = levels-within text X most bottom w σ (suc k) (scopeIn w (suc k) .top) (scopeIn w (suc k) .waiting) K r in (omega (arith, q .0), omega (arith, q .1, g .entries))
 

@@ -15,7 +15,7 @@ use Rattle.words.specs.Tables.{tokenCode, tokenValue}
 use Rattle.words.specs.Next.{runAt, saidWord}
 use Rattle.words.specs.Lexed.{lexed, valued, from, Lexed, Stands}
 use Rattle.words.specs.declared.Word.{Word}
-use Rattle.term_walk.specs.Looks.{wordsAt, Readable, Looks}
+use Rattle.term_walk.specs.Looks.{wordsAt, ReadableFrom, Looks}
 
 -- ---- the place of a word is an offset of the text
 

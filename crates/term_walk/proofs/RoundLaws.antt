@@ -44,9 +44,9 @@ use Rattle.term_walk.specs.declared.Walk.{Walk}
 use Rattle.term_walk.specs.declared.Left.{Left}
 use Rattle.term_walk.specs.declared.Step as step
 use Rattle.term_walk.specs.declared.Step.the-variants as step-is
-use Rattle.term_walk.specs.Looks.{wordsAt, Readable, Looks}
-use Rattle.term_walk.specs.Holding.{Stepped, LeftHeld, entriesOf, halvesFor, WishHeld, ScopeHeld, LevelHeld, LevelsHeld, Here, TermCame, CameHere, AtWords, HoldsTerming}
-use Rattle.term_walk.specs.Steps.{StepAnswers, hereOf, bodiesIn, Entry, CanEnter, EnterSays, functionEntry, fixEntry, letEntry, atomEntry, AtomSays, CanNames, CanLeave, LeaveSays, CanApplication, ApplicationSays, CanStep, StepSays, Finished}
+use Rattle.term_walk.specs.Looks.{wordsAt, ReadableFrom, Looks}
+use Rattle.term_walk.specs.Holding.{LevelWrites, LeftHeld, entriesOf, halvesFor, WishHeld, ScopeHeld, TermLevelHeld, TermLevelsHeld, HereHeld, TermCame, CameHere, AtWords, HoldsTerming}
+use Rattle.term_walk.specs.Steps.{StepAnswers, termHereWith, bodiesIn, LevelEntry, CanEnter, EnterSays, functionEntry, fixEntry, letEntry, atomEntry, AtomSays, CanNames, CanLeave, LeaveSays, CanApplication, ApplicationSays, CanMoveTerm, StepSays, Finished}
 use Rattle.term_walk.proofs.LookLaws.{words-lexed}
 use Rattle.term_walk.proofs.HoldLaws.{stepped-none, levels-within}
 
@@ -60,7 +60,7 @@ module _ (text : List ℕ) (at : ℕ) (v : code-word.Word) (looks : Looks text a
   look-no t e = token-is t (peek (wordsAt text at) .token) ∙ ne-eqb _ _ (λ q. e (looks .code ∙ sym q))
 
 -- what a level writes is nothing above the walk
-pub step-walked : (text : List ℕ) (X : Text) (most bottom : ℕ) (w w′ : List ℕ) (h : Walk) (S : Scope) (σ : State) (K : List TermLevel) → Here text X most bottom w h S σ K → Stepped (h .more) (h .top) (h .waiting) w w′ → TermsWalked most bottom w w′
+pub step-walked : (text : List ℕ) (X : Text) (most bottom : ℕ) (w w′ : List ℕ) (h : Walk) (S : Scope) (σ : State) (K : List TermLevel) → HereHeld text X most bottom w h S σ K → LevelWrites (h .more) (h .top) (h .waiting) w w′ → TermsWalked most bottom w w′
 step-walked text X most bottom w w′ h S σ K g st =
     let b = levels-within text X most bottom w σ (h .more) (h .top) (h .waiting) K (g .levels) in
     terms-walked-then (h .more) most most (h .top) bottom bottom w w′ w′ (b .0) (omega arith) (b .1) (omega arith) (st .walked) (terms-walked-none most bottom w′)
@@ -80,17 +80,17 @@ module _ (text w : List ℕ) (h : Walk) (z : h .phase ≡ 0) where
       by X most bottom (cameTerm more m us K) hh o = absurd (omega (arith, hh .0, z))
       by X most bottom (applying more S at f us K) hh o = absurd (omega (arith, hh .0, z))
 
-  pub enter-by : ¬ (h .more ≡ 0) → (D : Entry) → ((X : Text) (bodies : List (List Word)) (h′ : TermHere) (σ : State) → termEntered X bodies h′ σ ws ≡ D X bodies h′ σ) → (r : step.Step) (w′ : List ℕ) → EnterSays text w h D r w′ → StepSays text w h r w′
+  pub enter-by : ¬ (h .more ≡ 0) → (D : LevelEntry) → ((X : Text) (bodies : List (List Word)) (h′ : TermHere) (σ : State) → termEntered X bodies h′ σ ws ≡ D X bodies h′ σ) → (r : step.Step) (w′ : List ℕ) → EnterSays text w h D r w′ → StepSays text w h r w′
   enter-by e D is-entered r w′ E = record { says = by }
     where
       by : (X : Text) (most bottom : ℕ) (s : Terming) → HoldsTerming text X most bottom w h s → TermGoing s → TermsWalked most bottom w w′ × StepAnswers text X most bottom w′ r (termMove X (bodiesIn text w X) s)
       by X most bottom (wantedTerm zero S σ us K) (p, m, a, g) o = absurd (e m)
-      by X most bottom (wantedTerm (suc k) S σ us K) (p, m, a, g) o = (step-walked text X most bottom w w′ h S σ K g (E .stepped), subst (λ (q : Answer Terming). StepAnswers text X most bottom w′ r q) (sym (ap (termEntered X (bodiesIn text w X) (hereOf k S K) σ) (a .is) ∙ is-entered X (bodiesIn text w X) (hereOf k S K) σ)) (E .says X most bottom k S σ K m g))
+      by X most bottom (wantedTerm (suc k) S σ us K) (p, m, a, g) o = (step-walked text X most bottom w w′ h S σ K g (E .stepped), subst (λ (q : Answer Terming). StepAnswers text X most bottom w′ r q) (sym (ap (termEntered X (bodiesIn text w X) (termHereWith k S K) σ) (a .is) ∙ is-entered X (bodiesIn text w X) (termHereWith k S K) σ)) (E .says X most bottom k S σ K m g))
       by X most bottom (cameTerm more m us K) hh o = absurd (omega (arith, hh .0, z))
       by X most bottom (applying more S at f us K) hh o = absurd (omega (arith, hh .0, z))
 
   -- the level can be entered
-  pub can-enter : CanStep text w h → ¬ (h .more ≡ 0) → CanEnter text w h
+  pub can-enter : CanMoveTerm text w h → ¬ (h .more ≡ 0) → CanEnter text w h
   can-enter C e = by (C .s) (C .holds)
     where
       by : (s : Terming) → HoldsTerming text (C .X) (C .most) (C .bottom) w h s → CanEnter text w h
@@ -110,7 +110,7 @@ module _ (text w : List ℕ) (h : Walk) (z : h .phase ≡ 0) where
     entered-let a b e X bodies h′ σ = rw (look-no text (h .at) v looks fun a, look-no text (h .at) v looks fix b, look-yes text (h .at) v looks lets e) (ap (λ (n : ℕ). letFrom X bodies h′ σ n (behind ws)) (sym (looks .place)) ∙ ap (letFrom X bodies h′ σ (v .start)) (looks .rest ∙ words-lexed text (v .end) (looks .onward (λ q. absurd (omega (arith, e, q))))))
 
     -- .. an application
-    abbrev spineEntry : Entry
+    abbrev spineEntry : LevelEntry
     spineEntry X bodies h′ σ = atomEntered X bodies h′ (record { place = place ws; function = none }) σ (peek ws .token) ws
 
     pub entered-atom : ¬ (v .kind ≡ 1) → ¬ (v .kind ≡ 2) → ¬ (v .kind ≡ 3) → (X : Text) (bodies : List (List Word)) (h′ : TermHere) (σ : State) → termEntered X bodies h′ σ ws ≡ spineEntry X bodies h′ σ
@@ -136,7 +136,7 @@ module _ (text w : List ℕ) (n : Walk) (z : n .phase ≡ 1) where
   abbrev levelOf : ℕ → Walk
   levelOf j = record { phase = 1; more = j; frame = scopeIn w j .frame; top = scopeIn w j .top; waiting = scopeIn w j .waiting; place = 0; sub = n .sub; at = n .at }
 
-  level-here : (X : Text) (most bottom : ℕ) (m : Made) (l : TermLevel) (K : List TermLevel) → CameHere text X most bottom w n m (l ∷ K) → Here text X most bottom w (levelOf (suc (n .more))) (l .scope) (m .state) K
+  level-here : (X : Text) (most bottom : ℕ) (m : Made) (l : TermLevel) (K : List TermLevel) → CameHere text X most bottom w n m (l ∷ K) → HereHeld text X most bottom w (levelOf (suc (n .more))) (l .scope) (m .state) K
   level-here X most bottom m l K c = let g = c .here .levels in record { scope = g .0 .scope; few = omega (arith, g .0 .halves, c .here .few); levels = g .1; nested = c .here .nested }
 
   level-came : (X : Text) (most bottom : ℕ) (m : Made) (l : TermLevel) (K : List TermLevel) → CameHere text X most bottom w n m (l ∷ K) → TermCame w (n .sub) (scopeIn w (suc (n .more)) .waiting + halvesFor (l .wish)) m
@@ -145,7 +145,7 @@ module _ (text w : List ℕ) (n : Walk) (z : n .phase ≡ 1) where
   level-entries : (X : Text) (most bottom : ℕ) (m : Made) (l : TermLevel) (K : List TermLevel) → CameHere text X most bottom w n m (l ∷ K) → scopeIn w (suc (n .more)) .top + entriesOf (l .wish) ≤ mostEntries
   level-entries X most bottom m l K c = omega (arith, c .here .levels .0 .entries, c .here .scope .walkable .scope .places .most)
 
-  pub can-leave : (j : ℕ) → j ≡ suc (n .more) → CanStep text w n → CanLeave text w (levelOf j) (levelIn w j) (n .sub)
+  pub can-leave : (j : ℕ) → j ≡ suc (n .more) → CanMoveTerm text w n → CanLeave text w (levelOf j) (levelIn w j) (n .sub)
   can-leave j e C = subst (λ (i : ℕ). CanLeave text w (levelOf i) (levelIn w i) (n .sub)) (sym e) (by (C .s) (C .holds) (C .going))
     where
       by : (s : Terming) → HoldsTerming text (C .X) (C .most) (C .bottom) w n s → TermGoing s → CanLeave text w (levelOf (suc (n .more))) (levelIn w (suc (n .more))) (n .sub)
@@ -170,7 +170,7 @@ module _ (text w : List ℕ) (n : Walk) (z : n .phase ≡ 1) where
       }
 
   -- there is a level for it in the memory
-  pub level-room : CanStep text w n → (n .more + 1 ≤ 80) × (makingSize ≤ length w)
+  pub level-room : CanMoveTerm text w n → (n .more + 1 ≤ 80) × (makingSize ≤ length w)
   level-room C = by (C .s) (C .holds) (C .going)
     where
       by : (s : Terming) → HoldsTerming text (C .X) (C .most) (C .bottom) w n s → TermGoing s → (n .more + 1 ≤ 80) × (makingSize ≤ length w)
@@ -191,7 +191,7 @@ module _ (text w : List ℕ) (n : Walk) (z : n .phase ≡ 1) where
       by X most bottom (cameTerm more m us []) hh o = absurd o
       by X most bottom (cameTerm more m us (l ∷ K)) (p, q, a, c) o =
           let g = level-here X most bottom m l K c in
-          (step-walked text X most bottom w w′ (levelOf (suc (n .more))) (l .scope) (m .state) K g (L .stepped), subst (λ (us : List Word). StepAnswers text X most bottom w′ r (termLeft X (bodiesIn text w X) (hereOf more (l .scope) K) (l .wish) m us)) (sym (a .is)) (subst (λ (i : ℕ). StepAnswers text X most bottom w′ r (termLeft X (bodiesIn text w X) (hereOf i (l .scope) K) (l .wish) m (wordsAt text (n .at)))) q (L .says X most bottom (n .more) (l .scope) K (l .wish) m refl g (c .here .levels .0 .wish) (level-entries X most bottom m l K c) (level-came X most bottom m l K c) (a .readable))))
+          (step-walked text X most bottom w w′ (levelOf (suc (n .more))) (l .scope) (m .state) K g (L .stepped), subst (λ (us : List Word). StepAnswers text X most bottom w′ r (termLeft X (bodiesIn text w X) (termHereWith more (l .scope) K) (l .wish) m us)) (sym (a .is)) (subst (λ (i : ℕ). StepAnswers text X most bottom w′ r (termLeft X (bodiesIn text w X) (termHereWith i (l .scope) K) (l .wish) m (wordsAt text (n .at)))) q (L .says X most bottom (n .more) (l .scope) K (l .wish) m refl g (c .here .levels .0 .wish) (level-entries X most bottom m l K c) (level-came X most bottom m l K c) (a .readable))))
 
   -- .. by what the code reads of it
   abbrev walkBy : ℕ → ℕ → ℕ → ℕ → Walk
@@ -201,7 +201,7 @@ module _ (text w : List ℕ) (n : Walk) (z : n .phase ≡ 1) where
     walk-is : walkBy j frame top waiting ≡ levelOf j
     walk-is = ap (λ (x : ℕ). walkBy j x top waiting) (ef ∙ ap (λ (b : Around). b .frame) ea) ∙ ap (λ (x : ℕ). walkBy j (scopeIn w j .frame) x waiting) (et ∙ ap (λ (b : Around). b .top) ea) ∙ ap (λ (x : ℕ). walkBy j (scopeIn w j .frame) (scopeIn w j .top) x) (ew ∙ ap (λ (b : Around). b .waiting) ea)
 
-    pub can-leave-by : CanStep text w n → CanLeave text w (walkBy j frame top waiting) l (n .sub)
+    pub can-leave-by : CanMoveTerm text w n → CanLeave text w (walkBy j frame top waiting) l (n .sub)
     can-leave-by C = subst (λ (x : Walk). CanLeave text w x l (n .sub)) (sym walk-is) (subst (λ (y : Level). CanLeave text w (levelOf j) y (n .sub)) (sym el) (can-leave j e C))
 
     pub leave-says-by : (r : step.Step) (w′ : List ℕ) → LeaveSays text w (walkBy j frame top waiting) l (n .sub) r w′ → StepSays text w n r w′
@@ -210,7 +210,7 @@ module _ (text w : List ℕ) (n : Walk) (z : n .phase ≡ 1) where
 -- ---- an application goes on
 
 module _ (text w : List ℕ) (n : Walk) (y : ¬ (n .phase ≡ 0)) (z : ¬ (n .phase ≡ 1)) where
-  pub can-apply : CanStep text w n → CanApplication text w n
+  pub can-apply : CanMoveTerm text w n → CanApplication text w n
   can-apply C = by (C .s) (C .holds)
     where
       by : (s : Terming) → HoldsTerming text (C .X) (C .most) (C .bottom) w n s → CanApplication text w n
@@ -228,10 +228,10 @@ module _ (text w : List ℕ) (n : Walk) (y : ¬ (n .phase ≡ 0)) (z : ¬ (n .ph
 
 -- ---- a state is at words that can be looked at
 
-pub step-looks : (text w : List ℕ) (n : Walk) → CanStep text w n → Readable text (n .at) × (length text < 65536)
+pub step-looks : (text w : List ℕ) (n : Walk) → CanMoveTerm text w n → ReadableFrom text (n .at) × (length text < 65536)
 step-looks text w n C = by (C .s) (C .holds)
   where
-    by : (s : Terming) → HoldsTerming text (C .X) (C .most) (C .bottom) w n s → Readable text (n .at) × (length text < 65536)
+    by : (s : Terming) → HoldsTerming text (C .X) (C .most) (C .bottom) w n s → ReadableFrom text (n .at) × (length text < 65536)
     by (wantedTerm more S σ us K) (p, m, a, g) = (a .readable, omega (arith, g .scope .walkable .short))
     by (cameTerm more m us K) (p, q, a, c) = (a .readable, omega (arith, c .here .scope .walkable .short))
     by (applying more S at f us K) (p, m, a, q, g, t) = (a .readable, omega (arith, g .scope .walkable .short))
@@ -313,7 +313,7 @@ module _ (text w₀ : List ℕ) (at more frame top : ℕ) (C : CanTerm text w₀
   going-by X (cameTerm j m vs (l ∷ K)) h g = tt
 
   module _ (goes : n .phase ≡ 1 → ¬ (n .more ≡ more)) where
-    pub rounds-step : CanStep text w n
+    pub rounds-step : CanMoveTerm text w n
     rounds-step = record { X = C .walk .X; most = more; bottom = top; s = here .s; holds = here .holds; going = going-by (C .walk .X) (here .s) (here .holds) goes }
 
     same-bodies : (X : Text) (S : Scope) (σ : State) → Walkable text w₀ frame top X S σ → bodiesIn text w X ≡ bodiesIn text w₀ X

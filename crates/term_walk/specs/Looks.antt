@@ -18,8 +18,8 @@ unfoldable pub wordsAt : List ℕ → ℕ → List Words.Word
 wordsAt text at = cond (leb at (length text)) (from text at) []
 
 -- an offset of the text, from which on all words are good, or one behind its end
-abbrev pub Readable : List ℕ → ℕ → Type 0
-Readable text at = at ≤ length text → Lexed text at
+abbrev pub ReadableFrom : List ℕ → ℕ → Type 0
+ReadableFrom text at = at ≤ length text → Lexed text at
 
 -- the first of the words from an offset on
 pub record Looks (text : List ℕ) (at : ℕ) (w : Word) : Type 0 where
@@ -28,7 +28,7 @@ pub record Looks (text : List ℕ) (at : ℕ) (w : Word) : Type 0 where
   pub place : w .start ≡ place (wordsAt text at)
   pub inside : w .start ≤ length text
   pub rest : behind (wordsAt text at) ≡ wordsAt text (w .end)
-  pub readable : Readable text (w .end)
+  pub readable : ReadableFrom text (w .end)
   pub onward : ¬ (w .kind ≡ 0) → Lexed text (w .end)
   pub fewer : ¬ (w .kind ≡ 0) → length (behind (wordsAt text at)) < length (wordsAt text at)
   pub named : w .kind ≡ 24 → peek (wordsAt text at) .token ≡ name (runAt text (w .start))

@@ -34,8 +34,8 @@ use Rattle.term_walk.specs.declared.Left.{Left}
 use Rattle.term_walk.specs.declared.Step as step
 use Rattle.term_walk.specs.declared.Step.the-variants as step-is
 use Rattle.term_parts.specs.Names.{boundAt, spacedNames, listedNames}
-use Rattle.term_walk.specs.Looks.{wordsAt, Readable}
-use Rattle.term_walk.specs.Holding.{Stepped, LeftHeld, entriesOf, halvesFor, WishHeld, Here, TermCame, HoldsTerming}
+use Rattle.term_walk.specs.Looks.{wordsAt, ReadableFrom}
+use Rattle.term_walk.specs.Holding.{LevelWrites, LeftHeld, entriesOf, halvesFor, WishHeld, HereHeld, TermCame, HoldsTerming}
 
 -- ---- the next state, by the code
 
@@ -57,11 +57,11 @@ abbrev pub partLevel : ℕ → Left → ℕ → ℕ → Level
 partLevel form s count next = record { form = form; flag = s .flag; place = s .place; count = count; node = s .sub .node; ty = s .sub .ty; deep = s .sub .deep; next = next }
 
 -- the scope of the level that the walk is at
-abbrev pub aroundOf : Walk → Around
-aroundOf h = record { frame = h .frame; top = h .top; waiting = h .waiting }
+abbrev pub aroundWalk : Walk → Around
+aroundWalk h = record { frame = h .frame; top = h .top; waiting = h .waiting }
 
 -- the numbers of a level can stand in the memory
-pub record CanAsk (w : List ℕ) (h : Walk) : Type 0 where
+pub record CanAskTerm (w : List ℕ) (h : Walk) : Type 0 where
   pub room : makingSize ≤ length w
   pub more : h .more ≤ 80
   pub frame : h .frame < 82
@@ -71,7 +71,7 @@ pub record CanAsk (w : List ℕ) (h : Walk) : Type 0 where
 
 -- the level waits, and the term at an offset is wanted in a scope
 pub record Asks (w : List ℕ) (h : Walk) (l : Level) (frame top waiting at : ℕ) (r : step.Step) (w′ : List ℕ) : Type 0 where
-  pub memory : w′ ≡ pushed w (h .more) l (aroundOf h)
+  pub memory : w′ ≡ pushed w (h .more) l (aroundWalk h)
   pub state : r ≡ wantsStep h frame top waiting at
 
 -- ---- answers
@@ -83,8 +83,8 @@ StepAnswers text X most bottom w (step-is.Refused number place) (good s) = ⊥
 StepAnswers text X most bottom w (step-is.Refused number place) (refused why) = why ≡ numbered number place
 
 -- the level of the machine that the walk is at
-abbrev pub hereOf : ℕ → Scope → List TermLevel → TermHere
-hereOf k S K = record { more = k; scope = S; above = K }
+abbrev pub termHereWith : ℕ → Scope → List TermLevel → TermHere
+termHereWith k S K = record { more = k; scope = S; above = K }
 
 -- the words of the bodies of a text's clauses, in the memory
 abbrev pub bodiesIn : List ℕ → List ℕ → Text → List (List Word)
@@ -93,8 +93,8 @@ bodiesIn text w X = rowBodies text w 0 (length (X .clauses))
 -- ---- a level that is entered
 
 -- what the machine does at a level
-abbrev pub Entry : Type 0
-Entry = Text → List (List Word) → TermHere → State → Answer Terming
+abbrev pub LevelEntry : Type 0
+LevelEntry = Text → List (List Word) → TermHere → State → Answer Terming
 
 -- a level is there, with one level or more from it on
 pub record CanEnter (text w : List ℕ) (h : Walk) : Type 0 where
@@ -106,11 +106,11 @@ pub record CanEnter (text w : List ℕ) (h : Walk) : Type 0 where
   pub σ : State
   pub K : List TermLevel
   pub is : h .more ≡ suc k
-  pub here : Here text X most bottom w h S σ K
+  pub here : HereHeld text X most bottom w h S σ K
 
-pub record EnterSays (text w : List ℕ) (h : Walk) (D : Entry) (r : step.Step) (w′ : List ℕ) : Type 0 where
-  pub stepped : Stepped (h .more) (h .top) (h .waiting) w w′
-  pub says : (X : Text) (most bottom k : ℕ) (S : Scope) (σ : State) (K : List TermLevel) → h .more ≡ suc k → Here text X most bottom w h S σ K → StepAnswers text X most bottom w′ r (D X (bodiesIn text w X) (hereOf k S K) σ)
+pub record EnterSays (text w : List ℕ) (h : Walk) (D : LevelEntry) (r : step.Step) (w′ : List ℕ) : Type 0 where
+  pub stepped : LevelWrites (h .more) (h .top) (h .waiting) w w′
+  pub says : (X : Text) (most bottom k : ℕ) (S : Scope) (σ : State) (K : List TermLevel) → h .more ≡ suc k → HereHeld text X most bottom w h S σ K → StepAnswers text X most bottom w′ r (D X (bodiesIn text w X) (termHereWith k S K) σ)
 
 -- .. at an atom, behind what stands left of it
 abbrev pub AtomEntry : Type 0
@@ -122,8 +122,8 @@ pub record CanAtom (text w : List ℕ) (h : Walk) (s : Left) : Type 0 where
   pub left : LeftHeld w s p
 
 pub record AtomSays (text w : List ℕ) (h : Walk) (s : Left) (D : AtomEntry) (r : step.Step) (w′ : List ℕ) : Type 0 where
-  pub stepped : Stepped (h .more) (h .top) (h .waiting) w w′
-  pub says : (X : Text) (most bottom k : ℕ) (S : Scope) (σ : State) (K : List TermLevel) (p : Spine) → h .more ≡ suc k → Here text X most bottom w h S σ K → LeftHeld w s p → StepAnswers text X most bottom w′ r (D X (bodiesIn text w X) (hereOf k S K) p σ)
+  pub stepped : LevelWrites (h .more) (h .top) (h .waiting) w w′
+  pub says : (X : Text) (most bottom k : ℕ) (S : Scope) (σ : State) (K : List TermLevel) (p : Spine) → h .more ≡ suc k → HereHeld text X most bottom w h S σ K → LeftHeld w s p → StepAnswers text X most bottom w′ r (D X (bodiesIn text w X) (termHereWith k S K) p σ)
 
 -- .. by what the code knows of it
 
@@ -146,42 +146,42 @@ abbrev pub atomEntry : List ℕ → ℕ → AtomEntry
 atomEntry text at X bodies h p σ = atomEntered X bodies h p σ (peek (wordsAt text at) .token) (wordsAt text at)
 
 -- names of a function with their type, before the dot
-abbrev pub boundEntry : List ℕ → ℕ → ℕ → ℕ → ℕ → ℕ → Entry
+abbrev pub boundEntry : List ℕ → ℕ → ℕ → ℕ → ℕ → ℕ → LevelEntry
 boundEntry text place from′ count ty at X bodies h σ = do
   _ ← roomFor (h .scope) count place
   good (askTerm h (ofFunction (spacedNames text from′ count) ty) (withVariables (h .scope) (bindAll (spacedNames text from′ count) ty (h .scope .variables))) σ (behind (wordsAt text at)))
 
 -- .. before the colon
-abbrev pub typedEntry : List ℕ → ℕ → ℕ → ℕ → ℕ → Entry
+abbrev pub typedEntry : List ℕ → ℕ → ℕ → ℕ → ℕ → LevelEntry
 typedEntry text place from′ count at X bodies h σ = typeFrom X (h .more) (h .scope) σ (behind (wordsAt text at)) >>= λ t. roomFor (h .scope) count place >>= λ _. good (askTerm h (ofFunction (spacedNames text from′ count) (t .value .type)) (withVariables (h .scope) (bindAll (spacedNames text from′ count) (t .value .type) (h .scope .variables))) (t .value .state) (behind (t .rest)))
 
-abbrev pub functionEntry : List ℕ → ℕ → Entry
+abbrev pub functionEntry : List ℕ → ℕ → LevelEntry
 functionEntry text at X bodies h σ = functionFrom X bodies h σ (wordsAt text at)
 
-abbrev pub fixBoundEntry : List ℕ → ℕ → ℕ → ℕ → ℕ → Entry
+abbrev pub fixBoundEntry : List ℕ → ℕ → ℕ → ℕ → ℕ → LevelEntry
 fixBoundEntry text place name ty at X bodies h σ = do
   _ ← roomFor (h .scope) 1 place
   good (askTerm h (ofFix (boundAt text name) ty) (withVariables (h .scope) (bind (boundAt text name) ty (h .scope .variables))) σ (behind (wordsAt text at)))
 
-abbrev pub fixTypedEntry : List ℕ → ℕ → ℕ → ℕ → Entry
+abbrev pub fixTypedEntry : List ℕ → ℕ → ℕ → ℕ → LevelEntry
 fixTypedEntry text place name at X bodies h σ = typeFrom X (h .more) (h .scope) σ (behind (wordsAt text at)) >>= λ t. roomFor (h .scope) 1 place >>= λ _. good (askTerm h (ofFix (boundAt text name) (t .value .type)) (withVariables (h .scope) (bind (boundAt text name) (t .value .type) (h .scope .variables))) (t .value .state) (behind (t .rest)))
 
-abbrev pub fixEntry : List ℕ → ℕ → Entry
+abbrev pub fixEntry : List ℕ → ℕ → LevelEntry
 fixEntry text at X bodies h σ = fixFrom X bodies h σ (wordsAt text at)
 
-abbrev pub valueEntry : List ℕ → ℕ → ℕ → ℕ → Entry
+abbrev pub valueEntry : List ℕ → ℕ → ℕ → ℕ → LevelEntry
 valueEntry text place name at X bodies h σ = good (askTerm h (valueOfName place (boundAt text name)) (h .scope) σ (behind (wordsAt text at)))
 
-abbrev pub valuesEntry : List ℕ → ℕ → ℕ → ℕ → ℕ → Entry
+abbrev pub valuesEntry : List ℕ → ℕ → ℕ → ℕ → ℕ → LevelEntry
 valuesEntry text place from′ count at X bodies h σ = good (askTerm h (valueOfNames place (listedNames text from′ count)) (h .scope) σ (behind (behind (wordsAt text at))))
 
 -- behind `let (`, with the parenthesis the first of the words from an offset on
-abbrev pub namesEntry : List ℕ → ℕ → ℕ → Entry
+abbrev pub namesEntry : List ℕ → ℕ → ℕ → LevelEntry
 namesEntry text place at X bodies h σ = do
   xs ← listFrom nameAt (length (from text at)) (behind (from text at))
   good (askTerm h (valueOfNames place (xs .value)) (h .scope) σ (behind (behind (xs .rest))))
 
-abbrev pub letEntry : List ℕ → ℕ → ℕ → Entry
+abbrev pub letEntry : List ℕ → ℕ → ℕ → LevelEntry
 letEntry text place at X bodies h σ = letFrom X bodies h σ place (from text at)
 
 -- type arguments that wait are types of the memory's table
@@ -191,7 +191,7 @@ TypesWait w top types = All (λ (t : ℕ). t < getD w typeCountAt 0) (valuesIn w
 -- a type is there, and words from an offset on
 pub record CanBound (text w : List ℕ) (h : Walk) (ty at : ℕ) : Type 0 where
   pub can : CanEnter text w h
-  pub readable : Readable text at
+  pub readable : ReadableFrom text at
   pub known : ty < getD w typeCountAt 0
 
 -- the level's first word stands at a place, and the words behind it begin at an offset
@@ -206,7 +206,7 @@ pub record CanNames (text : List ℕ) (h : Walk) (start at : ℕ) : Type 0 where
 
 pub record CanBehind (text w : List ℕ) (at more frame top : ℕ) : Type 0 where
   pub walk : CanWalk text w frame top
-  pub readable : Readable text at
+  pub readable : ReadableFrom text at
   pub above : more ≤ frame
   pub levels : more ≤ mostNested
 
@@ -223,10 +223,10 @@ pub record CanApply (w : List ℕ) (s : Left) (x : Sub) : Type 0 where
   pub left : LeftHeld w s p
 
 pub record BehindSays (w : List ℕ) (h : Walk) (s : Left) (x : Sub) (at : ℕ) (r : step.Step) (w′ : List ℕ) : Type 0 where
-  pub stepped : h .top ≤ mostEntries → h .waiting ≤ 2048 → Stepped (h .more) (h .top) (h .waiting) w w′
+  pub stepped : h .top ≤ mostEntries → h .waiting ≤ 2048 → LevelWrites (h .more) (h .top) (h .waiting) w w′
   pub says :
-      (text : List ℕ) (X : Text) (most bottom k : ℕ) (S : Scope) (K : List TermLevel) (p : Spine) (m : Made) → h .more ≡ suc k → Readable text at
-      → Here text X most bottom w h S (m .state) K → TermCame w x (h .waiting) m → LeftHeld w s p → StepAnswers text X most bottom w′ r (behindAtom (hereOf k S K) p m (wordsAt text at))
+      (text : List ℕ) (X : Text) (most bottom k : ℕ) (S : Scope) (K : List TermLevel) (p : Spine) (m : Made) → h .more ≡ suc k → ReadableFrom text at
+      → HereHeld text X most bottom w h S (m .state) K → TermCame w x (h .waiting) m → LeftHeld w s p → StepAnswers text X most bottom w′ r (behindAtom (termHereWith k S K) p m (wordsAt text at))
 
 -- .. if it could be made
 abbrev pub CanApplyMade : List ℕ → Left → code.MadeTerm → Type 0
@@ -235,7 +235,7 @@ CanApplyMade w s (made.Refused number place) = Unit {0}
 
 -- whatever state the memory holds, the level is there, and there is a node for the term that came
 pub record HereNow (text : List ℕ) (X : Text) (most bottom : ℕ) (w : List ℕ) (h : Walk) (S : Scope) (K : List TermLevel) : Type 0 where
-  pub now : (σ : State) → HoldsState w σ → Here text X most bottom w h S σ K
+  pub now : (σ : State) → HoldsState w σ → HereHeld text X most bottom w h S σ K
 
 -- a term that was made has a node of its own
 abbrev pub MadeNodes : ℕ → code.MadeTerm → Answer Made → Type 0
@@ -244,10 +244,10 @@ MadeNodes waiting (made.At x) (refused why) = Unit {0}
 MadeNodes waiting (made.Refused number place) a = Unit {0}
 
 pub record MadeSays (w : List ℕ) (h : Walk) (s : Left) (x : code.MadeTerm) (at : ℕ) (r : step.Step) (w′ : List ℕ) : Type 0 where
-  pub stepped : h .top ≤ mostEntries → h .waiting ≤ 2048 → Stepped (h .more) (h .top) (h .waiting) w w′
+  pub stepped : h .top ≤ mostEntries → h .waiting ≤ 2048 → LevelWrites (h .more) (h .top) (h .waiting) w w′
   pub says :
-      (text : List ℕ) (X : Text) (most bottom k : ℕ) (S : Scope) (K : List TermLevel) (p : Spine) (a : Answer Made) → h .more ≡ suc k → Readable text at
-      → HereNow text X most bottom w h S K → MadeIn w x a → MadeNodes (h .waiting) x a → LeftHeld w s p → StepAnswers text X most bottom w′ r (a >>= λ m. behindAtom (hereOf k S K) p m (wordsAt text at))
+      (text : List ℕ) (X : Text) (most bottom k : ℕ) (S : Scope) (K : List TermLevel) (p : Spine) (a : Answer Made) → h .more ≡ suc k → ReadableFrom text at
+      → HereNow text X most bottom w h S K → MadeIn w x a → MadeNodes (h .waiting) x a → LeftHeld w s p → StepAnswers text X most bottom w′ r (a >>= λ m. behindAtom (termHereWith k S K) p m (wordsAt text at))
 
 -- ---- a level that is left
 
@@ -261,18 +261,18 @@ pub record CanLeave (text w : List ℕ) (h : Walk) (l : Level) (x : Sub) : Type 
   pub wish : TermWish
   pub m : Made
   pub is : h .more ≡ suc k
-  pub here : Here text X most bottom w h S (m .state) K
+  pub here : HereHeld text X most bottom w h S (m .state) K
   pub held : WishHeld text w (h .top) (h .waiting) l wish
   pub entries : h .top + entriesOf wish ≤ mostEntries
   pub came : TermCame w x (h .waiting + halvesFor wish) m
-  pub readable : Readable text (h .at)
+  pub readable : ReadableFrom text (h .at)
 
 pub record LeaveSays (text w : List ℕ) (h : Walk) (l : Level) (x : Sub) (r : step.Step) (w′ : List ℕ) : Type 0 where
-  pub stepped : Stepped (h .more) (h .top) (h .waiting) w w′
+  pub stepped : LevelWrites (h .more) (h .top) (h .waiting) w w′
   pub says :
-      (X : Text) (most bottom k : ℕ) (S : Scope) (K : List TermLevel) (wish : TermWish) (m : Made) → h .more ≡ suc k → Here text X most bottom w h S (m .state) K
-      → WishHeld text w (h .top) (h .waiting) l wish → h .top + entriesOf wish ≤ mostEntries → TermCame w x (h .waiting + halvesFor wish) m → Readable text (h .at)
-      → StepAnswers text X most bottom w′ r (termLeft X (bodiesIn text w X) (hereOf k S K) wish m (wordsAt text (h .at)))
+      (X : Text) (most bottom k : ℕ) (S : Scope) (K : List TermLevel) (wish : TermWish) (m : Made) → h .more ≡ suc k → HereHeld text X most bottom w h S (m .state) K
+      → WishHeld text w (h .top) (h .waiting) l wish → h .top + entriesOf wish ≤ mostEntries → TermCame w x (h .waiting + halvesFor wish) m → ReadableFrom text (h .at)
+      → StepAnswers text X most bottom w′ r (termLeft X (bodiesIn text w X) (termHereWith k S K) wish m (wordsAt text (h .at)))
 
 -- ---- an application that goes on
 
@@ -285,19 +285,19 @@ pub record CanApplication (text w : List ℕ) (h : Walk) : Type 0 where
   pub f : Made
   pub K : List TermLevel
   pub is : h .more ≡ suc k
-  pub here : Here text X most bottom w h S (f .state) K
+  pub here : HereHeld text X most bottom w h S (f .state) K
   pub came : TermCame w (h .sub) (h .waiting) f
-  pub readable : Readable text (h .at)
+  pub readable : ReadableFrom text (h .at)
 
 pub record ApplicationSays (text w : List ℕ) (h : Walk) (r : step.Step) (w′ : List ℕ) : Type 0 where
-  pub stepped : Stepped (h .more) (h .top) (h .waiting) w w′
+  pub stepped : LevelWrites (h .more) (h .top) (h .waiting) w w′
   pub says :
-      (X : Text) (most bottom k : ℕ) (S : Scope) (f : Made) (K : List TermLevel) → h .more ≡ suc k → Here text X most bottom w h S (f .state) K → TermCame w (h .sub) (h .waiting) f
-      → StepAnswers text X most bottom w′ r (applicationFrom X (bodiesIn text w X) (hereOf k S K) (h .place) f (wordsAt text (h .at)))
+      (X : Text) (most bottom k : ℕ) (S : Scope) (f : Made) (K : List TermLevel) → h .more ≡ suc k → HereHeld text X most bottom w h S (f .state) K → TermCame w (h .sub) (h .waiting) f
+      → StepAnswers text X most bottom w′ r (applicationFrom X (bodiesIn text w X) (termHereWith k S K) (h .place) f (wordsAt text (h .at)))
 
 -- ---- one step
 
-pub record CanStep (text w : List ℕ) (n : Walk) : Type 0 where
+pub record CanMoveTerm (text w : List ℕ) (n : Walk) : Type 0 where
   pub X : Text
   pub most : ℕ
   pub bottom : ℕ

@@ -13,7 +13,7 @@ ghost use Prim.Native.Nat.{_+_, _≤_};
 ghost use lib.ListN.{length};
 ghost use Rattle.notation_calculus.specs.Making.{mostEntries};
 ghost use Rattle.words.specs.Lexed.{Lexed};
-ghost use Rattle.term_walk.specs.Looks.{Readable};
+ghost use Rattle.term_walk.specs.Looks.{ReadableFrom};
 ghost use Rattle.term_walk.specs.Steps.{CanApply, BehindSays, CanApplyMade, MadeSays, CanAtom, AtomSays, TypesWait, clauseEntry, putEntry, plainEntry, namedEntry, atomEntry, CanApplication, ApplicationSays};
 
 const ROUND: u8 = 11;
@@ -114,7 +114,7 @@ fn named_at(text: &[u8], work: &mut [u16], h: Walk, s: Left, name: usize, at: us
 
 // An atom begins at the offset: behind an opening parenthesis the first element is wanted.
 pub fn atom_at(text: &[u8], work: &mut [u16], h: Walk, s: Left) -> Step
-    requires { ⌜ (CanAtom (now text) (now work) h s) × Readable (now text) (h .at) ⌝ }
+    requires { ⌜ (CanAtom (now text) (now work) h s) × ReadableFrom (now text) (h .at) ⌝ }
     ensures { λ r. ⌜ AtomSays (now (text .entry)) (now (work .entry)) h s (atomEntry (now (text .entry)) (h .at)) r (now (work .exit)) ⌝ }
 {
     let w = looks::look(text, h.at);

@@ -14,7 +14,7 @@ ghost use Rattle.notation_calculus.specs.Grammar.{behind};
 ghost use Rattle.notation_calculus.specs.Making.{mostEntries};
 ghost use Rattle.words.specs.Lexed.{from, Lexed};
 ghost use Rattle.term_parts.specs.Names.{NamesStand, spaced};
-ghost use Rattle.term_walk.specs.Looks.{Readable};
+ghost use Rattle.term_walk.specs.Looks.{ReadableFrom};
 ghost use Rattle.term_walk.specs.Steps.{CanEnter, EnterSays, CanBound, CanNames, boundEntry, typedEntry, functionEntry, fixBoundEntry, fixTypedEntry, fixEntry, valueEntry, valuesEntry, namesEntry, letEntry};
 
 const ROUND: u8 = 11;
@@ -63,7 +63,7 @@ fn function_type(
     count: usize,
     at: usize,
 ) -> Step
-    requires { ⌜ (CanEnter (now text) (now work) h) × (Readable (now text) at × (NamesStand spaced (now text) from count × (count < 65536))) ⌝ }
+    requires { ⌜ (CanEnter (now text) (now work) h) × (ReadableFrom (now text) at × (NamesStand spaced (now text) from count × (count < 65536))) ⌝ }
     ensures { λ r. ⌜ EnterSays (now (text .entry)) (now (work .entry)) h (typedEntry (now (text .entry)) place from count at) r (now (work .exit)) ⌝ }
 {
     let colon = looks::look(text, at);
@@ -121,7 +121,7 @@ fn bind_fix(
 
 // Behind a fixed point's name: a colon, and its type.
 fn fix_type(text: &[u8], work: &mut [u16], h: Walk, place: usize, name: usize, at: usize) -> Step
-    requires { ⌜ (CanEnter (now text) (now work) h) × (Readable (now text) at × (name ≤ length (now text))) ⌝ }
+    requires { ⌜ (CanEnter (now text) (now work) h) × (ReadableFrom (now text) at × (name ≤ length (now text))) ⌝ }
     ensures { λ r. ⌜ EnterSays (now (text .entry)) (now (work .entry)) h (fixTypedEntry (now (text .entry)) place name at) r (now (work .exit)) ⌝ }
 {
     let colon = looks::look(text, at);
@@ -148,7 +148,7 @@ pub fn fix_from(text: &[u8], work: &mut [u16], h: Walk, start: usize, at: usize)
 
 // The value of a name is wanted behind an equals sign.
 fn ask_value(text: &[u8], work: &mut [u16], h: Walk, place: usize, name: usize, at: usize) -> Step
-    requires { ⌜ (CanEnter (now text) (now work) h) × (Readable (now text) at × ((name ≤ length (now text)) × (place ≤ length (now text)))) ⌝ }
+    requires { ⌜ (CanEnter (now text) (now work) h) × (ReadableFrom (now text) at × ((name ≤ length (now text)) × (place ≤ length (now text)))) ⌝ }
     ensures { λ r. ⌜ EnterSays (now (text .entry)) (now (work .entry)) h (valueEntry (now (text .entry)) place name at) r (now (work .exit)) ⌝ }
 {
     let equals = looks::look(text, at);
@@ -175,7 +175,7 @@ fn ask_values(
     count: usize,
     at: usize,
 ) -> Step
-    requires { ⌜ (CanEnter (now text) (now work) h) × (Readable (now text) at × ((place ≤ length (now text)) × (NamesStand behind (now text) from count × (count < 65536)))) ⌝ }
+    requires { ⌜ (CanEnter (now text) (now work) h) × (ReadableFrom (now text) at × ((place ≤ length (now text)) × (NamesStand behind (now text) from count × (count < 65536)))) ⌝ }
     ensures { λ r. ⌜ EnterSays (now (text .entry)) (now (work .entry)) h (valuesEntry (now (text .entry)) place from count at) r (now (work .exit)) ⌝ }
 {
     let round = looks::look(text, at);

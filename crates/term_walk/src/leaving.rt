@@ -18,14 +18,14 @@ ghost use mathlib.Core.Path.{_≡_};
 ghost use Prim.Native.Nat.{_+_, _≤_, _<_};
 ghost use lib.Dec.{leb};
 ghost use Rattle.notation_calculus.specs.Making.{mostEntries};
-ghost use Rattle.term_walk.specs.Holding.{leftIn};
-ghost use Rattle.term_walk.specs.Steps.{CanLeave, LeaveSays, CanStep, StepSays};
+ghost use Rattle.term_walk.specs.Holding.{leftBy};
+ghost use Rattle.term_walk.specs.Steps.{CanLeave, LeaveSays, CanMoveTerm, StepSays};
 
 const COMMA: u8 = 14;
 
 // What stands left of the atom that the level waited for.
 fn left_of(l: Level) -> Left
-    ensures { λ r. ⌜ r ≡ leftIn l ⌝ }
+    ensures { λ r. ⌜ r ≡ leftBy l ⌝ }
 {
     Left {
         place: l.place,
@@ -223,7 +223,7 @@ fn leave_by(text: &[u8], work: &mut [u16], h: Walk, l: Level, x: Sub) -> Step
 
 // The term came that the nearest level waited for.
 pub fn leave(text: &[u8], work: &mut [u16], n: Walk) -> Step
-    requires { ⌜ (CanStep (now text) (now work) n) × (n .phase ≡ 1) ⌝ }
+    requires { ⌜ (CanMoveTerm (now text) (now work) n) × (n .phase ≡ 1) ⌝ }
     ensures { λ r. ⌜ StepSays (now (text .entry)) (now (work .entry)) n r (now (work .exit)) ⌝ }
 {
     let sub = n.sub;

@@ -4,7 +4,7 @@ use made_nodes::Sub;
 use walk_levels::Around;
 use walk_levels::Level;
 ghost use mathlib.Core.Path.{_≡_};
-ghost use Rattle.term_walk.specs.Steps.{nothingSub, partLevel, doneStep, appliesStep, CanAsk, Asks};
+ghost use Rattle.term_walk.specs.Steps.{nothingSub, partLevel, doneStep, appliesStep, CanAskTerm, Asks};
 
 pub mod atoms;
 pub mod binders;
@@ -105,7 +105,7 @@ pub fn ask(
     waiting: usize,
     at: usize,
 ) -> Step
-    requires { ⌜ CanAsk (now work) h ⌝ }
+    requires { ⌜ CanAskTerm (now work) h ⌝ }
     ensures { λ r. ⌜ Asks (now (work .entry)) h l frame top waiting at r (now (work .exit)) ⌝ }
 {
     let s = Around {

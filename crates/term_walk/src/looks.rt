@@ -3,13 +3,13 @@ ghost use mathlib.Core.Path.{_≡_};
 ghost use Prim.Native.Nat.{_<_};
 ghost use lib.ListN.{length};
 ghost use Rattle.notation_calculus.specs.Grammar.{beginsAtom};
-ghost use Rattle.term_walk.specs.Looks.{wordsAt, Readable, Looks};
+ghost use Rattle.term_walk.specs.Looks.{wordsAt, ReadableFrom, Looks};
 ghost use Rattle.term_walk.specs.Steps.{CanBehind, BehindType};
 use walks::TypeEnd;
 use words::Word;
 
 pub fn look(text: &[u8], at: usize) -> Word
-    requires { ⌜ (Readable (now text) at) × (length (now text) < 65536) ⌝ }
+    requires { ⌜ (ReadableFrom (now text) at) × (length (now text) < 65536) ⌝ }
     ensures { λ r. ⌜ Looks (now (text .entry)) at r ⌝ }
 {
     let past = text.len() + 1;
@@ -53,7 +53,7 @@ pub fn type_behind(
 
 // An atom begins at an offset.
 pub fn begins_atom(text: &[u8], at: usize) -> bool
-    requires { ⌜ Readable (now text) at ⌝ }
+    requires { ⌜ ReadableFrom (now text) at ⌝ }
     ensures { λ r. ⌜ r ≡ beginsAtom (wordsAt (now (text .entry)) at) ⌝ }
 {
     if text.len() < at {

@@ -9,7 +9,7 @@ use crate::looks;
 use walks::TermEnd;
 ghost use mathlib.Core.Path.{_≡_};
 ghost use Rattle.walks.specs.Says.{CanTerm, TermSays};
-ghost use Rattle.term_walk.specs.Steps.{CanStep, StepSays, Finished};
+ghost use Rattle.term_walk.specs.Steps.{CanMoveTerm, StepSays, Finished};
 
 const FUN: u8 = 1;
 
@@ -19,7 +19,7 @@ const LET: u8 = 3;
 
 // A term is wanted at the offset.
 fn enter(text: &[u8], work: &mut [u16], h: Walk) -> Step
-    requires { ⌜ (CanStep (now text) (now work) h) × (h .phase ≡ 0) ⌝ }
+    requires { ⌜ (CanMoveTerm (now text) (now work) h) × (h .phase ≡ 0) ⌝ }
     ensures { λ r. ⌜ StepSays (now (text .entry)) (now (work .entry)) h r (now (work .exit)) ⌝ }
 {
     let w = looks::look(text, h.at);
@@ -45,7 +45,7 @@ fn enter(text: &[u8], work: &mut [u16], h: Walk) -> Step
 
 // One step.
 fn step(text: &[u8], work: &mut [u16], n: Walk) -> Step
-    requires { ⌜ CanStep (now text) (now work) n ⌝ }
+    requires { ⌜ CanMoveTerm (now text) (now work) n ⌝ }
     ensures { λ r. ⌜ StepSays (now (text .entry)) (now (work .entry)) n r (now (work .exit)) ⌝ }
 {
     if n.phase == crate::WANTED {

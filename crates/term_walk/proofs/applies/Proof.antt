@@ -1,28 +1,21 @@
+-- By the cases of what was made. Assumes nothing.
 use Rattle.term_walk.proofs.StepLaws.{applies-refused, applies-made}
 use borrow.Author.Needs.{needs}
 use Rattle.term_walk.proofs.applies.Statement.{statement}
 use Rattle.term_walk.proofs.applies.Tie as tie
-use Rattle.term_walk.proofs.applies.Reads as reads
-use Rattle.term_walk.proofs.applies.Lts as lts
-use Rattle.made_types.proofs.wide.Reads as wide-reads
 
--- src/lib.rt:155:27
 enum-known-made : tie.Need-enum-known-made
 enum-known-made c = search needs
 
--- src/lib.rt:155:67
 wide-requires : tie.Need-wide-requires
 wide-requires c κs = search needs
 
--- src/lib.rt:156:22
 enum-known-made-2 : tie.Need-enum-known-made-2
 enum-known-made-2 c = search needs
 
--- src/lib.rt:151:1
 returns : tie.Need-returns
 returns c = applies-refused (c .before .before .before .before .args .h) (c .before .before .before .before .args .at) (c .before .before .before .before .args .made) (c .before .before .before .before .args .begins) _ _ _ (c .before .before .made .given .1) (c .wide .ensures)
 
--- src/lib.rt:151:1
 returns-2 : tie.Need-returns-2
 returns-2 c = applies-made (c .before .before .before .args .h) (c .before .before .before .args .at) (c .before .before .before .args .made) (c .before .before .before .args .begins) _ (c .before .made2 .given .1)
 

@@ -1,35 +1,26 @@
+-- The value is wanted in the scope of the level. Assumes nothing.
 use Rattle.term_walk.proofs.BinderLaws.{name-asks}
 use Rattle.term_walk.proofs.StepLaws.{can-ask}
 use mathlib.Core.Path.{refl}
 use borrow.Author.Needs.{needs}
 use Rattle.term_walk.proofs.binders.ask_value.Statement.{statement}
 use Rattle.term_walk.proofs.binders.ask_value.Tie as tie
-use Rattle.term_walk.proofs.binders.ask_value.Reads as reads
-use Rattle.term_walk.proofs.binders.ask_value.Lts as lts
-use Rattle.term_walk.proofs.ask.Reads as ask-reads
-use Rattle.term_walk.proofs.looks.look.Reads as look-reads
 
--- src/binders.rt:154:9
 look-requires : tie.Need-look-requires
 look-requires c κs = search needs
 
--- src/binders.rt:158:16
 cast-t9 : tie.Need-cast-t9
 cast-t9 c = search needs
 
--- src/binders.rt:163:15
 cast-t10 : tie.Need-cast-t10
 cast-t10 c = search needs
 
--- src/binders.rt:165:5
 ask-requires : tie.Need-ask-requires
 ask-requires c κs = can-ask (c .before .before .before .before .args .text .now) (c .before .before .before .before .args .work .now) (c .before .before .before .before .args .h) (c .before .before .before .before .pre .0) _ refl
 
--- src/binders.rt:150:1
 same-length : tie.Need-same-length
 same-length c = search needs
 
--- src/binders.rt:150:1
 returns : tie.Need-returns
 returns c = name-asks (c .before .before .before .before .before .before .before .args .text .now) (c .before .before .before .before .before .before .before .args .work .now) (c .before .before .before .before .before .before .before .args .h) (can-ask (c .before .before .before .before .before .before .before .args .text .now) (c .before .before .before .before .before .before .before .args .work .now) (c .before .before .before .before .before .before .before .args .h) (c .before .before .before .before .before .before .before .pre .0) _ refl) (c .before .before .before .before .before .before .before .args .place) (c .before .before .before .before .before .before .before .args .name) (c .before .before .before .before .before .before .before .args .at) (c .before .before .before .before .before .before .before .pre .1 .1 .0) (c .before .before .before .before .look .result) (c .before .before .before .before .look .ensures) _ _ (c .before .before .ask .ensures)
 

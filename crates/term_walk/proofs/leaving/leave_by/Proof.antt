@@ -1,72 +1,51 @@
+-- By the form; the others are those of `let`. Assumes nothing.
 use Rattle.term_walk.proofs.LeaveLaws.{let-forms}
 use borrow.Author.Needs.{needs}
 use Rattle.term_walk.proofs.leaving.leave_by.Statement.{statement}
 use Rattle.term_walk.proofs.leaving.leave_by.Tie as tie
-use Rattle.term_walk.proofs.leaving.leave_by.Reads as reads
-use Rattle.term_walk.proofs.leaving.leave_by.Lts as lts
-use Rattle.term_walk.proofs.leaving.leave_definition.Reads as leave-definition-reads
-use Rattle.term_walk.proofs.leaving.leave_element.Reads as leave-element-reads
-use Rattle.term_walk.proofs.leaving.leave_fix.Reads as leave-fix-reads
-use Rattle.term_walk.proofs.leaving.leave_function.Reads as leave-function-reads
-use Rattle.term_walk.proofs.leaving.leave_let.Reads as leave-let-reads
 
--- src/leaving.rt:201:9
 leave-function-requires : tie.Need-leave-function-requires
 leave-function-requires c κs = search needs
 
--- src/leaving.rt:201:9
 same-length : tie.Need-same-length
 same-length c = search needs
 
--- src/leaving.rt:201:9
 returns : tie.Need-returns
 returns c = search needs
 
--- src/leaving.rt:204:9
 leave-fix-requires : tie.Need-leave-fix-requires
 leave-fix-requires c κs = search needs
 
--- src/leaving.rt:204:9
 same-length-2 : tie.Need-same-length-2
 same-length-2 c = search needs
 
--- src/leaving.rt:204:9
 returns-2 : tie.Need-returns-2
 returns-2 c = search needs
 
--- src/leaving.rt:207:9
 leave-element-requires : tie.Need-leave-element-requires
 leave-element-requires c κs = search needs
 
--- src/leaving.rt:207:9
 same-length-3 : tie.Need-same-length-3
 same-length-3 c = search needs
 
--- src/leaving.rt:207:9
 returns-3 : tie.Need-returns-3
 returns-3 c = search needs
 
--- src/leaving.rt:210:9
 leave-definition-requires : tie.Need-leave-definition-requires
 leave-definition-requires c κs = search needs
 
--- src/leaving.rt:210:9
 same-length-4 : tie.Need-same-length-4
 same-length-4 c = search needs
 
--- src/leaving.rt:210:9
 returns-4 : tie.Need-returns-4
 returns-4 c = search needs
 
--- src/leaving.rt:212:5
 leave-let-requires : tie.Need-leave-let-requires
 leave-let-requires c κs = (c .before .before .before .before .before .before .before .before .before .before .before .pre, let-forms (c .before .before .before .before .before .before .before .before .before .before .before .args .text .now) (c .before .before .before .before .before .before .before .before .before .before .before .args .work .now) (c .before .before .before .before .before .before .before .before .before .before .before .args .h) (c .before .before .before .before .before .before .before .before .before .before .before .args .l) (c .before .before .before .before .before .before .before .before .before .before .before .args .x) (c .before .before .before .before .before .before .before .before .before .before .before .pre) (c .before .before .before .before .before .before .before .if1 .left) (c .before .before .before .before .before .if2 .left) (c .before .before .before .if3 .left) (c .before .if4 .left))
 
--- src/leaving.rt:196:1
 same-length-5 : tie.Need-same-length-5
 same-length-5 c = search needs
 
--- src/leaving.rt:196:1
 returns-5 : tie.Need-returns-5
 returns-5 c = search needs
 

@@ -1,26 +1,19 @@
+-- The form says which wish waits; the fixed point is made over the body. Assumes nothing.
 use Rattle.term_walk.proofs.LeaveLaws.{leave-room, leave-workable, leave-type, fix-facts, fix-done}
 use native.Mathlib.Omega.{arith}
 use borrow.Author.Needs.{needs}
 use Rattle.term_walk.proofs.leaving.leave_fix.Statement.{statement}
 use Rattle.term_walk.proofs.leaving.leave_fix.Tie as tie
-use Rattle.term_walk.proofs.leaving.leave_fix.Reads as reads
-use Rattle.term_walk.proofs.leaving.leave_fix.Lts as lts
-use Rattle.made_nodes.proofs.binders.fixed_point.Reads as fixed-point-reads
-use Rattle.term_walk.proofs.done.Reads as done-reads
 
--- src/leaving.rt:54:9
 fixed-point-requires : tie.Need-fixed-point-requires
 fixed-point-requires c κs = (leave-workable (c .before .before .before .args .text .now) (c .before .before .before .args .work .now) (c .before .before .before .args .h) (c .before .before .before .args .l) (c .before .before .before .args .x) (c .before .before .before .pre .0), fix-facts (c .before .before .before .args .text .now) (c .before .before .before .args .work .now) (c .before .before .before .args .h) (c .before .before .before .args .l) (c .before .before .before .args .x) (c .before .before .before .pre .0) (c .before .before .before .pre .1))
 
--- src/leaving.rt:55:5
 done-requires : tie.Need-done-requires
 done-requires c κs = search needs
 
--- src/leaving.rt:50:1
 same-length : tie.Need-same-length
 same-length c = search needs
 
--- src/leaving.rt:50:1
 returns : tie.Need-returns
 returns c = fix-done (c .before .before .before .before .before .before .before .args .text .now) (c .before .before .before .before .before .before .before .args .work .now) (c .before .before .before .before .before .before .before .args .h) (c .before .before .before .before .before .before .before .args .l) (c .before .before .before .before .before .before .before .args .x) (c .before .before .before .before .before .before .before .pre .0) _ _ _ (c .done .ensures) (c .before .before .before .before .before .before .before .pre .1) (c .before .before .before .fixed-point .ensures)
 

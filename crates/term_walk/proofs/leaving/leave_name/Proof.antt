@@ -1,26 +1,19 @@
+-- The form says which wish waits; the name is made over the body. Assumes nothing.
 use Rattle.term_walk.proofs.LeaveLaws.{leave-room, leave-workable, leave-type, name-facts, name-done}
 use native.Mathlib.Omega.{arith}
 use borrow.Author.Needs.{needs}
 use Rattle.term_walk.proofs.leaving.leave_name.Statement.{statement}
 use Rattle.term_walk.proofs.leaving.leave_name.Tie as tie
-use Rattle.term_walk.proofs.leaving.leave_name.Reads as reads
-use Rattle.term_walk.proofs.leaving.leave_name.Lts as lts
-use Rattle.made_nodes.proofs.binders.naming.Reads as naming-reads
-use Rattle.term_walk.proofs.done.Reads as done-reads
 
--- src/leaving.rt:135:9
 naming-requires : tie.Need-naming-requires
 naming-requires c κs = (leave-workable (c .before .before .before .args .text .now) (c .before .before .before .args .work .now) (c .before .before .before .args .h) (c .before .before .before .args .l) (c .before .before .before .args .x) (c .before .before .before .pre .0), (name-facts (c .before .before .before .args .text .now) (c .before .before .before .args .work .now) (c .before .before .before .args .h) (c .before .before .before .args .l) (c .before .before .before .args .x) (c .before .before .before .pre .0) (c .before .before .before .pre .1), leave-type (c .before .before .before .args .text .now) (c .before .before .before .args .work .now) (c .before .before .before .args .h) (c .before .before .before .args .l) (c .before .before .before .args .x) (c .before .before .before .pre .0)))
 
--- src/leaving.rt:136:5
 done-requires : tie.Need-done-requires
 done-requires c κs = search needs
 
--- src/leaving.rt:126:1
 same-length : tie.Need-same-length
 same-length c = search needs
 
--- src/leaving.rt:126:1
 returns : tie.Need-returns
 returns c = name-done (c .before .before .before .before .before .before .before .args .text .now) (c .before .before .before .before .before .before .before .args .work .now) (c .before .before .before .before .before .before .before .args .h) (c .before .before .before .before .before .before .before .args .l) (c .before .before .before .before .before .before .before .args .x) (c .before .before .before .before .before .before .before .pre .0) _ _ _ (c .done .ensures) (c .before .before .before .before .before .before .before .pre .1) (c .before .before .before .naming .ensures)
 

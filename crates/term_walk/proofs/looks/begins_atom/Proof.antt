@@ -1,22 +1,17 @@
+-- Where no words are left no atom begins. Assumes nothing.
 use native.Mathlib.Omega.{arith}
 use mathlib.Core.Path.{sym, ap, _∙_}
 use Rattle.notation_calculus.specs.Grammar.{beginsAtom}
 use Rattle.term_walk.proofs.LookLaws.{words-past, words-lexed}
 use Rattle.term_walk.proofs.looks.begins_atom.Statement.{statement}
 use Rattle.term_walk.proofs.looks.begins_atom.Tie as tie
-use Rattle.term_walk.proofs.looks.begins_atom.Reads as reads
-use Rattle.term_walk.proofs.looks.begins_atom.Lts as lts
-use Rattle.grammar.proofs.heads.begins_atom.Reads as begins-atom-reads
 
--- src/looks.rt:60:9
 returns : tie.Need-returns
 returns c = sym (ap beginsAtom (words-past (c .before .before .args .text .now) (c .before .before .args .at) (c .if1 .taken)))
 
--- src/looks.rt:62:5
 begins-atom-requires : tie.Need-begins-atom-requires
 begins-atom-requires c κs = c .before .before .pre (omega (arith, c .if1 .left))
 
--- src/looks.rt:55:1
 returns-2 : tie.Need-returns-2
 returns-2 c = c .begins-atom .ensures ∙ sym (ap beginsAtom (words-lexed (c .before .before .before .args .text .now) (c .before .before .before .args .at) (c .before .before .before .pre (omega (arith, c .before .if1 .left)))))
 

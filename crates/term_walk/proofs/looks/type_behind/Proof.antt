@@ -1,25 +1,19 @@
+-- Where no words are left the grammar refuses; else it is the type at the offset. Assumes nothing.
 use Rattle.term_walk.proofs.TypeBehind.{type-past, type-inside}
 use native.Mathlib.Omega.{arith}
 use borrow.Author.Needs.{needs}
 use Rattle.term_walk.proofs.looks.type_behind.Statement.{statement}
 use Rattle.term_walk.proofs.looks.type_behind.Tie as tie
-use Rattle.term_walk.proofs.looks.type_behind.Reads as reads
-use Rattle.term_walk.proofs.looks.type_behind.Lts as lts
-use Rattle.type_walk.proofs.type_from.Reads as type-from-reads
 
--- src/looks.rt:49:9
 returns : tie.Need-returns
 returns c = type-past (c .before .before .before .args .text .now) (c .before .before .before .args .work .now) (c .before .before .before .args .at) (c .before .before .before .args .more) (c .before .before .before .args .frame) (c .before .before .before .args .top) (c .if1 .taken)
 
--- src/looks.rt:51:5
 type-from-requires : tie.Need-type-from-requires
 type-from-requires c κs = record { walk = c .before .before .before .before .pre .walk; lexed = c .before .before .before .before .pre .readable (omega (arith, c .before .if1 .left)); above = c .before .before .before .before .pre .above; levels = c .before .before .before .before .pre .levels }
 
--- src/looks.rt:37:1
 same-length : tie.Need-same-length
 same-length c = search needs
 
--- src/looks.rt:37:1
 returns-2 : tie.Need-returns-2
 returns-2 c = type-inside (c .before .before .before .before .before .before .before .args .text .now) (c .before .before .before .before .before .before .before .args .work .now) (c .before .before .before .before .before .before .before .args .at) (c .before .before .before .before .before .before .before .args .more) (c .before .before .before .before .before .before .before .args .frame) (c .before .before .before .before .before .before .before .args .top) (c .before .before .before .before .before .before .before .pre .readable (omega (arith, c .before .before .before .before .if1 .left))) _ _ (c .before .before .type-from .ensures)
 

@@ -1,14 +1,11 @@
+-- By the two numbers. Assumes nothing.
 use Rattle.term_walk.proofs.RoundLaws.{finished-came, finished-other}
 use Rattle.term_walk.proofs.rounds.finished.Statement.{statement}
 use Rattle.term_walk.proofs.rounds.finished.Tie as tie
-use Rattle.term_walk.proofs.rounds.finished.Reads as reads
-use Rattle.term_walk.proofs.rounds.finished.Lts as lts
 
--- src/rounds.rt:65:9
 returns : tie.Need-returns
 returns c = finished-came (c .before .before .before .args .n) (c .before .before .before .args .more) (c .before .if1 .taken)
 
--- src/rounds.rt:61:1
 returns-2 : tie.Need-returns-2
 returns-2 c = finished-other (c .before .before .args .n) (c .before .before .args .more) (c .if1 .left)
 

@@ -5,11 +5,6 @@ use native.Mathlib.Omega.{arith}
 use Rattle.term_walk.proofs.RoundLaws.{Rounds, rounds-start, rounds-done, rounds-step, rounds-refused, rounds-on, rounds-left}
 use Rattle.term_walk.proofs.rounds.term_from.Statement.{statement}
 use Rattle.term_walk.proofs.rounds.term_from.Tie as tie
-use Rattle.term_walk.proofs.rounds.term_from.Reads as reads
-use Rattle.term_walk.proofs.rounds.term_from.Lts as lts
-use Rattle.term_walk.proofs.nothing.Reads as nothing-reads
-use Rattle.term_walk.proofs.rounds.finished.Reads as finished-reads
-use Rattle.term_walk.proofs.rounds.step.Reads as step-reads
 
 abbrev Inv-loop : tie.InvT-loop
 Inv-loop text work₀ at more frame top n₀ left₀ work n left = Rounds text work₀ at more frame top work n left
@@ -17,63 +12,48 @@ Inv-loop text work₀ at more frame top n₀ left₀ work n left = Rounds text w
 abbrev μ-loop : tie.MeasureT-loop
 μ-loop text work₀ at more frame top n₀ left₀ work n left = left
 
--- src/rounds.rt:92:14
 nothing-requires : tie.Need-nothing-requires Inv-loop μ-loop
 nothing-requires c κs = tt
 
--- src/rounds.rt:96:5
 loop-holds : tie.Need-loop-holds Inv-loop μ-loop
 loop-holds c = rounds-start (c .before .before .before .args .text .now) (c .before .before .before .args .work .now) (c .before .before .before .args .at) (c .before .before .before .args .more) (c .before .before .before .args .frame) (c .before .before .before .args .top) (c .before .before .before .pre) (c .nothing .result)
 
--- src/rounds.rt:97:12
 finished-requires : tie.Need-finished-requires Inv-loop μ-loop
 finished-requires c κs = tt
 
--- src/rounds.rt:99:13
 same-length : tie.Need-same-length Inv-loop μ-loop
 same-length c = c .before .before .before .before .loop .inv .walked .same
 
--- src/rounds.rt:99:13
 returns : tie.Need-returns Inv-loop μ-loop
 returns c = rounds-done (c .before .before .before .before .before .before .before .before .args .text .now) (c .before .before .before .before .before .before .before .before .args .work .now) (c .before .before .before .before .before .before .before .before .args .at) (c .before .before .before .before .before .before .before .before .args .more) (c .before .before .before .before .before .before .before .before .args .frame) (c .before .before .before .before .before .before .before .before .args .top) (c .before .before .before .before .before .before .before .before .pre) (c .before .before .before .before .loop .work) (c .before .before .before .before .loop .n) (c .before .before .before .before .loop .left) (c .before .before .before .before .loop .inv) (c .before .before .finished .ensures .yes (c .before .if1 .taken) .0) (c .before .before .finished .ensures .yes (c .before .if1 .taken) .1)
 
--- src/rounds.rt:101:13
 step-requires : tie.Need-step-requires Inv-loop μ-loop
 step-requires c κs = rounds-step (c .before .before .before .before .before .before .before .before .args .text .now) (c .before .before .before .before .before .before .before .before .args .work .now) (c .before .before .before .before .before .before .before .before .args .at) (c .before .before .before .before .before .before .before .before .args .more) (c .before .before .before .before .before .before .before .before .args .frame) (c .before .before .before .before .before .before .before .before .args .top) (c .before .before .before .before .before .before .before .before .pre) (c .before .before .before .before .loop .work) (c .before .before .before .before .loop .n) (c .before .before .before .before .loop .left) (c .before .before .before .before .loop .inv) (c .before .before .finished .ensures .not (c .before .if1 .left))
 
--- src/rounds.rt:103:27
 enum-known-r : tie.Need-enum-known-r Inv-loop μ-loop
 enum-known-r c = search needs
 
--- src/rounds.rt:103:45
 same-length-2 : tie.Need-same-length-2 Inv-loop μ-loop
 same-length-2 c = rounds-refused (c .before .before .before .before .before .before .before .before .before .before .before .before .before .before .args .text .now) (c .before .before .before .before .before .before .before .before .before .before .before .before .before .before .args .work .now) (c .before .before .before .before .before .before .before .before .before .before .before .before .before .before .args .at) (c .before .before .before .before .before .before .before .before .before .before .before .before .before .before .args .more) (c .before .before .before .before .before .before .before .before .before .before .before .before .before .before .args .frame) (c .before .before .before .before .before .before .before .before .before .before .before .before .before .before .args .top) (c .before .before .before .before .before .before .before .before .before .before .before .before .before .before .pre) (c .before .before .before .before .before .before .before .before .before .before .loop .work) (c .before .before .before .before .before .before .before .before .before .before .loop .n) (c .before .before .before .before .before .before .before .before .before .before .loop .left) (c .before .before .before .before .before .before .before .before .before .before .loop .inv) (c .before .before .before .before .before .before .before .before .finished .ensures .not (c .before .before .before .before .before .before .before .if1 .left)) _ _ _ _ (c .before .r .given .1) (c .before .before .before .before .before .step .ensures) .walked .same
 
--- src/rounds.rt:103:45
 returns-2 : tie.Need-returns-2 Inv-loop μ-loop
 returns-2 c = rounds-refused (c .before .before .before .before .before .before .before .before .before .before .before .before .before .before .args .text .now) (c .before .before .before .before .before .before .before .before .before .before .before .before .before .before .args .work .now) (c .before .before .before .before .before .before .before .before .before .before .before .before .before .before .args .at) (c .before .before .before .before .before .before .before .before .before .before .before .before .before .before .args .more) (c .before .before .before .before .before .before .before .before .before .before .before .before .before .before .args .frame) (c .before .before .before .before .before .before .before .before .before .before .before .before .before .before .args .top) (c .before .before .before .before .before .before .before .before .before .before .before .before .before .before .pre) (c .before .before .before .before .before .before .before .before .before .before .loop .work) (c .before .before .before .before .before .before .before .before .before .before .loop .n) (c .before .before .before .before .before .before .before .before .before .before .loop .left) (c .before .before .before .before .before .before .before .before .before .before .loop .inv) (c .before .before .before .before .before .before .before .before .finished .ensures .not (c .before .before .before .before .before .before .before .if1 .left)) _ _ _ _ (c .before .r .given .1) (c .before .before .before .before .before .step .ensures)
 
--- src/rounds.rt:104:25
 enum-known-r-2 : tie.Need-enum-known-r-2 Inv-loop μ-loop
 enum-known-r-2 c = search needs
 
--- src/rounds.rt:108:16
 sub-left : tie.Need-sub-left Inv-loop μ-loop
 sub-left c = omega (arith, c .before .before .before .before .before .before .before .before .before .loop-test .taken)
 
--- src/rounds.rt:96:5
 loop-less : tie.Need-loop-less Inv-loop μ-loop
 loop-less c = omega (arith, c .before .before .before .before .before .before .before .before .before .loop-test .taken)
 
--- src/rounds.rt:96:5
 loop-again : tie.Need-loop-again Inv-loop μ-loop
 loop-again c = rounds-on (c .before .before .before .before .before .before .before .before .before .before .before .before .before .before .args .text .now) (c .before .before .before .before .before .before .before .before .before .before .before .before .before .before .args .work .now) (c .before .before .before .before .before .before .before .before .before .before .before .before .before .before .args .at) (c .before .before .before .before .before .before .before .before .before .before .before .before .before .before .args .more) (c .before .before .before .before .before .before .before .before .before .before .before .before .before .before .args .frame) (c .before .before .before .before .before .before .before .before .before .before .before .before .before .before .args .top) (c .before .before .before .before .before .before .before .before .before .before .before .before .before .before .pre) (c .before .before .before .before .before .before .before .before .before .before .loop .work) (c .before .before .before .before .before .before .before .before .before .before .loop .n) (c .before .before .before .before .before .before .before .before .before .before .loop .left) (c .before .before .before .before .before .before .before .before .before .before .loop .inv) (c .before .before .before .before .before .before .before .before .finished .ensures .not (c .before .before .before .before .before .before .before .if1 .left)) _ _ _ (c .before .r2 .given .1) (c .before .before .before .before .before .step .ensures)
 
--- src/rounds.rt:74:1
 same-length-3 : tie.Need-same-length-3 Inv-loop μ-loop
 same-length-3 c = c .before .loop .inv .walked .same
 
--- src/rounds.rt:74:1
 returns-3 : tie.Need-returns-3 Inv-loop μ-loop
 returns-3 c = absurd (rounds-left (c .before .before .before .before .before .args .text .now) (c .before .before .before .before .before .args .work .now) (c .before .before .before .before .before .args .at) (c .before .before .before .before .before .args .more) (c .before .before .before .before .before .args .frame) (c .before .before .before .before .before .args .top) (c .before .before .before .before .before .pre) (c .before .loop .work) (c .before .loop .n) (c .before .loop .left) (c .before .loop .inv) (omega (arith, c .loop-test .left)))
 
