@@ -40,7 +40,8 @@ fn ended(s: Walking) -> TypeEnd
     }
 }
 
-// The type at an offset where the grammar has read one. The counter of steps only shows that the loop ends.
+// The type at an offset where the grammar has read one. The counter only shows that the loop ends: it begins at more steps than the machine can
+// take, and `type-falls` says that it never reaches 0 too early. A measure read off the levels would have to be worked out from the memory.
 fn type_at(
     text: &[u8],
     work: &mut [u16],

@@ -1,0 +1,7 @@
+pub mod Stay
+pub mod NameLaws
+pub mod JoinLaws
+pub mod BindLaws
+pub mod LookFor
+pub mod ApartLaws
+pub mod RestsLaws

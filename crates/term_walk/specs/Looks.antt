@@ -1,0 +1,34 @@
+-- The words from an offset of a walk on. The machine passes words without looking at them, so an offset may be behind the text's end,
+-- where no words are left. Assumes nothing.
+use Prim.Native.Nat.{ℕ, _≤_, _<_}
+use mathlib.Core.Path.{_≡_}
+use mathlib.Core.Bool.{cond}
+use mathlib.Core.List.{List, []}
+use lib.Dec.{leb}
+use lib.ListN.{length}
+use Rattle.notation_calculus.specs.Words.{name}
+use Rattle.notation_calculus.specs.Words as Words
+use Rattle.notation_calculus.specs.Grammar.{peek, behind, place}
+use Rattle.words.specs.Tables.{tokenCode, tokenValue}
+use Rattle.words.specs.Next.{runAt}
+use Rattle.words.specs.Lexed.{from, Lexed}
+use Rattle.words.specs.declared.Word.{Word}
+
+unfoldable pub wordsAt : List ℕ → ℕ → List Words.Word
+wordsAt text at = cond (leb at (length text)) (from text at) []
+
+-- an offset of the text, from which on all words are good, or one behind its end
+abbrev pub ReadableFrom : List ℕ → ℕ → Type 0
+ReadableFrom text at = at ≤ length text → Lexed text at
+
+-- the first of the words from an offset on
+pub record Looks (text : List ℕ) (at : ℕ) (w : Word) : Type 0 where
+  pub code : w .kind ≡ tokenCode (peek (wordsAt text at) .token)
+  pub value : w .value ≡ tokenValue (peek (wordsAt text at) .token)
+  pub place : w .start ≡ place (wordsAt text at)
+  pub inside : w .start ≤ length text
+  pub rest : behind (wordsAt text at) ≡ wordsAt text (w .end)
+  pub readable : ReadableFrom text (w .end)
+  pub onward : ¬ (w .kind ≡ 0) → Lexed text (w .end)
+  pub fewer : ¬ (w .kind ≡ 0) → length (behind (wordsAt text at)) < length (wordsAt text at)
+  pub named : w .kind ≡ 24 → peek (wordsAt text at) .token ≡ name (runAt text (w .start))

@@ -1,0 +1,63 @@
+// The word at an offset of a walk, which may be behind the text's end, where no words are left.
+ghost use mathlib.Core.Path.{_≡_};
+ghost use Prim.Native.Nat.{_<_};
+ghost use lib.ListN.{length};
+ghost use Rattle.notation_calculus.specs.Grammar.{beginsAtom};
+ghost use Rattle.term_walk.specs.Looks.{wordsAt, ReadableFrom, Looks};
+ghost use Rattle.term_walk.specs.Steps.{CanBehind, BehindType};
+use walks::TypeEnd;
+use words::Word;
+
+pub fn look(text: &[u8], at: usize) -> Word
+    requires { ⌜ (ReadableFrom (now text) at) × (length (now text) < 65536) ⌝ }
+    ensures { λ r. ⌜ Looks (now (text .entry)) at r ⌝ }
+{
+    let past = text.len() + 1;
+    if text.len() < at {
+        return Word {
+            kind: 0,
+            value: 0,
+            start: 0,
+            end: past,
+        };
+    }
+    let w = words::word_at(text, at);
+    if w.kind == 0 {
+        return Word {
+            kind: 0,
+            value: 0,
+            start: w.start,
+            end: past,
+        };
+    }
+    w
+}
+
+// A type is worked out at an offset; none begins where no words are left.
+pub fn type_behind(
+    text: &[u8],
+    work: &mut [u16],
+    at: usize,
+    more: usize,
+    frame: usize,
+    top: usize,
+) -> TypeEnd
+    requires { ⌜ CanBehind (now text) (now work) at more frame top ⌝ }
+    ensures { λ r. ⌜ BehindType (now (text .entry)) (now (work .entry)) at more frame top r (now (work .exit)) ⌝ }
+{
+    if text.len() < at {
+        return TypeEnd::Refused(32, 0);
+    }
+    type_walk::type_from(text, work, at, more, frame, top)
+}
+
+// An atom begins at an offset.
+pub fn begins_atom(text: &[u8], at: usize) -> bool
+    requires { ⌜ ReadableFrom (now text) at ⌝ }
+    ensures { λ r. ⌜ r ≡ beginsAtom (wordsAt (now (text .entry)) at) ⌝ }
+{
+    if text.len() < at {
+        return false;
+    }
+    grammar::heads::begins_atom(text, at)
+}
