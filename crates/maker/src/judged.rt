@@ -1,11 +1,11 @@
 // Definitions without parameters are judged, also those that `main` does not reach: each is made, and what it costs is all that is left of it.
 use crate::Stage;
 use crate::lines;
-use crate::walks_stub::term_from;
 use clauses::rows;
 use clauses::rows::Row;
 use putting::mains;
 use scopes::puts;
+use term_walk::rounds::term_from;
 use type_walk::type_from;
 use walks::TermEnd;
 use walks::TypeEnd;

@@ -1,7 +1,6 @@
 // The call that makes a sheet of a text: its words and its clauses, its lines, its definitions judged, `main`, and the sheet written.
 mod judged;
 mod lines;
-mod walks_stub;
 
 use putting::BodyEnd;
 use sheet_writer::WroteSheet;
@@ -28,7 +27,7 @@ fn main_term(text: &[u8], work: &mut [u16], end: usize) -> TermEnd
 {
     match putting::put_main(text, work, 80, end) {
         BodyEnd::Refused(number, place) => TermEnd::Refused(number, place),
-        BodyEnd::At(body, top) => walks_stub::term_from(text, work, body, 80, 80, top),
+        BodyEnd::At(body, top) => term_walk::rounds::term_from(text, work, body, 80, 80, top),
     }
 }
 
