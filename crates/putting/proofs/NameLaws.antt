@@ -1,5 +1,5 @@
 -- The name `main`, byte by byte, and a row of that name without parameters. Assumes nothing.
-use Prim.Native.Nat.{ℕ, _+_, _≤_, _<_}
+use Prim.Native.Nat.{ℕ, suc, _+_, _≤_, _<_}
 use mathlib.Core.Path.{_≡_, refl, sym, ap, _∙_}
 use mathlib.Core.Bool.{Bool, true, false, not, _&&_}
 use mathlib.Core.List.{List, [], _∷_}
@@ -11,9 +11,19 @@ use Rattle.notation_calculus.specs.Words.{run, sameName}
 use Rattle.notation_calculus.specs.Make.{mainName}
 use Rattle.words.specs.Next.{runAt}
 use Rattle.words.proofs.FoundLaws.{run-inside, run-long}
-use Rattle.words.proofs.TableLaws.{names-differ}
 use Rattle.clauses.specs.declared.rows.Row.{Row}
 use Rattle.putting.specs.Main.{rowMain}
+
+-- names of two lengths are not the same
+names-differ : (xs ys : List ℕ) → ¬ (length xs ≡ length ys) → sameName xs ys ≡ false
+names-differ [] [] d = absurd (d refl)
+names-differ [] (y ∷ ys) d = refl
+names-differ (x ∷ xs) [] d = refl
+names-differ (x ∷ xs) (y ∷ ys) d = ap (λ (b : Bool). eqb x y && b) (names-differ xs ys (λ e. d (ap suc e))) ∙ none (eqb x y)
+  where
+    none : (b : Bool) → (b && false) ≡ false
+    none true = refl
+    none false = refl
 
 abbrev mainBytes : List ℕ
 mainBytes = 109 ∷ 97 ∷ 105 ∷ 110 ∷ []
