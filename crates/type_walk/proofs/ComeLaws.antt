@@ -19,7 +19,7 @@ use Rattle.type_walk.specs.declared.levels.Come.{Come}
 use Rattle.type_walk.specs.declared.levels.Here.{Here}
 use Rattle.type_walk.specs.declared.levels.Walking as code
 use Rattle.type_walk.specs.declared.levels.Walking.the-variants as walking
-use Rattle.type_walk.specs.Holding.{boundThere, givenFrom, AllBelow, WishKnown, LevelHeld, hereIn}
+use Rattle.type_walk.specs.Holding.{boundAt, givenFrom, AllBelow, WishKnown, LevelHeld, hereIn}
 use Rattle.type_walk.specs.Moves.{CanMove, Moving, Moved, Known, foundIn, Given, Both, formBy, sideAfter, leftWith, CanStep, Stepped}
 use Rattle.type_walk.proofs.NameLaws.{given-length}
 use Rattle.type_walk.proofs.StepLaws.{Awaited, come-held, Tells, come-can, come-moved}
@@ -55,7 +55,7 @@ module _ (text w : List ℕ) (n top : ℕ) (L : Level) where
 
   -- an argument of a name that stands in the text, over those that wait
   pub record ArgumentWish (x : Wish) : Type 0 where
-    pub is : x ≡ argument (boundThere text (L .place)) (givenFrom w top (L .count))
+    pub is : x ≡ argument (boundAt text (L .place)) (givenFrom w top (L .count))
     pub inside : L .place ≤ length text
     pub few : top + L .count < mostEntries
     pub below : AllBelow n (givenFrom w top (L .count))
@@ -67,7 +67,7 @@ module _ (text w : List ℕ) (n top : ℕ) (L : Level) where
   argument-wish (argument x given) (a, p, m, c, g) (i, (few, all)) e =
       let same : given ≡ givenFrom w top (L .count) = given-is w top given g ∙ ap (λ (j : ℕ). givenFrom w top j) (sym c) in
       record {
-        is = ap (λ (z : ℕ). argument (record { name = x .name; place = z }) given) (sym p) ∙ ap (λ (z : List ℕ). argument (record { name = z; place = L .place }) given) (sym m) ∙ ap (λ (ts : List ℕ). argument (boundThere text (L .place)) ts) same;
+        is = ap (λ (z : ℕ). argument (record { name = x .name; place = z }) given) (sym p) ∙ ap (λ (z : List ℕ). argument (record { name = z; place = L .place }) given) (sym m) ∙ ap (λ (ts : List ℕ). argument (boundAt text (L .place)) ts) same;
         inside = omega (arith, i, p);
         few = omega (arith, few, c);
         below = subst (AllBelow n) same all;
@@ -136,7 +136,7 @@ module _ (text w : List ℕ) (q : Come) (h : Here) (is-here : h ≡ hereIn w (q 
     P = Both (Known (q .ty)) (Given w (h .top) given)
 
     abbrev go : Moving
-    go = leftWith text (argument (boundThere text nm) (givenFrom w (h .top) given)) (q .ty) (q .at)
+    go = leftWith text (argument (boundAt text nm) (givenFrom w (h .top) given)) (q .ty) (q .at)
 
     name-stored : nm ≡ stored .place
     name-stored = is-name ∙ ap (λ (y : Level). y .place) is-level
@@ -156,7 +156,7 @@ module _ (text w : List ℕ) (q : Come) (h : Here) (is-here : h ≡ hereIn w (q 
     tells-argument : Tells text w q P go
     tells-argument = record {
       knows = λ X σ l H k. (k, subst (AllBelow (length (σ .table))) args-stored (argument-of X σ l H .below));
-      does = λ X σ l H k. wished go X σ l (argument (boundThere text nm) (givenFrom w (h .top) given)) (argument-of X σ l H .is ∙ ap (λ (j : ℕ). argument (boundThere text j) (givenFrom w top (stored .count))) (sym name-stored) ∙ ap (λ (ts : List ℕ). argument (boundThere text nm) ts) args-stored) (λ bodies t. refl);
+      does = λ X σ l H k. wished go X σ l (argument (boundAt text nm) (givenFrom w (h .top) given)) (argument-of X σ l H .is ∙ ap (λ (j : ℕ). argument (boundAt text j) (givenFrom w top (stored .count))) (sym name-stored) ∙ ap (λ (ts : List ℕ). argument (boundAt text nm) ts) args-stored) (λ bodies t. refl);
     }
 
     pub argument-can : CanStep text w (walking.Came q) → CanMove text w h P × (Lexed text (q .at) × ((nm ≤ length text) × ((h .top + given < mostEntries) × Places text w 0 (h .top + given))))

@@ -33,7 +33,7 @@ use Rattle.type_walk.specs.declared.levels.Want.{Want}
 use Rattle.type_walk.specs.declared.levels.Here.{Here}
 use Rattle.type_walk.specs.declared.levels.Walking as code
 use Rattle.type_walk.specs.declared.levels.Walking.the-variants as walking
-use Rattle.type_walk.specs.Holding.{boundThere, givenFrom, AllBelow, hereWith, aroundOf, AtLevel, Wanting, Answered}
+use Rattle.type_walk.specs.Holding.{boundAt, givenFrom, AllBelow, hereWith, aroundOf, AtLevel, Wanting, Answered}
 use Rattle.type_walk.specs.Moves.{CanMove, Waited, Moving, Moved, Known, foundIn, Given, Valued, Anything, NameAt, sideAfter, argumentAsk, putAfter, plainAfter, namedAfter, CanAskBody, BodyAsked}
 use Rattle.type_walk.proofs.HoldLaws.{at-on, walked-wider}
 use Rattle.type_walk.proofs.AskLaws.{can-wait, ask-held, waited-walked, places-none, waited-moved}
@@ -76,10 +76,10 @@ module _ (text w : List ℕ) (h : Here) (name given at : ℕ) where
   abbrev args : List ℕ
   args = givenFrom w (h .top) given
 
-  room-if : (b : Bool) → b ≡ leb (h .top + (given + 1)) mostEntries → (X : Text) (m₀ base : ℕ) (σ : State) (S : Scope) (K : List TypeLevel) → AtLevel text w X m₀ base σ h S K → (bodies : List (List Word)) → argumentAsk text w (h .top) name given at X bodies (hereWith h S K) σ ≡ (need b 34 name >>= λ _. good (askType (hereWith h S K) (argument (boundThere text name) args) false (waiting S (length args)) σ (from text at)))
+  room-if : (b : Bool) → b ≡ leb (h .top + (given + 1)) mostEntries → (X : Text) (m₀ base : ℕ) (σ : State) (S : Scope) (K : List TypeLevel) → AtLevel text w X m₀ base σ h S K → (bodies : List (List Word)) → argumentAsk text w (h .top) name given at X bodies (hereWith h S K) σ ≡ (need b 34 name >>= λ _. good (askType (hereWith h S K) (argument (boundAt text name) args) false (waiting S (length args)) σ (from text at)))
   room-if b e X m₀ base σ S K A bodies =
       let n : entries S + suc (length args) ≡ h .top + (given + 1) = omega (arith, A .walkable .scope .entries, given-length w (h .top) given) in
-      ap (λ (c : Bool). need c 34 name >>= λ _. good (askType (hereWith h S K) (argument (boundThere text name) args) false (waiting S (length args)) σ (from text at))) (ap (λ (k : ℕ). leb k mostEntries) n ∙ sym e)
+      ap (λ (c : Bool). need c 34 name >>= λ _. good (askType (hereWith h S K) (argument (boundAt text name) args) false (waiting S (length args)) σ (from text at))) (ap (λ (k : ℕ). leb k mostEntries) n ∙ sym e)
 
   pub argument-full : (b : Bool) → b ≡ leb (h .top + (given + 1)) mostEntries → b ≡ false → Moved text w h (Given w (h .top) given) (argumentAsk text w (h .top) name given at) (walking.Refused 34 name) w
   argument-full b e f = refused-moved (Given w (h .top) given) (argumentAsk text w (h .top) name given at) 34 name λ X m₀ base σ S K A k bodies. room-if false (sym f ∙ e) X m₀ base σ S K A bodies
@@ -96,7 +96,7 @@ module _ (text w : List ℕ) (h : Here) (name given at : ℕ) where
       let few : h .top + (given + 1) ≤ mostEntries = leb→le (h .top + (given + 1)) mostEntries (subst T (sym ok ∙ e) tt) in
       waited-moved text w h _ _ r w′ (Given w (h .top) given) (argumentAsk text w (h .top) name given at) waits g (λ X m₀ base σ S K A k.
       subst (Wanting text _ X m₀ base _) (sym (room-if true (sym ok ∙ e) X m₀ base σ S K A (rowBodies text w 0 (length (X .clauses)))))
-      (ask-held w h _ waits text X m₀ base σ S K A (argument (boundThere text name) args) false (h .frame) (h .top + given) at (waiting S (length args)) f (refl, refl, refl, sym (given-length w (h .top) given), given-in w (h .top) given) (inside, (omega (arith, given-length w (h .top) given), k)) p (omega (arith, A .level)) (omega arith) (subst (λ (j : ℕ). Walkable text w (h .frame) j X (waiting S (length args)) σ) (sym n) (walkable-waiting text w (h .frame) (h .top) (length args) X S σ (A .walkable) p)) l))
+      (ask-held w h _ waits text X m₀ base σ S K A (argument (boundAt text name) args) false (h .frame) (h .top + given) at (waiting S (length args)) f (refl, refl, refl, sym (given-length w (h .top) given), given-in w (h .top) given) (inside, (omega (arith, given-length w (h .top) given), k)) p (omega (arith, A .level)) (omega arith) (subst (λ (j : ℕ). Walkable text w (h .frame) j X (waiting S (length args)) σ) (sym n) (walkable-waiting text w (h .frame) (h .top) (length args) X S σ (A .walkable) p)) l))
 
 -- ---- a definition that is put in
 
@@ -142,7 +142,7 @@ module _ (X : Text) (bodies : List (List Word)) (S : Scope) (σ : State) (x : Bo
 
 module _ (text w w₁ : List ℕ) (h : Here) (name given at : ℕ) where
   abbrev putting : Text → Scope → State → Answer PutThere
-  putting X S σ = putFrom X (rowBodies text w 0 (length (X .clauses))) true S σ (boundThere text name) (valuesIn w (h .top) given) (from text at)
+  putting X S σ = putFrom X (rowBodies text w 0 (length (X .clauses))) true S σ (boundAt text name) (valuesIn w (h .top) given) (from text at)
 
   abbrev askBody : TypeHere → PutThere → Answer Typing
   askBody t p = good (askType t (body (p .rest)) false (p .scope) (p .state) (p .body))
@@ -154,7 +154,7 @@ module _ (text w w₁ : List ℕ) (h : Here) (name given at : ℕ) where
   pub put-refused : (p : put.PutEnd) (number place : ℕ) → p ≡ put-end.Refused number place → PutSays text w true name at given (h .frame) (h .top) (h .more) p w₁ → Moved text w h (Valued w (h .top) given) (putAfter text w (h .top) name given at) (walking.Refused number place) w₁
   put-refused p number place e Z = record {
     walked = walked-wider (suc (h .more)) (h .more + 1) (h .top) (h .top) w w₁ (omega arith) (omega arith) (Z .walked);
-    says = λ X m₀ base σ S K A k. put-is X (rowBodies text w 0 (length (X .clauses))) S σ (boundThere text name) (valuesIn w (h .top) given) (from text at) (hereWith h S K) refl ∙ put-none X number place (hereWith h S K) (putting X S σ) (subst (λ (y : put.PutEnd). PutAnswers text w₁ X (h .more) y (putting X S σ)) e (Z .says X S σ (A .walkable) k));
+    says = λ X m₀ base σ S K A k. put-is X (rowBodies text w 0 (length (X .clauses))) S σ (boundAt text name) (valuesIn w (h .top) given) (from text at) (hereWith h S K) refl ∙ put-none X number place (hereWith h S K) (putting X S σ) (subst (λ (y : put.PutEnd). PutAnswers text w₁ X (h .more) y (putting X S σ)) e (Z .says X S σ (A .walkable) k));
   }
 
   module _ (p : put.PutEnd) (q : PutAt) (is-p : p ≡ put-end.At q) (Z : PutSays text w true name at given (h .frame) (h .top) (h .more) p w₁) where
@@ -182,7 +182,7 @@ module _ (text w w₁ : List ℕ) (h : Here) (name given at : ℕ) where
       pub put-came : Moved text w h (Valued w (h .top) given) (putAfter text w (h .top) name given at) r w₂
       put-came = record {
         walked = types-walked-then (h .more + 1) (h .more + 1) (h .more + 1) (h .top) (h .top) (h .top) w w₁ w₂ (omega arith) (omega arith) (omega arith) (omega arith) walked₁ (B .walked);
-        says = λ X m₀ base σ S K A k. answered-as text w₂ X m₀ base r (put-is X (rowBodies text w 0 (length (X .clauses))) S σ (boundThere text name) (valuesIn w (h .top) given) (from text at) (hereWith h S K) refl) (came-by X m₀ base σ S K A (putting X S σ) (put-over X (rowBodies text w 0 (length (X .clauses))) S σ (boundThere text name) (valuesIn w (h .top) given) (from text at)) (put-said X S σ (A .walkable) k));
+        says = λ X m₀ base σ S K A k. answered-as text w₂ X m₀ base r (put-is X (rowBodies text w 0 (length (X .clauses))) S σ (boundAt text name) (valuesIn w (h .top) given) (from text at) (hereWith h S K) refl) (came-by X m₀ base σ S K A (putting X S σ) (put-over X (rowBodies text w 0 (length (X .clauses))) S σ (boundAt text name) (valuesIn w (h .top) given) (from text at)) (put-said X S σ (A .walkable) k));
       }
 
 pub can-put : (text w : List ℕ) (h : Here) (name given at : ℕ) → CanMove text w h (Valued w (h .top) given) → Lexed text at → name ≤ length text → h .top + given ≤ mostEntries → CanPut text w name at given (h .frame) (h .top) (h .more)
@@ -221,7 +221,7 @@ module _ (text w : List ℕ) (h : Here) (name at : ℕ) (N : NameAt text name) (
     pub plain-none : (w′ : List ℕ) (r : code.Walking) → e ≡ f .numbers → Moved text w h (Valued w (h .top) 0) (putAfter text w (h .top) name 0 at) r w′ → Moved text w h Anything (plainAfter text name at) r w′
     plain-none w′ r z M = moved-by (Valued w (h .top) 0) Anything (putAfter text w (h .top) name 0 at) (plainAfter text name at) (λ X m₀ base σ S K A _.
         let Q = parameters X m₀ base σ S K A in
-        (tt, λ bodies. subst (λ (Γ : List Entry). lookup (runAt text name) Γ 0 (λ i v. good (sideFrom (hereWith h S K) (foundIn v σ) (from text at))) (typePutIn X bodies (hereWith h S K) σ (boundThere text name) [] (from text at)) ≡ typePutIn X bodies (hereWith h S K) σ (boundThere text name) [] (from text at)) (Q .types) (found 0 (λ v. good (sideFrom (hereWith h S K) (foundIn v σ) (from text at))) (typePutIn X bodies (hereWith h S K) σ (boundThere text name) [] (from text at)) .none (omega (arith, Q .types-first))))) M
+        (tt, λ bodies. subst (λ (Γ : List Entry). lookup (runAt text name) Γ 0 (λ i v. good (sideFrom (hereWith h S K) (foundIn v σ) (from text at))) (typePutIn X bodies (hereWith h S K) σ (boundAt text name) [] (from text at)) ≡ typePutIn X bodies (hereWith h S K) σ (boundAt text name) [] (from text at)) (Q .types) (found 0 (λ v. good (sideFrom (hereWith h S K) (foundIn v σ) (from text at))) (typePutIn X bodies (hereWith h S K) σ (boundAt text name) [] (from text at)) .none (omega (arith, Q .types-first))))) M
 
     module _ (some : ¬ (e ≡ f .numbers)) (X : Text) (m₀ base : ℕ) (σ : State) (S : Scope) (K : List TypeLevel) (A : AtLevel text w X m₀ base σ h S K) where
       abbrev Q : HoldsParameters text w f S
@@ -237,7 +237,7 @@ module _ (text w : List ℕ) (h : Here) (name at : ℕ) (N : NameAt text name) (
       known = on-good (λ (v : ℕ). v < length (σ .table)) (lookup (runAt text name) (S .types) 0 (λ _ v. good v) (refuse 0 0)) (valueAt w e) (known-by (length (σ .table)) (runAt text name) (S .types) 0 (A .walkable .types)) (subst (λ (Γ : List Entry). lookup (runAt text name) Γ 0 (λ _ v. good v) (refuse 0 0) ≡ good (valueAt w e)) (Q .types) (found 0 (λ v. good v) (refuse 0 0) .there within .1))
 
       plain-is : (bodies : List (List Word)) → plainAfter text name at X bodies (hereWith h S K) σ ≡ sideAfter text (valueAt w e) at X bodies (hereWith h S K) σ
-      plain-is bodies = subst (λ (Γ : List Entry). lookup (runAt text name) Γ 0 (λ i v. good (sideFrom (hereWith h S K) (foundIn v σ) (from text at))) (typePutIn X bodies (hereWith h S K) σ (boundThere text name) [] (from text at)) ≡ good (sideFrom (hereWith h S K) (foundIn (valueAt w e) σ) (from text at))) (Q .types) (found 0 (λ v. good (sideFrom (hereWith h S K) (foundIn v σ) (from text at))) (typePutIn X bodies (hereWith h S K) σ (boundThere text name) [] (from text at)) .there within .1)
+      plain-is bodies = subst (λ (Γ : List Entry). lookup (runAt text name) Γ 0 (λ i v. good (sideFrom (hereWith h S K) (foundIn v σ) (from text at))) (typePutIn X bodies (hereWith h S K) σ (boundAt text name) [] (from text at)) ≡ good (sideFrom (hereWith h S K) (foundIn (valueAt w e) σ) (from text at))) (Q .types) (found 0 (λ v. good (sideFrom (hereWith h S K) (foundIn v σ) (from text at))) (typePutIn X bodies (hereWith h S K) σ (boundAt text name) [] (from text at)) .there within .1)
 
     pub plain-low : ¬ (e ≡ f .numbers) → CanMove text w h Anything → e < mostEntries
     plain-low some C = low some (C .X) (C .m₀) (C .base) (C .σ) (C .S) (C .K) (C .held)
@@ -256,14 +256,14 @@ module _ (text w w′ : List ℕ) (h : Here) (name at : ℕ) (r : code.Walking) 
 
   abbrev namedIf : Bool → Bool → Moving
   namedIf a b X bodies t σ =
-      let there = cond a (askArgument t σ (boundThere text name) [] (behind ws)) (typePutIn X bodies t σ (boundThere text name) [] ws) in
+      let there = cond a (askArgument t σ (boundAt text name) [] (behind ws)) (typePutIn X bodies t σ (boundAt text name) [] ws) in
       cond (a || b) there (lookup (runAt text name) (t .scope .types) 0 (λ i v. good (sideFrom t (foundIn v σ) ws)) there)
 
   named-if : (a b : Bool) → is square ws ≡ a → is curly ws ≡ b → (X : Text) (bodies : List (List Word)) (σ : State) (S : Scope) (K : List TypeLevel) → namedAfter text name at X bodies (hereWith h S K) σ ≡ namedIf a b X bodies (hereWith h S K) σ
   named-if a b e f X bodies σ S K = ap (λ (c : Bool). namedIf c (is curly ws) X bodies (hereWith h S K) σ) e ∙ ap (λ (c : Bool). namedIf a c X bodies (hereWith h S K) σ) f
 
   pub named-square : v .code ≡ 17 → Moved text w h (Given w (h .top) 0) (argumentAsk text w (h .top) name 0 (v .end)) r w′ → Moved text w h Anything (namedAfter text name at) r w′
-  named-square e M = moved-by (Given w (h .top) 0) Anything (argumentAsk text w (h .top) name 0 (v .end)) (namedAfter text name at) (λ X m₀ base σ S K A _. (tt, λ bodies. named-if true (is curly ws) (is-yes text at v s square e) refl X bodies σ S K ∙ ap (λ (us : List Word). askArgument (hereWith h S K) σ (boundThere text name) [] us) (onward text at v s 16 e .rest))) M
+  named-square e M = moved-by (Given w (h .top) 0) Anything (argumentAsk text w (h .top) name 0 (v .end)) (namedAfter text name at) (λ X m₀ base σ S K A _. (tt, λ bodies. named-if true (is curly ws) (is-yes text at v s square e) refl X bodies σ S K ∙ ap (λ (us : List Word). askArgument (hereWith h S K) σ (boundAt text name) [] us) (onward text at v s 16 e .rest))) M
 
   pub named-curly : ¬ (v .code ≡ 17) → v .code ≡ 19 → Moved text w h (Valued w (h .top) 0) (putAfter text w (h .top) name 0 at) r w′ → Moved text w h Anything (namedAfter text name at) r w′
   named-curly n e M = moved-by (Valued w (h .top) 0) Anything (putAfter text w (h .top) name 0 at) (namedAfter text name at) (λ X m₀ base σ S K A _. (tt, λ bodies. named-if false true (is-no text at v s square n) (is-yes text at v s curly e) X bodies σ S K)) M

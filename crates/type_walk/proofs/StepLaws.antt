@@ -44,7 +44,7 @@ use Rattle.type_walk.specs.declared.levels.Come.{Come}
 use Rattle.type_walk.specs.declared.levels.Here.{Here}
 use Rattle.type_walk.specs.declared.levels.Walking as code
 use Rattle.type_walk.specs.declared.levels.Walking.the-variants as walking
-use Rattle.type_walk.specs.Holding.{boundThere, givenFrom, AllBelow, LevelHeld, LevelsHeld, hereWith, hereIn, AtLevel, Wanting, Coming, Answered}
+use Rattle.type_walk.specs.Holding.{boundAt, givenFrom, AllBelow, LevelHeld, LevelsHeld, hereWith, hereIn, AtLevel, Wanting, Coming, Answered}
 use Rattle.type_walk.specs.Moves.{CanMove, Waited, Moving, Moved, Known, foundIn, Given, Valued, Both, Anything, NameAt, formBy, sideAfter, arrowAfter, doneAfter, argumentAsk, putAfter, namedAfter, insideAsk, enterAt, leftWith, sideDone, CanStep, Stepped}
 use Rattle.type_walk.proofs.HoldLaws.{at-on, walked-wider, levels-within}
 use Rattle.type_walk.proofs.AskLaws.{can-wait, ask-held, places-none, waited-moved}
@@ -93,7 +93,7 @@ module _ (text : List ℕ) (at : ℕ) (v : Said) (s : Stands text at v) where
         ap (λ (k : Token). typeEntered X bodies (hereWith h S K) σ k ws) (s .named e)
         ∙ ap (λ (k : ℕ). typeNamedAt X bodies (hereWith h S K) σ (record { name = take k (drop (v .place) text); place = place ws }) (behind ws)) long
         ∙ ap (λ (p : ℕ). typeNamedAt X bodies (hereWith h S K) σ (record { name = runAt text (v .place); place = p }) (behind ws)) (sym (s .place))
-        ∙ ap (λ (us : List Word). typeNamedAt X bodies (hereWith h S K) σ (boundThere text (v .place)) us) (onward text at v s 23 e .rest)) M
+        ∙ ap (λ (us : List Word). typeNamedAt X bodies (hereWith h S K) σ (boundAt text (v .place)) us) (onward text at v s 23 e .rest)) M
 
     pub enter-number : v .code ≡ 23 → Moved text w h (Known 0) (sideAfter text 0 (v .end)) r w′ → Moved text w h Anything (enterAt text at) r w′
     enter-number e M = moved-by (Known 0) Anything (sideAfter text 0 (v .end)) (enterAt text at) (λ X m₀ base σ S K A _. (A .walkable .state .types .some, λ bodies. number-enters X bodies (hereWith h S K) σ ws (peek ws .token) (sym (s .code) ∙ e) ∙ ap (λ (us : List Word). good (sideFrom (hereWith h S K) (foundIn 0 σ) us)) (onward text at v s 22 e .rest))) M
@@ -226,10 +226,10 @@ module _ (text w w₁ : List ℕ) (h : Here) (nm given ty : ℕ) (room : makingS
     args = givenFrom w (h .top) given
 
     abbrev behindIf : Bool → Bool → Moving
-    behindIf a b X bodies t σ = cond a (askArgument t σ (boundThere text nm) (ty ∷ args) (behind us)) (need b 32 (place us) >>= λ _. typePutIn X bodies t σ (boundThere text nm) (inOrder (ty ∷ args) []) (behind us))
+    behindIf a b X bodies t σ = cond a (askArgument t σ (boundAt text nm) (ty ∷ args) (behind us)) (need b 32 (place us) >>= λ _. typePutIn X bodies t σ (boundAt text nm) (inOrder (ty ∷ args) []) (behind us))
 
     abbrev left : Moving
-    left = leftWith text (argument (boundThere text nm) args) ty at
+    left = leftWith text (argument (boundAt text nm) args) ty at
 
     behind-if : (a b : Bool) → is comma us ≡ a → is endSquare us ≡ b → (X : Text) (bodies : List (List Word)) (σ : State) (S : Scope) (K : List TypeLevel) → left X bodies (hereWith h S K) σ ≡ behindIf a b X bodies (hereWith h S K) σ
     behind-if a b e f X bodies σ S K = ap (λ (c : Bool). behindIf c (is endSquare us) X bodies (hereWith h S K) σ) e ∙ ap (λ (c : Bool). behindIf a c X bodies (hereWith h S K) σ) f
@@ -243,8 +243,8 @@ module _ (text w w₁ : List ℕ) (h : Here) (nm given ty : ℕ) (room : makingS
         bound-known σ k,
         λ bodies.
             behind-if true (is endSquare us) (is-yes text at v s comma e) refl X bodies σ S K
-            ∙ ap (λ (xs : List Word). askArgument (hereWith h S K) σ (boundThere text nm) (ty ∷ args) xs) (onward text at v s 13 e .rest)
-            ∙ ap (λ (ts : List ℕ). askArgument (hereWith h S K) σ (boundThere text nm) ts (from text (v .end))) (sym bound-given),
+            ∙ ap (λ (xs : List Word). askArgument (hereWith h S K) σ (boundAt text nm) (ty ∷ args) xs) (onward text at v s 13 e .rest)
+            ∙ ap (λ (ts : List ℕ). askArgument (hereWith h S K) σ (boundAt text nm) ts (from text (v .end))) (sym bound-given),
       )) M
 
       pub argument-closed : ¬ (v .code ≡ 14) → v .code ≡ 18 → Moved text w₁ h (Valued w₁ (h .top) (given + 1)) (putAfter text w₁ (h .top) nm (given + 1) (v .end)) r w′ → Moved text w h (Both (Known ty) (Given w (h .top) given)) left r w′
@@ -252,8 +252,8 @@ module _ (text w w₁ : List ℕ) (h : Here) (nm given ty : ℕ) (room : makingS
         bound-valued σ k,
         λ bodies.
             behind-if false true (is-no text at v s comma n) (is-yes text at v s endSquare e) X bodies σ S K
-            ∙ ap (λ (xs : List Word). typePutIn X bodies (hereWith h S K) σ (boundThere text nm) (inOrder (ty ∷ args) []) xs) (onward text at v s 17 e .rest)
-            ∙ ap (λ (ts : List ℕ). typePutIn X bodies (hereWith h S K) σ (boundThere text nm) ts (from text (v .end))) (ap (λ (ts : List ℕ). inOrder ts []) (sym bound-given) ∙ given-order w₁ (h .top) (given + 1)),
+            ∙ ap (λ (xs : List Word). typePutIn X bodies (hereWith h S K) σ (boundAt text nm) (inOrder (ty ∷ args) []) xs) (onward text at v s 17 e .rest)
+            ∙ ap (λ (ts : List ℕ). typePutIn X bodies (hereWith h S K) σ (boundAt text nm) ts (from text (v .end))) (ap (λ (ts : List ℕ). inOrder ts []) (sym bound-given) ∙ given-order w₁ (h .top) (given + 1)),
       )) M
 
 -- ---- sides

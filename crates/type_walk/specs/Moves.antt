@@ -25,7 +25,7 @@ use Rattle.type_walk.specs.declared.levels.Want.{Want}
 use Rattle.type_walk.specs.declared.levels.Here.{Here}
 use Rattle.type_walk.specs.declared.levels.Walking as code
 use Rattle.type_walk.specs.declared.levels.Walking.the-variants as walking
-use Rattle.type_walk.specs.Holding.{boundThere, givenFrom, AllBelow, hereWith, aroundOf, AtLevel, Answered}
+use Rattle.type_walk.specs.Holding.{boundAt, givenFrom, AllBelow, hereWith, aroundOf, AtLevel, Answered}
 
 -- ---- a level that waits
 
@@ -106,19 +106,19 @@ sideAsk text form tight ty sign end X bodies t σ = good (askType t (other (form
 
 -- the next argument of a name, where so many wait
 abbrev pub argumentAsk : List ℕ → List ℕ → ℕ → ℕ → ℕ → ℕ → Moving
-argumentAsk text w top name given at X bodies t σ = askArgument t σ (boundThere text name) (givenFrom w top given) (from text at)
+argumentAsk text w top name given at X bodies t σ = askArgument t σ (boundAt text name) (givenFrom w top given) (from text at)
 
 -- a definition with so many arguments
 abbrev pub putAfter : List ℕ → List ℕ → ℕ → ℕ → ℕ → ℕ → Moving
-putAfter text w top name given at X bodies t σ = typePutIn X bodies t σ (boundThere text name) (valuesIn w top given) (from text at)
+putAfter text w top name given at X bodies t σ = typePutIn X bodies t σ (boundAt text name) (valuesIn w top given) (from text at)
 
 -- a name
 abbrev pub namedAfter : List ℕ → ℕ → ℕ → Moving
-namedAfter text name at X bodies t σ = typeNamedAt X bodies t σ (boundThere text name) (from text at)
+namedAfter text name at X bodies t σ = typeNamedAt X bodies t σ (boundAt text name) (from text at)
 
 -- .. without arguments: what stands behind is no bracket
 abbrev pub plainAfter : List ℕ → ℕ → ℕ → Moving
-plainAfter text name at X bodies t σ = lookup (runAt text name) (t .scope .types) 0 (λ i v. good (sideFrom t (foundIn v σ) (from text at))) (typePutIn X bodies t σ (boundThere text name) [] (from text at))
+plainAfter text name at X bodies t σ = lookup (runAt text name) (t .scope .types) 0 (λ i v. good (sideFrom t (foundIn v σ) (from text at))) (typePutIn X bodies t σ (boundAt text name) [] (from text at))
 
 -- a type behind an opening parenthesis
 abbrev pub insideAsk : List ℕ → ℕ → Moving

@@ -18,7 +18,7 @@ ghost use Rattle.notation_calculus.specs.Making.{mostEntries};
 ghost use Rattle.notation_machine.specs.TypeMachine.{enclosed, argument, other};
 ghost use Rattle.words.specs.Lexed.{Lexed};
 ghost use Rattle.scopes.specs.Entries.{Places};
-ghost use Rattle.type_walk.specs.Holding.{boundThere, givenFrom};
+ghost use Rattle.type_walk.specs.Holding.{boundAt, givenFrom};
 ghost use Rattle.type_walk.specs.Moves.{CanMove, Moved, Known, Given, Both, Anything, insideAsk, enterAt, leftWith, sideDone, formBy, CanStep, Stepped};
 ghost use Rattle.type_walk.specs.declared.levels.Walking.the-variants as walking;
 
@@ -112,7 +112,7 @@ fn behind_argument(
     at: usize,
 ) -> Walking
     requires { ⌜ (CanMove (now text) (now work) h (Both (Known ty) (Given (now work) (h .top) given))) × ((Lexed (now text) at) × ((name ≤ length (now text)) × ((h .top + given < mostEntries) × (Places (now text) (now work) 0 (h .top + given))))) ⌝ }
-    ensures { λ r. ⌜ Moved (now (text .entry)) (now (work .entry)) h (Both (Known ty) (Given (now (work .entry)) (h .top) given)) (leftWith (now (text .entry)) (argument (boundThere (now (text .entry)) name) (givenFrom (now (work .entry)) (h .top) given)) ty at) r (now (work .exit)) ⌝ }
+    ensures { λ r. ⌜ Moved (now (text .entry)) (now (work .entry)) h (Both (Known ty) (Given (now (work .entry)) (h .top) given)) (leftWith (now (text .entry)) (argument (boundAt (now (text .entry)) name) (givenFrom (now (work .entry)) (h .top) given)) ty at) r (now (work .exit)) ⌝ }
 {
     scopes::entries::bind(work, h.top + given, 0, made_types::wide(ty));
     let w = words::word_at(text, at);
