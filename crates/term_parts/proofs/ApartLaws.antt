@@ -29,10 +29,11 @@ use Rattle.made_nodes.specs.declared.MadeTerm.the-variants as made
 use Rattle.made_nodes.proofs.Answers.{on-term, on-no-term}
 use Rattle.scopes.specs.Frames.{HoldsScope}
 use Rattle.walks.proofs.Kept.{scope-on-terms, term-on-terms, terms-of-made}
+use Rattle.walks.specs.Says.{boundAt}
 use Rattle.term_parts.specs.declared.halves.Half.{Half}
 use Rattle.term_parts.specs.declared.names.TwoNames.{TwoNames}
 use Rattle.term_parts.specs.declared.apart.RestEnd.the-variants as rest-end
-use Rattle.term_parts.specs.Names.{boundAt, TwoSay}
+use Rattle.term_parts.specs.Names.{TwoSay}
 use Rattle.term_parts.specs.Halves.{withHalf, InHalves, PartsOnly}
 use Rattle.term_parts.specs.Parts.{NameBound, partedBy, firstName, secondName, HalfWaits, CanTake, TakeSays, RestSays, CanTakeAt, TakeLastSays, RestAnswers, TakeRestSays}
 use Rattle.term_parts.proofs.Stay.{half-above, half-put, half-state, parts-of-half, parts-of-entries, parts-of-made, parts-then, entries-state, half-same}

@@ -16,8 +16,9 @@ use Rattle.clauses.specs.Rows.{noBound}
 use Rattle.scopes.specs.Entries.{placeIn, withEntry, OnlyEntries}
 use Rattle.scopes.specs.Frames.{HoldsScope}
 use Rattle.scopes.proofs.KeepLaws.{entry-only, entry-place, only-none, only-then, scope-bound}
+use Rattle.walks.specs.Says.{boundAt}
 use Rattle.term_parts.specs.declared.names.NameEnd.{NameEnd}
-use Rattle.term_parts.specs.Names.{boundAt, namesBy, AllNames, spaced, spacedNames, NamesStand, NameSays}
+use Rattle.term_parts.specs.Names.{namesBy, AllNames, spaced, spacedNames, NamesStand, NameSays}
 use Rattle.term_parts.specs.Parts.{NameBound, CanBind, NamesBound}
 use Rattle.term_parts.proofs.NameLaws.{name-good}
 

@@ -19,8 +19,9 @@ use Rattle.words.specs.Lexed.{from, Lexed, Onward, Stands}
 use Rattle.clauses.specs.Groups.{valueIn, restIn}
 use Rattle.clauses.specs.Rows.{noBound}
 use Rattle.clauses.proofs.HeadLaws.{name-onward, place-inside}
+use Rattle.walks.specs.Says.{boundAt}
 use Rattle.term_parts.specs.declared.names.NameEnd.{NameEnd}
-use Rattle.term_parts.specs.Names.{boundAt, namesBy, AllNames, spaced, NamesStand, NameSays, NamesSay, TwoSay}
+use Rattle.term_parts.specs.Names.{namesBy, AllNames, spaced, NamesStand, NameSays, NamesSay, TwoSay}
 
 -- ---- one name
 

@@ -11,13 +11,10 @@ use Rattle.words.specs.Next.{runAt}
 use Rattle.words.specs.Lexed.{from, Lexed, Onward}
 use Rattle.clauses.specs.Groups.{valueIn, restIn}
 use Rattle.clauses.specs.Rows.{noBound}
+use Rattle.walks.specs.Says.{boundAt}
 use Rattle.term_parts.specs.declared.names.NameEnd.{NameEnd}
 use Rattle.term_parts.specs.declared.names.NamesEnd.{NamesEnd}
 use Rattle.term_parts.specs.declared.names.TwoNames.{TwoNames}
-
--- the name that stands at a place
-abbrev pub boundAt : List ℕ → ℕ → Bound
-boundAt text place = record { name = runAt text place; place = place }
 
 -- so many names, between which `next` goes on
 abbrev pub namesBy : (List Word → List Word) → ℕ → List Word → List Bound

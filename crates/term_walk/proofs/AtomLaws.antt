@@ -38,7 +38,7 @@ use Rattle.clauses.specs.Rows.{flagOf}
 use Rattle.walk_levels.specs.declared.Level.{Level}
 use Rattle.walks.specs.Walkable.{rowBodies, Walkable}
 use Rattle.walks.specs.Walked.{TypesWalked}
-use Rattle.walks.specs.Says.{PutThere, putFrom, PutCame, PutAnswers, PutSays, TypesCame, TypesAnswer, TypesSay}
+use Rattle.walks.specs.Says.{boundAt, PutThere, putFrom, PutCame, PutAnswers, PutSays, TypesCame, TypesAnswer, TypesSay}
 use Rattle.walks.specs.declared.PutAt.{PutAt}
 use Rattle.walks.specs.declared.PutEnd as put
 use Rattle.walks.specs.declared.PutEnd.the-variants as put-end
@@ -51,7 +51,6 @@ use Rattle.term_walk.specs.declared.Step as step
 use Rattle.term_walk.specs.declared.Step.the-variants as step-is
 use Rattle.term_parts.specs.declared.variables.Look as looked
 use Rattle.term_parts.specs.declared.variables.Look.the-variants as look
-use Rattle.term_parts.specs.Names.{boundAt}
 use Rattle.term_parts.specs.Parts.{Looked, here, nowhere, lookFor, LookSays}
 use Rattle.term_walk.specs.Looks.{wordsAt, ReadableFrom, Looks}
 use Rattle.term_walk.specs.Holding.{LevelWrites, LeftHeld, WishHeld, ScopeHeld, HereHeld, TermCame}

@@ -25,7 +25,7 @@ use Rattle.scopes.specs.Entries.{OnlyEntries}
 use Rattle.scopes.specs.Frames.{frameIn, HoldsScope}
 use Rattle.walk_levels.specs.declared.Level.{Level}
 use Rattle.walks.specs.Walkable.{AllTyped, Walkable}
-use Rattle.walks.specs.Says.{TypeCame, TypeAnswers}
+use Rattle.walks.specs.Says.{boundAt, TypeCame, TypeAnswers}
 use Rattle.walks.specs.declared.TypeEnd as type
 use Rattle.walks.specs.declared.TypeEnd.the-variants as type-end
 use Rattle.term_walk.specs.declared.Walk.{Walk}
@@ -33,7 +33,7 @@ use Rattle.term_walk.specs.declared.Step as step
 use Rattle.term_walk.specs.declared.Step.the-variants as step-is
 use Rattle.term_parts.specs.declared.names.NameEnd.{NameEnd}
 use Rattle.term_parts.specs.declared.names.NamesEnd.{NamesEnd}
-use Rattle.term_parts.specs.Names.{boundAt, namesBy, spaced, spacedNames, listedNames, NamesStand, NameSays, NamesSay, SpacedSay, ListedSay}
+use Rattle.term_parts.specs.Names.{namesBy, spaced, spacedNames, listedNames, NamesStand, NameSays, NamesSay, SpacedSay, ListedSay}
 use Rattle.term_parts.specs.Parts.{NameBound, NamesBound}
 use Rattle.term_walk.specs.Looks.{wordsAt, ReadableFrom, Looks}
 use Rattle.term_walk.specs.Holding.{LevelWrites, entriesOf, halvesFor, WishHeld, ScopeHeld, HereHeld}

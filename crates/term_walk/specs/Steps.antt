@@ -27,13 +27,13 @@ use Rattle.walk_levels.specs.declared.Around.{Around}
 use Rattle.walk_levels.specs.Levels.{pushed}
 use Rattle.walks.specs.Walkable.{rowBodies, Walkable}
 use Rattle.walks.specs.Walked.{TypesWalked, TermsWalked}
-use Rattle.walks.specs.Says.{CanWalk, TypeAnswers, putFrom}
+use Rattle.walks.specs.Says.{boundAt, CanWalk, TypeAnswers, putFrom}
 use Rattle.walks.specs.declared.TypeEnd as type
 use Rattle.term_walk.specs.declared.Walk.{Walk}
 use Rattle.term_walk.specs.declared.Left.{Left}
 use Rattle.term_walk.specs.declared.Step as step
 use Rattle.term_walk.specs.declared.Step.the-variants as step-is
-use Rattle.term_parts.specs.Names.{boundAt, spacedNames, listedNames}
+use Rattle.term_parts.specs.Names.{spacedNames, listedNames}
 use Rattle.term_walk.specs.Looks.{wordsAt, ReadableFrom}
 use Rattle.term_walk.specs.Holding.{LevelWrites, LeftHeld, entriesOf, halvesFor, WishHeld, HereHeld, TermCame, HoldsTerming}
 

@@ -15,11 +15,12 @@ use Rattle.scopes.specs.Entries.{valueAt, Places}
 use Rattle.walk_levels.specs.declared.Level.{Level}
 use Rattle.walk_levels.specs.Levels.{levelIn, scopeIn}
 use Rattle.walk_levels.specs.TypeLevels.{sideNumber, GivenIn, waitingFor, HoldsWish}
+use Rattle.walks.specs.Says.{boundAt}
 use Rattle.type_walk.specs.declared.levels.Come.{Come}
 use Rattle.type_walk.specs.declared.levels.Here.{Here}
 use Rattle.type_walk.specs.declared.levels.Walking as code
 use Rattle.type_walk.specs.declared.levels.Walking.the-variants as walking
-use Rattle.type_walk.specs.Holding.{boundAt, givenFrom, AllBelow, WishKnown, LevelHeld, hereIn}
+use Rattle.type_walk.specs.Holding.{givenFrom, AllBelow, WishKnown, LevelHeld, hereIn}
 use Rattle.type_walk.specs.Moves.{CanMove, Moving, Moved, Known, foundIn, Given, Both, formBy, sideAfter, leftWith, CanStep, Stepped}
 use Rattle.type_walk.proofs.NameLaws.{given-length}
 use Rattle.type_walk.proofs.StepLaws.{Awaited, come-held, Tells, come-can, come-moved}

@@ -27,13 +27,13 @@ use Rattle.walks.specs.declared.PutEnd as put
 use Rattle.walks.specs.declared.PutEnd.the-variants as put-end
 use Rattle.walks.specs.Walkable.{rowBodies, AllTyped, Walkable}
 use Rattle.walks.specs.Walked.{TypesWalked}
-use Rattle.walks.specs.Says.{CanWalk, PutThere, putFrom, PutCame, PutAnswers, CanPut, PutSays}
+use Rattle.walks.specs.Says.{boundAt, CanWalk, PutThere, putFrom, PutCame, PutAnswers, CanPut, PutSays}
 use Rattle.walks.proofs.Kept.{types-walked-then}
 use Rattle.type_walk.specs.declared.levels.Want.{Want}
 use Rattle.type_walk.specs.declared.levels.Here.{Here}
 use Rattle.type_walk.specs.declared.levels.Walking as code
 use Rattle.type_walk.specs.declared.levels.Walking.the-variants as walking
-use Rattle.type_walk.specs.Holding.{boundAt, givenFrom, AllBelow, hereWith, aroundOf, AtLevel, Wanting, Answered}
+use Rattle.type_walk.specs.Holding.{givenFrom, AllBelow, hereWith, aroundOf, AtLevel, Wanting, Answered}
 use Rattle.type_walk.specs.Moves.{CanMove, Waited, Moving, Moved, Known, foundIn, Given, Valued, Anything, NameAt, sideAfter, argumentAsk, putAfter, plainAfter, namedAfter, CanAskBody, BodyAsked}
 use Rattle.type_walk.proofs.HoldLaws.{at-on, walked-wider}
 use Rattle.type_walk.proofs.AskLaws.{can-wait, ask-held, waited-walked, places-none, waited-moved}

@@ -39,12 +39,13 @@ use Rattle.walk_levels.specs.TypeLevels.{flagNumber, sideNumber, GivenIn, Holds
 use Rattle.walks.specs.Walkable.{rowBodies}
 use Rattle.walks.specs.Walked.{TypesWalked}
 use Rattle.walks.proofs.Kept.{types-walked-none, types-walked-then, types-of-entries, types-of-listed}
+use Rattle.walks.specs.Says.{boundAt}
 use Rattle.type_walk.specs.declared.levels.Want.{Want}
 use Rattle.type_walk.specs.declared.levels.Come.{Come}
 use Rattle.type_walk.specs.declared.levels.Here.{Here}
 use Rattle.type_walk.specs.declared.levels.Walking as code
 use Rattle.type_walk.specs.declared.levels.Walking.the-variants as walking
-use Rattle.type_walk.specs.Holding.{boundAt, givenFrom, AllBelow, LevelHeld, LevelsHeld, hereWith, hereIn, AtLevel, Wanting, Coming, Answered}
+use Rattle.type_walk.specs.Holding.{givenFrom, AllBelow, LevelHeld, LevelsHeld, hereWith, hereIn, AtLevel, Wanting, Coming, Answered}
 use Rattle.type_walk.specs.Moves.{CanMove, Waited, Moving, Moved, Known, foundIn, Given, Valued, Both, Anything, NameAt, formBy, sideAfter, arrowAfter, doneAfter, argumentAsk, putAfter, namedAfter, insideAsk, enterAt, leftWith, sideDone, CanStep, Stepped}
 use Rattle.type_walk.proofs.HoldLaws.{at-on, walked-wider, levels-within}
 use Rattle.type_walk.proofs.AskLaws.{can-wait, ask-held, places-none, waited-moved}

@@ -28,10 +28,6 @@ use Rattle.type_walk.specs.declared.levels.Walking.the-variants as walki
 
 -- ---- levels
 
--- a name at a place
-abbrev pub boundAt : List ℕ → ℕ → Bound
-boundAt text p = record { name = runAt text p; place = p }
-
 -- the values of so many entries from one on, the last first
 abbrev pub givenFrom : List ℕ → ℕ → ℕ → List ℕ
 givenFrom w top zero = []

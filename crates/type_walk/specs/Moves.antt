@@ -21,11 +21,12 @@ use Rattle.walk_levels.specs.Levels.{pushed}
 use Rattle.walks.specs.Walkable.{rowBodies, Walkable}
 use Rattle.walks.specs.Walked.{TypesWalked}
 use Rattle.walks.specs.declared.PutAt.{PutAt}
+use Rattle.walks.specs.Says.{boundAt}
 use Rattle.type_walk.specs.declared.levels.Want.{Want}
 use Rattle.type_walk.specs.declared.levels.Here.{Here}
 use Rattle.type_walk.specs.declared.levels.Walking as code
 use Rattle.type_walk.specs.declared.levels.Walking.the-variants as walking
-use Rattle.type_walk.specs.Holding.{boundAt, givenFrom, AllBelow, hereWith, aroundOf, AtLevel, Answered}
+use Rattle.type_walk.specs.Holding.{givenFrom, AllBelow, hereWith, aroundOf, AtLevel, Answered}
 
 -- ---- a level that waits
 

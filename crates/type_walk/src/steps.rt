@@ -18,7 +18,8 @@ ghost use Rattle.notation_calculus.specs.Making.{mostEntries};
 ghost use Rattle.notation_machine.specs.TypeMachine.{enclosed, argument, other};
 ghost use Rattle.words.specs.Lexed.{Lexed};
 ghost use Rattle.scopes.specs.Entries.{Places};
-ghost use Rattle.type_walk.specs.Holding.{boundAt, givenFrom};
+ghost use Rattle.walks.specs.Says.{boundAt};
+ghost use Rattle.type_walk.specs.Holding.{givenFrom};
 ghost use Rattle.type_walk.specs.Moves.{CanMove, Moved, Known, Given, Both, Anything, insideAsk, enterAt, leftWith, sideDone, formBy, CanStep, Stepped};
 ghost use Rattle.type_walk.specs.declared.levels.Walking.the-variants as walking;
 

@@ -90,6 +90,10 @@ pub record TypesSay (text w : List ℕ) (at more frame top name : ℕ) (r : type
 
 -- ---- definitions put in
 
+-- the name that stands at a place
+abbrev pub boundAt : List ℕ → ℕ → Bound
+boundAt text place = record { name = runAt text place; place = place }
+
 -- a definition as a machine wants its body: its scope, what was made, its words, and the words behind the name and its arguments
 pub record PutThere : Type 0 where
   pub scope : Scope
@@ -131,7 +135,7 @@ pub record PutSays (text w : List ℕ) (sort : Bool) (name at types frame top in
   pub walked : TypesWalked (suc into) top w w′
   pub says :
       (X : Text) (S : Scope) (σ : State) → Walkable text w frame top X S σ → All (λ (t : ℕ). t < length (σ .table)) (valuesIn w top types)
-      → PutAnswers text w′ X into r (putFrom X (rowBodies text w 0 (length (X .clauses))) sort S σ (record { name = runAt text name; place = name }) (valuesIn w top types) (from text at))
+      → PutAnswers text w′ X into r (putFrom X (rowBodies text w 0 (length (X .clauses))) sort S σ (boundAt text name) (valuesIn w top types) (from text at))
 
 -- ---- terms
 
