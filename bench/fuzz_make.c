@@ -10,7 +10,7 @@ uint64_t deltawobble_make(const uint8_t *text, size_t text_len, uint8_t *out, si
                           uint16_t *work, size_t work_len);
 
 /* the bytes that fuzz_alone.c puts in */
-const uint8_t kinds[] = " \n=.:,()[]{}+*->o1023nxyabmain_'funfixletintypeedition2tablezeroregandorxorinvone\xce\xbb";
+const uint8_t kinds[] = " \n=.:,()[]{}+*^->o1023nxyabmain_'funfixletintypeedition2tablezeroregandorxorinvone\xce\xbb";
 const size_t kinds_count = sizeof kinds - 1;
 
 /* a sheet has at most 1 + 256 records of 3 bytes for its types, and 2,048 of 3 bytes for its nodes */
@@ -68,14 +68,15 @@ static bool is_word(const uint8_t *text, size_t length, size_t at, const char *w
     return length - at >= size && memcmp(text + at, word, size) == 0 && (length - at == size || !in_name(text[at + size]));
 }
 
-/* A part stands at its own name, a pair at a comma, an application at a name, a part or a parenthesis, all else at a name. */
+/* A part stands at its own name, a pair at a comma, an application at a name, a part or a parenthesis; a function and a variable at a name, or at the
+   parenthesis of `fun (`; all else at a name. */
 static bool stands_at(const uint8_t *text, size_t length, size_t at, size_t node) {
     static const char *const parts[] = {"zero", "reg", "and", "or", "xor", "inv", "one"};
     if (at >= length || (at > 0 && in_name(text[at]) && in_name(text[at - 1]))) return false;
     switch (kind_of[node]) {
     case 0x1A: return part_of[node] < 7 && is_word(text, length, at, parts[part_of[node]]);
     case 0x17: return text[at] == ',';
-    case 0x14: case 0x16: return begins_name(text[at]) || text[at] == '(';
+    case 0x11: case 0x12: case 0x13: case 0x14: case 0x15: case 0x16: return begins_name(text[at]) || text[at] == '(';
     }
     return begins_name(text[at]);
 }
@@ -172,7 +173,7 @@ int LLVMFuzzerTestOneInput(const uint8_t *data, size_t size) {
     memcpy(text, data + 4, length);
     /* of two texts one has no byte that no word has: 31 would be most of all answers */
     for (size_t i = 0; data[3] & 1 && i < length; i++)
-        if (text[i] < ' ' || text[i] > '~' || strchr("!\"#$%&/;<?@\\^`|~", text[i])) text[i] = kinds[text[i] % (kinds_count - 2)];
+        if (text[i] < ' ' || text[i] > '~' || strchr("!\"#$%&/;<?@\\`|~", text[i])) text[i] = kinds[text[i] % (kinds_count - 2)];
     if (to > length) memset(text + length, ' ', to - length), length = to;
     uint64_t first = call(text, length, (struct lent){ROOM, NODES, CLEARED}, sheet, places);
     size_t nodes = first >> 32 ? 0 : nodes_of(sheet, first);

@@ -1,6 +1,6 @@
 //! The bench program. The scripts beside it build it and call it from the repository's root:
 //! `differential COUNT SEED CALL..`, `put-in COUNT SEED`, `exact COUNT SEED` (for memcheck), `table [plain]`, `stack`,
-//! `sheets FOLDER`, `nets FOLDER`, `texts FOLDER`, `slow-texts FOLDER`, `make-times`.
+//! `sheets FOLDER`, `nets FOLDER`, `texts FOLDER`, `slow-texts FOLDER`, `ordinary-texts FOLDER`, `make-times`.
 
 mod boundary;
 mod circuit;
@@ -36,6 +36,7 @@ mod try_translate;
 mod try_verilog;
 mod worst;
 
+use second::notation_make::make;
 use second::random::Random;
 use second::{edges_foreign, edges_notation, nets, notation_texts};
 use std::process::exit;
@@ -75,6 +76,10 @@ fn main() {
             slow_texts(&words[1]);
             true
         }
+        Some("ordinary-texts") if words.len() == 2 => {
+            ordinary_texts(&words[1]);
+            true
+        }
         Some("texts") if words.len() == 2 => {
             texts(&words[1]);
             true
@@ -87,7 +92,7 @@ fn main() {
 fn usage() -> ! {
     eprintln!("usage: bench differential [COUNT] [SEED] [CALL..] | put-in [COUNT] [SEED]");
     eprintln!(
-        "       bench stack | sheets FOLDER | nets FOLDER | texts FOLDER | slow-texts FOLDER"
+        "       bench stack | sheets FOLDER | nets FOLDER | texts FOLDER | slow-texts FOLDER | ordinary-texts FOLDER"
     );
     eprintln!("and where the archive is linked in: bench exact [COUNT] [SEED] | table [plain] | make-times");
     exit(2)
@@ -121,6 +126,20 @@ fn slow_texts(folder: &str) {
         println!("{at} {name}");
         let path = format!("{folder}/{at}");
         std::fs::write(&path, text).unwrap_or_else(|why| panic!("{path}: {why}"));
+    }
+}
+
+/// The texts of 200 lines as files, with their sheets, and a line for each: number, whether it has a limit, name.
+fn ordinary_texts(folder: &str) {
+    let limited = texts::ordinary().into_iter().map(|text| (true, text));
+    let others = texts::families().into_iter().map(|text| (false, text));
+    for (at, (limit, texts::Text { name, text })) in limited.chain(others).enumerate() {
+        println!("{at} {limit} {name}");
+        let made = make(text.as_bytes()).unwrap_or_else(|why| panic!("{name}: {why:?}"));
+        for (end, bytes) in [("dw", text.as_bytes()), ("sheet", &made.sheet)] {
+            let path = format!("{folder}/{at}.{end}");
+            std::fs::write(&path, bytes).unwrap_or_else(|why| panic!("{path}: {why}"));
+        }
     }
 }
 

@@ -2,7 +2,7 @@
 //! keep their limits.
 
 use crate::boundary::{linked, Call};
-use crate::texts::{ordinary, slow, Text};
+use crate::texts::{families, ordinary, slow, Text};
 use crate::timing::{least, ROUNDS};
 use second::notation_make::make;
 use second::sheet::MEMORY;
@@ -86,7 +86,7 @@ fn alone(Text { name, text }: &Text) -> bool {
     seconds <= MOST
 }
 
-/// The two tables, and whether all limits are kept.
+/// The tables, and whether all limits are kept.
 pub fn print() -> bool {
     println!("\nTexts of 200 lines: microseconds, least of {ROUNDS} interleaved runs; made in less than {TRANSLATIONS} translations.");
     println!(
@@ -94,6 +94,8 @@ pub fn print() -> bool {
         "text", "lines", "nodes", "make", "translate", "m/t"
     );
     let quick = ordinary().iter().filter(|text| !beside_translate(text)).count();
+    println!("Over the blocks' library, whose families are worked out anew at each use: no limit.");
+    families().iter().for_each(|text| _ = beside_translate(text));
     println!("\nThe texts that take longest: milliseconds, least of {TIMES}; at most {MOST} seconds each.");
     println!("{:<36}{:>6}{:>7}{:>10}{:>11}", "text", "bytes", "answer", "make", "second");
     let long = slow().iter().filter(|text| !alone(text)).count();

@@ -4,7 +4,7 @@
 use crate::boundary::linked;
 use crate::boundary::{told, Call};
 use crate::classes::{classes, Class};
-use crate::texts::ordinary;
+use crate::texts::{families, ordinary};
 use crate::timing::{least, ROUNDS};
 use second::sheet::MEMORY;
 use second::Wish;
@@ -150,7 +150,7 @@ pub fn print() {
     for class in &classes()[..3] {
         row(Call::Verilog, &format!("verilog, {}", class.name), &class.sheets);
     }
-    for text in ordinary() {
+    for text in ordinary().into_iter().chain(families()) {
         row(Call::Make, &format!("make, {}", text.name), &[text.text.into_bytes()]);
     }
     println!(

@@ -151,6 +151,17 @@ fn last_types() -> String {
     over_and_over(&format!("{}table 1->1->1", products()), &nested)
 }
 
+/// Rows of 128 bits, worked out as often as costs allow: five for each 32 bytes of a clause.
+fn rows_of_bits(lines: &str) -> String {
+    over_and_over(lines, &rows(40, "1^128"))
+}
+
+/// .. where another type stands behind each of the first products of the row, as many as the table of 256 types has room for.
+fn rows_in_pieces() -> String {
+    let line = |bits: usize| format!("table 1^{bits}->1\n");
+    rows_of_bits(&(2..=90).map(line).collect::<String>())
+}
+
 /// 250 definitions of 720 gates, whose types stand last in a full table.
 fn last_gates() -> String {
     let gates = row(16, &format!("({})", row(45, "or", " ")), ",");
@@ -196,6 +207,8 @@ pub fn slow() -> Vec<Text> {
         text("900 type arguments of 30 bytes", parameters(30, 9)),
         text("256 types, the last one meant", last_types()),
         text("256 types, the gates' are last", last_gates()),
+        text("rows of 128 bits", rows_of_bits("")),
+        text("rows of 128 bits in pieces", rows_in_pieces()),
         text("2,047 nodes over and over", many_nodes()),
         text("65,535 bytes, one name", format!("main = {}", "x".repeat(MOST_BYTES - 7))),
         text("65,535 bytes, one comment", format!("main = zero --{}", "-".repeat(MOST_BYTES - 14))),
@@ -242,13 +255,22 @@ fn long_definitions() -> String {
     format!("edition 2\n{}main = fun x y z : 1. (\n  {})\n", all.concat(), uses.join(", "))
 }
 
-/// Texts of about 200 lines, as people write them.
+fn named<const COUNT: usize>(texts: [(&'static str, String); COUNT]) -> Vec<Text> {
+    texts.into_iter().map(|(name, text)| Text { name, text }).collect()
+}
+
+/// Texts of about 200 lines, as people write them: each definition is put in.
 pub fn ordinary() -> Vec<Text> {
-    let text = |name, text| Text { name, text };
-    vec![
-        text("189 definitions of a line", short_definitions()),
-        text("39 definitions of five lines", long_definitions()),
-        text("blocks: an adder of 32 bits", blocks("main = adder{5}")),
-        text("blocks: a sorter of 16", blocks("main = bitonic{0, 4}")),
-    ]
+    named([
+        ("189 definitions of a line", short_definitions()),
+        ("39 definitions of five lines", long_definitions()),
+    ])
+}
+
+/// Texts over the 231 lines of the blocks: few of them are put in, and families of every size down to the smallest, at each use anew.
+pub fn families() -> Vec<Text> {
+    named([
+        ("blocks: an adder of 32 bits", blocks("main = adder{5}")),
+        ("blocks: a sorter of 16", blocks("main = bitonic{0, 4}")),
+    ])
 }

@@ -16,7 +16,7 @@ def need(test, number, place):
 SIGN = {b'fun': 'fun', b'fix': 'fix', b'let': 'let', b'in': 'in', b'type': 'type', b'edition': 'edition', b'table': 'table'}
 PARTS = [b'zero', b'reg', b'and', b'or', b'xor', b'inv', b'one']
 INPUTS = [0, 1, 2, 2, 2, 1, 0]
-SIGNS = [(b'->', '->'), (b'-o', '-o')] + [(bytes([c]), chr(c)) for c in b'*()=,:.[]{}+'] + [
+SIGNS = [(b'->', '->'), (b'-o', '-o')] + [(bytes([c]), chr(c)) for c in b'*()=,:.[]{}+^'] + [
     (b'\xce\xbb', 'fun'), (b'\xc3\x97', '*'), (b'\xe2\x86\x92', '->'), (b'\xe2\x8a\xb8', '-o')]
 Word = namedtuple('Word', 'kind value place')   # kind: 'sign' 'part' 'number' 'name'
 digit = lambda c: 48 <= c <= 57
@@ -86,7 +86,11 @@ class Grammar:
             t, i = self.type(more, False, i + 1)
             return ('inside', t), self.expect(')', i)
         need(w.kind != 'part', 32, w.place)
-        if w.kind == 'number': need(w.value == 1, 32, w.place); return ('one',), i + 1
+        if w.kind == 'number':
+            need(w.value == 1, 32, w.place)
+            if not self.is_('^', i + 1): return ('one',), i + 1
+            k, j = self.number(i + 2)
+            return ('ones', self.place(i + 1), k), j
         return self.use(more, i)
     def use(self, more, i):
         w = self.peek(i)
@@ -131,6 +135,7 @@ class Grammar:
         need(more > 0, 34, at)
         if self.is_('fun', i) or self.is_('fix', i):
             many, xs, i = self.is_('fun', i), [], i + 1
+            if many and self.is_('(', i): return self.pair(more, at, i)
             x, i = self.name(i); xs.append(x)
             while many and not self.is_(':', i): x, i = self.name(i); xs.append(x)
             i = self.expect(':', i); t, i = self.type(more - 1, False, i); i = self.expect('.', i)
@@ -147,6 +152,13 @@ class Grammar:
         a, i = self.atom(more - 1, i); rest = []
         while self.begins_atom(i): b, i = self.atom(more - 1, i); rest.append(b)
         return ('spine', at, a, rest), i
+    def pair(self, more, at, i):
+        p = self.place(i)
+        xs, i = self.list(self.name, i + 1)
+        need(len(xs) >= 2, 32, self.place(i)); i = self.expect(')', i)
+        i = self.expect(':', i); t, i = self.type(more - 1, False, i); i = self.expect('.', i)
+        e, i = self.term(more - 1, i)
+        return ('fun', at, [Bound(b'', p)], t, ('apart', p, xs, ('spine', p, ('named', p, b'', [], []), []), e)), i
     def clause(self, is_type, i):
         x, i = self.name(i)
         ts, i = self.group(self.name, '[', ']', i); ks, i = self.group(self.number, '{', '}', i)
@@ -225,6 +237,11 @@ class Making:
         return t
     def atom_type(self, more, S, a):
         if a[0] == 'one': return 0
+        if a[0] == 'ones':
+            n, t = self.number(S[3], a[2]), 0
+            need(n > 0, 33, a[2].place)
+            for _ in range(n - 1): t = self.listed((2, 0, t), a[1])
+            return t
         if a[0] == 'inside': return self.type(more, S, a[1])
         _, at, n, ts, ks = a
         if not ts and not ks:

@@ -97,6 +97,13 @@ class Making(unittest.TestCase):
     def test_a_definition_is_not_caught_by_a_variable(self):
         self.assertEqual(written("d = fun x : 1. x\nmain = fun x : 1. d x"), written("main = fun y : 1. (fun x : 1. x) y"))
 
+    def test_a_pair_is_taken_apart_where_it_is_bound(self):
+        self.assertEqual(written("main = fun (a, b, c) : 1^3. (c, a)"), written("main = fun p : 1^3. let (a, b, c) = p in (c, a)"))
+
+    def test_bits_in_a_row(self):
+        self.assertEqual(written("main = fun x : 1^3. x"), written("main = fun x : 1 * 1 * 1. x"))
+        self.assertEqual(written("type bus{n} = 1^n + 1\nmain = fun x : bus{1} * 1 ^ 1. x"), written("main = fun x : (1 * 1) * 1. x"))
+
     def test_tokens(self):
         self.assertEqual(written("main=fun x:1.x--end"), written("main = fun x : 1. x"))
         self.assertEqual(written("main = fun x' : 1.\r\n x'\r\n"), written("main = fun x : 1. x"))
@@ -159,6 +166,12 @@ class Errors(unittest.TestCase):
                 ("main = zero $", 31, 12, 1, 13, "'$'"), ("main = 1x", 31, 7, 1, 8, "no number"), ("-- \u03bb\nmain = \u00e9", 31, 13, 2, 8, "\\xe9"),
                 ("main = (zero", 32, 12, 1, 13, "the '(' at 1:8 is open"), ("main = let (x, y = zero in x", 32, 17, 1, 18, "the '(' at 1:12 is open"),
                 ("main = f[1", 32, 10, 1, 11, "the '[' at 1:9 is open"), ("f{n +} = one main = f{1}", 32, 5, 1, 6, "a number is due"),
+                ("main = fun (a) : 1. a", 32, 13, 1, 14, "fun (x, y) : .. takes a pair apart, and here is one name"), ("main = fun () : 1. zero", 32, 12, 1, 13, "a name is due"),
+                ("main = fun (a, b) c : 1. a", 32, 18, 1, 19, "':' is due"), ("main = fun (a, reg) : 1. a", 32, 15, 1, 16, "reg is a part"),
+                ("main = fun x : 1^. x", 32, 17, 1, 18, "a number or the name of one is due"), ("f{n} = fun x : 1^n +. x main = f{1}", 32, 20, 1, 21, "a number is due"),
+                ("main = fun x : 1^0. x", 33, 17, 1, 18, "zero bits"), ("f{n} = fun x : 1^n. x\nmain = f{0}", 33, 17, 1, 18, "zero bits"),
+                ("main = fun x : 1^n. x", 33, 17, 1, 18, "no number is called n"), ("table 1^129\nmain = zero", 34, 7, 1, 8, "single bits"),
+                ("f{n} = fun x : 1^n + 255. x\nmain = f{1}", 34, 17, 1, 18, "this sum"),
                 ("main = fun first : 1. frist", 33, 22, 1, 23, "did you mean first?"), ("type row{0} = 1\nmain = fun x : rwo{0}. x", 33, 31, 2, 16, "did you mean row?"),
                 ("f{0} = one\nmain = f{1}", 33, 18, 2, 8, "no clause of f above fits"), ("f{0} = one\nmain = f", 33, 18, 2, 8, "here are none"),
                 ("f = one\nmain = f{0}", 33, 15, 2, 8, "f has no parameters"), ("f{n} = f{m}\nmain = f{1}", 33, 9, 1, 10, "no number is called m"),

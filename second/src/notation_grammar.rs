@@ -185,7 +185,11 @@ impl<'a> Parser<'_, 'a> {
         let form = match self.word().kind {
             Kind::Number(1) => {
                 self.next += 1;
-                TypeForm::Bit
+                let sign = self.word().at;
+                match self.takes("^") {
+                    true => TypeForm::Row(self.count()?, sign),
+                    false => TypeForm::Bit,
+                }
             }
             Kind::Name(_) => TypeForm::Use(self.name_with_arguments(level)?),
             Kind::Key("(") => {
@@ -216,12 +220,33 @@ impl<'a> Parser<'_, 'a> {
     }
 
     fn function(&mut self, level: usize) -> Result<TermForm<'a>, Refusal> {
+        if self.is("(") {
+            return self.taken(level);
+        }
         let mut names = vec![self.name()?];
         while !self.is(":") {
             names.push(self.name()?);
         }
         let (written, body) = self.bound(level)?;
         Ok(TermForm::Function(names, written, body))
+    }
+
+    /// A list of names: the variable has none, and is taken apart.
+    fn taken(&mut self, level: usize) -> Result<TermForm<'a>, Refusal> {
+        let round = self.word().at;
+        self.key("(")?;
+        let names = self.listed()?;
+        let (written, body) = self.bound(level)?;
+        Ok(TermForm::Taken(round, names, written, body))
+    }
+
+    /// Two names or more, behind an opening parenthesis.
+    fn listed(&mut self) -> Result<Vec<Named<'a>>, Refusal> {
+        let mut names = vec![self.name()?];
+        self.key(",")?;
+        names.extend(self.row(Self::name)?);
+        self.key(")")?;
+        Ok(names)
     }
 
     /// What stands behind the names of `fun` and `fix`.
@@ -233,15 +258,7 @@ impl<'a> Parser<'_, 'a> {
     }
 
     fn naming(&mut self, level: usize) -> Result<TermForm<'a>, Refusal> {
-        let names = if self.takes("(") {
-            let mut names = vec![self.name()?];
-            self.key(",")?;
-            names.extend(self.row(Self::name)?);
-            self.key(")")?;
-            names
-        } else {
-            vec![self.name()?]
-        };
+        let names = if self.takes("(") { self.listed()? } else { vec![self.name()?] };
         self.key("=")?;
         let named = Box::new(self.term(level + 1)?);
         self.key("in")?;

@@ -106,6 +106,7 @@ impl<'t, 'a> Maker<'t, 'a> {
         self.entered(place, tree.level, tree.at)?;
         match &tree.form {
             TypeForm::Bit => Ok(BIT),
+            TypeForm::Row(count, sign) => self.row(place, count, *sign),
             TypeForm::Parenthesis(inside) => self.type_of(place, inside),
             TypeForm::Joined(joint, sign, left, right) => {
                 let left = self.type_of(place, left)?;
@@ -115,6 +116,13 @@ impl<'t, 'a> Maker<'t, 'a> {
             }
             TypeForm::Use(one) => self.type_use(place, one, tree.level),
         }
+    }
+
+    /// The innermost product first; no bits are no type.
+    fn row(&mut self, place: Place, count: &Count, sign: usize) -> Result<TypeNumber, Refusal> {
+        let bits = self.scope.number(place, count)?;
+        need(bits > 0, 33, count.at)?;
+        (1..bits).try_fold(BIT, |row, _| self.table.joined(Joint::Product, (BIT, row), sign))
     }
 
     fn type_use(
@@ -162,6 +170,12 @@ impl<'t, 'a> Maker<'t, 'a> {
             TermForm::Function(names, written, body) => {
                 self.functions(place, at, names, written, body)
             }
+            TermForm::Taken(round, names, written, body) => {
+                let bound = self.type_of(place, written)?;
+                self.scope.room(1, at)?;
+                self.entered(place, tree.level + 2, *round)?;
+                self.taken(place, *round, names, bound, body)
+            }
             TermForm::FixedPoint(name, written, body) => self.fixed(place, at, name, written, body),
             TermForm::Let(names, named, body) => self.naming(place, at, names, named, body),
             TermForm::Atoms(atoms) => self.applied(place, atoms),
@@ -198,6 +212,25 @@ impl<'t, 'a> Maker<'t, 'a> {
         let of_type = self.table.function(bound, body.of_type, at)?;
         let kind = if self.table.is_sharable(bound) { 0x13 } else { 0x15 };
         self.node(at, vec![kind, of_type as u8], of_type, vec![body])
+    }
+
+    /// `fun p : t. let (x, y, ..) = p in e`, where p has no name: the body stands a level deeper than it is written.
+    fn taken(
+        &mut self,
+        place: Place,
+        round: usize,
+        names: &[Named<'a>],
+        bound: TypeNumber,
+        body: &TermTree<'a>,
+    ) -> Answer {
+        let before = self.scope.entries.len();
+        self.bind(b"", bound);
+        let pair = self.variable(0, bound, round)?;
+        self.scope.room(2 * names.len(), round)?;
+        let place = Place { around: place.around + 1, ..place };
+        let made = self.projected(place, names, pair, body)?;
+        self.scope.entries.truncate(before);
+        self.function(bound, made, round)
     }
 
     fn fixed(

@@ -8,10 +8,11 @@ const VARIABLES: [&str; 6] = ["x", "y", "z", "p", "n", "f"];
 
 /// Clauses that a text may begin with, and uses of what they define.
 #[rustfmt::skip]
-const SHAPES: [(&str, &[&str], &[&str]); 12] = [
+const SHAPES: [(&str, &[&str], &[&str]); 13] = [
     ("type row{0} = 1\ntype row{n + 1} = row{n} * row{n}", &[], &["row{0}", "row{1}", "row{3}", "row{7}", "row{8}", "row{n}"]),
     ("type k[a] = a * a\ntype two[a, b] = (a * b)", &[], &["k[1]", "k[k[1]]", "two[1, k[1]]", "two[1, 1 -> 1]", "k", "two[1]"]),
     ("type bus{n + 2} = 1 * bus{n + 1}\ntype bus{1} = 1", &[], &["bus{1}", "bus{4}", "bus{0}", "bus{127}", "bus{90}"]),
+    ("type bits{n} = 1^n\nwires{n} = fun x : 1^n + 1. x", &["wires{0}", "wires{3}", "wires{63}", "wires{64}", "wires{255}"], &["bits{1}", "bits{5}", "bits{0}", "bits{128}", "1^n", "1^2 * bits{2}"]),
     ("delay{0} = fun x : 1. x\ndelay{n + 1} = fun x : 1. reg (delay{n} x)", &["delay{0}", "delay{2}", "delay{16}", "delay{n}", "delay"], &[]),
     ("both[a, b] = fun f g : a -> b. fun p : a * a. let (x, y) = p in (f x, g y)", &["both[1, 1] inv reg", "both[1, 1]", "both[1 * 1, 1]", "both[1 -> 1, 1]", "both[1]"], &[]),
     ("id[a] = fun x : a. x", &["id[1]", "id[1 -> 1] inv", "id[1 * 1] (one, zero)", "id[(1 -> 1) -o 1]", "id"], &[]),
@@ -119,6 +120,7 @@ fn written(random: &mut Random, known: &Known, size: usize) -> String {
     if size == 0 || random.once_in(3) {
         return match random.below(3) {
             0 if !known.types.is_empty() => random.pick(&known.types).clone(),
+            1 if random.once_in(4) => format!("1^{}", random.pick(&["1", "2", "3", "n", "n + 1"])),
             _ => "1".to_string(),
         };
     }
@@ -168,6 +170,11 @@ fn term(random: &mut Random, known: &mut Known, size: usize) -> String {
 fn function(random: &mut Random, known: &mut Known, size: usize) -> String {
     let sign = random.pick(&["fun ", "λ", "fun "]);
     let bound = written(random, known, 2);
+    if random.below(4) == 0 {
+        let names: Vec<&str> = (0..random.within(2, 3)).map(|_| bind(random, known)).collect();
+        let body = term(random, known, size - 1);
+        return format!("{sign}({}) : {bound}. {body}", names.join(", "));
+    }
     let names: Vec<&str> = (0..random.within(1, 2)).map(|_| bind(random, known)).collect();
     format!("{sign}{} : {bound}. {}", names.join(" "), term(random, known, size - 1))
 }
@@ -199,7 +206,7 @@ fn about(random: &mut Random, limit: usize) -> usize {
 
 /// A text in which one thing is near its limit.
 pub fn near(random: &mut Random) -> String {
-    match random.below(28) {
+    match random.below(29) {
         0 => nested(about(random, 79), "(", "zero", ")"),
         1 => nested(about(random, 63), "fun x : 1. ", "x", ""),
         2 => nested(about(random, 31), "inv (", "zero", ")"),
@@ -231,6 +238,7 @@ pub fn near(random: &mut Random) -> String {
         24 => format!("d = zero main = {}d", "(".repeat(about(random, 78))),
         25 => clause_bytes(random),
         26 => deep_types(random),
+        27 => wide_row(random),
         _ => format!("main = {}", row(about(random, 64), "inv", " ")),
     }
 }
@@ -271,6 +279,7 @@ fn arguments_around(random: &mut Random) -> String {
         "let (x, y, z) = one in let (p, n) = z in p",
         "let x = one in let (y, z, p, n) = x in n",
         "fix x : 1. fun y z : a3. x",
+        "fun (x, y, z) : a3. let n = x in y",
         "fun x : g[1, a1, 1]. x",
         "h{1, 2, 3} (fun x y : a1. h{1, 2, 3})",
     ]);
@@ -321,13 +330,14 @@ fn deep_types(random: &mut Random) -> String {
 
 /// Texts at the corners of the grammar.
 #[rustfmt::skip]
-const ODD: [&str; 24] = [
+const ODD: [&str; 28] = [
     "", "main", "main = zero edition 1", "edition 01 main = fun x : 01. x", "main = zero x[ = one", "main = zero x[y{] = one",
     "main = zero x[y][z] = one", "main = zero x{y}[z] = one", "main = zero x{y}{z}{1} = one", "main = zero x] = one", "d = e = zero",
     "d[a, a]{n, n} = fun x : a. e{n} main = zero", "e{n} = zero d[a, a]{n, n} = fun x : a. e{n + 250} main = d[1, 1 * 1]{5, 7}",
     "main = main", "main{0} = zero main{n} = one", "type main = 1", "main = zero main = one", "main[a] = zero main = one",
     "type n = 1 d{n} = fun n : n. n main = d{3}", "type a = 1 * 1 d[a] = fun a : a. a main = d[1] (d[a])",
     "d{n} = zero d{255} = one main = zero", "d{255} = zero d{n + 255} = one main = d{255}", "table 1, main = zero", "type t = 1 -> 1 * 1 -o 1 main = zero",
+    "type t{n} = 1^n + 1 type u = 1^2 * 1^2 main = fun x : t{1} -> u. x", "type t = 1^2^2 main = zero", "main = fun x : 1^0. x", "main = fun x : 1^1 * 01^02. x",
 ];
 
 /// Each definition names the one above it.
@@ -400,6 +410,15 @@ fn wide_type(random: &mut Random) -> String {
     )
 }
 
+/// A row of bits near the 128 of a type, or near the types that are left.
+fn wide_row(random: &mut Random) -> String {
+    let more = random.pick(&["", " * 1", " -> 1", ", 1 * 1^127"]);
+    match random.once_in(3) {
+        true => many_types(random).replace("main", &format!("table 1^{} main", about(random, 17))),
+        false => format!("table 1^{}{more} main = zero", about(random, 128)),
+    }
+}
+
 /// A text with one to three places changed, and how many.
 fn damaged(random: &mut Random, source: fn(&mut Random) -> String) -> (Vec<u8>, usize) {
     let mut text = source(random).into_bytes();
@@ -410,10 +429,10 @@ fn damaged(random: &mut Random, source: fn(&mut Random) -> String) -> (Vec<u8>, 
     (text, times)
 }
 
-const WORDS: [&str; 34] = [
+const WORDS: [&str; 35] = [
     "fun", "fix", "let", "in", "type", "edition", "table", "and", "one", "x", "n", "main", "d1",
     "=", ":", ".", ",", "(", ")", "[", "]", "{", "}", "+", "*", "->", "-o", "1", "2", "0", "256",
-    "07", "1a", "'q",
+    "07", "1a", "'q", "^",
 ];
 
 fn damage(random: &mut Random, text: &mut Vec<u8>) {
@@ -424,7 +443,7 @@ fn damage(random: &mut Random, text: &mut Vec<u8>) {
         1 if !text.is_empty() => drop(text.remove(here)),
         2 => text.insert(at, random.byte()),
         3 if !text.is_empty() => text[here] = random.byte(),
-        4 if !text.is_empty() => text[here] = *random.pick(b"()[]{}=.,:+*-> \n1n0x'_"),
+        4 if !text.is_empty() => text[here] = *random.pick(b"()[]{}=.,:+*^-> \n1n0x'_"),
         5 => repeat_stretch(random, text, at),
         6 => drop(text.drain(at..(at + random.below(12)).min(text.len()))),
         _ => put_word(random, text, at),

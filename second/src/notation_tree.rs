@@ -46,6 +46,8 @@ pub enum Joint {
 #[derive(Clone, Debug)]
 pub enum TypeForm<'a> {
     Bit,
+    /// So many bits in a row; the sign's place stands beside it.
+    Row(Count<'a>, usize),
     Use(Use<'a>),
     /// The sign's place stands beside it.
     Joined(Joint, usize, Box<TypeTree<'a>>, Box<TypeTree<'a>>),
@@ -62,6 +64,8 @@ pub struct TermTree<'a> {
 #[derive(Clone, Debug)]
 pub enum TermForm<'a> {
     Function(Vec<Named<'a>>, TypeTree<'a>, Box<TermTree<'a>>),
+    /// `fun (x, y, ..)`, with the place of the parenthesis.
+    Taken(usize, Vec<Named<'a>>, TypeTree<'a>, Box<TermTree<'a>>),
     FixedPoint(Named<'a>, TypeTree<'a>, Box<TermTree<'a>>),
     /// One name is `let x`; more are `let (x, y, ..)`.
     Let(Vec<Named<'a>>, Box<TermTree<'a>>, Box<TermTree<'a>>),

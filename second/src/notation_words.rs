@@ -28,7 +28,7 @@ pub struct Word<'a> {
 const RESERVED: [Key; 7] = ["fun", "fix", "let", "in", "type", "edition", "table"];
 
 /// Longer signs stand before the ones that they begin with.
-const SIGNS: [(&str, Key); 17] = [
+const SIGNS: [(&str, Key); 18] = [
     ("->", "->"),
     ("-o", "-o"),
     ("λ", "fun"),
@@ -46,6 +46,7 @@ const SIGNS: [(&str, Key); 17] = [
     ("{", "{"),
     ("}", "}"),
     ("*", "*"),
+    ("^", "^"),
 ];
 const PLUS: (&str, Key) = ("+", "+");
 

@@ -1,21 +1,23 @@
 -- A row after those of the table, test by test. Assumes nothing.
-use Prim.Native.Nat.{ℕ, suc, _+_, _*_, _-_, _≤_, _<_}
-use mathlib.Core.Path.{_≡_, refl, sym, ap, _∙_}
+use Prim.Native.Nat.{ℕ, zero, suc, _+_, _*_, _-_, _≤_, _<_}
+use mathlib.Core.Path.{_≡_, refl, sym, ap, subst, _∙_}
 use mathlib.Core.Bool.{Bool, true, false, not, _&&_, _||_, cond}
 use mathlib.Core.List.{List}
 use native.Mathlib.Omega.{arith}
-use lib.Dec.{eqb, ltb}
+use lib.Dec.{T, eqb, ltb}
 use lib.ListN.{getD, set}
 use lib.Seq.{sets}
 use borrow.Author.Tests.{eq-eqb, ne-eqb, lt-ltb, le-ltb}
+use Rattle.laws.proofs.Tests.{and-both}
 use Rattle.notation_calculus.specs.Words.{sameName}
 use Rattle.notation_calculus.specs.Grammar.{mostClauses, coverAll, sameSort}
+use Rattle.notation_theorems.proofs.TypesMean.{same→eq}
 use Rattle.words.specs.Next.{runAt}
 use Rattle.making_memory.specs.Map.{clausesAt, clauseCountAt}
 use Rattle.clauses.specs.declared.rows.Row.{Row}
-use Rattle.clauses.specs.Rows.{rowNumbers, rowIn}
+use Rattle.clauses.specs.Rows.{keyFor, rowNumbers, rowIn, KeyFrom}
 use Rattle.clauses.specs.Numbers.{numbersFrom}
-use Rattle.clauses.specs.Follows.{rowNamesake, rowFollows, followsFrom, rowRefusal, withRow}
+use Rattle.clauses.specs.Follows.{RowThere, RowsThere, rowNamesake, rowFollows, followsFrom, rowRefusal, withRow}
 
 -- ---- names
 
@@ -33,6 +35,23 @@ module _ (text : List ℕ) (r : Row) (sort : Bool) (at : ℕ) where
   pub namesake-run : sameSort (r .sort) sort ≡ true → (b : Bool) → b ≡ sameName (runAt text (r .name)) (runAt text at) → b ≡ rowNamesake text r sort at
   unfolding rowNamesake
   namesake-run e b f = f ∙ sym (ap (λ (x : Bool). x && sameName (runAt text (r .name)) (runAt text at)) e)
+
+sort-is : (a b : Bool) → T (sameSort a b) → a ≡ b
+sort-is true true h = refl
+sort-is true false h = absurd h
+sort-is false true h = absurd h
+sort-is false false h = refl
+
+-- another key, so another sort or name
+pub namesake-other : (text : List ℕ) (r : Row) (sort : Bool) (at : ℕ) → r .key ≡ keyFor (r .sort) (runAt text (r .name)) → ¬ (r .key ≡ keyFor sort (runAt text at)) → false ≡ rowNamesake text r sort at
+unfolding rowNamesake
+namesake-other text r sort at own other = by (sameSort (r .sort) sort && sameName (runAt text (r .name)) (runAt text at)) refl
+  where
+    by : (b : Bool) → (sameSort (r .sort) sort && sameName (runAt text (r .name)) (runAt text at)) ≡ b → false ≡ b
+    by false e = refl
+    by true e =
+        let (s, n) = and-both (sameSort (r .sort) sort) (sameName (runAt text (r .name)) (runAt text at)) (subst (λ (b : Bool). T b) (sym e) tt) in
+        absurd (other (own ∙ ap (λ (b : Bool). keyFor b (runAt text (r .name))) (sort-is (r .sort) sort s) ∙ ap (keyFor sort) (same→eq (runAt text (r .name)) (runAt text at) n)))
 
 -- ---- one row after another
 
@@ -68,6 +87,13 @@ pub record Following (text work : List ℕ) (d : Row) (n k : ℕ) : Type 0 where
   pub total : followsFrom text work d 0 n ≡ followsFrom text work d k (n - k)
 
 module _ (text work : List ℕ) (d : Row) (n : ℕ) where
+  over : (m k : ℕ) → followsFrom text work d 0 n ≡ followsFrom text work d k (n - k) → k + m ≤ n → ((j : ℕ) → k ≤ j → j < k + m → rowFollows text (rowIn work j) d ≡ true) → followsFrom text work d 0 n ≡ followsFrom text work d (k + m) (n - (k + m))
+  over zero k e h each = let z : k + 0 ≡ k = omega arith in e ∙ ap (λ (j : ℕ). followsFrom text work d j (n - j)) (sym z)
+  over (suc m) k e h each =
+      let p : n - k ≡ suc (n - suc k) = omega arith in
+      let q : suc k + m ≡ k + suc m = omega arith in
+      over m (suc k) (e ∙ ap (followsFrom text work d k) p ∙ ap (λ (b : Bool). b && followsFrom text work d (suc k) (n - suc k)) (each k (omega arith) (omega arith))) (omega arith) (λ j a b. each j (omega arith) (omega arith)) ∙ ap (λ (j : ℕ). followsFrom text work d j (n - j)) q
+
   pub following-none : Following text work d n 0
   following-none = let e : n - 0 ≡ n = omega arith in record { most = omega arith; total = rw e }
 
@@ -79,14 +105,23 @@ module _ (text work : List ℕ) (d : Row) (n : ℕ) where
           let g : k + 1 ≡ suc k = omega arith in
           f .total ∙ ap (followsFrom text work d k) e ∙ ap (λ (j : ℕ). rowFollows text (rowIn work k) d && followsFrom text work d j (n - (k + 1))) (sym g)
 
-      pub following-no : (c : Row) → c ≡ rowIn work k → rowFollows text c d ≡ false → false ≡ followsFrom text work d 0 n
-      following-no c e h = sym (one-row ∙ ap (λ (b : Bool). b && followsFrom text work d (k + 1) (n - (k + 1))) (ap (λ (r : Row). rowFollows text r d) (sym e) ∙ h))
+      pub following-no : rowFollows text (rowIn work k) d ≡ false → false ≡ followsFrom text work d 0 n
+      following-no h = sym (one-row ∙ ap (λ (b : Bool). b && followsFrom text work d (k + 1) (n - (k + 1))) h)
 
-      pub following-more : (c : Row) → c ≡ rowIn work k → rowFollows text c d ≡ true → Following text work d n (k + 1)
-      following-more c e h = record { most = omega arith; total = one-row ∙ ap (λ (b : Bool). b && followsFrom text work d (k + 1) (n - (k + 1))) (ap (λ (r : Row). rowFollows text r d) (sym e) ∙ h) }
+      pub following-more : rowFollows text (rowIn work k) d ≡ true → Following text work d n (k + 1)
+      following-more h = record { most = omega arith; total = one-row ∙ ap (λ (b : Bool). b && followsFrom text work d (k + 1) (n - (k + 1))) h }
+
+    pub following-over : (d′ : ℕ) → k + d′ ≤ n → ((j : ℕ) → k ≤ j → j < k + d′ → rowFollows text (rowIn work j) d ≡ true) → Following text work d n (k + d′)
+    following-over d′ h each = record { most = h; total = over d′ k (f .total) h each }
 
     pub following-all : n ≤ k → true ≡ followsFrom text work d 0 n
     following-all h = let e : n - k ≡ 0 = omega arith in sym (f .total ∙ ap (followsFrom text work d k) e)
+
+-- rows with another key are of another sort or name, and may be passed
+pub following-key : (text work : List ℕ) (d : Row) (n k r : ℕ) → RowsThere text work → n ≡ getD work clauseCountAt 0 → RowThere text d → KeyFrom work (d .key) k n r → Following text work d n k → Following text work d n r
+following-key text work d n k r there e own K F =
+    let q : k + (r - k) ≡ r = omega (arith, K .least) in
+    subst (Following text work d n) q (following-over text work d n k F (r - k) (omega (arith, K .most, q)) (λ j a b. sym (follow-other text (rowIn work j) d (sym (namesake-other text (rowIn work j) (d .sort) (d .name) (there .each j (omega (arith, K .most, q)) .key) (λ g. K .others j a (omega (arith, q)) (g ∙ sym (own .key))))))))
 
 -- ---- the refusal
 

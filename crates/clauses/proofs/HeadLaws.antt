@@ -16,7 +16,7 @@ use Rattle.words.specs.Lexed.{from, Lexed, Onward, Stands}
 use Rattle.grammar.specs.Ends.{restOf}
 use Rattle.clauses.specs.declared.groups.Group.{Group}
 use Rattle.clauses.specs.Groups.{codeAt, GroupRead}
-use Rattle.clauses.specs.Rows.{bodyAt, RowOf, ClauseEnds, RowRead}
+use Rattle.clauses.specs.Rows.{bodyAt, keyFor, RowOf, ClauseEnds, RowRead}
 use Rattle.clauses.proofs.ListLaws.{is-code, NameRead, name-read, types-group, numbers-group}
 
 -- what leaves words has read something
@@ -62,8 +62,8 @@ module _ (text : List ℕ) (at : ℕ) (w : Said) (s : Stands text at w) where
     pub name-first : w .code ≡ 24
     name-first = rest-back (clauseAt (bodyAt sort) here) _ (k .reads) λ g h r. on-bind (nameAt here) _ g h λ x hx h₁. s .code ∙ name-read here x hx .code
 
-    module _ (gt gk : Group) (e : Said) (ht : GroupRead text (w .end) 17 gt) (hk : GroupRead text (gt .end) 19 gk) (se : Stands text (gk .end) e) where
-      pub row-read : RowRead text at sort end (record { name = w .place; typed = w .end; numbered = gt .end; body = e .end; end = end; sort = sort; types = gt .count; numbers = gk .count })
+    module _ (gt gk : Group) (e : Said) (ht : GroupRead text (w .end) 17 gt) (hk : GroupRead text (gt .end) 19 gk) (se : Stands text (gk .end) e) (key : ℕ) (keyed : key ≡ keyFor sort (runAt text (w .place))) (stop : ℕ) (stops : Lexed text stop × (from text stop ≡ from text end)) where
+      pub row-read : RowRead text at sort end (record { name = w .place; typed = w .end; numbered = gt .end; body = e .end; end = stop; sort = sort; key = key; types = gt .count; numbers = gk .count })
       row-read =
           rest-back (clauseAt (bodyAt sort) here) _ (k .reads) λ g h r.
           on-bind (nameAt here) _ g h λ x hx h₁.
@@ -87,6 +87,7 @@ module _ (text : List ℕ) (at : ℕ) (w : Said) (s : Stands text at w) where
           let oe = se .onward (λ q. omega arith) in
           let ur : us ≡ from text (e .end) = sym (good-inj e₆) ∙ ap behind kr ∙ oe .rest in
           let br : b .rest ≡ from text end = ap (λ (q : Got Clause). q .rest) (good-inj h₅) ∙ r in
+          let bs : b .rest ≡ from text stop = br ∙ sym (stops .1) in
           let c : Clause = record { head = x .value; types = ts .value; numbers = ks .value; body = b .value; end = place (b .rest) } in
           record {
             clause = c;
@@ -102,14 +103,14 @@ module _ (text : List ℕ) (at : ℕ) (w : Said) (s : Stands text at w) where
               numbers = hks′ ∙ ap (λ (us : List Word). got (ks .value) us) kr;
               equal = ap (λ (us : List Word). expect equals us) (sym kr) ∙ hus ∙ ap good ur;
               body-lexed = oe .lexed;
-              body = ap (bodyAt sort) (sym ur) ∙ hb ∙ ap (λ (us : List Word). got (b .value) us) br;
-              end-lexed = k .past;
-              end = ap place br;
+              body = ap (bodyAt sort) (sym ur) ∙ hb ∙ ap (λ (us : List Word). got (b .value) us) bs;
+              end-lexed = stops .0;
+              end = ap place bs;
               sort = body-sort sort us b hb;
+              key = keyed;
               type-count = ht .counted ∙ it .count;
               number-count = hk .counted ∙ ik .count;
               few-types = ht .few;
               few-numbers = hk .few;
             };
-            ends = refl;
           }

@@ -1,15 +1,18 @@
 -- Items one by one: a definition, a line, and the loop over them all. Assumes nothing.
 use Prim.Native.Nat.{ℕ, zero, suc, _+_, _-_, _≤_, _<_}
 use mathlib.Core.Path.{_≡_, refl, sym, ap, _∙_, subst}
-use mathlib.Core.Bool.{Bool, true, false, cond}
+use mathlib.Core.Bool.{Bool, true, false, not, _&&_, cond}
 use mathlib.Core.List.{List, [], _∷_, _++_}
 use native.Mathlib.Omega.{arith}
+use lib.Dec.{T, eqb, ltb}
 use lib.ListN.{length, getD}
-use Rattle.calculus.specs.Answer.{Answer, good, refused, _>>=_, refuse, numbered}
-use Rattle.calculus.proofs.Answers.{refused≢good, refused-inj, good-inj}
+use borrow.Author.Tests.{eq-eqb, ne-eqb}
+use Rattle.calculus.specs.Answer.{Answer, good, refused, _>>=_, refuse, need}
+use Rattle.calculus.proofs.Answers.{refused≢good, refused-inj, good-inj, on-bind}
+use Rattle.laws.proofs.Tests.{and-both, not-true, false-not-T}
 use Rattle.notation_calculus.specs.Words.{ends, table, type, Word}
 use Rattle.notation_calculus.specs.Trees.{TypeTree, Clause}
-use Rattle.notation_calculus.specs.Grammar.{mostNested, mostClauses, Got, got, behind, is, listFrom, typeAt, typeBody, termBody, clauseAt, Items, withClause, withLines, itemsFrom}
+use Rattle.notation_calculus.specs.Grammar.{mostNested, mostClauses, Got, got, behind, is, listFrom, typeAt, typeBody, termBody, clauseAt, Items, mayFollowAll, withClause, withLines, itemsFrom}
 use Rattle.words.specs.Next.{Said}
 use Rattle.words.specs.Lexed.{from, Lexed, Onward, Stands}
 use Rattle.grammar.specs.declared.steps.End.{End}
@@ -22,7 +25,7 @@ use Rattle.making_memory.specs.Map.{clauseCountAt, makingSize}
 use Rattle.clauses.specs.declared.rows.Row.{Row}
 use Rattle.clauses.specs.Rows.{bodyAt, RowOf, ClauseEnds, RowRead, ShortRow, HoldsRows}
 use Rattle.clauses.specs.Follows.{RowThere, RowsThere, RowAdded, withRow}
-use Rattle.clauses.specs.Texts.{clauseItem, lineItem, itemOf, OnlyRows, TableHeld, GrownTo, Proceeds, ProceedsIn}
+use Rattle.clauses.specs.Texts.{clauseItem, lineItem, itemOf, OnlyRows, TableHeld, GrownTo, Proceeds, ProceedsIn, SoFar, OnlyClauses, Defined, definesBy}
 use Rattle.clauses.proofs.HeadLaws.{rest-back}
 use Rattle.clauses.proofs.TableLaws.{row-there, short-row, rows-there, judged, with-row-kept, rows-more, kept-none, kept-then}
 
@@ -201,14 +204,6 @@ items-end : (n : ℕ) (items : Items) (ws : List Word) → is ends ws ≡ true �
 items-end zero items ws e = refl
 items-end (suc n) items ws e = ap (λ (b : Bool). cond b (got items ws) (cond (is table ws) (listFrom (λ us. typeAt mostNested false us) (length ws) (behind ws) >>= λ ts. itemsFrom n (withLines items (ts .value)) (ts .rest)) (cond (is type ws) (clauseAt typeBody (behind ws)) (clauseAt termBody ws) >>= λ c. withClause items (c .value) >>= λ next. itemsFrom n next (c .rest)))) e
 
--- the items up to an offset, whose clauses the table holds, and the rounds that are left
-pub record SoFar (text : List ℕ) (n : ℕ) (items : Items) (start : ℕ) (w : List ℕ) (at : ℕ) : Type 0 where
-  pub done : Items
-  pub rounds : ℕ
-  pub total : itemsFrom n items (from text start) ≡ itemsFrom rounds done (from text at)
-  pub enough : length (from text at) ≤ rounds
-  pub holds : HoldsRows text w (done .clauses)
-
 pub record ReadingItems (text : List ℕ) (w₀ : List ℕ) (start : ℕ) (w : List ℕ) (at : ℕ) (v : Said) : Type 0 where
   pub so-far : (n : ℕ) → length (from text start) ≤ n → (items : Items) → HoldsRows text w₀ (items .clauses) → SoFar text n items start w at
   pub low : length (from text at) ≤ length (from text start)
@@ -267,6 +262,109 @@ module _ (text w₀ : List ℕ) (start : ℕ) (T : TableHeld text w₀) (w : Lis
             total = round-on n items s ∙ ap (λ (m : Answer (Got Items)). m >>= λ x. itemsFrom (s .rounds - 1) (x .value) (x .rest)) (g .is);
             enough = omega (arith, p .fewer q, s .enough);
             holds = g .holds;
+          };
+      low = omega (arith, p .fewer q, i .low);
+      lexed = p .lexed q;
+      stands = t;
+      kept = kept-then w₀ w w′ (i .kept) (p .kept);
+    }
+
+-- ---- definitions alone
+
+added-is : (a b : Bool) (at : ℕ) (made next : Items) → (need a 34 at >>= λ _. need b 36 at >>= λ _. good made) ≡ good next → next ≡ made
+added-is true true at made next e = sym (good-inj e)
+added-is true false at made next e = absurd (refused≢good e)
+added-is false b at made next e = absurd (refused≢good e)
+
+clause-lines : (sort : Bool) (ws : List Word) (items : Items) (g : Got Items) → clauseItem sort ws items ≡ good g → g .value .lines ≡ items .lines
+unfolding clauseItem
+clause-lines sort ws items g e =
+    on-bind (clauseAt (bodyAt sort) ws) _ g e λ c hc e₁.
+    on-bind (withClause items (c .value)) _ g e₁ λ next hn e₂.
+    ap (λ (x : Got Items). x .value .lines) (sym (good-inj e₂)) ∙ ap (λ (x : Items). x .lines) (added-is (ltb (length (items .clauses)) mostClauses) (mayFollowAll (items .clauses) (c .value)) (c .value .head .place) (record { clauses = items .clauses ++ c .value ∷ []; lines = items .lines }) next hn)
+
+item-lines : (ws : List Word) (items : Items) (g : Got Items) → is table ws ≡ false → itemOf ws items ≡ good g → g .value .lines ≡ items .lines
+unfolding itemOf
+item-lines ws items g e h = by (is type ws) (sym (ap (λ (b : Bool). cond b (lineItem ws items) (cond (is type ws) (clauseItem true (behind ws) items) (clauseItem false ws items))) e) ∙ h)
+  where
+    by : (b : Bool) → cond b (clauseItem true (behind ws) items) (clauseItem false ws items) ≡ good g → g .value .lines ≡ items .lines
+    by true q = clause-lines true (behind ws) items g q
+    by false q = clause-lines false ws items g q
+
+pub defines-yes : (code : ℕ) → definesBy code ≡ true → ¬ (code ≡ 0) × ¬ (code ≡ 7)
+unfolding definesBy
+defines-yes code h =
+    let (p, q) = and-both (not (eqb code 0)) (not (eqb code 7)) (subst (λ (b : Bool). T b) (sym h) tt) in
+    ((λ e. false-not-T (eqb code 0) (not-true (eqb code 0) p) (subst (λ (b : Bool). T b) (sym (eq-eqb code 0 e)) tt)), (λ e. false-not-T (eqb code 7) (not-true (eqb code 7) q) (subst (λ (b : Bool). T b) (sym (eq-eqb code 7 e)) tt)))
+
+pub defines-end : (code : ℕ) → code ≡ 0 → false ≡ definesBy code
+unfolding definesBy
+defines-end code e = sym (ap (λ (b : Bool). not b && not (eqb code 7)) (eq-eqb code 0 e))
+
+pub defines-other : (code : ℕ) → ¬ (code ≡ 0) → not (eqb code 7) ≡ definesBy code
+unfolding definesBy
+defines-other code e = sym (ap (λ (b : Bool). not b && not (eqb code 7)) (ne-eqb code 0 e))
+
+-- the loop over definitions: as over items, and no line is among them
+pub record ReadingDefinitions (text : List ℕ) (w₀ : List ℕ) (start : ℕ) (w : List ℕ) (at : ℕ) (v : Said) : Type 0 where
+  pub so-far : (n : ℕ) → length (from text start) ≤ n → (items : Items) → HoldsRows text w₀ (items .clauses) → OnlyClauses text n items start w at
+  pub low : length (from text at) ≤ length (from text start)
+  pub lexed : Lexed text at
+  pub stands : Stands text at v
+  pub kept : OnlyRows w₀ w
+
+pub defining-first : (text w : List ℕ) (start : ℕ) (v : Said) → Lexed text start → Stands text start v → ReadingDefinitions text w start w start v
+defining-first text w start v l s = record {
+  so-far = λ n h items H. record { so-far = record { done = items; rounds = n; total = refl; enough = h; holds = H }; lines = refl };
+  low = omega arith;
+  lexed = l;
+  stands = s;
+  kept = kept-none w;
+}
+
+module _ (text w₀ : List ℕ) (start : ℕ) (T : TableHeld text w₀) (w : List ℕ) (at : ℕ) (v : Said) (i : ReadingDefinitions text w₀ start w at v) where
+  as-items : ReadingItems text w₀ start w at v
+  as-items = record { so-far = λ n h items H. i .so-far n h items H .so-far; low = i .low; lexed = i .lexed; stands = i .stands; kept = i .kept }
+
+  pub defining-held : TableHeld text w
+  defining-held = reading-held text w₀ start T w at v as-items
+
+  pub defining-done : Defined text start w₀ w (record { number = 0; at = at })
+  defining-done = record {
+    refuses = λ q. absurd (q refl);
+    reaches = λ _. i .so-far;
+    low = λ _. i .low;
+    lexed = λ _. i .lexed;
+    kept = i .kept;
+  }
+
+  module _ (d : definesBy (v .code) ≡ true) (w′ : List ℕ) (e : End) (p : Proceeds text (length (from text at)) (itemOf (from text at)) w w′ e) where
+    pub defining-bad : ¬ (e .number ≡ 0) → Defined text start w₀ w′ e
+    defining-bad q =
+        let bad = reading-bad text w₀ start T w at v as-items (defines-yes (v .code) d .0) w′ e p q in
+        record {
+          refuses = λ y n h items H. bad n h .refuses y items H;
+          reaches = λ y. absurd (q y);
+          low = λ y. absurd (q y);
+          lexed = λ y. absurd (q y);
+          kept = bad (length (from text start)) (omega arith) .kept;
+        }
+
+    pub defining-more : e .number ≡ 0 → (v′ : Said) → Stands text (e .at) v′ → ReadingDefinitions text w₀ start w′ (e .at) v′
+    defining-more q v′ t = record {
+      so-far = λ n h items H.
+          let o = i .so-far n h items H in
+          let s = o .so-far in
+          let g = p .grows q (s .done) (s .holds) in
+          record {
+            so-far = record {
+              done = g .items;
+              rounds = s .rounds - 1;
+              total = round-on text w₀ start T w at v as-items (defines-yes (v .code) d .0) w′ e p n items s ∙ ap (λ (m : Answer (Got Items)). m >>= λ x. itemsFrom (s .rounds - 1) (x .value) (x .rest)) (g .is);
+              enough = omega (arith, p .fewer q, s .enough);
+              holds = g .holds;
+            };
+            lines = item-lines (from text at) (s .done) _ (is-no text at v (i .stands) table (defines-yes (v .code) d .1)) (g .is) ∙ o .lines;
           };
       low = omega (arith, p .fewer q, i .low);
       lexed = p .lexed q;

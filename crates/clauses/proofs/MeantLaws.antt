@@ -20,11 +20,12 @@ use Rattle.clauses.specs.declared.numbers.Num.{Num}
 use Rattle.clauses.specs.declared.rows.Row.{Row}
 use Rattle.clauses.specs.declared.meant.Asked.{Asked}
 use Rattle.clauses.specs.Groups.{restIn, listIn}
-use Rattle.clauses.specs.Rows.{RowOf, rowIn, noNumber, noClause, clauseOf, HoldsRows}
+use Rattle.clauses.specs.Rows.{RowOf, rowIn, noNumber, noClause, clauseOf, HoldsRows, keyFor, KeyFrom, KeyBelow}
 use Rattle.clauses.specs.Numbers.{NumberRead, plainNumber, numbersFrom, NumbersThere}
-use Rattle.clauses.specs.Follows.{rowNamesake}
+use Rattle.clauses.specs.Follows.{rowNamesake, RowsThere}
 use Rattle.clauses.specs.Meant.{valuesIn, rowMeant, firstMeant, rowsUpTo, rowSeen}
 use Rattle.clauses.proofs.NumberLaws.{numbers-step}
+use Rattle.clauses.proofs.FollowLaws.{namesake-other}
 use Rattle.clauses.proofs.TableLaws.{row-numbers, namesake-row}
 
 -- ---- numbers that fit
@@ -132,48 +133,89 @@ pub record Seeking (text work : List ℕ) (q : Asked) (seen k : ℕ) : Type 0 wh
   pub total : firstMeant text work q 0 seen ≡ firstMeant text work q k (seen - k)
 
 module _ (text work : List ℕ) (q : Asked) (seen : ℕ) where
+  over : (m k : ℕ) → firstMeant text work q 0 seen ≡ firstMeant text work q k (seen - k) → k + m ≤ seen → ((j : ℕ) → k ≤ j → j < k + m → rowMeant text work q (rowIn work j) ≡ false) → firstMeant text work q 0 seen ≡ firstMeant text work q (k + m) (seen - (k + m))
+  over zero k e h each = let z : k + 0 ≡ k = omega arith in e ∙ ap (λ (j : ℕ). firstMeant text work q j (seen - j)) (sym z)
+  over (suc m) k e h each =
+      let p : seen - k ≡ suc (seen - suc k) = omega arith in
+      let r : suc k + m ≡ k + suc m = omega arith in
+      over m (suc k) (e ∙ ap (firstMeant text work q k) p ∙ ap (λ (b : Bool). cond b k (firstMeant text work q (suc k) (seen - suc k))) (each k (omega arith) (omega arith))) (omega arith) (λ j a b. each j (omega arith) (omega arith)) ∙ ap (λ (j : ℕ). firstMeant text work q j (seen - j)) r
+
   pub seeking-none : Seeking text work q seen 0
   seeking-none = let e : seen - 0 ≡ seen = omega arith in record { most = omega arith; total = rw e }
 
   module _ (k : ℕ) (s : Seeking text work q seen k) where
-    module _ (more : k < seen) (r : Row) (is : r ≡ rowIn work k) where
-      one-row : firstMeant text work q 0 seen ≡ cond (rowMeant text work q r) k (firstMeant text work q (k + 1) (seen - (k + 1)))
+    module _ (more : k < seen) where
+      one-row : firstMeant text work q 0 seen ≡ cond (rowMeant text work q (rowIn work k)) k (firstMeant text work q (k + 1) (seen - (k + 1)))
       one-row =
           let e : seen - k ≡ suc (seen - (k + 1)) = omega arith in
           let g : k + 1 ≡ suc k = omega arith in
-          s .total ∙ ap (firstMeant text work q k) e ∙ ap (λ (j : ℕ). cond (rowMeant text work q (rowIn work k)) k (firstMeant text work q j (seen - (k + 1)))) (sym g) ∙ ap (λ (x : Row). cond (rowMeant text work q x) k (firstMeant text work q (k + 1) (seen - (k + 1)))) (sym is)
+          s .total ∙ ap (firstMeant text work q k) e ∙ ap (λ (j : ℕ). cond (rowMeant text work q (rowIn work k)) k (firstMeant text work q j (seen - (k + 1)))) (sym g)
 
-      pub seeking-found : rowMeant text work q r ≡ true → k ≡ firstMeant text work q 0 seen
+      pub seeking-found : rowMeant text work q (rowIn work k) ≡ true → k ≡ firstMeant text work q 0 seen
       seeking-found h = sym (one-row ∙ ap (λ (b : Bool). cond b k (firstMeant text work q (k + 1) (seen - (k + 1)))) h)
 
-      pub seeking-more : rowMeant text work q r ≡ false → Seeking text work q seen (k + 1)
+      pub seeking-more : rowMeant text work q (rowIn work k) ≡ false → Seeking text work q seen (k + 1)
       seeking-more h = record { most = omega arith; total = one-row ∙ ap (λ (b : Bool). cond b k (firstMeant text work q (k + 1) (seen - (k + 1)))) h }
+
+    pub seeking-over : (m : ℕ) → k + m ≤ seen → ((j : ℕ) → k ≤ j → j < k + m → rowMeant text work q (rowIn work j) ≡ false) → Seeking text work q seen (k + m)
+    seeking-over m h each = record { most = h; total = over m k (s .total) h each }
 
     pub seeking-all : seen ≤ k → k ≡ firstMeant text work q 0 seen
     seeking-all h = let e : seen - k ≡ 0 = omega arith in sym (s .total ∙ ap (firstMeant text work q k) e)
 
+-- rows with another key are of another sort or name, and may be passed
+pub seeking-key : (text work : List ℕ) (q : Asked) (seen k r key : ℕ) → RowsThere text work → seen ≤ getD work clauseCountAt 0 → key ≡ keyFor (q .sort) (runAt text (q .name)) → KeyFrom work key k seen r → Seeking text work q seen k → Seeking text work q seen r
+seeking-key text work q seen k r key there few own K S =
+    let z : k + (r - k) ≡ r = omega (arith, K .least) in
+    subst (Seeking text work q seen) z (seeking-over text work q seen k S (r - k) (omega (arith, K .most, z)) (λ j a b. sym (meant-other text work q (rowIn work j) (sym (namesake-other text (rowIn work j) (q .sort) (q .name) (there .each j (omega (arith, K .most, z)) .key) (λ g. K .others j a (omega (arith, z)) (g ∙ sym own)))))))
+
 -- ---- the last of a name
 
-pub record CountingOn (text work : List ℕ) (sort : Bool) (at n otherwise k found : ℕ) : Type 0 where
+-- the last of so many rows decides before those above it
+upto-last : (text work : List ℕ) (sort : Bool) (at n k found : ℕ) → rowsUpTo text work sort at k (suc n) found ≡ cond (rowNamesake text (rowIn work (k + n)) sort at) (suc (k + n)) (rowsUpTo text work sort at k n found)
+upto-last text work sort at zero k found = let e : k + 0 ≡ k = omega arith in rw e refl
+upto-last text work sort at (suc n) k found =
+    let e : suc k + n ≡ k + suc n = omega arith in
+    upto-last text work sort at n (suc k) (cond (rowNamesake text (rowIn work k) sort at) (suc k) found) ∙ ap (λ (j : ℕ). cond (rowNamesake text (rowIn work j) sort at) (suc j) (rowsUpTo text work sort at (suc k) n (cond (rowNamesake text (rowIn work k) sort at) (suc k) found))) e
+
+-- no row from number k on is of the sort and name
+pub record CountingDown (text work : List ℕ) (sort : Bool) (at n otherwise k : ℕ) : Type 0 where
   pub most : k ≤ n
-  pub total : rowsUpTo text work sort at 0 n otherwise ≡ rowsUpTo text work sort at k (n - k) found
+  pub total : rowsUpTo text work sort at 0 n otherwise ≡ rowsUpTo text work sort at 0 k otherwise
 
 module _ (text work : List ℕ) (sort : Bool) (at n otherwise : ℕ) where
-  pub upto-none : CountingOn text work sort at n otherwise 0 otherwise
-  upto-none = let e : n - 0 ≡ n = omega arith in record { most = omega arith; total = rw e }
+  under : (m r k : ℕ) → k ≡ r + m → ((j : ℕ) → r ≤ j → j < k → rowNamesake text (rowIn work j) sort at ≡ false) → rowsUpTo text work sort at 0 k otherwise ≡ rowsUpTo text work sort at 0 r otherwise
+  under zero r k e each = let z : k ≡ r = omega arith in ap (λ (j : ℕ). rowsUpTo text work sort at 0 j otherwise) z
+  under (suc m) r k e each =
+      let p : k ≡ suc (r + m) = omega arith in
+      let z : 0 + (r + m) ≡ r + m = omega arith in
+      ap (λ (j : ℕ). rowsUpTo text work sort at 0 j otherwise) p ∙ upto-last text work sort at (r + m) 0 otherwise ∙ ap (λ (j : ℕ). cond (rowNamesake text (rowIn work j) sort at) (suc j) (rowsUpTo text work sort at 0 (r + m) otherwise)) z ∙ ap (λ (b : Bool). cond b (suc (r + m)) (rowsUpTo text work sort at 0 (r + m) otherwise)) (each (r + m) (omega arith) (omega arith)) ∙ under m r (r + m) refl (λ j a b. each j a (omega arith))
 
-  module _ (k found : ℕ) (s : CountingOn text work sort at n otherwise k found) where
-    pub upto-more : k < n → (r : Row) → r ≡ rowIn work k → (found′ : ℕ) → found′ ≡ cond (rowNamesake text r sort at) (suc k) found → CountingOn text work sort at n otherwise (k + 1) found′
-    upto-more more r is found′ f =
-        let e : n - k ≡ suc (n - (k + 1)) = omega arith in
-        let g : k + 1 ≡ suc k = omega arith in
-        record {
-          most = omega arith;
-          total = s .total ∙ ap (λ (j : ℕ). rowsUpTo text work sort at k j found) e ∙ ap (λ (j : ℕ). rowsUpTo text work sort at j (n - (k + 1)) (cond (rowNamesake text (rowIn work k) sort at) (suc k) found)) (sym g) ∙ ap (λ (x : Row). rowsUpTo text work sort at (k + 1) (n - (k + 1)) (cond (rowNamesake text x sort at) (suc k) found)) (sym is) ∙ ap (rowsUpTo text work sort at (k + 1) (n - (k + 1))) (sym f);
-        }
+  pub down-none : (k : ℕ) → k ≡ n → CountingDown text work sort at n otherwise k
+  down-none k e = record { most = omega arith; total = ap (λ (j : ℕ). rowsUpTo text work sort at 0 j otherwise) (sym e) }
 
-    pub upto-all : n ≤ k → found ≡ rowsUpTo text work sort at 0 n otherwise
-    upto-all h = let e : n - k ≡ 0 = omega arith in sym (s .total ∙ ap (λ (j : ℕ). rowsUpTo text work sort at k j found) e)
+  module _ (k : ℕ) (s : CountingDown text work sort at n otherwise k) where
+    module _ (more : 0 < k) where
+      one-less : rowsUpTo text work sort at 0 n otherwise ≡ cond (rowNamesake text (rowIn work (k - 1)) sort at) k (rowsUpTo text work sort at 0 (k - 1) otherwise)
+      one-less =
+          let e : k ≡ suc (k - 1) = omega arith in
+          let z : 0 + (k - 1) ≡ k - 1 = omega arith in
+          s .total ∙ ap (λ (j : ℕ). rowsUpTo text work sort at 0 j otherwise) e ∙ upto-last text work sort at (k - 1) 0 otherwise ∙ ap (λ (j : ℕ). cond (rowNamesake text (rowIn work j) sort at) (suc j) (rowsUpTo text work sort at 0 (k - 1) otherwise)) z ∙ ap (λ (j : ℕ). cond (rowNamesake text (rowIn work (k - 1)) sort at) j (rowsUpTo text work sort at 0 (k - 1) otherwise)) (sym e)
+
+      pub down-found : rowNamesake text (rowIn work (k - 1)) sort at ≡ true → k ≡ rowsUpTo text work sort at 0 n otherwise
+      down-found h = sym (one-less ∙ ap (λ (b : Bool). cond b k (rowsUpTo text work sort at 0 (k - 1) otherwise)) h)
+
+      pub down-more : rowNamesake text (rowIn work (k - 1)) sort at ≡ false → CountingDown text work sort at n otherwise (k - 1)
+      down-more h = record { most = omega (arith, s .most); total = one-less ∙ ap (λ (b : Bool). cond b k (rowsUpTo text work sort at 0 (k - 1) otherwise)) h }
+
+    pub down-over : (r : ℕ) → r ≤ k → ((j : ℕ) → r ≤ j → j < k → rowNamesake text (rowIn work j) sort at ≡ false) → CountingDown text work sort at n otherwise r
+    down-over r h each = record { most = omega (arith, s .most); total = s .total ∙ under (k - r) r k (omega arith) each }
+
+    pub down-all : k ≤ 0 → otherwise ≡ rowsUpTo text work sort at 0 n otherwise
+    down-all h = let e : k ≡ 0 = omega arith in sym (s .total ∙ ap (λ (j : ℕ). rowsUpTo text work sort at 0 j otherwise) e)
+
+pub down-key : (text work : List ℕ) (sort : Bool) (at otherwise k r key : ℕ) → RowsThere text work → key ≡ keyFor sort (runAt text at) → KeyBelow work key k r → CountingDown text work sort at (getD work clauseCountAt 0) otherwise k → CountingDown text work sort at (getD work clauseCountAt 0) otherwise r
+down-key text work sort at otherwise k r key there own K S = down-over text work sort at _ otherwise k S r (K .most) (λ j a b. sym (namesake-other text (rowIn work j) sort at (there .each j (omega (arith, S .most)) .key) (λ g. K .others j a b (g ∙ sym own))))
 
 module _ (text work : List ℕ) (k : ℕ) (c : Row) (is : c ≡ rowIn work k) where
   abbrev seenOf : Bool → Row → ℕ
@@ -188,13 +230,6 @@ module _ (text work : List ℕ) (k : ℕ) (c : Row) (is : c ≡ rowIn work k) wh
   seen-upto z n e = e ∙ sym (ap (λ (r : Row). seenOf (eqb (r .numbers) 0) r) (sym is) ∙ ap (λ (b : Bool). seenOf b c) (ne-eqb _ _ z))
 
 -- ---- the clauses behind the rows
-
--- what `later` says
-pub later-yes : (b : Bool) (k found : ℕ) → b ≡ true → k + 1 ≡ cond b (suc k) found
-later-yes b k found e = let g : k + 1 ≡ suc k = omega arith in g ∙ sym (ap (λ (x : Bool). cond x (suc k) found) e)
-
-pub later-no : (b : Bool) (k found : ℕ) → b ≡ false → found ≡ cond b (suc k) found
-later-no b k found e = sym (ap (λ (x : Bool). cond x (suc k) found) e)
 
 module _ (text work : List ℕ) (cs : List Clause) (H : HoldsRows text work cs) where
   -- clauses from number k on, up to those that are known

@@ -14,7 +14,7 @@ use Rattle.notation_calculus.specs.Grammar.{Got, got, peek, behind, place, is, 
 use Rattle.words.specs.Tables.{tokenCode, tokenValue}
 use Rattle.words.specs.Next.{Said}
 use Rattle.words.specs.Lexed.{from, Lexed, Onward, Stands}
-use Rattle.grammar.proofs.EndLaws.{sign-small, is-yes, is-no}
+use Rattle.grammar.proofs.EndLaws.{sign-not, is-yes, is-no}
 use Rattle.clauses.specs.declared.numbers.Num.{Num}
 use Rattle.clauses.specs.Groups.{codeAt, valueIn, restIn, listIn, Readable}
 use Rattle.clauses.specs.Rows.{noNumber}
@@ -34,7 +34,7 @@ number-by (number n) us g z e = (refl, sym e)
 number-by (name n) us g z e = absurd (z refl)
 
 named-by : (t : Token) → tokenCode t ≡ 24 → (C : Type 0) → ((n : List ℕ) → t ≡ name n → C) → C
-named-by (sign t) z C k = absurd (omega (arith, z, sign-small t))
+named-by (sign t) z C k = absurd (sign-not t 24 tt z)
 named-by (part p) z C k = absurd (omega arith)
 named-by (number n) z C k = absurd (omega arith)
 named-by (name n) z C k = k n refl

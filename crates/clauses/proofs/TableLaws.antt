@@ -6,7 +6,7 @@ use mathlib.Core.List.{List, [], _∷_, _++_}
 use mathlib.Core.Logic.{_≢_}
 use native.Mathlib.Omega.{arith}
 use native.Mathlib.Decide.{decLe}
-use lib.Dec.{eqb, ltb}
+use lib.Dec.{eqb, leb, ltb}
 use lib.ListN.{length, getD, set, drop, length-append, length-set, List·getD-append}
 use lib.Seq.{sets, length-sets, getD-set-same, getD-set-other, getD-append-seam, drop-cons, drop-length}
 use borrow.Author.Tests.{eq-eqb, ne-eqb, lt-ltb, le-ltb}
@@ -20,12 +20,12 @@ use Rattle.words.specs.Lexed.{from}
 use Rattle.making_memory.specs.Map.{clausesAt, framesAt, clauseCountAt, makingSize}
 use Rattle.clauses.specs.declared.rows.Row.{Row}
 use Rattle.clauses.specs.Groups.{listIn, Readable}
-use Rattle.clauses.specs.Rows.{RowOf, flagOf, rowNumbers, ShortRow, rowIn, noNumber, noClause, clauseOf, HoldsRows}
+use Rattle.clauses.specs.Rows.{RowOf, rowNumbers, ShortRow, rowIn, noNumber, noClause, clauseOf, HoldsRows}
 use Rattle.clauses.specs.Numbers.{numbersFrom, NumbersThere}
 use Rattle.clauses.specs.Follows.{RowThere, rowNamesake, rowFollows, followsFrom, RowsThere, rowRefusal, withRow}
 use Rattle.clauses.specs.Texts.{OnlyRows}
 use Rattle.clauses.proofs.ListLaws.{numbers-group}
-use Rattle.clauses.proofs.RowLaws.{row-parts}
+use Rattle.clauses.proofs.RowLaws.{row-parts, key-sort, key-short}
 
 -- ---- one row
 
@@ -37,6 +37,7 @@ module _ (text : List ℕ) (C : Clause) (c : Row) (R : RowOf text C c) where
   row-there = record {
     inside = R .name-inside;
     numbers = record { lexed = R .numbers-lexed; readable = subst (λ (n : ℕ). Readable noNumber numberAt n (from text (c .numbered))) (sym (R .number-count)) (numbers-group (from text (c .numbered)) (C .numbers) (from text (R .stop)) (R .numbers) .readable) };
+    key = R .key;
   }
 
   pub namesake-row : (sort : Bool) (at : ℕ) → namesake C sort (runAt text at) ≡ rowNamesake text c sort at
@@ -50,6 +51,7 @@ module _ (text : List ℕ) (C : Clause) (c : Row) (R : RowOf text C c) where
     numbered = omega (arith, R .numbers-lexed .within);
     body = omega (arith, R .body-lexed .within);
     end = omega (arith, R .end-lexed .within);
+    key = subst (λ (n : ℕ). n < 65536) (sym (R .key)) (key-short (c .sort) (runAt text (c .name)));
     types = omega (arith, R .few-types);
     numbers = omega (arith, R .few-numbers);
   }
@@ -125,20 +127,17 @@ module _ (text work : List ℕ) (cs : List Clause) (H : HoldsRows text work cs) 
 
 -- ---- one more row
 
-flag-eqb : (b : Bool) → eqb (flagOf b) 1 ≡ b
-flag-eqb true = refl
-flag-eqb false = refl
-
 -- a row is what its eight numbers say
 pub row-same : (w w′ : List ℕ) (k : ℕ) → ((j : ℕ) → clausesAt + 8 * k ≤ j → j < clausesAt + 8 * k + 8 → getD w′ j 0 ≡ getD w j 0) → rowIn w′ k ≡ rowIn w k
 row-same w w′ k h =
-    row-parts (rowIn w k) _ _ _ _ _ _ _ _
+    row-parts (rowIn w k) _ _ _ _ _ _ _ _ _
     (h (clausesAt + 8 * k) (omega arith) (omega arith))
     (h (clausesAt + 8 * k + 1) (omega arith) (omega arith))
     (h (clausesAt + 8 * k + 2) (omega arith) (omega arith))
     (h (clausesAt + 8 * k + 3) (omega arith) (omega arith))
     (h (clausesAt + 8 * k + 4) (omega arith) (omega arith))
-    (ap (λ (n : ℕ). eqb n 1) (h (clausesAt + 8 * k + 5) (omega arith) (omega arith)))
+    (ap (leb 32768) (h (clausesAt + 8 * k + 5) (omega arith) (omega arith)))
+    (h (clausesAt + 8 * k + 5) (omega arith) (omega arith))
     (h (clausesAt + 8 * k + 6) (omega arith) (omega arith))
     (h (clausesAt + 8 * k + 7) (omega arith) (omega arith))
 
@@ -161,16 +160,17 @@ module _ (w : List ℕ) (d : Row) (n : ℕ) (e : getD w clauseCountAt 0 ≡ n) (
   new-number : (i : ℕ) → i < 8 → getD (withRow w d) (clausesAt + 8 * n + i) 0 ≡ getD (rowNumbers d) i 0
   new-number i h = other (clausesAt + 8 * n + i) (λ q. absurd (omega arith)) ∙ sets-at (rowNumbers d) w (clausesAt + 8 * n) i (omega arith) h
 
-  pub row-new : rowIn (withRow w d) n ≡ d
-  row-new =
+  pub row-new : leb 32768 (d .key) ≡ d .sort → rowIn (withRow w d) n ≡ d
+  row-new sorted =
       let zero-more : clausesAt + 8 * n + 0 ≡ clausesAt + 8 * n = omega arith in
-      row-parts d _ _ _ _ _ _ _ _
+      row-parts d _ _ _ _ _ _ _ _ _
       (ap (λ (j : ℕ). getD (withRow w d) j 0) (sym zero-more) ∙ new-number 0 (omega arith))
       (new-number 1 (omega arith))
       (new-number 2 (omega arith))
       (new-number 3 (omega arith))
       (new-number 4 (omega arith))
-      (ap (λ (x : ℕ). eqb x 1) (new-number 5 (omega arith)) ∙ flag-eqb (d .sort))
+      (ap (leb 32768) (new-number 5 (omega arith)) ∙ sorted)
+      (new-number 5 (omega arith))
       (new-number 6 (omega arith))
       (new-number 7 (omega arith))
 
@@ -195,7 +195,7 @@ module _ (w : List ℕ) (d : Row) (n : ℕ) (e : getD w clauseCountAt 0 ≡ n) (
       | yes lt ↦ subst (λ (C : Clause). RowOf text C (rowIn (withRow w d) k)) (sym (List·getD-append cs (D ∷ []) noClause k (omega arith))) (subst (RowOf text (clauseOf cs k)) (sym (row-old k lt)) (H .rows k (omega arith)))
       | no ge ↦ let at : k ≡ n = omega (arith, long, h) in
           let at′ : k ≡ length cs = omega arith in
-          subst (λ (C : Clause). RowOf text C (rowIn (withRow w d) k)) (sym (ap (λ (j : ℕ). getD (cs ++ D ∷ []) j noClause) at′ ∙ getD-append-seam cs D [] noClause)) (subst (RowOf text D) (sym (ap (rowIn (withRow w d)) at ∙ row-new)) S)
+          subst (λ (C : Clause). RowOf text C (rowIn (withRow w d) k)) (sym (ap (λ (j : ℕ). getD (cs ++ D ∷ []) j noClause) at′ ∙ getD-append-seam cs D [] noClause)) (subst (RowOf text D) (sym (ap (rowIn (withRow w d)) at ∙ row-new (ap (leb 32768) (S .key) ∙ key-sort (d .sort) (runAt text (d .name))))) S)
     ];
   }
     where

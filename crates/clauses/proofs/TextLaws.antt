@@ -26,8 +26,9 @@ use Rattle.grammar.proofs.ItemLaws.{edition-rest}
 use Rattle.making_memory.specs.Map.{clausesAt, framesAt, clauseCountAt, secondAt, makingSize}
 use Rattle.clauses.specs.declared.texts.Whole.{Whole}
 use Rattle.clauses.specs.Rows.{flagOf, HoldsRows}
-use Rattle.clauses.specs.Texts.{OnlyRows, OnlyTable, TableHeld, Proceeds, ProceedsIn, saysSecond, HoldsClauses, TextHeld, TextRead}
+use Rattle.clauses.specs.Texts.{OnlyRows, OnlyTable, TableHeld, ProceedsIn, Defined, refusedText, ItemsTo, ItemsRead, saysSecond, HoldsClauses, TextHeld, TextRead}
 use Rattle.clauses.proofs.HeadLaws.{rest-back}
+use Rattle.clauses.proofs.TableLaws.{kept-then}
 use Rattle.clauses.proofs.ItemLaws.{refused-back}
 
 -- ---- the edition
@@ -120,41 +121,94 @@ module _ (text : List ℕ) (e : End) (d : Ends text (length (from text 0) + 1) (
   unfolding textOf
   text-by = refl
 
-  pub text-edition-bad : ¬ (e .number ≡ 0) → (w : List ℕ) → TextRead text w w (record { number = e .number; place = e .at; items = 0 })
+  pub text-edition-bad : ¬ (e .number ≡ 0) → (w : List ℕ) → TextRead text w w (refusedText (e .number) (e .at))
   text-edition-bad z w = record {
     refuses = λ _. text-by ∙ ap (λ (m : Answer (Got Edition)). m >>= λ E. textOn E (itemsFrom (length words) noItems (E .rest))) (refused-back (editionAt words) (e .number) (e .at) (edition-rest words ∙ d .refuses z));
     holds = λ q. absurd (z q);
     kept = only-none w;
   }
 
-  module _ (z : e .number ≡ 0) (w : List ℕ) (room : makingSize ≤ length w) (f : ℕ) (second : f ≡ flagOf (saysSecond (from text 0))) (w′ : List ℕ) (r : End) (p : ProceedsIn text (e .at) (begun w f room) w′ r) where
-    abbrev now : Proceeds text (length (from text (e .at)) + 1) (λ items. itemsFrom (length words) items (from text (e .at))) (begun w f room) w′ r
-    now = p (length words) (omega (arith, d .reaches z .fewer))
+  module _ (z : e .number ≡ 0) (w : List ℕ) (room : makingSize ≤ length w) (f : ℕ) (second : f ≡ flagOf (saysSecond (from text 0))) (w′ : List ℕ) (r : Whole) (p : ItemsRead text (e .at) (begun w f room) w′ r) where
+    most : length (from text (e .at)) ≤ length words
+    most = omega (arith, d .reaches z .fewer)
 
-    text-is : (m : Answer (Got Items)) → itemsFrom (length words) noItems (from text (e .at)) ≡ m → (C : Type 0) → ((E : Got Edition) → editionAt words ≡ good E → E .rest ≡ from text (e .at) → textOf words ≡ textOn E m → C) → C
-    text-is m h C k = rest-back (editionAt words) _ (edition-rest words ∙ d .reaches z .is) λ E g q. k E g q (text-by ∙ ap (λ (x : Answer (Got Edition)). x >>= λ G. textOn G (itemsFrom (length words) noItems (G .rest))) g ∙ ap (λ (us : List Word). textOn E (itemsFrom (length words) noItems us)) q ∙ ap (textOn E) h)
+    text-is : (m : Answer (Got Items)) → itemsFrom (length words) noItems (from text (e .at)) ≡ m → (C : Type 0) → ((E : Got Edition) → editionAt words ≡ good E → textOf words ≡ textOn E m → C) → C
+    text-is m h C k = rest-back (editionAt words) _ (edition-rest words ∙ d .reaches z .is) λ E g q. k E g (text-by ∙ ap (λ (x : Answer (Got Edition)). x >>= λ G. textOn G (itemsFrom (length words) noItems (G .rest))) g ∙ ap (λ (us : List Word). textOn E (itemsFrom (length words) noItems us)) q ∙ ap (textOn E) h)
 
-    pub text-items-bad : ¬ (r .number ≡ 0) → TextRead text w w′ (record { number = r .number; place = r .at; items = 0 })
-    text-items-bad q = record {
-      refuses = λ _. text-is _ (now .refuses q noItems (begun-rows w f room text)) (textOf words ≡ refuse (r .number) (r .at)) λ E g h t. t;
-      holds = λ y. absurd (q y);
-      kept = only-table w f room w′ (now .kept);
+    held : ItemsTo text (length words) noItems (e .at) w′ r → TextHeld text w′ r
+    held g = text-is _ (g .is) (TextHeld text w′ r) λ E h t. record {
+      X = record { edition = E .value; clauses = g .all .clauses; lines = g .all .lines; end = place (from text (g .stop)) };
+      is = t;
+      holds = record { rows = g .holds; edition = second-kept w f room w′ (p .kept) ∙ second ∙ ap flagOf (sym (edition-says words E h)) };
+      end = g .end;
+      items-lexed = g .lexed;
+      done = g .done;
+      rounds = g .rounds;
+      enough = g .enough;
+      stop = g .stop;
+      items = g .again;
+      count = g .count;
+      lines = g .lines;
     }
 
-    pub text-good : r .number ≡ 0 → (v : Said) → Stands text (r .at) v → TextRead text w w′ (record { number = 0; place = v .place; items = e .at })
-    text-good q v s = record {
-      refuses = λ y. absurd (y refl);
-      holds = λ _.
-          let g = now .grows q noItems (begun-rows w f room text) in
-          text-is _ (g .is) (TextHeld text w′ (record { number = 0; place = v .place; items = e .at })) λ E h k t. record {
-            X = record { edition = E .value; clauses = g .items .clauses; lines = g .items .lines; end = place (from text (r .at)) };
-            is = t;
-            holds = record { rows = g .holds; edition = second-kept w f room w′ (now .kept) ∙ second ∙ ap flagOf (sym (edition-says words E h)) };
-            end = sym (s .place);
-            items-lexed = d .reaches z .lexed;
-            edition = h ∙ ap (λ (us : List Word). got (E .value) us) k;
-            stop = r .at;
-            items = g .is;
-          };
-      kept = only-table w f room w′ (now .kept);
+    pub text-read : TextRead text w w′ r
+    text-read = record {
+      refuses = λ q. text-is _ (p .refuses q (length words) most noItems (begun-rows w f room text)) (textOf words ≡ refuse (r .number) (r .place)) λ E g t. t;
+      holds = λ q. held (p .reads q (length words) most noItems (begun-rows w f room text));
+      kept = only-table w f room w′ (p .kept);
     }
+
+-- ---- the items: the definitions above the first line, then all that is left
+
+pub items-as : {text : List ℕ} {start : ℕ} {w w′ : List ℕ} {q r : Whole} → q ≡ r → ItemsRead text start w w′ r → ItemsRead text start w w′ q
+items-as {text} {start} {w} {w′} e p = subst (λ (r : Whole). ItemsRead text start w w′ r) (sym e) p
+
+module _ (text : List ℕ) (start : ℕ) (w w₁ : List ℕ) (d : End) (D : Defined text start w w₁ d) where
+  pub items-defined-bad : ¬ (d .number ≡ 0) → ItemsRead text start w w₁ (refusedText (d .number) (d .at))
+  items-defined-bad z = record { refuses = λ _. D .refuses z; reads = λ q. absurd (z q); kept = D .kept }
+
+  module _ (z : d .number ≡ 0) where
+    pub defined-held : TableHeld text w → TableHeld text w₁
+    defined-held T =
+        let s = D .reaches z (length (from text start)) (omega arith) (T .items) (T .holds) .so-far in
+        record { short = T .short; room = omega (arith, T .room, D .kept .same); items = s .done; holds = s .holds }
+
+    module _ (w₂ : List ℕ) (r : End) (P : ProceedsIn text (d .at) w₁ w₂ r) where
+      both-kept : OnlyRows w w₂
+      both-kept = kept-then w w₁ w₂ (D .kept) (P (length (from text (d .at))) (omega arith) .kept)
+
+      pub items-bad : ¬ (r .number ≡ 0) → ItemsRead text start w w₂ (refusedText (r .number) (r .at))
+      items-bad q = record {
+        refuses = λ _ n h items H.
+            let s = D .reaches z n h items H .so-far in
+            s .total ∙ P (s .rounds) (s .enough) .refuses q (s .done) (s .holds);
+        reads = λ y. absurd (q y);
+        kept = both-kept;
+      }
+
+      pub items-good : r .number ≡ 0 → (seen : ℕ) → seen ≡ getD w₁ clauseCountAt 0 → (v : Said) → Stands text (r .at) v → ItemsRead text start w w₂ (record { number = 0; place = v .place; items = d .at; seen = seen })
+      items-good q seen known v t = record {
+        refuses = λ y. absurd (y refl);
+        reads = λ _ n h items H.
+            let o = D .reaches z n h items H in
+            let s = o .so-far in
+            let g = P (s .rounds) (s .enough) .grows q (s .done) (s .holds) in
+            record {
+              all = g .items;
+              stop = r .at;
+              is = s .total ∙ g .is;
+              holds = g .holds;
+              end = sym (t .place);
+              lexed = D .lexed z;
+              done = s .done;
+              rounds = s .rounds;
+              enough = s .enough;
+              again = g .is;
+              count = sym (known ∙ s .holds .counted);
+              lines = o .lines;
+            };
+        kept = both-kept;
+      }
+
+      pub items-lexed : r .number ≡ 0 → Lexed text (r .at)
+      items-lexed q = P (length (from text (d .at))) (omega arith) .lexed q

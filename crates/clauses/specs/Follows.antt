@@ -11,13 +11,14 @@ use Rattle.notation_calculus.specs.Grammar.{mostClauses, coverAll, sameSort}
 use Rattle.words.specs.Next.{runAt}
 use Rattle.making_memory.specs.Map.{clausesAt, clauseCountAt, makingSize}
 use Rattle.clauses.specs.declared.rows.Row.{Row}
-use Rattle.clauses.specs.Rows.{rowNumbers, ShortRow, rowIn}
+use Rattle.clauses.specs.Rows.{keyFor, rowNumbers, ShortRow, rowIn}
 use Rattle.clauses.specs.Numbers.{numbersFrom, NumbersThere}
 
--- a row whose name and numbers can be read
+-- a row whose name and numbers can be read, and whose key is that of its sort and name
 pub record RowThere (text : List ℕ) (r : Row) : Type 0 where
   pub inside : r .name ≤ length text
   pub numbers : NumbersThere text (r .numbered) (r .numbers)
+  pub key : r .key ≡ keyFor (r .sort) (runAt text (r .name))
 
 -- a row of a sort and of the name at an offset
 unfoldable pub rowNamesake : List ℕ → Row → Bool → ℕ → Bool

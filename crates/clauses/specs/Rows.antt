@@ -3,13 +3,14 @@ use Prim.Native.Nat.{ℕ, _+_, _*_, _≤_, _<_}
 use mathlib.Core.Path.{_≡_}
 use mathlib.Core.Bool.{Bool, true, false, cond}
 use mathlib.Core.List.{List, [], _∷_}
-use lib.Dec.{eqb}
+use lib.Dec.{leb}
 use lib.ListN.{length, getD}
 use Rattle.calculus.specs.Answer.{Answer, good}
 use Rattle.notation_calculus.specs.Words.{equals, Word}
 use Rattle.notation_calculus.specs.Trees.{Bound, Number, TypeTree, typed, one, nothing, Body, ofType, Clause}
 use Rattle.notation_calculus.specs.Grammar.{Got, got, place, expect, parametersAt, numbersAt, typeBody, termBody, clauseAt, isType, mostClauses}
 use Rattle.words.specs.Next.{runAt}
+use Rattle.words.specs.NameKeys.{nameKey}
 use Rattle.words.specs.Lexed.{from, Lexed}
 use Rattle.grammar.specs.Ends.{restOf}
 use Rattle.making_memory.specs.Map.{clausesAt, clauseCountAt}
@@ -20,8 +21,12 @@ abbrev pub bodyAt : Bool → List Word → Answer (Got Body)
 bodyAt true ws = typeBody ws
 bodyAt false ws = termBody ws
 
+-- a number that a sort and a name give: a type's is not below 32,768
+unfoldable pub keyFor : Bool → List ℕ → ℕ
+keyFor sort n = nameKey n + cond sort 32768 0
+
 -- the row of a clause: the offsets of its name, of what stands behind it, of the number parameters, of the body and of what stands behind
--- that; its sort; how many type parameters and number parameters. What is read again from these offsets is the clause
+-- that; its sort, and the key of sort and name; how many type parameters and number parameters. What is read again from these offsets is the clause
 pub record RowOf (text : List ℕ) (c : Clause) (r : Row) : Type 0 where
   pub name-place : c .head .place ≡ r .name
   pub name-is : c .head .name ≡ runAt text (r .name)
@@ -37,6 +42,7 @@ pub record RowOf (text : List ℕ) (c : Clause) (r : Row) : Type 0 where
   pub end-lexed : Lexed text (r .end)
   pub end : c .end ≡ place (from text (r .end))
   pub sort : isType (c .body) ≡ r .sort
+  pub key : r .key ≡ keyFor (r .sort) (runAt text (r .name))
   pub type-count : r .types ≡ length (c .types)
   pub number-count : r .numbers ≡ length (c .numbers)
   pub few-types : r .types ≤ length text
@@ -53,7 +59,6 @@ pub record RowRead (text : List ℕ) (at : ℕ) (sort : Bool) (end : ℕ) (r : R
   pub clause : Clause
   pub is : clauseAt (bodyAt sort) (from text at) ≡ got clause (from text end)
   pub row : RowOf text clause r
-  pub ends : r .end ≡ end
 
 -- ---- the table
 
@@ -63,7 +68,7 @@ flagOf false = 0
 
 -- the eight numbers of a row
 abbrev pub rowNumbers : Row → List ℕ
-rowNumbers r = r .name ∷ r .typed ∷ r .numbered ∷ r .body ∷ r .end ∷ flagOf (r .sort) ∷ r .types ∷ r .numbers ∷ []
+rowNumbers r = r .name ∷ r .typed ∷ r .numbered ∷ r .body ∷ r .end ∷ r .key ∷ r .types ∷ r .numbers ∷ []
 
 -- each of them is below 65,536
 pub record ShortRow (r : Row) : Type 0 where
@@ -72,6 +77,7 @@ pub record ShortRow (r : Row) : Type 0 where
   pub numbered : r .numbered < 65536
   pub body : r .body < 65536
   pub end : r .end < 65536
+  pub key : r .key < 65536
   pub types : r .types < 65536
   pub numbers : r .numbers < 65536
 
@@ -83,10 +89,22 @@ rowIn work k = record {
   numbered = getD work (clausesAt + 8 * k + 2) 0;
   body = getD work (clausesAt + 8 * k + 3) 0;
   end = getD work (clausesAt + 8 * k + 4) 0;
-  sort = eqb (getD work (clausesAt + 8 * k + 5) 0) 1;
+  sort = leb 32768 (getD work (clausesAt + 8 * k + 5) 0);
+  key = getD work (clausesAt + 8 * k + 5) 0;
   types = getD work (clausesAt + 8 * k + 6) 0;
   numbers = getD work (clausesAt + 8 * k + 7) 0;
 }
+
+-- no row from number k on, up to the answer, has a key
+pub record KeyFrom (work : List ℕ) (key k n r : ℕ) : Type 0 where
+  pub least : k ≤ r
+  pub most : r ≤ n
+  pub others : (j : ℕ) → k ≤ j → j < r → ¬ (rowIn work j .key ≡ key)
+
+-- .. from the answer on, up to number k
+pub record KeyBelow (work : List ℕ) (key k r : ℕ) : Type 0 where
+  pub most : r ≤ k
+  pub others : (j : ℕ) → r ≤ j → j < k → ¬ (rowIn work j .key ≡ key)
 
 abbrev pub noNumber : Number
 noNumber = record { isOpen = false; name = []; plus = 0; place = 0 }

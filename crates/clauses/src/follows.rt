@@ -56,17 +56,18 @@ pub fn row_count(work: &[u16]) -> usize
     rows::wide(work[making_memory::CLAUSE_COUNT])
 }
 
+// .. after each row of the table with its key: the others are of other sorts or names.
 fn may_follow_all(text: &[u8], work: &[u16], n: usize, d: Row) -> bool
     requires { ⌜ (RowsThere (now text) (now work)) × ((n ≡ getD (now work) clauseCountAt 0) × (RowThere (now text) d)) ⌝ }
     ensures { λ r. ⌜ r ≡ followsFrom (now (text .entry)) (now (work .entry)) d 0 n ⌝ }
 {
-    let mut k: usize = 0;
+    let mut k = rows::key_from(work, d.key, 0, n);
     while k < n {
         let c = rows::row_at(work, k);
         if !may_follow(text, c, d) {
             return false;
         }
-        k = k + 1;
+        k = rows::key_from(work, d.key, k + 1, n);
     }
     true
 }

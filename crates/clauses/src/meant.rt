@@ -5,13 +5,14 @@ use crate::numbers::Num;
 use crate::rows;
 use crate::rows::Row;
 ghost use mathlib.Core.Path.{_≡_};
-ghost use mathlib.Core.Bool.{cond};
-ghost use Prim.Native.Nat.{suc, _+_, _*_, _≤_, _<_};
+ghost use Prim.Native.Nat.{_+_, _*_, _≤_, _<_};
 ghost use lib.ListN.{length, getD};
 ghost use Rattle.notation_calculus.specs.Making.{fits, fitAll, mostEntries};
 ghost use Rattle.making_memory.specs.Map.{scopeAt, clauseCountAt, makingSize};
+ghost use Rattle.words.specs.Next.{runAt};
+ghost use Rattle.clauses.specs.Rows.{keyFor};
 ghost use Rattle.clauses.specs.Numbers.{plainNumber, numbersFrom, NumbersThere};
-ghost use Rattle.clauses.specs.Follows.{RowThere, rowNamesake, RowsThere};
+ghost use Rattle.clauses.specs.Follows.{RowThere, RowsThere};
 ghost use Rattle.clauses.specs.Meant.{valuesIn, rowMeant, firstMeant, CanAsk, rowsUpTo, rowSeen};
 
 // What is named: a type or a term, by a name at a place, with so many type arguments and so many numbers, which stand in the scope from an
@@ -82,42 +83,33 @@ pub fn clause_for(text: &[u8], work: &[u16], q: Asked, seen: usize) -> usize
     requires { ⌜ (CanAsk (now text) (now work) q) × (seen ≤ getD (now work) clauseCountAt 0) ⌝ }
     ensures { λ r. ⌜ r ≡ firstMeant (now (text .entry)) (now (work .entry)) q 0 seen ⌝ }
 {
-    let mut k: usize = 0;
+    let key = rows::key_of(text, q.name, q.sort);
+    let mut k = rows::key_from(work, key, 0, seen);
     while k < seen {
         let r = rows::row_at(work, k);
         if meant(text, work, q, r) {
             return k;
         }
-        k = k + 1;
+        k = rows::key_from(work, key, k + 1, seen);
     }
     k
 }
 
-// Behind row k if it is of a sort and name, or what was found before.
-fn later(text: &[u8], r: Row, sort: bool, at: usize, k: usize, found: usize) -> usize
-    requires { ⌜ (r .name ≤ length (now text)) × ((at ≤ length (now text)) × (k < 256)) ⌝ }
-    ensures { λ x. ⌜ x ≡ cond (rowNamesake (now (text .entry)) r sort at) (suc k) found ⌝ }
-{
-    if follows::namesake(text, r, sort, at) {
-        return k + 1;
-    }
-    found
-}
-
-// How many clauses there are up to the last one of a sort and name; or else.
-fn up_to(text: &[u8], work: &[u16], sort: bool, at: usize, otherwise: usize) -> usize
-    requires { ⌜ (RowsThere (now text) (now work)) × (at ≤ length (now text)) ⌝ }
+// How many clauses there are up to the last one of a sort and name, whose key is known; or else. Sought from the last on.
+fn up_to(text: &[u8], work: &[u16], key: usize, sort: bool, at: usize, otherwise: usize) -> usize
+    requires { ⌜ (RowsThere (now text) (now work)) × ((at ≤ length (now text)) × (key ≡ keyFor sort (runAt (now text) at))) ⌝ }
     ensures { λ r. ⌜ r ≡ rowsUpTo (now (text .entry)) (now (work .entry)) sort at 0 (getD (now (work .entry)) clauseCountAt 0) otherwise ⌝ }
 {
     let n = follows::row_count(work);
-    let mut found = otherwise;
-    let mut k: usize = 0;
-    while k < n {
-        let r = rows::row_at(work, k);
-        found = later(text, r, sort, at, k, found);
-        k = k + 1;
+    let mut k = rows::key_below(work, key, n);
+    while 0 < k {
+        let r = rows::row_at(work, k - 1);
+        if follows::namesake(text, r, sort, at) {
+            return k;
+        }
+        k = rows::key_below(work, key, k - 1);
     }
-    found
+    otherwise
 }
 
 // Clause k knows those above it; with number parameters it knows all up to the last one of its name, so itself too.
@@ -129,5 +121,5 @@ pub fn seen_by(text: &[u8], work: &[u16], k: usize) -> usize
     if c.numbers == 0 {
         return k;
     }
-    up_to(text, work, c.sort, c.name, k)
+    up_to(text, work, c.key, c.sort, c.name, k)
 }

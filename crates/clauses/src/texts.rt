@@ -12,7 +12,7 @@ ghost use Rattle.words.specs.Lexed.{from, Lexed};
 ghost use Rattle.grammar.specs.Ends.{Ends, restOf};
 ghost use Rattle.making_memory.specs.Map.{makingSize};
 ghost use Rattle.clauses.specs.Rows.{bodyAt};
-ghost use Rattle.clauses.specs.Texts.{clauseItem, itemOf, TableHeld, Proceeds, ProceedsIn, saysSecond, TextRead};
+ghost use Rattle.clauses.specs.Texts.{clauseItem, itemOf, TableHeld, Proceeds, ProceedsIn, definesBy, Defined, refusedText, ItemsRead, saysSecond, TextRead};
 
 const TYPE: u8 = 5;
 
@@ -20,11 +20,13 @@ const EDITION: u8 = 6;
 
 const TABLE: u8 = 7;
 
-// A refusal's number and its place; or 0, the place of the text's end, and the offset of its items.
+// A refusal's number and its place; or 0, the place of the text's end, the offset of its first line `table` (its end if it has none), and how
+// many clauses stand above that.
 pub struct Whole {
     pub number: u8,
     pub place: usize,
     pub items: usize,
+    pub seen: usize,
 }
 
 // Where a definition of a sort ends.
@@ -72,6 +74,35 @@ fn item(text: &[u8], work: &mut [u16], at: usize) -> End
     definition(text, work, at, false)
 }
 
+// A definition begins with a word.
+fn defines(kind: u8) -> bool
+    ensures { λ r. ⌜ r ≡ definesBy kind ⌝ }
+{
+    if kind == 0 {
+        return false;
+    }
+    kind != TABLE
+}
+
+// The definitions from an offset on, up to the first line `table`. The lines are worked out later, and what stands above them is not read again
+// for that.
+fn definitions(text: &[u8], work: &mut [u16], start: usize) -> End
+    requires { ⌜ (Lexed (now text) start) × (TableHeld (now text) (now work)) ⌝ }
+    ensures { λ r. ⌜ Defined (now (text .entry)) start (now (work .entry)) (now (work .exit)) r ⌝ }
+{
+    let mut at = start;
+    let mut w = words::word_at(text, at);
+    while defines(w.kind) {
+        let e = item(text, work, at);
+        if e.number != 0 {
+            return e;
+        }
+        at = e.at;
+        w = words::word_at(text, at);
+    }
+    End { number: 0, at }
+}
+
 // All items from an offset on, up to the text's end.
 fn all_items(text: &[u8], work: &mut [u16], start: usize) -> End
     requires { ⌜ (Lexed (now text) start) × (TableHeld (now text) (now work)) ⌝ }
@@ -103,6 +134,40 @@ fn says_second(text: &[u8]) -> bool
     v.value == 2
 }
 
+fn refused(number: u8, place: usize) -> Whole
+    ensures { λ r. ⌜ r ≡ refusedText number place ⌝ }
+{
+    Whole {
+        number,
+        place,
+        items: 0,
+        seen: 0,
+    }
+}
+
+// The items of a text from an offset on.
+fn read_items(text: &[u8], work: &mut [u16], start: usize) -> Whole
+    requires { ⌜ (Lexed (now text) start) × (TableHeld (now text) (now work)) ⌝ }
+    ensures { λ r. ⌜ ItemsRead (now (text .entry)) start (now (work .entry)) (now (work .exit)) r ⌝ }
+{
+    let d = definitions(text, work, start);
+    if d.number != 0 {
+        return refused(d.number, d.at);
+    }
+    let seen = follows::row_count(work);
+    let r = all_items(text, work, d.at);
+    if r.number != 0 {
+        return refused(r.number, r.at);
+    }
+    let w = words::word_at(text, r.at);
+    Whole {
+        number: 0,
+        place: w.start,
+        items: d.at,
+        seen,
+    }
+}
+
 // The whole text: its edition, and its clauses in the table.
 pub fn read(text: &[u8], work: &mut [u16]) -> Whole
     requires { ⌜ (Lexed (now text) 0) × ((length (now text) ≤ 65535) × (makingSize ≤ length (now work))) ⌝ }
@@ -110,26 +175,9 @@ pub fn read(text: &[u8], work: &mut [u16]) -> Whole
 {
     let e = items::edition_end(text, 0);
     if e.number != 0 {
-        return Whole {
-            number: e.number,
-            place: e.at,
-            items: 0,
-        };
+        return refused(e.number, e.at);
     }
     work[making_memory::CLAUSE_COUNT] = 0;
     work[making_memory::SECOND] = rows::flag(says_second(text));
-    let r = all_items(text, work, e.at);
-    if r.number != 0 {
-        return Whole {
-            number: r.number,
-            place: r.at,
-            items: 0,
-        };
-    }
-    let w = words::word_at(text, r.at);
-    Whole {
-        number: 0,
-        place: w.start,
-        items: e.at,
-    }
+    read_items(text, work, e.at)
 }

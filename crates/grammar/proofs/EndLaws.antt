@@ -1,14 +1,14 @@
 -- Ends put together: a step behind a step, a loop of steps; words by their codes. Assumes nothing.
 use Prim.Native.Nat.{ℕ, _+_, _≤_}
-use mathlib.Core.Path.{_≡_, refl, sym, ap, _∙_}
-use mathlib.Core.Bool.{Bool, true, false}
+use mathlib.Core.Path.{_≡_, refl, sym, ap, subst, _∙_}
+use mathlib.Core.Bool.{Bool, true, false, not}
 use mathlib.Core.List.{List}
 use native.Mathlib.Omega.{arith}
-use lib.Dec.{eqb}
+use lib.Dec.{T, eqb}
 use lib.ListN.{length}
 use borrow.Author.Tests.{eq-eqb, ne-eqb}
 use Rattle.calculus.specs.Answer.{Answer, good, refused, _>>=_, refuse, need}
-use Rattle.notation_calculus.specs.Words.{Sign, signCode, ends, fun, fix, lets, within, type, edition, table, arrow, linear, times, round, endRound, equals, comma, colon, dot, square, endSquare, curly, endCurly, plus, Token, sign, part, number, name, Word}
+use Rattle.notation_calculus.specs.Words.{Sign, signCode, ends, fun, fix, lets, within, type, edition, table, arrow, linear, times, round, endRound, equals, comma, colon, dot, square, endSquare, curly, endCurly, plus, power, Token, sign, part, number, name, Word, between}
 use Rattle.notation_calculus.specs.Grammar.{peek, behind, place, isToken, is, expect, isName, isPart}
 use Rattle.words.specs.Tables.{tokenCode}
 use Rattle.words.specs.Next.{Said}
@@ -19,41 +19,54 @@ use Rattle.grammar.specs.Skips.{Step, expectCode, isNumber}
 
 -- ---- tokens by their codes
 
-pub sign-small : (t : Sign) → signCode t ≤ 21
-sign-small ends = omega arith
-sign-small fun = omega arith
-sign-small fix = omega arith
-sign-small lets = omega arith
-sign-small within = omega arith
-sign-small type = omega arith
-sign-small edition = omega arith
-sign-small table = omega arith
-sign-small arrow = omega arith
-sign-small linear = omega arith
-sign-small times = omega arith
-sign-small round = omega arith
-sign-small endRound = omega arith
-sign-small equals = omega arith
-sign-small comma = omega arith
-sign-small colon = omega arith
-sign-small dot = omega arith
-sign-small square = omega arith
-sign-small endSquare = omega arith
-sign-small curly = omega arith
-sign-small endCurly = omega arith
-sign-small plus = omega arith
+-- the codes of parts, numbers and names
+abbrev apart : ℕ → Bool
+apart n = not (between 22 24 n)
+
+sign-apart : (t : Sign) → T (apart (signCode t))
+sign-apart ends = tt
+sign-apart fun = tt
+sign-apart fix = tt
+sign-apart lets = tt
+sign-apart within = tt
+sign-apart type = tt
+sign-apart edition = tt
+sign-apart table = tt
+sign-apart arrow = tt
+sign-apart linear = tt
+sign-apart times = tt
+sign-apart round = tt
+sign-apart endRound = tt
+sign-apart equals = tt
+sign-apart comma = tt
+sign-apart colon = tt
+sign-apart dot = tt
+sign-apart square = tt
+sign-apart endSquare = tt
+sign-apart curly = tt
+sign-apart endCurly = tt
+sign-apart plus = tt
+sign-apart power = tt
+
+-- .. are no sign's
+pub sign-not : (t : Sign) (n : ℕ) → T (between 22 24 n) → ¬ (signCode t ≡ n)
+sign-not t n b e = both (between 22 24 n) b (subst (λ (c : ℕ). T (apart c)) e (sign-apart t))
+  where
+    both : (x : Bool) → T x → T (not x) → ⊥
+    both true p q = q
+    both false p q = p
 
 pub token-is : (s : Sign) (t : Token) → isToken s t ≡ eqb (signCode s) (tokenCode t)
 token-is s (sign t) = refl
-token-is s (part p) = sym (ne-eqb (signCode s) 22 (λ e. absurd (omega (arith, e, sign-small s))))
-token-is s (number n) = sym (ne-eqb (signCode s) 23 (λ e. absurd (omega (arith, e, sign-small s))))
-token-is s (name n) = sym (ne-eqb (signCode s) 24 (λ e. absurd (omega (arith, e, sign-small s))))
+token-is s (part p) = sym (ne-eqb (signCode s) 22 (sign-not s 22 tt))
+token-is s (number n) = sym (ne-eqb (signCode s) 23 (sign-not s 23 tt))
+token-is s (name n) = sym (ne-eqb (signCode s) 24 (sign-not s 24 tt))
 
 pub expect-code : (s : Sign) (ws : List Word) → expect s ws ≡ expectCode (signCode s) ws
 expect-code s ws = ap (λ (b : Bool). need b 32 (place ws) >>= λ _. good (behind ws)) (token-is s (peek ws .token))
 
 pub name-yes : (t : Token) → tokenCode t ≡ 24 → isName t ≡ true
-name-yes (sign t) e = absurd (omega (arith, e, sign-small t))
+name-yes (sign t) e = absurd (sign-not t 24 tt e)
 name-yes (part p) e = absurd (omega arith)
 name-yes (number n) e = absurd (omega arith)
 name-yes (name n) e = refl
@@ -65,7 +78,7 @@ name-no (number n) e = refl
 name-no (name n) e = absurd (e refl)
 
 pub number-yes : (t : Token) → tokenCode t ≡ 23 → isNumber t ≡ true
-number-yes (sign t) e = absurd (omega (arith, e, sign-small t))
+number-yes (sign t) e = absurd (sign-not t 23 tt e)
 number-yes (part p) e = absurd (omega arith)
 number-yes (number n) e = refl
 number-yes (name n) e = absurd (omega arith)
@@ -77,7 +90,7 @@ number-no (number n) e = absurd (e refl)
 number-no (name n) e = refl
 
 pub part-yes : (t : Token) → tokenCode t ≡ 22 → isPart t ≡ true
-part-yes (sign t) e = absurd (omega (arith, e, sign-small t))
+part-yes (sign t) e = absurd (sign-not t 22 tt e)
 part-yes (part p) e = refl
 part-yes (number n) e = absurd (omega arith)
 part-yes (name n) e = absurd (omega arith)

@@ -18,7 +18,7 @@ use Rattle.words.specs.Lexed.{from, Onward, Stands}
 use Rattle.grammar.specs.declared.steps.End.{End}
 use Rattle.grammar.specs.Ends.{Ends, EndsIn, restOf, typeStep, termStep}
 use Rattle.grammar.specs.Skips.{Step, expectCode, nameEnd, listMore, listEnd, groupEnd, numbersEnd, namesList, clauseEnd, itemEnd, isEdition, editionEnd}
-use Rattle.grammar.proofs.EndLaws.{sign-small, expect-code, is-yes, is-no, ends-word, ends-due, ends-as, step-is}
+use Rattle.grammar.proofs.EndLaws.{sign-not, expect-code, is-yes, is-no, ends-word, ends-due, ends-as, step-is}
 use Rattle.grammar.proofs.StepLaws.{DueAt}
 use Rattle.grammar.proofs.LoopLaws.{both-steps, Loops, list-by}
 use Rattle.grammar.proofs.NameLaws.{loop-from}
@@ -124,7 +124,7 @@ module _ (text : List ℕ) (at : ℕ) (w : Said) (s : Stands text at w) where
     by-code (name n) f = refl
 
     by-value : (t : Token) → tokenCode t ≡ 23 → isEdition t ≡ (eqb (tokenValue t) 1 || eqb (tokenValue t) 2)
-    by-value (sign t) f = absurd (omega (arith, f, sign-small t))
+    by-value (sign t) f = absurd (sign-not t 23 tt f)
     by-value (part p) f = absurd (omega arith)
     by-value (number n) f = refl
     by-value (name n) f = absurd (omega arith)

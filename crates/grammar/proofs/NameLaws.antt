@@ -12,7 +12,7 @@ use Rattle.words.specs.Next.{Said}
 use Rattle.words.specs.Lexed.{from, Stands}
 use Rattle.grammar.specs.declared.steps.End.{End}
 use Rattle.grammar.specs.Ends.{Ends, EndsIn}
-use Rattle.grammar.specs.Skips.{Step, expectCode, nameEnd, listMore, namesMore, namesEnd, namesList, apartEnd, letNamesEnd}
+use Rattle.grammar.specs.Skips.{Step, expectCode, nameEnd, listMore, namesMore, namesEnd, namesList, apartEnd, bindsEnd, letNamesEnd}
 use Rattle.grammar.proofs.EndLaws.{is-yes, is-no, ends-as, ends-bad, ends-stop, step-is}
 use Rattle.grammar.proofs.StepLaws.{DueAt}
 use Rattle.grammar.proofs.LoopLaws.{both-steps, Loops, list-by}
@@ -81,6 +81,14 @@ module _ (text : List ℕ) (at : ℕ) (w : Said) (s : Stands text at w) where
   let-apart e r u =
       let o = s .onward (λ q. omega arith) in
       ends-as text _ _ _ _ r (omega (arith, o .fewer)) (ap (λ (b : Bool). cond b (apartEnd (length (from text at)) (behind (from text at))) (nameEnd (from text at))) (is-yes text at w s round e) ∙ ap (λ (us : List Word). apartEnd (length (from text at)) us) (o .rest)) (u (length (from text at)) (o .fewer))
+
+  pub binds-apart : w .code ≡ 11 → (r : End) → EndsIn text (w .end) apartEnd r → EndsIn text at bindsEnd r
+  binds-apart e r u n h =
+      let o = s .onward (λ q. omega arith) in
+      ends-as text _ _ _ _ r (omega (arith, o .fewer)) (ap (λ (b : Bool). cond b (apartEnd (length (from text at)) (behind (from text at))) (namesEnd n (from text at))) (is-yes text at w s round e) ∙ ap (λ (us : List Word). apartEnd (length (from text at)) us) (o .rest)) (u (length (from text at)) (o .fewer))
+
+  pub binds-names : ¬ (w .code ≡ 11) → (r : End) → EndsIn text at namesEnd r → EndsIn text at bindsEnd r
+  binds-names e r u n h = ends-as text _ _ _ _ r (omega arith) (ap (λ (b : Bool). cond b (apartEnd (length (from text at)) (behind (from text at))) (namesEnd n (from text at))) (is-no text at w s round e)) (u n h)
 
   pub let-name : ¬ (w .code ≡ 11) → letNamesEnd (from text at) ≡ nameEnd (from text at)
   let-name e = ap (λ (b : Bool). cond b (apartEnd (length (from text at)) (behind (from text at))) (nameEnd (from text at))) (is-no text at w s round e)

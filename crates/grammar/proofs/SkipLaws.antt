@@ -8,12 +8,12 @@ use lib.Dec.{eqb, leb}
 use lib.ListN.{length}
 use borrow.Author.Tests.{le-leb}
 use Rattle.calculus.specs.Answer.{Answer, good, refused, _>>=_, refuse, need}
-use Rattle.notation_calculus.specs.Words.{Sign, fun, fix, lets, within, equals, dot, comma, colon, plus, round, square, endSquare, curly, endCurly, endRound, times, arrow, linear, Token, sign, part, number, name, Word}
+use Rattle.notation_calculus.specs.Words.{Sign, fun, fix, lets, within, equals, dot, comma, colon, plus, power, round, square, endSquare, curly, endCurly, endRound, times, arrow, linear, Token, sign, part, number, name, Word}
 use Rattle.notation_calculus.specs.Trees.{Bound, Number, TypeTree, typed, TypeTrees, Tree, Trees}
 use Rattle.notation_calculus.specs.Trees as Trees
-use Rattle.notation_calculus.specs.Grammar.{Got, got, peek, behind, place, isToken, is, expect, boundName, nameAt, isName, valueOf, listFrom, readNumber, numberAt, numbersAt, typesOf, argumentsAt, typeAtomOf, productAt, arrowAt, typeAt, beginsAtom, treesFrom, readAtom, atomsFrom, spineAt, namesFrom, boundBody, letBody, letAt, termBy, termAt}
+use Rattle.notation_calculus.specs.Grammar.{Got, got, peek, behind, place, isToken, is, expect, boundName, nameAt, isName, valueOf, listFrom, readNumber, numberAt, numbersAt, typesOf, argumentsAt, onesAt, typeAtomOf, productAt, arrowAt, typeAt, beginsAtom, treesFrom, readAtom, atomsFrom, spineAt, namesFrom, bindsEach, bindsPair, bindsFrom, functionTree, boundBody, letBody, letAt, termBy, termAt}
 use Rattle.grammar.specs.Ends.{restOf, typeStep, termStep}
-use Rattle.grammar.specs.Skips.{Step, nameEnd, listMore, listEnd, groupEnd, isNumber, numberBy, numberEnd, numbersEnd, useEnd, typeAtomBy, productEnd, arrowEnd, typeLevel, treesEnd, tupleEnd, atomBy, atomEnd, atomsEnd, spineEnd, namesMore, namesEnd, boundEnd, letBodyEnd, expectCode, namesList, apartEnd, letNamesEnd, termLevel}
+use Rattle.grammar.specs.Skips.{Step, nameEnd, listMore, listEnd, groupEnd, isNumber, numberBy, numberEnd, onesEnd, numbersEnd, useEnd, typeAtomBy, productEnd, arrowEnd, typeLevel, treesEnd, tupleEnd, atomBy, atomEnd, atomsEnd, spineEnd, namesMore, namesEnd, boundEnd, letBodyEnd, expectCode, namesList, apartEnd, bindsEnd, letNamesEnd, termLevel}
 use Rattle.grammar.proofs.EndLaws.{expect-code}
 
 pub through : {A B : Type 0} (m : Answer (Got A)) (m′ : Answer (List Word)) (f : Got A → Answer (Got B)) (g : Step) → restOf m ≡ m′ → ((a : Got A) → restOf (f a) ≡ g (a .rest)) → restOf (m >>= f) ≡ (m′ >>= g)
@@ -79,8 +79,11 @@ number-by (part p) ws = refl
 number-by (number n) ws = refl
 number-by (name n) ws = either (is plus (behind ws)) _ _ _ _ (value-by (peek (behind (behind ws)) .token) (place (behind (behind ws))) (λ k. record { isOpen = true; name = n; plus = k; place = place ws }) (behind (behind (behind ws)))) refl
 
-number-rest : (ws : List Word) → restOf (numberAt ws) ≡ numberEnd ws
+pub number-rest : (ws : List Word) → restOf (numberAt ws) ≡ numberEnd ws
 number-rest ws = number-by (peek ws .token) ws
+
+ones-rest : (ws : List Word) → restOf (onesAt ws) ≡ onesEnd ws
+ones-rest ws = either (is power ws) _ _ (numberEnd (behind ws)) (good ws) (made (numberAt (behind ws)) (λ k. Trees.ones (place ws) k) ∙ number-rest (behind ws)) refl
 
 pub numbers-rest : (ws : List Word) → restOf (numbersAt ws) ≡ numbersEnd ws
 numbers-rest ws = group-rest numberAt numberEnd number-rest curly endCurly (λ ns. ns) [] ws
@@ -97,7 +100,7 @@ module _ (read : List Word → Answer (Got TypeTree)) (read′ : Step) (same : (
   atom-by : (t : Token) (ws : List Word) → restOf (typeAtomOf read t ws) ≡ typeAtomBy read′ t ws
   atom-by (sign t) ws = across (need (isToken round (sign t)) 32 (place ws)) _ (λ _. read′ (behind ws) >>= λ us. expect endRound us) (λ _. through (read (behind ws)) _ _ (λ us. expect endRound us) (same (behind ws)) (λ x. kept (expect endRound (x .rest)) (Trees.inside (x .value))))
   atom-by (part p) ws = refl
-  atom-by (number n) ws = across (need (eqb n 1) 32 (place ws)) _ (λ _. good (behind ws)) (λ _. refl)
+  atom-by (number n) ws = across (need (eqb n 1) 32 (place ws)) _ (λ _. onesEnd (behind ws)) (λ _. ones-rest (behind ws))
   atom-by (name n) ws = use-rest (λ ts ks. Trees.typeNamed (place ws) n ts ks) (behind ws)
 
   product-rest : (ws : List Word) → restOf (productAt read ws) ≡ productEnd read′ ws
@@ -183,32 +186,42 @@ module _ {A : Type 0} (read : List Word → Answer (Got A)) where
   filled zero ws = tt
   filled (suc n) ws = filled-on (read ws) n
 
--- ---- let
+-- ---- names in parentheses
 
-module _ (read : List Word → Answer (Got Tree)) (read′ : Step) (same : (us : List Word) → restOf (read us) ≡ read′ us) (build : List Bound → Tree → Tree → Tree) where
+module _ {B : Type 0} (go : List Bound → List Word → Answer (Got B)) (go′ : Step) (same : (xs : List Bound) (us : List Word) → restOf (go xs us) ≡ go′ us) where
   -- what follows the names in parentheses
-  abbrev apartOn : Got (List Bound) → Answer (Got Tree)
-  apartOn xs = need (leb 2 (length (xs .value))) 32 (place (xs .rest)) >>= λ _. expect endRound (xs .rest) >>= λ after. letBody read (build (xs .value)) after
+  abbrev apartOn : Got (List Bound) → Answer (Got B)
+  apartOn xs = need (leb 2 (length (xs .value))) 32 (place (xs .rest)) >>= λ _. expect endRound (xs .rest) >>= λ after. go (xs .value) after
 
-  apart-list : (x : Bound) (l : Answer (Got (List Bound))) (l′ : Answer (List Word)) → restOf l ≡ l′ → Filled l → restOf ((l >>= λ xs. got (x ∷ xs .value) (xs .rest)) >>= apartOn) ≡ ((l′ >>= λ us. expectCode 12 us) >>= λ vs. letBodyEnd read′ vs)
+  apart-list : (x : Bound) (l : Answer (Got (List Bound))) (l′ : Answer (List Word)) → restOf l ≡ l′ → Filled l → restOf ((l >>= λ xs. got (x ∷ xs .value) (xs .rest)) >>= apartOn) ≡ ((l′ >>= λ us. expectCode 12 us) >>= λ vs. go′ vs)
   apart-list x (good xs) l′ e f =
-      ap (λ (b : Bool). restOf (need b 32 (place (xs .rest)) >>= λ _. expect endRound (xs .rest) >>= λ after. letBody read (build (x ∷ xs .value)) after)) (le-leb 2 (length (x ∷ xs .value)) (omega arith))
-      ∙ across (expect endRound (xs .rest)) _ (λ vs. letBodyEnd read′ vs) (λ after. let-body-rest read read′ same (build (x ∷ xs .value)) after)
-      ∙ ap (λ (m : Answer (List Word)). m >>= λ vs. letBodyEnd read′ vs) (expect-code endRound (xs .rest))
-      ∙ ap (λ (m : Answer (List Word)). (m >>= λ us. expectCode 12 us) >>= λ vs. letBodyEnd read′ vs) e
-  apart-list x (refused why) l′ e f = ap (λ (m : Answer (List Word)). (m >>= λ us. expectCode 12 us) >>= λ vs. letBodyEnd read′ vs) e
+      ap (λ (b : Bool). restOf (need b 32 (place (xs .rest)) >>= λ _. expect endRound (xs .rest) >>= λ after. go (x ∷ xs .value) after)) (le-leb 2 (length (x ∷ xs .value)) (omega arith))
+      ∙ across (expect endRound (xs .rest)) _ (λ vs. go′ vs) (λ after. same (x ∷ xs .value) after)
+      ∙ ap (λ (m : Answer (List Word)). m >>= λ vs. go′ vs) (expect-code endRound (xs .rest))
+      ∙ ap (λ (m : Answer (List Word)). (m >>= λ us. expectCode 12 us) >>= λ vs. go′ vs) e
+  apart-list x (refused why) l′ e f = ap (λ (m : Answer (List Word)). (m >>= λ us. expectCode 12 us) >>= λ vs. go′ vs) e
 
-  apart-comma : (b : Bool) (x : Got Bound) (k : ℕ) → restOf (cond b (listFrom nameAt k (behind (x .rest)) >>= λ xs. got (x .value ∷ xs .value) (xs .rest)) (got (x .value ∷ []) (x .rest)) >>= apartOn) ≡ ((need b 32 (place (x .rest)) >>= λ _. namesList 12 k (behind (x .rest))) >>= λ vs. letBodyEnd read′ vs)
+  apart-comma : (b : Bool) (x : Got Bound) (k : ℕ) → restOf (cond b (listFrom nameAt k (behind (x .rest)) >>= λ xs. got (x .value ∷ xs .value) (xs .rest)) (got (x .value ∷ []) (x .rest)) >>= apartOn) ≡ ((need b 32 (place (x .rest)) >>= λ _. namesList 12 k (behind (x .rest))) >>= λ vs. go′ vs)
   apart-comma true x k = apart-list (x .value) (listFrom nameAt k (behind (x .rest))) _ (list-rest nameAt nameEnd name-rest k (behind (x .rest))) (filled nameAt k (behind (x .rest)))
   apart-comma false x k = refl
 
-  apart-name : (m : Answer (Got Bound)) (m′ : Answer (List Word)) (k : ℕ) → restOf m ≡ m′ → restOf ((m >>= λ x. cond (is comma (x .rest)) (listFrom nameAt k (behind (x .rest)) >>= λ xs. got (x .value ∷ xs .value) (xs .rest)) (got (x .value ∷ []) (x .rest))) >>= apartOn) ≡ ((m′ >>= λ us. need (is comma us) 32 (place us) >>= λ _. namesList 12 k (behind us)) >>= λ vs. letBodyEnd read′ vs)
-  apart-name (good x) m′ k e = apart-comma (is comma (x .rest)) x k ∙ ap (λ (m : Answer (List Word)). (m >>= λ us. need (is comma us) 32 (place us) >>= λ _. namesList 12 k (behind us)) >>= λ vs. letBodyEnd read′ vs) e
-  apart-name (refused why) m′ k e = ap (λ (m : Answer (List Word)). (m >>= λ us. need (is comma us) 32 (place us) >>= λ _. namesList 12 k (behind us)) >>= λ vs. letBodyEnd read′ vs) e
+  apart-name : (m : Answer (Got Bound)) (m′ : Answer (List Word)) (k : ℕ) → restOf m ≡ m′ → restOf ((m >>= λ x. cond (is comma (x .rest)) (listFrom nameAt k (behind (x .rest)) >>= λ xs. got (x .value ∷ xs .value) (xs .rest)) (got (x .value ∷ []) (x .rest))) >>= apartOn) ≡ ((m′ >>= λ us. need (is comma us) 32 (place us) >>= λ _. namesList 12 k (behind us)) >>= λ vs. go′ vs)
+  apart-name (good x) m′ k e = apart-comma (is comma (x .rest)) x k ∙ ap (λ (m : Answer (List Word)). (m >>= λ us. need (is comma us) 32 (place us) >>= λ _. namesList 12 k (behind us)) >>= λ vs. go′ vs) e
+  apart-name (refused why) m′ k e = ap (λ (m : Answer (List Word)). (m >>= λ us. need (is comma us) 32 (place us) >>= λ _. namesList 12 k (behind us)) >>= λ vs. go′ vs) e
 
-  apart-rest : (n : ℕ) (ws : List Word) → restOf (listFrom nameAt n ws >>= apartOn) ≡ (apartEnd n ws >>= λ vs. letBodyEnd read′ vs)
+  apart-rest : (n : ℕ) (ws : List Word) → restOf (listFrom nameAt n ws >>= apartOn) ≡ (apartEnd n ws >>= λ vs. go′ vs)
   apart-rest zero ws = refl
   apart-rest (suc k) ws = apart-name (nameAt ws) (nameEnd ws) k (name-rest ws)
+
+plain : (m : Answer (List Word)) → (m >>= λ us. good us) ≡ m
+plain (good ws) = refl
+plain (refused why) = refl
+
+-- what `fun` binds
+binds-rest : (n : ℕ) (ws : List Word) → restOf (bindsFrom n ws) ≡ bindsEnd n ws
+binds-rest n ws = either (is round ws) _ _ (apartEnd (length ws) (behind ws)) (namesEnd n ws) (apart-rest (λ xs us. got (bindsPair (place ws) xs) us) (λ us. good us) (λ xs us. refl) (length ws) (behind ws) ∙ plain (apartEnd (length ws) (behind ws))) (made (namesFrom n ws) (λ xs. bindsEach xs) ∙ names-rest n ws)
+
+-- ---- let
 
 cond-then : (b : Bool) (x y : Answer (List Word)) (go : Step) → cond b (x >>= go) (y >>= go) ≡ (cond b x y >>= go)
 cond-then true x y go = refl
@@ -216,12 +229,12 @@ cond-then false x y go = refl
 
 module _ (read : List Word → Answer (Got Tree)) (read′ : Step) (same : (us : List Word) → restOf (read us) ≡ read′ us) where
   let-rest : (at : ℕ) (ws : List Word) → restOf (letAt read at ws) ≡ (letNamesEnd ws >>= λ us. letBodyEnd read′ us)
-  let-rest at ws = either (is round ws) _ _ (apartEnd (length ws) (behind ws) >>= λ us. letBodyEnd read′ us) (nameEnd ws >>= λ us. letBodyEnd read′ us) (apart-rest read read′ same (λ xs. Trees.apart at xs) (length ws) (behind ws)) (through (nameAt ws) _ _ (λ us. letBodyEnd read′ us) (name-rest ws) (λ x. let-body-rest read read′ same (Trees.name at (x .value)) (x .rest))) ∙ cond-then (is round ws) (apartEnd (length ws) (behind ws)) (nameEnd ws) (λ us. letBodyEnd read′ us)
+  let-rest at ws = either (is round ws) _ _ (apartEnd (length ws) (behind ws) >>= λ us. letBodyEnd read′ us) (nameEnd ws >>= λ us. letBodyEnd read′ us) (apart-rest (λ xs us. letBody read (Trees.apart at xs) us) (λ us. letBodyEnd read′ us) (λ xs us. let-body-rest read read′ same (Trees.apart at xs) us) (length ws) (behind ws)) (through (nameAt ws) _ _ (λ us. letBodyEnd read′ us) (name-rest ws) (λ x. let-body-rest read read′ same (Trees.name at (x .value)) (x .rest))) ∙ cond-then (is round ws) (apartEnd (length ws) (behind ws)) (nameEnd ws) (λ us. letBodyEnd read′ us)
 
   module _ (readType : List Word → Answer (Got TypeTree)) (readType′ : Step) (sameType : (us : List Word) → restOf (readType us) ≡ readType′ us) where
     level-rest : (ws : List Word) → restOf (termBy read readType ws) ≡ termLevel read′ readType′ ws
     level-rest ws =
-        either (is fun ws) _ _ (namesEnd (length ws) (behind ws) >>= λ us. boundEnd read′ readType′ us) _ (through (namesFrom (length ws) (behind ws)) _ _ (λ us. boundEnd read′ readType′ us) (names-rest (length ws) (behind ws)) (λ xs. bound-rest read read′ same readType readType′ sameType (Trees.fun (place ws) (xs .value)) (xs .rest)))
+        either (is fun ws) _ _ (bindsEnd (length ws) (behind ws) >>= λ us. boundEnd read′ readType′ us) _ (through (bindsFrom (length ws) (behind ws)) _ _ (λ us. boundEnd read′ readType′ us) (binds-rest (length ws) (behind ws)) (λ xs. bound-rest read read′ same readType readType′ sameType (functionTree (place ws) (xs .value)) (xs .rest)))
         (either (is fix ws) _ _ (nameEnd (behind ws) >>= λ us. boundEnd read′ readType′ us) _ (through (nameAt (behind ws)) _ _ (λ us. boundEnd read′ readType′ us) (name-rest (behind ws)) (λ x. bound-rest read read′ same readType readType′ sameType (Trees.fix (place ws) (x .value)) (x .rest)))
         (either (is lets ws) _ _ (letNamesEnd (behind ws) >>= λ us. letBodyEnd read′ us) _ (let-rest (place ws) (behind ws)) (spine-rest read read′ same readType readType′ sameType ws)))
 

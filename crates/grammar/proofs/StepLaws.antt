@@ -7,28 +7,28 @@ use native.Mathlib.Omega.{arith}
 use lib.ListN.{length}
 use borrow.Author.Tests.{eq-eqb, ne-eqb}
 use Rattle.calculus.specs.Answer.{Answer, good, refused, _>>=_, refuse, need}
-use Rattle.notation_calculus.specs.Words.{plus, Token, sign, part, number, name, Word}
+use Rattle.notation_calculus.specs.Words.{plus, power, Token, sign, part, number, name, Word}
 use Rattle.notation_calculus.specs.Grammar.{peek, behind, place}
 use Rattle.words.specs.Tables.{tokenCode}
 use Rattle.words.specs.Next.{Said}
 use Rattle.words.specs.Lexed.{from, Onward, Stands}
 use Rattle.grammar.specs.declared.steps.End.{End}
 use Rattle.grammar.specs.Ends.{Ends}
-use Rattle.grammar.specs.Skips.{expectCode, nameEnd, isNumber, plusEnd, numberBy, numberEnd}
-use Rattle.grammar.proofs.EndLaws.{sign-small, name-yes, name-no, number-yes, number-no, is-yes, is-no, ends-word, ends-due, ends-as}
+use Rattle.grammar.specs.Skips.{expectCode, nameEnd, isNumber, plusEnd, numberBy, numberEnd, onesEnd}
+use Rattle.grammar.proofs.EndLaws.{sign-not, name-yes, name-no, number-yes, number-no, is-yes, is-no, ends-word, ends-due, ends-as}
 
 -- what `refused(32, w.start)` gives
 abbrev pub DueAt : End → Said → Type 0
 DueAt r w = (r .number ≡ 32) × (r .at ≡ w .place)
 
 number-by-number : (t : Token) (ws : List Word) → tokenCode t ≡ 23 → numberBy t ws ≡ good (behind ws)
-number-by-number (sign t) ws e = absurd (omega (arith, e, sign-small t))
+number-by-number (sign t) ws e = absurd (sign-not t 23 tt e)
 number-by-number (part p) ws e = absurd (omega arith)
 number-by-number (number n) ws e = refl
 number-by-number (name n) ws e = absurd (omega arith)
 
 number-by-name : (t : Token) (ws : List Word) → tokenCode t ≡ 24 → numberBy t ws ≡ plusEnd (behind ws)
-number-by-name (sign t) ws e = absurd (omega (arith, e, sign-small t))
+number-by-name (sign t) ws e = absurd (sign-not t 24 tt e)
 number-by-name (part p) ws e = absurd (omega arith)
 number-by-name (number n) ws e = absurd (omega arith)
 number-by-name (name n) ws e = refl
@@ -101,3 +101,17 @@ module _ (text : List ℕ) (at : ℕ) (w : Said) (s : Stands text at w) where
 
   pub number-bad : ¬ (w .code ≡ 23) → ¬ (w .code ≡ 24) → (r : End) → DueAt r w → Ends text (length here) (numberEnd here) r
   number-bad e f r d = ends-due text at (length here) w (numberEnd here) r s d (number-by-none (peek here .token) here (code-not 23 e) (code-not 24 f))
+
+  -- ---- behind a 1
+
+  abbrev onesBy : Bool → List Word → Answer (List Word)
+  onesBy b us = cond b (numberEnd us) (good here)
+
+  pub ones-none : ¬ (w .code ≡ 25) → onesEnd here ≡ good here
+  ones-none e = ap (λ (b : Bool). onesBy b (behind here)) (is-no text at w s power e)
+
+  pub power-on : w .code ≡ 25 → Onward text at (w .end)
+  power-on e = s .onward (not-end 24 e)
+
+  pub ones-on : (e : w .code ≡ 25) (r : End) → Ends text (length (from text (w .end))) (numberEnd (from text (w .end))) r → Ends text (length here + 1) (onesEnd here) r
+  ones-on e r t = ends-as text _ (length here + 1) _ (onesEnd here) r (omega (arith, power-on e .fewer)) (ap (λ (b : Bool). onesBy b (behind here)) (is-yes text at w s power e) ∙ ap numberEnd (power-on e .rest)) t

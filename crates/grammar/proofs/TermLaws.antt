@@ -14,8 +14,8 @@ use Rattle.words.specs.Next.{Said}
 use Rattle.words.specs.Lexed.{from, Lexed, Onward, Stands}
 use Rattle.grammar.specs.declared.steps.End.{End}
 use Rattle.grammar.specs.Ends.{Ends, EndsIn, typeStep, termStep}
-use Rattle.grammar.specs.Skips.{Step, expectCode, nameEnd, useEnd, treesEnd, tupleEnd, atomBy, atomEnd, atomsEnd, spineEnd, namesEnd, boundEnd, letBodyEnd, letNamesEnd}
-use Rattle.grammar.proofs.EndLaws.{sign-small, expect-code, is-yes, is-no, ends-word, ends-bad, ends-due, ends-as, ends-stop, step-is}
+use Rattle.grammar.specs.Skips.{Step, expectCode, nameEnd, useEnd, treesEnd, tupleEnd, atomBy, atomEnd, atomsEnd, spineEnd, bindsEnd, boundEnd, letBodyEnd, letNamesEnd}
+use Rattle.grammar.proofs.EndLaws.{sign-not, expect-code, is-yes, is-no, ends-word, ends-bad, ends-due, ends-as, ends-stop, step-is}
 use Rattle.grammar.proofs.StepLaws.{DueAt, code-is, code-not}
 use Rattle.grammar.proofs.LoopLaws.{Loops}
 use Rattle.grammar.proofs.NameLaws.{loop-from}
@@ -58,7 +58,7 @@ module _ (text : List ℕ) (most : ℕ) (total : Answer (List Word)) where
 
 module _ (read readType : Step) (ws : List Word) where
   by-name : (t : Token) → tokenCode t ≡ 24 → atomBy read readType t ws ≡ useEnd readType (behind ws)
-  by-name (sign t) e = absurd (omega (arith, e, sign-small t))
+  by-name (sign t) e = absurd (sign-not t 24 tt e)
   by-name (part p) e = absurd (omega arith)
   by-name (number n) e = absurd (omega arith)
   by-name (name n) e = refl
@@ -70,7 +70,7 @@ module _ (read readType : Step) (ws : List Word) where
   by-round (name n) e = absurd (omega arith)
 
   by-part : (t : Token) → tokenCode t ≡ 22 → atomBy read readType t ws ≡ good (behind ws)
-  by-part (sign t) e = absurd (omega (arith, e, sign-small t))
+  by-part (sign t) e = absurd (sign-not t 22 tt e)
   by-part (part p) e = refl
   by-part (number n) e = absurd (omega arith)
   by-part (name n) e = absurd (omega arith)
@@ -129,7 +129,7 @@ module _ (text : List ℕ) (at more : ℕ) (w : Said) (s : Stands text at w) whe
     spine = spineEnd (termStep (more - 1)) (typeStep (more - 1) false) words
 
     abbrev level : Bool → Bool → Bool → Answer (List Word)
-    level f x l = cond f (namesEnd (length words) (behind words) >>= λ us. bound us) (cond x (nameEnd (behind words) >>= λ us. bound us) (cond l (letNamesEnd (behind words) >>= λ us. body us) spine))
+    level f x l = cond f (bindsEnd (length words) (behind words) >>= λ us. bound us) (cond x (nameEnd (behind words) >>= λ us. bound us) (cond l (letNamesEnd (behind words) >>= λ us. body us) spine))
 
     level-is : (f x l : Bool) → is fun words ≡ f → is fix words ≡ x → is lets words ≡ l → termStep more words ≡ level f x l
     level-is f x l a b c = term-by more words some ∙ ap (λ (z : Bool). level z (is fix words) (is lets words)) a ∙ ap (λ (z : Bool). level f z (is lets words)) b ∙ ap (level f x) c
@@ -137,11 +137,11 @@ module _ (text : List ℕ) (at more : ℕ) (w : Said) (s : Stands text at w) whe
     next : (n : ℕ) → w .code ≡ suc n → Onward text at (w .end)
     next n e = s .onward (λ z. omega arith)
 
-    pub term-fun : w .code ≡ 1 → (t : End) → EndsIn text (w .end) namesEnd t → Along text (length words) (termStep more words) bound t
+    pub term-fun : w .code ≡ 1 → (t : End) → EndsIn text (w .end) bindsEnd t → Along text (length words) (termStep more words) bound t
     term-fun e t d = record {
-      step = namesEnd (length words) (from text (w .end));
+      step = bindsEnd (length words) (from text (w .end));
       bound = length (from text (w .end));
-      total-is = level-is true (is fix words) (is lets words) (is-yes text at w s fun e) refl refl ∙ ap (λ (us : List Word). namesEnd (length words) us >>= λ vs. bound vs) (next 0 e .rest);
+      total-is = level-is true (is fix words) (is lets words) (is-yes text at w s fun e) refl refl ∙ ap (λ (us : List Word). bindsEnd (length words) us >>= λ vs. bound vs) (next 0 e .rest);
       ends = d (length words) (next 0 e .fewer);
       within = omega (arith, next 0 e .fewer);
     }

@@ -7,8 +7,10 @@ use lib.ListN.{length}
 use Rattle.calculus.specs.Answer.{Answer, good, refused, refuse}
 use Rattle.notation_calculus.specs.Words.{Word}
 use Rattle.notation_calculus.specs.Grammar.{Got, typeAt, termAt}
-use Rattle.words.specs.Lexed.{from, Lexed}
+use Rattle.words.specs.Next.{Said}
+use Rattle.words.specs.Lexed.{from, Lexed, Stands}
 use Rattle.grammar.specs.declared.steps.End.{End}
+use Rattle.grammar.specs.Skips.{expectCode}
 
 -- the words behind what was read
 abbrev pub restOf : {A : Type 0} → Answer (Got A) → Answer (List Word)
@@ -36,3 +38,7 @@ pub record Ends (text : List ℕ) (b : ℕ) (m : Answer (List Word)) (r : End) :
 -- .. of a loop, in any number of rounds that is above the number of words
 abbrev pub EndsIn : List ℕ → ℕ → (ℕ → List Word → Answer (List Word)) → End → Type 0
 EndsIn text at go r = (n : ℕ) → length (from text at) < n → Ends text (length (from text at)) (go n (from text at)) r
+
+-- the sign of a code, by the word that stands first: wherever it does
+abbrev pub Expected : Said → ℕ → End → Type 0
+Expected w code r = (text : List ℕ) (at : ℕ) → Stands text at w → 0 < code → Ends text (length (from text at)) (expectCode code (from text at)) r

@@ -5,7 +5,7 @@ use mathlib.Core.List.{List}
 use lib.Dec.{eqb}
 use lib.ListN.{length}
 use Rattle.calculus.specs.Answer.{Answer, good, _>>=_, refuse, need}
-use Rattle.notation_calculus.specs.Words.{Sign, type, edition, table, fun, fix, lets, within, arrow, linear, times, round, endRound, equals, comma, colon, dot, square, endSquare, curly, endCurly, plus, Token, sign, part, number, name, Word}
+use Rattle.notation_calculus.specs.Words.{Sign, type, edition, table, fun, fix, lets, within, arrow, linear, times, round, endRound, equals, comma, colon, dot, square, endSquare, curly, endCurly, plus, power, Token, sign, part, number, name, Word}
 use Rattle.words.specs.Tables.{tokenCode}
 use Rattle.notation_calculus.specs.Grammar.{peek, behind, place, isToken, is, expect, isName, beginsAtom}
 
@@ -56,6 +56,10 @@ numberBy (name n) ws = plusEnd (behind ws)
 abbrev pub numberEnd : Step
 numberEnd ws = numberBy (peek ws .token) ws
 
+-- behind a 1: a sign and how many stand in a row, or nothing
+abbrev pub onesEnd : Step
+onesEnd ws = cond (is power ws) (numberEnd (behind ws)) (good ws)
+
 abbrev pub numbersEnd : Step
 numbersEnd ws = groupEnd curly endCurly numberEnd ws
 
@@ -72,7 +76,7 @@ insideEnd read ws = read ws >>= λ us. expect endRound us
 abbrev pub typeAtomBy : Step → Token → Step
 typeAtomBy read (sign t) ws = need (isToken round (sign t)) 32 (place ws) >>= λ _. insideEnd read (behind ws)
 typeAtomBy read (part p) ws = refuse 32 (place ws)
-typeAtomBy read (number n) ws = need (eqb n 1) 32 (place ws) >>= λ _. good (behind ws)
+typeAtomBy read (number n) ws = need (eqb n 1) 32 (place ws) >>= λ _. onesEnd (behind ws)
 typeAtomBy read (name n) ws = useEnd read (behind ws)
 
 abbrev pub typeAtomEnd : Step → Step
@@ -85,6 +89,10 @@ productEnd read ws = cond (is times ws) (read (behind ws)) (good ws)
 -- .. behind an arrow
 abbrev pub arrowEnd : Step → Step
 arrowEnd read ws = cond (is arrow ws) (read (behind ws)) (cond (is linear ws) (read (behind ws)) (good ws))
+
+-- behind the sign of a product: a type, and no arrow behind it where it is tight
+abbrev pub timesEnd : (Bool → Step) → Bool → Step
+timesEnd read tight ws = read true ws >>= λ vs. cond tight (good vs) (arrowEnd (read false) vs)
 
 -- one level of a type
 abbrev pub typeLevel : (Bool → Step) → Bool → Step
@@ -143,11 +151,15 @@ abbrev pub apartEnd : ℕ → Step
 apartEnd zero ws = refuse 32 (place ws)
 apartEnd (suc rounds) ws = nameEnd ws >>= λ us. need (is comma us) 32 (place us) >>= λ _. namesList 12 rounds (behind us)
 
+-- what `fun` binds
+abbrev pub bindsEnd : ℕ → Step
+bindsEnd rounds ws = cond (is round ws) (apartEnd (length ws) (behind ws)) (namesEnd rounds ws)
+
 abbrev pub letNamesEnd : Step
 letNamesEnd ws = cond (is round ws) (apartEnd (length ws) (behind ws)) (nameEnd ws)
 
 abbrev pub termLevel : Step → Step → Step
-termLevel read readType ws = cond (is fun ws) (namesEnd (length ws) (behind ws) >>= λ us. boundEnd read readType us) (cond (is fix ws) (nameEnd (behind ws) >>= λ us. boundEnd read readType us) (cond (is lets ws) (letNamesEnd (behind ws) >>= λ us. letBodyEnd read us) (spineEnd read readType ws)))
+termLevel read readType ws = cond (is fun ws) (bindsEnd (length ws) (behind ws) >>= λ us. boundEnd read readType us) (cond (is fix ws) (nameEnd (behind ws) >>= λ us. boundEnd read readType us) (cond (is lets ws) (letNamesEnd (behind ws) >>= λ us. letBodyEnd read us) (spineEnd read readType ws)))
 
 -- ---- groups
 

@@ -1,9 +1,11 @@
 // The look ahead: a name, its groups in brackets, and `=` begin a definition.
+use words::Word;
 ghost use mathlib.Core.Path.{_≡_};
 ghost use Prim.Native.Nat.{_<_};
 ghost use Rattle.notation_calculus.specs.Words.{equals};
 ghost use Rattle.notation_calculus.specs.Grammar.{is, behindGroup, beginsAtom};
-ghost use Rattle.words.specs.Lexed.{from, Lexed};
+ghost use Rattle.words.specs.Next.{saidWord};
+ghost use Rattle.words.specs.Lexed.{from, Lexed, Stands};
 ghost use Rattle.grammar.specs.Skips.{opensGroup, closesGroup, depthBy, stopsBy};
 
 const ROUND: u8 = 11;
@@ -74,12 +76,11 @@ fn heads(text: &[u8], start: usize) -> bool
     w.kind == EQUALS
 }
 
-// An atom begins here, and no definition.
-pub fn begins_atom(text: &[u8], at: usize) -> bool
-    requires { ⌜ Lexed (now text) at ⌝ }
+// An atom begins with the word at an offset, and no definition.
+pub fn word_begins(text: &[u8], at: usize, w: Word) -> bool
+    requires { ⌜ Stands (now text) at (saidWord w) ⌝ }
     ensures { λ r. ⌜ r ≡ beginsAtom (from (now (text .entry)) at) ⌝ }
 {
-    let w = words::word_at(text, at);
     if w.kind == ROUND {
         return true;
     }
@@ -90,4 +91,13 @@ pub fn begins_atom(text: &[u8], at: usize) -> bool
         return !heads(text, w.end);
     }
     false
+}
+
+// An atom begins here, and no definition.
+pub fn begins_atom(text: &[u8], at: usize) -> bool
+    requires { ⌜ Lexed (now text) at ⌝ }
+    ensures { λ r. ⌜ r ≡ beginsAtom (from (now (text .entry)) at) ⌝ }
+{
+    let w = words::word_at(text, at);
+    word_begins(text, at, w)
 }

@@ -5,7 +5,7 @@ ghost use Prim.Native.Nat.{_+_, _<_};
 ghost use lib.ListN.{length};
 ghost use Rattle.words.specs.Lexed.{from, Lexed};
 ghost use Rattle.grammar.specs.Ends.{Ends, EndsIn};
-ghost use Rattle.grammar.specs.Skips.{namesEnd, namesList, apartEnd, letNamesEnd};
+ghost use Rattle.grammar.specs.Skips.{namesEnd, namesList, apartEnd, bindsEnd, letNamesEnd};
 
 const ROUND: u8 = 11;
 
@@ -14,7 +14,7 @@ const END_ROUND: u8 = 12;
 const COLON: u8 = 15;
 
 // Names up to the colon.
-pub fn names_end(text: &[u8], at: usize) -> End
+fn names_end(text: &[u8], at: usize) -> End
     requires { ⌜ Lexed (now text) at ⌝ }
     ensures { λ r. ⌜ EndsIn (now (text .entry)) at namesEnd r ⌝ }
 {
@@ -38,7 +38,7 @@ pub fn names_list(text: &[u8], at: usize, closes: u8) -> End
     while x.number == 0 {
         let c = words::word_at(text, x.at);
         if c.kind != steps::COMMA {
-            return steps::expect(text, x.at, closes);
+            return steps::expect_word(c, closes);
         }
         x = steps::name_end(text, c.end);
     }
@@ -59,6 +59,18 @@ fn apart_end(text: &[u8], at: usize) -> End
         return steps::refused(32, c.start);
     }
     names_list(text, c.end, END_ROUND)
+}
+
+// What `fun` binds: names up to the colon, or names in parentheses.
+pub fn binds_end(text: &[u8], at: usize) -> End
+    requires { ⌜ Lexed (now text) at ⌝ }
+    ensures { λ r. ⌜ EndsIn (now (text .entry)) at bindsEnd r ⌝ }
+{
+    let w = words::word_at(text, at);
+    if w.kind == ROUND {
+        return apart_end(text, w.end);
+    }
+    names_end(text, at)
 }
 
 // What `let` binds: a name, or names in parentheses.

@@ -1,11 +1,13 @@
 // Steps of the grammar that hold no types and no terms.
+use words::Word;
 ghost use mathlib.Core.Path.{_≡_};
 ghost use Prim.Native.Nat.{_+_, _<_};
 ghost use lib.ListN.{length};
 ghost use Rattle.calculus.specs.Answer.{good};
+ghost use Rattle.words.specs.Next.{saidWord};
 ghost use Rattle.words.specs.Lexed.{from, Lexed};
-ghost use Rattle.grammar.specs.Ends.{Ends};
-ghost use Rattle.grammar.specs.Skips.{nameEnd, plusEnd, numberEnd, numbersEnd, expectCode};
+ghost use Rattle.grammar.specs.Ends.{Ends, Expected};
+ghost use Rattle.grammar.specs.Skips.{nameEnd, plusEnd, numberEnd, onesEnd, numbersEnd, expectCode};
 
 pub const SQUARE: u8 = 17;
 
@@ -39,12 +41,10 @@ pub fn refused(number: u8, at: usize) -> End
     End { number, at }
 }
 
-// The sign of a code.
-pub fn expect(text: &[u8], at: usize, sign: u8) -> End
-    requires { ⌜ (Lexed (now text) at) × (0 < sign) ⌝ }
-    ensures { λ r. ⌜ Ends (now (text .entry)) (length (from (now (text .entry)) at)) (expectCode sign (from (now (text .entry)) at)) r ⌝ }
+// The sign of a code, by a word that was read.
+pub fn expect_word(w: Word, sign: u8) -> End
+    ensures { λ r. ⌜ Expected (saidWord w) sign r ⌝ }
 {
-    let w = words::word_at(text, at);
     if w.kind == sign {
         return End {
             number: 0,
@@ -52,6 +52,15 @@ pub fn expect(text: &[u8], at: usize, sign: u8) -> End
         };
     }
     refused(32, w.start)
+}
+
+// The sign of a code.
+pub fn expect(text: &[u8], at: usize, sign: u8) -> End
+    requires { ⌜ (Lexed (now text) at) × (0 < sign) ⌝ }
+    ensures { λ r. ⌜ Ends (now (text .entry)) (length (from (now (text .entry)) at)) (expectCode sign (from (now (text .entry)) at)) r ⌝ }
+{
+    let w = words::word_at(text, at);
+    expect_word(w, sign)
 }
 
 pub fn name_end(text: &[u8], at: usize) -> End
@@ -88,7 +97,7 @@ fn plus_end(text: &[u8], at: usize) -> End
 }
 
 // k, n or n + k.
-fn number_end(text: &[u8], at: usize) -> End
+pub fn number_end(text: &[u8], at: usize) -> End
     requires { ⌜ Lexed (now text) at ⌝ }
     ensures { λ r. ⌜ Ends (now (text .entry)) (length (from (now (text .entry)) at)) (numberEnd (from (now (text .entry)) at)) r ⌝ }
 {
@@ -105,6 +114,18 @@ fn number_end(text: &[u8], at: usize) -> End
     refused(32, w.start)
 }
 
+// Behind a 1: `^` and how many stand in a row, or nothing.
+pub fn ones_end(text: &[u8], at: usize) -> End
+    requires { ⌜ Lexed (now text) at ⌝ }
+    ensures { λ r. ⌜ Ends (now (text .entry)) (length (from (now (text .entry)) at) + 1) (onesEnd (from (now (text .entry)) at)) r ⌝ }
+{
+    let w = words::word_at(text, at);
+    if w.kind != words::POWER {
+        return here(text, at);
+    }
+    number_end(text, w.end)
+}
+
 // { .. }, or nothing.
 pub fn numbers_end(text: &[u8], at: usize) -> End
     requires { ⌜ Lexed (now text) at ⌝ }
@@ -118,7 +139,7 @@ pub fn numbers_end(text: &[u8], at: usize) -> End
     while k.number == 0 {
         let c = words::word_at(text, k.at);
         if c.kind != COMMA {
-            return expect(text, k.at, END_CURLY);
+            return expect_word(c, END_CURLY);
         }
         k = number_end(text, c.end);
     }

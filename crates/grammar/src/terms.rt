@@ -130,7 +130,7 @@ pub fn term_end(text: &[u8], at: usize, more: usize) -> End
         return steps::refused(34, w.start);
     }
     if w.kind == FUN {
-        let x = names::names_end(text, w.end);
+        let x = names::binds_end(text, w.end);
         if x.number != 0 {
             return x;
         }

@@ -19,7 +19,7 @@ use Rattle.made_types.specs.declared.Record.{Record}
 use Rattle.made_types.specs.declared.FoundType as code
 use Rattle.made_types.specs.declared.FoundType.the-variants as found
 use Rattle.made_types.proofs.Sorts.{shares-in}
-use Rattle.made_types.proofs.ListLaws.{types-same}
+use Rattle.made_types.proofs.ListLaws.{types-same, types-on}
 use Rattle.made_nodes.specs.Held.{Workable}
 use Rattle.made_nodes.specs.Forms.{EditionIn, ArrowSays, ProductSays, GateSays, PartTypeSays}
 use Rattle.made_nodes.proofs.Answers.{on-type, on-no-type}
@@ -74,18 +74,6 @@ product-says w a b place l r x w′ el er L = record {
 }
 
 -- ---- parts
-
-types-on : (u v w : List ℕ) → TypesOnly u v → TypesOnly v w → TypesOnly u w
-types-on u v w a b =
-    let m = a .more in
-    let n = b .more in
-    record {
-      same = b .same ∙ a .same;
-      below = λ i h. b .below i h ∙ a .below i h;
-      above = λ i h d. b .above i h d ∙ a .above i h d;
-      more = omega arith;
-      few = λ h. b .few (a .few h);
-    }
 
 pub workable-types : (w w′ : List ℕ) → Workable w → TypesOnly w w′ → Workable w′
 workable-types w w′ W o = let r = W .room in let l = o .same in record { room = omega arith; few = o .few (W .few) }

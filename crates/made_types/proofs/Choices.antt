@@ -27,6 +27,6 @@ both-no x y e = rw e refl
 pub both-yes : (x y r : Bool) → x ≡ true → r ≡ y → r ≡ (x && y)
 both-yes x y r e h = rw e h
 
--- a test that fails below k, and at k
-pub more-false : (f : ℕ → Bool) (k : ℕ) → ((j : ℕ) → j < k → f j ≡ false) → f k ≡ false → (j : ℕ) → j < k + 1 → f j ≡ false
-more-false f k below here j h = elim (ℕ-discrete j k) [ yes e ↦ rw e here | no d ↦ below j (omega arith) ]
+-- a test that fails from behind a up to k, and at k
+pub more-false : (f : ℕ → Bool) (a k : ℕ) → ((j : ℕ) → a < j → j < k → f j ≡ false) → f k ≡ false → (j : ℕ) → a < j → j < k + 1 → f j ≡ false
+more-false f a k below here j l h = elim (ℕ-discrete j k) [ yes e ↦ rw e here | no d ↦ below j l (omega arith) ]

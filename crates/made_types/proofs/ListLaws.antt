@@ -71,6 +71,18 @@ bits-in w Θ r H L B =
 pub types-same : (w : List ℕ) → TypesOnly w w
 types-same w = record { same = refl; below = λ i h. refl; above = λ i h n. refl; more = omega arith; few = λ h. h }
 
+pub types-on : (u v w : List ℕ) → TypesOnly u v → TypesOnly v w → TypesOnly u w
+types-on u v w a b =
+    let m = a .more in
+    let n = b .more in
+    record {
+      same = b .same ∙ a .same;
+      below = λ i h. b .below i h ∙ a .below i h;
+      above = λ i h d. b .above i h d ∙ a .above i h d;
+      more = omega arith;
+      few = λ h. b .few (a .few h);
+    }
+
 module _ (w : List ℕ) (r : Record) (place : ℕ) (k : ℕ) (L : Listable w r) (S : Searched w r k) where
   pub says-old : k < getD w typeCountAt 0 → ListedSays w r place (found.At k) w
   says-old h = record {
@@ -86,8 +98,8 @@ module _ (w : List ℕ) (r : Record) (place : ℕ) (k : ℕ) (L : Listable w r) 
   abbrev New : State → Type 0
   New σ = (k ≡ length (σ .table)) × (repeated (σ .table) (recordOf r) ≡ false)
 
-  new-one : getD w typeCountAt 0 ≤ k → (σ : State) → HoldsState w σ → New σ
-  new-one h σ H = found-new w (σ .table) r k (H .types) L S (let c = H .types .count in omega arith)
+  new-one : getD w typeCountAt 0 ≤ k → (σ : State) → HoldsState w σ → Below (length (σ .table)) (recordOf r) → New σ
+  new-one h σ H B = found-new w (σ .table) r k (H .types) L S (sides-below (length (σ .table)) (r .kind) (r .left) (r .right) (L .form) (L .known) B .1) (let c = H .types .count in omega arith)
 
   formed-one : (σ : State) → HoldsState w σ → Below (length (σ .table)) (recordOf r) → formedIn w r ≡ formed (σ .table) (recordOf r)
   formed-one σ H B = formed-in w (σ .table) (H .types) (r .kind) (r .left) (r .right) (L .form) (L .known) B
@@ -96,14 +108,14 @@ module _ (w : List ℕ) (r : Record) (place : ℕ) (k : ℕ) (L : Listable w r) 
   says-bad h f = record {
     only = types-same w;
     small = tt;
-    says = λ σ H B. rw (is-bad σ (recordOf r) place (new-one h σ H .1) (sym (formed-one σ H B) ∙ f)) refl;
+    says = λ σ H B. rw (is-bad σ (recordOf r) place (new-one h σ H B .1) (sym (formed-one σ H B) ∙ f)) refl;
   }
 
   pub says-big : getD w typeCountAt 0 ≤ k → formedIn w r ≡ true → 128 < bitsIn w (r .left) + bitsIn w (r .right) → ListedSays w r place (found.Refused 34 place) w
   says-big h f s = record {
     only = types-same w;
     small = tt;
-    says = λ σ H B. rw (is-big σ (recordOf r) place (new-one h σ H .1) (sym (formed-one σ H B) ∙ f) (omega (arith, bits-in w (σ .table) r (H .types) L B))) refl;
+    says = λ σ H B. rw (is-big σ (recordOf r) place (new-one h σ H B .1) (sym (formed-one σ H B) ∙ f) (omega (arith, bits-in w (σ .table) r (H .types) L B))) refl;
   }
 
   module _ (h : getD w typeCountAt 0 ≤ k) (f : formedIn w r ≡ true) (s : bitsIn w (r .left) + bitsIn w (r .right) ≤ 128) where
@@ -111,12 +123,12 @@ module _ (w : List ℕ) (r : Record) (place : ℕ) (k : ℕ) (L : Listable w r) 
     says-full m = record {
       only = types-same w;
       small = tt;
-      says = λ σ H B. rw (is-full σ (recordOf r) place (new-one h σ H .1) (sym (formed-one σ H B) ∙ f) (omega (arith, bits-in w (σ .table) r (H .types) L B)) (omega (arith, new-one h σ H .0))) refl;
+      says = λ σ H B. rw (is-full σ (recordOf r) place (new-one h σ H B .1) (sym (formed-one σ H B) ∙ f) (omega (arith, bits-in w (σ .table) r (H .types) L B)) (omega (arith, new-one h σ H B .0))) refl;
     }
 
     new-state : (σ : State) → HoldsState w σ → Below (length (σ .table)) (recordOf r) → k < 256 → Ready (σ .table ++ recordOf r ∷ []) → HoldsState (stored w k (r .kind) (r .left) (r .right) (bitsIn w (r .left) + bitsIn w (r .right))) (withType σ (recordOf r))
     new-state σ H B m R =
-        let (e, n) = new-one h σ H in
+        let (e, n) = new-one h σ H B in
         let (a, (b, c)) = kind-of-form (r .kind) (r .left) (r .right) (L .form) (L .known) in
         let bits : ℕ = bitsIn w (r .left) + bitsIn w (r .right) in
         let above = stored-above w k (r .kind) (r .left) (r .right) bits (L .room) m in
@@ -132,7 +144,7 @@ module _ (w : List ℕ) (r : Record) (place : ℕ) (k : ℕ) (L : Listable w r) 
       only = stored-only w k (r .kind) (r .left) (r .right) (bitsIn w (r .left) + bitsIn w (r .right)) (L .room) m h;
       small = m;
       says = λ σ H B.
-          let (e, n) = new-one h σ H in
+          let (e, n) = new-one h σ H B in
           let x : Found = record { type = length (σ .table); state = withType σ (recordOf r) } in
           let g : listed σ (recordOf r) place ≡ good x = is-new σ (recordOf r) place n (sym (formed-one σ H B) ∙ f) (omega (arith, bits-in w (σ .table) r (H .types) L B)) (omega arith) in
           let i = on-good (Listed σ (recordOf r)) (listed σ (recordOf r) place) x (listed-holds σ (recordOf r) place (ready-of (H .types)) B) g in

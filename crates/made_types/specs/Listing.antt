@@ -8,7 +8,7 @@ use lib.ListN.{length, getD}
 use Rattle.calculus.specs.Answer.{Answer, good, refused, numbered}
 use Rattle.calculus.specs.Types.{TyRec, rec02, rec03, rec04}
 use Rattle.sheet_theorems.specs.Laid.{Below}
-use Rattle.notation_calculus.specs.Making.{State, Found, listed}
+use Rattle.notation_calculus.specs.Making.{State, Found, listed, moreBits}
 use Rattle.making_memory.specs.Map.{typeCountAt, makingSize}
 use Rattle.made_types.specs.Held.{kindIn, leftIn, rightIn, HoldsState, TypesOnly}
 use Rattle.made_types.specs.declared.Record.{Record}
@@ -30,10 +30,10 @@ recordOf r = recOfKind (r .kind) (r .left) (r .right)
 abbrev pub sameIn : List ℕ → ℕ → Record → Bool
 sameIn w t r = eqb (kindIn w t) (r .kind) && (eqb (leftIn w t) (r .left) && eqb (rightIn w t) (r .right))
 
--- the first type of these numbers; or else how many types there are
+-- the first type of these numbers behind the right side; or else how many types there are
 pub record Searched (w : List ℕ) (r : Record) (k : ℕ) : Type 0 where
-  pub within : k ≤ getD w typeCountAt 0
-  pub before : (j : ℕ) → j < k → sameIn w j r ≡ false
+  pub within : r .right < getD w typeCountAt 0 → k ≤ getD w typeCountAt 0
+  pub before : (j : ℕ) → r .right < j → j < k → sameIn w j r ≡ false
   pub here : k < getD w typeCountAt 0 → sameIn w k r ≡ true
 
 -- sides of the sorts that the form asks for
@@ -66,3 +66,9 @@ pub record ListedSays (w : List ℕ) (r : Record) (place : ℕ) (x : code.FoundT
   pub only : TypesOnly w w′
   pub small : SmallType x
   pub says : (σ : State) → HoldsState w σ → Below (length (σ .table)) (recordOf r) → FoundIn w′ x (listed σ (recordOf r) place)
+
+-- .. of a bit and so many more left of it
+pub record RowSays (w : List ℕ) (more place : ℕ) (x : code.FoundType) (w′ : List ℕ) : Type 0 where
+  pub only : TypesOnly w w′
+  pub small : SmallType x
+  pub says : (σ : State) → HoldsState w σ → FoundIn w′ x (moreBits place more (record { type = 0; state = σ }))

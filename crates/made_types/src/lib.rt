@@ -8,7 +8,7 @@ ghost use lib.ListN.{length, getD, set};
 ghost use lib.Seq.{sets};
 ghost use Rattle.making_memory.specs.Map.{typesAt, typeCountAt, makingSize};
 ghost use Rattle.made_types.specs.Held.{kindIn, leftIn, rightIn, bitsIn};
-ghost use Rattle.made_types.specs.Listing.{InTypes, Searched, sameIn, formedIn, Listable, ListedSays};
+ghost use Rattle.made_types.specs.Listing.{InTypes, Searched, sameIn, formedIn, Listable, ListedSays, RowSays};
 ghost use Rattle.made_types.specs.States.{Begun, Forgot};
 use making_memory::MOST_TYPES;
 use making_memory::NODE_COUNT;
@@ -105,13 +105,13 @@ fn same(work: &[u16], t: u16, r: Record) -> bool
     right_of(work, t) == r.right
 }
 
-// Where a record stands in the table, or where it would come.
+// Where a record stands in the table, or where it would come. It stands behind its sides: so all products of a row are found in one pass.
 fn number_in(work: &[u16], r: Record) -> u16
-    requires { ⌜ (makingSize ≤ length (now work)) × (getD (now work) typeCountAt 0 ≤ 256) ⌝ }
+    requires { ⌜ Listable (now work) r ⌝ }
     ensures { λ k. ⌜ Searched (now (work .entry)) r k ⌝ }
 {
     let n = work[TYPE_COUNT];
-    let mut k: u16 = 0;
+    let mut k: u16 = r.right + 1;
     while k < n {
         if same(work, k, r) {
             return k;
@@ -172,6 +172,29 @@ pub fn listed(work: &mut [u16], r: Record, place: u16) -> FoundType
     }
     store(work, k, r, bits as u16);
     FoundType::At(k)
+}
+
+// A bit and so many more left of it, each in a product that is listed: 34 at a place.
+pub fn row(work: &mut [u16], more: usize, place: u16) -> FoundType
+    requires { ⌜ (makingSize ≤ length (now work)) × (getD (now work) typeCountAt 0 ≤ 256) ⌝ }
+    ensures { λ x. ⌜ RowSays (now (work .entry)) more place x (now (work .exit)) ⌝ }
+{
+    let mut t: u16 = 0;
+    let mut i: usize = 0;
+    while i < more {
+        let r = Record {
+            kind: 2,
+            left: 0,
+            right: t,
+        };
+        let x = listed(work, r, place);
+        let FoundType::At(u) = x else {
+            return x;
+        };
+        t = u;
+        i = i + 1;
+    }
+    FoundType::At(t)
 }
 
 // The table begins with the single bit; there are no nodes, and nothing was put in.

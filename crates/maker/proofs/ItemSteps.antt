@@ -310,14 +310,14 @@ module _ (text w : List ℕ) (at seen : ℕ) (q : CanItem text w at seen) (v : S
 
 -- ---- all items: the loop
 
-pub record ItemsGoing (text w₀ : List ℕ) (start : ℕ) (w : List ℕ) (at seen : ℕ) : Type 0 where
+pub record ItemsGoing (text w₀ : List ℕ) (start above : ℕ) (w : List ℕ) (at seen : ℕ) : Type 0 where
   pub kept : FarKept w₀ w
-  pub goes : (X : Text) (σ : State) (ls : List Line) → TextStands text w₀ X σ → ItemsLeft text X start 0 ls → ItemOn text w X σ ls (length (from text start) + 1) at seen
+  pub goes : (X : Text) (σ : State) (ls : List Line) → TextStands text w₀ X σ → ItemsLeft text X start above ls → ItemOn text w X σ ls (length (from text start) + 1) at seen
 
-pub items-first : (text w : List ℕ) (start : ℕ) → ItemsGoing text w start w start 0
-items-first text w start = record { kept = far-none w; goes = λ X σ ls S I. record { next = σ; others = ls; stands = S; left = I; table = refl; fewer = omega arith } }
+pub items-first : (text w : List ℕ) (start above : ℕ) → ItemsGoing text w start above w start above
+items-first text w start above = record { kept = far-none w; goes = λ X σ ls S I. record { next = σ; others = ls; stands = S; left = I; table = refl; fewer = omega arith } }
 
-module _ (text w₀ : List ℕ) (start : ℕ) (q : CanItem text w₀ start 0) (w : List ℕ) (at seen : ℕ) (G : ItemsGoing text w₀ start w at seen) where
+module _ (text w₀ : List ℕ) (start above : ℕ) (q : CanItem text w₀ start above) (w : List ℕ) (at seen : ℕ) (G : ItemsGoing text w₀ start above w at seen) where
   so-far : ItemOn text w (q .X) (q .σ) (q .ls) (length (from text start) + 1) at seen
   so-far = G .goes (q .X) (q .σ) (q .ls) (q .stands) (q .left)
 
@@ -331,7 +331,7 @@ module _ (text w₀ : List ℕ) (start : ℕ) (q : CanItem text w₀ start 0) (w
     as-item : (r′ : went.Went) → r ≡ r′ → (X : Text) (σ : State) (ls : List Line) → TextStands text w X σ → ItemsLeft text X at seen ls → ItemAs text w′ X σ ls (length (from text at)) r′
     as-item r′ e X σ ls S I = subst (λ (x : went.Went). ItemAs text w′ X σ ls (length (from text at)) x) e (T .says X σ ls S I)
 
-    pub items-more : (next known : ℕ) → r ≡ went-is.On next known → ItemsGoing text w₀ start w′ next known
+    pub items-more : (next known : ℕ) → r ≡ went-is.On next known → ItemsGoing text w₀ start above w′ next known
     items-more next known e = record {
       kept = items-kept;
       goes = λ X σ ls S I.
@@ -343,7 +343,7 @@ module _ (text w₀ : List ℕ) (start : ℕ) (q : CanItem text w₀ start 0) (w
     pub items-less : (next known : ℕ) → r ≡ went-is.On next known → length (from text next) < length (from text at)
     items-less next known e = as-item (went-is.On next known) e (q .X) (so-far .next) (so-far .others) (so-far .stands) (so-far .left) .fewer
 
-    pub items-end : r ≡ went-is.Ends → LinesSay text w₀ start stage.Passed w′
+    pub items-end : r ≡ went-is.Ends → LinesSay text w₀ start above stage.Passed w′
     items-end e = record {
       kept = items-kept;
       says = λ X σ ls S I.
@@ -352,7 +352,7 @@ module _ (text w₀ : List ℕ) (start : ℕ) (q : CanItem text w₀ start 0) (w
           stage-passed text w′ X (a .next) stage.Passed (linesTable X σ ls) refl (a .table ∙ ap (λ (l : List Line). linesTable X (a .next) l) z) b;
     }
 
-    pub items-refused : (n p : ℕ) → r ≡ went-is.Refused n p → LinesSay text w₀ start (stage.Refused n p) w′
+    pub items-refused : (n p : ℕ) → r ≡ went-is.Refused n p → LinesSay text w₀ start above (stage.Refused n p) w′
     items-refused n p e = record {
       kept = items-kept;
       says = λ X σ ls S I.

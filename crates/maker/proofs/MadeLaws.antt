@@ -1,51 +1,42 @@
 -- The sheet of a text in the memory, written; the call. Assumes nothing.
-use Prim.Native.Nat.{ℕ, suc, _≤_, _<_}
+use Prim.Native.Nat.{ℕ, _≤_, _<_}
 use mathlib.Core.Path.{_≡_, refl, sym, ap, _∙_, subst}
-use mathlib.Core.Bool.{Bool, true, false, _||_, cond}
-use mathlib.Core.List.{List, []}
+use mathlib.Core.Bool.{Bool, true, false}
+use mathlib.Core.List.{List, _++_}
 use native.Mathlib.Omega.{arith}
 use borrow.Author.Tests.{le-leb, lt-leb}
 use lib.Dec.{eqb, leb}
-use lib.ListN.{length, getD, drop}
-use Rattle.calculus.specs.Answer.{Answer, good, refused, refuse, numbered, _>>=_, need}
-use Rattle.calculus.specs.Terms.{Edition, isSecond}
-use Rattle.calculus.specs.Terms as Terms
+use lib.ListN.{length, getD}
+use Rattle.calculus.specs.Answer.{Answer, good, refused, refuse, _>>=_, need}
+use Rattle.calculus.specs.Terms.{isSecond}
 use Rattle.calculus.specs.Translate.{workOf}
 use Rattle.notation_calculus.specs.Words.{edition, Word, words}
-use Rattle.notation_calculus.specs.Trees.{Text}
-use Rattle.notation_calculus.specs.Grammar.{Got, got, peek, behind, place, is, valueOf, noItems, editionAt, textOf}
+use Rattle.notation_calculus.specs.Trees.{Line, Text}
+use Rattle.notation_calculus.specs.Grammar.{place, is, textOf}
 use Rattle.notation_calculus.specs.Making.{Made}
-use Rattle.notation_calculus.specs.Make.{mainOf, Placed, sheetOf, make, bytesOf, Written, makeAnswer, MakeCall, saidMake, outMake, placesMake, makeCall}
-use Rattle.notation_theorems.proofs.Answering.{On, on-any, on-either, on-good}
-use Rattle.notation_machine.proofs.Behind.{behind-fewer}
+use Rattle.notation_calculus.specs.Make.{mainOf, Placed, sheetOf, make, bytesOf, Written, makeAnswer, saidMake, outMake, placesMake, makeCall}
 use Rattle.words.specs.Lexed.{lexed, from, Lexed, Passed}
 use Rattle.making_memory.specs.Map.{secondAt, makingSize}
 use Rattle.made_nodes.specs.declared.Sub.{Sub}
-use Rattle.made_nodes.specs.Forms.{EditionIn}
 use Rattle.clauses.specs.declared.texts.Whole.{Whole}
 use Rattle.clauses.specs.Rows.{flagOf}
-use Rattle.clauses.specs.Texts.{HoldsClauses, OnlyTable, TextHeld, TextRead}
+use Rattle.clauses.specs.Texts.{TextHeld, TextRead}
 use Rattle.walks.specs.declared.TermEnd as term
 use Rattle.walks.specs.declared.TermEnd.the-variants as term-end
 use Rattle.sheet_writer.specs.declared.WroteSheet as wrote
 use Rattle.sheet_writer.specs.declared.WroteSheet.the-variants as wrote-is
-use Rattle.sheet_writer.specs.Wrote.{SheetStands, sheetAnswer, saidWrote, LeavesAs, SheetWrote}
+use Rattle.sheet_writer.specs.Wrote.{SheetStands, sheetAnswer, saidWrote, SheetWrote}
 use Rattle.sheet_writer.proofs.MadeBytes.{made-stands}
 use Rattle.translator.specs.declared.Answer as code
 use Rattle.translator.specs.declared.Answer.the-variants as answer
 use Rattle.translator.specs.Said.{saidAnswer, refusedAs}
 use Rattle.translator.proofs.Keeping.{above-keeps}
 use Rattle.maker.specs.Stages.{FarKept}
-use Rattle.maker.specs.Lines.{ItemsLeft}
 use Rattle.maker.specs.Made.{TextTerm, TextThere, CanText, TextMade, SheetHeld, SheetAnswers, SheetMade, MakeWrites, SheetLeft, RunLeft, calledMake}
 use Rattle.maker.proofs.StageLaws.{far-none, far-then}
 use Rattle.maker.proofs.LineLaws.{bind-good, bind-refused}
 
 -- ---- what was read and made
-
--- the words behind the edition are no more
-edition-left : (ws : List Word) (g : Got Edition) → editionAt ws ≡ good g → length (g .rest) ≤ length ws
-edition-left ws g e = on-good (λ (x : Got Edition). length (x .rest) ≤ length ws) (editionAt ws) g (on-either (λ (x : Got Edition). length (x .rest) ≤ length ws) (is edition ws) (valueOf (peek (behind ws) .token) (place (behind ws)) >>= λ k. need (eqb k 1 || eqb k 2) 32 (place (behind ws)) >>= λ _. got (cond (eqb k 1) Terms.first Terms.second) (behind (behind ws))) (got Terms.first ws) (on-any (λ (x : Got Edition). length (x .rest) ≤ length ws) (valueOf (peek (behind ws) .token) (place (behind ws))) (λ k. need (eqb k 1 || eqb k 2) 32 (place (behind ws)) >>= λ _. got (cond (eqb k 1) Terms.first Terms.second) (behind (behind ws))) λ k. on-any (λ (x : Got Edition). length (x .rest) ≤ length ws) (need (eqb k 1 || eqb k 2) 32 (place (behind ws))) (λ _. got (cond (eqb k 1) Terms.first Terms.second) (behind (behind ws))) λ _. behind-fewer (length ws) (behind ws) (behind-fewer (length ws) ws (omega arith))) (omega arith)) e
 
 flag-is : (n : ℕ) (b : Bool) → n ≡ flagOf b → eqb n 1 ≡ b
 flag-is n true e = ap (λ (k : ℕ). eqb k 1) e
@@ -109,31 +100,31 @@ module _ (text w : List ℕ) (h : length text ≤ 65535) where
           pub held : TextHeld text w₁ r
           held = T .holds y
 
-          pub made-there : TextThere text w₁ (r .items) (r .place) (held .X)
+          pub made-there : TextThere text w₁ (r .items) (r .seen) (r .place) (held .X)
           made-there = record {
             short = h;
             room = omega (arith, room, T .kept .same);
             clauses = held .holds;
             left = record {
               lexed = held .items-lexed;
-              done = noItems;
-              rounds = length (from text 0);
-              enough = edition-left (from text 0) (record { value = held .X .edition; rest = from text (r .items) }) (held .edition);
+              done = held .done;
+              rounds = held .rounds;
+              enough = held .enough;
               stop = from text (held .stop);
               total = held .items;
-              count = refl;
-              split = refl;
+              count = held .count;
+              split = sym (ap (λ (ls : List Line). ls ++ held .X .lines) (held .lines));
             };
             ends = held .end;
           }
 
-          pub made-can : CanText text w₁ (r .items) (r .place)
+          pub made-can : CanText text w₁ (r .items) (r .seen) (r .place)
           made-can = record { X = held .X; there = made-there }
 
           make-sheet : make text ≡ sheetOf (held .X)
           make-sheet = make-read ∙ bind-good (textOf (from text 0)) (λ X. sheetOf X) (held .X) (held .is)
 
-          pub made-text : (t : term.TermEnd) (w₂ : List ℕ) → TextMade text w₁ (r .items) (r .place) t w₂ → SheetMade text w t w₂
+          pub made-text : (t : term.TermEnd) (w₂ : List ℕ) → TextMade text w₁ (r .items) (r .seen) (r .place) t w₂ → SheetMade text w t w₂
           made-text t w₂ M = record { kept = far-then w w₁ w₂ read-far (M .kept); says = subst (SheetAnswers w₂ t) (sym make-sheet) (sheet-of text w₂ (held .X) t (M .says (held .X) made-there)) }
 
 -- ---- the sheet written

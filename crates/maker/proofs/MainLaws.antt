@@ -102,8 +102,8 @@ module _ (text w : List ℕ) (end : ℕ) (r : body.BodyEnd) (w₁ : List ℕ) (M
 pub judged-as : (text w : List ℕ) (r r′ : stages.Stage) (w₁ : List ℕ) → r ≡ r′ → JudgedSay text w r w₁ → JudgedSay text w r′ w₁
 judged-as text w r r′ w₁ e J = subst (λ (q : stages.Stage). JudgedSay text w q w₁) e J
 
-pub lines-as : (text w : List ℕ) (items : ℕ) (r r′ : stages.Stage) (w₁ : List ℕ) → r ≡ r′ → LinesSay text w items r w₁ → LinesSay text w items r′ w₁
-lines-as text w items r r′ w₁ e L = subst (λ (q : stages.Stage). LinesSay text w items q w₁) e L
+pub lines-as : (text w : List ℕ) (items seen : ℕ) (r r′ : stages.Stage) (w₁ : List ℕ) → r ≡ r′ → LinesSay text w items seen r w₁ → LinesSay text w items seen r′ w₁
+lines-as text w items seen r r′ w₁ e L = subst (λ (q : stages.Stage). LinesSay text w items seen q w₁) e L
 
 pub behind-some : (text w : List ℕ) (end : ℕ) → CanEnd text w end → SomeText text w
 behind-some text w end q = record { X = q .X; σ = q .σ; stands = q .stands }
@@ -130,11 +130,11 @@ main-of-is : (X : Text) → mainOf X ≡ (linesTable X start (X .lines) >>= λ �
 unfolding mainOf mainMade
 main-of-is X = refl
 
-module _ (text w : List ℕ) (items end : ℕ) (w₁ : List ℕ) (B : Begun w w₁) where
+module _ (text w : List ℕ) (items seen end : ℕ) (w₁ : List ℕ) (B : Begun w w₁) where
   begun-far : FarKept w w₁
   begun-far = record { same = B .same; far = λ j h. B .above j (omega arith) (λ q. omega arith) (λ q. omega arith) (λ q. omega arith) }
 
-  begun-stands : (X : Text) → TextThere text w items end X → TextStands text w₁ X start
+  begun-stands : (X : Text) → TextThere text w items seen end X → TextStands text w₁ X start
   begun-stands X T = record {
     short = T .short;
     room = omega (arith, T .room, B .same);
@@ -145,20 +145,20 @@ module _ (text w : List ℕ) (items end : ℕ) (w₁ : List ℕ) (B : Begun w w�
     state = B .holds;
   }
 
-  pub text-items : CanText text w items end → CanItem text w₁ items 0
+  pub text-items : CanText text w items seen end → CanItem text w₁ items seen
   text-items q = record { X = q .X; σ = start; ls = q .X .lines; stands = begun-stands (q .X) (q .there); left = q .there .left }
 
-  pub text-refused : (n p : ℕ) (w₂ : List ℕ) → LinesSay text w₁ items (stage.Refused n p) w₂ → TextMade text w items end (term-end.Refused n p) w₂
+  pub text-refused : (n p : ℕ) (w₂ : List ℕ) → LinesSay text w₁ items seen (stage.Refused n p) w₂ → TextMade text w items seen end (term-end.Refused n p) w₂
   text-refused n p w₂ L = record {
     kept = far-then w w₁ w₂ begun-far (L .kept);
     says = λ X T. term-refused text w₂ X n p (mainOf X) (main-of-is X ∙ bind-refused (linesTable X start (X .lines)) (λ σ. judgedFrom X 0 σ (X .clauses) >>= λ σ₁. mainMade X σ₁) n p (refused-as text w₂ X n p (linesTable X start (X .lines)) (L .says X start (X .lines) (begun-stands X T) (T .left))));
   }
 
-  module _ (w₂ : List ℕ) (L : LinesSay text w₁ items stage.Passed w₂) where
-    pub text-can : CanText text w items end → CanEnd text w₂ end
+  module _ (w₂ : List ℕ) (L : LinesSay text w₁ items seen stage.Passed w₂) where
+    pub text-can : CanText text w items seen end → CanEnd text w₂ end
     text-can q = passed-with text w₂ (q .X) (linesTable (q .X) start (q .X .lines)) (L .says (q .X) start (q .X .lines) (begun-stands (q .X) (q .there)) (q .there .left)) λ σ e S. record { X = q .X; σ = σ; stands = S; ends = q .there .ends }
 
-    pub text-made : (t : term.TermEnd) (w₃ : List ℕ) → BehindMade text w₂ end t w₃ → TextMade text w items end t w₃
+    pub text-made : (t : term.TermEnd) (w₃ : List ℕ) → BehindMade text w₂ end t w₃ → TextMade text w items seen end t w₃
     text-made t w₃ M = record {
       kept = far-then w w₁ w₃ begun-far (far-then w₁ w₂ w₃ (L .kept) (M .kept));
       says = λ X T. passed-with text w₂ X (linesTable X start (X .lines)) (L .says X start (X .lines) (begun-stands X T) (T .left)) λ σ e S. subst (TextTerm text w₃ X t) (sym (main-of-is X ∙ bind-good (linesTable X start (X .lines)) (λ σ. judgedFrom X 0 σ (X .clauses) >>= λ σ₁. mainMade X σ₁) σ e)) (M .says X σ S (T .ends));

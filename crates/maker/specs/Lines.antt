@@ -141,7 +141,7 @@ pub record ItemSays (text w : List ℕ) (at seen : ℕ) (r : went.Went) (w′ : 
   pub kept : FarKept w w′
   pub says : (X : Text) (σ : State) (ls : List Line) → TextStands text w X σ → ItemsLeft text X at seen ls → ItemAs text w′ X σ ls (length (from text at)) r
 
--- all lines of a text whose items begin at an offset
-pub record LinesSay (text w : List ℕ) (at : ℕ) (r : stage.Stage) (w′ : List ℕ) : Type 0 where
+-- all lines of a text whose items go on at an offset, above which so many clauses stand
+pub record LinesSay (text w : List ℕ) (at seen : ℕ) (r : stage.Stage) (w′ : List ℕ) : Type 0 where
   pub kept : FarKept w w′
-  pub says : (X : Text) (σ : State) (ls : List Line) → TextStands text w X σ → ItemsLeft text X at 0 ls → StageAnswers text w′ X r (linesTable X σ ls)
+  pub says : (X : Text) (σ : State) (ls : List Line) → TextStands text w X σ → ItemsLeft text X at seen ls → StageAnswers text w′ X r (linesTable X σ ls)

@@ -55,21 +55,21 @@ pub record BehindMade (text w : List ℕ) (end : ℕ) (r : term.TermEnd) (w′ :
   pub kept : FarKept w w′
   pub says : (X : Text) (σ : State) → TextStands text w X σ → X .end ≡ end → TextTerm text w′ X r (judgedFrom X 0 σ (X .clauses) >>= λ σ₁. mainMade X σ₁)
 
--- a text's clauses stand in the memory, and its items and its end in the text
-pub record TextThere (text w : List ℕ) (items end : ℕ) (X : Text) : Type 0 where
+-- a text's clauses stand in the memory, and its first line and its end in the text
+pub record TextThere (text w : List ℕ) (items seen end : ℕ) (X : Text) : Type 0 where
   pub short : length text ≤ 65535
   pub room : makingSize ≤ length w
   pub clauses : HoldsClauses text w X
-  pub left : ItemsLeft text X items 0 (X .lines)
+  pub left : ItemsLeft text X items seen (X .lines)
   pub ends : X .end ≡ end
 
-pub record CanText (text w : List ℕ) (items end : ℕ) : Type 0 where
+pub record CanText (text w : List ℕ) (items seen end : ℕ) : Type 0 where
   pub X : Text
-  pub there : TextThere text w items end X
+  pub there : TextThere text w items seen end X
 
-pub record TextMade (text w : List ℕ) (items end : ℕ) (r : term.TermEnd) (w′ : List ℕ) : Type 0 where
+pub record TextMade (text w : List ℕ) (items seen end : ℕ) (r : term.TermEnd) (w′ : List ℕ) : Type 0 where
   pub kept : FarKept w w′
-  pub says : (X : Text) → TextThere text w items end X → TextTerm text w′ X r (mainOf X)
+  pub says : (X : Text) → TextThere text w items seen end X → TextTerm text w′ X r (mainOf X)
 
 -- ---- the sheet
 

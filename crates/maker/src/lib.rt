@@ -42,13 +42,13 @@ fn behind_lines(text: &[u8], work: &mut [u16], end: usize) -> TermEnd
     }
 }
 
-// .. of a text whose clauses stand in the memory
-fn text_term(text: &[u8], work: &mut [u16], items: usize, end: usize) -> TermEnd
-    requires { ⌜ CanText (now text) (now work) items end ⌝ }
-    ensures { λ r. ⌜ TextMade (now (text .entry)) (now (work .entry)) items end r (now (work .exit)) ⌝ }
+// .. of a text whose clauses stand in the memory, with so many of them above its first line
+fn text_term(text: &[u8], work: &mut [u16], items: usize, seen: usize, end: usize) -> TermEnd
+    requires { ⌜ CanText (now text) (now work) items seen end ⌝ }
+    ensures { λ r. ⌜ TextMade (now (text .entry)) (now (work .entry)) items seen end r (now (work .exit)) ⌝ }
 {
     made_types::begin(work);
-    match lines::lines(text, work, items) {
+    match lines::lines(text, work, items, seen) {
         Stage::Refused(number, place) => TermEnd::Refused(number, place),
         Stage::Passed => behind_lines(text, work, end),
     }
@@ -70,7 +70,7 @@ fn made(text: &[u8], work: &mut [u16]) -> TermEnd
     if r.number != 0 {
         return TermEnd::Refused(r.number, r.place);
     }
-    text_term(text, work, r.items, r.place)
+    text_term(text, work, r.items, r.seen, r.place)
 }
 
 // The sheet in the working memory is written: 17, then 37.

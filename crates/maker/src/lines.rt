@@ -1,4 +1,5 @@
-// The lines `table` of a text whose clauses stand in the working memory: its items are read again, and each type of a line is worked out.
+// The lines `table` of a text whose clauses stand in the working memory: its items are read again from the first line on, and each type of a
+// line is worked out.
 use crate::Stage;
 use grammar::items;
 use scopes::frames;
@@ -111,13 +112,13 @@ fn item(text: &[u8], work: &mut [u16], at: usize, seen: usize) -> Went
     Went::On(e.at, seen + 1)
 }
 
-// All items from an offset on.
-pub fn lines(text: &[u8], work: &mut [u16], start: usize) -> Stage
-    requires { ⌜ CanItem (now text) (now work) start 0 ⌝ }
-    ensures { λ r. ⌜ LinesSay (now (text .entry)) (now (work .entry)) start r (now (work .exit)) ⌝ }
+// All items from an offset on, above which so many clauses stand.
+pub fn lines(text: &[u8], work: &mut [u16], start: usize, above: usize) -> Stage
+    requires { ⌜ CanItem (now text) (now work) start above ⌝ }
+    ensures { λ r. ⌜ LinesSay (now (text .entry)) (now (work .entry)) start above r (now (work .exit)) ⌝ }
 {
     let mut at = start;
-    let mut seen: usize = 0;
+    let mut seen = above;
     loop {
         match item(text, work, at, seen) {
             Went::On(next, known) => {

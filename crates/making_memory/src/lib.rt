@@ -16,7 +16,7 @@ pub const SCOPE: usize = 11264;
 pub const HALVES: usize = 13312;
 
 // The clauses in the order of the text: the offsets of the name, of what stands behind it, of the number parameters, of the body and of
-// what stands behind that; 1 for a type; how many type parameters and number parameters. At most 256, eight numbers each.
+// what stands behind that; the key of its sort and name; how many type parameters and number parameters. At most 256, eight numbers each.
 pub const CLAUSES: usize = 21504;
 
 // The definitions that are being put in, by the levels that their bodies may have: how many clauses they know, and where in the scope their

@@ -8,8 +8,8 @@ use lib.ListN.{length, getD, drop}
 use Rattle.calculus.specs.Answer.{Answer, good, _>>=_, refuse, need}
 use Rattle.calculus.specs.Terms.{Edition}
 use Rattle.calculus.specs.Terms as Terms
-use Rattle.notation_calculus.specs.Words.{Name, sameName, Sign, signCode, ends, fun, fix, lets, within, type, edition, table, arrow, linear, times, round, endRound, equals, comma, colon, dot, square, endSquare, curly, endCurly, plus, Token, sign, part, number, name, Word}
-use Rattle.notation_calculus.specs.Trees.{Bound, Number, Form, product, TypeTree, typed, TypeAtom, one, inside, typeNamed, Side, nothing, side, TypeTrees, noTypes, types, Tree, spine, apart, Atom, named, tuple, Atoms, noAtoms, atoms, Trees, noTrees, trees, Body, ofType, ofTerm, Clause, Line, Text}
+use Rattle.notation_calculus.specs.Words.{Name, sameName, Sign, signCode, ends, fun, fix, lets, within, type, edition, table, arrow, linear, times, round, endRound, equals, comma, colon, dot, square, endSquare, curly, endCurly, plus, power, Token, sign, part, number, name, Word}
+use Rattle.notation_calculus.specs.Trees.{Bound, Number, Form, product, TypeTree, typed, TypeAtom, one, ones, inside, typeNamed, Side, nothing, side, TypeTrees, noTypes, types, Tree, spine, apart, Atom, named, tuple, Atoms, noAtoms, atoms, Trees, noTrees, trees, Body, ofType, ofTerm, Clause, Line, Text}
 use Rattle.notation_calculus.specs.Trees as Trees
 
 -- terms, types and definitions in one another, in the text and where they are put in
@@ -125,6 +125,12 @@ argumentsAt read ws = cond (is square ws) (do
 
 -- ---- types
 
+-- behind a 1: a sign and how many stand in a row, or nothing
+abbrev pub onesAt : List Word → Answer (Got TypeAtom)
+onesAt ws = cond (is power ws) (do
+  k ← numberAt (behind ws)
+  got (ones (place ws) (k .value)) (k .rest)) (got one ws)
+
 abbrev pub typeAtomOf : (List Word → Answer (Got TypeTree)) → Token → List Word → Answer (Got TypeAtom)
 typeAtomOf read (sign t) ws = do
   _ ← need (isToken round (sign t)) 32 (place ws)
@@ -134,7 +140,7 @@ typeAtomOf read (sign t) ws = do
 typeAtomOf read (part p) ws = refuse 32 (place ws)
 typeAtomOf read (number k) ws = do
   _ ← need (eqb k 1) 32 (place ws)
-  got one (behind ws)
+  onesAt (behind ws)
 typeAtomOf read (name n) ws = do
   ts ← argumentsAt read (behind ws)
   ks ← numbersAt (ts .rest)
@@ -226,6 +232,29 @@ namesFrom (suc rounds) ws = do
     xs ← namesFrom rounds (x .rest)
     got (x .value ∷ xs .value) (xs .rest))
 
+-- what `fun` binds: names, or names in parentheses, at a place, into which a pair is taken apart
+pub data Binds : Type 0 where
+  bindsEach : List Bound → Binds
+  bindsPair : ℕ → List Bound → Binds
+
+abbrev pub bindsFrom : ℕ → List Word → Answer (Got Binds)
+bindsFrom rounds ws = cond (is round ws) (do
+  xs ← listFrom nameAt (length ws) (behind ws)
+  _ ← need (leb 2 (length (xs .value))) 32 (place (xs .rest))
+  after ← expect endRound (xs .rest)
+  got (bindsPair (place ws) (xs .value)) after) (do
+    xs ← namesFrom rounds ws
+    got (bindsEach (xs .value)) (xs .rest))
+
+-- a variable that no text can name: no word has this name
+abbrev pub nameless : ℕ → Bound
+nameless at = record { name = []; place = at }
+
+-- fun (a, b) : t. e is fun p : t. let (a, b) = p in e, where p is nameless
+abbrev pub functionTree : ℕ → Binds → TypeTree → Tree → Tree
+functionTree at (bindsEach xs) t e = Trees.fun at xs t e
+functionTree at (bindsPair p xs) t e = Trees.fun at (nameless p ∷ []) t (apart p xs (spine p (named p [] noTypes []) noAtoms) e)
+
 -- : type . term
 abbrev pub boundBody : (List Word → Answer (Got Tree)) → (List Word → Answer (Got TypeTree)) → (TypeTree → Tree → Tree) → List Word → Answer (Got Tree)
 boundBody read readType build ws = do
@@ -256,8 +285,8 @@ letAt read at ws = cond (is round ws) (do
 abbrev pub termBy : (List Word → Answer (Got Tree)) → (List Word → Answer (Got TypeTree)) → List Word → Answer (Got Tree)
 termBy read readType ws =
     cond (is fun ws) (do
-      xs ← namesFrom (length ws) (behind ws)
-      boundBody read readType (Trees.fun (place ws) (xs .value)) (xs .rest)) (cond (is fix ws) (do
+      xs ← bindsFrom (length ws) (behind ws)
+      boundBody read readType (functionTree (place ws) (xs .value)) (xs .rest)) (cond (is fix ws) (do
         x ← nameAt (behind ws)
         boundBody read readType (Trees.fix (place ws) (x .value)) (x .rest)) (cond (is lets ws) (letAt read (place ws) (behind ws)) (spineAt read readType ws)))
 

@@ -11,7 +11,7 @@ use Rattle.calculus.specs.Read.{formed, repeated}
 use Rattle.calculus.specs.Terms.{Edition, first, second, isSecond, Term, var, lvar, app, lfun, lapp, proj, con, partAt}
 use Rattle.calculus.specs.Terms as Terms
 use Rattle.notation_calculus.specs.Words.{Name, sameName}
-use Rattle.notation_calculus.specs.Trees.{Bound, Number, Form, product, arrow, linear, TypeTree, typed, TypeAtom, one, inside, typeNamed, Side, nothing, side, TypeTrees, noTypes, types, Tree, spine, fun, fix, name, apart, Atom, named, part, tuple, Atoms, noAtoms, atoms, Trees, noTrees, trees, Body, ofType, ofTerm, Clause, Text}
+use Rattle.notation_calculus.specs.Trees.{Bound, Number, Form, product, arrow, linear, TypeTree, typed, TypeAtom, one, ones, inside, typeNamed, Side, nothing, side, TypeTrees, noTypes, types, Tree, spine, fun, fix, name, apart, Atom, named, part, tuple, Atoms, noAtoms, atoms, Trees, noTrees, trees, Body, ofType, ofTerm, Clause, Text}
 use Rattle.notation_calculus.specs.Grammar.{isType, namesake}
 
 -- what all definitions that are put in may cost, types too: this bounds the time
@@ -247,9 +247,24 @@ joined go x (side f at t) = do
   y ← go (x .state) t
   listed (y .state) (formOf f (x .type) (y .type)) at
 
+-- so many bits more left of a row, each in a product that is listed
+abbrev pub moreBits : ℕ → ℕ → Found → Answer Found
+moreBits at zero x = good x
+moreBits at (suc n) x = do
+  y ← listed (x .state) (rec02 0 (x .type)) at
+  moreBits at n y
+
+-- n bits in a row; zero bits are no type
+abbrev pub onesOf : ℕ → ℕ → ℕ → State → Answer Found
+onesOf at place zero σ = refuse 33 place
+onesOf at place (suc n) σ = moreBits at n (record { type = 0; state = σ })
+
 -- `go` works out a type of a scope, `put` the body of a definition
 abbrev pub atomType : Text → Scope → (Scope → State → TypeTree → Answer Found) → (Scope → State → Body → Answer Found) → State → TypeAtom → Answer Found
 atomType X S go put σ one = good (record { type = 0; state = σ })
+atomType X S go put σ (ones at k) = do
+  n ← numberOf (S .numbers) k
+  onesOf at (k .place) n σ
 atomType X S go put σ (inside t) = go S σ t
 atomType X S go put σ (typeNamed at n ts ks) =
     let there = putIn X true S go put σ at n ts ks in

@@ -12,9 +12,9 @@ use Rattle.calculus.specs.Types as Types
 use Rattle.calculus.specs.Terms.{Edition, isSecond, Term, partAt}
 use Rattle.calculus.specs.Terms as Terms
 use Rattle.notation_calculus.specs.Words.{Name}
-use Rattle.notation_calculus.specs.Trees.{Bound, Number, Form, product, arrow, linear, TypeTree, typed, TypeAtom, one, inside, typeNamed, Side, nothing, side, TypeTrees, noTypes, types, Tree, spine, Atom, named, part, tuple, Atoms, noAtoms, atoms, Trees, noTrees, trees, Body, ofType, ofTerm, Clause, Text}
+use Rattle.notation_calculus.specs.Trees.{Bound, Number, Form, product, arrow, linear, TypeTree, typed, TypeAtom, one, ones, inside, typeNamed, Side, nothing, side, TypeTrees, noTypes, types, Tree, spine, Atom, named, part, tuple, Atoms, noAtoms, atoms, Trees, noTrees, trees, Body, ofType, ofTerm, Clause, Text}
 use Rattle.notation_calculus.specs.Trees as Trees
-use Rattle.notation_calculus.specs.Making.{Entry, numbersOf, bindNumbers, seenBy, noArguments, meant}
+use Rattle.notation_calculus.specs.Making.{Entry, numberOf, numbersOf, bindNumbers, seenBy, noArguments, meant}
 use Rattle.notation_calculus.specs.Make.{mainName}
 
 -- ---- terms with their types
@@ -100,12 +100,18 @@ mayJoin product a b = sharable a && sharable b
 mayJoin arrow a b = sharable a
 mayJoin linear a b = isArrow a
 
+-- a bit, and so many more left of it
+abbrev pub bitsTy : ℕ → Ty
+bitsTy zero = bit
+bitsTy (suc n) = prod bit (bitsTy n)
+
 mutual
   pub data TypeIs (X : Text) : Here → TypeTree → Ty → Type 0 where
     type-is : {S : Here} {at : ℕ} {a : TypeAtom} {p q : Side} {τ₁ τ₂ τ₃ : Ty} → AtomIs X S a τ₁ → SideIs X S τ₁ p τ₂ → SideIs X S τ₂ q τ₃ → TypeIs X S (typed at a p q) τ₃
 
   pub data AtomIs (X : Text) : Here → TypeAtom → Ty → Type 0 where
     one-is : {S : Here} → AtomIs X S one bit
+    ones-is : {S : Here} {at n : ℕ} {k : Number} {τ : Ty} → numberOf (S .numbers) k ≡ good (suc n) → τ ≡ bitsTy n → AtomIs X S (ones at k) τ
     inside-is : {S : Here} {t : TypeTree} {τ : Ty} → TypeIs X S t τ → AtomIs X S (inside t) τ
     parameter-is : {S : Here} {at i : ℕ} {n : Name} {τ : Ty} → Nearest n (S .types) i τ → AtomIs X S (typeNamed at n noTypes []) τ
     put-is :

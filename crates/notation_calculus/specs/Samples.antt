@@ -68,6 +68,34 @@ M11 = makes "table 1, 1 * 1, 1 * 1 -> 1 * 1, (1 * 1 -> 1 * 1) -o 1 * 1 -> 1 * 1\
 abbrev pub M12 : Row
 M12 = makes "table 1\nlater = inv\nodd[a] = frist\neven{n} = frist\nmain = zero" (0x01 ∷ 0x1A ∷ 0x00 ∷ 0x00 ∷ [])
 
+-- bits in a row, nested to the right
+abbrev pub M14 : Row
+M14 = makes "main = fun x : 1^3. x" (0x01 ∷ 0x02 ∷ 0x00 ∷ 0x00 ∷ 0x02 ∷ 0x00 ∷ 0x01 ∷ 0x03 ∷ 0x02 ∷ 0x02 ∷ 0x13 ∷ 0x03 ∷ 0x11 ∷ 0x00 ∷ [])
+
+-- .. one of them is a bit
+abbrev pub M15 : Row
+M15 = makes "main = fun x : 1 ^ 01. x" (0x01 ∷ 0x03 ∷ 0x00 ∷ 0x00 ∷ 0x13 ∷ 0x01 ∷ 0x11 ∷ 0x00 ∷ [])
+
+-- .. a row binds closer than a product
+abbrev pub M16 : Row
+M16 = makes "main = fun x : 1^2 * 1. x" (0x01 ∷ 0x02 ∷ 0x00 ∷ 0x00 ∷ 0x02 ∷ 0x01 ∷ 0x00 ∷ 0x03 ∷ 0x02 ∷ 0x02 ∷ 0x13 ∷ 0x03 ∷ 0x11 ∷ 0x00 ∷ [])
+
+-- a function of a pair that is taken apart
+abbrev pub M17 : Row
+M17 = makes "main = fun (a, b) : 1 * 1. a" (0x01 ∷ 0x02 ∷ 0x00 ∷ 0x00 ∷ 0x03 ∷ 0x01 ∷ 0x00 ∷ 0x13 ∷ 0x02 ∷ 0x18 ∷ 0x11 ∷ 0x00 ∷ 0x11 ∷ 0x01 ∷ [])
+
+-- .. is a function, and a pair taken apart in its body
+abbrev pub M18 : Row
+M18 = makes "main = fun p : 1 * 1. let (a, b) = p in a" (0x01 ∷ 0x02 ∷ 0x00 ∷ 0x00 ∷ 0x03 ∷ 0x01 ∷ 0x00 ∷ 0x13 ∷ 0x02 ∷ 0x18 ∷ 0x11 ∷ 0x00 ∷ 0x11 ∷ 0x01 ∷ [])
+
+-- .. with three names
+abbrev pub M19 : Row
+M19 = makes "main = fun (a, b, c) : 1^3. (c, a)" (0x01 ∷ 0x02 ∷ 0x00 ∷ 0x00 ∷ 0x02 ∷ 0x00 ∷ 0x01 ∷ 0x03 ∷ 0x02 ∷ 0x01 ∷ 0x13 ∷ 0x03 ∷ 0x18 ∷ 0x11 ∷ 0x00 ∷ 0x18 ∷ 0x11 ∷ 0x00 ∷ 0x17 ∷ 0x01 ∷ 0x11 ∷ 0x00 ∷ 0x11 ∷ 0x03 ∷ [])
+
+-- .. and of a circuit, which is no pair
+abbrev pub M20 : Row
+M20 = makes "main = fun (a, b) : 1 -> 1. a" (0x01 ∷ 0x03 ∷ 0x00 ∷ 0x00 ∷ 0x04 ∷ 0x01 ∷ 0x00 ∷ 0x15 ∷ 0x02 ∷ 0x18 ∷ 0x12 ∷ 0x00 ∷ 0x11 ∷ 0x01 ∷ [])
+
 -- ---- definitions with parameters
 
 -- of two clauses that fit the first is meant
@@ -81,6 +109,10 @@ G1 = makes "table 1, 1 -> 1\ndelay{0} = fun x : 1. x\ndelay{n + 1} = fun x : 1. 
 -- a type for each size, and a definition for all types
 abbrev pub G2 : Row
 G2 = makes "edition 2\ntable 1, 1 * 1, 1 * 1 -> 1, (1 * 1) * 1 * 1, (1 * 1) * 1 * 1 -> 1 * 1, (1 * 1 -> 1) -o (1 * 1) * 1 * 1 -> 1 * 1, (1 * 1 -> 1) -o (1 * 1 -> 1) -o (1 * 1) * 1 * 1 -> 1 * 1\ntype row{0} = 1\ntype row{n + 1} = row{n} * row{n}\ntwo[a, b] = fun f g : a -> b. fun p : a * a. let (x, y) = p in (f x, g y)\nmain = two[row{1}, row{0}] and or" (0x31 ∷ 0x01 ∷ 0x02 ∷ 0x00 ∷ 0x00 ∷ 0x03 ∷ 0x01 ∷ 0x00 ∷ 0x02 ∷ 0x01 ∷ 0x01 ∷ 0x03 ∷ 0x03 ∷ 0x01 ∷ 0x04 ∷ 0x02 ∷ 0x04 ∷ 0x04 ∷ 0x02 ∷ 0x05 ∷ 0x16 ∷ 0x16 ∷ 0x15 ∷ 0x06 ∷ 0x15 ∷ 0x05 ∷ 0x13 ∷ 0x04 ∷ 0x18 ∷ 0x11 ∷ 0x00 ∷ 0x17 ∷ 0x01 ∷ 0x14 ∷ 0x12 ∷ 0x04 ∷ 0x11 ∷ 0x01 ∷ 0x14 ∷ 0x12 ∷ 0x03 ∷ 0x11 ∷ 0x00 ∷ 0x1A ∷ 0x02 ∷ 0x02 ∷ 0x1A ∷ 0x03 ∷ 0x02 ∷ [])
+
+-- a row for each number, and its products listed once
+abbrev pub G6 : Row
+G6 = makes "type bus{n} = 1^n + 1\nmain = fun x : bus{1} * 1^2. x" (0x01 ∷ 0x02 ∷ 0x00 ∷ 0x00 ∷ 0x02 ∷ 0x01 ∷ 0x01 ∷ 0x03 ∷ 0x02 ∷ 0x02 ∷ 0x13 ∷ 0x03 ∷ 0x11 ∷ 0x00 ∷ [])
 
 -- ---- one of each refusal, or more
 
@@ -199,17 +231,57 @@ R33 = refuses "main = frist\nf = fun x : 1. second\ntype t = third" 33 28
 abbrev pub R34 : Row
 R34 = refuses "f = frist\ntable t\nmain = zero" 33 16
 
+-- how many bits stand in a row
+abbrev pub R38 : Row
+R38 = refuses "main = fun x : 1^. x" 32 17
+
+-- only bits stand in a row
+abbrev pub R39 : Row
+R39 = refuses "main = fun x : (1 * 1)^2. x" 32 22
+
+-- zero bits are no type
+abbrev pub R40 : Row
+R40 = refuses "main = fun x : 1^0. x" 33 17
+
+-- a number's name in a row
+abbrev pub R41 : Row
+R41 = refuses "main = fun x : 1^n. x" 33 17
+
+-- .. and a sum above 255
+abbrev pub R42 : Row
+R42 = refuses "f{n} = fun x : 1^n + 255. x\nmain = f{1}" 34 17
+
+-- a function of one name in parentheses
+abbrev pub R44 : Row
+R44 = refuses "main = fun (a) : 1. a" 32 13
+
+-- no names stand beside a list
+abbrev pub R45 : Row
+R45 = refuses "main = fun (a, b) c : 1 * 1. a" 32 18
+
+-- .. nor before it
+abbrev pub R46 : Row
+R46 = refuses "main = fun c (a, b) : 1 * 1. a" 32 13
+
+-- a list of no names
+abbrev pub R47 : Row
+R47 = refuses "main = fun () : 1. zero" 32 12
+
+-- .. and of lists
+abbrev pub R48 : Row
+R48 = refuses "main = fun (a, (b, c)) : 1^3. a" 32 15
+
 -- the notation as it was
 unfoldable pub samples : List Row
-samples = M1 ∷ M2 ∷ M3 ∷ M4 ∷ M5 ∷ M6 ∷ M7 ∷ M8 ∷ M9 ∷ M11 ∷ M12 ∷ []
+samples = M1 ∷ M2 ∷ M3 ∷ M4 ∷ M5 ∷ M6 ∷ M7 ∷ M8 ∷ M9 ∷ M11 ∷ M12 ∷ M14 ∷ M15 ∷ M16 ∷ M17 ∷ M18 ∷ M19 ∷ M20 ∷ []
 
 -- definitions with parameters
 unfoldable pub generics : List Row
-generics = G1 ∷ G2 ∷ G5 ∷ []
+generics = G1 ∷ G2 ∷ G5 ∷ G6 ∷ []
 
 -- refusals
 unfoldable pub refusals : List Row
-refusals = R1 ∷ R2 ∷ R3 ∷ R4 ∷ R5 ∷ R6 ∷ R7 ∷ R8 ∷ R9 ∷ R10 ∷ R11 ∷ R12 ∷ R13 ∷ R14 ∷ R15 ∷ R16 ∷ R17 ∷ R28 ∷ R18 ∷ R19 ∷ R23 ∷ R24 ∷ R25 ∷ R26 ∷ R27 ∷ R31 ∷ R32 ∷ R33 ∷ R34 ∷ []
+refusals = R1 ∷ R2 ∷ R3 ∷ R4 ∷ R5 ∷ R6 ∷ R7 ∷ R8 ∷ R9 ∷ R10 ∷ R11 ∷ R12 ∷ R13 ∷ R14 ∷ R15 ∷ R16 ∷ R17 ∷ R28 ∷ R18 ∷ R19 ∷ R23 ∷ R24 ∷ R25 ∷ R26 ∷ R27 ∷ R31 ∷ R32 ∷ R33 ∷ R34 ∷ R38 ∷ R39 ∷ R40 ∷ R41 ∷ R42 ∷ R44 ∷ R45 ∷ R46 ∷ R47 ∷ R48 ∷ []
 
 -- ---- the call's own refusals: the working memory, the room for bytes and for places
 
@@ -220,8 +292,12 @@ zeroText = ascii "main = zero"
 abbrev invText : List ℕ
 invText = ascii "main = fun x : 1. inv x"
 
+-- .. of a function whose variable is taken apart, the projection, the variable and the body
+abbrev pairText : List ℕ
+pairText = ascii "main = fun (a, b) : 1 * 1. a"
+
 unfoldable pub calls : List (Answer Written)
-calls = makeAnswer 32767 zeroText 4 1 ∷ makeAnswer 32768 zeroText 3 1 ∷ makeAnswer 32768 zeroText 4 0 ∷ makeAnswer 32768 zeroText 4 1 ∷ makeAnswer 32768 invText 99 99 ∷ []
+calls = makeAnswer 32767 zeroText 4 1 ∷ makeAnswer 32768 zeroText 3 1 ∷ makeAnswer 32768 zeroText 4 0 ∷ makeAnswer 32768 zeroText 4 1 ∷ makeAnswer 32768 invText 99 99 ∷ makeAnswer 32768 pairText 99 99 ∷ []
 
 unfoldable pub callResults : List (Answer Written)
-callResults = refuse 1 0 ∷ refuse 17 4 ∷ refuse 37 1 ∷ good (record { bytes = 0x01 ∷ 0x1A ∷ 0x00 ∷ 0x00 ∷ []; places = 7 ∷ [] }) ∷ good (record { bytes = 0x01 ∷ 0x03 ∷ 0x00 ∷ 0x00 ∷ 0x13 ∷ 0x01 ∷ 0x14 ∷ 0x1A ∷ 0x05 ∷ 0x01 ∷ 0x11 ∷ 0x00 ∷ []; places = 11 ∷ 18 ∷ 18 ∷ 22 ∷ [] }) ∷ []
+callResults = refuse 1 0 ∷ refuse 17 4 ∷ refuse 37 1 ∷ good (record { bytes = 0x01 ∷ 0x1A ∷ 0x00 ∷ 0x00 ∷ []; places = 7 ∷ [] }) ∷ good (record { bytes = 0x01 ∷ 0x03 ∷ 0x00 ∷ 0x00 ∷ 0x13 ∷ 0x01 ∷ 0x14 ∷ 0x1A ∷ 0x05 ∷ 0x01 ∷ 0x11 ∷ 0x00 ∷ []; places = 11 ∷ 18 ∷ 18 ∷ 22 ∷ [] }) ∷ good (record { bytes = 0x01 ∷ 0x02 ∷ 0x00 ∷ 0x00 ∷ 0x03 ∷ 0x01 ∷ 0x00 ∷ 0x13 ∷ 0x02 ∷ 0x18 ∷ 0x11 ∷ 0x00 ∷ 0x11 ∷ 0x01 ∷ []; places = 11 ∷ 12 ∷ 11 ∷ 27 ∷ [] }) ∷ []

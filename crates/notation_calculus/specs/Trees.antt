@@ -1,6 +1,6 @@
 -- What a text says: its definitions, with their terms and types as trees; a place is the offset of a word. Assumes nothing.
 -- A tree has a level for each call of `termAt` or `typeAt` (Grammar) that reads it, parentheses too, so that one number bounds both
--- reading and putting in. The place that a tree begins with is that of its first word.
+-- reading and putting in; but that of `fun (a, b) : t. e` has one more where it is put in, since it is the tree of a `let` in a function. The place that a tree begins with is that of its first word.
 use Prim.Native.Nat.{ℕ}
 use mathlib.Core.Bool.{Bool}
 use mathlib.Core.List.{List}
@@ -29,6 +29,7 @@ mutual
 
   pub data TypeAtom : Type 0 where
     one : TypeAtom
+    ones : ℕ → Number → TypeAtom  -- 1 ^ n: n bits in a row; the place is that of the sign
     inside : TypeTree → TypeAtom  -- ( type )
     typeNamed : ℕ → Name → TypeTrees → List Number → TypeAtom
 

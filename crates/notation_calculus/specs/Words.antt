@@ -27,9 +27,9 @@ sameName (a ∷ xs) (b ∷ bs) = eqb a b && sameName xs bs
 
 pub data Sign : Type 0 where
   ends fun fix lets within type edition table : Sign
-  arrow linear times round endRound equals comma colon dot square endSquare curly endCurly plus : Sign
+  arrow linear times round endRound equals comma colon dot square endSquare curly endCurly plus power : Sign
 
--- the number that stands for a sign where it is compared
+-- the number that stands for a sign where it is compared; 22 to 24 are left to parts, numbers and names
 abbrev pub signCode : Sign → ℕ
 signCode ends = 0
 signCode fun = 1
@@ -53,6 +53,7 @@ signCode endSquare = 18
 signCode curly = 19
 signCode endCurly = 20
 signCode plus = 21
+signCode power = 25
 
 pub data Token : Type 0 where
   sign : Sign → Token
@@ -107,6 +108,7 @@ signs =
     ∷ spelled "{" (sign curly)
     ∷ spelled "}" (sign endCurly)
     ∷ spelled "+" (sign plus)
+    ∷ spelled "^" (sign power)
     ∷ record { spelling = 0xCE ∷ 0xBB ∷ []; token = sign fun }
     ∷ record { spelling = 0xC3 ∷ 0x97 ∷ []; token = sign times }
     ∷ record { spelling = 0xE2 ∷ 0x86 ∷ 0x92 ∷ []; token = sign arrow }

@@ -8,10 +8,10 @@ use native.Mathlib.Omega.{arith}
 use lib.Dec.{eqb, leb}
 use lib.ListN.{length}
 use Rattle.calculus.specs.Answer.{Answer, good, refused, _>>=_, need}
-use Rattle.notation_calculus.specs.Words.{Sign, ends, type, edition, table, fun, fix, lets, within, arrow, linear, times, round, endRound, equals, comma, colon, dot, square, endSquare, curly, endCurly, plus, Token, sign, part, number, name, Word}
+use Rattle.notation_calculus.specs.Words.{Sign, ends, type, edition, table, fun, fix, lets, within, arrow, linear, times, round, endRound, equals, comma, colon, dot, square, endSquare, curly, endCurly, plus, power, Token, sign, part, number, name, Word}
 use Rattle.notation_calculus.specs.Trees.{Bound, Form, product, TypeTree, inside, nothing, Tree, apart, tuple, Body, ofType, ofTerm, Clause}
 use Rattle.notation_calculus.specs.Trees as Trees
-use Rattle.notation_calculus.specs.Grammar.{mostNested, Got, got, peek, behind, place, isToken, is, expect, boundName, nameAt, valueOf, listFrom, readNumber, numberAt, numbersAt, parametersAt, typesOf, argumentsAt, typeAtomOf, sideAt, productAt, arrowAt, typeAt, beginsAtom, treesFrom, readAtom, atomsFrom, spineAt, namesFrom, boundBody, letBody, letAt, termBy, termAt, clauseAt, typeBody, termBody, editionAt}
+use Rattle.notation_calculus.specs.Grammar.{mostNested, Got, got, peek, behind, place, isToken, is, expect, boundName, nameAt, valueOf, listFrom, readNumber, numberAt, numbersAt, parametersAt, typesOf, argumentsAt, onesAt, typeAtomOf, sideAt, productAt, arrowAt, typeAt, beginsAtom, treesFrom, readAtom, atomsFrom, spineAt, namesFrom, bindsFrom, functionTree, boundBody, letBody, letAt, termBy, termAt, clauseAt, typeBody, termBody, editionAt}
 use Rattle.calculus.specs.Record.{All}
 use Rattle.notation_theorems.proofs.Answering.{On, on-step, on-any, on-either}
 use Rattle.notation_machine.specs.Bodies.{bodyFrom, bodiesFrom, bodiesOf}
@@ -49,10 +49,13 @@ module _ (P : List Word → Type 0) (next : (ws : List Word) → P ws → P (beh
 
   -- ---- types
 
+  ones-keep : Keeps onesAt
+  ones-keep ws h = on-either After (is power ws) _ _ (on-step After After (numberAt (behind ws)) _ (number-keeps (peek (behind ws) .token) (behind ws) (next ws h)) λ k i. i) h
+
   type-atom-keeps : (read : List Word → Answer (Got TypeTree)) → Keeps read → (k : Token) (ws : List Word) → P ws → On After (typeAtomOf read k ws)
   type-atom-keeps read r (sign t) ws h = on-any After (need (isToken round (sign t)) 32 (place ws)) _ λ _. closed-keeps (read (behind ws)) endRound inside (r (behind ws) (next ws h))
   type-atom-keeps read r (part p) ws h = tt
-  type-atom-keeps read r (number n) ws h = on-any After (need (eqb n 1) 32 (place ws)) _ λ _. next ws h
+  type-atom-keeps read r (number n) ws h = on-any After (need (eqb n 1) 32 (place ws)) _ λ _. ones-keep (behind ws) (next ws h)
   type-atom-keeps read r (name n) ws h = on-step After After (argumentsAt read (behind ws)) _ (arguments-keep read r (behind ws) (next ws h)) λ ts g. on-step After After (numbersAt (ts .rest)) _ (numbers-keep (ts .rest) g) λ ks i. i
 
   side-keeps : (read : List Word → Answer (Got TypeTree)) → Keeps read → (f : Form) → Keeps (sideAt read f)
@@ -70,6 +73,9 @@ module _ (P : List Word → Type 0) (next : (ws : List Word) → P ws → P (beh
   names-keep : (rounds : ℕ) → Keeps (namesFrom rounds)
   names-keep zero ws h = tt
   names-keep (suc rounds) ws h = on-step After After (nameAt ws) _ (name-keeps ws h) λ x g. on-either After (is colon (x .rest)) _ _ g (on-step After After (namesFrom rounds (x .rest)) _ (names-keep rounds (x .rest) g) λ xs i. i)
+
+  binds-keep : (rounds : ℕ) → Keeps (bindsFrom rounds)
+  binds-keep rounds ws h = on-either After (is round ws) _ _ (on-step After After (listFrom nameAt (length ws) (behind ws)) _ (list-keeps nameAt name-keeps (length ws) (behind ws) (next ws h)) λ xs g. on-any After (need (leb 2 (length (xs .value))) 32 (place (xs .rest))) _ λ _. on-expect After endRound (xs .rest) _ (next (xs .rest) g)) (on-step After After (namesFrom rounds ws) _ (names-keep rounds ws h) λ xs g. g)
 
   module _ (read : List Word → Answer (Got Tree)) (r : Keeps read) (readType : List Word → Answer (Got TypeTree)) (rt : Keeps readType) where
     trees-keep : (rounds : ℕ) → Keeps (treesFrom read rounds)
@@ -100,7 +106,7 @@ module _ (P : List Word → Type 0) (next : (ws : List Word) → P ws → P (beh
     spine-keeps ws h = on-step After After (readAtom read readType (peek ws .token) ws) _ (atom-keeps (peek ws .token) ws (next ws h)) λ a g. on-step After After (atomsFrom read readType (length ws) (a .rest)) _ (atoms-keep (length ws) (a .rest) g) λ es i. i
 
     term-by-keeps : Keeps (termBy read readType)
-    term-by-keeps ws h = on-either After (is fun ws) _ _ (on-step After After (namesFrom (length ws) (behind ws)) _ (names-keep (length ws) (behind ws) (next ws h)) λ xs g. bound-keeps (Trees.fun (place ws) (xs .value)) (xs .rest) g) (on-either After (is fix ws) _ _ (on-step After After (nameAt (behind ws)) _ (name-keeps (behind ws) (next ws h)) λ x g. bound-keeps (Trees.fix (place ws) (x .value)) (x .rest) g) (on-either After (is lets ws) _ _ (let-keeps (place ws) (behind ws) (next ws h)) (spine-keeps ws h)))
+    term-by-keeps ws h = on-either After (is fun ws) _ _ (on-step After After (bindsFrom (length ws) (behind ws)) _ (binds-keep (length ws) (behind ws) (next ws h)) λ xs g. bound-keeps (functionTree (place ws) (xs .value)) (xs .rest) g) (on-either After (is fix ws) _ _ (on-step After After (nameAt (behind ws)) _ (name-keeps (behind ws) (next ws h)) λ x g. bound-keeps (Trees.fix (place ws) (x .value)) (x .rest) g) (on-either After (is lets ws) _ _ (let-keeps (place ws) (behind ws) (next ws h)) (spine-keeps ws h)))
 
   term-keeps : (m : ℕ) → Keeps (termAt m)
   term-keeps zero ws h = tt
@@ -165,6 +171,9 @@ behind-one n (w ∷ ws) h = omega arith
 pub atom-left : (n m : ℕ) (k : Token) (ws : List Word) → length (behind ws) ≤ n → On (Left n) (readAtom (λ us. termAt m us) (λ us. typeAt m false us) k ws)
 atom-left n m k ws h = atom-keeps (λ (us : List Word). length us ≤ n) (behind-fewer n) (λ us. termAt m us) (term-keeps (λ (us : List Word). length us ≤ n) (behind-fewer n) m) (λ us. typeAt m false us) (type-keeps (λ (us : List Word). length us ≤ n) (behind-fewer n) m false) k ws h
 
+pub number-left : (n : ℕ) (ws : List Word) → length ws ≤ n → On (Left n) (numberAt ws)
+number-left n ws h = number-keeps (λ (us : List Word). length us ≤ n) (behind-fewer n) (peek ws .token) ws h
+
 pub numbers-left : (n : ℕ) (ws : List Word) → length ws ≤ n → On (Left n) (numbersAt ws)
 numbers-left n ws h = numbers-keep (λ (us : List Word). length us ≤ n) (behind-fewer n) ws h
 
@@ -212,7 +221,7 @@ module _ (read read′ : List Word → Answer (Got TypeTree)) (r : Extends read 
   ext-atom : (k : Token) (ws : List Word) → On (λ a. typeAtomOf read′ k ws ≡ good a) (typeAtomOf read k ws)
   ext-atom (sign t) ws = ext-step (need (isToken round (sign t)) 32 (place ws)) (need (isToken round (sign t)) 32 (place ws)) _ _ (ext-self (need (isToken round (sign t)) 32 (place ws))) λ _. ext-step (read (behind ws)) (read′ (behind ws)) _ _ (r (behind ws)) λ t. ext-self (expect endRound (t .rest) >>= λ after. got (inside (t .value)) after)
   ext-atom (part p) ws = tt
-  ext-atom (number n) ws = ext-self (need (eqb n 1) 32 (place ws) >>= λ _. got Trees.one (behind ws))
+  ext-atom (number n) ws = ext-self (need (eqb n 1) 32 (place ws) >>= λ _. onesAt (behind ws))
   ext-atom (name n) ws = ext-step (argumentsAt read (behind ws)) (argumentsAt read′ (behind ws)) _ _ (ext-arguments (behind ws)) λ ts. ext-self (numbersAt (ts .rest) >>= λ ks. got (Trees.typeNamed (place ws) n (ts .value) (ks .value)) (ks .rest))
 
   ext-side : (f : Form) → Extends (sideAt read f) (sideAt read′ f)

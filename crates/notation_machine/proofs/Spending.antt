@@ -11,11 +11,11 @@ use Rattle.calculus.specs.Types.{TyRec, rec01, rec02, rec03, rec04, recAt}
 use Rattle.calculus.specs.Terms.{Edition, first, second, isSecond, Term, var, app, lfun, lapp, proj, con, partAt}
 use Rattle.calculus.specs.Terms as Terms
 use Rattle.notation_calculus.specs.Words.{Name, sameName}
-use Rattle.notation_calculus.specs.Trees.{Bound, Number, Form, product, TypeTree, typed, TypeAtom, one, inside, typeNamed, Side, nothing, side, TypeTrees, noTypes, types, Body, ofType, ofTerm, Text}
-use Rattle.notation_calculus.specs.Making.{mostPuts, State, Found, Entry, Scope, lookup, bind, formOf, listed, entries, roomFor, numbersIn, Put, clauseFor, onePut, FoundAll, waiting, foundAll, noArguments, putIn, joined, atomType, bodyType, typeOf, shares, Made, node, larger, over, partType, partOf, arrowOf, functionOf, functionsOf, nameOf, halvesOf, rest, halfOf, pairOf, applied}
+use Rattle.notation_calculus.specs.Trees.{Bound, Number, Form, product, TypeTree, typed, TypeAtom, one, ones, inside, typeNamed, Side, nothing, side, TypeTrees, noTypes, types, Body, ofType, ofTerm, Text}
+use Rattle.notation_calculus.specs.Making.{mostPuts, State, Found, Entry, Scope, lookup, bind, formOf, listed, entries, roomFor, numberOf, numbersIn, Put, clauseFor, onePut, FoundAll, waiting, foundAll, noArguments, putIn, joined, onesOf, atomType, bodyType, typeOf, shares, Made, node, larger, over, partType, partOf, arrowOf, functionOf, functionsOf, nameOf, halvesOf, rest, halfOf, pairOf, applied}
 use Rattle.notation_theorems.proofs.Answering.{On, on-step, on-any, on-either, on-map}
 use Rattle.notation_machine.specs.TermMachine.{Element, Taken, pairsOf, Apart, apartFrom, projections}
-use Rattle.notation_machine.proofs.TypeFalls.{listed-puts}
+use Rattle.notation_machine.proofs.TypeFalls.{listed-puts, ones-puts}
 
 -- ---- types
 
@@ -54,6 +54,7 @@ module _ (X : Text) where
 
   atom-spends : (go : Scope → State → TypeTree → Answer Found) → Works go → (S : Scope) (σ : State) (a : TypeAtom) → On (Spent (σ .puts)) (atomType X S go (bodyType go) σ a)
   atom-spends go w S σ one = omega arith
+  atom-spends go w S σ (ones at k) = on-any (Spent (σ .puts)) (numberOf (S .numbers) k) (λ n. onesOf at (k .place) n σ) λ n. on-map (λ (x : Found). x .state .puts ≡ σ .puts) (Spent (σ .puts)) (onesOf at (k .place) n σ) (ones-puts at (k .place) n σ) λ x e. omega arith
   atom-spends go w S σ (inside t) = w S σ t
   atom-spends go w S σ (typeNamed at n ts ks) = on-either (Spent (σ .puts)) (noArguments ts ks) _ _ (found-spends n (S .types) 0 σ (putIn X true S go (bodyType go) σ at n ts ks) (put-spends go w S σ at n ts ks)) (put-spends go w S σ at n ts ks)
 

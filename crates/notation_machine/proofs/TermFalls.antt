@@ -18,7 +18,7 @@ use Rattle.notation_theorems.proofs.Answering.{On, on-step, on-any, on-test, on
 use Rattle.notation_machine.specs.Bodies.{numberFor, wordsFor}
 use Rattle.notation_machine.specs.TypeFrom.{typeFrom, typesFrom}
 use Rattle.notation_machine.specs.TypeSteps.{AllShort}
-use Rattle.notation_machine.specs.TermMachine.{Function, none, some, Spine, Element, Taken, TermWish, ofFunction, ofFix, valueOfName, valueOfNames, underName, underNames, element, ofDefinition, TermLevel, Terming, wantedTerm, cameTerm, applying, TermHere, askTerm, termDone, pairsOf, Apart, apartFrom, projections, appliedTo, behindAtom, behindElement, termPutIn, termNamedAt, atomEntered, applicationFrom, functionFrom, fixFrom, letFrom, termEntered, doneBy, termLeft, termMove}
+use Rattle.notation_machine.specs.TermMachine.{Function, none, some, Spine, Element, Taken, TermWish, ofFunction, ofFix, valueOfName, valueOfNames, underName, underNames, element, ofDefinition, TermLevel, Terming, wantedTerm, cameTerm, applying, TermHere, askTerm, termDone, pairsOf, Apart, apartFrom, projections, appliedTo, behindAtom, behindElement, termPutIn, termNamedAt, atomEntered, applicationFrom, pairMade, pairIn, pairFrom, namesTyped, functionFrom, fixFrom, letFrom, termEntered, doneBy, termLeft, termMove}
 use Rattle.notation_machine.specs.TermSteps.{termPutSteps, termWishSteps, termLevelSteps, termSteps, TermGoing}
 use Rattle.notation_machine.proofs.Behind.{Left, behind-fewer, numbers-left, type-left, arguments-left, name-left, names-left, list-left}
 use Rattle.notation_machine.proofs.TypeFalls.{sign-some, behind-less, paid, clause-costs, words-short}
@@ -150,8 +150,28 @@ module _ (X : Text) (bodies : List (List Word)) (most : ℕ) (short : AllShort m
 
   -- ---- functions, fixed points and names: the first word is passed
 
-  function-falls : (h : TermHere) (σ : State) (ws : List Word) → T (is fun ws) → On (Most (here h (σ .puts) ws)) (functionFrom X bodies h σ ws)
-  function-falls h σ ws t =
+  -- the variable is there that is taken apart: the two words passed before it pay for both levels
+  pair-in-falls :
+      (more : ℕ) (S : Scope) (σ : State) (at : ℕ) (xs : List Bound) (t : ℕ) (ws : List Word) (K : List TermLevel) (n : ℕ) → 4 + 3 * length ws + termLevelSteps K + termPutSteps most (σ .puts) ≤ n
+      → On (Most n) (pairIn more S σ at xs t ws K)
+  pair-in-falls zero S σ at xs t ws K n h = tt
+  pair-in-falls (suc zero) S σ at xs t ws K n h = tt
+  pair-in-falls (suc (suc more)) S σ at xs t ws K n h =
+      on-step (Unspent (σ .puts)) (Most n) (node at (variable (σ .table) 0 t) t 0 [] σ) _ (node-free at (variable (σ .table) 0 t) t 0 [] σ) λ v e.
+      let q : termPutSteps most (v .state .puts) ≡ termPutSteps most (σ .puts) = ap (termPutSteps most) e in omega arith
+
+  pair-falls : (h : TermHere) (σ : State) (at : ℕ) (ws us : List Word) → length us + 1 ≤ length ws → T (is round us) → On (Most (here h (σ .puts) ws)) (pairFrom X bodies h σ at us)
+  pair-falls h σ at ws us k t =
+      let j : length (behind us) + 1 ≤ length us = sign-some round us refl t in
+      on-step (Left (length (behind us))) Q (listFrom nameAt (length us) (behind us)) _ (list-left (length (behind us)) (length us) (behind us) (omega arith)) λ xs l.
+      on-step (Passed (length (behind us)) (σ .puts)) Q (typeFrom X (h .more) (h .scope) σ (behind (behind (xs .rest)))) _ (type-passed X (h .more) (h .scope) σ (length (behind us)) (behind (behind (xs .rest))) (behind-fewer (length (behind us)) (behind (xs .rest)) (behind-fewer (length (behind us)) (xs .rest) l))) λ t (lt, kt).
+      on-any Q (roomFor (h .scope) 1 at) _ λ _. pair-in-falls (h .more) _ (t .value .state) (place us) (xs .value) (t .value .type) (t .rest) _ (here h (σ .puts) ws) (omega (arith, spent-less most (σ .puts) (t .value .state .puts) kt))
+    where
+      Q : Terming → Type 0
+      Q = Most (here h (σ .puts) ws)
+
+  typed-falls : (h : TermHere) (σ : State) (ws : List Word) → T (is fun ws) → On (Most (here h (σ .puts) ws)) (namesTyped X bodies h σ ws)
+  typed-falls h σ ws t =
       let k : length (behind ws) + 1 ≤ length ws = sign-some fun ws refl t in
       on-step (Left (length (behind ws))) Q (namesFrom (length ws) (behind ws)) _ (names-left (length (behind ws)) (length ws) (behind ws) (omega arith)) λ xs l.
       on-step (Passed (length (behind ws)) (σ .puts)) Q (typeFrom X (h .more) (h .scope) σ (behind (xs .rest))) _ (type-passed X (h .more) (h .scope) σ (length (behind ws)) (behind (xs .rest)) (behind-fewer (length (behind ws)) (xs .rest) l)) λ t (lt, kt).
@@ -159,6 +179,9 @@ module _ (X : Text) (bodies : List (List Word)) (most : ℕ) (short : AllShort m
     where
       Q : Terming → Type 0
       Q = Most (here h (σ .puts) ws)
+
+  function-falls : (h : TermHere) (σ : State) (ws : List Word) → T (is fun ws) → On (Most (here h (σ .puts) ws)) (functionFrom X bodies h σ ws)
+  function-falls h σ ws t = on-tests (Most (here h (σ .puts) ws)) (is round (behind ws)) _ _ (λ r. pair-falls h σ (place ws) ws (behind ws) (sign-some fun ws refl t) r) λ _. typed-falls h σ ws t
 
   fix-falls : (h : TermHere) (σ : State) (ws : List Word) → T (is fix ws) → On (Most (here h (σ .puts) ws)) (fixFrom X bodies h σ ws)
   fix-falls h σ ws t =

@@ -14,13 +14,13 @@ use Rattle.laws.proofs.Tests.{T-is}
 use Rattle.notation_calculus.specs.Words.{Name, Sign, fun, fix, lets, within, round, endRound, equals, comma, colon, dot, square, endSquare, curly, Token, sign, part, number, name, Word}
 use Rattle.notation_calculus.specs.Trees.{Bound, Number, TypeTree, TypeTrees, noTypes, types, Tree, spine, apart, Atom, named, tuple, Atoms, noAtoms, atoms, Trees, noTrees, trees, Body, ofType, ofTerm, Text}
 use Rattle.notation_calculus.specs.Trees as Trees
-use Rattle.notation_calculus.specs.Grammar.{mostNested, Got, got, peek, behind, place, isToken, is, expect, nameAt, listFrom, numbersAt, typesOf, argumentsAt, typeAt, beginsAtom, treesFrom, readAtom, atomsFrom, spineAt, namesFrom, boundBody, letBody, letAt, termBy, termAt}
+use Rattle.notation_calculus.specs.Grammar.{mostNested, Got, got, peek, behind, place, isToken, is, expect, nameAt, listFrom, numbersAt, typesOf, argumentsAt, typeAt, beginsAtom, treesFrom, readAtom, atomsFrom, spineAt, namesFrom, Binds, bindsEach, bindsPair, bindsFrom, nameless, functionTree, boundBody, letBody, letAt, termBy, termAt}
 use Rattle.notation_calculus.specs.Making.{State, Found, Entry, Scope, lookup, bind, bindAll, withVariables, entries, roomFor, numbersIn, Put, clauseFor, onePut, FoundAll, foundAll, noArguments, putIn, typeOf, Made, node, over, variable, partOf, functionsOf, nameOf, halvesOf, rest, apartOf, pairOf, applied, tupleOf, bodyTerm, atomOf, spineOf, termOf}
 use Rattle.notation_theorems.proofs.Answering.{On, on-step, on-any, on-test, on-either, on-map, on-is, on-good}
 use Rattle.notation_machine.specs.Walked.{walked, Runs}
 use Rattle.notation_machine.specs.Bodies.{wordsFor, AllRead}
 use Rattle.notation_machine.specs.TypeFrom.{typeFrom, typesFrom}
-use Rattle.notation_machine.specs.TermMachine.{Function, none, some, Spine, Element, Taken, TermWish, ofFunction, ofFix, valueOfName, valueOfNames, underName, underNames, element, ofDefinition, TermLevel, Terming, wantedTerm, cameTerm, applying, TermHere, askTerm, termDone, pairsOf, Apart, apartFrom, projections, appliedTo, behindAtom, behindElement, termPutIn, termNamedAt, atomEntered, applicationFrom, functionFrom, fixFrom, letFrom, termEntered, doneBy, termLeft, termMove}
+use Rattle.notation_machine.specs.TermMachine.{Function, none, some, Spine, Element, Taken, TermWish, ofFunction, ofFix, valueOfName, valueOfNames, underName, underNames, element, ofDefinition, TermLevel, Terming, wantedTerm, cameTerm, applying, TermHere, askTerm, termDone, pairsOf, Apart, apartFrom, projections, appliedTo, behindAtom, behindElement, termPutIn, termNamedAt, atomEntered, applicationFrom, pairMade, pairIn, pairFrom, namesTyped, functionFrom, fixFrom, letFrom, termEntered, doneBy, termLeft, termMove}
 use Rattle.notation_machine.proofs.Running.{Follows, good-right, bind-bind, follows-now, follows-as, follows-for, follows-step, follows-then, follows-to, follows-both, follows-same, follows-all}
 use Rattle.notation_machine.proofs.ReadLaws.{on-expect, on-pair, on-closed, Numbers, numbers-read, Arguments, arguments-read, Used, used-read, lookup-both}
 use Rattle.notation_machine.proofs.Bodies.{BodyFound, body-found, read-take}
@@ -46,12 +46,115 @@ module _ (X : Text) (bodies : List (List Word)) (reads : AllRead bodies (X .clau
   none-let : (m : ℕ) (ws us : List Word) (build : Tree → Tree → Tree) → ((v e : Tree) (S : Scope) (σ : State) → termOf X zero S σ (build v e) ≡ refuse 34 (place ws)) → On (None ws) (letBody (λ vs. termAt m vs) build us)
   none-let m ws us build h = on-expect (None ws) equals us _ (on-any (None ws) (termAt m (behind us)) _ λ v. on-expect (None ws) within (v .rest) _ (on-any (None ws) (termAt m (behind (v .rest))) _ λ e. h (v .value) (e .value)))
 
+  none-function : (at : ℕ) (xs : Binds) (t : TypeTree) (e : Tree) (S : Scope) (σ : State) → termOf X zero S σ (functionTree at xs t e) ≡ refuse 34 at
+  none-function at (bindsEach xs) t e S σ = refl
+  none-function at (bindsPair p xs) t e S σ = refl
+
   none-left : (m : ℕ) (ws : List Word) → On (None ws) (termAt m ws)
   none-left zero ws = tt
-  none-left (suc m) ws = on-either (None ws) (is fun ws) _ _ (on-any (None ws) (namesFrom (length ws) (behind ws)) _ λ xs. none-bound m ws (xs .rest) (Trees.fun (place ws) (xs .value)) λ t e S σ. refl) (on-either (None ws) (is fix ws) _ _ (on-any (None ws) (nameAt (behind ws)) _ λ x. none-bound m ws (x .rest) (Trees.fix (place ws) (x .value)) λ t e S σ. refl) (on-either (None ws) (is lets ws) _ _ (on-either (None ws) (is round (behind ws)) _ _ (on-any (None ws) (listFrom nameAt (length (behind ws)) (behind (behind ws))) _ λ xs. on-any (None ws) (need (leb 2 (length (xs .value))) 32 (place (xs .rest))) _ λ _. on-expect (None ws) endRound (xs .rest) _ (none-let m ws (behind (xs .rest)) (apart (place ws) (xs .value)) λ v e S σ. refl)) (on-any (None ws) (nameAt (behind ws)) _ λ x. none-let m ws (x .rest) (Trees.name (place ws) (x .value)) λ v e S σ. refl)) (on-any (None ws) (readAtom (λ vs. termAt m vs) (λ vs. typeAt m false vs) (peek ws .token) ws) _ λ f. on-any (None ws) (atomsFrom (λ vs. termAt m vs) (λ vs. typeAt m false vs) (length ws) (f .rest)) _ λ as′ S σ. refl)))
+  none-left (suc m) ws = on-either (None ws) (is fun ws) _ _ (on-any (None ws) (bindsFrom (length ws) (behind ws)) _ λ xs. none-bound m ws (xs .rest) (functionTree (place ws) (xs .value)) (none-function (place ws) (xs .value))) (on-either (None ws) (is fix ws) _ _ (on-any (None ws) (nameAt (behind ws)) _ λ x. none-bound m ws (x .rest) (Trees.fix (place ws) (x .value)) λ t e S σ. refl) (on-either (None ws) (is lets ws) _ _ (on-either (None ws) (is round (behind ws)) _ _ (on-any (None ws) (listFrom nameAt (length (behind ws)) (behind (behind ws))) _ λ xs. on-any (None ws) (need (leb 2 (length (xs .value))) 32 (place (xs .rest))) _ λ _. on-expect (None ws) endRound (xs .rest) _ (none-let m ws (behind (xs .rest)) (apart (place ws) (xs .value)) λ v e S σ. refl)) (on-any (None ws) (nameAt (behind ws)) _ λ x. none-let m ws (x .rest) (Trees.name (place ws) (x .value)) λ v e S σ. refl)) (on-any (None ws) (readAtom (λ vs. termAt m vs) (λ vs. typeAt m false vs) (peek ws .token) ws) _ λ f. on-any (None ws) (atomsFrom (λ vs. termAt m vs) (λ vs. typeAt m false vs) (length ws) (f .rest)) _ λ as′ S σ. refl)))
 
   none-goes : (m : ℕ) (ws : List Word) → On (TermGoes zero ws) (termAt m ws)
   none-goes m ws = on-map (None ws) (TermGoes zero ws) (termAt m ws) (none-left m ws) λ g h S σ K. follows-for move (h S σ) (follows-step move (record { steps = 0; lead = refl }))
+
+  -- a pair is taken apart, over those that are taken apart already
+  module _ (more : ℕ) (S : Scope) (K : List TermLevel) (us : List Word) (e : Got Tree) (E : TermGoes more us e) where
+    abbrev level : TermHere
+    level = record { more = more; scope = S; above = K }
+
+    abbrev apartAsk : Apart → Answer Terming
+    apartAsk a = good (askTerm level (underNames (a .taken)) (withVariables S (a .variables)) (a .state) us)
+
+    abbrev inBody : List Entry → State → Answer Made
+    inBody Δ τ = termOf X more (withVariables S Δ) τ (e .value)
+
+    abbrev closedBy : List Taken → Made → Answer Terming
+    closedBy ps m = projections ps m >>= λ f. good (termDone level f (e .rest))
+
+    abbrev projected : Bound → Made → Made → Answer Made
+    projected x v b = over (x .place) proj (b .type) v b (b .state)
+
+    abbrev onto : Bound → Made → List Taken → List Taken
+    onto x v ps = record { place = x .place; pair = v } ∷ ps
+
+    close-one : (x : Bound) (v : Made) (ps : List Taken) (b : Made) → Follows move (closedBy (onto x v ps) b) (projected x v b) (closedBy ps)
+    close-one x v ps b = follows-as move (bind-bind (projected x v b) (λ f. projections ps f) (λ f. good (termDone level f (e .rest)))) (follows-all move (projected x v b))
+
+    apart-goes : (Γ : List Entry) (xs : List Bound) (v : Made) (ps : List Taken) → Follows move (apartFrom Γ xs v ps >>= apartAsk) (apartOf inBody Γ xs v) (closedBy ps)
+    apart-goes Γ [] v ps = record { steps = 0; lead = refl }
+    apart-goes Γ (x ∷ []) v ps = record { steps = 0; lead = refl }
+    apart-goes Γ (x ∷ y ∷ []) v ps =
+        let h = halvesOf (recAt (v .state .table) (v .type)) in
+        follows-then move (inBody (bind y (h .right) (bind x (h .left) Γ)) (v .state)) (projected x v) (E (withVariables S (bind y (h .right) (bind x (h .left) Γ))) (v .state) (record { wish = underNames (onto x v ps); scope = S } ∷ K)) λ b. follows-step move (close-one x v ps b)
+    apart-goes Γ (x ∷ y ∷ z ∷ zs) v ps =
+        let h = halvesOf (recAt (v .state .table) (v .type)) in
+        let Δ = bind rest (h .right) (bind x (h .left) Γ) in
+        follows-as move (bind-bind (node (y .place) (var 0) (h .right) 0 [] (v .state)) (λ r. apartFrom Δ (y ∷ z ∷ zs) r (onto x v ps)) apartAsk) (follows-same move (node (y .place) (var 0) (h .right) 0 [] (v .state)) λ r.
+        follows-then move (apartOf inBody Δ (y ∷ z ∷ zs) r) (projected x v) (apart-goes Δ (y ∷ z ∷ zs) r (onto x v ps)) λ b. close-one x v ps b)
+
+  -- ---- a function whose variable is taken apart
+
+  -- the body stands two levels below
+  abbrev Lower : ℕ → Type 0
+  Lower zero = Unit {0}
+  Lower (suc more) = (m : ℕ) → m ≤ mostNested → (ws : List Word) → On (TermGoes more ws) (termAt m ws)
+
+  abbrev valueTree : ℕ → Tree
+  valueTree p = spine p (named p [] noTypes []) noAtoms
+
+  abbrev pairScope : Scope → ℕ → ℕ → Scope
+  pairScope S p t = withVariables S (bind (nameless p) t (S .variables))
+
+  abbrev BodyGoes : ℕ → List Word → Got Tree → Type 0
+  BodyGoes zero ws e = Unit {0}
+  BodyGoes (suc more) ws e = TermGoes more ws e
+
+  body-below : (more : ℕ) → Lower more → (m : ℕ) → m ≤ mostNested → (ws : List Word) → On (BodyGoes more ws) (termAt m ws)
+  body-below zero lower m h ws = on-map (None ws) (BodyGoes zero ws) (termAt m ws) (none-left m ws) λ g k. tt
+  body-below (suc more) lower m h ws = lower m h ws
+
+  in-goes :
+      (more p : ℕ) (xs : List Bound) (t : ℕ) (S : Scope) (σ : State) (us : List Word) (e : Got Tree) (K : List TermLevel) → BodyGoes more (behind us) e
+      → Follows move (pairIn more (pairScope S p t) σ p xs t us K) (termOf X more (pairScope S p t) σ (apart p xs (valueTree p) (e .value))) (λ b. good (cameTerm more b (e .rest) K))
+  in-goes zero p xs t S σ us e K E = record { steps = 0; lead = refl }
+  in-goes (suc zero) p xs t S σ us e K E = record { steps = 0; lead = refl }
+  in-goes (suc (suc k)) p xs t S σ us e K E =
+      follows-for move (ap (λ (q : Answer Made). q >>= λ a. roomFor R (length xs + length xs) p >>= λ _. apartOf (λ Δ τ. termOf X (suc k) (withVariables R Δ) τ (e .value)) (R .variables) xs a) (good-right (node p (variable (σ .table) 0 t) t 0 [] σ)))
+      (follows-same move (node p (variable (σ .table) 0 t) t 0 [] σ) λ v.
+      follows-step move (follows-same move (roomFor R (length xs + length xs) p) λ _. apart-goes (suc k) R K (behind us) e E (R .variables) xs v []))
+    where
+      R : Scope
+      R = pairScope S p t
+
+  abbrev pairTyped : ℕ → ℕ → ℕ → List Bound → List Word → Scope → State → List TermLevel → Answer Terming
+  pairTyped more at′ p xs us S σ K = typeFrom X more S σ us >>= λ t. roomFor S 1 at′ >>= λ _. pairIn more (pairScope S p (t .value .type)) (t .value .state) p xs (t .value .type) (t .rest) (record { wish = ofFunction (nameless p ∷ []) (t .value .type); scope = S } ∷ K)
+
+  abbrev PairGoes : ℕ → ℕ → ℕ → List Bound → List Word → Got Tree → Type 0
+  PairGoes more at′ p xs us g = (S : Scope) (σ : State) (K : List TermLevel) → Follows move (pairTyped more at′ p xs us S σ K) (termOf X (suc more) S σ (g .value)) (λ m. good (cameTerm (suc more) m (g .rest) K))
+
+  pair-goes : (more : ℕ) → Lower more → (m : ℕ) → m ≤ mostNested → (at′ p : ℕ) (xs : List Bound) (us : List Word) → On (PairGoes more at′ p xs (behind us)) (boundBody (λ vs. termAt m vs) (λ vs. typeAt m false vs) (functionTree at′ (bindsPair p xs)) us)
+  pair-goes more lower m h at′ p xs us =
+      on-expect Q colon us _ (on-step (TypeRead X more (behind us)) Q (typeAt m false (behind us)) _ (type-read X more m h (behind us)) λ t T.
+      on-expect Q dot (t .rest) _ (on-step (BodyGoes more (behind (t .rest))) Q (termAt m (behind (t .rest))) _ (body-below more lower m h (behind (t .rest))) λ e E S σ K.
+      follows-as move (ap (λ (q : Answer (Got Found)). q >>= asked S K) (T S σ) ∙ bind-bind (typeOf X more S σ (t .value)) (λ x. got x (t .rest)) (asked S K)) (
+      follows-same move (typeOf X more S σ (t .value)) λ θ. follows-same move (roomFor S 1 at′) λ _.
+      follows-then move (termOf X more (pairScope S p (θ .type)) (θ .state) (apart p xs (valueTree p) (e .value))) (functionsOf (nameless p ∷ []) (θ .type)) (in-goes more p xs (θ .type) S (θ .state) (t .rest) e (record { wish = ofFunction (nameless p ∷ []) (θ .type); scope = S } ∷ K) E) λ b.
+      follows-step move (follows-all move (functionsOf (nameless p ∷ []) (θ .type) b)))))
+    where
+      Q : Got Tree → Type 0
+      Q = PairGoes more at′ p xs (behind us)
+
+      asked : Scope → List TermLevel → Got Found → Answer Terming
+      asked S K t = roomFor S 1 at′ >>= λ _. pairIn more (pairScope S p (t .value .type)) (t .value .state) p xs (t .value .type) (t .rest) (record { wish = ofFunction (nameless p ∷ []) (t .value .type); scope = S } ∷ K)
+
+  -- what `fun` binds is read, and then the rest
+  pair-read : (P : Got Tree → Type 0) (us : List Word) (xs : Got (List Bound)) (g : Got Binds → Answer (Got Tree)) → On P (g (record { value = bindsPair (place us) (xs .value); rest = behind (xs .rest) })) → On P ((need (leb 2 (length (xs .value))) 32 (place (xs .rest)) >>= λ _. expect endRound (xs .rest) >>= λ after. got (bindsPair (place us) (xs .value)) after) >>= g)
+  pair-read P us xs g h = by (leb 2 (length (xs .value))) (is endRound (xs .rest))
+    where
+      by : (a b : Bool) → On P ((need a 32 (place (xs .rest)) >>= λ _. (need b 32 (place (xs .rest)) >>= λ _. good (behind (xs .rest))) >>= λ after. got (bindsPair (place us) (xs .value)) after) >>= g)
+      by true true = h
+      by true false = tt
+      by false b = tt
 
   module _ (more : ℕ) (below : (m : ℕ) → m ≤ mostNested → (ws : List Word) → On (TermGoes more ws) (termAt m ws)) where
     abbrev at : Scope → List TermLevel → TermHere
@@ -127,45 +230,13 @@ module _ (X : Text) (bodies : List (List Word)) (reads : AllRead bodies (X .clau
         follows-then move (go (withVariables S (bind x (a .type) (S .variables))) (a .state) (e .value)) (λ b. nameOf (X .edition) x a b) (E (withVariables S (bind x (a .type) (S .variables))) (a .state) (waits (underName x a) S K)) λ b.
         follows-step move (follows-all move (nameOf (X .edition) x a b)))
 
-    -- a pair is taken apart, over those that are taken apart already
-    module _ (S : Scope) (K : List TermLevel) (us : List Word) (e : Got Tree) (E : TermGoes more us e) where
-      abbrev apartAsk : Apart → Answer Terming
-      apartAsk a = good (askTerm (at S K) (underNames (a .taken)) (withVariables S (a .variables)) (a .state) us)
-
-      abbrev inBody : List Entry → State → Answer Made
-      inBody Δ τ = go (withVariables S Δ) τ (e .value)
-
-      abbrev closedBy : List Taken → Made → Answer Terming
-      closedBy ps m = projections ps m >>= λ f. good (termDone (at S K) f (e .rest))
-
-      abbrev projected : Bound → Made → Made → Answer Made
-      projected x v b = over (x .place) proj (b .type) v b (b .state)
-
-      abbrev onto : Bound → Made → List Taken → List Taken
-      onto x v ps = record { place = x .place; pair = v } ∷ ps
-
-      close-one : (x : Bound) (v : Made) (ps : List Taken) (b : Made) → Follows move (closedBy (onto x v ps) b) (projected x v b) (closedBy ps)
-      close-one x v ps b = follows-as move (bind-bind (projected x v b) (λ f. projections ps f) (λ f. good (termDone (at S K) f (e .rest)))) (follows-all move (projected x v b))
-
-      apart-goes : (Γ : List Entry) (xs : List Bound) (v : Made) (ps : List Taken) → Follows move (apartFrom Γ xs v ps >>= apartAsk) (apartOf inBody Γ xs v) (closedBy ps)
-      apart-goes Γ [] v ps = record { steps = 0; lead = refl }
-      apart-goes Γ (x ∷ []) v ps = record { steps = 0; lead = refl }
-      apart-goes Γ (x ∷ y ∷ []) v ps =
-          let h = halvesOf (recAt (v .state .table) (v .type)) in
-          follows-then move (inBody (bind y (h .right) (bind x (h .left) Γ)) (v .state)) (projected x v) (E (withVariables S (bind y (h .right) (bind x (h .left) Γ))) (v .state) (waits (underNames (onto x v ps)) S K)) λ b. follows-step move (close-one x v ps b)
-      apart-goes Γ (x ∷ y ∷ z ∷ zs) v ps =
-          let h = halvesOf (recAt (v .state .table) (v .type)) in
-          let Δ = bind rest (h .right) (bind x (h .left) Γ) in
-          follows-as move (bind-bind (node (y .place) (var 0) (h .right) 0 [] (v .state)) (λ r. apartFrom Δ (y ∷ z ∷ zs) r (onto x v ps)) apartAsk) (follows-same move (node (y .place) (var 0) (h .right) 0 [] (v .state)) λ r.
-          follows-then move (apartOf inBody Δ (y ∷ z ∷ zs) r) (projected x v) (apart-goes Δ (y ∷ z ∷ zs) r (onto x v ps)) λ b. close-one x v ps b)
-
     abbrev namesGo : ℕ → List Bound → List Word → Scope → State → List TermLevel → Answer Terming
     namesGo place′ xs us S σ K = good (askTerm (at S K) (valueOfNames place′ xs) S σ us)
 
     names-go : (place′ : ℕ) (xs : List Bound) (m : ℕ) → m ≤ mostNested → (us : List Word) → On (Ends (namesGo place′ xs (behind us))) (letBody (λ vs. termAt m vs) (apart place′ xs) us)
     names-go place′ xs m h us = let-reads m h us (apart place′ xs) (Ends (namesGo place′ xs (behind us))) λ v e A E S σ K.
         follows-then move (go S σ (v .value)) (λ a. roomFor S (length xs + length xs) place′ >>= λ _. apartOf (λ Δ τ. go (withVariables S Δ) τ (e .value)) (S .variables) xs a) (A S σ (waits (valueOfNames place′ xs) S K)) λ a.
-        follows-step move (follows-same move (roomFor S (length xs + length xs) place′) λ _. apart-goes S K (behind (v .rest)) e E (S .variables) xs a [])
+        follows-step move (follows-same move (roomFor S (length xs + length xs) place′) λ _. apart-goes more S K (behind (v .rest)) e E (S .variables) xs a [])
 
     let-goes : (place′ m : ℕ) → m ≤ mostNested → (us : List Word) → On (Ends (λ S σ K. letFrom X bodies (at S K) σ place′ us)) (letAt (λ vs. termAt m vs) place′ us)
     let-goes place′ m h us = by (is round us)
@@ -315,9 +386,28 @@ module _ (X : Text) (bodies : List (List Word)) (reads : AllRead bodies (X .clau
 
     -- ---- a level
 
-    function-goes : (m : ℕ) → m ≤ mostNested → (ws : List Word) → On (Ends (λ S σ K. functionFrom X bodies (at S K) σ ws)) (namesFrom (length ws) (behind ws) >>= λ xs. boundBody (λ vs. termAt m vs) (λ vs. typeAt m false vs) (Trees.fun (place ws) (xs .value)) (xs .rest))
-    function-goes m h ws = reads-same (namesFrom (length ws) (behind ws)) _ (λ xs S σ K. boundFrom (place ws) (length (xs .value)) (bindAll (xs .value)) (ofFunction (xs .value)) (functionsOf (xs .value)) (Trees.fun (place ws) (xs .value)) (behind (xs .rest)) S σ K) λ xs.
+    typed-goes : (m : ℕ) → m ≤ mostNested → (ws : List Word) → On (Ends (λ S σ K. namesTyped X bodies (at S K) σ ws)) (namesFrom (length ws) (behind ws) >>= λ xs. boundBody (λ vs. termAt m vs) (λ vs. typeAt m false vs) (Trees.fun (place ws) (xs .value)) (xs .rest))
+    typed-goes m h ws = reads-same (namesFrom (length ws) (behind ws)) _ (λ xs S σ K. boundFrom (place ws) (length (xs .value)) (bindAll (xs .value)) (ofFunction (xs .value)) (functionsOf (xs .value)) (Trees.fun (place ws) (xs .value)) (behind (xs .rest)) S σ K) λ xs.
         bound-goes (place ws) (length (xs .value)) (bindAll (xs .value)) (ofFunction (xs .value)) (functionsOf (xs .value)) (Trees.fun (place ws) (xs .value)) (λ S K t b vs. refl) (λ S σ t e. refl) m h (xs .rest)
+
+    function-goes : Lower more → (m : ℕ) → m ≤ mostNested → (ws : List Word) → On (Ends (λ S σ K. functionFrom X bodies (at S K) σ ws)) (bindsFrom (length ws) (behind ws) >>= λ xs. boundBody (λ vs. termAt m vs) (λ vs. typeAt m false vs) (functionTree (place ws) (xs .value)) (xs .rest))
+    function-goes lower m h ws = by (is round us)
+      where
+        us : List Word
+        us = behind ws
+
+        close : Got Binds → Answer (Got Tree)
+        close xs = boundBody (λ vs. termAt m vs) (λ vs. typeAt m false vs) (functionTree (place ws) (xs .value)) (xs .rest)
+
+        listed : Got (List Bound) → Answer (Got Binds)
+        listed xs = need (leb 2 (length (xs .value))) 32 (place (xs .rest)) >>= λ _. expect endRound (xs .rest) >>= λ after. got (bindsPair (place us) (xs .value)) after
+
+        Q : Bool → Got Tree → Type 0
+        Q b = Ends (λ S σ K. cond b (pairFrom X bodies (at S K) σ (place ws) us) (namesTyped X bodies (at S K) σ ws))
+
+        by : (b : Bool) → On (Q b) (cond b (listFrom nameAt (length us) (behind us) >>= listed) (namesFrom (length ws) us >>= λ xs. got (bindsEach (xs .value)) (xs .rest)) >>= close)
+        by true = subst (On (Q true)) (sym (bind-bind (listFrom nameAt (length us) (behind us)) listed close)) (reads-same (listFrom nameAt (length us) (behind us)) _ (λ xs S σ K. pairTyped more (place ws) (place us) (xs .value) (behind (behind (xs .rest))) S σ K) λ xs. pair-read _ us xs close (pair-goes more lower m h (place ws) (place us) (xs .value) (behind (xs .rest))))
+        by false = subst (On (Q false)) (sym (bind-bind (namesFrom (length ws) us) (λ xs. got (bindsEach (xs .value)) (xs .rest)) close)) (typed-goes m h ws)
 
     fix-goes : (m : ℕ) → m ≤ mostNested → (ws : List Word) → On (Ends (λ S σ K. fixFrom X bodies (at S K) σ ws)) (nameAt (behind ws) >>= λ x. boundBody (λ vs. termAt m vs) (λ vs. typeAt m false vs) (Trees.fix (place ws) (x .value)) (x .rest))
     fix-goes m h ws = reads-same (nameAt (behind ws)) _ (λ x S σ K. boundFrom (place ws) 1 (bind (x .value)) (ofFix (x .value)) (closed x) (Trees.fix (place ws) (x .value)) (behind (x .rest)) S σ K) λ x.
@@ -326,9 +416,9 @@ module _ (X : Text) (bodies : List (List Word)) (reads : AllRead bodies (X .clau
         closed : Got Bound → ℕ → Made → Answer Made
         closed x t b = node (x .value .place) (Terms.fix t (b .term)) t (b .deep) (b .places) (b .state)
 
-    level-goes : (m : ℕ) → m ≤ mostNested → (ws : List Word) → On (TermGoes (suc more) ws) (termAt m ws)
-    level-goes zero h ws = tt
-    level-goes (suc m) h ws = on-map (Ends (λ S σ K. termEntered X bodies (at S K) σ ws)) (TermGoes (suc more) ws) (termAt (suc m) ws) (by (is fun ws) (is fix ws) (is lets ws)) λ g E S σ K. follows-step move (E S σ K)
+    level-goes : Lower more → (m : ℕ) → m ≤ mostNested → (ws : List Word) → On (TermGoes (suc more) ws) (termAt m ws)
+    level-goes lower zero h ws = tt
+    level-goes lower (suc m) h ws = on-map (Ends (λ S σ K. termEntered X bodies (at S K) σ ws)) (TermGoes (suc more) ws) (termAt (suc m) ws) (by (is fun ws) (is fix ws) (is lets ws)) λ g E S σ K. follows-step move (E S σ K)
       where
         k : m ≤ mostNested
         k = omega arith
@@ -336,15 +426,16 @@ module _ (X : Text) (bodies : List (List Word)) (reads : AllRead bodies (X .clau
         Q : Bool → Bool → Bool → Got Tree → Type 0
         Q a b c = Ends (λ S σ K. cond a (functionFrom X bodies (at S K) σ ws) (cond b (fixFrom X bodies (at S K) σ ws) (cond c (letFrom X bodies (at S K) σ (place ws) (behind ws)) (atomEntered X bodies (at S K) (record { place = place ws; function = none }) σ (peek ws .token) ws))))
 
-        by : (a b c : Bool) → On (Q a b c) (cond a (namesFrom (length ws) (behind ws) >>= λ xs. boundBody (λ vs. termAt m vs) (λ vs. typeAt m false vs) (Trees.fun (place ws) (xs .value)) (xs .rest)) (cond b (nameAt (behind ws) >>= λ x. boundBody (λ vs. termAt m vs) (λ vs. typeAt m false vs) (Trees.fix (place ws) (x .value)) (x .rest)) (cond c (letAt (λ vs. termAt m vs) (place ws) (behind ws)) (spineAt (λ vs. termAt m vs) (λ vs. typeAt m false vs) ws))))
-        by true b c = function-goes m k ws
+        by : (a b c : Bool) → On (Q a b c) (cond a (bindsFrom (length ws) (behind ws) >>= λ xs. boundBody (λ vs. termAt m vs) (λ vs. typeAt m false vs) (functionTree (place ws) (xs .value)) (xs .rest)) (cond b (nameAt (behind ws) >>= λ x. boundBody (λ vs. termAt m vs) (λ vs. typeAt m false vs) (Trees.fix (place ws) (x .value)) (x .rest)) (cond c (letAt (λ vs. termAt m vs) (place ws) (behind ws)) (spineAt (λ vs. termAt m vs) (λ vs. typeAt m false vs) ws))))
+        by true b c = function-goes lower m k ws
         by false true c = fix-goes m k ws
         by false false true = let-goes (place ws) m k (behind ws)
         by false false false = spine-goes m k ws
 
   pub term-goes : (more m : ℕ) → m ≤ mostNested → (ws : List Word) → On (TermGoes more ws) (termAt m ws)
   term-goes zero m h ws = none-goes m ws
-  term-goes (suc more) m h ws = level-goes more (term-goes more) m h ws
+  term-goes (suc zero) m h ws = level-goes zero (term-goes zero) tt m h ws
+  term-goes (suc (suc more)) m h ws = level-goes (suc more) (term-goes (suc more)) (term-goes more) m h ws
 
 -- where the grammar reads a tree from the words, the machine started at them does what `termOf` does to the tree: it gets to the term that
 -- `termOf` makes, before the words behind the tree, or refuses as `termOf` does

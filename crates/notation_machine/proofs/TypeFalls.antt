@@ -12,16 +12,17 @@ use Rattle.calculus.specs.Types.{TyRec, size, tyOf, tysFrom}
 use Rattle.calculus.specs.Read.{formed, repeated}
 use Rattle.calculus.specs.Record.{All}
 use Rattle.laws.proofs.Tests.{on-cond}
-use Rattle.notation_calculus.specs.Words.{Name, sameName, Sign, signCode, arrow, linear, times, round, endRound, comma, square, endSquare, curly, Token, sign, part, number, name, Word}
+use Rattle.notation_calculus.specs.Words.{Name, sameName, Sign, signCode, arrow, linear, times, round, endRound, comma, square, endSquare, curly, power, Token, sign, part, number, name, Word}
 use Rattle.notation_calculus.specs.Trees.{Bound, Number, Form, product, Clause, Text}
 use Rattle.notation_calculus.specs.Trees as Trees
-use Rattle.notation_calculus.specs.Grammar.{Got, peek, behind, place, isToken, is, numbersAt}
-use Rattle.notation_calculus.specs.Making.{mostPuts, State, Found, Entry, Scope, lookup, formOf, listed, entries, roomFor, numbersIn, Put, meant, costOf, putOf, clauseFor, onePut, waiting}
+use Rattle.notation_calculus.specs.Grammar.{Got, peek, behind, place, isToken, is, numberAt, numbersAt}
+use Rattle.notation_calculus.specs.Making.{mostPuts, State, Found, Entry, Scope, lookup, formOf, listed, entries, roomFor, numberOf, numbersIn, Put, meant, costOf, putOf, clauseFor, onePut, waiting, onesOf}
 use Rattle.notation_theorems.proofs.Answering.{On, on-step, on-any, on-test, on-either, on-tests, on-map, on-good}
+use Rattle.notation_theorems.proofs.Growing.{ones-keep}
 use Rattle.notation_machine.specs.Bodies.{numberFor, wordsFor, bodiesOf}
-use Rattle.notation_machine.specs.TypeMachine.{Wish, enclosed, argument, body, other, TypeLevel, Typing, wanted, came, TypeHere, askType, typeDone, askSide, arrowFrom, sideFrom, behindSide, inOrder, askArgument, typePutIn, behindArgument, typeNamedAt, typeEntered, typeLeft, typeMove}
+use Rattle.notation_machine.specs.TypeMachine.{Wish, enclosed, argument, body, other, TypeLevel, Typing, wanted, came, TypeHere, askType, typeDone, askSide, arrowFrom, sideFrom, behindSide, onesFrom, inOrder, askArgument, typePutIn, behindArgument, typeNamedAt, typeEntered, typeLeft, typeMove}
 use Rattle.notation_machine.specs.TypeSteps.{putSteps, wishSteps, levelSteps, typeSteps, AllShort, Going}
-use Rattle.notation_machine.proofs.Behind.{Left, behind-fewer, numbers-left, bodies-of-keep}
+use Rattle.notation_machine.proofs.Behind.{Left, behind-fewer, number-left, numbers-left, bodies-of-keep}
 
 -- ---- words
 
@@ -57,6 +58,9 @@ listed-puts σ r at = on-either P (repeated (σ .table) r) _ _ refl (on-any P (n
   where
     P : Found → Type 0
     P x = x .state .puts ≡ σ .puts
+
+pub ones-puts : (at place n : ℕ) (σ : State) → On (λ (x : Found). x .state .puts ≡ σ .puts) (onesOf at place n σ)
+ones-puts at place n σ = ones-keep (λ (ρ τ : State). τ .puts ≡ ρ .puts) (λ ρ. refl) (λ ρ τ υ d e. e ∙ d) listed-puts at place n σ
 
 -- no body of a text has more words than the text
 short-all : (most : ℕ) (bodies : List (List Word)) → All (λ (us : List Word). length us ≤ most) bodies → AllShort most bodies
@@ -138,6 +142,18 @@ module _ (X : Text) (bodies : List (List Word)) (most : ℕ) (short : AllShort m
       found [] i = there
       found (e ∷ es) i = on-either Q (sameName (x .name) (e .name)) _ _ (side-falls h (record { type = e .value; state = σ }) ws) (found es (suc i))
 
+  ones-fall : (h : TypeHere) (σ : State) (ws : List Word) → On (Most (here h (σ .puts) ws)) (onesFrom h σ ws)
+  ones-fall h σ ws =
+      on-either Q (is power ws) _ _ (
+      on-step (Left (length ws)) Q (numberAt (behind ws)) _ (number-left (length ws) (behind ws) (behind-less ws)) λ k l.
+      on-any Q (numberOf (h .scope .numbers) (k .value)) _ λ n.
+      on-step (λ (x : Found). x .state .puts ≡ σ .puts) Q (onesOf (place ws) (k .value .place) n σ) (λ x. good (sideFrom h x (k .rest))) (ones-puts (place ws) (k .value .place) n σ) λ x e.
+      let q : here h (x .state .puts) (k .rest) ≡ here h (σ .puts) (k .rest) = ap (λ (p : ℕ). here h p (k .rest)) e in
+      omega (arith, side-falls h x (k .rest))) (side-falls h (record { type = 0; state = σ }) ws)
+    where
+      Q : Typing → Type 0
+      Q = Most (here h (σ .puts) ws)
+
   -- fewer steps are left behind a step
   abbrev Falls : ℕ → Typing → Type 0
   Falls n s = typeSteps most s < n
@@ -151,7 +167,7 @@ module _ (X : Text) (bodies : List (List Word)) (most : ℕ) (short : AllShort m
   entered-falls : (h : TypeHere) (σ : State) (k : Token) (ws : List Word) → peek ws .token ≡ k → On (Falls (1 + here h (σ .puts) ws)) (typeEntered X bodies h σ k ws)
   entered-falls h σ (sign t) ws e = on-test (Falls (1 + here h (σ .puts) ws)) (isToken round (sign t)) 32 (place ws) _ λ r. let k : length (behind ws) + 1 ≤ length ws = sign-some round ws refl (subst (λ (o : Token). T (isToken round o)) (sym e) r) in omega arith
   entered-falls h σ (part p) ws e = tt
-  entered-falls h σ (number n) ws e = fall-by (here h (σ .puts) (behind ws)) (1 + here h (σ .puts) ws) (typeEntered X bodies h σ (number n) ws) (omega (arith, behind-less ws)) (side-falls h (record { type = 0; state = σ }) (behind ws))
+  entered-falls h σ (number n) ws e = fall-by (here h (σ .puts) (behind ws)) (1 + here h (σ .puts) ws) (typeEntered X bodies h σ (number n) ws) (omega (arith, behind-less ws)) (ones-fall h σ (behind ws))
   entered-falls h σ (name n) ws e = fall-by (here h (σ .puts) (behind ws)) (1 + here h (σ .puts) ws) (typeEntered X bodies h σ (name n) ws) (omega (arith, behind-less ws)) (named-falls h σ (record { name = n; place = place ws }) (behind ws))
 
   left-falls : (h : TypeHere) (w : Wish) (x : Found) (ws : List Word) → On (Falls (1 + wishSteps w + here h (x .state .puts) ws)) (typeLeft X bodies h w x ws)

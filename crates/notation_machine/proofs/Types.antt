@@ -7,11 +7,11 @@ use lib.Dec.{T, eqb}
 use lib.ListN.{length, take}
 use Rattle.calculus.specs.Answer.{Answer, good, refused, _>>=_, refuse, need}
 use Rattle.laws.proofs.Tests.{T-is}
-use Rattle.notation_calculus.specs.Words.{Name, sameName, Sign, arrow, linear, times, round, endRound, comma, square, endSquare, curly, endCurly, Token, sign, part, number, name, Word}
-use Rattle.notation_calculus.specs.Trees.{Bound, Number, Form, product, TypeTree, typed, TypeAtom, one, inside, typeNamed, Side, nothing, side, TypeTrees, noTypes, types, Body, ofType, ofTerm, Text}
+use Rattle.notation_calculus.specs.Words.{Name, sameName, Sign, arrow, linear, times, round, endRound, comma, square, endSquare, curly, endCurly, power, Token, sign, part, number, name, Word}
+use Rattle.notation_calculus.specs.Trees.{Bound, Number, Form, product, TypeTree, typed, TypeAtom, one, ones, inside, typeNamed, Side, nothing, side, TypeTrees, noTypes, types, Body, ofType, ofTerm, Text}
 use Rattle.notation_calculus.specs.Trees as Trees
-use Rattle.notation_calculus.specs.Grammar.{mostNested, Got, got, peek, behind, place, is, isToken, expect, listFrom, numberAt, numbersAt, typesOf, argumentsAt, typeAtomOf, sideAt, productAt, arrowAt, typeAt}
-use Rattle.notation_calculus.specs.Making.{State, Found, Entry, Scope, lookup, formOf, listed, entries, roomFor, numbersIn, Put, clauseFor, onePut, waiting, FoundAll, foundAll, noArguments, putIn, joined, atomType, bodyType, typeOf}
+use Rattle.notation_calculus.specs.Grammar.{mostNested, Got, got, peek, behind, place, is, isToken, expect, listFrom, numberAt, numbersAt, typesOf, argumentsAt, onesAt, typeAtomOf, sideAt, productAt, arrowAt, typeAt}
+use Rattle.notation_calculus.specs.Making.{State, Found, Entry, Scope, lookup, formOf, listed, entries, roomFor, numberOf, numbersIn, Put, clauseFor, onePut, waiting, FoundAll, foundAll, noArguments, putIn, joined, onesOf, atomType, bodyType, typeOf}
 use Rattle.notation_theorems.proofs.Answering.{On, on-step, on-any, on-test, on-either, on-map, on-is, on-good}
 use Rattle.notation_machine.specs.Walked.{walked, Runs}
 use Rattle.notation_machine.specs.Bodies.{wordsFor, AllRead}
@@ -152,6 +152,16 @@ module _ (X : Text) (bodies : List (List Word)) (reads : AllRead bodies (X .clau
             rw (e, some-arguments (ts .value) some (ks .value)) (follows-then move (foundAll go S (place ws) 0 σ (typesOf (ts .value))) (λ xs. numbersIn S (place ws) (length (xs .types)) (ks .value) >>= λ ns. clauseFor (entries S) (X .clauses) (take (S .seen) (X .clauses)) 0 true n (xs .types) ns (place ws) >>= λ p. onePut (xs .state) (p .cost) (place ws) >>= λ σ₁. bodyType go (p .scope) σ₁ (p .body)) (L [] x tight S K σ) λ xs. rw q (put-goes (behind (ts .rest)) ks f x tight S K (xs .state) (xs .types)))
         by false e = λ ks f tight S K σ. rw e (by-curly (is curly us) ks tight S K σ (on-good (Numbers (is curly us) us) (numbersAt us) ks (numbers-read us) f) (put-goes us ks f x tight S K σ []))
 
+    ones-goes : (k : ℕ) (ws : List Word) → On (AtomGoes (number k) ws) (onesAt (behind ws))
+    ones-goes k ws = by (is power us) refl
+      where
+        us : List Word
+        us = behind ws
+
+        by : (b : Bool) → is power (behind ws) ≡ b → On (AtomGoes (number k) ws) (cond b (numberAt (behind us) >>= λ n. got (ones (place us) (n .value)) (n .rest)) (got one us))
+        by true e = on-is (AtomGoes (number k) ws) (numberAt (behind us)) (λ n. got (ones (place us) (n .value)) (n .rest)) λ n f tight S K σ. rw (e, f) (follows-same move (numberOf (S .numbers) (n .value)) λ i. follows-all move (onesOf (place us) (n .value .place) i σ))
+        by false e = λ tight S K σ. rw e (follows-now move refl)
+
     atom-goes : (m : ℕ) (k : Token) (ws : List Word) → On (AtomGoes k ws) (typeAtomOf (λ us. typeAt m false us) k ws)
     atom-goes m (sign o) ws =
         on-test (AtomGoes (sign o) ws) (isToken round (sign o)) 32 (place ws) _ λ r.
@@ -159,7 +169,7 @@ module _ (X : Text) (bodies : List (List Word)) (reads : AllRead bodies (X .clau
         on-expected (AtomGoes (sign o) ws) endRound (t .rest) (λ after. got (inside (t .value)) after) λ q tight S K σ.
         rw (T-is (isToken round (sign o)) r) (follows-to move (go S σ (t .value)) (G S σ (record { wish = enclosed; tight = tight; scope = S } ∷ K)) λ y. follows-step move (rw q (follows-now move refl)))
     atom-goes m (part p) ws = tt
-    atom-goes m (number k) ws = on-any (AtomGoes (number k) ws) (need (eqb k 1) 32 (place ws)) _ λ _ tight S K σ. follows-now move refl
+    atom-goes m (number k) ws = on-any (AtomGoes (number k) ws) (need (eqb k 1) 32 (place ws)) _ λ _. ones-goes k ws
     atom-goes m (name n) ws =
         on-step (NameGoes n ws) (AtomGoes (name n) ws) (argumentsAt (λ us. typeAt m false us) (behind ws)) _ (name-goes m n ws) λ ts N.
         on-is (AtomGoes (name n) ws) (numbersAt (ts .rest)) (λ ks. got (typeNamed (place ws) n (ts .value) (ks .value)) (ks .rest)) λ ks f. N ks f

@@ -10,7 +10,7 @@ use Rattle.calculus.specs.Terms.{var, proj}
 use Rattle.calculus.specs.Terms as Terms
 use Rattle.notation_calculus.specs.Words.{fun, fix, lets, round, comma, square, curly, Token, sign, part, number, name, Word}
 use Rattle.notation_calculus.specs.Trees.{Bound, Text}
-use Rattle.notation_calculus.specs.Grammar.{peek, behind, place, isToken, is, nameAt, listFrom, numbersAt, beginsAtom, namesFrom}
+use Rattle.notation_calculus.specs.Grammar.{peek, behind, place, isToken, is, nameAt, listFrom, numbersAt, beginsAtom, namesFrom, nameless}
 use Rattle.notation_calculus.specs.Making.{State, Entry, Scope, lookup, bind, bindAll, withVariables, entries, roomFor, numbersIn, clauseFor, onePut, Made, node, over, variable, partOf, functionsOf, nameOf, halvesOf, rest, pairOf, applied}
 use Rattle.notation_machine.specs.Bodies.{wordsFor}
 use Rattle.notation_machine.specs.TypeFrom.{typeFrom, typesFrom}
@@ -121,6 +121,20 @@ behindElement h s before m ws = cond (is comma ws) (good (askTerm h (element s (
   p ← pairsOf before m
   behindAtom h s p (behind ws))
 
+-- ---- a function whose variable is taken apart
+
+-- a variable that no text can name is made, for names at a place that it is taken apart into; this takes a level
+abbrev pub pairMade : ℕ → Scope → State → ℕ → List Bound → ℕ → List Word → List TermLevel → Answer Terming
+pairMade zero S σ at xs t ws K = refuse 34 at
+pairMade (suc more) S σ at xs t ws K = do
+  v ← node at (variable (σ .table) 0 t) t 0 [] σ
+  good (cameTerm (suc more) v ws (record { wish = valueOfNames at xs; scope = S } ∷ K))
+
+-- .. in the body of its function, one level below
+abbrev pub pairIn : ℕ → Scope → State → ℕ → List Bound → ℕ → List Word → List TermLevel → Answer Terming
+pairIn zero S σ at xs t ws K = refuse 34 at
+pairIn (suc more) S σ at xs t ws K = pairMade more S σ at xs t ws K
+
 module _ (X : Text) (bodies : List (List Word)) where
   -- behind a name: its arguments, the clause, its cost, and then its body is wanted
   abbrev pub termPutIn : TermHere → Spine → State → Bound → List Word → Answer Terming
@@ -155,13 +169,25 @@ module _ (X : Text) (bodies : List (List Word)) where
 
   -- ---- functions, fixed points and names
 
-  -- : type . term, behind `fun` and its names
-  abbrev pub functionFrom : TermHere → State → List Word → Answer Terming
-  functionFrom h σ ws = do
+  -- : type . term, behind `fun` at a place and names in parentheses
+  abbrev pub pairFrom : TermHere → State → ℕ → List Word → Answer Terming
+  pairFrom h σ at ws = do
+    xs ← listFrom nameAt (length ws) (behind ws)
+    t ← typeFrom X (h .more) (h .scope) σ (behind (behind (xs .rest)))
+    _ ← roomFor (h .scope) 1 at
+    pairIn (h .more) (withVariables (h .scope) (bind (nameless (place ws)) (t .value .type) (h .scope .variables))) (t .value .state) (place ws) (xs .value) (t .value .type) (t .rest) (record { wish = ofFunction (nameless (place ws) ∷ []) (t .value .type); scope = h .scope } ∷ h .above)
+
+  -- .. behind `fun` and its names
+  abbrev pub namesTyped : TermHere → State → List Word → Answer Terming
+  namesTyped h σ ws = do
     xs ← namesFrom (length ws) (behind ws)
     t ← typeFrom X (h .more) (h .scope) σ (behind (xs .rest))
     _ ← roomFor (h .scope) (length (xs .value)) (place ws)
     good (askTerm h (ofFunction (xs .value) (t .value .type)) (withVariables (h .scope) (bindAll (xs .value) (t .value .type) (h .scope .variables))) (t .value .state) (behind (t .rest)))
+
+  -- .. behind `fun`
+  abbrev pub functionFrom : TermHere → State → List Word → Answer Terming
+  functionFrom h σ ws = cond (is round (behind ws)) (pairFrom h σ (place ws) (behind ws)) (namesTyped h σ ws)
 
   -- .. behind `fix` and its name
   abbrev pub fixFrom : TermHere → State → List Word → Answer Terming

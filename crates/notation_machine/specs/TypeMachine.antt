@@ -5,11 +5,11 @@ use mathlib.Core.Bool.{Bool, true, false, not, _||_, cond}
 use mathlib.Core.List.{List, [], _∷_}
 use lib.ListN.{length, take}
 use Rattle.calculus.specs.Answer.{Answer, good, _>>=_, refuse, need}
-use Rattle.notation_calculus.specs.Words.{Sign, arrow, linear, times, round, endRound, comma, square, endSquare, curly, Token, sign, part, number, name, Word}
+use Rattle.notation_calculus.specs.Words.{Sign, arrow, linear, times, round, endRound, comma, square, endSquare, curly, power, Token, sign, part, number, name, Word}
 use Rattle.notation_calculus.specs.Trees.{Bound, Form, product, Text}
 use Rattle.notation_calculus.specs.Trees as Trees
-use Rattle.notation_calculus.specs.Grammar.{peek, behind, place, isToken, is, numbersAt}
-use Rattle.notation_calculus.specs.Making.{State, Found, Scope, lookup, formOf, listed, entries, roomFor, numbersIn, clauseFor, onePut, waiting}
+use Rattle.notation_calculus.specs.Grammar.{peek, behind, place, isToken, is, numberAt, numbersAt}
+use Rattle.notation_calculus.specs.Making.{State, Found, Scope, lookup, formOf, listed, entries, roomFor, numberOf, numbersIn, clauseFor, onePut, waiting, onesOf}
 use Rattle.notation_machine.specs.Bodies.{wordsFor}
 
 -- what is done with a type that is worked out one level below
@@ -63,6 +63,16 @@ behindSide product h x ws = arrowFrom h x ws
 behindSide Trees.arrow h x ws = typeDone h x ws
 behindSide Trees.linear h x ws = typeDone h x ws
 
+-- ---- rows
+
+-- behind a 1: how many stand in a row, or nothing
+abbrev pub onesFrom : TypeHere → State → List Word → Answer Typing
+onesFrom h σ ws = cond (is power ws) (do
+  k ← numberAt (behind ws)
+  n ← numberOf (h .scope .numbers) (k .value)
+  x ← onesOf (place ws) (k .value .place) n σ
+  good (sideFrom h x (k .rest))) (good (sideFrom h (record { type = 0; state = σ }) ws))
+
 -- ---- names
 
 -- the arguments in their order
@@ -106,7 +116,7 @@ module _ (X : Text) (bodies : List (List Word)) where
     _ ← need (isToken round (sign t)) 32 (place ws)
     good (askType h enclosed false (h .scope) σ (behind ws))
   typeEntered h σ (part p) ws = refuse 32 (place ws)
-  typeEntered h σ (number k) ws = good (sideFrom h (record { type = 0; state = σ }) (behind ws))
+  typeEntered h σ (number k) ws = onesFrom h σ (behind ws)
   typeEntered h σ (name n) ws = typeNamedAt h σ (record { name = n; place = place ws }) (behind ws)
 
   -- the type came that this level waited for; behind one in parentheses the closing one stands

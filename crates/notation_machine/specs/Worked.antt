@@ -72,6 +72,12 @@ typeRows =
     -- arguments in their order, and in one another
     ∷ worksOut "type to[a, b] = a -> b" "to[1 * 1, 1]" (rec01 ∷ rec02 0 0 ∷ rec03 1 0 ∷ [])
     ∷ worksOut "type two[a] = a * a" "two[two[1]] -> 1" (rec01 ∷ rec02 0 0 ∷ rec02 1 1 ∷ rec03 2 0 ∷ [])
+    -- bits in a row, listed once; a row binds closer than a product
+    ∷ worksOut "" "1^1" (rec01 ∷ [])
+    ∷ worksOut "" "1^3 * 1 -> 1^2" (rec01 ∷ rec02 0 0 ∷ rec02 0 1 ∷ rec02 2 0 ∷ rec03 3 1 ∷ [])
+    ∷ worksOut "type bus{n} = 1^n + 2" "bus{0}" (rec01 ∷ rec02 0 0 ∷ [])
+    ∷ refusesType "" "1 * 1^0" 33 6
+    ∷ refusesType "" "1^n" 33 2
     -- a product of circuits, and a name that is not defined
     ∷ refusesType "" "(1 -> 1) * 1" 35 9
     ∷ refusesType "" "1 * odd" 33 4

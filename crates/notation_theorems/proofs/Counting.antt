@@ -15,13 +15,14 @@ use Rattle.calculus.specs.Terms as Terms
 use Rattle.sheet_theorems.specs.Laid.{depth}
 use Rattle.laws.proofs.Tests.{on-cond, and-both}
 use Rattle.notation_calculus.specs.Words.{Name, sameName}
-use Rattle.notation_calculus.specs.Trees.{Bound, Number, TypeTree, typed, TypeAtom, one, inside, typeNamed, Side, nothing, side, TypeTrees, noTypes, types, Tree, spine, fun, fix, name, apart, Atom, named, part, tuple, Atoms, noAtoms, atoms, Trees, noTrees, trees, Body, ofType, ofTerm, Clause, Line, Text}
+use Rattle.notation_calculus.specs.Trees.{Bound, Number, TypeTree, typed, TypeAtom, one, ones, inside, typeNamed, Side, nothing, side, TypeTrees, noTypes, types, Tree, spine, fun, fix, name, apart, Atom, named, part, tuple, Atoms, noAtoms, atoms, Trees, noTrees, trees, Body, ofType, ofTerm, Clause, Line, Text}
 use Rattle.notation_calculus.specs.Grammar.{mostNested}
-use Rattle.notation_calculus.specs.Making.{mostPuts, State, Found, Entry, Scope, lookup, bind, bindAll, withType, numberIn, withVariables, entries, roomFor, numbersIn, Put, putOf, meant, clauseFor, onePut, FoundAll, waiting, foundAll, noArguments, putIn, formOf, joined, atomType, bodyType, typeOf, Made, counted, node, larger, over, shares, variable, partType, partOf, arrowOf, listed, functionOf, functionsOf, nameOf, Halves, halvesOf, rest, apartOf, halfOf, pairOf, applied, tupleOf, bodyTerm, atomOf, spineOf, termOf}
+use Rattle.notation_calculus.specs.Making.{mostPuts, State, Found, Entry, Scope, lookup, bind, bindAll, withType, numberIn, withVariables, entries, roomFor, numberOf, numbersIn, Put, putOf, meant, clauseFor, onePut, FoundAll, waiting, foundAll, noArguments, putIn, formOf, joined, onesOf, atomType, bodyType, typeOf, Made, counted, node, larger, over, shares, variable, partType, partOf, arrowOf, listed, functionOf, functionsOf, nameOf, Halves, halvesOf, rest, apartOf, halfOf, pairOf, applied, tupleOf, bodyTerm, atomOf, spineOf, termOf}
 use Rattle.notation_calculus.specs.Make.{Placed, start, above, linesTable, judgedBody, judgedClause, isJudged, judgedFrom, mainName, mainOf, sheetOf}
 use Rattle.notation_calculus.specs.Making.{costOf}
 use Rattle.notation_theorems.specs.Counted.{Spelt, Kept, BoundIn, TreeIn, AtomIn, AtomsIn, TreesIn, BodyIn, ClauseIn}
 use Rattle.notation_theorems.proofs.Answering.{On, on-step, on-any, on-test, on-either, on-tests, on-map, on-good}
+use Rattle.notation_theorems.proofs.Growing.{ones-keep}
 
 -- ---- the nodes of a state
 
@@ -101,6 +102,7 @@ module _ (X : Text) (more : ℕ) (W : Stills (λ S σ t. typeOf X more S σ t)) 
 
   atom-still : (a : TypeAtom) → On (Still σ) (atomType X S typeIn putType σ a)
   atom-still one = refl
+  atom-still (ones at k) = on-any (Still σ) (numberOf (S .numbers) k) (λ n. onesOf at (k .place) n σ) λ n. ones-keep (λ (ρ τ : State). τ .nodes ≡ ρ .nodes) (λ ρ. refl) (λ ρ τ υ d e. e ∙ d) listed-still at (k .place) n σ
   atom-still (inside t) = W S σ t
   atom-still (typeNamed at n ts ks) = on-either (Still σ) (noArguments ts ks) _ _ (lookup-either (On (Still σ)) n (S .types) 0 (λ i v. good (record { type = v; state = σ })) (putIn X true S typeIn putType σ at n ts ks) (λ j v. refl) (put-in-still at n ts ks)) (put-in-still at n ts ks)
 

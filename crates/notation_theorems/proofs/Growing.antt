@@ -15,8 +15,8 @@ use Rattle.laws.proofs.Tests.{and-of, or-elim, T-is}
 use Rattle.sheet_theorems.specs.Laid.{Agrees, Below, TableOk}
 use Rattle.sheet_theorems.proofs.Tables.{checked}
 use Rattle.sheet_theorems.proofs.TableRead.{tree-prefix, recEq→eq}
-use Rattle.notation_calculus.specs.Making.{State, Found, withType, numberIn, listed}
-use Rattle.notation_theorems.proofs.Answering.{On, on-test, on-tests}
+use Rattle.notation_calculus.specs.Making.{State, Found, withType, numberIn, listed, moreBits, onesOf}
+use Rattle.notation_theorems.proofs.Answering.{On, on-step, on-map, on-test, on-tests}
 
 -- a table that the reader accepts, and that begins with **1**
 pub record Ready (Θ : Table) : Type 0 where
@@ -120,3 +120,19 @@ listed-holds σ r at R below =
     on-test (Listed σ r) few 34 at (λ _. new) λ h.
     let room = ltb→lt (length (σ .table)) 256 h in
     new-holds σ r R (checked (σ .table) r at tt (R .ok) (omega arith) (check-passes (σ .table) r at (known-below (σ .table) r below) f t s))
+
+-- ---- bits in a row
+
+-- what listing keeps of a state, a row keeps
+pub row-keeps :
+    (R : State → State → Type 0) → ((σ : State) → R σ σ) → ((ρ σ τ : State) → R ρ σ → R σ τ → R ρ τ) → ((σ : State) (r : TyRec) (at : ℕ) → On (λ (x : Found). R σ (x .state)) (listed σ r at))
+    → (at n : ℕ) (x : Found) → On (λ (y : Found). R (x .state) (y .state)) (moreBits at n x)
+row-keeps R same on keeps at zero x = same (x .state)
+row-keeps R same on keeps at (suc n) x = on-step (λ (y : Found). R (x .state) (y .state)) (λ (z : Found). R (x .state) (z .state)) (listed (x .state) (rec02 0 (x .type)) at) (λ y. moreBits at n y) (keeps (x .state) (rec02 0 (x .type)) at) λ y h.
+    on-map (λ (z : Found). R (y .state) (z .state)) (λ (z : Found). R (x .state) (z .state)) (moreBits at n y) (row-keeps R same on keeps at n y) λ z k. on (x .state) (y .state) (z .state) h k
+
+pub ones-keep :
+    (R : State → State → Type 0) → ((σ : State) → R σ σ) → ((ρ σ τ : State) → R ρ σ → R σ τ → R ρ τ) → ((σ : State) (r : TyRec) (at : ℕ) → On (λ (x : Found). R σ (x .state)) (listed σ r at))
+    → (at place n : ℕ) (σ : State) → On (λ (y : Found). R σ (y .state)) (onesOf at place n σ)
+ones-keep R same on keeps at place zero σ = tt
+ones-keep R same on keeps at place (suc n) σ = row-keeps R same on keeps at n (record { type = 0; state = σ })

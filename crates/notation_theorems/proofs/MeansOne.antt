@@ -3,6 +3,7 @@ use Prim.Native.Nat.{ℕ, zero, suc}
 use mathlib.Core.Path.{_≡_, refl, sym, ap, subst, _∙_}
 use mathlib.Core.Bool.{Bool, true, false, not}
 use mathlib.Core.List.{List, [], _∷_}
+use native.Mathlib.Omega.{arith}
 use lib.Dec.{T}
 use lib.ListN.{length, take}
 use Rattle.calculus.specs.Answer.{good}
@@ -11,7 +12,7 @@ use Rattle.calculus.specs.Types.{Ty, bit, prod}
 use Rattle.notation_calculus.specs.Words.{Name}
 use Rattle.notation_calculus.specs.Trees.{Bound, Form, TypeTree, TypeAtom, Side, TypeTrees, Tree, Atom, Atoms, Trees, Body, ofType, ofTerm, Clause, Text}
 use Rattle.notation_calculus.specs.Making.{meant}
-use Rattle.notation_calculus.specs.Means.{Full, TypeEntry, Here, with, enter, entry, restEntry, Nearest, near, far, First, first-here, first-later, inClause, joinedTy, TypeIs, type-is, AtomIs, one-is, inside-is, parameter-is, put-is, SideIs, no-side, a-side, TypesAre, no-types, more-types, Is, spine-is, fun-is, fix-is, name-is, apart-is, Apart, apart-two, apart-more, AtomMeans, variable-means, part-means, tuple-means, put-means, Tuple, alone, pairs, Applied, to-none, to-more, fullFunctions, arrowsOf, namedOf, appOf, resultOf, firstOf, secondOf, halfTy, fullVariable, Means}
+use Rattle.notation_calculus.specs.Means.{Full, TypeEntry, Here, with, enter, entry, restEntry, Nearest, near, far, First, first-here, first-later, inClause, joinedTy, bitsTy, TypeIs, type-is, AtomIs, one-is, ones-is, inside-is, parameter-is, put-is, SideIs, no-side, a-side, TypesAre, no-types, more-types, Is, spine-is, fun-is, fix-is, name-is, apart-is, Apart, apart-two, apart-more, AtomMeans, variable-means, part-means, tuple-means, put-means, Tuple, alone, pairs, Applied, to-none, to-more, fullFunctions, arrowsOf, namedOf, appOf, resultOf, firstOf, secondOf, halfTy, fullVariable, Means}
 use Rattle.notation_calculus.specs.Means as Means
 
 nearest-one : {n : Name} {Γ : List TypeEntry} {i j : ℕ} {τ ρ : Ty} → Nearest n Γ i τ → Nearest n Γ j ρ → (i ≡ j) × (τ ≡ ρ)
@@ -64,6 +65,10 @@ mutual
 
   pub atom-one : {X : Text} {S : Here} {a : TypeAtom} {τ ρ : Ty} → AtomIs X S a τ → AtomIs X S a ρ → τ ≡ ρ
   atom-one one-is one-is = refl
+  atom-one (ones-is {n = n} d p) (ones-is {n = m} e q) =
+      let same : suc n ≡ suc m = good-inj (sym d ∙ e) in
+      let less : n ≡ m = omega (arith, same) in
+      p ∙ ap bitsTy less ∙ sym q
   atom-one (inside-is d) (inside-is c) = type-one d c
   atom-one (parameter-is h) (parameter-is k) = nearest-one h k .1
   atom-one (parameter-is h) (put-is free are ne first be d) = absurd (free tt _ _ h)

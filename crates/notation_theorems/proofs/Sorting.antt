@@ -11,7 +11,7 @@ use Rattle.calculus.specs.Terms.{Edition, first, second, isSecond, partAt}
 use Rattle.laws.proofs.Tests.{and-both, T-is, on-cond}
 use Rattle.notation_calculus.specs.Words.{Name}
 use Rattle.notation_calculus.specs.Trees.{Bound, Form, product, arrow, linear, TypeTree, TypeAtom, Side, TypeTrees, Tree, Atom, Atoms, Trees, Text}
-use Rattle.notation_calculus.specs.Means.{Full, var, lvar, fun, lfun, fix, app, lapp, proj, name, pair, con, TypeEntry, Here, entry, enter, Nearest, near, far, typeEntries, joinedTy, mayJoin, TypeIs, type-is, AtomIs, one-is, inside-is, parameter-is, put-is, SideIs, no-side, a-side, TypesAre, no-types, more-types, arrowTy, fullFunction, arrowsOf, fullFunctions, appOf, resultOf, firstOf, secondOf, halfTy, namedOf, Is, spine-is, fun-is, fix-is, name-is, apart-is, Apart, apart-two, apart-more, AtomMeans, variable-means, part-means, tuple-means, put-means, Tuple, alone, pairs, Applied, to-none, to-more, Means}
+use Rattle.notation_calculus.specs.Means.{Full, var, lvar, fun, lfun, fix, app, lapp, proj, name, pair, con, TypeEntry, Here, entry, enter, Nearest, near, far, typeEntries, joinedTy, mayJoin, bitsTy, TypeIs, type-is, AtomIs, one-is, ones-is, inside-is, parameter-is, put-is, SideIs, no-side, a-side, TypesAre, no-types, more-types, arrowTy, fullFunction, arrowsOf, fullFunctions, appOf, resultOf, firstOf, secondOf, halfTy, namedOf, Is, spine-is, fun-is, fix-is, name-is, apart-is, Apart, apart-two, apart-more, AtomMeans, variable-means, part-means, tuple-means, put-means, Tuple, alone, pairs, Applied, to-none, to-more, Means}
 use Rattle.notation_theorems.specs.Sorted.{SortAt, Sorted, sortsIn, Formed}
 
 -- ---- types
@@ -39,12 +39,18 @@ joined-formed product a b t h = and-both (sharable a) (sharable b) t
 joined-formed arrow a b t h = h
 joined-formed linear a b t h = h
 
+-- bits in a row are sharable
+pub bits-share : (n : ℕ) → T (sharable (bitsTy n))
+bits-share zero = tt
+bits-share (suc n) = bits-share n
+
 mutual
   type-formed : {X : Text} {S : Here} {t : TypeTree} {τ : Ty} → TypeIs X S t τ → All EntryFormed (S .types) → Formed τ
   type-formed (type-is a p q) h = side-formed q h (side-formed p h (atom-formed a h))
 
   atom-formed : {X : Text} {S : Here} {a : TypeAtom} {τ : Ty} → AtomIs X S a τ → All EntryFormed (S .types) → Formed τ
   atom-formed one-is h = tt
+  atom-formed (ones-is {n = n} d e) h = subst Formed (sym e) (sharable-formed (bitsTy n) (bits-share n))
   atom-formed (inside-is d) h = type-formed d h
   atom-formed (parameter-is d) h = nearest-formed d h
   atom-formed (put-is {τs = τs} {c = c} free are ne is-first be d) h = type-formed d (entries-formed (c .types) τs (types-formed are h))

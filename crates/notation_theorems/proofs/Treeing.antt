@@ -7,10 +7,10 @@ use lib.Dec.{T, eqb, eqb→eq, leb, ltb}
 use lib.ListN.{length}
 use Rattle.calculus.specs.Answer.{Answer, good, _>>=_, need}
 use Rattle.calculus.specs.Record.{All}
-use Rattle.notation_calculus.specs.Words.{Sign, signCode, ends, fun, fix, lets, within, type, edition, table, arrow, linear, times, round, endRound, equals, comma, colon, dot, square, endSquare, curly, endCurly, plus, Token, sign, part, number, name, Word}
+use Rattle.notation_calculus.specs.Words.{Sign, signCode, ends, fun, fix, lets, within, type, edition, table, arrow, linear, times, round, endRound, equals, comma, colon, dot, square, endSquare, curly, endCurly, plus, power, Token, sign, part, number, name, Word}
 use Rattle.notation_calculus.specs.Trees.{Form, product, TypeTree, inside, nothing, Tree, apart, Atom, tuple, Trees, Body, ofType, ofTerm, Clause, Text}
 use Rattle.notation_calculus.specs.Trees as Trees
-use Rattle.notation_calculus.specs.Grammar.{mostNested, mostClauses, Got, got, peek, behind, place, isToken, is, expect, boundName, nameAt, valueOf, listFrom, readNumber, numberAt, numbersAt, parametersAt, typesOf, argumentsAt, typeAtomOf, sideAt, productAt, arrowAt, typeAt, beginsAtom, treesFrom, readAtom, atomsFrom, spineAt, namesFrom, boundBody, letBody, letAt, termBy, termAt, mayFollowAll, Items, noItems, withClause, withLines, clauseAt, typeBody, termBody, itemsFrom, editionAt, textOf}
+use Rattle.notation_calculus.specs.Grammar.{mostNested, mostClauses, Got, got, peek, behind, place, isToken, is, expect, boundName, nameAt, valueOf, listFrom, readNumber, numberAt, numbersAt, parametersAt, typesOf, argumentsAt, onesAt, typeAtomOf, sideAt, productAt, arrowAt, typeAt, beginsAtom, treesFrom, readAtom, atomsFrom, spineAt, namesFrom, Binds, bindsEach, bindsPair, bindsFrom, functionTree, boundBody, letBody, letAt, termBy, termAt, mayFollowAll, Items, noItems, withClause, withLines, clauseAt, typeBody, termBody, itemsFrom, editionAt, textOf}
 use Rattle.notation_theorems.specs.Counted.{BoundIn, TreeIn, AtomIn, AtomsIn, TreesIn, BodyIn, ClauseIn}
 use Rattle.notation_theorems.specs.Worded.{TokenIn, WordIn}
 use Rattle.notation_theorems.proofs.Answering.{On, on-step, on-any, on-test, on-either, on-tests}
@@ -90,10 +90,13 @@ module _ (P K : ℕ → Type 0) where
 
   -- ---- types
 
+  ones-in : Reads Free onesAt
+  ones-in ws h = on-either (GotIn Free) (is power ws) _ _ (on-step (GotIn Free) (GotIn Free) (numberAt (behind ws)) _ (number-of-in (peek (behind ws) .token) (behind ws) (behind-in ws h)) λ k i. (tt, i .1)) (tt, h)
+
   type-atom-in : (read : List Word → Answer (Got TypeTree)) → Reads Free read → (k : Token) (ws : List Word) → In ws → On (GotIn Free) (typeAtomOf read k ws)
   type-atom-in read r (sign t) ws h = on-any (GotIn Free) (need (isToken round (sign t)) 32 (place ws)) _ λ _. closed-in Free Free (read (behind ws)) endRound inside (λ t _. tt) (r (behind ws) (behind-in ws h))
   type-atom-in read r (part p) ws h = tt
-  type-atom-in read r (number n) ws h = on-any (GotIn Free) (need (eqb n 1) 32 (place ws)) _ λ _. (tt, behind-in ws h)
+  type-atom-in read r (number n) ws h = on-any (GotIn Free) (need (eqb n 1) 32 (place ws)) _ λ _. ones-in (behind ws) (behind-in ws h)
   type-atom-in read r (name n) ws h =
       on-step (GotIn Free) (GotIn Free) (argumentsAt read (behind ws)) _ (arguments-in read r (behind ws) (behind-in ws h)) λ ts g.
       on-step (GotIn Free) (GotIn Free) (numbersAt (ts .rest)) _ (numbers-in (ts .rest) (g .1)) λ ks i. (tt, i .1)
@@ -162,6 +165,20 @@ module _ (P K : ℕ → Type 0) where
           on-step (GotIn (BoundIn P)) (GotIn (All (BoundIn P))) (nameAt ws) _ (name-in ws h) λ x g.
           on-either (GotIn (All (BoundIn P))) (is colon (x .rest)) _ _ ((g .0, tt), g .1) (on-step (GotIn (All (BoundIn P))) (GotIn (All (BoundIn P))) (namesFrom rounds (x .rest)) _ (names-in rounds (x .rest) (g .1)) λ xs i. ((g .0, i .0), i .1))
 
+      -- the place of a list is that of its parenthesis
+      abbrev BindsIn : Binds → Type 0
+      BindsIn (bindsEach xs) = All (BoundIn P) xs
+      BindsIn (bindsPair at xs) = P at × All (BoundIn P) xs
+
+      binds-in : (rounds : ℕ) → Reads BindsIn (bindsFrom rounds)
+      binds-in rounds ws h =
+          on-tests (GotIn BindsIn) (is round ws) _ _ (λ t. on-step (GotIn (All (BoundIn P))) (GotIn BindsIn) (listFrom nameAt (length ws) (behind ws)) _ (list-in (BoundIn P) nameAt name-in (length ws) (behind ws) (behind-in ws h)) λ xs g. on-any (GotIn BindsIn) (need (leb 2 (length (xs .value))) 32 (place (xs .rest))) _ λ _. on-step In (GotIn BindsIn) (expect endRound (xs .rest)) _ (expect-in endRound (xs .rest) (g .1)) λ us i. ((token-placed round (peek ws .token) (place ws) tt t (peek-in ws h), g .0), i)) λ _.
+          on-step (GotIn (All (BoundIn P))) (GotIn BindsIn) (namesFrom rounds ws) _ (names-in rounds ws h) λ xs g. (g .0, g .1)
+
+      function-in : (at : ℕ) (xs : Binds) (t : TypeTree) (e : Tree) → BindsIn xs → TreeIn P K e → TreeIn P K (functionTree at xs t e)
+      function-in at (bindsEach xs) t e b a = (b, a)
+      function-in at (bindsPair p xs) t e b a = ((b .0, tt), (b .1, (b .0, b .0, tt), a))
+
       bound-body-in : (build : TypeTree → Tree → Tree) → ((t : TypeTree) (e : Tree) → TreeIn P K e → TreeIn P K (build t e)) → Reads (TreeIn P K) (boundBody read readType build)
       bound-body-in build k ws h =
           on-step In (GotIn (TreeIn P K)) (expect colon ws) _ (expect-in colon ws h) λ ws₁ h₁.
@@ -170,7 +187,7 @@ module _ (P K : ℕ → Type 0) where
           on-step (GotIn (TreeIn P K)) (GotIn (TreeIn P K)) (read ws₂) _ (r ws₂ h₂) λ e i. (k (t .value) (e .value) (i .0), i .1)
 
       term-by-in : Reads (TreeIn P K) (termBy read readType)
-      term-by-in ws h = on-either (GotIn (TreeIn P K)) (is fun ws) _ _ (on-step (GotIn (All (BoundIn P))) (GotIn (TreeIn P K)) (namesFrom (length ws) (behind ws)) _ (names-in (length ws) (behind ws) (behind-in ws h)) λ xs g. bound-body-in (Trees.fun (place ws) (xs .value)) (λ t e a. (g .0, a)) (xs .rest) (g .1)) (on-either (GotIn (TreeIn P K)) (is fix ws) _ _ (on-step (GotIn (BoundIn P)) (GotIn (TreeIn P K)) (nameAt (behind ws)) _ (name-in (behind ws) (behind-in ws h)) λ x g. bound-body-in (Trees.fix (place ws) (x .value)) (λ t e a. (g .0, a)) (x .rest) (g .1)) (on-either (GotIn (TreeIn P K)) (is lets ws) _ _ (let-in (place ws) (behind ws) (behind-in ws h)) (spine-in ws h)))
+      term-by-in ws h = on-either (GotIn (TreeIn P K)) (is fun ws) _ _ (on-step (GotIn BindsIn) (GotIn (TreeIn P K)) (bindsFrom (length ws) (behind ws)) _ (binds-in (length ws) (behind ws) (behind-in ws h)) λ xs g. bound-body-in (functionTree (place ws) (xs .value)) (λ t e a. function-in (place ws) (xs .value) t e (g .0) a) (xs .rest) (g .1)) (on-either (GotIn (TreeIn P K)) (is fix ws) _ _ (on-step (GotIn (BoundIn P)) (GotIn (TreeIn P K)) (nameAt (behind ws)) _ (name-in (behind ws) (behind-in ws h)) λ x g. bound-body-in (Trees.fix (place ws) (x .value)) (λ t e a. (g .0, a)) (x .rest) (g .1)) (on-either (GotIn (TreeIn P K)) (is lets ws) _ _ (let-in (place ws) (behind ws) (behind-in ws h)) (spine-in ws h)))
 
   term-in : (more : ℕ) → Reads (TreeIn P K) (termAt more)
   term-in zero ws h = tt

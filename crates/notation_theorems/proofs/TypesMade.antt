@@ -8,18 +8,19 @@ use lib.Dec.{T, leb, ltb}
 use lib.ListN.{length, take}
 use Rattle.calculus.specs.Answer.{Answer, good, refused, _>>=_, need}
 use Rattle.calculus.proofs.Answers.{good-inj, on-bind}
-use Rattle.calculus.specs.Types.{Ty, size, TyRec, Table, tree, tyOf, tysFrom}
+use Rattle.calculus.specs.Types.{Ty, size, sharable, TyRec, rec02, Table, tree, tyOf, tysFrom}
 use Rattle.calculus.specs.Read.{formed, repeated}
-use Rattle.laws.proofs.Tests.{T-is, not-true}
+use Rattle.laws.proofs.Tests.{T-is, not-true, and-of}
 use Rattle.notation_calculus.specs.Words.{Name}
-use Rattle.notation_calculus.specs.Trees.{Number, Form, product, arrow, linear, TypeTree, typed, TypeAtom, one, inside, typeNamed, Side, nothing, side, TypeTrees, noTypes, types, Body, ofType, ofTerm, Clause, Text}
-use Rattle.notation_calculus.specs.Making.{mostPuts, mostEntries, State, Found, Entry, Scope, lookup, withType, numberIn, formOf, listed, entries, numberOf, numbersOf, numbersIn, Put, putOf, meant, clauseFor, onePut, FoundAll, waiting, foundAll, putIn, joined, atomType, bodyType, typeOf}
-use Rattle.notation_calculus.specs.Means.{TypeEntry, Here, with, Nearest, First, first-here, first-later, inClause, mayJoin, TypeIs, type-is, AtomIs, one-is, inside-is, parameter-is, put-is, SideIs, no-side, a-side, TypesAre, no-types, more-types}
+use Rattle.notation_calculus.specs.Trees.{Number, Form, product, arrow, linear, TypeTree, typed, TypeAtom, one, ones, inside, typeNamed, Side, nothing, side, TypeTrees, noTypes, types, Body, ofType, ofTerm, Clause, Text}
+use Rattle.notation_calculus.specs.Making.{mostPuts, mostEntries, State, Found, Entry, Scope, lookup, withType, numberIn, formOf, listed, entries, numberOf, numbersOf, numbersIn, Put, putOf, meant, clauseFor, onePut, FoundAll, waiting, foundAll, putIn, joined, moreBits, onesOf, atomType, bodyType, typeOf}
+use Rattle.notation_calculus.specs.Means.{TypeEntry, Here, with, Nearest, First, first-here, first-later, inClause, mayJoin, bitsTy, TypeIs, type-is, AtomIs, one-is, ones-is, inside-is, parameter-is, put-is, SideIs, no-side, a-side, TypesAre, no-types, more-types}
 use Rattle.notation_theorems.specs.Limited.{Limited}
 use Rattle.notation_theorems.proofs.Answering.{On}
-use Rattle.notation_theorems.proofs.Growing.{Ready, Grown, grown-same, grown-on, grown-length, grown-tree}
-use Rattle.notation_theorems.proofs.TypesMean.{shown, hereOf, Low, LowScope, here-grown, low-more, lookup-says, Reached, Works, WorksAll, ReachedAll, LowAll, treesOf, trees-length, all-hold, type-with, bound-low, numbers-in, put-here, one-put, works-of, works-all, atom-holds, side-holds, type-sound}
+use Rattle.notation_theorems.proofs.Growing.{Ready, Grown, grown-same, grown-on, grown-length, grown-tree, tree-one, Listed, listed-holds}
+use Rattle.notation_theorems.proofs.TypesMean.{shown, hereOf, Low, LowScope, here-grown, low-more, lookup-says, Reached, Works, WorksAll, ReachedAll, LowAll, treesOf, trees-length, all-hold, type-with, bound-low, numbers-in, put-here, one-put, works-of, works-all, BitsAt, row-more, atom-holds, side-holds, type-sound}
 use Rattle.notation_theorems.proofs.MeansOne.{type-one, atom-one, side-one, types-one}
+use Rattle.notation_theorems.proofs.Sorting.{bits-share}
 
 -- ---- answers
 
@@ -55,6 +56,17 @@ formed-by : (Θ : Table) (f : Form) (a b : ℕ) → T (mayJoin f (tree Θ a) (tr
 formed-by Θ product a b t = t
 formed-by Θ arrow a b t = t
 formed-by Θ linear a b t = t
+
+-- ---- bits in a row
+
+row-limited : (at n m : ℕ) (x : Found) → BitsAt m x → Limited (moreBits at n x)
+row-limited at zero m x row = tt
+row-limited at (suc n) m x row =
+    let Θ : Table = x .state .table in
+    let bit-shares : T (sharable (tree Θ 0)) = subst (λ (τ : Ty). T (sharable τ)) (sym (tree-one Θ (row .0))) tt in
+    let row-shares : T (sharable (tree Θ (x .type))) = subst (λ (τ : Ty). T (sharable τ)) (sym (row .2)) (bits-share m) in
+    limited-step (Listed (x .state) (rec02 0 (x .type))) (listed (x .state) (rec02 0 (x .type)) at) (λ y. moreBits at n y) (listed-holds (x .state) (rec02 0 (x .type)) at (row .0) (row .0 .some, row .1)) (listed-limited (x .state) (rec02 0 (x .type)) at (and-of (sharable (tree Θ 0)) (sharable (tree Θ (x .type))) bit-shares row-shares)) λ y h.
+    row-limited at n (suc m) y (row-more m x y row h)
 
 -- ---- sides and arguments
 
@@ -153,6 +165,7 @@ module _ (X : Text) (more : ℕ) (limits : TypeLimited X more) (S : Scope) (σ :
 
   atom-limited : (a : TypeAtom) (τ : Ty) → AtomIs X H a τ → Limited (atomType X S go put σ a)
   atom-limited one τ d = tt
+  atom-limited (ones at k) τ (ones-is {n = n} d e) = subst (λ (m : Answer ℕ). Limited (m >>= λ i. onesOf at (k .place) i σ)) (sym d) (row-limited at n 0 (record { type = 0; state = σ }) (R, R .some, tree-one (σ .table) R))
   atom-limited (inside t) τ (inside-is d) = limits S σ t τ R low d
   atom-limited (typeNamed at n ts ks) τ (parameter-is {i = i} h) = lookup-says (λ (m : Answer Found). Limited m) (σ .table) n (S .types) 0 (length (σ .table)) (λ j v. good (record { type = v; state = σ })) (putIn X true S go put σ at n noTypes []) (low .0) (λ j v l near′. tt) λ none. absurd (none i τ h)
   atom-limited (typeNamed at n noTypes []) τ (put-is free are ne first be is) = lookup-says (λ (m : Answer Found). Limited m) (σ .table) n (S .types) 0 (length (σ .table)) (λ j v. good (record { type = v; state = σ })) (putIn X true S go put σ at n noTypes []) (low .0) (λ j v l near′. tt) λ none. named-limited at n noTypes [] are ne first be is

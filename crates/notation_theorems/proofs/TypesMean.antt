@@ -7,13 +7,13 @@ use native.Mathlib.Omega.{arith}
 use lib.Dec.{T, leb, eqb, eqb→eq, eqb-refl}
 use lib.ListN.{length, take}
 use Rattle.calculus.specs.Answer.{Answer, good, refused, _>>=_}
-use Rattle.calculus.specs.Types.{Ty, bit, sharable, TyRec, Table, tree}
+use Rattle.calculus.specs.Types.{Ty, bit, prod, sharable, TyRec, rec02, Table, tree}
 use Rattle.laws.proofs.Tests.{and-both, and-of}
 use Rattle.sheet_theorems.specs.Laid.{Agrees, Below}
 use Rattle.notation_calculus.specs.Words.{Name, sameName}
-use Rattle.notation_calculus.specs.Trees.{Bound, Number, Form, product, arrow, linear, TypeTree, typed, TypeAtom, one, inside, typeNamed, Side, nothing, side, TypeTrees, noTypes, types, Body, ofType, ofTerm, Clause, Text}
-use Rattle.notation_calculus.specs.Making.{mostPuts, State, Found, Entry, Scope, lookup, formOf, listed, entries, roomFor, numberOf, numbersOf, numbersIn, bindNumbers, bindTypes, bind, seenBy, Put, putOf, meant, clauseFor, onePut, FoundAll, waiting, foundAll, noArguments, putIn, joined, atomType, bodyType, typeOf}
-use Rattle.notation_calculus.specs.Means.{TypeEntry, Here, with, Nearest, near, far, Free, First, first-here, first-later, typeEntries, inClause, mayJoin, TypeIs, type-is, AtomIs, one-is, inside-is, parameter-is, put-is, SideIs, no-side, a-side, TypesAre, no-types, more-types}
+use Rattle.notation_calculus.specs.Trees.{Bound, Number, Form, product, arrow, linear, TypeTree, typed, TypeAtom, one, ones, inside, typeNamed, Side, nothing, side, TypeTrees, noTypes, types, Body, ofType, ofTerm, Clause, Text}
+use Rattle.notation_calculus.specs.Making.{mostPuts, State, Found, Entry, Scope, lookup, formOf, listed, entries, roomFor, numberOf, numbersOf, numbersIn, bindNumbers, bindTypes, bind, seenBy, Put, putOf, meant, clauseFor, onePut, FoundAll, waiting, foundAll, noArguments, putIn, joined, moreBits, onesOf, atomType, bodyType, typeOf}
+use Rattle.notation_calculus.specs.Means.{TypeEntry, Here, with, Nearest, near, far, Free, First, first-here, first-later, typeEntries, inClause, mayJoin, bitsTy, TypeIs, type-is, AtomIs, one-is, ones-is, inside-is, parameter-is, put-is, SideIs, no-side, a-side, TypesAre, no-types, more-types}
 use Rattle.notation_calculus.specs.Means as Means
 use Rattle.notation_theorems.proofs.Answering.{On, on-step, on-any, on-test, on-tests, on-map, on-is}
 use Rattle.notation_theorems.proofs.Growing.{Ready, Grown, grown-same, grown-on, grown-length, grown-tree, tree-one, Listed, listed-holds}
@@ -129,6 +129,30 @@ side-holds X H Θ go x (side f at t) W R g l = on-step (Reached (x .state) (Type
     Q : Found → Type 0
     Q = Reached (x .state) (SideIs X H (tree (x .state .table) (x .type)) (side f at t))
 
+-- ---- bits in a row
+
+-- x stands for m bits and one more
+abbrev pub BitsAt : ℕ → Found → Type 0
+BitsAt m x = Ready (x .state .table) × (x .type < length (x .state .table)) × (tree (x .state .table) (x .type) ≡ bitsTy m)
+
+-- one bit more
+pub row-more : (m : ℕ) (x y : Found) → BitsAt m x → Listed (x .state) (rec02 0 (x .type)) y → BitsAt (suc m) y
+row-more m x y (R, l, e) (Ry, gy, ly, agrees) =
+    let Φ : Table = y .state .table in
+    (Ry, ly, agrees .0 ∙ ap (λ (τ : Ty). prod τ (tree Φ (x .type))) (tree-one Φ Ry) ∙ ap (λ (τ : Ty). prod bit τ) (grown-tree (x .state .table) Φ (x .type) gy l ∙ e))
+
+row-holds : (at n m : ℕ) (x : Found) → BitsAt m x → On (Reached (x .state) (λ (τ : Ty). τ ≡ bitsTy (n + m))) (moreBits at n x)
+row-holds at zero m x (R, l, e) =
+    let s : m ≡ 0 + m = omega arith in
+    (R, grown-same (x .state .table), l, e ∙ ap bitsTy s)
+row-holds at (suc n) m x row = on-step (Listed (x .state) (rec02 0 (x .type))) Q (listed (x .state) (rec02 0 (x .type)) at) (λ y. moreBits at n y) (listed-holds (x .state) (rec02 0 (x .type)) at (row .0) (row .0 .some, row .1)) λ y h.
+    on-map (Reached (y .state) (λ (τ : Ty). τ ≡ bitsTy (n + suc m))) Q (moreBits at n y) (row-holds at n (suc m) y (row-more m x y row h)) λ z (Rz, gz, lz, ez).
+    let s : n + suc m ≡ suc n + m = omega arith in
+    (Rz, grown-on (x .state .table) (y .state .table) (z .state .table) (h .1) gz, lz, ez ∙ ap bitsTy s)
+  where
+    Q : Found → Type 0
+    Q = Reached (x .state) (λ (τ : Ty). τ ≡ bitsTy (suc n + m))
+
 -- ---- arguments
 
 abbrev pub treesOf : Table → List ℕ → List Ty
@@ -180,6 +204,7 @@ mutual
 
   atom-with : {X : Text} {H : Here} {a : TypeAtom} {τ : Ty} (Γ : List TypeEntry) → AtomIs X H a τ → AtomIs X (with H Γ) a τ
   atom-with Γ one-is = one-is
+  atom-with Γ (ones-is d e) = ones-is d e
   atom-with Γ (inside-is t) = inside-is (type-with Γ t)
   atom-with Γ (parameter-is h) = parameter-is h
   atom-with Γ (put-is free are ne first be is) = put-is free (types-with Γ are) ne first be is
@@ -289,8 +314,15 @@ module _ (X : Text) (more : ℕ) (sound : Sound X more) (S : Scope) (σ : State)
       let e′ : p ≡ putOf (entries S) (X .clauses) c j (xs .types) ns = e ∙ ap (λ (i : ℕ). putOf (entries S) (X .clauses) c i (xs .types) ns) z in
       subst (λ (q : Put). On Q (put (q .scope) τ (q .body))) (sym e′) (body-holds at n ts ks xs ns c j τ (c .body) free all ne first same refl)
 
+  ones-hold : (at : ℕ) (k : Number) (n : ℕ) → numberOf (S .numbers) k ≡ good n → On (Reached σ (AtomIs X H (ones at k))) (onesOf at (k .place) n σ)
+  ones-hold at k zero e = tt
+  ones-hold at k (suc n) e = on-map (Reached σ (λ (τ : Ty). τ ≡ bitsTy (n + 0))) (Reached σ (AtomIs X H (ones at k))) (moreBits at n (record { type = 0; state = σ })) (row-holds at n 0 (record { type = 0; state = σ }) (R, R .some, tree-one (σ .table) R)) λ z (Rz, gz, lz, ez).
+      let s : n + 0 ≡ n = omega arith in
+      (Rz, gz, lz, ones-is e (ez ∙ ap bitsTy s))
+
   pub atom-holds : (a : TypeAtom) → On (Reached σ (AtomIs X H a)) (atomType X S go put σ a)
   atom-holds one = (R, grown-same (σ .table), R .some, subst (λ (τ : Ty). AtomIs X H one τ) (sym (tree-one (σ .table) R)) one-is)
+  atom-holds (ones at k) = on-is (Reached σ (AtomIs X H (ones at k))) (numberOf (S .numbers) k) (λ n. onesOf at (k .place) n σ) λ n e. ones-hold at k n e
   atom-holds (inside t) = on-map (Reached σ (TypeIs X H t)) (Reached σ (AtomIs X H (inside t))) (go S σ t) (works-of X more S σ sound low σ t R (grown-same (σ .table))) λ x (Rx, gx, lx, is). (Rx, gx, lx, inside-is is)
   atom-holds (typeNamed at n noTypes []) = lookup-says (On (Reached σ (AtomIs X H (typeNamed at n noTypes [])))) (σ .table) n (S .types) 0 (length (σ .table)) (λ i v. good (record { type = v; state = σ })) (putIn X true S go put σ at n noTypes []) (low .0) (λ j v h near′. (R, grown-same (σ .table), h, parameter-is near′)) λ none. put-holds at n noTypes [] λ _. none
   atom-holds (typeNamed at n noTypes (k ∷ ks)) = put-holds at n noTypes (k ∷ ks) λ t. absurd t

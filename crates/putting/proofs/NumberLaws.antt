@@ -1,19 +1,22 @@
 -- Numbers as arguments: read by the grammar, worked out, and put behind the type arguments. Assumes nothing.
 use Prim.Native.Nat.{ℕ, _+_, _-_, _≤_}
 use mathlib.Core.Path.{_≡_, refl, sym, ap, _∙_, subst}
-use mathlib.Core.List.{List}
+use mathlib.Core.Bool.{Bool, cond}
+use mathlib.Core.List.{List, []}
 use native.Mathlib.Omega.{arith}
 use lib.ListN.{length}
 use Rattle.calculus.specs.Answer.{Answer, good, refused, _>>=_, refuse}
 use Rattle.calculus.proofs.Answers.{refused≢good, good-inj, refused-inj}
-use Rattle.notation_calculus.specs.Words.{Word}
+use Rattle.notation_calculus.specs.Words.{curly, endCurly, Word}
 use Rattle.notation_calculus.specs.Trees.{Number}
-use Rattle.notation_calculus.specs.Grammar.{Got, got, numberAt, numbersAt}
+use Rattle.notation_calculus.specs.Grammar.{Got, got, behind, expect, listFrom, numberAt, numbersAt}
 use Rattle.notation_calculus.specs.Making.{Scope, entries, numbersIn, mostEntries}
-use Rattle.words.specs.Lexed.{from}
+use Rattle.words.specs.Next.{Said}
+use Rattle.words.specs.Lexed.{from, Stands}
 use Rattle.grammar.specs.declared.steps.End.{End}
 use Rattle.grammar.specs.Ends.{restOf, Ends}
 use Rattle.grammar.specs.Skips.{numbersEnd}
+use Rattle.grammar.proofs.EndLaws.{is-no}
 use Rattle.grammar.proofs.SkipLaws.{numbers-rest}
 use Rattle.clauses.specs.declared.groups.Group.{Group}
 use Rattle.clauses.specs.Groups.{Readable, GroupRead}
@@ -30,6 +33,10 @@ use Rattle.walks.specs.Says.{CanPut}
 use Rattle.putting.specs.Putting.{numbersFor, NumbersAnswer, NumbersSay}
 use Rattle.putting.specs.declared.NumbersEnd.the-variants as numbers-end
 
+-- { .. }, or nothing, by a test of the first word
+abbrev numbersIf : List Word → Bool → Answer (Got (List Number))
+numbersIf ws b = cond b (listFrom numberAt (length ws) (behind ws) >>= λ ns. expect endCurly (ns .rest) >>= λ after. got (ns .value) after) (got [] ws)
+
 -- numbers were read up to some words
 record ReadTo (ws us : List Word) : Type 0 where
   ks : List Number
@@ -43,6 +50,13 @@ read-to ws us (refused why) e r = absurd (refused≢good r)
 not-read : (text w : List ℕ) (first n p : ℕ) (f : Got (List Number) → Answer (Got (List ℕ))) (m : Answer (Got (List Number))) → restOf m ≡ refuse n p → NumbersAnswer text w first (numbers-end.Refused n p) (m >>= f)
 not-read text w first n p f (good g) e = absurd (refused≢good (sym e))
 not-read text w first n p f (refused why) e = refused-inj e
+
+-- there are none
+pub numbers-none : (text w : List ℕ) (name at types frame top into : ℕ) → CanPut text w name at types frame top into → (v : Said) → Stands text at v → ¬ (v .code ≡ 19) → NumbersSay text w name at types frame top (numbers-end.At 0 at) w
+numbers-none text w name at types frame top into P v s c = record {
+  only = only-none (top + types) mostEntries w;
+  says = λ S H. subst (λ (q : Bool). NumbersAnswer text w (top + types) (numbers-end.At 0 at) (numbersIf (from text at) q >>= λ ks. numbersIn S name types (ks .value) >>= λ ns. got ns (ks .rest))) (sym (is-no text at v s curly c)) (record { numbers = refl; few = omega (arith, P .few); rest = record { is = refl; lexed = P .lexed } });
+}
 
 module _ (text w : List ℕ) (name at types frame top into : ℕ) (P : CanPut text w name at types frame top into) (e : End) (b : ℕ) (E : Ends text b (numbersEnd (from text at)) e) where
   pub numbers-refused : ¬ (e .number ≡ 0) → NumbersSay text w name at types frame top (numbers-end.Refused (e .number) (e .at)) w

@@ -113,11 +113,11 @@ abbrev ListReads : ℕ → Table → List Token → Got (List TypeTree) → Type
 ListReads n Θ us g = ShownAll n Θ (g .value) × Spoken us (g .rest)
 
 commas : (us : List Token) → TypeStops (sign comma ∷ us)
-commas us = record { square = refl; curly = refl; times = refl; arrow = refl; linear = refl }
+commas us = record { square = refl; curly = refl; power = refl; times = refl; arrow = refl; linear = refl }
 
 -- the next word is the name of `main`
 mains : (us : List Token) → TypeStops (Words.name (ascii "main") ∷ us)
-mains us = record { square = refl; curly = refl; times = refl; arrow = refl; linear = refl }
+mains us = record { square = refl; curly = refl; power = refl; times = refl; arrow = refl; linear = refl }
 
 read-list : (m rounds n : ℕ) (r : TyRec) (Θ : Table) (us : List Token) (ws : List Word) → Spoken (tableWords n (r ∷ Θ) (Words.name (ascii "main") ∷ us)) ws → length Θ < rounds → Within (ListReads n (r ∷ Θ) (Words.name (ascii "main") ∷ us)) (listFrom (λ vs. typeAt m false vs) rounds ws)
 read-list m zero n r Θ us ws h l = absurd (omega arith)
@@ -193,8 +193,8 @@ read-table (r ∷ Θ) e (suc rounds) items ws h l s k z =
     (cs, c, a, b, d, subst (λ (ls : List Line). ShownLines (length (r ∷ Θ)) 0 (r ∷ Θ) ls) (sym (f ∙ ap (λ (ls : List Line). ls ++ linesOf (length (items .clauses)) (g .value)) z ∙ ap (λ (n : ℕ). linesOf n (g .value)) (clauses-long (r ∷ Θ) 0 (items .clauses) k))) (lines-of (length (r ∷ Θ)) 0 (r ∷ Θ) (g .value) x)))
 
 types-go-on : (Ψ : Table) (n : ℕ) (us : List Token) → TypeStops (typeLineWords n Ψ (sign table ∷ us))
-types-go-on [] n us = record { square = refl; curly = refl; times = refl; arrow = refl; linear = refl }
-types-go-on (r ∷ Ψ) n us = record { square = refl; curly = refl; times = refl; arrow = refl; linear = refl }
+types-go-on [] n us = record { square = refl; curly = refl; power = refl; times = refl; arrow = refl; linear = refl }
+types-go-on (r ∷ Ψ) n us = record { square = refl; curly = refl; power = refl; times = refl; arrow = refl; linear = refl }
 
 read-lines :
     (Φ Ψ Θ : Table) (e : Term) (n rounds : ℕ) (items : Items) (ws : List Word) → Θ ≡ Φ ++ Ψ → n ≡ length Φ → Spoken (typeLineWords n Ψ (sign table ∷ tableWords 0 Θ (mainWords Θ e))) ws

@@ -9,7 +9,7 @@ use Rattle.calculus.specs.Answer.{Answer, good, refused, _>>=_}
 use Rattle.calculus.specs.Types.{TyRec, rec01, rec02, rec03, rec04, Table, recAt}
 use Rattle.calculus.specs.Terms.{Term, var, lvar, fun, app, lfun, lapp, pair, proj, fix, con, name}
 use Rattle.laws.proofs.Tests.{T-is}
-use Rattle.notation_calculus.specs.Words.{Sign, signCode, ends, times, arrow, linear, round, endRound, square, curly, comma, colon, dot, equals, within, Token, sign, part, Word}
+use Rattle.notation_calculus.specs.Words.{Sign, signCode, ends, times, arrow, linear, round, endRound, square, curly, power, comma, colon, dot, equals, within, Token, sign, part, Word}
 use Rattle.notation_calculus.specs.Words as Words
 use Rattle.notation_calculus.specs.Trees.{TypeTree, Tree, Trees, Atom, tuple, noTrees, noAtoms, trees, atoms, named, spine}
 use Rattle.notation_calculus.specs.Trees as Trees
@@ -59,6 +59,7 @@ expect-then Q s us (w ∷ ws) f g (more h) k = rw (T-is (eqb (signCode s) (signC
 pub record TypeStops (us : List Token) : Type 0 where
   pub square : NotHead square us
   pub curly : NotHead curly us
+  pub power : NotHead power us
   pub times : NotHead times us
   pub arrow : NotHead arrow us
   pub linear : NotHead linear us
@@ -76,7 +77,7 @@ RecReads r us g = ShownRec r (g .value) × Spoken us (g .rest)
 
 pub read-rec : (m : ℕ) (r : TyRec) (us : List Token) (ws : List Word) → Spoken (recWords r us) ws → TypeStops us → Within (RecReads r us) (typeAt m false ws)
 read-rec zero r us ws h s = refl
-read-rec (suc m) rec01 us (w ∷ ws) (more h) s = rw (not-head times h (s .times), not-head arrow h (s .arrow), not-head linear h (s .linear)) (one-shown, h)
+read-rec (suc m) rec01 us (w ∷ ws) (more h) s = rw (not-head power h (s .power), not-head times h (s .times), not-head arrow h (s .arrow), not-head linear h (s .linear)) (one-shown, h)
 read-rec (suc m) (rec02 a b) us vs (more (more {ws = ws} h)) s = within-then (TypeReads b us) (RecReads (rec02 a b) us) (typeAt m true ws) _ _ (read-type m true b us ws h s) λ t (x, y). rw (not-head arrow y (s .arrow), not-head linear y (s .linear)) (product-shown x, y)
 read-rec (suc m) (rec03 a b) us vs (more (more {ws = ws} h)) s = within-then (TypeReads b us) (RecReads (rec03 a b) us) (typeAt m false ws) _ _ (read-type m false b us ws h s) λ t (x, y). (arrow-shown x, y)
 read-rec (suc m) (rec04 a b) us vs (more (more {ws = ws} h)) s = within-then (TypeReads b us) (RecReads (rec04 a b) us) (typeAt m false ws) _ _ (read-type m false b us ws h s) λ t (x, y). (linear-shown x, y)
@@ -115,7 +116,7 @@ behind-value : (us : List Token) → TermStops (sign within ∷ us)
 behind-value us = record { square = refl; curly = refl; atom = (refl, refl, refl) }
 
 dotted : (us : List Token) → TypeStops (sign dot ∷ us)
-dotted us = record { square = refl; curly = refl; times = refl; arrow = refl; linear = refl }
+dotted us = record { square = refl; curly = refl; power = refl; times = refl; arrow = refl; linear = refl }
 
 module _ (Θ : Table) where
   abbrev pub TermReads : ℕ → Term → List Token → Got Tree → Type 0

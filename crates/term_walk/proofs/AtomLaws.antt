@@ -24,7 +24,7 @@ use Rattle.words.specs.Tables.{tokenCode, tokenValue}
 use Rattle.words.specs.Next.{runAt, saidWord}
 use Rattle.words.specs.Lexed.{from, Lexed, Stands}
 use Rattle.words.specs.declared.Word as code-word
-use Rattle.grammar.proofs.EndLaws.{sign-small, token-is, is-yes, is-no}
+use Rattle.grammar.proofs.EndLaws.{sign-not, token-is, is-yes, is-no}
 use Rattle.making_memory.specs.Map.{typeCountAt, nodeCountAt, secondAt}
 use Rattle.made_types.specs.Held.{HoldsState}
 use Rattle.made_nodes.specs.Held.{TermHeld, MadeIn, SmallMade, MadeOnly, Workable}
@@ -185,7 +185,7 @@ module _ (text w : List ℕ) (h : Walk) (s : Left) (name at : ℕ) where
 
 -- ---- variables
 
-node-counts : (at : ℕ) (e : Term) (t below : ℕ) (places : List ℕ) (σ : State) → On (λ (m : Made). suc (σ .nodes) ≤ m .state .nodes) (node at e t below places σ)
+pub node-counts : (at : ℕ) (e : Term) (t below : ℕ) (places : List ℕ) (σ : State) → On (λ (m : Made). suc (σ .nodes) ≤ m .state .nodes) (node at e t below places σ)
 unfolding node
 node-counts at e t below places σ = on-any (λ (m : Made). suc (σ .nodes) ≤ m .state .nodes) (need (ltb (σ .nodes) 2048) 34 at) _ λ _. on-any (λ (m : Made). suc (σ .nodes) ≤ m .state .nodes) (need (ltb below 64) 34 at) _ λ _. omega arith
 
@@ -205,7 +205,7 @@ part-type-nodes second (suc (suc k)) σ at = on-step (λ (x : Found). x .state .
 part-counts : (E : Edition) (σ : State) (at p : ℕ) → On (λ (m : Made). suc (σ .nodes) ≤ m .state .nodes) (partOf E σ at p)
 part-counts E σ at p = on-step (λ (x : Found). x .state .nodes ≡ σ .nodes) (λ (m : Made). suc (σ .nodes) ≤ m .state .nodes) (partType E (partAt p .inputs) σ at) _ (part-type-nodes E (partAt p .inputs) σ at) λ t h. on-map (λ (m : Made). suc (t .state .nodes) ≤ m .state .nodes) (λ (m : Made). suc (σ .nodes) ≤ m .state .nodes) (node at (con p (t .type)) (t .type) 0 [] (t .state)) (node-counts at (con p (t .type)) (t .type) 0 [] (t .state)) λ m q. omega arith
 
-counted-nodes : (waiting n : ℕ) (r : code.MadeTerm) (a : Answer Made) → waiting ≤ n → On (λ (m : Made). suc n ≤ m .state .nodes) a → MadeNodes waiting r a
+pub counted-nodes : (waiting n : ℕ) (r : code.MadeTerm) (a : Answer Made) → waiting ≤ n → On (λ (m : Made). suc n ≤ m .state .nodes) a → MadeNodes waiting r a
 counted-nodes waiting n (made.At x) (good m) h o = omega arith
 counted-nodes waiting n (made.At x) (refused why) h o = tt
 counted-nodes waiting n (made.Refused u v) a h o = tt
@@ -305,7 +305,7 @@ AtomBy text at t X bodies h p σ = atomEntered X bodies h p σ t (wordsAt text a
 
 -- by the code of its first word
 token-part : (t : Token) → tokenCode t ≡ 22 → t ≡ part (tokenValue t)
-token-part (sign t) e = absurd (omega (arith, sign-small t))
+token-part (sign t) e = absurd (sign-not t 22 tt e)
 token-part (part p) e = refl
 token-part (number n) e = absurd (omega arith)
 token-part (name n) e = absurd (omega arith)

@@ -14,7 +14,7 @@ use Rattle.notation_calculus.specs.Grammar.{mostNested, Got, got, behind, place
 use Rattle.notation_calculus.specs.Making.{State, Found, Scope, bind, bindAll, withVariables, entries, mostEntries}
 use Rattle.notation_calculus.specs.Making as Making
 use Rattle.notation_machine.specs.TypeFrom.{typeFrom}
-use Rattle.notation_machine.specs.TermMachine.{TermWish, ofFunction, ofFix, valueOfName, valueOfNames, TermLevel, Terming, TermHere, askTerm, functionFrom, fixFrom, letFrom}
+use Rattle.notation_machine.specs.TermMachine.{TermWish, ofFunction, ofFix, valueOfName, valueOfNames, TermLevel, Terming, TermHere, askTerm, namesTyped, fixFrom, letFrom}
 use Rattle.words.specs.Next.{runAt, saidWord}
 use Rattle.words.specs.Lexed.{from, Lexed, Stands}
 use Rattle.words.specs.declared.Word as code-word
@@ -37,7 +37,7 @@ use Rattle.term_parts.specs.Names.{namesBy, spaced, spacedNames, listedNames, N
 use Rattle.term_parts.specs.Parts.{NameBound, NamesBound}
 use Rattle.term_walk.specs.Looks.{wordsAt, ReadableFrom, Looks}
 use Rattle.term_walk.specs.Holding.{LevelWrites, entriesOf, halvesFor, WishHeld, ScopeHeld, HereHeld}
-use Rattle.term_walk.specs.Steps.{CanAskTerm, Asks, StepAnswers, termHereWith, bodiesIn, LevelEntry, CanEnter, EnterSays, CanBound, CanNames, BehindType, boundEntry, typedEntry, functionEntry, fixBoundEntry, fixTypedEntry, fixEntry, valueEntry, valuesEntry, namesEntry, letEntry}
+use Rattle.term_walk.specs.Steps.{CanAskTerm, Asks, StepAnswers, termHereWith, bodiesIn, LevelEntry, CanEnter, EnterSays, CanBound, CanNames, BehindType, boundEntry, typedEntry, namesTypedEntry, fixBoundEntry, fixTypedEntry, fixEntry, valueEntry, valuesEntry, namesEntry, letEntry}
 use Rattle.term_parts.proofs.Stay.{entries-state}
 use Rattle.term_walk.proofs.LookLaws.{words-lexed}
 use Rattle.term_walk.proofs.HoldLaws.{stepped-none, stepped-then, stepped-types, stepped-entries, here-stays}
@@ -146,24 +146,24 @@ module _ (text w : List ℕ) (h : Walk) (at : ℕ) (v : code-word.Word) (looks :
   type-refuses w₁ n q (good g) i = absurd i
   type-refuses w₁ n q (refused why) i = ap refused i
 
-  pub typed-refused : (F : Tail) (x : type.TypeEnd) (w₁ : List ℕ) (n q : ℕ) → x ≡ type-end.Refused n q → BehindType text w (v .end) (h .more - 1) (h .frame) (h .top) x w₁ → EnterSays text w h (λ X bodies h′ σ. typeFrom X (h′ .more) (h′ .scope) σ (behind (wordsAt text at)) >>= λ t. F h′ (t .value .type) (t .value .state) (behind (t .rest))) (step-is.Refused n q) w₁
+  pub typed-refused : (F : Tail) (x : type.TypeEnd) (w₁ : List ℕ) (n q : ℕ) → x ≡ type-end.Refused n q → BehindType text w (v .end) (h .more - 1) (h .frame) (h .top) x w₁ → EnterSays text w h (λ X bodies h′ σ. typeFrom X (h′ .more) (h′ .scope) σ (behind (wordsAt text at)) >>= λ t. F h′ (t .value .type) (t .value .state) (t .rest)) (step-is.Refused n q) w₁
   typed-refused F x w₁ n q e T = record {
     stepped = stepped-type x w₁ T;
     says = λ X most bottom k S σ K c g. rw (type-refuses w₁ n q (typeFrom X k S σ (behind (wordsAt text at))) (type-says x w₁ T (type-end.Refused n q) e X k S σ c (g .scope .walkable))) refl;
   }
 
-  pub typed-bound : (F : Tail) (x : type.TypeEnd) (w₁ : List ℕ) (ty end : ℕ) → x ≡ type-end.At ty end → BehindType text w (v .end) (h .more - 1) (h .frame) (h .top) x w₁ → (r : step.Step) (w′ : List ℕ) → EnterSays text w₁ h (λ X bodies h′ σ. F h′ ty σ (behind (wordsAt text end))) r w′ → EnterSays text w h (λ X bodies h′ σ. typeFrom X (h′ .more) (h′ .scope) σ (behind (wordsAt text at)) >>= λ t. F h′ (t .value .type) (t .value .state) (behind (t .rest))) r w′
+  pub typed-bound : (F : Tail) (x : type.TypeEnd) (w₁ : List ℕ) (ty end : ℕ) → x ≡ type-end.At ty end → BehindType text w (v .end) (h .more - 1) (h .frame) (h .top) x w₁ → (r : step.Step) (w′ : List ℕ) → EnterSays text w₁ h (λ X bodies h′ σ. F h′ ty σ (wordsAt text end)) r w′ → EnterSays text w h (λ X bodies h′ σ. typeFrom X (h′ .more) (h′ .scope) σ (behind (wordsAt text at)) >>= λ t. F h′ (t .value .type) (t .value .state) (t .rest)) r w′
   typed-bound F x w₁ ty end e T r w′ E = record {
     stepped = stepped-then (h .more) (h .top) (h .waiting) w w₁ w′ (stepped-type x w₁ T) (E .stepped);
     says = λ X most bottom k S σ K c g. by X most bottom k S σ K c g (typeFrom X k S σ (behind (wordsAt text at))) (type-says x w₁ T (type-end.At ty end) e X k S σ c (g .scope .walkable));
   }
     where
-      by : (X : Text) (most bottom k : ℕ) (S : Scope) (σ : State) (K : List TermLevel) → h .more ≡ suc k → HereHeld text X most bottom w h S σ K → (m : Answer (Got Found)) → TypeAnswers text w₁ (type-end.At ty end) m → StepAnswers text X most bottom w′ r (m >>= λ t. F (termHereWith k S K) (t .value .type) (t .value .state) (behind (t .rest)))
+      by : (X : Text) (most bottom k : ℕ) (S : Scope) (σ : State) (K : List TermLevel) → h .more ≡ suc k → HereHeld text X most bottom w h S σ K → (m : Answer (Got Found)) → TypeAnswers text w₁ (type-end.At ty end) m → StepAnswers text X most bottom w′ r (m >>= λ t. F (termHereWith k S K) (t .value .type) (t .value .state) (t .rest))
       by X most bottom k S σ K c g (refused why) i = absurd i
       by X most bottom k S σ K c g (good t) i =
           let g₁ = here-stays text X most bottom w w₁ h S σ K g (stepped-type x w₁ T) (t .value .state) (i .state) in
-          subst (λ (us : List Word). StepAnswers text X most bottom w′ r (F (termHereWith k S K) (t .value .type) (t .value .state) (behind us))) (words-lexed text end (i .rest .lexed) ∙ sym (i .rest .is)) (
-          subst (λ (θ : ℕ). StepAnswers text X most bottom w′ r (F (termHereWith k S K) θ (t .value .state) (behind (wordsAt text end)))) (i .type) (E .says X most bottom k S (t .value .state) K c g₁))
+          subst (λ (us : List Word). StepAnswers text X most bottom w′ r (F (termHereWith k S K) (t .value .type) (t .value .state) us)) (words-lexed text end (i .rest .lexed) ∙ sym (i .rest .is)) (
+          subst (λ (θ : ℕ). StepAnswers text X most bottom w′ r (F (termHereWith k S K) θ (t .value .state) (wordsAt text end))) (i .type) (E .says X most bottom k S (t .value .state) K c g₁))
 
   -- the level is there, with the type
   pub typed-can : CanEnter text w h → (x : type.TypeEnd) (w₁ : List ℕ) (ty end : ℕ) → x ≡ type-end.At ty end → BehindType text w (v .end) (h .more - 1) (h .frame) (h .top) x w₁ → CanBound text w₁ h ty end
@@ -175,21 +175,21 @@ module _ (text w : List ℕ) (h : Walk) (at : ℕ) (v : code-word.Word) (looks :
 
 -- behind the type of a function's names, and of a fixed point's
 abbrev pub functionTail : List ℕ → ℕ → ℕ → ℕ → Tail
-functionTail text place′ from′ count h ty σ us = need (leb (entries (h .scope) + count) mostEntries) 34 place′ >>= λ _. good (askTerm h (ofFunction (spacedNames text from′ count) ty) (withVariables (h .scope) (bindAll (spacedNames text from′ count) ty (h .scope .variables))) σ us)
+functionTail text place′ from′ count h ty σ us = need (leb (entries (h .scope) + count) mostEntries) 34 place′ >>= λ _. good (askTerm h (ofFunction (spacedNames text from′ count) ty) (withVariables (h .scope) (bindAll (spacedNames text from′ count) ty (h .scope .variables))) σ (behind us))
 
 abbrev pub fixTail : List ℕ → ℕ → ℕ → Tail
-fixTail text place′ nm h ty σ us = need (leb (entries (h .scope) + 1) mostEntries) 34 place′ >>= λ _. good (askTerm h (ofFix (boundAt text nm) ty) (withVariables (h .scope) (bind (boundAt text nm) ty (h .scope .variables))) σ us)
+fixTail text place′ nm h ty σ us = need (leb (entries (h .scope) + 1) mostEntries) 34 place′ >>= λ _. good (askTerm h (ofFix (boundAt text nm) ty) (withVariables (h .scope) (bind (boundAt text nm) ty (h .scope .variables))) σ (behind us))
 
 -- ---- names first
 
 module _ (text w : List ℕ) (h : Walk) (start at : ℕ) (N : CanNames text h start at) where
-  pub function-refused : (x : NamesEnd) → SpacedSay text at x → ¬ (x .number ≡ 0) → EnterSays text w h (functionEntry text (h .at)) (step-is.Refused (x .number) (x .end)) w
+  pub function-refused : (x : NamesEnd) → SpacedSay text at x → ¬ (x .number ≡ 0) → EnterSays text w h (namesTypedEntry text (h .at)) (step-is.Refused (x .number) (x .end)) w
   function-refused x Y e = record {
     stepped = stepped-none (h .more) (h .top) (h .waiting) w;
     says = λ X most bottom k S σ K c g. rw (ap (namesFrom (length (wordsAt text (h .at)))) (N .rest) ∙ Y .refuses e (length (wordsAt text (h .at))) (N .fewer)) refl;
   }
 
-  pub function-named : (x : NamesEnd) → SpacedSay text at x → x .number ≡ 0 → (r : step.Step) (w′ : List ℕ) → EnterSays text w h (typedEntry text start at (x .count) (x .end)) r w′ → EnterSays text w h (functionEntry text (h .at)) r w′
+  pub function-named : (x : NamesEnd) → SpacedSay text at x → x .number ≡ 0 → (r : step.Step) (w′ : List ℕ) → EnterSays text w h (typedEntry text start at (x .count) (x .end)) r w′ → EnterSays text w h (namesTypedEntry text (h .at)) r w′
   function-named x Y e r w′ E = record {
     stepped = E .stepped;
     says = λ X most bottom k S σ K c g.

@@ -6,3 +6,4 @@ pub mod AtomLaws
 pub mod RoundLaws
 pub mod BinderLaws
 pub mod LeaveLaws
+pub mod PairLaws

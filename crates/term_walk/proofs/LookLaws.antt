@@ -60,7 +60,7 @@ first-small n text (good []) h f = omega arith
 first-small n text (good (w ∷ ws)) h f = omega arith
 first-small n text (refused why) h f = omega arith
 
-place-inside : (text : List ℕ) (at : ℕ) → at ≤ length text → place (from text at) ≤ length text
+pub place-inside : (text : List ℕ) (at : ℕ) → at ≤ length text → place (from text at) ≤ length text
 unfolding from
 place-inside text at h = first-small (at + gap false (drop at text)) text (lexed text at) (omega (arith, gap-short false (drop at text), length-drop at text)) (first-lexed text at)
 

@@ -26,7 +26,7 @@ use Rattle.term_walk.specs.declared.Step as step
 use Rattle.term_walk.specs.declared.Step.the-variants as step-is
 use Rattle.term_walk.specs.Looks.{wordsAt, ReadableFrom}
 use Rattle.term_walk.specs.Holding.{LevelWrites, FunctionHeld, LeftHeld, entriesOf, halvesFor, WishHeld, ScopeHeld, TermLevelHeld, TermLevelsHeld, HereHeld, TermCame, HoldsTerming}
-use Rattle.term_walk.specs.Steps.{nothingSub, wantsStep, doneStep, appliesStep, aroundWalk, CanAskTerm, Asks, CanEnter, StepAnswers, termHereWith, BehindSays, HereNow, MadeNodes, MadeSays}
+use Rattle.term_walk.specs.Steps.{nothingSub, wantsStep, doneStep, appliesStep, aroundWalk, CanAskTerm, Below, Asks, CanEnter, StepAnswers, termHereWith, BehindSays, HereNow, MadeNodes, MadeSays}
 use Rattle.term_walk.proofs.HoldLaws.{stepped-none, stepped-made, stepped-pushed, wish-stays, scope-stays, levels-stay, here-now, pushed-state, pushed-scope-held, levels-within}
 
 -- ---- by the code
@@ -114,8 +114,11 @@ module _ (w : List ℕ) (h : Walk) (s : Left) (x : code.MadeTerm) (at : ℕ) whe
 
 -- ---- a term that is wanted below
 
-pub asks-by : (w : List ℕ) (h : Walk) (l : Level) (frame top waiting at : ℕ) (x : Sub) (w′ : List ℕ) → w′ ≡ pushed w (h .more) l (aroundWalk h) → x ≡ nothingSub → Asks w h l frame top waiting at (step-is.Going (record { phase = 0; more = h .more - 1; frame = frame; top = top; waiting = waiting; place = 0; sub = x; at = at })) w′
-asks-by w h l frame top waiting at x w′ m e = record { memory = m; state = ap (λ (y : Sub). step-is.Going (record { phase = 0; more = h .more - 1; frame = frame; top = top; waiting = waiting; place = 0; sub = y; at = at })) e }
+pub below-by : (w : List ℕ) (h : Walk) (l : Level) (frame top waiting at : ℕ) (x : Sub) (w′ : List ℕ) → w′ ≡ pushed w (h .more) l (aroundWalk h) → x ≡ nothingSub → Below w h l frame top waiting at (record { phase = 0; more = h .more - 1; frame = frame; top = top; waiting = waiting; place = 0; sub = x; at = at }) w′
+below-by w h l frame top waiting at x w′ m e = record { memory = m; state = ap (λ (y : Sub). record { phase = 0; more = h .more - 1; frame = frame; top = top; waiting = waiting; place = 0; sub = y; at = at }) e }
+
+pub asks-below : (w : List ℕ) (h : Walk) (l : Level) (frame top waiting at : ℕ) (n : Walk) (w′ : List ℕ) → Below w h l frame top waiting at n w′ → Asks w h l frame top waiting at (step-is.Going n) w′
+asks-below w h l frame top waiting at n w′ B = record { memory = B .memory; state = ap step-is.Going (B .state) }
 
 -- a level that is there can wait
 pub can-ask : (text w : List ℕ) (h : Walk) → CanEnter text w h → (w₁ : List ℕ) → length w₁ ≡ length w → CanAskTerm w₁ h

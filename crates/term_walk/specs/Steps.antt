@@ -2,19 +2,19 @@
 use Prim.Native.Nat.{ℕ, suc, _+_, _-_, _≤_, _<_}
 use mathlib.Core.Path.{_≡_}
 use mathlib.Core.Bool.{Bool, true, false}
-use mathlib.Core.List.{List, []}
+use mathlib.Core.List.{List, [], _∷_}
 use lib.ListN.{length, getD}
 use Rattle.calculus.specs.Answer.{Answer, good, refused, numbered, _>>=_}
 use Rattle.notation_calculus.specs.Words.{Word}
 use Rattle.notation_calculus.specs.Trees.{Text}
-use Rattle.notation_calculus.specs.Grammar.{mostNested, Got, peek, behind, place, nameAt, listFrom}
+use Rattle.notation_calculus.specs.Grammar.{mostNested, Got, peek, behind, place, nameAt, listFrom, nameless}
 use Rattle.calculus.specs.Record.{All}
 use Rattle.notation_calculus.specs.Making.{State, Scope, Found, Made, lookup, bind, bindAll, withVariables, roomFor, node, variable, mostEntries}
 use Rattle.words.specs.Next.{runAt}
 use Rattle.words.specs.Lexed.{from, Lexed}
 use Rattle.clauses.specs.Meant.{valuesIn}
 use Rattle.notation_machine.specs.TypeFrom.{typeFrom}
-use Rattle.notation_machine.specs.TermMachine.{Spine, TermWish, TermLevel, Terming, TermHere, askTerm, behindAtom, termPutIn, termNamedAt, atomEntered, applicationFrom, functionFrom, fixFrom, letFrom, ofFunction, ofFix, ofDefinition, valueOfName, valueOfNames, termLeft, termMove}
+use Rattle.notation_machine.specs.TermMachine.{Spine, TermWish, TermLevel, Terming, TermHere, askTerm, behindAtom, termPutIn, termNamedAt, atomEntered, applicationFrom, pairMade, pairIn, pairFrom, namesTyped, functionFrom, fixFrom, letFrom, ofFunction, ofFix, ofDefinition, valueOfName, valueOfNames, termLeft, termMove}
 use Rattle.notation_machine.specs.TermSteps.{TermGoing}
 use Rattle.making_memory.specs.Map.{typeCountAt, makingSize}
 use Rattle.made_types.specs.Held.{HoldsState}
@@ -33,7 +33,7 @@ use Rattle.term_walk.specs.declared.Walk.{Walk}
 use Rattle.term_walk.specs.declared.Left.{Left}
 use Rattle.term_walk.specs.declared.Step as step
 use Rattle.term_walk.specs.declared.Step.the-variants as step-is
-use Rattle.term_parts.specs.Names.{spacedNames, listedNames}
+use Rattle.term_parts.specs.Names.{NamesStand, spacedNames, listedNames}
 use Rattle.term_walk.specs.Looks.{wordsAt, ReadableFrom}
 use Rattle.term_walk.specs.Holding.{LevelWrites, LeftHeld, entriesOf, halvesFor, WishHeld, HereHeld, TermCame, HoldsTerming}
 
@@ -42,8 +42,11 @@ use Rattle.term_walk.specs.Holding.{LevelWrites, LeftHeld, entriesOf, ha
 abbrev pub nothingSub : Sub
 nothingSub = record { node = 0; ty = 0; deep = 0 }
 
+abbrev pub wantsWalk : Walk → ℕ → ℕ → ℕ → ℕ → Walk
+wantsWalk h frame top waiting at = record { phase = 0; more = h .more - 1; frame = frame; top = top; waiting = waiting; place = 0; sub = nothingSub; at = at }
+
 abbrev pub wantsStep : Walk → ℕ → ℕ → ℕ → ℕ → step.Step
-wantsStep h frame top waiting at = step-is.Going (record { phase = 0; more = h .more - 1; frame = frame; top = top; waiting = waiting; place = 0; sub = nothingSub; at = at })
+wantsStep h frame top waiting at = step-is.Going (wantsWalk h frame top waiting at)
 
 abbrev pub doneStep : Walk → code.MadeTerm → ℕ → step.Step
 doneStep h (made.Refused number place) at = step-is.Refused number place
@@ -68,6 +71,11 @@ pub record CanAskTerm (w : List ℕ) (h : Walk) : Type 0 where
   pub top : h .top ≤ mostEntries
   pub waiting : h .waiting ≤ 2048
   pub some : 1 ≤ h .more
+
+-- the level waits, and the walk is one level below
+pub record Below (w : List ℕ) (h : Walk) (l : Level) (frame top waiting at : ℕ) (r : Walk) (w′ : List ℕ) : Type 0 where
+  pub memory : w′ ≡ pushed w (h .more) l (aroundWalk h)
+  pub state : r ≡ wantsWalk h frame top waiting at
 
 -- the level waits, and the term at an offset is wanted in a scope
 pub record Asks (w : List ℕ) (h : Walk) (l : Level) (frame top waiting at : ℕ) (r : step.Step) (w′ : List ℕ) : Type 0 where
@@ -155,6 +163,26 @@ boundEntry text place from′ count ty at X bodies h σ = do
 abbrev pub typedEntry : List ℕ → ℕ → ℕ → ℕ → ℕ → LevelEntry
 typedEntry text place from′ count at X bodies h σ = typeFrom X (h .more) (h .scope) σ (behind (wordsAt text at)) >>= λ t. roomFor (h .scope) count place >>= λ _. good (askTerm h (ofFunction (spacedNames text from′ count) (t .value .type)) (withVariables (h .scope) (bindAll (spacedNames text from′ count) (t .value .type) (h .scope .variables))) (t .value .state) (behind (t .rest)))
 
+abbrev pub namesTypedEntry : List ℕ → ℕ → LevelEntry
+namesTypedEntry text at X bodies h σ = namesTyped X bodies h σ (wordsAt text at)
+
+-- the variable of a function that is taken apart, in its body before the dot, for the names of a list
+abbrev pub pairMadeEntry : List ℕ → ℕ → ℕ → ℕ → ℕ → ℕ → LevelEntry
+pairMadeEntry text round′ from′ count ty at X bodies h σ = pairMade (h .more) (h .scope) σ round′ (listedNames text from′ count) ty (wordsAt text at) (h .above)
+
+abbrev pub pairInEntry : List ℕ → ℕ → ℕ → ℕ → ℕ → ℕ → LevelEntry
+pairInEntry text round′ from′ count ty at X bodies h σ = pairIn (h .more) (withVariables (h .scope) (bind (nameless round′) ty (h .scope .variables))) σ round′ (listedNames text from′ count) ty (wordsAt text at) (record { wish = ofFunction (nameless round′ ∷ []) ty; scope = h .scope } ∷ h .above)
+
+abbrev pub pairBoundEntry : List ℕ → ℕ → ℕ → ℕ → ℕ → ℕ → ℕ → LevelEntry
+pairBoundEntry text place round′ from′ count ty at X bodies h σ = roomFor (h .scope) 1 place >>= λ _. pairInEntry text round′ from′ count ty at X bodies h σ
+
+-- .. before the colon
+abbrev pub pairTypedEntry : List ℕ → ℕ → ℕ → ℕ → ℕ → ℕ → LevelEntry
+pairTypedEntry text place round′ from′ count at X bodies h σ = typeFrom X (h .more) (h .scope) σ (behind (wordsAt text at)) >>= λ t. roomFor (h .scope) 1 place >>= λ _. pairIn (h .more) (withVariables (h .scope) (bind (nameless round′) (t .value .type) (h .scope .variables))) (t .value .state) round′ (listedNames text from′ count) (t .value .type) (t .rest) (record { wish = ofFunction (nameless round′ ∷ []) (t .value .type); scope = h .scope } ∷ h .above)
+
+abbrev pub pairEntry : List ℕ → ℕ → ℕ → LevelEntry
+pairEntry text place at X bodies h σ = pairFrom X bodies h σ place (from text at)
+
 abbrev pub functionEntry : List ℕ → ℕ → LevelEntry
 functionEntry text at X bodies h σ = functionFrom X bodies h σ (wordsAt text at)
 
@@ -201,6 +229,22 @@ pub record CanNames (text : List ℕ) (h : Walk) (start at : ℕ) : Type 0 where
   pub lexed : Lexed text at
   pub rest : behind (wordsAt text (h .at)) ≡ from text at
   pub fewer : length (from text at) < length (wordsAt text (h .at))
+
+-- names of a list stand at an offset, and no name begins at its parenthesis
+pub record ListStands (text : List ℕ) (round′ from′ count : ℕ) : Type 0 where
+  pub inside : round′ ≤ length text
+  pub bare : runAt text round′ ≡ []
+  pub names : NamesStand behind text from′ count
+  pub few : count < 65536
+
+-- the first of the words from an offset on is a parenthesis, at a place where no name begins
+pub record Opens (text : List ℕ) (round′ start at : ℕ) : Type 0 where
+  pub place : round′ ≡ place (from text start)
+  pub inside : round′ ≤ length text
+  pub bare : runAt text round′ ≡ []
+  pub lexed : Lexed text at
+  pub rest : behind (from text start) ≡ from text at
+  pub fewer : length (from text at) < length (from text start)
 
 -- ---- a type at an offset of the walk
 

@@ -15,7 +15,7 @@ ghost use Rattle.notation_calculus.specs.Making.{mostEntries};
 ghost use Rattle.words.specs.Lexed.{from, Lexed};
 ghost use Rattle.term_parts.specs.Names.{NamesStand, spaced};
 ghost use Rattle.term_walk.specs.Looks.{ReadableFrom};
-ghost use Rattle.term_walk.specs.Steps.{CanEnter, EnterSays, CanBound, CanNames, boundEntry, typedEntry, functionEntry, fixBoundEntry, fixTypedEntry, fixEntry, valueEntry, valuesEntry, namesEntry, letEntry};
+ghost use Rattle.term_walk.specs.Steps.{CanEnter, EnterSays, CanBound, CanNames, ListStands, Opens, boundEntry, typedEntry, pairMadeEntry, pairBoundEntry, pairTypedEntry, pairEntry, functionEntry, fixBoundEntry, fixTypedEntry, fixEntry, valueEntry, valuesEntry, namesEntry, letEntry};
 
 const ROUND: u8 = 11;
 
@@ -74,11 +74,128 @@ fn function_type(
     }
 }
 
-// Behind `fun`: names.
+// ---- functions whose variable is taken apart
+
+// The variable is made, in the body of its function; the names of a list wait for it before the dot.
+fn pair_made(
+    text: &[u8],
+    work: &mut [u16],
+    h: Walk,
+    round: usize,
+    from: usize,
+    count: usize,
+    ty: u16,
+    at: usize,
+) -> Step
+    requires { ⌜ (CanBound (now text) (now work) h ty at) × ListStands (now text) round from count ⌝ }
+    ensures { λ r. ⌜ EnterSays (now (text .entry)) (now (work .entry)) h (pairMadeEntry (now (text .entry)) round from count ty at) r (now (work .exit)) ⌝ }
+{
+    if h.more == 1 {
+        return Step::Refused(34, round);
+    }
+    let l = Level {
+        form: crate::VALUE_OF_NAMES,
+        flag: 0,
+        place: round as u16,
+        count: count as u16,
+        node: 0,
+        ty: 0,
+        deep: 0,
+        next: from as u16,
+    };
+    let n = crate::below(work, h, l, h.frame, h.top, h.waiting, at);
+    let made = made_nodes::leaves::variable(work, 0, ty, round as u16);
+    crate::done(n, made, at)
+}
+
+// The type of the variable is there: it is bound without a name, if there is room, and the function waits for its body.
+fn bind_pair(
+    text: &[u8],
+    work: &mut [u16],
+    h: Walk,
+    place: usize,
+    round: usize,
+    from: usize,
+    count: usize,
+    ty: u16,
+    at: usize,
+) -> Step
+    requires { ⌜ (CanBound (now text) (now work) h ty at) × ListStands (now text) round from count ⌝ }
+    ensures { λ r. ⌜ EnterSays (now (text .entry)) (now (work .entry)) h (pairBoundEntry (now (text .entry)) place round from count ty at) r (now (work .exit)) ⌝ }
+{
+    if !entries::has_room(h.top, 1) {
+        return Step::Refused(34, place);
+    }
+    if h.more == 1 {
+        return Step::Refused(34, round);
+    }
+    bound::bind_name(work, h.top, round, ty);
+    let l = Level {
+        form: crate::OF_FUNCTION,
+        flag: 0,
+        place: 0,
+        count: 1,
+        node: 0,
+        ty,
+        deep: 0,
+        next: 0,
+    };
+    let n = crate::below(work, h, l, h.frame, h.top + 1, h.waiting, at);
+    pair_made(text, work, n, round, from, count, ty, at)
+}
+
+// Behind the closing parenthesis: a colon, and the type of the variable.
+fn pair_type(
+    text: &[u8],
+    work: &mut [u16],
+    h: Walk,
+    place: usize,
+    round: usize,
+    from: usize,
+    count: usize,
+    at: usize,
+) -> Step
+    requires { ⌜ (CanEnter (now text) (now work) h) × (ReadableFrom (now text) at × ListStands (now text) round from count) ⌝ }
+    ensures { λ r. ⌜ EnterSays (now (text .entry)) (now (work .entry)) h (pairTypedEntry (now (text .entry)) place round from count at) r (now (work .exit)) ⌝ }
+{
+    let colon = looks::look(text, at);
+    let t = looks::type_behind(text, work, colon.end, h.more - 1, h.frame, h.top);
+    match t {
+        TypeEnd::Refused(number, place) => Step::Refused(number, place),
+        TypeEnd::At(ty, end) => bind_pair(text, work, h, place, round, from, count, ty, end),
+    }
+}
+
+// Behind `fun (`, whose parenthesis is the first word from an offset on: names.
+fn pair_from(
+    text: &[u8],
+    work: &mut [u16],
+    h: Walk,
+    place: usize,
+    round: usize,
+    start: usize,
+    at: usize,
+) -> Step
+    requires { ⌜ (CanEnter (now text) (now work) h) × (Opens (now text) round start at) ⌝ }
+    ensures { λ r. ⌜ EnterSays (now (text .entry)) (now (work .entry)) h (pairEntry (now (text .entry)) place start) r (now (work .exit)) ⌝ }
+{
+    let x = names::count_listed(text, at);
+    if x.number != 0 {
+        return Step::Refused(x.number, x.end);
+    }
+    let closing = looks::look(text, x.end);
+    pair_type(text, work, h, place, round, at, x.count, closing.end)
+}
+
+// Behind `fun`: names, or names in parentheses.
 pub fn function_from(text: &[u8], work: &mut [u16], h: Walk, start: usize, at: usize) -> Step
     requires { ⌜ (CanEnter (now text) (now work) h) × (CanNames (now text) h start at) ⌝ }
     ensures { λ r. ⌜ EnterSays (now (text .entry)) (now (work .entry)) h (functionEntry (now (text .entry)) (h .at)) r (now (work .exit)) ⌝ }
 {
+    let w = words::word_at(text, at);
+    if w.kind == ROUND {
+        return pair_from(text, work, h, start, w.start, at, w.end);
+    }
     let x = names::count_names(text, at);
     if x.number != 0 {
         return Step::Refused(x.number, x.end);

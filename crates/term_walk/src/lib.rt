@@ -4,7 +4,7 @@ use made_nodes::Sub;
 use walk_levels::Around;
 use walk_levels::Level;
 ghost use mathlib.Core.Path.{_≡_};
-ghost use Rattle.term_walk.specs.Steps.{nothingSub, partLevel, doneStep, appliesStep, CanAskTerm, Asks};
+ghost use Rattle.term_walk.specs.Steps.{nothingSub, partLevel, doneStep, appliesStep, CanAskTerm, Below, Asks};
 
 pub mod atoms;
 pub mod binders;
@@ -95,7 +95,37 @@ pub fn part_level(form: u16, s: Left, count: u16, next: u16) -> Level
 
 // ---- the next state
 
-// The level that the walk is at waits, and the term at an offset is wanted, one level below, in a scope.
+// The level that the walk is at waits, and a term is wanted at an offset one level below, in a scope: the walk is there.
+pub fn below(
+    work: &mut [u16],
+    h: Walk,
+    l: Level,
+    frame: usize,
+    top: usize,
+    waiting: usize,
+    at: usize,
+) -> Walk
+    requires { ⌜ CanAskTerm (now work) h ⌝ }
+    ensures { λ r. ⌜ Below (now (work .entry)) h l frame top waiting at r (now (work .exit)) ⌝ }
+{
+    let s = Around {
+        frame: h.frame as u16,
+        top: h.top as u16,
+        waiting: h.waiting as u16,
+    };
+    walk_levels::push(work, h.more as u16, l, s);
+    Walk {
+        phase: WANTED,
+        more: h.more - 1,
+        frame,
+        top,
+        waiting,
+        place: 0,
+        sub: nothing(),
+        at,
+    }
+}
+
 pub fn ask(
     work: &mut [u16],
     h: Walk,
@@ -108,22 +138,7 @@ pub fn ask(
     requires { ⌜ CanAskTerm (now work) h ⌝ }
     ensures { λ r. ⌜ Asks (now (work .entry)) h l frame top waiting at r (now (work .exit)) ⌝ }
 {
-    let s = Around {
-        frame: h.frame as u16,
-        top: h.top as u16,
-        waiting: h.waiting as u16,
-    };
-    walk_levels::push(work, h.more as u16, l, s);
-    Step::Going(Walk {
-        phase: WANTED,
-        more: h.more - 1,
-        frame,
-        top,
-        waiting,
-        place: 0,
-        sub: nothing(),
-        at,
-    })
+    Step::Going(below(work, h, l, frame, top, waiting, at))
 }
 
 // The level is done with a term, if it could be made.

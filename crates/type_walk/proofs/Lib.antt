@@ -2,6 +2,8 @@ pub mod HoldLaws
 pub mod AskLaws
 pub mod MoveLaws
 pub mod NameLaws
+pub mod TableLaws
+pub mod RowLaws
 pub mod StepLaws
 pub mod ComeLaws
 pub mod LoopLaws

@@ -342,6 +342,20 @@ module _ (text w₀ : List ℕ) (at more frame top name : ℕ) (C : CanTypeAll t
 
 -- ---- as a term wants them
 
+-- [ type, type ], or nothing, by a test of the first word
+abbrev argumentsIf : List Word → Bool → Answer (Got TypeTrees)
+argumentsIf ws c = cond c (listFrom read (length ws) (behind ws) >>= λ ts. expect endSquare (ts .rest) >>= λ after. got (typesOf (ts .value)) after) (got noTypes ws)
+
+-- there are none
+pub types-none : (text w : List ℕ) (at more frame top name : ℕ) (v : Said) → Stands text at v → CanType text w at more frame top → ¬ (v .code ≡ 17) → TypesSay text w at more frame top name (types-end.At 0 at) w
+unfolding typesFrom
+types-none text w at more frame top name v s C n = record {
+  walked = types-walked-none more top w;
+  says = λ X S σ G.
+      let z : top ≡ top + 0 = omega arith in
+      subst (λ (q : Answer (Got TypeTrees)). TypesAnswer text w top (types-end.At 0 at) (q >>= λ ts. foundAll (λ R τ t. typeOf X more R τ t) S name 0 σ (ts .value) >>= λ xs. got xs (ts .rest))) (sym (ap (argumentsIf (from text at)) (is-no text at v s square n))) (record { types = refl; known = tt; few = omega (arith, G .scope .places .most); state = G .state; rest = record { is = refl; lexed = C .lexed } });
+}
+
 module _ (text w : List ℕ) (at more frame top name : ℕ) (b : ℕ) (e : End) (E : Ends text b (groupEnd square endSquare (typeStep mostNested false) (from text at)) e) where
   rest-is : restOf (argumentsAt read (from text at)) ≡ groupEnd square endSquare (typeStep mostNested false) (from text at)
   rest-is = group-rest read (typeStep mostNested false) (λ us. refl) square endSquare typesOf noTypes (from text at)
@@ -364,18 +378,6 @@ module _ (text w : List ℕ) (at more frame top name : ℕ) (b : ℕ) (e : End) 
     abbrev list : Answer (Got (List TypeTree))
     list = listFrom read (length ws) (behind ws)
 
-    abbrev argumentsIf : Bool → Answer (Got TypeTrees)
-    argumentsIf c = cond c (list >>= λ ts. expect endSquare (ts .rest) >>= λ after. got (typesOf (ts .value)) after) (got noTypes ws)
-
-    pub types-none : CanType text w at more frame top → ¬ (v .code ≡ 17) → TypesSay text w at more frame top name (types-end.At 0 at) w
-    unfolding typesFrom
-    types-none C n = record {
-      walked = types-walked-none more top w;
-      says = λ X S σ G.
-          let z : top ≡ top + 0 = omega arith in
-          subst (λ (q : Answer (Got TypeTrees)). TypesAnswer text w top (types-end.At 0 at) (q >>= λ ts. foundAll (λ R τ t. typeOf X more R τ t) S name 0 σ (ts .value) >>= λ xs. got xs (ts .rest))) (sym (ap argumentsIf (is-no text at v s square n))) (record { types = refl; known = tt; few = omega (arith, G .scope .places .most); state = G .state; rest = record { is = refl; lexed = C .lexed } });
-    }
-
     -- the list, and the bracket behind it
     record Closed (m : Answer (Got (List TypeTree))) : Type 0 where
       trees : Got (List TypeTree)
@@ -392,7 +394,7 @@ module _ (text w : List ℕ) (at more frame top name : ℕ) (b : ℕ) (e : End) 
 
     module _ (C : CanType text w at more frame top) (zero-number : e .number ≡ 0) (c : v .code ≡ 17) where
       O : Closed list
-      O = closed-by (from text (e .at)) list (sym (ap (λ (q : Bool). restOf (argumentsIf q)) (is-yes text at v s square c)) ∙ rest-is ∙ E .reaches zero-number .is)
+      O = closed-by (from text (e .at)) list (sym (ap (λ (q : Bool). restOf (argumentsIf ws q)) (is-yes text at v s square c)) ∙ rest-is ∙ E .reaches zero-number .is)
 
       behind-is : behind ws ≡ from text (v .end)
       behind-is = s .onward (λ z. omega arith) .rest
@@ -404,7 +406,7 @@ module _ (text w : List ℕ) (at more frame top name : ℕ) (b : ℕ) (e : End) 
       types-can = record { can = record { walk = C .walk; lexed = s .onward (λ z. omega arith) .lexed; above = C .above; levels = C .levels }; rounds = length ws; trees = O .trees; list = list-there }
 
       whole : got (typesOf (O .trees .value)) (behind (O .trees .rest)) ≡ argumentsAt read ws
-      whole = sym (ap argumentsIf (is-yes text at v s square c) ∙ ap (λ (m : Answer (Got (List TypeTree))). m >>= λ ts. expect endSquare (ts .rest) >>= λ after. got (typesOf (ts .value)) after) (O .is-list) ∙ ap (λ (d : Bool). (need d 32 (place (O .trees .rest)) >>= λ _. good (behind (O .trees .rest))) >>= λ after. got (typesOf (O .trees .value)) after) (O .closes))
+      whole = sym (ap (argumentsIf ws) (is-yes text at v s square c) ∙ ap (λ (m : Answer (Got (List TypeTree))). m >>= λ ts. expect endSquare (ts .rest) >>= λ after. got (typesOf (ts .value)) after) (O .is-list) ∙ ap (λ (d : Bool). (need d 32 (place (O .trees .rest)) >>= λ _. good (behind (O .trees .rest))) >>= λ after. got (typesOf (O .trees .value)) after) (O .closes))
 
       pub types-some : (r : types-code.TypesEnd) (w′ : List ℕ) → AllTypesSay text w (v .end) more frame top name r w′ → TypesSay text w at more frame top name r w′
       unfolding typesFrom

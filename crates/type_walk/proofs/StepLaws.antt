@@ -17,12 +17,12 @@ use Rattle.notation_calculus.specs.Words.{round, endRound, comma, endSquare, To
 use Rattle.notation_calculus.specs.Trees.{Bound, Form, product, arrow, linear, Text}
 use Rattle.notation_calculus.specs.Grammar.{peek, behind, place, is, isToken}
 use Rattle.notation_calculus.specs.Making.{State, Found, Scope, formOf, listed, mostEntries}
-use Rattle.notation_machine.specs.TypeMachine.{Wish, enclosed, argument, body, other, TypeLevel, Typing, wanted, came, TypeHere, askType, typeDone, sideFrom, behindSide, inOrder, askArgument, typePutIn, typeNamedAt, typeEntered, typeLeft, typeMove}
+use Rattle.notation_machine.specs.TypeMachine.{Wish, enclosed, argument, body, other, TypeLevel, Typing, wanted, came, TypeHere, askType, typeDone, sideFrom, behindSide, onesFrom, inOrder, askArgument, typePutIn, typeNamedAt, typeEntered, typeLeft, typeMove}
 use Rattle.notation_machine.specs.TypeSteps.{Going}
 use Rattle.words.specs.Tables.{tokenCode}
 use Rattle.words.specs.Next.{Said, runAt}
 use Rattle.words.specs.Lexed.{from, Lexed, Stands}
-use Rattle.grammar.proofs.EndLaws.{sign-small, is-yes, is-no}
+use Rattle.grammar.proofs.EndLaws.{sign-not, is-yes, is-no}
 use Rattle.making_memory.specs.Map.{typesAt, scopeAt, typeCountAt, nodeCountAt, putCountAt, makingSize}
 use Rattle.made_types.specs.declared.Record.{Record}
 use Rattle.made_types.specs.declared.FoundType as found-code
@@ -46,11 +46,12 @@ use Rattle.type_walk.specs.declared.levels.Here.{Here}
 use Rattle.type_walk.specs.declared.levels.Walking as code
 use Rattle.type_walk.specs.declared.levels.Walking.the-variants as walking
 use Rattle.type_walk.specs.Holding.{givenFrom, AllBelow, LevelHeld, LevelsHeld, hereWith, hereIn, AtLevel, Wanting, Coming, Answered}
-use Rattle.type_walk.specs.Moves.{CanMove, Waited, Moving, Moved, Known, foundIn, Given, Valued, Both, Anything, NameAt, formBy, sideAfter, arrowAfter, doneAfter, argumentAsk, putAfter, namedAfter, insideAsk, enterAt, leftWith, sideDone, CanStep, Stepped}
+use Rattle.type_walk.specs.Moves.{CanMove, Waited, Moving, Moved, Known, foundIn, Given, Valued, Both, Anything, NameAt, formBy, sideAfter, arrowAfter, doneAfter, onesAfter, argumentAsk, putAfter, namedAfter, insideAsk, enterAt, leftWith, sideDone, CanStep, Stepped}
 use Rattle.type_walk.proofs.HoldLaws.{at-on, walked-wider, levels-within}
 use Rattle.type_walk.proofs.AskLaws.{can-wait, ask-held, places-none, waited-moved}
 use Rattle.type_walk.proofs.MoveLaws.{onward, answered-as, moved-by, moved-as, moved-after, refused-moved, form-number}
 use Rattle.type_walk.proofs.NameLaws.{given-length}
+use Rattle.type_walk.proofs.TableLaws.{table-refused, table-can, table-found}
 
 -- ---- a type begins
 
@@ -61,8 +62,8 @@ inside-asked text w w′ h at flag r C l f g =
 
 -- by the code of the first word
 module _ (X : Text) (bodies : List (List Word)) (t : TypeHere) (σ : State) (ws : List Word) where
-  number-enters : (k : Token) → tokenCode k ≡ 23 → typeEntered X bodies t σ k ws ≡ good (sideFrom t (foundIn 0 σ) (behind ws))
-  number-enters (sign s) e = absurd (omega (arith, e, sign-small s))
+  number-enters : (k : Token) → tokenCode k ≡ 23 → typeEntered X bodies t σ k ws ≡ onesFrom t σ (behind ws)
+  number-enters (sign s) e = absurd (sign-not s 23 tt e)
   number-enters (part p) e = absurd (omega arith)
   number-enters (number n) e = refl
   number-enters (name n) e = absurd (omega arith)
@@ -96,8 +97,8 @@ module _ (text : List ℕ) (at : ℕ) (v : Said) (s : Stands text at v) where
         ∙ ap (λ (p : ℕ). typeNamedAt X bodies (hereWith h S K) σ (record { name = runAt text (v .place); place = p }) (behind ws)) (sym (s .place))
         ∙ ap (λ (us : List Word). typeNamedAt X bodies (hereWith h S K) σ (boundAt text (v .place)) us) (onward text at v s 23 e .rest)) M
 
-    pub enter-number : v .code ≡ 23 → Moved text w h (Known 0) (sideAfter text 0 (v .end)) r w′ → Moved text w h Anything (enterAt text at) r w′
-    enter-number e M = moved-by (Known 0) Anything (sideAfter text 0 (v .end)) (enterAt text at) (λ X m₀ base σ S K A _. (A .walkable .state .types .some, λ bodies. number-enters X bodies (hereWith h S K) σ ws (peek ws .token) (sym (s .code) ∙ e) ∙ ap (λ (us : List Word). good (sideFrom (hereWith h S K) (foundIn 0 σ) us)) (onward text at v s 22 e .rest))) M
+    pub enter-number : v .code ≡ 23 → Moved text w h Anything (onesAfter text (v .end)) r w′ → Moved text w h Anything (enterAt text at) r w′
+    enter-number e M = moved-as Anything (onesAfter text (v .end)) (enterAt text at) (λ X bodies σ S K. number-enters X bodies (hereWith h S K) σ ws (peek ws .token) (sym (s .code) ∙ e) ∙ ap (λ (us : List Word). onesFrom (hereWith h S K) σ us) (onward text at v s 22 e .rest)) M
 
     pub enter-round : v .code ≡ 11 → Moved text w h Anything (insideAsk text (v .end)) r w′ → Moved text w h Anything (enterAt text at) r w′
     enter-round e M = moved-as Anything (insideAsk text (v .end)) (enterAt text at) (λ X bodies σ S K. round-enters X bodies (hereWith h S K) σ ws (peek ws .token) (sym (s .code) ∙ e) ∙ ap (λ (us : List Word). good (askType (hereWith h S K) enclosed false S σ us)) (onward text at v s 10 e .rest)) M
@@ -113,10 +114,6 @@ module _ (text : List ℕ) (at : ℕ) (v : Said) (s : Stands text at v) where
 
     pub inside-open : (ty : ℕ) → ¬ (v .code ≡ 12) → Moved text w h (Known ty) (leftWith text enclosed ty at) (walking.Refused 32 (v .place)) w
     inside-open ty n = refused-moved (Known ty) (leftWith text enclosed ty at) 32 (v .place) (λ X m₀ base σ S K A _ bodies. ap (λ (b : Bool). need b 32 (place ws) >>= λ _. good (sideFrom (hereWith h S K) (foundIn ty σ) (behind ws))) (is-no text at v s endRound n) ∙ ap (λ (p : ℕ). refuse 32 p) (sym (s .place)))
-
--- anything known is enough for **1**
-pub can-one : (text w : List ℕ) (h : Here) → CanMove text w h Anything → CanMove text w h (Known 0)
-can-one text w h C = record { X = C .X; m₀ = C .m₀; base = C .base; σ = C .σ; S = C .S; K = C .K; held = C .held; known = C .held .walkable .state .types .some }
 
 -- ---- a step at a type that is wanted
 
@@ -310,40 +307,21 @@ module _ (text w w₁ : List ℕ) (h : Here) (l : Level) (ty at : ℕ) (low : 3 
   left-is : (X : Text) (bodies : List (List Word)) (t : TypeHere) (σ : State) → leftWith text (other (formBy (l .form)) (l .place) (l .ty)) ty at X bodies t σ ≡ (answer σ >>= goOn t)
   left-is X bodies t σ = ap (λ (q : TyRec). listed σ q (l .place) >>= goOn t) (form-record (l .form) (l .ty) ty low high)
 
-  none-by : (t : TypeHere) (n p : ℕ) (a : Answer Found) → FoundIn w₁ (found-type.Refused n p) a → (a >>= goOn t) ≡ refuse n p
-  none-by t n p (good y) e = absurd e
-  none-by t n p (refused why) e = ap refused e
+  known-listed : (x : found-code.FoundType) → ListedSays w rec (l .place) x w₁ → (σ : State) → HoldsState w σ → P σ → FoundIn w₁ x (answer σ)
+  known-listed x L σ H (a, b) = L .says σ H (form-below (length (σ .table)) (l .form) (l .ty) ty low high a b)
 
-  pub side-refused : CanMove text w h P → (x : found-code.FoundType) (n p p′ : ℕ) → x ≡ found-type.Refused n p → p′ ≡ p → ListedSays w rec (l .place) x w₁ → Moved text w h P (leftWith text (other (formBy (l .form)) (l .place) (l .ty)) ty at) (walking.Refused n p′) w₁
-  side-refused C x n p p′ e z L = record {
-    walked = types-of-listed (h .more + 1) (h .top) w w₁ (C .held .walkable .scope .places .most) (L .only);
-    says = λ X m₀ base σ S K A (a, b). left-is X (rowBodies text w 0 (length (X .clauses))) (hereWith h S K) σ ∙ none-by (hereWith h S K) n p (answer σ) (subst (λ (y : found-code.FoundType). FoundIn w₁ y (answer σ)) e (L .says σ (A .walkable .state) (form-below (length (σ .table)) (l .form) (l .ty) ty low high a b))) ∙ ap (λ (k : ℕ). refuse n k) (sym z);
-  }
+  abbrev leaves : Moving
+  leaves = leftWith text (other (formBy (l .form)) (l .place) (l .ty)) ty at
+
+  pub side-refused : CanMove text w h P → (x : found-code.FoundType) (n p p′ : ℕ) → x ≡ found-type.Refused n p → p′ ≡ p → ListedSays w rec (l .place) x w₁ → Moved text w h P leaves (walking.Refused n p′) w₁
+  side-refused C x n p p′ e z L = table-refused text w w₁ h P answer goOn leaves left-is C (L .only) x (known-listed x L) n p p′ e z
 
   module _ (C : CanMove text w h P) (x : found-code.FoundType) (t : ℕ) (is-x : x ≡ found-type.At t) (L : ListedSays w rec (l .place) x w₁) where
-    said : (σ : State) → HoldsState w σ → P σ → FoundIn w₁ (found-type.At t) (answer σ)
-    said σ H (a, b) = subst (λ (y : found-code.FoundType). FoundIn w₁ y (answer σ)) is-x (L .says σ H (form-below (length (σ .table)) (l .form) (l .ty) ty low high a b))
-
-    abbrev walked₁ : TypesWalked (h .more + 1) (h .top) w w₁
-    walked₁ = types-of-listed (h .more + 1) (h .top) w w₁ (C .held .walkable .scope .places .most) (L .only)
-
-    can-by : (X : Text) (m₀ base : ℕ) (σ : State) (S : Scope) (K : List TypeLevel) → AtLevel text w X m₀ base σ h S K → (a : Answer Found) → FoundIn w₁ (found-type.At t) a → CanMove text w₁ h (Known t)
-    can-by X m₀ base σ S K A (good y) (e, (k, H)) = record { X = X; m₀ = m₀; base = base; σ = y .state; S = S; K = K; held = at-on text w w₁ X σ (y .state) H m₀ base h S K walked₁ A; known = k }
-    can-by X m₀ base σ S K A (refused why) e = absurd e
-
     pub can-after : CanMove text w₁ h (Known t)
-    can-after = can-by (C .X) (C .m₀) (C .base) (C .σ) (C .S) (C .K) (C .held) (answer (C .σ)) (said (C .σ) (C .held .walkable .state) (C .known))
+    can-after = table-can text w w₁ h P answer goOn leaves left-is C (L .only) x (known-listed x L) t is-x
 
-    module _ (w₂ : List ℕ) (r : code.Walking) (M : Moved text w₁ h (Known t) (sideDone text (l .form) t at) r w₂) where
-      listed-by : (X : Text) (m₀ base : ℕ) (σ : State) (S : Scope) (K : List TypeLevel) → AtLevel text w X m₀ base σ h S K → (a : Answer Found) → FoundIn w₁ (found-type.At t) a → Answered text w₂ X m₀ base r (a >>= goOn (hereWith h S K))
-      listed-by X m₀ base σ S K A (good y) (e, (k, H)) = answered-as text w₂ X m₀ base r (ap (λ (u : ℕ). goOn (hereWith h S K) (record { type = u; state = y .state })) (sym e)) (M .says X m₀ base (y .state) S K (at-on text w w₁ X σ (y .state) H m₀ base h S K walked₁ A) k)
-      listed-by X m₀ base σ S K A (refused why) e = absurd e
-
-      pub side-listed : Moved text w h P (leftWith text (other (formBy (l .form)) (l .place) (l .ty)) ty at) r w₂
-      side-listed = record {
-        walked = types-walked-then (h .more + 1) (h .more + 1) (h .more + 1) (h .top) (h .top) (h .top) w w₁ w₂ (omega arith) (omega arith) (omega arith) (omega arith) walked₁ (M .walked);
-        says = λ X m₀ base σ S K A k. answered-as text w₂ X m₀ base r (left-is X (rowBodies text w 0 (length (X .clauses))) (hereWith h S K) σ) (listed-by X m₀ base σ S K A (answer σ) (said σ (A .walkable .state) k));
-      }
+    pub side-listed : (w₂ : List ℕ) (r : code.Walking) → Moved text w₁ h (Known t) (sideDone text (l .form) t at) r w₂ → Moved text w h P leaves r w₂
+    side-listed w₂ r M = table-found text w w₁ h P answer goOn leaves left-is C (L .only) x (known-listed x L) t is-x (sideDone text (l .form) t at) (λ X bodies u σ. refl) w₂ r M
 
 -- ---- a step at a type that came
 

@@ -5,12 +5,12 @@ use mathlib.Core.Bool.{Bool, false, cond}
 use mathlib.Core.List.{List, []}
 use lib.Dec.{eqb}
 use lib.ListN.{length, drop}
-use Rattle.calculus.specs.Answer.{Answer, good}
+use Rattle.calculus.specs.Answer.{Answer, good, _>>=_}
 use Rattle.notation_calculus.specs.Words.{Word, run}
 use Rattle.notation_calculus.specs.Trees.{Form, product, arrow, linear, Text}
-use Rattle.notation_calculus.specs.Grammar.{peek}
-use Rattle.notation_calculus.specs.Making.{State, Found, Scope, lookup}
-use Rattle.notation_machine.specs.TypeMachine.{Wish, enclosed, body, other, TypeLevel, Typing, TypeHere, askType, typeDone, arrowFrom, sideFrom, askArgument, behindSide, typePutIn, typeNamedAt, typeEntered, typeLeft, typeMove}
+use Rattle.notation_calculus.specs.Grammar.{peek, numberAt}
+use Rattle.notation_calculus.specs.Making.{State, Found, Scope, lookup, numberOf, moreBits, onesOf}
+use Rattle.notation_machine.specs.TypeMachine.{Wish, enclosed, body, other, TypeLevel, Typing, TypeHere, askType, typeDone, arrowFrom, sideFrom, onesFrom, askArgument, behindSide, typePutIn, typeNamedAt, typeEntered, typeLeft, typeMove}
 use Rattle.notation_machine.specs.TypeSteps.{Going}
 use Rattle.words.specs.Next.{runAt}
 use Rattle.words.specs.Lexed.{from, Lexed}
@@ -104,6 +104,22 @@ doneAfter text ty at X bodies t σ = good (typeDone t (foundIn ty σ) (from text
 -- the side behind a sign at a place, up to which a type stands
 abbrev pub sideAsk : List ℕ → ℕ → Bool → ℕ → ℕ → ℕ → Moving
 sideAsk text form tight ty sign end X bodies t σ = good (askType t (other (formBy form) sign ty) tight (t .scope) σ (from text end))
+
+-- behind a 1; behind the sign of a row at a place; behind a row with so many bits more than one
+abbrev pub onesAfter : List ℕ → ℕ → Moving
+onesAfter text at X bodies t σ = onesFrom t σ (from text at)
+
+abbrev pub powerAfter : List ℕ → ℕ → ℕ → Moving
+powerAfter text sign at X bodies t σ = do
+  k ← numberAt (from text at)
+  n ← numberOf (t .scope .numbers) (k .value)
+  x ← onesOf sign (k .value .place) n σ
+  good (sideFrom t x (k .rest))
+
+abbrev pub rowAfter : List ℕ → ℕ → ℕ → ℕ → Moving
+rowAfter text more sign end X bodies t σ = do
+  x ← moreBits sign more (foundIn 0 σ)
+  good (sideFrom t x (from text end))
 
 -- the next argument of a name, where so many wait
 abbrev pub argumentAsk : List ℕ → List ℕ → ℕ → ℕ → ℕ → ℕ → Moving

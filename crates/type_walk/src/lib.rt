@@ -2,6 +2,7 @@
 // done. One round of the loop is one step of the machine of types (`typeMove`).
 pub mod levels;
 pub mod names;
+pub mod rows;
 pub mod sides;
 pub mod steps;
 
@@ -140,13 +141,13 @@ pub fn types_from(
     requires { ⌜ CanType (now text) (now work) at more frame top ⌝ }
     ensures { λ r. ⌜ TypesSay (now (text .entry)) (now (work .entry)) at more frame top name r (now (work .exit)) ⌝ }
 {
-    let e = grammar::types::arguments_end(text, at, 80);
-    if e.number != 0 {
-        return TypesEnd::Refused(e.number, e.at);
-    }
     let w = words::word_at(text, at);
     if w.kind != SQUARE {
         return TypesEnd::At(0, at);
+    }
+    let e = grammar::types::arguments_end(text, at, 80);
+    if e.number != 0 {
+        return TypesEnd::Refused(e.number, e.at);
     }
     arguments(text, work, w.end, more, frame, top, name)
 }

@@ -5,6 +5,7 @@ use crate::levels::Here;
 use crate::levels::Walking;
 use crate::levels::Want;
 use crate::names;
+use crate::rows;
 use crate::sides;
 use grammar::steps::COMMA;
 use grammar::steps::END_SQUARE;
@@ -64,7 +65,7 @@ fn enter(text: &[u8], work: &mut [u16], h: Here, at: usize) -> Walking
         return names::named_at(text, work, h, w.start, w.end);
     }
     if w.kind == words::NUMBER {
-        return sides::side_from(text, work, h, 0, w.end);
+        return rows::ones_from(text, work, h, w.end);
     }
     if w.kind == ROUND {
         return ask_inside(text, work, h, w.end);

@@ -13,7 +13,7 @@ use Rattle.calculus.specs.Answer.{Answer, good, refuse}
 use Rattle.notation_calculus.specs.Words.{Token, name, Spelled, sameName, digit, inName, run, allDigits, capped, valueFrom, Read, named, beginsWith, signAt, numberWord, reserved, signs}
 use Rattle.words.specs.Tables.{tokenCode, tokenValue, rowFits, RowSaid, rowOf}
 use Rattle.words.specs.Next.{foundAt, runAt, Said, told}
-use Rattle.words.proofs.TableLaws.{take-here}
+use Rattle.words.proofs.WordLaws.{take-here}
 
 -- ---- runs
 
@@ -106,7 +106,7 @@ module _ (text : List ℕ) (start end value at : ℕ) (d : DigitsAt text start e
 
 -- ---- reserved words and names
 
-eqb-sym : (a b : ℕ) → eqb a b ≡ eqb b a
+pub eqb-sym : (a b : ℕ) → eqb a b ≡ eqb b a
 eqb-sym a b = elim (ℕ-discrete a b) [ yes e ↦ eq-eqb a b e ∙ sym (eq-eqb b a (sym e)) | no d ↦ ne-eqb a b d ∙ sym (ne-eqb b a (λ e. d (sym e))) ]
 
 and-swap : (a b c : Bool) → (a && (b && c)) ≡ (b && (a && c))
@@ -116,7 +116,7 @@ and-swap false true c = refl
 and-swap false false c = refl
 
 -- a word is spelled so if it is as long, and begins so
-same-name : (spelling s : List ℕ) (long : ℕ) → long ≤ length s → sameName (take long s) spelling ≡ (eqb (length spelling) long && beginsWith spelling s)
+pub same-name : (spelling s : List ℕ) (long : ℕ) → long ≤ length s → sameName (take long s) spelling ≡ (eqb (length spelling) long && beginsWith spelling s)
 same-name [] s zero h = refl
 same-name [] [] (suc k) h = absurd (omega arith)
 same-name [] (c ∷ s) (suc k) h = sym (ap (λ (b : Bool). b && true) (eqb·zero-suc k))

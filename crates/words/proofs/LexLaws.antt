@@ -1,6 +1,6 @@
 -- The words of a text one after the other: `lexed` by what stands next. Assumes nothing.
 use Prim.Native.Nat.{ℕ, zero, suc, _+_, _-_, _≤_, _<_}
-use mathlib.Core.Path.{_≡_, refl, sym, ap, _∙_}
+use mathlib.Core.Path.{_≡_, refl, sym, ap, subst, _∙_}
 use mathlib.Core.Bool.{Bool, true, false, not, _&&_, _||_, cond}
 use mathlib.Core.List.{List, [], _∷_}
 use native.Mathlib.Omega.{arith}
@@ -10,14 +10,15 @@ use lib.Seq.{length-take-le, drop-drop}
 use borrow.Author.Tests.{eq-eqb, ne-eqb, eqb-true, eqb-false}
 use Rattle.calculus.specs.Answer.{Refusal, Answer, good, refused, _>>=_, refuse, numbered, need}
 use Rattle.calculus.proofs.Answers.{refused≢good, refused-inj}
-use Rattle.notation_calculus.specs.Words.{Sign, signCode, ends, fun, fix, lets, within, type, edition, table, arrow, linear, times, round, endRound, equals, comma, colon, dot, square, endSquare, curly, endCurly, plus, Token, sign, part, number, name, sameName, Spelled, Word, blank, endsLine, digit, letter, inName, first, gap, run, allDigits, valueFrom, Read, beginsWith, named, signAt, numberWord, reserved, signs, wordAt, wordsFrom, words}
+use Rattle.notation_calculus.specs.Words.{Sign, signCode, ends, fun, fix, lets, within, type, edition, table, arrow, linear, times, round, endRound, equals, comma, colon, dot, square, endSquare, curly, endCurly, plus, power, Token, sign, part, number, name, sameName, Spelled, Word, blank, endsLine, digit, letter, inName, first, gap, run, allDigits, valueFrom, Read, beginsWith, named, signAt, numberWord, reserved, signs, wordAt, wordsFrom, words}
 use Rattle.notation_calculus.specs.Grammar.{peek, behind}
-use Rattle.words.specs.Tables.{tokenCode, tokenValue}
+use Rattle.words.specs.Tables.{tokenCode, tokenValue, rowOf}
+use Rattle.words.specs.Classes.{SingleSign}
 use Rattle.words.specs.Next.{FoundWord, foundAt, runAt, namedAt, nextOf, Said, told}
 use Rattle.words.specs.Lexed.{lexed, valued, from, Lexed, Stands, Passed}
 use Rattle.laws.proofs.Regions.{drop-past}
-use Rattle.words.proofs.WordLaws.{at-front}
-use Rattle.words.proofs.FoundLaws.{run-short, longRows, long-row, begins-short}
+use Rattle.words.proofs.WordLaws.{drop-here, at-front}
+use Rattle.words.proofs.FoundLaws.{run-short, longRows, long-row, begins-short, sign-told}
 
 -- ---- what stands at an offset
 
@@ -32,28 +33,32 @@ module _ (text : List ℕ) (at start : ℕ) (is : start ≡ at + gap false (drop
   pub next-end : length text ≤ start → record { code = 0; value = 0; place = start; end = start } ≡ told (nextOf text at)
   next-end h = ap told (sym (ap (λ (b : Bool). cond b (good (record { token = sign ends; place = start; end = start })) (foundAt start (wordAt (drop start text) start))) (eq-eqb (length (drop start text)) 0 (omega (arith, length-drop start text)))) ∙ next-by)
 
-  module _ (h : start < length text) where
-    next-word : told (foundAt start (wordAt (drop start text) start)) ≡ told (nextOf text at)
-    next-word = ap told (sym (ap (λ (b : Bool). cond b (good (record { token = sign ends; place = start; end = start })) (foundAt start (wordAt (drop start text) start))) (ne-eqb (length (drop start text)) 0 (λ e. absurd (omega (arith, length-drop start text, e))))) ∙ next-by)
+  pub next-word : start < length text → told (foundAt start (wordAt (drop start text) start)) ≡ told (nextOf text at)
+  next-word h = ap told (sym (ap (λ (b : Bool). cond b (good (record { token = sign ends; place = start; end = start })) (foundAt start (wordAt (drop start text) start))) (ne-eqb (length (drop start text)) 0 (λ e. absurd (omega (arith, length-drop start text, e))))) ∙ next-by)
 
-    module _ (b : Bool) (d : digit (getD text start 0) ≡ b) where
-      first-digit : digit (first (drop start text)) ≡ b
-      first-digit = ap digit (sym (at-front text start)) ∙ d
+-- the word at an offset, by its first byte
+module _ (text : List ℕ) (start : ℕ) where
+  first-digit : (b : Bool) → digit (getD text start 0) ≡ b → digit (first (drop start text)) ≡ b
+  first-digit b d = ap digit (sym (at-front text start)) ∙ d
 
-    pub next-number : digit (getD text start 0) ≡ true → told (foundAt start (numberWord (runAt text start) start)) ≡ told (nextOf text at)
+  pub word-number : digit (getD text start 0) ≡ true → told (foundAt start (numberWord (runAt text start) start)) ≡ told (foundAt start (wordAt (drop start text) start))
+  unfolding wordAt
+  word-number d = ap (λ (b : Bool). told (foundAt start (cond b (numberWord (runAt text start) start) (cond (letter (first (drop start text))) (namedAt text start) (signAt signs (drop start text) start))))) (sym (first-digit true d))
+
+  module _ (d : digit (getD text start 0) ≡ false) where
+    word-other : told (foundAt start (cond (letter (first (drop start text))) (namedAt text start) (signAt signs (drop start text) start))) ≡ told (foundAt start (wordAt (drop start text) start))
     unfolding wordAt
-    next-number d = ap (λ (b : Bool). told (foundAt start (cond b (numberWord (runAt text start) start) (cond (letter (first (drop start text))) (namedAt text start) (signAt signs (drop start text) start))))) (sym (first-digit true d)) ∙ next-word
+    word-other = ap (λ (b : Bool). told (foundAt start (cond b (numberWord (runAt text start) start) (cond (letter (first (drop start text))) (namedAt text start) (signAt signs (drop start text) start))))) (sym (first-digit false d))
 
-    module _ (d : digit (getD text start 0) ≡ false) where
-      next-other : told (foundAt start (cond (letter (first (drop start text))) (namedAt text start) (signAt signs (drop start text) start))) ≡ told (nextOf text at)
-      unfolding wordAt
-      next-other = ap (λ (b : Bool). told (foundAt start (cond b (numberWord (runAt text start) start) (cond (letter (first (drop start text))) (namedAt text start) (signAt signs (drop start text) start))))) (sym (first-digit false d)) ∙ next-word
+    pub word-name : letter (getD text start 0) ≡ true → told (foundAt start (namedAt text start)) ≡ told (foundAt start (wordAt (drop start text) start))
+    word-name l = ap (λ (b : Bool). told (foundAt start (cond b (namedAt text start) (signAt signs (drop start text) start)))) (sym (ap letter (sym (at-front text start)) ∙ l)) ∙ word-other
 
-      pub next-name : letter (getD text start 0) ≡ true → told (foundAt start (namedAt text start)) ≡ told (nextOf text at)
-      next-name l = ap (λ (b : Bool). told (foundAt start (cond b (namedAt text start) (signAt signs (drop start text) start)))) (sym (ap letter (sym (at-front text start)) ∙ l)) ∙ next-other
+    pub word-sign : letter (getD text start 0) ≡ false → told (foundAt start (signAt signs (drop start text) start)) ≡ told (foundAt start (wordAt (drop start text) start))
+    word-sign l = ap (λ (b : Bool). told (foundAt start (cond b (namedAt text start) (signAt signs (drop start text) start)))) (sym (ap letter (sym (at-front text start)) ∙ l)) ∙ word-other
 
-      pub next-sign : letter (getD text start 0) ≡ false → told (foundAt start (signAt signs (drop start text) start)) ≡ told (nextOf text at)
-      next-sign l = ap (λ (b : Bool). told (foundAt start (cond b (namedAt text start) (signAt signs (drop start text) start)))) (sym (ap letter (sym (at-front text start)) ∙ l)) ∙ next-other
+    -- a sign that its first byte tells
+    pub word-single : (k : ℕ) → start < length text → letter (getD text start 0) ≡ false → SingleSign (getD text start 0) k → record { code = k; value = 0; place = start; end = start + 1 } ≡ told (foundAt start (wordAt (drop start text) start))
+    word-single k h l s = sign-told (drop start text) start (record { code = k; value = 0; long = 1 }) (sym (ap (λ (r : List ℕ). rowOf false 0 r signs) (drop-here text start h) ∙ s (drop (start + 1) text))) .some (λ e. omega arith) ∙ word-sign l
 
 -- ---- a word is not empty, not past the end and not the end; or it is refused here
 
@@ -256,6 +261,51 @@ module _ (text : List ℕ) (at : ℕ) (inside : at ≤ length text) where
       by true e l = last start (omega (arith, eqb-true (length (drop start text)) 0 e, length-drop start text, start-inside)) l
       by false e l = case-word (wordAt (drop start text) start) (word-view (drop start text) start) l
 
+-- ---- the words from where the next one begins are the same
+
+gap-after : (b : Bool) (u : List ℕ) → gap false (drop (gap b u) u) ≡ 0
+gap-after true [] = refl
+gap-after true (c ∷ u) = gap-after (not (endsLine c)) u
+gap-after false [] = refl
+gap-after false (c ∷ u) = by (blank c) (eqb c 45 && eqb (first u) 45) refl refl (gap-after false u) (gap-after true u)
+  where
+    by : (a b : Bool) → blank c ≡ a → (eqb c 45 && eqb (first u) 45) ≡ b → gap false (drop (gap false u) u) ≡ 0 → gap false (drop (gap true u) u) ≡ 0 → gap false (drop (cond a (suc (gap false u)) (cond b (suc (gap true u)) 0)) (c ∷ u)) ≡ 0
+    by true b e f p q = p
+    by false true e f p q = q
+    by false false e f p q = rw (e, f) refl
+
+module _ (text : List ℕ) (at : ℕ) (inside : at ≤ length text) where
+  start-again : start text (start text at inside) (start-inside text at inside) ≡ start text at inside
+  unfolding start
+  start-again =
+      let n = gap false (drop at text) in
+      let z : gap false (drop (at + n) text) ≡ 0 = ap (gap false) (sym (drop-drop n at text)) ∙ gap-after false (drop at text) in
+      omega (arith, z)
+
+  same-words : lexed text (start text at inside) ≡ lexed text at
+  same-words = lexed-is text (start text at inside) (start-inside text at inside) ∙ ap (λ (n : ℕ). cond (eqb (length (drop n text)) 0) (good (record { token = sign ends; place = n } ∷ [])) (behindWord (wordsFrom (length text)) (drop n text) n (wordAt (drop n text) n))) start-again ∙ sym (lexed-is text at inside)
+
+  -- a word, and a refusal too, has the place where the gap ends
+  place-by : (m : Answer Read) → View (drop (start text at inside) text) (start text at inside) m → told (foundAt (start text at inside) m) .place ≡ start text at inside
+  place-by (good w) (fine h g c d) = refl
+  place-by (refused why) unknown = refl
+  place-by (refused why) large = refl
+
+  next-place : told (nextOf text at) .place ≡ start text at inside
+  unfolding nextOf start
+  next-place = by (eqb (length (drop (start text at inside) text)) 0)
+    where
+      by : (b : Bool) → told (cond b (good (record { token = sign ends; place = start text at inside; end = start text at inside })) (foundAt (start text at inside) (wordAt (drop (start text at inside) text) (start text at inside)))) .place ≡ start text at inside
+      by true = refl
+      by false = place-by (wordAt (drop (start text at inside) text) (start text at inside)) (word-view (drop (start text at inside) text) (start text at inside))
+
+  pub starts-same : (w : Said) → w ≡ told (nextOf text at) → Lexed text at → Lexed text (w .place) × (from text (w .place) ≡ from text at)
+  unfolding from
+  starts-same w e l =
+      let is : w .place ≡ start text at inside = ap (λ (v : Said). v .place) e ∙ next-place in
+      let same : lexed text (w .place) ≡ lexed text at = ap (lexed text) is ∙ same-words in
+      (record { within = omega (arith, is, start-inside text at inside); words = same ∙ l .words ∙ ap good (sym (ap valued same)) }, ap valued same)
+
 -- ---- the word at an offset
 
 from-is : (text : List ℕ) (at : ℕ) (ws : List Word) → lexed text at ≡ good ws → from text at ≡ ws
@@ -304,6 +354,77 @@ module _ (text : List ℕ) (at : ℕ) (l : Lexed text at) where
   pub stands : (w : Said) → w ≡ told (nextOf text at) → Stands text at w
   stands w e = rw e (stands-by (nextOf text at) (next-case text at (l .within)))
 
+-- ---- a parenthesis begins no name
+
+-- a word of this code is no run of letters and digits
+abbrev Bare : List ℕ → Answer Read → Type 0
+Bare r (good w) = tokenCode (w .token) ≡ 11 → run r ≡ 0
+Bare r (refused why) = Unit {0}
+
+bare-named : (n : List ℕ) (rs : List Spelled) → coded 11 rs ≡ true → ¬ (tokenCode (named n rs) ≡ 11)
+bare-named n [] e = λ z. omega arith
+bare-named n (r ∷ rs) e = let c = coded-row 11 r rs e in by (sameName n (r .spelling)) (c .0) (bare-named n rs (c .1))
+  where
+    by : (b : Bool) → ¬ (tokenCode (r .token) ≡ 11) → ¬ (tokenCode (named n rs) ≡ 11) → ¬ (tokenCode (cond b (r .token) (named n rs)) ≡ 11)
+    by true h g = h
+    by false h g = g
+
+bare-reserved : (n : List ℕ) → ¬ (tokenCode (named n reserved) ≡ 11)
+unfolding reserved
+bare-reserved n = bare-named n reserved refl
+
+bare-number : (r : List ℕ) (at n k : ℕ) (a b : Bool) → Bare r (need a 31 at >>= λ _. need b 34 at >>= λ _. good (record { token = number n; long = k }))
+bare-number r at n k true true = λ z. absurd (omega arith)
+bare-number r at n k true false = tt
+bare-number r at n k false b = tt
+
+-- no sign begins with the mark that goes on a name
+bare-mark : (c : ℕ) (s : List ℕ) (at : ℕ) → c ≡ 39 → Bare (c ∷ s) (signAt signs (c ∷ s) at)
+unfolding signs
+bare-mark c s at e = rw e tt
+
+bare-stops : (r : List ℕ) → run r ≡ 0 → (m : Answer Read) → Bare r m
+bare-stops r e (good w) = λ z. e
+bare-stops r e (refused why) = tt
+
+bare-sign : (r : List ℕ) (at : ℕ) → digit (first r) ≡ false → letter (first r) ≡ false → Bare r (signAt signs r at)
+bare-sign [] at d l = bare-stops [] refl (signAt signs [] at)
+bare-sign (c ∷ s) at d l = by (eqb c 39) refl
+  where
+    by : (b : Bool) → eqb c 39 ≡ b → Bare (c ∷ s) (signAt signs (c ∷ s) at)
+    by true e = bare-mark c s at (eqb-true c 39 e)
+    by false e = bare-stops (c ∷ s) (ap (λ (b : Bool). cond (b || digit c || eqb c 39) (suc (run s)) 0) l ∙ ap (λ (b : Bool). cond (b || eqb c 39) (suc (run s)) 0) d ∙ ap (λ (b : Bool). cond b (suc (run s)) 0) e) (signAt signs (c ∷ s) at)
+
+word-bare : (r : List ℕ) (at : ℕ) → Bare r (wordAt r at)
+unfolding wordAt
+word-bare r at = by (digit (first r)) (letter (first r)) refl refl
+  where
+    by : (d l : Bool) → digit (first r) ≡ d → letter (first r) ≡ l → Bare r (cond d (numberWord (take (run r) r) at) (cond l (good (record { token = named (take (run r) r) reserved; long = length (take (run r) r) })) (signAt signs r at)))
+    by true l e f = bare-number r at (valueFrom 0 (take (run r) r)) (length (take (run r) r)) (allDigits (take (run r) r)) (leb (valueFrom 0 (take (run r) r)) 255)
+    by false true e f = λ z. absurd (bare-reserved (take (run r) r) z)
+    by false false e f = bare-sign r at e f
+
+module _ (text : List ℕ) (at : ℕ) (inside : at ≤ length text) where
+  abbrev BareAt : List Word → Type 0
+  BareAt ws = tokenCode (peek ws .token) ≡ 11 → run (drop (peek ws .place) text) ≡ 0
+
+  bare-joined : (w : Read) (from′ : ℕ) → (tokenCode (w .token) ≡ 11 → run (drop from′ text) ≡ 0) → (m : Answer (List Word)) → BareAt (valued (m >>= λ ws. good (record { token = w .token; place = from′ } ∷ ws)))
+  bare-joined w from′ h (good ws) = h
+  bare-joined w from′ h (refused why) = λ z. absurd (omega arith)
+
+  bare-behind : (m : Answer Read) → Bare (drop (start text at inside) text) m → BareAt (valued (behindWord (goOn text at inside) (drop (start text at inside) text) (start text at inside) m))
+  bare-behind (good w) h = bare-joined w (start text at inside) h (goOn text at inside (drop (w .long) (drop (start text at inside) text)) (start text at inside + w .long))
+  bare-behind (refused why) h = λ z. absurd (omega arith)
+
+  -- where the first word from an offset on is an opening parenthesis, no name begins at its place
+  pub round-bare : tokenCode (peek (from text at) .token) ≡ 11 → run (drop (peek (from text at) .place) text) ≡ 0
+  unfolding from
+  round-bare = subst (λ (m : Answer (List Word)). BareAt (valued m)) (sym (lexed-is text at inside)) (by (eqb (length (drop (start text at inside) text)) 0))
+    where
+      by : (b : Bool) → BareAt (valued (cond b (good (record { token = sign ends; place = start text at inside } ∷ [])) (behindWord (goOn text at inside) (drop (start text at inside) text) (start text at inside) (wordAt (drop (start text at inside) text) (start text at inside)))))
+      by true = λ z. absurd (omega arith)
+      by false = bare-behind (wordAt (drop (start text at inside) text) (start text at inside)) (word-bare (drop (start text at inside) text) (start text at inside))
+
 -- ---- the pass over all words
 
 -- all words are good if those from an offset on are, and a refusal of those is the text's
@@ -314,7 +435,7 @@ pub record Pending (text : List ℕ) (at : ℕ) : Type 0 where
 pub pending-first : (text : List ℕ) → Pending text 0
 pending-first text = record { within = omega arith; same = refl }
 
-sign-small : (t : Sign) → signCode t ≤ 24
+sign-small : (t : Sign) → signCode t ≤ 25
 sign-small ends = omega arith
 sign-small fun = omega arith
 sign-small fix = omega arith
@@ -337,8 +458,9 @@ sign-small endSquare = omega arith
 sign-small curly = omega arith
 sign-small endCurly = omega arith
 sign-small plus = omega arith
+sign-small power = omega arith
 
-code-small : (t : Token) → tokenCode t ≤ 24
+code-small : (t : Token) → tokenCode t ≤ 25
 code-small (sign t) = sign-small t
 code-small (part p) = omega arith
 code-small (number n) = omega arith
@@ -350,9 +472,9 @@ lexed-past text at h = ap (λ (s : List ℕ). passes (wordsFrom (suc (length tex
 
 -- one step of the pass
 pub record Went (text : List ℕ) (at : ℕ) (w : Said) : Type 0 where
-  pub bad : 24 < w .code → lexed text at ≡ refuse (w .code) (w .place)
-  pub past : w .code ≤ 24 → at < w .end
-  pub on : w .code ≤ 24 → Pending text (w .end)
+  pub bad : 25 < w .code → lexed text at ≡ refuse (w .code) (w .place)
+  pub past : w .code ≤ 25 → at < w .end
+  pub on : w .code ≤ 25 → Pending text (w .end)
 
 module _ (text : List ℕ) (at : ℕ) (p : Pending text at) (more : at < length text) where
   went-by : (m : Answer FoundWord) → Case text at m → Went text at (told m)
@@ -380,7 +502,7 @@ good-as : (m : Answer (List Word)) → passes m ≡ good tt → m ≡ good (valu
 good-as (good ws) e = refl
 good-as (refused why) e = absurd (refused≢good e)
 
-pub passed-bad : (text : List ℕ) (at : ℕ) → Pending text at → (n place : ℕ) → 24 < n → lexed text at ≡ refuse n place → Passed text n place
+pub passed-bad : (text : List ℕ) (at : ℕ) → Pending text at → (n place : ℕ) → 25 < n → lexed text at ≡ refuse n place → Passed text n place
 unfolding words lexed
 passed-bad text at p n place h e = ((λ z. absurd (omega arith)), (λ z. refused-as (wordsFrom (suc (length text)) text 0) (numbered n place) (p .same ∙ ap passes e)))
 

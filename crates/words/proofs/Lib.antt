@@ -1,5 +1,9 @@
 pub mod WordLaws
-pub mod TableLaws
 pub mod FoundLaws
 pub mod LexLaws
 pub mod NameLaws
+pub mod ByteLaws
+pub mod ClassLaws
+pub mod KeyLaws
+pub mod NameKeyLaws
+pub mod ReservedLaws

@@ -1,11 +1,11 @@
 -- Runs and gaps, a byte at a time. Assumes nothing.
-use Prim.Native.Nat.{ℕ, zero, suc, _+_, _≤_, _<_}
+use Prim.Native.Nat.{ℕ, zero, suc, _+_, _-_, _≤_, _<_}
 use mathlib.Core.Path.{_≡_, refl, sym, ap, _∙_}
 use mathlib.Core.Bool.{Bool, true, false, not, _&&_, cond}
 use mathlib.Core.List.{List, [], _∷_}
 use native.Mathlib.Omega.{arith}
 use lib.Dec.{eqb}
-use lib.ListN.{length, getD, drop}
+use lib.ListN.{length, getD, take, drop}
 use lib.Seq.{drop-cons}
 use Rattle.laws.proofs.Regions.{drop-past}
 use Rattle.notation_calculus.specs.Words.{blank, endsLine, inName, first, gap, run}
@@ -21,6 +21,10 @@ not-no false e = sym e
 pub drop-here : (s : List ℕ) (at : ℕ) → at < length s → drop at s ≡ getD s at 0 ∷ drop (at + 1) s
 drop-here s at h = let next : suc at ≡ at + 1 = omega arith in drop-cons s at 0 h ∙ ap (λ (n : ℕ). getD s at 0 ∷ drop n s) next
 
+pub take-here : (s : List ℕ) (at n : ℕ) → 0 < n → at < length s → take n (drop at s) ≡ getD s at 0 ∷ take (n - 1) (drop (at + 1) s)
+take-here s at zero p h = absurd (omega arith)
+take-here s at (suc n) p h = let e : suc n - 1 ≡ n = omega arith in rw (e, drop-here s at h)
+
 -- ---- runs
 
 run-cons : (c : ℕ) (s : List ℕ) (b : Bool) → inName c ≡ b → run (c ∷ s) ≡ cond b (suc (run s)) 0
@@ -33,6 +37,10 @@ run-on s at h e = ap run (drop-here s at h) ∙ run-cons (getD s at 0) (drop (at
 -- .. and one that does not
 pub run-stops : (s : List ℕ) (at : ℕ) → at < length s → inName (getD s at 0) ≡ false → run (drop at s) ≡ 0
 run-stops s at h e = ap run (drop-here s at h) ∙ run-cons (getD s at 0) (drop (at + 1) s) false e
+
+-- a run from behind its first byte
+pub run-behind : (s : List ℕ) (at end : ℕ) → at < length s → inName (getD s at 0) ≡ true → end ≡ at + 1 + run (drop (at + 1) s) → end ≡ at + run (drop at s)
+run-behind s at end h e r = omega (arith, run-on s at h e)
 
 pub run-past : (s : List ℕ) (at : ℕ) → length s ≤ at → run (drop at s) ≡ 0
 run-past s at h = ap run (drop-past s at h)
@@ -79,10 +87,14 @@ at-front [] (suc n) = refl
 at-front (c ∷ s) zero = refl
 at-front (c ∷ s) (suc n) = at-front s n
 
-and-false : (b : Bool) → (b && false) ≡ false
+pub and-false : (b : Bool) → (b && false) ≡ false
 and-false true = refl
 and-false false = refl
 
 -- the last byte begins no comment
 pub no-second : (s : List ℕ) (at : ℕ) → length s ≤ at + 1 → false ≡ dashesAt s at
 no-second s at h = sym (ap (λ (r : List ℕ). eqb (getD s at 0) 45 && eqb (first r) 45) (drop-past s (at + 1) h) ∙ and-false (eqb (getD s at 0) 45))
+
+-- a byte that is no dash begins no comment
+pub no-dash : (s : List ℕ) (at : ℕ) → eqb (getD s at 0) 45 ≡ false → dashesAt s at ≡ false
+no-dash s at e = ap (λ (b : Bool). b && eqb (first (drop (at + 1) s)) 45) e

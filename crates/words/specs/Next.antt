@@ -1,6 +1,6 @@
 -- The word that stands next from an offset on, with its place and the offset behind it. Assumes nothing.
 use Prim.Native.Nat.{ℕ, _+_}
-use mathlib.Core.Bool.{Bool, false, _&&_, cond}
+use mathlib.Core.Bool.{Bool, false, cond}
 use mathlib.Core.List.{List, [], _∷_}
 use lib.Dec.{eqb}
 use lib.ListN.{length, take, drop}
@@ -23,12 +23,6 @@ foundAt from (refused why) = refused why
 abbrev pub goesOn : List ℕ → Bool
 goesOn [] = false
 goesOn (c ∷ s) = inName c
-
--- the same first byte, which goes on a name
-abbrev pub alikeIn : List ℕ → List ℕ → Bool
-alikeIn [] u = false
-alikeIn (c ∷ s) [] = false
-alikeIn (c ∷ s) (d ∷ u) = eqb c d && inName c
 
 -- the letters and digits from an offset on
 abbrev pub runAt : List ℕ → ℕ → List ℕ

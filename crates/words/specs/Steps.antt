@@ -11,6 +11,6 @@ use Rattle.notation_calculus.specs.Words.{gap}
 abbrev pub CommentTo : List ℕ → ℕ → ℕ → Type 0
 CommentTo s at r = (at ≤ r) × (r ≤ length s) × (r + gap false (drop r s) ≡ at + gap true (drop at s))
 
--- a blank or a comment goes on to r; or a word begins, and r is the same offset
+-- what stands between words goes on to r; or a word begins, and r is the same offset
 abbrev pub StepTo : List ℕ → ℕ → ℕ → Type 0
 StepTo s at r = (at ≤ r) × (r ≤ length s) × (r + gap false (drop r s) ≡ at + gap false (drop at s)) × (r ≡ at → gap false (drop at s) ≡ 0)

@@ -5,12 +5,15 @@ ghost use Prim.Native.Nat.{_+_, _*_, _-_, _≤_, _<_};
 ghost use lib.Dec.{eqb};
 ghost use lib.ListN.{length, getD, take, drop};
 ghost use Rattle.calculus.specs.Answer.{good};
-ghost use Rattle.notation_calculus.specs.Words.{sameName, between, blank, endsLine, digit, letter, inName, first, gap, run, capped, numberWord, signAt, signs};
+ghost use Rattle.notation_calculus.specs.Words.{sameName, between, blank, endsLine, digit, letter, inName, first, gap, run, capped, numberWord, signAt, signs, wordAt};
 ghost use Rattle.words.specs.Steps.{CommentTo, StepTo};
-ghost use Rattle.words.specs.Next.{goesOn, alikeIn, runAt, foundAt, namedAt, nextOf, saidWord, told};
+ghost use Rattle.words.specs.Classes.{ClassIs, NotListed, NoSingle, PlainLetter};
+ghost use Rattle.words.specs.Next.{goesOn, runAt, foundAt, namedAt, nextOf, saidWord, told};
 ghost use Rattle.words.specs.Lexed.{Lexed, Stands, Passed};
 
+pub mod keys;
 mod spelling;
+pub mod starts;
 
 fn both(a: bool, b: bool) -> bool
     ensures { λ r. ⌜ r ≡ (a && b) ⌝ }
@@ -42,9 +45,13 @@ fn blank(c: u8) -> bool
     either(between(9, 13, c), c == 32)
 }
 
+// Few bytes of a comment are so low that they are looked at twice.
 fn ends_line(c: u8) -> bool
     ensures { λ r. ⌜ r ≡ endsLine c ⌝ }
 {
+    if 13 < c {
+        return false;
+    }
     either(c == 10, c == 13)
 }
 
@@ -60,11 +67,21 @@ fn letter(c: u8) -> bool
     either(either(between(65, 90, c), between(97, 122, c)), c == 95)
 }
 
-// What a name goes on with.
+// What a name goes on with. Small letters are told first, then blanks and most signs: comparisons, since a table of bytes would be written to
+// the stack at each call.
 fn in_name(c: u8) -> bool
     ensures { λ r. ⌜ r ≡ inName c ⌝ }
 {
-    either(either(letter(c), digit(c)), c == 39)
+    if 97 <= c {
+        return c <= 122;
+    }
+    if c < 48 {
+        return c == 39;
+    }
+    if c <= 57 {
+        return true;
+    }
+    either(between(65, 90, c), c == 95)
 }
 
 // Where a run of letters and digits ends.
@@ -108,32 +125,55 @@ fn comment_end(text: &[u8], from: usize) -> usize
     at
 }
 
-// Behind a blank or a comment that stands here; or here, where a word begins.
-fn step(text: &[u8], at: usize) -> usize
-    requires { ⌜ at < length (now text) ⌝ }
-    ensures { λ r. ⌜ StepTo (now (text .entry)) at r ⌝ }
+// The class of a byte that `class` does not name.
+fn rare_class(c: u8) -> u8
+    requires { ⌜ NotListed c ⌝ }
+    ensures { λ r. ⌜ ClassIs c r ⌝ }
 {
-    if blank(text[at]) {
-        return at + 1;
+    if letter(c) {
+        return 65;
     }
-    if dashes(text, at) {
-        return comment_end(text, at + 1);
+    if digit(c) {
+        return 64;
     }
-    at
+    if blank(c) {
+        return 1;
+    }
+    0
 }
 
-// Where the next word begins, behind blanks and comments; or the end.
-pub fn gap_end(text: &[u8], from: usize) -> usize
-    requires { ⌜ from ≤ length (now text) ⌝ }
-    ensures { λ r. ⌜ r ≡ from + gap false (drop from (now (text .entry))) ⌝ }
+// What a byte begins: 1 a gap; the code of a sign that is one byte; 64 a number; 65 a name; 66 a name or a reserved word; 0 anything else.
+fn class(c: u8) -> u8
+    ensures { λ r. ⌜ ClassIs c r ⌝ }
 {
-    let mut at = from;
-    while at < text.len() {
-        let next = step(text, at);
-        if next == at {
-            return at;
-        }
-        at = next;
+    match c {
+        32 => 1,
+        40 => 11,
+        41 => 12,
+        42 => 10,
+        43 => 21,
+        44 => 14,
+        46 => 16,
+        58 => 15,
+        61 => 13,
+        91 => 17,
+        93 => 18,
+        94 => 25,
+        123 => 19,
+        125 => 20,
+        97 | 101 | 105 | 108 | 111 | 114 | 116 | 120 | 122 => 66,
+        102 => 66,
+        _ => rare_class(c),
+    }
+}
+
+// Behind a comment that stands here; or here, where none does.
+fn step(text: &[u8], at: usize) -> usize
+    requires { ⌜ (at < length (now text)) × (blank (getD (now text) at 0) ≡ false) ⌝ }
+    ensures { λ r. ⌜ StepTo (now (text .entry)) at r ⌝ }
+{
+    if dashes(text, at) {
+        return comment_end(text, at + 1);
     }
     at
 }
@@ -146,7 +186,10 @@ pub const NUMBER: u8 = 23;
 
 pub const NAME: u8 = 24;
 
-// A word: its code (a sign's own, or one of the three above; or the number of a refusal), the number that it holds, its place, and the
+// The sign `^`, whose code is the last of those that stand for words.
+pub const POWER: u8 = 25;
+
+// A word: its code (a sign's own, or that of a part, a number or a name; or the number of a refusal), the number that it holds, its place, and the
 // offset behind it.
 pub struct Word {
     pub kind: u8,
@@ -204,12 +247,26 @@ fn number_at(text: &[u8], start: usize) -> Word
     }
 }
 
-// A run that begins with a letter: a reserved word, a part or a name.
-fn named_at(text: &[u8], start: usize) -> Word
-    requires { ⌜ start ≤ length (now text) ⌝ }
+// A run that begins with a letter that begins no reserved word.
+fn plain_at(text: &[u8], start: usize) -> Word
+    requires { ⌜ (start < length (now text)) × PlainLetter (getD (now text) start 0) ⌝ }
     ensures { λ r. ⌜ saidWord r ≡ told (foundAt start (namedAt (now (text .entry)) start)) ⌝ }
 {
-    let end = run_end(text, start);
+    let end = run_end(text, start + 1);
+    Word {
+        kind: NAME,
+        value: 0,
+        start,
+        end,
+    }
+}
+
+// A run that begins with a letter: a reserved word, a part or a name.
+fn named_at(text: &[u8], start: usize) -> Word
+    requires { ⌜ (start < length (now text)) × (letter (getD (now text) start 0) ≡ true) ⌝ }
+    ensures { λ r. ⌜ saidWord r ≡ told (foundAt start (namedAt (now (text .entry)) start)) ⌝ }
+{
+    let end = run_end(text, start + 1);
     let row = spelling::reserved_row(text, start, end - start);
     if row.long == 0 {
         return Word {
@@ -227,9 +284,9 @@ fn named_at(text: &[u8], start: usize) -> Word
     }
 }
 
-// A sign; 31 where none begins.
+// A sign that is not one byte; 31 where none begins.
 fn sign_at(text: &[u8], start: usize) -> Word
-    requires { ⌜ start ≤ length (now text) ⌝ }
+    requires { ⌜ (start < length (now text)) × NoSingle (getD (now text) start 0) ⌝ }
     ensures { λ r. ⌜ saidWord r ≡ told (foundAt start (signAt signs (drop start (now (text .entry))) start)) ⌝ }
 {
     let row = spelling::sign_row(text, start);
@@ -249,28 +306,55 @@ fn sign_at(text: &[u8], start: usize) -> Word
     }
 }
 
+// A word whose first byte is of a class that tells.
+fn word_by(text: &[u8], start: usize, class: u8) -> Word
+    requires { ⌜ (start < length (now text)) × ClassIs (getD (now text) start 0) class × (1 < class) ⌝ }
+    ensures { λ r. ⌜ saidWord r ≡ told (foundAt start (wordAt (drop start (now (text .entry))) start)) ⌝ }
+{
+    if class < 64 {
+        return Word {
+            kind: class,
+            value: 0,
+            start,
+            end: start + 1,
+        };
+    }
+    if class == 64 {
+        return number_at(text, start);
+    }
+    if class == 65 {
+        return plain_at(text, start);
+    }
+    named_at(text, start)
+}
+
 // The word that stands next, behind blanks and comments; or the end, or a refusal.
 pub fn next(text: &[u8], at: usize) -> Word
     requires { ⌜ at ≤ length (now text) ⌝ }
     ensures { λ r. ⌜ saidWord r ≡ told (nextOf (now (text .entry)) at) ⌝ }
 {
-    let start = gap_end(text, at);
-    if text.len() <= start {
-        return Word {
-            kind: 0,
-            value: 0,
-            start,
-            end: start,
-        };
+    let mut start = at;
+    while start < text.len() {
+        let k = class(text[start]);
+        if 1 < k {
+            return word_by(text, start, k);
+        }
+        if k == 1 {
+            start = start + 1;
+        } else {
+            let past = step(text, start);
+            if past == start {
+                return sign_at(text, start);
+            }
+            start = past;
+        }
     }
-    let c = text[start];
-    if digit(c) {
-        return number_at(text, start);
+    Word {
+        kind: 0,
+        value: 0,
+        start,
+        end: start,
     }
-    if letter(c) {
-        return named_at(text, start);
-    }
-    sign_at(text, start)
 }
 
 // .. of a text whose words are good.
@@ -291,37 +375,40 @@ fn goes_on(text: &[u8], at: usize) -> bool
     in_name(text[at])
 }
 
-// The same byte of a name stands at two offsets.
-fn alike(text: &[u8], a: usize, b: usize) -> bool
-    ensures { λ r. ⌜ r ≡ alikeIn (drop a (now (text .entry))) (drop b (now (text .entry))) ⌝ }
+// Two names are the same, of which the second stands behind the first. Bytes are compared before an end is sought: a long name that is passed
+// over costs nothing, and of two equal bytes one is asked.
+fn same_behind(text: &[u8], a: usize, b: usize) -> bool
+    requires { ⌜ (a ≤ b) × (b ≤ length (now text)) ⌝ }
+    ensures { λ r. ⌜ r ≡ sameName (runAt (now (text .entry)) a) (runAt (now (text .entry)) b) ⌝ }
 {
-    if text.len() <= a {
-        return false;
+    let most = text.len() - b;
+    let mut i: usize = 0;
+    while i < most {
+        let c = text[a + i];
+        let d = text[b + i];
+        if c != d {
+            if in_name(c) {
+                return false;
+            }
+            return !in_name(d);
+        }
+        if !in_name(c) {
+            return true;
+        }
+        i = i + 1;
     }
-    if text.len() <= b {
-        return false;
-    }
-    if text[a] != text[b] {
-        return false;
-    }
-    in_name(text[a])
+    !goes_on(text, a + i)
 }
 
-// Two names, each at its place, are the same. Bytes are compared before an end is sought: a long name that is passed over costs nothing.
+// Two names, each at its place, are the same.
 pub fn same_run(text: &[u8], a: usize, b: usize) -> bool
     requires { ⌜ (a ≤ length (now text)) × (b ≤ length (now text)) ⌝ }
     ensures { λ r. ⌜ r ≡ sameName (runAt (now (text .entry)) a) (runAt (now (text .entry)) b) ⌝ }
 {
-    let mut p = a;
-    let mut q = b;
-    while alike(text, p, q) {
-        p = p + 1;
-        q = q + 1;
+    if a <= b {
+        return same_behind(text, a, b);
     }
-    if goes_on(text, p) {
-        return false;
-    }
-    !goes_on(text, q)
+    same_behind(text, b, a)
 }
 
 // A refusal's number, 0 for none, and its place.
@@ -337,7 +424,7 @@ pub fn check_words(text: &[u8]) -> Refused
     let mut at: usize = 0;
     while at < text.len() {
         let w = next(text, at);
-        if NAME < w.kind {
+        if POWER < w.kind {
             return Refused {
                 number: w.kind,
                 place: w.start,

@@ -1,13 +1,12 @@
-// Spellings of reserved words and signs, found by one loop over a table of bytes: for each row the spelling's length, its token's code and
-// value, and the spelling.
-use crate::both;
-use crate::either;
+// Spellings of reserved words and signs, each told by its bytes as one number.
 ghost use mathlib.Core.Path.{_≡_};
 ghost use mathlib.Core.Bool.{true, false};
-ghost use Prim.Native.Nat.{_+_, _≤_};
-ghost use lib.ListN.{length, take, drop};
-ghost use Rattle.notation_calculus.specs.Words.{beginsWith, reserved, signs};
-ghost use Rattle.words.specs.Tables.{tableOf, rowsOf, saidRow, rowOf};
+ghost use Prim.Native.Nat.{_+_, _≤_, _<_};
+ghost use lib.ListN.{length, getD, take, drop};
+ghost use Rattle.notation_calculus.specs.Words.{reserved, signs};
+ghost use Rattle.words.specs.Classes.{NoSingle};
+ghost use Rattle.words.specs.Keys.{keyOf};
+ghost use Rattle.words.specs.Tables.{saidRow, rowOf, twoSigns, threeSigns};
 
 // A row: its token's code and value, and the spelling's length; 0 where no row fits.
 pub struct Row {
@@ -22,72 +21,176 @@ fn wide(x: u8) -> usize
     x as usize
 }
 
-// The text goes on with the bytes of a spelling in a table.
-fn begins(text: &[u8], from: usize, table: &[u8], at: usize, long: usize) -> bool
-    requires { ⌜ (from ≤ length (now text)) × (at + long ≤ length (now table)) ⌝ }
-    ensures { λ r. ⌜ r ≡ beginsWith (take long (drop at (now (table .entry)))) (drop from (now (text .entry))) ⌝ }
+fn as_row(kind: u8, value: u8, long: usize) -> Row
+    ensures { λ r. ⌜ saidRow r ≡ record { code = kind; value = value; long = long } ⌝ }
 {
-    let mut k: usize = 0;
-    while k < long {
-        if text.len() - from <= k {
-            return false;
-        }
-        if text[from + k] != table[at + k] {
-            return false;
-        }
-        k = k + 1;
-    }
-    true
+    Row { kind, value, long }
 }
 
-// The first row of a table that fits the text at an offset.
-fn row_at(text: &[u8], from: usize, long: usize, whole: bool, table: &[u8]) -> Row
-    requires { ⌜ (from ≤ length (now text)) × (now table ≡ tableOf (rowsOf whole)) ⌝ }
-    ensures { λ r. ⌜ saidRow r ≡ rowOf whole long (drop from (now (text .entry))) (rowsOf whole) ⌝ }
+// The bytes of a part of the text as one number, so that a reserved word is told by one look: a table of them would be written to the stack at
+// each call.
+fn key2(text: &[u8], at: usize) -> usize
+    requires { ⌜ at + 2 ≤ length (now text) ⌝ }
+    ensures { λ r. ⌜ (r ≡ keyOf (take 2 (drop at (now (text .entry))))) × (r < 65536) ⌝ }
 {
-    let mut at: usize = 0;
-    while at < table.len() {
-        let n = wide(table[at]);
-        let may = either(!whole, n == long);
-        if both(may, begins(text, from, table, at + 3, n)) {
-            return Row {
-                kind: table[at + 1],
-                value: table[at + 2],
-                long: n,
-            };
-        }
-        at = at + 3 + n;
-    }
-    Row {
-        kind: 0,
-        value: 0,
-        long: 0,
+    wide(text[at]) * 256 + wide(text[at + 1])
+}
+
+fn key3(text: &[u8], at: usize) -> usize
+    requires { ⌜ at + 3 ≤ length (now text) ⌝ }
+    ensures { λ r. ⌜ (r ≡ keyOf (take 3 (drop at (now (text .entry))))) × (r < 16777216) ⌝ }
+{
+    key2(text, at) * 256 + wide(text[at + 2])
+}
+
+fn key4(text: &[u8], at: usize) -> usize
+    requires { ⌜ at + 4 ≤ length (now text) ⌝ }
+    ensures { λ r. ⌜ (r ≡ keyOf (take 4 (drop at (now (text .entry))))) × (r < 4294967296) ⌝ }
+{
+    key3(text, at) * 256 + wide(text[at + 3])
+}
+
+fn key5(text: &[u8], at: usize) -> usize
+    requires { ⌜ at + 5 ≤ length (now text) ⌝ }
+    ensures { λ r. ⌜ (r ≡ keyOf (take 5 (drop at (now (text .entry))))) × (r < 1099511627776) ⌝ }
+{
+    key4(text, at) * 256 + wide(text[at + 4])
+}
+
+fn key6(text: &[u8], at: usize) -> usize
+    requires { ⌜ at + 6 ≤ length (now text) ⌝ }
+    ensures { λ r. ⌜ (r ≡ keyOf (take 6 (drop at (now (text .entry))))) × (r < 281474976710656) ⌝ }
+{
+    key5(text, at) * 256 + wide(text[at + 5])
+}
+
+fn key7(text: &[u8], at: usize) -> usize
+    requires { ⌜ at + 7 ≤ length (now text) ⌝ }
+    ensures { λ r. ⌜ (r ≡ keyOf (take 7 (drop at (now (text .entry))))) × (r < 72057594037927936) ⌝ }
+{
+    key6(text, at) * 256 + wide(text[at + 6])
+}
+
+// in, or
+fn two_row(text: &[u8], at: usize) -> Row
+    requires { ⌜ at + 2 ≤ length (now text) ⌝ }
+    ensures { λ r. ⌜ saidRow r ≡ rowOf true 2 (drop at (now (text .entry))) reserved ⌝ }
+{
+    match key2(text, at) {
+        26990 => as_row(4, 0, 2),
+        28530 => as_row(22, 3, 2),
+        _ => as_row(0, 0, 0),
     }
 }
 
-pub fn reserved_row(text: &[u8], from: usize, long: usize) -> Row
-    requires { ⌜ from ≤ length (now text) ⌝ }
-    ensures { λ r. ⌜ saidRow r ≡ rowOf true long (drop from (now (text .entry))) reserved ⌝ }
+// fun, fix, let, reg, and, xor, inv, one
+fn three_row(text: &[u8], at: usize) -> Row
+    requires { ⌜ at + 3 ≤ length (now text) ⌝ }
+    ensures { λ r. ⌜ saidRow r ≡ rowOf true 3 (drop at (now (text .entry))) reserved ⌝ }
 {
-    row_at(
-        text,
-        from,
-        long,
-        true,
-        b"\x03\x01\x00fun\x03\x02\x00fix\x03\x03\x00let\x02\x04\x00in\x04\x05\x00type\x07\x06\x00edition\x05\x07\x00table\x04\x16\x00zero\x03\x16\x01reg\x03\x16\x02and\x02\x16\x03or\x03\x16\x04xor\x03\x16\x05inv\x03\x16\x06one",
-    )
+    match key3(text, at) {
+        6714734 => as_row(1, 0, 3),
+        6711672 => as_row(2, 0, 3),
+        7103860 => as_row(3, 0, 3),
+        7497063 => as_row(22, 1, 3),
+        6385252 => as_row(22, 2, 3),
+        7892850 => as_row(22, 4, 3),
+        6909558 => as_row(22, 5, 3),
+        7302757 => as_row(22, 6, 3),
+        _ => as_row(0, 0, 0),
+    }
 }
 
-// The last four are λ, ×, → and ⊸.
-pub fn sign_row(text: &[u8], from: usize) -> Row
-    requires { ⌜ from ≤ length (now text) ⌝ }
-    ensures { λ r. ⌜ saidRow r ≡ rowOf false 0 (drop from (now (text .entry))) signs ⌝ }
+// type, zero
+fn four_row(text: &[u8], at: usize) -> Row
+    requires { ⌜ at + 4 ≤ length (now text) ⌝ }
+    ensures { λ r. ⌜ saidRow r ≡ rowOf true 4 (drop at (now (text .entry))) reserved ⌝ }
 {
-    row_at(
-        text,
-        from,
-        0,
-        false,
-        b"\x02\x08\x00->\x02\x09\x00-o\x01\x0a\x00*\x01\x0b\x00(\x01\x0c\x00)\x01\x0d\x00=\x01\x0e\x00,\x01\x0f\x00:\x01\x10\x00.\x01\x11\x00[\x01\x12\x00]\x01\x13\x00{\x01\x14\x00}\x01\x15\x00+\x02\x01\x00\xce\xbb\x02\x0a\x00\xc3\x97\x03\x08\x00\xe2\x86\x92\x03\x09\x00\xe2\x8a\xb8",
-    )
+    match key4(text, at) {
+        1954115685 => as_row(5, 0, 4),
+        2053468783 => as_row(22, 0, 4),
+        _ => as_row(0, 0, 0),
+    }
+}
+
+// table
+fn five_row(text: &[u8], at: usize) -> Row
+    requires { ⌜ at + 5 ≤ length (now text) ⌝ }
+    ensures { λ r. ⌜ saidRow r ≡ rowOf true 5 (drop at (now (text .entry))) reserved ⌝ }
+{
+    match key5(text, at) {
+        499850046565 => as_row(7, 0, 5),
+        _ => as_row(0, 0, 0),
+    }
+}
+
+// edition
+fn seven_row(text: &[u8], at: usize) -> Row
+    requires { ⌜ at + 7 ≤ length (now text) ⌝ }
+    ensures { λ r. ⌜ saidRow r ≡ rowOf true 7 (drop at (now (text .entry))) reserved ⌝ }
+{
+    match key7(text, at) {
+        28539376735186798 => as_row(6, 0, 7),
+        _ => as_row(0, 0, 0),
+    }
+}
+
+// The reserved word of so many bytes.
+pub fn reserved_row(text: &[u8], at: usize, long: usize) -> Row
+    requires { ⌜ at + long ≤ length (now text) ⌝ }
+    ensures { λ r. ⌜ saidRow r ≡ rowOf true long (drop at (now (text .entry))) reserved ⌝ }
+{
+    match long {
+        2 => two_row(text, at),
+        3 => three_row(text, at),
+        4 => four_row(text, at),
+        5 => five_row(text, at),
+        7 => seven_row(text, at),
+        _ => as_row(0, 0, 0),
+    }
+}
+
+// ->, -o, λ and ×.
+fn sign2(text: &[u8], at: usize) -> Row
+    requires { ⌜ at + 2 ≤ length (now text) ⌝ }
+    ensures { λ r. ⌜ saidRow r ≡ rowOf true 2 (drop at (now (text .entry))) twoSigns ⌝ }
+{
+    match key2(text, at) {
+        11582 => as_row(8, 0, 2),
+        11631 => as_row(9, 0, 2),
+        52923 => as_row(1, 0, 2),
+        50071 => as_row(10, 0, 2),
+        _ => as_row(0, 0, 0),
+    }
+}
+
+// → and ⊸.
+fn sign3(text: &[u8], at: usize) -> Row
+    requires { ⌜ at + 3 ≤ length (now text) ⌝ }
+    ensures { λ r. ⌜ saidRow r ≡ rowOf true 3 (drop at (now (text .entry))) threeSigns ⌝ }
+{
+    match key3(text, at) {
+        14845586 => as_row(8, 0, 3),
+        14846648 => as_row(9, 0, 3),
+        _ => as_row(0, 0, 0),
+    }
+}
+
+// The sign that begins with a byte that is none by itself.
+pub fn sign_row(text: &[u8], at: usize) -> Row
+    requires { ⌜ (at < length (now text)) × NoSingle (getD (now text) at 0) ⌝ }
+    ensures { λ r. ⌜ saidRow r ≡ rowOf false 0 (drop at (now (text .entry))) signs ⌝ }
+{
+    let more = text.len() - at;
+    if more < 2 {
+        return as_row(0, 0, 0);
+    }
+    let two = sign2(text, at);
+    if two.long != 0 {
+        return two;
+    }
+    if more < 3 {
+        return as_row(0, 0, 0);
+    }
+    sign3(text, at)
 }

@@ -13,7 +13,7 @@ lines-requires : tie.Need-lines-requires
 lines-requires c κs =
     let b = c .before .before .before in
     let x = b .before .before .before .before in
-    text-items (x .args .text .now) (x .args .work .now) (x .args .items) (x .args .end) _ (b .begin .ensures) (x .pre)
+    text-items (x .args .text .now) (x .args .work .now) (x .args .items) (x .args .seen) (x .args .end) _ (b .begin .ensures) (x .pre)
 
 enum-known-number : tie.Need-enum-known-number
 enum-known-number c = search needs
@@ -26,7 +26,7 @@ behind-lines-requires c κs =
     let l = c .before .before .before .before .before in
     let b = l .before .before .before .before in
     let x = b .before .before .before .before in
-    text-can (x .args .text .now) (x .args .work .now) (x .args .items) (x .args .end) _ (b .begin .ensures) _ (lines-as (x .args .text .now) _ (x .args .items) (l .lines .result) stage.Passed _ (c .before .enum-told .given .1) (l .lines .ensures)) (x .pre)
+    text-can (x .args .text .now) (x .args .work .now) (x .args .items) (x .args .seen) (x .args .end) _ (b .begin .ensures) _ (lines-as (x .args .text .now) _ (x .args .items) (x .args .seen) (l .lines .result) stage.Passed _ (c .before .enum-told .given .1) (l .lines .ensures)) (x .pre)
 
 same-length : tie.Need-same-length
 same-length c = search needs
@@ -36,7 +36,7 @@ returns c =
     let l = c .before .before .before .before .before in
     let b = l .before .before .before .before in
     let x = b .before .before .before .before in
-    text-refused (x .args .text .now) (x .args .work .now) (x .args .items) (x .args .end) _ (b .begin .ensures) _ _ _ (lines-as (x .args .text .now) _ (x .args .items) (l .lines .result) (stage.Refused _ _) _ (c .before .number .given .1) (l .lines .ensures))
+    text-refused (x .args .text .now) (x .args .work .now) (x .args .items) (x .args .seen) (x .args .end) _ (b .begin .ensures) _ _ _ (lines-as (x .args .text .now) _ (x .args .items) (x .args .seen) (l .lines .result) (stage.Refused _ _) _ (c .before .number .given .1) (l .lines .ensures))
 
 same-length-2 : tie.Need-same-length-2
 same-length-2 c = search needs
@@ -48,7 +48,7 @@ returns-2 c =
     let l = e .before .before .before .before in
     let b = l .before .before .before .before in
     let x = b .before .before .before .before in
-    text-made (x .args .text .now) (x .args .work .now) (x .args .items) (x .args .end) _ (b .begin .ensures) _ (lines-as (x .args .text .now) _ (x .args .items) (l .lines .result) stage.Passed _ (e .enum-told .given .1) (l .lines .ensures)) (m .behind-lines .result) _ (m .behind-lines .ensures)
+    text-made (x .args .text .now) (x .args .work .now) (x .args .items) (x .args .seen) (x .args .end) _ (b .begin .ensures) _ (lines-as (x .args .text .now) _ (x .args .items) (x .args .seen) (l .lines .result) stage.Passed _ (e .enum-told .given .1) (l .lines .ensures)) (m .behind-lines .result) _ (m .behind-lines .ensures)
 
 pub text-term-spec : {M : Type 1} → statement M
 text-term-spec =

@@ -6,7 +6,7 @@ syntax match dwComment "--.*$"
 syntax keyword dwKeyword fun fix let in type edition table
 syntax keyword dwPart zero one reg and or xor inv
 syntax match dwNumber "\<[0-9]\+\>"
-syntax match dwSign "->\|-o\>\|[*=:.,+×→⊸λ]"
+syntax match dwSign "->\|-o\>\|[*=:.,+^×→⊸λ]"
 syntax match dwDefinition "\<[A-Za-z_][A-Za-z0-9_']*\ze\s*\(\[[^]]*\]\)\=\s*\({[^}]*}\)\=\s*="
 syntax match dwKeyword "\<use\ze\s*\""
 syntax match dwFile "\"[^\"]*\""

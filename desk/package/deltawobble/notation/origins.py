@@ -59,10 +59,11 @@ class Origins:
     # ---- names
 
     def _binds(self, node: Node, number: int) -> list[str]:
-        """The names that a node binds; what a projection leaves for the next one has no name in the text, and is called rest."""
+        """The names that a node binds. What a projection leaves for the next one has no name in the text, and is called rest; nor has the variable of
+        `fun (x, y)`, which is called whole."""
         word = lambda at: self.words.all[min(at, len(self.words.all) - 1)]
         if node.kind in (0x13, 0x15, 0x19, 0x1B):
-            return [word(number).text]
+            return ["whole" if word(number).kind == "(" else word(number).text]
         if node.kind == 0x18:
             return [word(number).text, word(number + 2).text if word(number + 3).kind == ")" else "rest"]
         return []

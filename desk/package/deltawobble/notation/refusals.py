@@ -101,11 +101,12 @@ class Around:
     def special(self) -> str:
         """Faults that have a sentence of their own."""
         kind, top = self.word.kind, self.open[-1] if self.open else None
-        binds = top is not None and (top.behind in ("fun", "fix", "let") or self.in_let())
+        binds = top is not None and (top.behind in ("fun", "fix", "let") or self.in_list())
         if kind == "part" and (binds or self.before and self.before.kind == "type" or not self.open and self.words.all[self.number + 1].kind == "="):
             return "%s is a part, and cannot name anything else" % self.word.text
-        if kind == ")" and self.in_let() and self.before and self.before.kind == "name":
-            return "let (x, y) = .. takes a pair apart, and here is one name"
+        if kind == ")" and self.in_list() and self.before and self.before.kind == "name":
+            taken = "let (x, y) = .." if self.open[-2].behind == "let" else "fun (x, y) : .."
+            return "%s takes a pair apart, and here is one name" % taken
         if kind in ("fun", "fix", "let") and self.before and self.before.kind in ("name", "part", ")", "]", "}") and not binds:
             return "%s as an argument stands in parentheses" % kind
         if self.before and self.before.kind == "edition" and kind == "number":
@@ -114,9 +115,9 @@ class Around:
             return "the edition stands before all else"
         return ""
 
-    def in_let(self) -> bool:
-        """Whether names stand here that `let` takes from a pair."""
-        return len(self.open) > 1 and self.open[-1].word.kind == "(" and self.open[-2].behind == "let"
+    def in_list(self) -> bool:
+        """Whether names stand here that `let` or `fun` takes from a pair."""
+        return len(self.open) > 1 and self.open[-1].word.kind == "(" and self.open[-2].behind in ("let", "fun")
 
     def in_head(self) -> bool:
         return self.clause is not None and self.clause.first <= self.number < self.clause.body
@@ -133,9 +134,9 @@ class Around:
         before = self.before.kind if self.before else ""
         if before in ("fun", "fix", "let", "type"):
             return "a name is due behind %s" % before, ""
-        if top and top.word.kind == "{" and before in ("{", ",", "+"):
+        if before in ("^", "+") or top and top.word.kind == "{" and before in ("{", ","):
             return ("a number is due" if before == "+" else "a number or the name of one is due"), ""
-        if (self.in_let() or self.in_head()) and before in ("(", ",", "["):
+        if (self.in_list() or self.in_head()) and before in ("(", ",", "["):
             return "a name is due", ""
         if before in TYPE_DUE or self.in_type() and before in ("=", "(", ","):
             return "a type is due", ""
@@ -162,7 +163,9 @@ class Around:
     def unknown(self) -> tuple[str, str]:
         if self.word.kind == "end":
             return "there is no definition of main: the sheet's term is 'main = ..'", ""
-        if any(o.word.kind == "{" for o in self.open):
+        if self.counts_bits() and (self.word.kind == "number" or self.word.text in self.numbers()):
+            return "zero bits are no type", ""
+        if self.counts_bits() or any(o.word.kind == "{" for o in self.open):
             return "no number is called %s here: the numbers that a clause knows stand in its head" % self.word.text, ""
         is_type = self.in_type()
         above = [c.name.text for c in self.words.clauses if c.is_type == is_type and (self.clause is None or c.start < self.clause.start)]
@@ -174,6 +177,16 @@ class Around:
         if is_type:
             return "no type %s is defined above" % self.word.text, hint
         return "%s is not defined%s" % (self.word.text, later), hint
+
+    def counts_bits(self) -> bool:
+        """Whether this word begins the number of a row of bits."""
+        return self.before is not None and self.before.kind == "^"
+
+    def numbers(self) -> list[str]:
+        """The names of numbers in the head of the clause."""
+        head = self.words.all[self.clause.first:self.clause.body] if self.clause else []
+        behind = [word.kind for word in head].index("{") if any(word.kind == "{" for word in head) else len(head)
+        return [word.text for word in head[behind:] if word.kind == "name"]
 
     def no_clause(self, own: list[Clause], is_type: bool) -> str:
         """A name that is known, though not with these parameters."""
@@ -192,9 +205,9 @@ class Around:
             return "a number is at most 255", ""
         if len(self.open) >= MOST_NESTED:
             return "more than %d terms or types in one another" % MOST_NESTED, ""
-        if self.word.kind in SIDES:
+        if self.word.kind == "^" or self.word.kind in SIDES:
             return "this type passes a limit: 128 single bits, or 256 types in all", ""
-        if any(o.word.kind == "{" for o in self.open):
+        if self.counts_bits() or any(o.word.kind == "{" for o in self.open):
             return "this sum is above 255", ""
         if self.word.kind == "end":
             return "main passes a limit: what its definitions cost is at most 32767", ""

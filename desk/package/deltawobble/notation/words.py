@@ -13,7 +13,7 @@ RESERVED = {"fun", "fix", "let", "in", "type", "edition", "table"}
 PART_NUMBERS = {name: number for number, (name, _) in enumerate(PARTS)}
 #: signs that may be written in one character
 SIGNS = {"×": "*", "→": "->", "⊸": "-o", "λ": "fun"}
-WORD = re.compile(rb"(?P<gap>[\t-\r ]+|--[^\n\r]*)|(?P<run>[A-Za-z0-9_][A-Za-z0-9_']*)|(?P<sign>->|-o|[*()=,:.\[\]{}+]|"
+WORD = re.compile(rb"(?P<gap>[\t-\r ]+|--[^\n\r]*)|(?P<run>[A-Za-z0-9_][A-Za-z0-9_']*)|(?P<sign>->|-o|[*()=,:.\[\]{}+^]|"
                   + "|".join(SIGNS).encode() + rb")|(?P<odd>[\xc0-\xff][\x80-\xbf]*|.)", re.DOTALL)
 #: words that an item may end with, and `type`
 ITEM_ENDS = ("type", "name", "part", "number", ")", "]", "}", "odd")

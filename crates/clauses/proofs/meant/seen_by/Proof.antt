@@ -1,9 +1,7 @@
 -- `clauses::seen_by` meets its contract. Assumes nothing.
-use Prim.Native.Nat.{_≤_}
 use mathlib.Core.Path.{sym, subst}
 use native.Mathlib.Omega.{arith}
-use lib.ListN.{length}
-use Rattle.clauses.specs.declared.rows.Row.{Row}
+use Rattle.clauses.specs.Follows.{RowThere}
 use Rattle.clauses.proofs.MeantLaws.{seen-above, seen-upto}
 use borrow.Author.Needs.{needs}
 use Rattle.clauses.proofs.meant.seen_by.Statement.{statement}
@@ -16,7 +14,10 @@ returns : tie.Need-returns
 returns c = seen-above (c .before .before .before .before .before .args .text .now) (c .before .before .before .before .before .args .work .now) (c .before .before .before .before .before .args .k) (c .before .before .row-at .result) (c .before .before .row-at .ensures) (c .if1 .taken)
 
 up-to-requires : tie.Need-up-to-requires
-up-to-requires c κs = (c .before .before .before .before .before .pre .0, subst (λ (r : Row). r .name ≤ length (c .before .before .before .before .before .args .text .now)) (sym (c .before .before .row-at .ensures)) (c .before .before .before .before .before .pre .0 .each (c .before .before .before .before .before .args .k) (c .before .before .before .before .before .pre .1) .inside))
+up-to-requires c κs =
+    let s = c .before .before .before .before .before in
+    let there : RowThere (s .args .text .now) (c .before .before .row-at .result) = subst (RowThere (s .args .text .now)) (sym (c .before .before .row-at .ensures)) (s .pre .0 .each (s .args .k) (s .pre .1)) in
+    (s .pre .0, (there .inside, there .key))
 
 returns-2 : tie.Need-returns-2
 returns-2 c = seen-upto (c .before .before .before .before .before .before .args .text .now) (c .before .before .before .before .before .before .args .work .now) (c .before .before .before .before .before .before .args .k) (c .before .before .before .row-at .result) (c .before .before .before .row-at .ensures) (c .before .if1 .left) (c .up-to .result) (c .up-to .ensures)

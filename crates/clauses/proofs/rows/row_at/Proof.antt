@@ -102,8 +102,20 @@ shared-slice-read-wide-7 c = search needs
 wide-requires-7 : tie.Need-wide-requires-7
 wide-requires-7 c κs = search needs
 
+add-wide-7 : tie.Need-add-wide-7
+add-wide-7 c = search needs
+
+mul-wide-8 : tie.Need-mul-wide-8
+mul-wide-8 c = search needs
+
+shared-slice-read-wide-8 : tie.Need-shared-slice-read-wide-8
+shared-slice-read-wide-8 c = search needs
+
+wide-requires-8 : tie.Need-wide-requires-8
+wide-requires-8 c κs = search needs
+
 returns : tie.Need-returns
-returns c = row-parts (rowIn (c .before .before .before .before .before .before .before .before .before .before .before .before .before .before .before .before .args .work .now) (c .before .before .before .before .before .before .before .before .before .before .before .before .before .before .before .before .args .k)) _ _ _ _ _ _ _ _ (c .before .before .before .before .before .before .before .before .before .before .before .before .before .wide .ensures) (c .before .before .before .before .before .before .before .before .before .before .before .wide2 .ensures) (c .before .before .before .before .before .before .before .before .before .wide3 .ensures) (c .before .before .before .before .before .before .before .wide4 .ensures) (c .before .before .before .before .before .wide5 .ensures) refl (c .before .before .wide6 .ensures) (c .wide7 .ensures)
+returns c = row-parts (rowIn (c .before .before .before .before .before .before .before .before .before .before .before .before .before .before .before .before .before .before .args .work .now) (c .before .before .before .before .before .before .before .before .before .before .before .before .before .before .before .before .before .before .args .k)) _ _ _ _ _ _ _ _ _ (c .before .before .before .before .before .before .before .before .before .before .before .before .before .before .before .wide .ensures) (c .before .before .before .before .before .before .before .before .before .before .before .before .before .wide2 .ensures) (c .before .before .before .before .before .before .before .before .before .before .before .wide3 .ensures) (c .before .before .before .before .before .before .before .before .before .wide4 .ensures) (c .before .before .before .before .before .before .before .wide5 .ensures) refl (c .before .before .before .before .wide6 .ensures) (c .before .before .wide7 .ensures) (c .wide8 .ensures)
 
 pub row-at-spec : {M : Type 1} → statement M
 row-at-spec =
@@ -141,4 +153,8 @@ row-at-spec =
     mul-wide-7
     shared-slice-read-wide-7
     wide-requires-7
+    add-wide-7
+    mul-wide-8
+    shared-slice-read-wide-8
+    wide-requires-8
     returns)

@@ -1,9 +1,8 @@
 -- `clauses::store` meets its contract: eight stores in a row are a run. Assumes nothing.
 use native.Mathlib.Omega.{arith}
-use mathlib.Core.Path.{_∙_}
 use Prim.Native.Nat.{_+_, _*_}
 use lib.ListN.{length-set}
-use Rattle.clauses.proofs.RowLaws.{eight-stores, same-flag}
+use Rattle.clauses.proofs.RowLaws.{eight-stores}
 use borrow.Author.Needs.{needs}
 use Rattle.clauses.proofs.rows.store.Statement.{statement}
 use Rattle.clauses.proofs.rows.store.Tie as tie
@@ -71,8 +70,8 @@ mul-work-5 c = search needs
 slice-write-work-5 : tie.Need-slice-write-work-5
 slice-write-work-5 c = simp length-set (omega arith)
 
-flag-requires : tie.Need-flag-requires
-flag-requires c κs = search needs
+cast-work-6 : tie.Need-cast-work-6
+cast-work-6 c = search needs
 
 add-work-5 : tie.Need-add-work-5
 add-work-5 c = search needs
@@ -83,8 +82,8 @@ mul-work-6 c = search needs
 slice-write-work-6 : tie.Need-slice-write-work-6
 slice-write-work-6 c = simp length-set (omega arith)
 
-cast-work-6 : tie.Need-cast-work-6
-cast-work-6 c = search needs
+cast-work-7 : tie.Need-cast-work-7
+cast-work-7 c = search needs
 
 add-work-6 : tie.Need-add-work-6
 add-work-6 c = search needs
@@ -95,8 +94,8 @@ mul-work-7 c = search needs
 slice-write-work-7 : tie.Need-slice-write-work-7
 slice-write-work-7 c = simp length-set (omega arith)
 
-cast-work-7 : tie.Need-cast-work-7
-cast-work-7 c = search needs
+cast-work-8 : tie.Need-cast-work-8
+cast-work-8 c = search needs
 
 add-work-7 : tie.Need-add-work-7
 add-work-7 c = search needs
@@ -111,7 +110,7 @@ same-length : tie.Need-same-length
 same-length c = simp length-set
 
 returns : tie.Need-returns
-returns c = eight-stores (c .before .before .before .before .before .before .before .before .before .args .work .now) (21504 + 8 * c .before .before .before .before .before .before .before .before .before .args .k) _ _ _ _ _ _ _ _ ∙ same-flag (c .before .before .before .before .before .before .before .before .before .args .work .now) (21504 + 8 * c .before .before .before .before .before .before .before .before .before .args .k) (c .before .before .before .before .before .before .before .before .before .args .r) (c .before .before .flag .result) (c .before .before .flag .ensures)
+returns c = eight-stores (c .before .before .before .before .before .before .before .before .args .work .now) (21504 + 8 * c .before .before .before .before .before .before .before .before .args .k) _ _ _ _ _ _ _ _
 
 pub store-spec : {M : Type 1} → statement M
 store-spec =
@@ -138,15 +137,15 @@ store-spec =
     add-work-4
     mul-work-5
     slice-write-work-5
-    flag-requires
+    cast-work-6
     add-work-5
     mul-work-6
     slice-write-work-6
-    cast-work-6
+    cast-work-7
     add-work-6
     mul-work-7
     slice-write-work-7
-    cast-work-7
+    cast-work-8
     add-work-7
     mul-work-8
     slice-write-work-8

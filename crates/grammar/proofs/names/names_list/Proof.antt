@@ -30,11 +30,11 @@ loop-holds c = λ n h. list-first (c .before .before .args .text .now) (c .befor
 word-at-requires : tie.Need-word-at-requires Inv-loop μ-loop
 word-at-requires c κs = c .before .before .loop .inv (length (from (c .before .before .before .before .before .args .text .now) (c .before .before .before .before .before .args .at)) + 1) (omega arith) .ends .reaches (c .if1 .taken) .lexed
 
-expect-requires : tie.Need-expect-requires Inv-loop μ-loop
-expect-requires c κs = (c .before .before .before .before .before .loop .inv (length (from (c .before .before .before .before .before .before .before .before .args .text .now) (c .before .before .before .before .before .before .before .before .args .at)) + 1) (omega arith) .ends .reaches (c .before .before .before .if1 .taken) .lexed, c .before .before .before .before .before .before .before .before .pre .1)
+expect-word-requires : tie.Need-expect-word-requires Inv-loop μ-loop
+expect-word-requires c κs = tt
 
 returns : tie.Need-returns Inv-loop μ-loop
-returns c = λ n h. ends-as (c .before .before .before .before .before .before .before .before .before .args .text .now) _ _ _ _ (c .expect .result) (omega (arith, c .before .before .before .before .before .before .loop .inv n h .ends .reaches (c .before .before .before .before .if1 .taken) .fewer, c .before .before .before .before .before .before .loop .inv n h .within)) (loop-stop (c .before .before .before .before .before .before .before .before .before .args .text .now) (listMore nameEnd) (λ us. is comma us) (λ us. nameEnd (behind us)) (λ r us. refl) (λ us. expectCode (c .before .before .before .before .before .before .before .before .before .args .closes) us) (namesList (c .before .before .before .before .before .before .before .before .before .args .closes) n (from (c .before .before .before .before .before .before .before .before .before .args .text .now) (c .before .before .before .before .before .before .before .before .before .args .at))) (length (from (c .before .before .before .before .before .before .before .before .before .args .text .now) (c .before .before .before .before .before .before .before .before .before .args .at))) (c .before .before .before .before .before .before .loop .x) (c .before .before .before .before .before .before .loop .inv n h) (c .before .before .before .before .if1 .taken) (is-no (c .before .before .before .before .before .before .before .before .before .args .text .now) (c .before .before .before .before .before .before .loop .x .at) (saidWord (c .before .before .before .word-at .result)) (c .before .before .before .word-at .ensures) comma (c .before .if2 .taken))) (c .expect .ensures)
+returns c = λ n h. ends-as (c .before .before .before .before .before .before .before .before .before .args .text .now) _ _ _ _ (c .expect-word .result) (omega (arith, c .before .before .before .before .before .before .loop .inv n h .ends .reaches (c .before .before .before .before .if1 .taken) .fewer, c .before .before .before .before .before .before .loop .inv n h .within)) (loop-stop (c .before .before .before .before .before .before .before .before .before .args .text .now) (listMore nameEnd) (λ us. is comma us) (λ us. nameEnd (behind us)) (λ r us. refl) (λ us. expectCode (c .before .before .before .before .before .before .before .before .before .args .closes) us) (namesList (c .before .before .before .before .before .before .before .before .before .args .closes) n (from (c .before .before .before .before .before .before .before .before .before .args .text .now) (c .before .before .before .before .before .before .before .before .before .args .at))) (length (from (c .before .before .before .before .before .before .before .before .before .args .text .now) (c .before .before .before .before .before .before .before .before .before .args .at))) (c .before .before .before .before .before .before .loop .x) (c .before .before .before .before .before .before .loop .inv n h) (c .before .before .before .before .if1 .taken) (is-no (c .before .before .before .before .before .before .before .before .before .args .text .now) (c .before .before .before .before .before .before .loop .x .at) (saidWord (c .before .before .before .word-at .result)) (c .before .before .before .word-at .ensures) comma (c .before .if2 .taken))) (c .expect-word .ensures (c .before .before .before .before .before .before .before .before .before .args .text .now) (c .before .before .before .before .before .before .loop .x .at) (c .before .before .before .word-at .ensures) (c .before .before .before .before .before .before .before .before .before .pre .1))
 
 name-end-requires-2 : tie.Need-name-end-requires-2 Inv-loop μ-loop
 name-end-requires-2 c κs = (c .before .before .word-at .ensures .onward (λ z. omega (arith, c .if2 .left))) .lexed
@@ -57,7 +57,7 @@ names-list-spec =
     name-end-requires
     loop-holds
     word-at-requires
-    expect-requires
+    expect-word-requires
     returns
     name-end-requires-2
     loop-less

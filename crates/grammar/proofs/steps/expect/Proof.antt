@@ -1,21 +1,16 @@
--- `grammar::expect` meets its contract, by the word's code. Assumes nothing.
-use Rattle.grammar.proofs.StepLaws.{expect-good, expect-bad}
+-- `grammar::expect` meets its contract: the word is that which stands at the offset. Assumes nothing.
 use borrow.Author.Needs.{needs}
-use Rattle.words.specs.Next.{saidWord}
 use Rattle.grammar.proofs.steps.expect.Statement.{statement}
 use Rattle.grammar.proofs.steps.expect.Tie as tie
 
 word-at-requires : tie.Need-word-at-requires
 word-at-requires c κs = search needs
 
+expect-word-requires : tie.Need-expect-word-requires
+expect-word-requires c κs = search needs
+
 returns : tie.Need-returns
-returns c = expect-good (c .before .before .before .before .args .text .now) (c .before .before .before .before .args .at) (saidWord (c .before .before .word-at .result)) (c .before .before .word-at .ensures) (c .before .before .before .before .args .sign) (c .if1 .taken) (c .before .before .before .before .pre .1)
-
-refused-requires : tie.Need-refused-requires
-refused-requires c κs = search needs
-
-returns-2 : tie.Need-returns-2
-returns-2 c = expect-bad (c .before .before .before .before .before .args .text .now) (c .before .before .before .before .before .args .at) (saidWord (c .before .before .before .word-at .result)) (c .before .before .before .word-at .ensures) (c .before .before .before .before .before .args .sign) (c .before .if1 .left) (c .refused .result) (c .refused .ensures)
+returns c = c .expect-word .ensures (c .before .before .before .args .text .now) (c .before .before .before .args .at) (c .before .word-at .ensures) (c .before .before .before .pre .1)
 
 pub expect-spec : {M : Type 1} → statement M
-expect-spec = tie.close (tie.spec word-at-requires returns refused-requires returns-2)
+expect-spec = tie.close (tie.spec word-at-requires expect-word-requires returns)

@@ -37,11 +37,11 @@ loop-holds c = group-first (c .before .before .before .before .before .args .tex
 word-at-requires-2 : tie.Need-word-at-requires-2 Inv-loop μ-loop
 word-at-requires-2 c κs = c .before .before .loop .inv .ends .reaches (c .if2 .taken) .lexed
 
-expect-requires : tie.Need-expect-requires Inv-loop μ-loop
-expect-requires c κs = (c .before .before .before .before .before .loop .inv .ends .reaches (c .before .before .before .if2 .taken) .lexed, omega arith)
+expect-word-requires : tie.Need-expect-word-requires Inv-loop μ-loop
+expect-word-requires c κs = tt
 
 returns-2 : tie.Need-returns-2 Inv-loop μ-loop
-returns-2 c = ends-as (c .before .before .before .before .before .before .before .before .before .before .before .before .args .text .now) _ _ _ _ (c .expect .result) (omega (arith, c .before .before .before .before .before .before .loop .inv .ends .reaches (c .before .before .before .before .if2 .taken) .fewer, c .before .before .before .before .before .before .loop .inv .within)) (loop-stop (c .before .before .before .before .before .before .before .before .before .before .before .before .args .text .now) (listMore numberEnd) (λ us. is comma us) (λ us. numberEnd (behind us)) (λ r us. refl) (λ us. expect endCurly us) (groupEnd curly endCurly numberEnd (from (c .before .before .before .before .before .before .before .before .before .before .before .before .args .text .now) (c .before .before .before .before .before .before .before .before .before .before .before .before .args .at))) (length (from (c .before .before .before .before .before .before .before .before .before .before .before .before .args .text .now) (c .before .before .before .before .before .before .before .before .before .before .before .before .args .at))) (c .before .before .before .before .before .before .loop .k) (c .before .before .before .before .before .before .loop .inv) (c .before .before .before .before .if2 .taken) (is-no (c .before .before .before .before .before .before .before .before .before .before .before .before .args .text .now) (c .before .before .before .before .before .before .loop .k .at) (saidWord (c .before .before .before .word-at2 .result)) (c .before .before .before .word-at2 .ensures) comma (c .before .if3 .taken)) ∙ expect-code endCurly (from (c .before .before .before .before .before .before .before .before .before .before .before .before .args .text .now) (c .before .before .before .before .before .before .loop .k .at))) (c .expect .ensures)
+returns-2 c = ends-as (c .before .before .before .before .before .before .before .before .before .before .before .before .args .text .now) _ _ _ _ (c .expect-word .result) (omega (arith, c .before .before .before .before .before .before .loop .inv .ends .reaches (c .before .before .before .before .if2 .taken) .fewer, c .before .before .before .before .before .before .loop .inv .within)) (loop-stop (c .before .before .before .before .before .before .before .before .before .before .before .before .args .text .now) (listMore numberEnd) (λ us. is comma us) (λ us. numberEnd (behind us)) (λ r us. refl) (λ us. expect endCurly us) (groupEnd curly endCurly numberEnd (from (c .before .before .before .before .before .before .before .before .before .before .before .before .args .text .now) (c .before .before .before .before .before .before .before .before .before .before .before .before .args .at))) (length (from (c .before .before .before .before .before .before .before .before .before .before .before .before .args .text .now) (c .before .before .before .before .before .before .before .before .before .before .before .before .args .at))) (c .before .before .before .before .before .before .loop .k) (c .before .before .before .before .before .before .loop .inv) (c .before .before .before .before .if2 .taken) (is-no (c .before .before .before .before .before .before .before .before .before .before .before .before .args .text .now) (c .before .before .before .before .before .before .loop .k .at) (saidWord (c .before .before .before .word-at2 .result)) (c .before .before .before .word-at2 .ensures) comma (c .before .if3 .taken)) ∙ expect-code endCurly (from (c .before .before .before .before .before .before .before .before .before .before .before .before .args .text .now) (c .before .before .before .before .before .before .loop .k .at))) (c .expect-word .ensures (c .before .before .before .before .before .before .before .before .before .before .before .before .args .text .now) (c .before .before .before .before .before .before .loop .k .at) (c .before .before .before .word-at2 .ensures) (omega arith))
 
 number-end-requires-2 : tie.Need-number-end-requires-2 Inv-loop μ-loop
 number-end-requires-2 c κs = (c .before .before .word-at2 .ensures .onward (λ z. omega (arith, c .if3 .left))) .lexed
@@ -67,7 +67,7 @@ numbers-end-spec =
     number-end-requires
     loop-holds
     word-at-requires-2
-    expect-requires
+    expect-word-requires
     returns-2
     number-end-requires-2
     loop-less

@@ -40,7 +40,7 @@ use Rattle.grammar.proofs.terms.tuple_end.Kinds as tuple-end-kinds
 use Rattle.grammar.proofs.terms.+atom_end+bound_end+let_body_end+spine_end+term_end+tuple_end.Lts-tuple_end as tuple-end-lts
 use Rattle.grammar.proofs.heads.begins_atom.Reads as begins-atom-reads
 use Rattle.grammar.proofs.names.let_names_end.Reads as let-names-end-reads
-use Rattle.grammar.proofs.names.names_end.Reads as names-end-reads
+use Rattle.grammar.proofs.names.binds_end.Reads as binds-end-reads
 use Rattle.grammar.proofs.steps.expect.Reads as expect-reads
 use Rattle.grammar.proofs.steps.name_end.Reads as name-end-reads
 use Rattle.grammar.proofs.steps.refused.Reads as refused-reads
@@ -434,8 +434,8 @@ term-end-word-at-requires : (t : ℕ) → term-end-lts.Need-word-at-requires (
   word-at-reads.Learnt,
   refused-reads.Asked,
   refused-reads.Learnt,
-  names-end-reads.Asked,
-  names-end-reads.Learnt,
+  binds-end-reads.Asked,
+  binds-end-reads.Learnt,
   bound-end-below t,
   bound-end.Post,
   name-end-reads.Asked,
@@ -454,8 +454,8 @@ term-end-refused-requires : (t : ℕ) → term-end-lts.Need-refused-requires (
   word-at-reads.Learnt,
   refused-reads.Asked,
   refused-reads.Learnt,
-  names-end-reads.Asked,
-  names-end-reads.Learnt,
+  binds-end-reads.Asked,
+  binds-end-reads.Learnt,
   bound-end-below t,
   bound-end.Post,
   name-end-reads.Asked,
@@ -474,8 +474,8 @@ term-end-returns : (t : ℕ) → term-end-lts.Need-returns (
   word-at-reads.Learnt,
   refused-reads.Asked,
   refused-reads.Learnt,
-  names-end-reads.Asked,
-  names-end-reads.Learnt,
+  binds-end-reads.Asked,
+  binds-end-reads.Learnt,
   bound-end-below t,
   bound-end.Post,
   name-end-reads.Asked,
@@ -489,13 +489,13 @@ term-end-returns : (t : ℕ) → term-end-lts.Need-returns (
 ) (term-end-at t) term-end.Post
 term-end-returns t c = term-deep (c .before .before .before .before .args .text .now) (c .before .before .before .before .args .at) (c .before .before .before .before .args .more) (saidWord (c .before .before .word-at .result)) (c .before .before .word-at .ensures) (c .before .if1 .taken) (c .refused .result) (c .refused .ensures)
 
-term-end-names-end-requires : (t : ℕ) → term-end-lts.Need-names-end-requires (
+term-end-binds-end-requires : (t : ℕ) → term-end-lts.Need-binds-end-requires (
   word-at-reads.Asked,
   word-at-reads.Learnt,
   refused-reads.Asked,
   refused-reads.Learnt,
-  names-end-reads.Asked,
-  names-end-reads.Learnt,
+  binds-end-reads.Asked,
+  binds-end-reads.Learnt,
   bound-end-below t,
   bound-end.Post,
   name-end-reads.Asked,
@@ -507,15 +507,15 @@ term-end-names-end-requires : (t : ℕ) → term-end-lts.Need-names-end-requires
   spine-end-below t,
   spine-end.Post,
 ) (term-end-at t) term-end.Post
-term-end-names-end-requires t c κs = c .before .before .before .word-at .ensures .onward (λ z. omega (arith, c .if2 .taken)) .lexed
+term-end-binds-end-requires t c κs = c .before .before .before .word-at .ensures .onward (λ z. omega (arith, c .if2 .taken)) .lexed
 
 term-end-returns-2 : (t : ℕ) → term-end-lts.Need-returns-2 (
   word-at-reads.Asked,
   word-at-reads.Learnt,
   refused-reads.Asked,
   refused-reads.Learnt,
-  names-end-reads.Asked,
-  names-end-reads.Learnt,
+  binds-end-reads.Asked,
+  binds-end-reads.Learnt,
   bound-end-below t,
   bound-end.Post,
   name-end-reads.Asked,
@@ -527,15 +527,15 @@ term-end-returns-2 : (t : ℕ) → term-end-lts.Need-returns-2 (
   spine-end-below t,
   spine-end.Post,
 ) (term-end-at t) term-end.Post
-term-end-returns-2 t c = along-stop (c .before .before .before .before .before .before .before .before .args .text .now) (length (from (c .before .before .before .before .before .before .before .before .args .text .now) (c .before .before .before .before .before .before .before .before .args .at))) (termStep (c .before .before .before .before .before .before .before .before .args .more) (from (c .before .before .before .before .before .before .before .before .args .text .now) (c .before .before .before .before .before .before .before .before .args .at))) (λ us. boundEnd (termStep (c .before .before .before .before .before .before .before .before .args .more - 1)) (typeStep (c .before .before .before .before .before .before .before .before .args .more - 1) false) us) (c .before .before .names-end .result) (term-fun (c .before .before .before .before .before .before .before .before .args .text .now) (c .before .before .before .before .before .before .before .before .args .at) (c .before .before .before .before .before .before .before .before .args .more) (saidWord (c .before .before .before .before .before .before .word-at .result)) (c .before .before .before .before .before .before .word-at .ensures) (c .before .before .before .before .before .if1 .left) (c .before .before .before .if2 .taken) (c .before .before .names-end .result) (c .before .before .names-end .ensures)) (c .if3 .taken)
+term-end-returns-2 t c = along-stop (c .before .before .before .before .before .before .before .before .args .text .now) (length (from (c .before .before .before .before .before .before .before .before .args .text .now) (c .before .before .before .before .before .before .before .before .args .at))) (termStep (c .before .before .before .before .before .before .before .before .args .more) (from (c .before .before .before .before .before .before .before .before .args .text .now) (c .before .before .before .before .before .before .before .before .args .at))) (λ us. boundEnd (termStep (c .before .before .before .before .before .before .before .before .args .more - 1)) (typeStep (c .before .before .before .before .before .before .before .before .args .more - 1) false) us) (c .before .before .binds-end .result) (term-fun (c .before .before .before .before .before .before .before .before .args .text .now) (c .before .before .before .before .before .before .before .before .args .at) (c .before .before .before .before .before .before .before .before .args .more) (saidWord (c .before .before .before .before .before .before .word-at .result)) (c .before .before .before .before .before .before .word-at .ensures) (c .before .before .before .before .before .if1 .left) (c .before .before .before .if2 .taken) (c .before .before .binds-end .result) (c .before .before .binds-end .ensures)) (c .if3 .taken)
 
 term-end-sub-bound-end : (t : ℕ) → term-end-lts.Need-sub-bound-end (
   word-at-reads.Asked,
   word-at-reads.Learnt,
   refused-reads.Asked,
   refused-reads.Learnt,
-  names-end-reads.Asked,
-  names-end-reads.Learnt,
+  binds-end-reads.Asked,
+  binds-end-reads.Learnt,
   bound-end-below t,
   bound-end.Post,
   name-end-reads.Asked,
@@ -554,8 +554,8 @@ term-end-bound-end-requires : (t : ℕ) → term-end-lts.Need-bound-end-requires
   word-at-reads.Learnt,
   refused-reads.Asked,
   refused-reads.Learnt,
-  names-end-reads.Asked,
-  names-end-reads.Learnt,
+  binds-end-reads.Asked,
+  binds-end-reads.Learnt,
   bound-end-below t,
   bound-end.Post,
   name-end-reads.Asked,
@@ -567,15 +567,15 @@ term-end-bound-end-requires : (t : ℕ) → term-end-lts.Need-bound-end-requires
   spine-end-below t,
   spine-end.Post,
 ) (term-end-at t) term-end.Post
-term-end-bound-end-requires t c κs = (omega (arith, c .before .before .before .before .before .before .before .before .pre .0, c .before .before .before .before .before .if1 .left), along-lexed (c .before .before .before .before .before .before .before .before .args .text .now) (length (from (c .before .before .before .before .before .before .before .before .args .text .now) (c .before .before .before .before .before .before .before .before .args .at))) (termStep (c .before .before .before .before .before .before .before .before .args .more) (from (c .before .before .before .before .before .before .before .before .args .text .now) (c .before .before .before .before .before .before .before .before .args .at))) (λ us. boundEnd (termStep (c .before .before .before .before .before .before .before .before .args .more - 1)) (typeStep (c .before .before .before .before .before .before .before .before .args .more - 1) false) us) (c .before .before .names-end .result) (term-fun (c .before .before .before .before .before .before .before .before .args .text .now) (c .before .before .before .before .before .before .before .before .args .at) (c .before .before .before .before .before .before .before .before .args .more) (saidWord (c .before .before .before .before .before .before .word-at .result)) (c .before .before .before .before .before .before .word-at .ensures) (c .before .before .before .before .before .if1 .left) (c .before .before .before .if2 .taken) (c .before .before .names-end .result) (c .before .before .names-end .ensures)) (c .if3 .left))
+term-end-bound-end-requires t c κs = (omega (arith, c .before .before .before .before .before .before .before .before .pre .0, c .before .before .before .before .before .if1 .left), along-lexed (c .before .before .before .before .before .before .before .before .args .text .now) (length (from (c .before .before .before .before .before .before .before .before .args .text .now) (c .before .before .before .before .before .before .before .before .args .at))) (termStep (c .before .before .before .before .before .before .before .before .args .more) (from (c .before .before .before .before .before .before .before .before .args .text .now) (c .before .before .before .before .before .before .before .before .args .at))) (λ us. boundEnd (termStep (c .before .before .before .before .before .before .before .before .args .more - 1)) (typeStep (c .before .before .before .before .before .before .before .before .args .more - 1) false) us) (c .before .before .binds-end .result) (term-fun (c .before .before .before .before .before .before .before .before .args .text .now) (c .before .before .before .before .before .before .before .before .args .at) (c .before .before .before .before .before .before .before .before .args .more) (saidWord (c .before .before .before .before .before .before .word-at .result)) (c .before .before .before .before .before .before .word-at .ensures) (c .before .before .before .before .before .if1 .left) (c .before .before .before .if2 .taken) (c .before .before .binds-end .result) (c .before .before .binds-end .ensures)) (c .if3 .left))
 
 term-end-returns-3 : (t : ℕ) → term-end-lts.Need-returns-3 (
   word-at-reads.Asked,
   word-at-reads.Learnt,
   refused-reads.Asked,
   refused-reads.Learnt,
-  names-end-reads.Asked,
-  names-end-reads.Learnt,
+  binds-end-reads.Asked,
+  binds-end-reads.Learnt,
   bound-end-below t,
   bound-end.Post,
   name-end-reads.Asked,
@@ -587,15 +587,15 @@ term-end-returns-3 : (t : ℕ) → term-end-lts.Need-returns-3 (
   spine-end-below t,
   spine-end.Post,
 ) (term-end-at t) term-end.Post
-term-end-returns-3 t c = along-last (c .before .before .before .before .before .before .before .before .before .args .text .now) (length (from (c .before .before .before .before .before .before .before .before .before .args .text .now) (c .before .before .before .before .before .before .before .before .before .args .at))) (termStep (c .before .before .before .before .before .before .before .before .before .args .more) (from (c .before .before .before .before .before .before .before .before .before .args .text .now) (c .before .before .before .before .before .before .before .before .before .args .at))) (λ us. boundEnd (termStep (c .before .before .before .before .before .before .before .before .before .args .more - 1)) (typeStep (c .before .before .before .before .before .before .before .before .before .args .more - 1) false) us) (c .before .before .before .names-end .result) (c .bound-end .result) (term-fun (c .before .before .before .before .before .before .before .before .before .args .text .now) (c .before .before .before .before .before .before .before .before .before .args .at) (c .before .before .before .before .before .before .before .before .before .args .more) (saidWord (c .before .before .before .before .before .before .before .word-at .result)) (c .before .before .before .before .before .before .before .word-at .ensures) (c .before .before .before .before .before .before .if1 .left) (c .before .before .before .before .if2 .taken) (c .before .before .before .names-end .result) (c .before .before .before .names-end .ensures)) (c .before .if3 .left) (c .bound-end .ensures)
+term-end-returns-3 t c = along-last (c .before .before .before .before .before .before .before .before .before .args .text .now) (length (from (c .before .before .before .before .before .before .before .before .before .args .text .now) (c .before .before .before .before .before .before .before .before .before .args .at))) (termStep (c .before .before .before .before .before .before .before .before .before .args .more) (from (c .before .before .before .before .before .before .before .before .before .args .text .now) (c .before .before .before .before .before .before .before .before .before .args .at))) (λ us. boundEnd (termStep (c .before .before .before .before .before .before .before .before .before .args .more - 1)) (typeStep (c .before .before .before .before .before .before .before .before .before .args .more - 1) false) us) (c .before .before .before .binds-end .result) (c .bound-end .result) (term-fun (c .before .before .before .before .before .before .before .before .before .args .text .now) (c .before .before .before .before .before .before .before .before .before .args .at) (c .before .before .before .before .before .before .before .before .before .args .more) (saidWord (c .before .before .before .before .before .before .before .word-at .result)) (c .before .before .before .before .before .before .before .word-at .ensures) (c .before .before .before .before .before .before .if1 .left) (c .before .before .before .before .if2 .taken) (c .before .before .before .binds-end .result) (c .before .before .before .binds-end .ensures)) (c .before .if3 .left) (c .bound-end .ensures)
 
 term-end-name-end-requires : (t : ℕ) → term-end-lts.Need-name-end-requires (
   word-at-reads.Asked,
   word-at-reads.Learnt,
   refused-reads.Asked,
   refused-reads.Learnt,
-  names-end-reads.Asked,
-  names-end-reads.Learnt,
+  binds-end-reads.Asked,
+  binds-end-reads.Learnt,
   bound-end-below t,
   bound-end.Post,
   name-end-reads.Asked,
@@ -614,8 +614,8 @@ term-end-returns-4 : (t : ℕ) → term-end-lts.Need-returns-4 (
   word-at-reads.Learnt,
   refused-reads.Asked,
   refused-reads.Learnt,
-  names-end-reads.Asked,
-  names-end-reads.Learnt,
+  binds-end-reads.Asked,
+  binds-end-reads.Learnt,
   bound-end-below t,
   bound-end.Post,
   name-end-reads.Asked,
@@ -634,8 +634,8 @@ term-end-sub-bound-end-2 : (t : ℕ) → term-end-lts.Need-sub-bound-end-2 (
   word-at-reads.Learnt,
   refused-reads.Asked,
   refused-reads.Learnt,
-  names-end-reads.Asked,
-  names-end-reads.Learnt,
+  binds-end-reads.Asked,
+  binds-end-reads.Learnt,
   bound-end-below t,
   bound-end.Post,
   name-end-reads.Asked,
@@ -654,8 +654,8 @@ term-end-bound-end-requires-2 : (t : ℕ) → term-end-lts.Need-bound-end-requir
   word-at-reads.Learnt,
   refused-reads.Asked,
   refused-reads.Learnt,
-  names-end-reads.Asked,
-  names-end-reads.Learnt,
+  binds-end-reads.Asked,
+  binds-end-reads.Learnt,
   bound-end-below t,
   bound-end.Post,
   name-end-reads.Asked,
@@ -674,8 +674,8 @@ term-end-returns-5 : (t : ℕ) → term-end-lts.Need-returns-5 (
   word-at-reads.Learnt,
   refused-reads.Asked,
   refused-reads.Learnt,
-  names-end-reads.Asked,
-  names-end-reads.Learnt,
+  binds-end-reads.Asked,
+  binds-end-reads.Learnt,
   bound-end-below t,
   bound-end.Post,
   name-end-reads.Asked,
@@ -694,8 +694,8 @@ term-end-let-names-end-requires : (t : ℕ) → term-end-lts.Need-let-names-end-
   word-at-reads.Learnt,
   refused-reads.Asked,
   refused-reads.Learnt,
-  names-end-reads.Asked,
-  names-end-reads.Learnt,
+  binds-end-reads.Asked,
+  binds-end-reads.Learnt,
   bound-end-below t,
   bound-end.Post,
   name-end-reads.Asked,
@@ -714,8 +714,8 @@ term-end-returns-6 : (t : ℕ) → term-end-lts.Need-returns-6 (
   word-at-reads.Learnt,
   refused-reads.Asked,
   refused-reads.Learnt,
-  names-end-reads.Asked,
-  names-end-reads.Learnt,
+  binds-end-reads.Asked,
+  binds-end-reads.Learnt,
   bound-end-below t,
   bound-end.Post,
   name-end-reads.Asked,
@@ -734,8 +734,8 @@ term-end-sub-let-body-end : (t : ℕ) → term-end-lts.Need-sub-let-body-end (
   word-at-reads.Learnt,
   refused-reads.Asked,
   refused-reads.Learnt,
-  names-end-reads.Asked,
-  names-end-reads.Learnt,
+  binds-end-reads.Asked,
+  binds-end-reads.Learnt,
   bound-end-below t,
   bound-end.Post,
   name-end-reads.Asked,
@@ -754,8 +754,8 @@ term-end-let-body-end-requires : (t : ℕ) → term-end-lts.Need-let-body-end-re
   word-at-reads.Learnt,
   refused-reads.Asked,
   refused-reads.Learnt,
-  names-end-reads.Asked,
-  names-end-reads.Learnt,
+  binds-end-reads.Asked,
+  binds-end-reads.Learnt,
   bound-end-below t,
   bound-end.Post,
   name-end-reads.Asked,
@@ -774,8 +774,8 @@ term-end-returns-7 : (t : ℕ) → term-end-lts.Need-returns-7 (
   word-at-reads.Learnt,
   refused-reads.Asked,
   refused-reads.Learnt,
-  names-end-reads.Asked,
-  names-end-reads.Learnt,
+  binds-end-reads.Asked,
+  binds-end-reads.Learnt,
   bound-end-below t,
   bound-end.Post,
   name-end-reads.Asked,
@@ -794,8 +794,8 @@ term-end-sub-spine-end : (t : ℕ) → term-end-lts.Need-sub-spine-end (
   word-at-reads.Learnt,
   refused-reads.Asked,
   refused-reads.Learnt,
-  names-end-reads.Asked,
-  names-end-reads.Learnt,
+  binds-end-reads.Asked,
+  binds-end-reads.Learnt,
   bound-end-below t,
   bound-end.Post,
   name-end-reads.Asked,
@@ -814,8 +814,8 @@ term-end-spine-end-requires : (t : ℕ) → term-end-lts.Need-spine-end-requires
   word-at-reads.Learnt,
   refused-reads.Asked,
   refused-reads.Learnt,
-  names-end-reads.Asked,
-  names-end-reads.Learnt,
+  binds-end-reads.Asked,
+  binds-end-reads.Learnt,
   bound-end-below t,
   bound-end.Post,
   name-end-reads.Asked,
@@ -834,8 +834,8 @@ term-end-returns-8 : (t : ℕ) → term-end-lts.Need-returns-8 (
   word-at-reads.Learnt,
   refused-reads.Asked,
   refused-reads.Learnt,
-  names-end-reads.Asked,
-  names-end-reads.Learnt,
+  binds-end-reads.Asked,
+  binds-end-reads.Learnt,
   bound-end-below t,
   bound-end.Post,
   name-end-reads.Asked,
@@ -1031,8 +1031,8 @@ pub +atom-end+bound-end+let-body-end+spine-end+term-end+tuple-end-spec : {M : Ty
       word-at-reads.Learnt,
       refused-reads.Asked,
       refused-reads.Learnt,
-      names-end-reads.Asked,
-      names-end-reads.Learnt,
+      binds-end-reads.Asked,
+      binds-end-reads.Learnt,
       bound-end-below t,
       bound-end.Post,
       name-end-reads.Asked,
@@ -1049,7 +1049,7 @@ pub +atom-end+bound-end+let-body-end+spine-end+term-end+tuple-end-spec : {M : Ty
     (term-end-word-at-requires t)
     (term-end-refused-requires t)
     (term-end-returns t)
-    (term-end-names-end-requires t)
+    (term-end-binds-end-requires t)
     (term-end-returns-2 t)
     (term-end-sub-bound-end t)
     (term-end-bound-end-requires t)

@@ -14,7 +14,7 @@ use Rattle.grammar.proofs.LoopLaws.{Loops, leftWords, left-less, loop-b
 use Rattle.words.specs.Next.{saidWord}
 use mathlib.Core.Bool.{true, false}
 use Rattle.grammar.specs.Ends.{typeStep}
-use Rattle.grammar.proofs.TypeLaws.{atom-name, atom-round, atom-one, atom-other, atom-none, product-on, product-none, arrow-on, linear-on, arrow-none, use-stop, use-on, inside-stop, inside-on, type-deep, type-stop, type-stop-product, type-tight, type-loose}
+use Rattle.grammar.proofs.TypeLaws.{atom-name, atom-round, atom-one, atom-other, atom-none, arrow-on, linear-on, arrow-none, use-numbers, use-none, use-stop, use-on, inside-stop, inside-on, type-deep, type-stop, type-times, type-tight, type-loose, times-stop, times-tight, times-loose}
 use borrow.Fn.Kinds.{In}
 use borrow.Fn.PlainCycle.{Measures, is, falls, and}
 use Rattle.grammar.proofs.types.arguments_end.Reads as arguments-end
@@ -39,8 +39,10 @@ use Rattle.grammar.proofs.types.use_end.Reads as use-end
 use Rattle.grammar.proofs.types.use_end.Kinds as use-end-kinds
 use Rattle.grammar.proofs.types.+arguments_end+arrow_end+atom_end+inside_end+product_end+type_end+use_end.Lts-use_end as use-end-lts
 use Rattle.grammar.proofs.steps.expect.Reads as expect-reads
+use Rattle.grammar.proofs.steps.expect_word.Reads as expect-word-reads
 use Rattle.grammar.proofs.steps.here.Reads as here-reads
 use Rattle.grammar.proofs.steps.numbers_end.Reads as numbers-end-reads
+use Rattle.grammar.proofs.steps.ones_end.Reads as ones-end-reads
 use Rattle.grammar.proofs.steps.refused.Reads as refused-reads
 use Rattle.words.proofs.word_at.Reads as word-at-reads
 use Rattle.grammar.proofs.types.+arguments_end+arrow_end+atom_end+inside_end+product_end+type_end+use_end.{
@@ -63,7 +65,7 @@ abbrev μ-inside-end : Measures 1 inside-end-kinds.ps ℕ
 μ-inside-end κs a = 8 * a .1 .1 .0 + 1
 
 abbrev μ-product-end : Measures 1 product-end-kinds.ps ℕ
-μ-product-end κs a = 8 * a .1 .1 .0 + 1
+μ-product-end κs a = 8 * a .1 .1 .0 + 2
 
 abbrev μ-type-end : Measures 1 type-end-kinds.ps ℕ
 μ-type-end κs a = 8 * a .1 .1 .0
@@ -139,8 +141,8 @@ arguments-end-word-at-requires : (t : ℕ) → arguments-end-lts.Need-word-at-re
   here-reads.Learnt,
   type-end-below t,
   type-end.Post,
-  expect-reads.Asked,
-  expect-reads.Learnt,
+  expect-word-reads.Asked,
+  expect-word-reads.Learnt,
 ) (arguments-end-at t) arguments-end.Post arguments-end-Inv-loop arguments-end-μ-loop
 arguments-end-word-at-requires t c κs = c .before .pre .1
 
@@ -151,8 +153,8 @@ arguments-end-here-requires : (t : ℕ) → arguments-end-lts.Need-here-requires
   here-reads.Learnt,
   type-end-below t,
   type-end.Post,
-  expect-reads.Asked,
-  expect-reads.Learnt,
+  expect-word-reads.Asked,
+  expect-word-reads.Learnt,
 ) (arguments-end-at t) arguments-end.Post arguments-end-Inv-loop arguments-end-μ-loop
 arguments-end-here-requires t c κs = c .before .before .before .before .pre .1
 
@@ -163,8 +165,8 @@ arguments-end-returns : (t : ℕ) → arguments-end-lts.Need-returns (
   here-reads.Learnt,
   type-end-below t,
   type-end.Post,
-  expect-reads.Asked,
-  expect-reads.Learnt,
+  expect-word-reads.Asked,
+  expect-word-reads.Learnt,
 ) (arguments-end-at t) arguments-end.Post arguments-end-Inv-loop arguments-end-μ-loop
 arguments-end-returns t c = ends-as (c .before .before .before .before .before .args .text .now) _ _ _ _ (c .here .result) (omega arith) (group-none (c .before .before .before .before .before .args .text .now) (c .before .before .before .before .before .args .at) (saidWord (c .before .before .before .word-at .result)) (c .before .before .before .word-at .ensures) square endSquare (typeStep (c .before .before .before .before .before .args .more) false) (c .before .if1 .taken)) (c .here .ensures)
 
@@ -175,8 +177,8 @@ arguments-end-type-end-requires : (t : ℕ) → arguments-end-lts.Need-type-end-
   here-reads.Learnt,
   type-end-below t,
   type-end.Post,
-  expect-reads.Asked,
-  expect-reads.Learnt,
+  expect-word-reads.Asked,
+  expect-word-reads.Learnt,
 ) (arguments-end-at t) arguments-end.Post arguments-end-Inv-loop arguments-end-μ-loop
 arguments-end-type-end-requires t c κs = (omega (arith, c .before .before .before .before .pre .0), c .before .before .word-at .ensures .onward (λ z. omega (arith, c .if1 .left)) .lexed)
 
@@ -187,8 +189,8 @@ arguments-end-loop-holds : (t : ℕ) → arguments-end-lts.Need-loop-holds (
   here-reads.Learnt,
   type-end-below t,
   type-end.Post,
-  expect-reads.Asked,
-  expect-reads.Learnt,
+  expect-word-reads.Asked,
+  expect-word-reads.Learnt,
 ) (arguments-end-at t) arguments-end.Post arguments-end-Inv-loop arguments-end-μ-loop
 arguments-end-loop-holds t c = group-first (c .before .before .before .before .before .args .text .now) (c .before .before .before .before .before .args .at) (saidWord (c .before .before .before .word-at .result)) (c .before .before .before .word-at .ensures) square endSquare (typeStep (c .before .before .before .before .before .args .more) false) (c .before .if1 .left) (λ z. omega (arith, c .before .if1 .left)) (c .type-end .result) (c .type-end .ensures)
 
@@ -199,22 +201,22 @@ arguments-end-word-at-requires-2 : (t : ℕ) → arguments-end-lts.Need-word-at-
   here-reads.Learnt,
   type-end-below t,
   type-end.Post,
-  expect-reads.Asked,
-  expect-reads.Learnt,
+  expect-word-reads.Asked,
+  expect-word-reads.Learnt,
 ) (arguments-end-at t) arguments-end.Post arguments-end-Inv-loop arguments-end-μ-loop
 arguments-end-word-at-requires-2 t c κs = c .before .before .loop .inv .ends .reaches (c .if2 .taken) .lexed
 
-arguments-end-expect-requires : (t : ℕ) → arguments-end-lts.Need-expect-requires (
+arguments-end-expect-word-requires : (t : ℕ) → arguments-end-lts.Need-expect-word-requires (
   word-at-reads.Asked,
   word-at-reads.Learnt,
   here-reads.Asked,
   here-reads.Learnt,
   type-end-below t,
   type-end.Post,
-  expect-reads.Asked,
-  expect-reads.Learnt,
+  expect-word-reads.Asked,
+  expect-word-reads.Learnt,
 ) (arguments-end-at t) arguments-end.Post arguments-end-Inv-loop arguments-end-μ-loop
-arguments-end-expect-requires t c κs = (c .before .before .before .before .before .loop .inv .ends .reaches (c .before .before .before .if2 .taken) .lexed, omega arith)
+arguments-end-expect-word-requires t c κs = tt
 
 arguments-end-returns-2 : (t : ℕ) → arguments-end-lts.Need-returns-2 (
   word-at-reads.Asked,
@@ -223,10 +225,10 @@ arguments-end-returns-2 : (t : ℕ) → arguments-end-lts.Need-returns-2 (
   here-reads.Learnt,
   type-end-below t,
   type-end.Post,
-  expect-reads.Asked,
-  expect-reads.Learnt,
+  expect-word-reads.Asked,
+  expect-word-reads.Learnt,
 ) (arguments-end-at t) arguments-end.Post arguments-end-Inv-loop arguments-end-μ-loop
-arguments-end-returns-2 t c = ends-as (c .before .before .before .before .before .before .before .before .before .before .before .before .args .text .now) _ _ _ _ (c .expect .result) (omega (arith, c .before .before .before .before .before .before .loop .inv .ends .reaches (c .before .before .before .before .if2 .taken) .fewer, c .before .before .before .before .before .before .loop .inv .within)) (loop-stop (c .before .before .before .before .before .before .before .before .before .before .before .before .args .text .now) (listMore (typeStep (c .before .before .before .before .before .before .before .before .before .before .before .before .args .more) false)) (λ us. isSign comma us) (λ us. typeStep (c .before .before .before .before .before .before .before .before .before .before .before .before .args .more) false (behind us)) (λ r us. refl) (λ us. expect endSquare us) (groupEnd square endSquare (typeStep (c .before .before .before .before .before .before .before .before .before .before .before .before .args .more) false) (from (c .before .before .before .before .before .before .before .before .before .before .before .before .args .text .now) (c .before .before .before .before .before .before .before .before .before .before .before .before .args .at))) (length (from (c .before .before .before .before .before .before .before .before .before .before .before .before .args .text .now) (c .before .before .before .before .before .before .before .before .before .before .before .before .args .at))) (c .before .before .before .before .before .before .loop .t) (c .before .before .before .before .before .before .loop .inv) (c .before .before .before .before .if2 .taken) (is-no (c .before .before .before .before .before .before .before .before .before .before .before .before .args .text .now) (c .before .before .before .before .before .before .loop .t .at) (saidWord (c .before .before .before .word-at2 .result)) (c .before .before .before .word-at2 .ensures) comma (c .before .if3 .taken)) ∙ expect-code endSquare (from (c .before .before .before .before .before .before .before .before .before .before .before .before .args .text .now) (c .before .before .before .before .before .before .loop .t .at))) (c .expect .ensures)
+arguments-end-returns-2 t c = ends-as (c .before .before .before .before .before .before .before .before .before .before .before .before .args .text .now) _ _ _ _ (c .expect-word .result) (omega (arith, c .before .before .before .before .before .before .loop .inv .ends .reaches (c .before .before .before .before .if2 .taken) .fewer, c .before .before .before .before .before .before .loop .inv .within)) (loop-stop (c .before .before .before .before .before .before .before .before .before .before .before .before .args .text .now) (listMore (typeStep (c .before .before .before .before .before .before .before .before .before .before .before .before .args .more) false)) (λ us. isSign comma us) (λ us. typeStep (c .before .before .before .before .before .before .before .before .before .before .before .before .args .more) false (behind us)) (λ r us. refl) (λ us. expect endSquare us) (groupEnd square endSquare (typeStep (c .before .before .before .before .before .before .before .before .before .before .before .before .args .more) false) (from (c .before .before .before .before .before .before .before .before .before .before .before .before .args .text .now) (c .before .before .before .before .before .before .before .before .before .before .before .before .args .at))) (length (from (c .before .before .before .before .before .before .before .before .before .before .before .before .args .text .now) (c .before .before .before .before .before .before .before .before .before .before .before .before .args .at))) (c .before .before .before .before .before .before .loop .t) (c .before .before .before .before .before .before .loop .inv) (c .before .before .before .before .if2 .taken) (is-no (c .before .before .before .before .before .before .before .before .before .before .before .before .args .text .now) (c .before .before .before .before .before .before .loop .t .at) (saidWord (c .before .before .before .word-at2 .result)) (c .before .before .before .word-at2 .ensures) comma (c .before .if3 .taken)) ∙ expect-code endSquare (from (c .before .before .before .before .before .before .before .before .before .before .before .before .args .text .now) (c .before .before .before .before .before .before .loop .t .at))) (c .expect-word .ensures (c .before .before .before .before .before .before .before .before .before .before .before .before .args .text .now) (c .before .before .before .before .before .before .loop .t .at) (c .before .before .before .word-at2 .ensures) (omega arith))
 
 arguments-end-type-end-requires-2 : (t : ℕ) → arguments-end-lts.Need-type-end-requires-2 (
   word-at-reads.Asked,
@@ -235,8 +237,8 @@ arguments-end-type-end-requires-2 : (t : ℕ) → arguments-end-lts.Need-type-en
   here-reads.Learnt,
   type-end-below t,
   type-end.Post,
-  expect-reads.Asked,
-  expect-reads.Learnt,
+  expect-word-reads.Asked,
+  expect-word-reads.Learnt,
 ) (arguments-end-at t) arguments-end.Post arguments-end-Inv-loop arguments-end-μ-loop
 arguments-end-type-end-requires-2 t c κs = (omega (arith, c .before .before .before .before .before .before .before .before .before .before .before .pre .0), (c .before .before .word-at2 .ensures .onward (λ z. omega (arith, c .if3 .left))) .lexed)
 
@@ -247,8 +249,8 @@ arguments-end-loop-less : (t : ℕ) → arguments-end-lts.Need-loop-less (
   here-reads.Learnt,
   type-end-below t,
   type-end.Post,
-  expect-reads.Asked,
-  expect-reads.Learnt,
+  expect-word-reads.Asked,
+  expect-word-reads.Learnt,
 ) (arguments-end-at t) arguments-end.Post arguments-end-Inv-loop arguments-end-μ-loop
 arguments-end-loop-less t c = left-less (c .before .before .before .before .before .before .before .before .before .before .before .before .args .text .now) _ _ (c .before .before .before .before .before .before .loop .t) (c .type-end2 .result) (c .before .before .before .before .if2 .taken) (c .type-end2 .ensures) (omega (arith, (c .before .before .before .word-at2 .ensures .onward (λ z. omega (arith, c .before .if3 .left))) .fewer))
 
@@ -259,8 +261,8 @@ arguments-end-loop-again : (t : ℕ) → arguments-end-lts.Need-loop-again (
   here-reads.Learnt,
   type-end-below t,
   type-end.Post,
-  expect-reads.Asked,
-  expect-reads.Learnt,
+  expect-word-reads.Asked,
+  expect-word-reads.Learnt,
 ) (arguments-end-at t) arguments-end.Post arguments-end-Inv-loop arguments-end-μ-loop
 arguments-end-loop-again t c = loop-turn (c .before .before .before .before .before .before .before .before .before .before .before .before .args .text .now) (listMore (typeStep (c .before .before .before .before .before .before .before .before .before .before .before .before .args .more) false)) (λ us. isSign comma us) (λ us. typeStep (c .before .before .before .before .before .before .before .before .before .before .before .before .args .more) false (behind us)) (λ r us. refl) (λ us. expect endSquare us) (groupEnd square endSquare (typeStep (c .before .before .before .before .before .before .before .before .before .before .before .before .args .more) false) (from (c .before .before .before .before .before .before .before .before .before .before .before .before .args .text .now) (c .before .before .before .before .before .before .before .before .before .before .before .before .args .at))) (length (from (c .before .before .before .before .before .before .before .before .before .before .before .before .args .text .now) (c .before .before .before .before .before .before .before .before .before .before .before .before .args .at))) (c .before .before .before .before .before .before .loop .t) (c .before .before .before .before .before .before .loop .inv) (c .before .before .before .before .if2 .taken) (is-yes (c .before .before .before .before .before .before .before .before .before .before .before .before .args .text .now) (c .before .before .before .before .before .before .loop .t .at) (saidWord (c .before .before .before .word-at2 .result)) (c .before .before .before .word-at2 .ensures) comma (c .before .if3 .left)) _ (c .type-end2 .result) (ends-as (c .before .before .before .before .before .before .before .before .before .before .before .before .args .text .now) _ (length (from (c .before .before .before .before .before .before .before .before .before .before .before .before .args .text .now) (c .before .before .before .word-at2 .result .end))) _ _ (c .type-end2 .result) (omega arith) (ap (λ (us : List Word). typeStep (c .before .before .before .before .before .before .before .before .before .before .before .before .args .more) false us) ((c .before .before .before .word-at2 .ensures .onward (λ z. omega (arith, c .before .if3 .left))) .rest)) (c .type-end2 .ensures)) (omega (arith, (c .before .before .before .word-at2 .ensures .onward (λ z. omega (arith, c .before .if3 .left))) .fewer))
 
@@ -271,80 +273,58 @@ arguments-end-returns-3 : (t : ℕ) → arguments-end-lts.Need-returns-3 (
   here-reads.Learnt,
   type-end-below t,
   type-end.Post,
-  expect-reads.Asked,
-  expect-reads.Learnt,
+  expect-word-reads.Asked,
+  expect-word-reads.Learnt,
 ) (arguments-end-at t) arguments-end.Post arguments-end-Inv-loop arguments-end-μ-loop
 arguments-end-returns-3 t c = record { reaches = λ z. absurd (c .if2 .left z); refuses = λ z. loop-bad (c .before .before .before .before .before .before .before .before .args .text .now) (listMore (typeStep (c .before .before .before .before .before .before .before .before .args .more) false)) (λ us. isSign comma us) (λ us. typeStep (c .before .before .before .before .before .before .before .before .args .more) false (behind us)) (λ r us. refl) (λ us. expect endSquare us) (groupEnd square endSquare (typeStep (c .before .before .before .before .before .before .before .before .args .more) false) (from (c .before .before .before .before .before .before .before .before .args .text .now) (c .before .before .before .before .before .before .before .before .args .at))) (length (from (c .before .before .before .before .before .before .before .before .args .text .now) (c .before .before .before .before .before .before .before .before .args .at))) (c .before .before .loop .t) (c .before .before .loop .inv) z }
 
-arrow-end-word-at-requires : (t : ℕ) → arrow-end-lts.Need-word-at-requires (
-  word-at-reads.Asked,
-  word-at-reads.Learnt,
-  type-end-below t,
-  type-end.Post,
-  here-reads.Asked,
-  here-reads.Learnt,
-) (arrow-end-at t) arrow-end.Post
-arrow-end-word-at-requires t c κs = c .before .pre .1
-
 arrow-end-type-end-requires : (t : ℕ) → arrow-end-lts.Need-type-end-requires (
-  word-at-reads.Asked,
-  word-at-reads.Learnt,
   type-end-below t,
   type-end.Post,
   here-reads.Asked,
   here-reads.Learnt,
 ) (arrow-end-at t) arrow-end.Post
-arrow-end-type-end-requires t c κs = (omega (arith, c .before .before .before .before .pre .0), c .before .before .word-at .ensures .onward (λ z. omega (arith, c .if1 .taken)) .lexed)
+arrow-end-type-end-requires t c κs = (omega (arith, c .before .before .before .pre .0), c .before .before .before .pre .1 .1 .onward (λ z. omega (arith, c .if1 .taken)) .lexed)
 
 arrow-end-returns : (t : ℕ) → arrow-end-lts.Need-returns (
-  word-at-reads.Asked,
-  word-at-reads.Learnt,
   type-end-below t,
   type-end.Post,
   here-reads.Asked,
   here-reads.Learnt,
 ) (arrow-end-at t) arrow-end.Post
-arrow-end-returns t c = arrow-on (c .before .before .before .before .before .args .text .now) (c .before .before .before .before .before .args .at) (saidWord (c .before .before .before .word-at .result)) (c .before .before .before .word-at .ensures) (typeStep (c .before .before .before .before .before .args .more) false) (c .before .if1 .taken) (c .type-end .result) (c .type-end .ensures)
+arrow-end-returns t c = arrow-on (c .before .before .before .before .args .text .now) (c .before .before .before .before .args .at) (saidWord (c .before .before .before .before .args .w)) (c .before .before .before .before .pre .1 .1) (typeStep (c .before .before .before .before .args .more) false) (c .before .if1 .taken) (c .type-end .result) (c .type-end .ensures)
 
 arrow-end-type-end-requires-2 : (t : ℕ) → arrow-end-lts.Need-type-end-requires-2 (
-  word-at-reads.Asked,
-  word-at-reads.Learnt,
   type-end-below t,
   type-end.Post,
   here-reads.Asked,
   here-reads.Learnt,
 ) (arrow-end-at t) arrow-end.Post
-arrow-end-type-end-requires-2 t c κs = (omega (arith, c .before .before .before .before .before .before .pre .0), c .before .before .before .before .word-at .ensures .onward (λ z. omega (arith, c .if2 .taken)) .lexed)
+arrow-end-type-end-requires-2 t c κs = (omega (arith, c .before .before .before .before .before .pre .0), c .before .before .before .before .before .pre .1 .1 .onward (λ z. omega (arith, c .if2 .taken)) .lexed)
 
 arrow-end-returns-2 : (t : ℕ) → arrow-end-lts.Need-returns-2 (
-  word-at-reads.Asked,
-  word-at-reads.Learnt,
   type-end-below t,
   type-end.Post,
   here-reads.Asked,
   here-reads.Learnt,
 ) (arrow-end-at t) arrow-end.Post
-arrow-end-returns-2 t c = linear-on (c .before .before .before .before .before .before .before .args .text .now) (c .before .before .before .before .before .before .before .args .at) (saidWord (c .before .before .before .before .before .word-at .result)) (c .before .before .before .before .before .word-at .ensures) (typeStep (c .before .before .before .before .before .before .before .args .more) false) (c .before .before .before .if1 .left) (c .before .if2 .taken) (c .type-end2 .result) (c .type-end2 .ensures)
+arrow-end-returns-2 t c = linear-on (c .before .before .before .before .before .before .args .text .now) (c .before .before .before .before .before .before .args .at) (saidWord (c .before .before .before .before .before .before .args .w)) (c .before .before .before .before .before .before .pre .1 .1) (typeStep (c .before .before .before .before .before .before .args .more) false) (c .before .before .before .if1 .left) (c .before .if2 .taken) (c .type-end2 .result) (c .type-end2 .ensures)
 
 arrow-end-here-requires : (t : ℕ) → arrow-end-lts.Need-here-requires (
-  word-at-reads.Asked,
-  word-at-reads.Learnt,
   type-end-below t,
   type-end.Post,
   here-reads.Asked,
   here-reads.Learnt,
 ) (arrow-end-at t) arrow-end.Post
-arrow-end-here-requires t c κs = c .before .before .before .before .before .before .pre .1
+arrow-end-here-requires t c κs = c .before .before .before .before .before .pre .1 .0
 
 arrow-end-returns-3 : (t : ℕ) → arrow-end-lts.Need-returns-3 (
-  word-at-reads.Asked,
-  word-at-reads.Learnt,
   type-end-below t,
   type-end.Post,
   here-reads.Asked,
   here-reads.Learnt,
 ) (arrow-end-at t) arrow-end.Post
-arrow-end-returns-3 t c = ends-as (c .before .before .before .before .before .before .before .args .text .now) _ _ _ _ (c .here .result) (omega arith) (arrow-none (c .before .before .before .before .before .before .before .args .text .now) (c .before .before .before .before .before .before .before .args .at) (saidWord (c .before .before .before .before .before .word-at .result)) (c .before .before .before .before .before .word-at .ensures) (typeStep (c .before .before .before .before .before .before .before .args .more) false) (c .before .before .before .if1 .left) (c .before .if2 .left)) (c .here .ensures)
+arrow-end-returns-3 t c = ends-as (c .before .before .before .before .before .before .args .text .now) _ _ _ _ (c .here .result) (omega arith) (arrow-none (c .before .before .before .before .before .before .args .text .now) (c .before .before .before .before .before .before .args .at) (saidWord (c .before .before .before .before .before .before .args .w)) (c .before .before .before .before .before .before .pre .1 .1) (typeStep (c .before .before .before .before .before .before .args .more) false) (c .before .before .before .if1 .left) (c .before .if2 .left)) (c .here .ensures)
 
 atom-end-word-at-requires : (t : ℕ) → atom-end-lts.Need-word-at-requires (
   word-at-reads.Asked,
@@ -353,6 +333,8 @@ atom-end-word-at-requires : (t : ℕ) → atom-end-lts.Need-word-at-requires (
   use-end.Post,
   inside-end-below t,
   inside-end.Post,
+  ones-end-reads.Asked,
+  ones-end-reads.Learnt,
   refused-reads.Asked,
   refused-reads.Learnt,
 ) (atom-end-at t) atom-end.Post
@@ -365,6 +347,8 @@ atom-end-use-end-requires : (t : ℕ) → atom-end-lts.Need-use-end-requires (
   use-end.Post,
   inside-end-below t,
   inside-end.Post,
+  ones-end-reads.Asked,
+  ones-end-reads.Learnt,
   refused-reads.Asked,
   refused-reads.Learnt,
 ) (atom-end-at t) atom-end.Post
@@ -377,6 +361,8 @@ atom-end-returns : (t : ℕ) → atom-end-lts.Need-returns (
   use-end.Post,
   inside-end-below t,
   inside-end.Post,
+  ones-end-reads.Asked,
+  ones-end-reads.Learnt,
   refused-reads.Asked,
   refused-reads.Learnt,
 ) (atom-end-at t) atom-end.Post
@@ -389,6 +375,8 @@ atom-end-inside-end-requires : (t : ℕ) → atom-end-lts.Need-inside-end-requir
   use-end.Post,
   inside-end-below t,
   inside-end.Post,
+  ones-end-reads.Asked,
+  ones-end-reads.Learnt,
   refused-reads.Asked,
   refused-reads.Learnt,
 ) (atom-end-at t) atom-end.Post
@@ -401,10 +389,26 @@ atom-end-returns-2 : (t : ℕ) → atom-end-lts.Need-returns-2 (
   use-end.Post,
   inside-end-below t,
   inside-end.Post,
+  ones-end-reads.Asked,
+  ones-end-reads.Learnt,
   refused-reads.Asked,
   refused-reads.Learnt,
 ) (atom-end-at t) atom-end.Post
 atom-end-returns-2 t c = atom-round (c .before .before .before .before .before .before .before .args .text .now) (c .before .before .before .before .before .before .before .args .at) (saidWord (c .before .before .before .before .before .word-at .result)) (c .before .before .before .before .before .word-at .ensures) (typeStep (c .before .before .before .before .before .before .before .args .more) false) (c .before .if2 .taken) (c .inside-end .result) (c .inside-end .ensures)
+
+atom-end-ones-end-requires : (t : ℕ) → atom-end-lts.Need-ones-end-requires (
+  word-at-reads.Asked,
+  word-at-reads.Learnt,
+  use-end-below t,
+  use-end.Post,
+  inside-end-below t,
+  inside-end.Post,
+  ones-end-reads.Asked,
+  ones-end-reads.Learnt,
+  refused-reads.Asked,
+  refused-reads.Learnt,
+) (atom-end-at t) atom-end.Post
+atom-end-ones-end-requires t c κs = c .before .before .before .before .before .before .before .before .word-at .ensures .onward (λ z. omega (arith, c .before .before .if3 .taken)) .lexed
 
 atom-end-returns-3 : (t : ℕ) → atom-end-lts.Need-returns-3 (
   word-at-reads.Asked,
@@ -413,10 +417,12 @@ atom-end-returns-3 : (t : ℕ) → atom-end-lts.Need-returns-3 (
   use-end.Post,
   inside-end-below t,
   inside-end.Post,
+  ones-end-reads.Asked,
+  ones-end-reads.Learnt,
   refused-reads.Asked,
   refused-reads.Learnt,
 ) (atom-end-at t) atom-end.Post
-atom-end-returns-3 t c = atom-one (c .before .before .before .before .before .before .before .before .before .before .args .text .now) (c .before .before .before .before .before .before .before .before .before .before .args .at) (saidWord (c .before .before .before .before .before .before .before .before .word-at .result)) (c .before .before .before .before .before .before .before .before .word-at .ensures) (typeStep (c .before .before .before .before .before .before .before .before .before .before .args .more) false) (c .before .before .if3 .taken) (c .if4 .taken)
+atom-end-returns-3 t c = atom-one (c .before .before .before .before .before .before .before .before .before .before .before .args .text .now) (c .before .before .before .before .before .before .before .before .before .before .before .args .at) (saidWord (c .before .before .before .before .before .before .before .before .before .word-at .result)) (c .before .before .before .before .before .before .before .before .before .word-at .ensures) (typeStep (c .before .before .before .before .before .before .before .before .before .before .before .args .more) false) (c .before .before .before .if3 .taken) (c .before .if4 .taken) (c .ones-end .result) (c .ones-end .ensures)
 
 atom-end-refused-requires : (t : ℕ) → atom-end-lts.Need-refused-requires (
   word-at-reads.Asked,
@@ -425,6 +431,8 @@ atom-end-refused-requires : (t : ℕ) → atom-end-lts.Need-refused-requires (
   use-end.Post,
   inside-end-below t,
   inside-end.Post,
+  ones-end-reads.Asked,
+  ones-end-reads.Learnt,
   refused-reads.Asked,
   refused-reads.Learnt,
 ) (atom-end-at t) atom-end.Post
@@ -437,6 +445,8 @@ atom-end-returns-4 : (t : ℕ) → atom-end-lts.Need-returns-4 (
   use-end.Post,
   inside-end-below t,
   inside-end.Post,
+  ones-end-reads.Asked,
+  ones-end-reads.Learnt,
   refused-reads.Asked,
   refused-reads.Learnt,
 ) (atom-end-at t) atom-end.Post
@@ -449,6 +459,8 @@ atom-end-refused-requires-2 : (t : ℕ) → atom-end-lts.Need-refused-requires-2
   use-end.Post,
   inside-end-below t,
   inside-end.Post,
+  ones-end-reads.Asked,
+  ones-end-reads.Learnt,
   refused-reads.Asked,
   refused-reads.Learnt,
 ) (atom-end-at t) atom-end.Post
@@ -461,6 +473,8 @@ atom-end-returns-5 : (t : ℕ) → atom-end-lts.Need-returns-5 (
   use-end.Post,
   inside-end-below t,
   inside-end.Post,
+  ones-end-reads.Asked,
+  ones-end-reads.Learnt,
   refused-reads.Asked,
   refused-reads.Learnt,
 ) (atom-end-at t) atom-end.Post
@@ -498,55 +512,65 @@ inside-end-returns-2 : (t : ℕ) → inside-end-lts.Need-returns-2 (
 ) (inside-end-at t) inside-end.Post
 inside-end-returns-2 t c = inside-on (c .before .before .before .before .before .args .text .now) (c .before .before .before .before .before .args .at) (typeStep (c .before .before .before .before .before .args .more) false) (c .before .before .before .type-end .result) (c .before .before .before .type-end .ensures) (c .before .if1 .left) (c .expect .result) (c .expect .ensures)
 
-product-end-word-at-requires : (t : ℕ) → product-end-lts.Need-word-at-requires (
-  word-at-reads.Asked,
-  word-at-reads.Learnt,
-  type-end-below t,
-  type-end.Post,
-  here-reads.Asked,
-  here-reads.Learnt,
-) (product-end-at t) product-end.Post
-product-end-word-at-requires t c κs = c .before .pre .1
-
 product-end-type-end-requires : (t : ℕ) → product-end-lts.Need-type-end-requires (
-  word-at-reads.Asked,
-  word-at-reads.Learnt,
   type-end-below t,
   type-end.Post,
-  here-reads.Asked,
-  here-reads.Learnt,
+  word-at-reads.Asked,
+  word-at-reads.Learnt,
+  arrow-end-below t,
+  arrow-end.Post,
 ) (product-end-at t) product-end.Post
-product-end-type-end-requires t c κs = (omega (arith, c .before .before .before .before .pre .0), c .before .before .word-at .ensures .onward (λ z. omega (arith, c .if1 .taken)) .lexed)
+product-end-type-end-requires t c κs = (omega (arith, c .before .pre .0), c .before .pre .1)
 
 product-end-returns : (t : ℕ) → product-end-lts.Need-returns (
-  word-at-reads.Asked,
-  word-at-reads.Learnt,
   type-end-below t,
   type-end.Post,
-  here-reads.Asked,
-  here-reads.Learnt,
-) (product-end-at t) product-end.Post
-product-end-returns t c = product-on (c .before .before .before .before .before .args .text .now) (c .before .before .before .before .before .args .at) (saidWord (c .before .before .before .word-at .result)) (c .before .before .before .word-at .ensures) (typeStep (c .before .before .before .before .before .args .more) true) (c .before .if1 .taken) (c .type-end .result) (c .type-end .ensures)
-
-product-end-here-requires : (t : ℕ) → product-end-lts.Need-here-requires (
   word-at-reads.Asked,
   word-at-reads.Learnt,
-  type-end-below t,
-  type-end.Post,
-  here-reads.Asked,
-  here-reads.Learnt,
+  arrow-end-below t,
+  arrow-end.Post,
 ) (product-end-at t) product-end.Post
-product-end-here-requires t c κs = c .before .before .before .before .pre .1
+product-end-returns t c = times-stop (c .before .before .before .before .args .text .now) (c .before .before .before .before .args .at) (c .before .before .before .before .args .more) (c .before .before .before .before .args .tight) (c .before .before .type-end .result) (c .before .before .type-end .ensures) (c .if1 .taken)
 
 product-end-returns-2 : (t : ℕ) → product-end-lts.Need-returns-2 (
-  word-at-reads.Asked,
-  word-at-reads.Learnt,
   type-end-below t,
   type-end.Post,
-  here-reads.Asked,
-  here-reads.Learnt,
+  word-at-reads.Asked,
+  word-at-reads.Learnt,
+  arrow-end-below t,
+  arrow-end.Post,
 ) (product-end-at t) product-end.Post
-product-end-returns-2 t c = ends-as (c .before .before .before .before .before .args .text .now) _ _ _ _ (c .here .result) (omega arith) (product-none (c .before .before .before .before .before .args .text .now) (c .before .before .before .before .before .args .at) (saidWord (c .before .before .before .word-at .result)) (c .before .before .before .word-at .ensures) (typeStep (c .before .before .before .before .before .args .more) true) (c .before .if1 .left)) (c .here .ensures)
+product-end-returns-2 t c = times-tight (c .before .before .before .before .before .args .text .now) (c .before .before .before .before .before .args .at) (c .before .before .before .before .before .args .more) (c .before .before .before .before .before .args .tight) (c .before .before .before .type-end .result) (c .before .before .before .type-end .ensures) (c .before .if1 .left) (c .if2 .taken)
+
+product-end-word-at-requires : (t : ℕ) → product-end-lts.Need-word-at-requires (
+  type-end-below t,
+  type-end.Post,
+  word-at-reads.Asked,
+  word-at-reads.Learnt,
+  arrow-end-below t,
+  arrow-end.Post,
+) (product-end-at t) product-end.Post
+product-end-word-at-requires t c κs = c .before .before .before .type-end .ensures .reaches (c .before .if1 .left) .lexed
+
+product-end-arrow-end-requires : (t : ℕ) → product-end-lts.Need-arrow-end-requires (
+  type-end-below t,
+  type-end.Post,
+  word-at-reads.Asked,
+  word-at-reads.Learnt,
+  arrow-end-below t,
+  arrow-end.Post,
+) (product-end-at t) product-end.Post
+product-end-arrow-end-requires t c κs = (omega (arith, c .before .before .before .before .before .before .pre .0), (c .before .before .before .before .type-end .ensures .reaches (c .before .before .if1 .left) .lexed, c .word-at .ensures))
+
+product-end-returns-3 : (t : ℕ) → product-end-lts.Need-returns-3 (
+  type-end-below t,
+  type-end.Post,
+  word-at-reads.Asked,
+  word-at-reads.Learnt,
+  arrow-end-below t,
+  arrow-end.Post,
+) (product-end-at t) product-end.Post
+product-end-returns-3 t c = times-loose (c .before .before .before .before .before .before .before .args .text .now) (c .before .before .before .before .before .before .before .args .at) (c .before .before .before .before .before .before .before .args .more) (c .before .before .before .before .before .before .before .args .tight) (c .before .before .before .before .before .type-end .result) (c .before .before .before .before .before .type-end .ensures) (c .before .before .before .if1 .left) (c .before .before .if2 .left) (c .arrow-end .result) (c .arrow-end .ensures)
 
 type-end-word-at-requires : (t : ℕ) → type-end-lts.Need-word-at-requires (
   word-at-reads.Asked,
@@ -632,6 +656,20 @@ type-end-returns-2 : (t : ℕ) → type-end-lts.Need-returns-2 (
 ) (type-end-at t) type-end.Post
 type-end-returns-2 t c = type-stop (c .before .before .before .before .before .args .text .now) (c .before .before .before .before .before .args .at) (c .before .before .before .before .before .args .more) (c .before .before .before .before .before .args .tight) (c .before .before .before .if1 .left) (c .before .before .atom-end .result) (c .before .before .atom-end .ensures) (c .if2 .taken)
 
+type-end-word-at-requires-2 : (t : ℕ) → type-end-lts.Need-word-at-requires-2 (
+  word-at-reads.Asked,
+  word-at-reads.Learnt,
+  refused-reads.Asked,
+  refused-reads.Learnt,
+  atom-end-below t,
+  atom-end.Post,
+  product-end-below t,
+  product-end.Post,
+  arrow-end-below t,
+  arrow-end.Post,
+) (type-end-at t) type-end.Post
+type-end-word-at-requires-2 t c κs = c .before .before .atom-end .ensures .reaches (c .if2 .left) .lexed
+
 type-end-sub-product-end : (t : ℕ) → type-end-lts.Need-sub-product-end (
   word-at-reads.Asked,
   word-at-reads.Learnt,
@@ -644,7 +682,7 @@ type-end-sub-product-end : (t : ℕ) → type-end-lts.Need-sub-product-end (
   arrow-end-below t,
   arrow-end.Post,
 ) (type-end-at t) type-end.Post
-type-end-sub-product-end t c = omega (arith, c .before .before .before .if1 .left)
+type-end-sub-product-end t c = omega (arith, c .before .before .before .before .before .before .if1 .left)
 
 type-end-product-end-requires : (t : ℕ) → type-end-lts.Need-product-end-requires (
   word-at-reads.Asked,
@@ -658,7 +696,7 @@ type-end-product-end-requires : (t : ℕ) → type-end-lts.Need-product-end-requ
   arrow-end-below t,
   arrow-end.Post,
 ) (type-end-at t) type-end.Post
-type-end-product-end-requires t c κs = (omega (arith, c .before .before .before .before .before .pre .0, c .before .before .before .if1 .left), c .before .before .atom-end .ensures .reaches (c .if2 .left) .lexed)
+type-end-product-end-requires t c κs = (omega (arith, c .before .before .before .before .before .before .before .before .pre .0, c .before .before .before .before .before .before .if1 .left), c .before .before .word-at2 .ensures .onward (λ z. omega (arith, c .if3 .taken)) .lexed)
 
 type-end-returns-3 : (t : ℕ) → type-end-lts.Need-returns-3 (
   word-at-reads.Asked,
@@ -672,7 +710,7 @@ type-end-returns-3 : (t : ℕ) → type-end-lts.Need-returns-3 (
   arrow-end-below t,
   arrow-end.Post,
 ) (type-end-at t) type-end.Post
-type-end-returns-3 t c = type-stop-product (c .before .before .before .before .before .before .before .before .args .text .now) (c .before .before .before .before .before .before .before .before .args .at) (c .before .before .before .before .before .before .before .before .args .more) (c .before .before .before .before .before .before .before .before .args .tight) (c .before .before .before .before .before .before .if1 .left) (c .before .before .before .before .before .atom-end .result) (c .before .before .before .before .before .atom-end .ensures) (c .before .before .before .if2 .left) (c .before .before .product-end .result) (c .before .before .product-end .ensures) (c .if3 .taken)
+type-end-returns-3 t c = type-times (c .before .before .before .before .before .before .before .before .before .args .text .now) (c .before .before .before .before .before .before .before .before .before .args .at) (c .before .before .before .before .before .before .before .before .before .args .more) (c .before .before .before .before .before .before .before .before .before .args .tight) (c .before .before .before .before .before .before .before .if1 .left) (c .before .before .before .before .before .before .atom-end .result) (c .before .before .before .before .before .before .atom-end .ensures) (c .before .before .before .before .if2 .left) (saidWord (c .before .before .before .word-at2 .result)) (c .before .before .before .word-at2 .ensures) (c .before .if3 .taken) (c .product-end .result) (c .product-end .ensures)
 
 type-end-returns-4 : (t : ℕ) → type-end-lts.Need-returns-4 (
   word-at-reads.Asked,
@@ -686,7 +724,7 @@ type-end-returns-4 : (t : ℕ) → type-end-lts.Need-returns-4 (
   arrow-end-below t,
   arrow-end.Post,
 ) (type-end-at t) type-end.Post
-type-end-returns-4 t c = type-tight (c .before .before .before .before .before .before .before .before .before .args .text .now) (c .before .before .before .before .before .before .before .before .before .args .at) (c .before .before .before .before .before .before .before .before .before .args .more) (c .before .before .before .before .before .before .before .before .before .args .tight) (c .before .before .before .before .before .before .before .if1 .left) (c .before .before .before .before .before .before .atom-end .result) (c .before .before .before .before .before .before .atom-end .ensures) (c .before .before .before .before .if2 .left) (c .before .before .before .product-end .result) (c .before .before .before .product-end .ensures) (c .before .if3 .left) (c .if4 .taken)
+type-end-returns-4 t c = type-tight (c .before .before .before .before .before .before .before .before .before .args .text .now) (c .before .before .before .before .before .before .before .before .before .args .at) (c .before .before .before .before .before .before .before .before .before .args .more) (c .before .before .before .before .before .before .before .before .before .args .tight) (c .before .before .before .before .before .before .before .if1 .left) (c .before .before .before .before .before .before .atom-end .result) (c .before .before .before .before .before .before .atom-end .ensures) (c .before .before .before .before .if2 .left) (saidWord (c .before .before .before .word-at2 .result)) (c .before .before .before .word-at2 .ensures) (c .before .if3 .left) (c .if4 .taken)
 
 type-end-sub-arrow-end : (t : ℕ) → type-end-lts.Need-sub-arrow-end (
   word-at-reads.Asked,
@@ -714,7 +752,7 @@ type-end-arrow-end-requires : (t : ℕ) → type-end-lts.Need-arrow-end-requires
   arrow-end-below t,
   arrow-end.Post,
 ) (type-end-at t) type-end.Post
-type-end-arrow-end-requires t c κs = (omega (arith, c .before .before .before .before .before .before .before .before .before .pre .0, c .before .before .before .before .before .before .before .if1 .left), c .before .before .before .product-end .ensures .reaches (c .before .if3 .left) .lexed)
+type-end-arrow-end-requires t c κs = (omega (arith, c .before .before .before .before .before .before .before .before .before .pre .0, c .before .before .before .before .before .before .before .if1 .left), (c .before .before .before .before .before .before .atom-end .ensures .reaches (c .before .before .before .before .if2 .left) .lexed, c .before .before .before .word-at2 .ensures))
 
 type-end-returns-5 : (t : ℕ) → type-end-lts.Need-returns-5 (
   word-at-reads.Asked,
@@ -728,39 +766,115 @@ type-end-returns-5 : (t : ℕ) → type-end-lts.Need-returns-5 (
   arrow-end-below t,
   arrow-end.Post,
 ) (type-end-at t) type-end.Post
-type-end-returns-5 t c = type-loose (c .before .before .before .before .before .before .before .before .before .before .args .text .now) (c .before .before .before .before .before .before .before .before .before .before .args .at) (c .before .before .before .before .before .before .before .before .before .before .args .more) (c .before .before .before .before .before .before .before .before .before .before .args .tight) (c .before .before .before .before .before .before .before .before .if1 .left) (c .before .before .before .before .before .before .before .atom-end .result) (c .before .before .before .before .before .before .before .atom-end .ensures) (c .before .before .before .before .before .if2 .left) (c .before .before .before .before .product-end .result) (c .before .before .before .before .product-end .ensures) (c .before .before .if3 .left) (c .before .if4 .left) (c .arrow-end .result) (c .arrow-end .ensures)
+type-end-returns-5 t c = type-loose (c .before .before .before .before .before .before .before .before .before .before .args .text .now) (c .before .before .before .before .before .before .before .before .before .before .args .at) (c .before .before .before .before .before .before .before .before .before .before .args .more) (c .before .before .before .before .before .before .before .before .before .before .args .tight) (c .before .before .before .before .before .before .before .before .if1 .left) (c .before .before .before .before .before .before .before .atom-end .result) (c .before .before .before .before .before .before .before .atom-end .ensures) (c .before .before .before .before .before .if2 .left) (saidWord (c .before .before .before .before .word-at2 .result)) (c .before .before .before .before .word-at2 .ensures) (c .before .before .if3 .left) (c .before .if4 .left) (c .arrow-end .result) (c .arrow-end .ensures)
 
-use-end-arguments-end-requires : (t : ℕ) → use-end-lts.Need-arguments-end-requires (
-  arguments-end-below t,
-  arguments-end.Post,
+use-end-word-at-requires : (t : ℕ) → use-end-lts.Need-word-at-requires (
+  word-at-reads.Asked,
+  word-at-reads.Learnt,
   numbers-end-reads.Asked,
   numbers-end-reads.Learnt,
-) (use-end-at t) use-end.Post
-use-end-arguments-end-requires t c κs = (omega (arith, c .before .pre .0), c .before .pre .1)
-
-use-end-returns : (t : ℕ) → use-end-lts.Need-returns (
+  here-reads.Asked,
+  here-reads.Learnt,
   arguments-end-below t,
   arguments-end.Post,
-  numbers-end-reads.Asked,
-  numbers-end-reads.Learnt,
 ) (use-end-at t) use-end.Post
-use-end-returns t c = use-stop (c .before .before .before .before .args .text .now) (c .before .before .before .before .args .at) (typeStep (c .before .before .before .before .args .more) false) (c .before .before .arguments-end .result) (c .before .before .arguments-end .ensures) (c .if1 .taken)
+use-end-word-at-requires t c κs = c .before .pre .1
 
 use-end-numbers-end-requires : (t : ℕ) → use-end-lts.Need-numbers-end-requires (
-  arguments-end-below t,
-  arguments-end.Post,
+  word-at-reads.Asked,
+  word-at-reads.Learnt,
   numbers-end-reads.Asked,
   numbers-end-reads.Learnt,
+  here-reads.Asked,
+  here-reads.Learnt,
+  arguments-end-below t,
+  arguments-end.Post,
 ) (use-end-at t) use-end.Post
-use-end-numbers-end-requires t c κs = c .before .before .arguments-end .ensures .reaches (c .if1 .left) .lexed
+use-end-numbers-end-requires t c κs = c .before .before .before .before .pre .1
+
+use-end-returns : (t : ℕ) → use-end-lts.Need-returns (
+  word-at-reads.Asked,
+  word-at-reads.Learnt,
+  numbers-end-reads.Asked,
+  numbers-end-reads.Learnt,
+  here-reads.Asked,
+  here-reads.Learnt,
+  arguments-end-below t,
+  arguments-end.Post,
+) (use-end-at t) use-end.Post
+use-end-returns t c = ends-as (c .before .before .before .before .before .args .text .now) _ _ _ _ (c .numbers-end .result) (omega arith) (use-numbers (c .before .before .before .before .before .args .text .now) (c .before .before .before .before .before .args .at) (saidWord (c .before .before .before .word-at .result)) (c .before .before .before .word-at .ensures) (typeStep (c .before .before .before .before .before .args .more) false) (λ z. omega (arith, c .before .if1 .taken))) (c .numbers-end .ensures)
+
+use-end-here-requires : (t : ℕ) → use-end-lts.Need-here-requires (
+  word-at-reads.Asked,
+  word-at-reads.Learnt,
+  numbers-end-reads.Asked,
+  numbers-end-reads.Learnt,
+  here-reads.Asked,
+  here-reads.Learnt,
+  arguments-end-below t,
+  arguments-end.Post,
+) (use-end-at t) use-end.Post
+use-end-here-requires t c κs = c .before .before .before .before .before .before .pre .1
 
 use-end-returns-2 : (t : ℕ) → use-end-lts.Need-returns-2 (
-  arguments-end-below t,
-  arguments-end.Post,
+  word-at-reads.Asked,
+  word-at-reads.Learnt,
   numbers-end-reads.Asked,
   numbers-end-reads.Learnt,
+  here-reads.Asked,
+  here-reads.Learnt,
+  arguments-end-below t,
+  arguments-end.Post,
 ) (use-end-at t) use-end.Post
-use-end-returns-2 t c = use-on (c .before .before .before .before .before .args .text .now) (c .before .before .before .before .before .args .at) (typeStep (c .before .before .before .before .before .args .more) false) (c .before .before .before .arguments-end .result) (c .before .before .before .arguments-end .ensures) (c .before .if1 .left) (c .numbers-end .result) (c .numbers-end .ensures)
+use-end-returns-2 t c = ends-as (c .before .before .before .before .before .before .before .args .text .now) _ _ _ _ (c .here .result) (omega arith) (use-none (c .before .before .before .before .before .before .before .args .text .now) (c .before .before .before .before .before .before .before .args .at) (saidWord (c .before .before .before .before .before .word-at .result)) (c .before .before .before .before .before .word-at .ensures) (typeStep (c .before .before .before .before .before .before .before .args .more) false) (c .before .if2 .taken) (c .before .before .before .if1 .left)) (c .here .ensures)
+
+use-end-arguments-end-requires : (t : ℕ) → use-end-lts.Need-arguments-end-requires (
+  word-at-reads.Asked,
+  word-at-reads.Learnt,
+  numbers-end-reads.Asked,
+  numbers-end-reads.Learnt,
+  here-reads.Asked,
+  here-reads.Learnt,
+  arguments-end-below t,
+  arguments-end.Post,
+) (use-end-at t) use-end.Post
+use-end-arguments-end-requires t c κs = (omega (arith, c .before .before .before .before .before .before .pre .0), c .before .before .before .before .before .before .pre .1)
+
+use-end-returns-3 : (t : ℕ) → use-end-lts.Need-returns-3 (
+  word-at-reads.Asked,
+  word-at-reads.Learnt,
+  numbers-end-reads.Asked,
+  numbers-end-reads.Learnt,
+  here-reads.Asked,
+  here-reads.Learnt,
+  arguments-end-below t,
+  arguments-end.Post,
+) (use-end-at t) use-end.Post
+use-end-returns-3 t c = use-stop (c .before .before .before .before .before .before .before .before .before .args .text .now) (c .before .before .before .before .before .before .before .before .before .args .at) (typeStep (c .before .before .before .before .before .before .before .before .before .args .more) false) (c .before .before .arguments-end .result) (c .before .before .arguments-end .ensures) (c .if3 .taken)
+
+use-end-numbers-end-requires-2 : (t : ℕ) → use-end-lts.Need-numbers-end-requires-2 (
+  word-at-reads.Asked,
+  word-at-reads.Learnt,
+  numbers-end-reads.Asked,
+  numbers-end-reads.Learnt,
+  here-reads.Asked,
+  here-reads.Learnt,
+  arguments-end-below t,
+  arguments-end.Post,
+) (use-end-at t) use-end.Post
+use-end-numbers-end-requires-2 t c κs = c .before .before .arguments-end .ensures .reaches (c .if3 .left) .lexed
+
+use-end-returns-4 : (t : ℕ) → use-end-lts.Need-returns-4 (
+  word-at-reads.Asked,
+  word-at-reads.Learnt,
+  numbers-end-reads.Asked,
+  numbers-end-reads.Learnt,
+  here-reads.Asked,
+  here-reads.Learnt,
+  arguments-end-below t,
+  arguments-end.Post,
+) (use-end-at t) use-end.Post
+use-end-returns-4 t c = use-on (c .before .before .before .before .before .before .before .before .before .before .args .text .now) (c .before .before .before .before .before .before .before .before .before .before .args .at) (typeStep (c .before .before .before .before .before .before .before .before .before .before .args .more) false) (c .before .before .before .arguments-end .result) (c .before .before .before .arguments-end .ensures) (c .before .if3 .left) (c .numbers-end2 .result) (c .numbers-end2 .ensures)
 
 pub +arguments-end+arrow-end+atom-end+inside-end+product-end+type-end+use-end-spec :
     {M : Type 1} → statement M
@@ -780,8 +894,8 @@ pub +arguments-end+arrow-end+atom-end+inside-end+product-end+type-end+use-end-sp
       here-reads.Learnt,
       type-end-below t,
       type-end.Post,
-      expect-reads.Asked,
-      expect-reads.Learnt,
+      expect-word-reads.Asked,
+      expect-word-reads.Learnt,
     )
     (arguments-end-at t)
     arguments-end.Post
@@ -793,15 +907,13 @@ pub +arguments-end+arrow-end+atom-end+inside-end+product-end+type-end+use-end-sp
     (arguments-end-type-end-requires t)
     (arguments-end-loop-holds t)
     (arguments-end-word-at-requires-2 t)
-    (arguments-end-expect-requires t)
+    (arguments-end-expect-word-requires t)
     (arguments-end-returns-2 t)
     (arguments-end-type-end-requires-2 t)
     (arguments-end-loop-less t)
     (arguments-end-loop-again t)
     (arguments-end-returns-3 t))
     (λ t. arrow-end-lts.spec (
-      word-at-reads.Asked,
-      word-at-reads.Learnt,
       type-end-below t,
       type-end.Post,
       here-reads.Asked,
@@ -809,7 +921,6 @@ pub +arguments-end+arrow-end+atom-end+inside-end+product-end+type-end+use-end-sp
     )
     (arrow-end-at t)
     arrow-end.Post
-    (arrow-end-word-at-requires t)
     (arrow-end-type-end-requires t)
     (arrow-end-returns t)
     (arrow-end-type-end-requires-2 t)
@@ -823,6 +934,8 @@ pub +arguments-end+arrow-end+atom-end+inside-end+product-end+type-end+use-end-sp
       use-end.Post,
       inside-end-below t,
       inside-end.Post,
+      ones-end-reads.Asked,
+      ones-end-reads.Learnt,
       refused-reads.Asked,
       refused-reads.Learnt,
     )
@@ -833,6 +946,7 @@ pub +arguments-end+arrow-end+atom-end+inside-end+product-end+type-end+use-end-sp
     (atom-end-returns t)
     (atom-end-inside-end-requires t)
     (atom-end-returns-2 t)
+    (atom-end-ones-end-requires t)
     (atom-end-returns-3 t)
     (atom-end-refused-requires t)
     (atom-end-returns-4 t)
@@ -851,20 +965,21 @@ pub +arguments-end+arrow-end+atom-end+inside-end+product-end+type-end+use-end-sp
     (inside-end-expect-requires t)
     (inside-end-returns-2 t))
     (λ t. product-end-lts.spec (
-      word-at-reads.Asked,
-      word-at-reads.Learnt,
       type-end-below t,
       type-end.Post,
-      here-reads.Asked,
-      here-reads.Learnt,
+      word-at-reads.Asked,
+      word-at-reads.Learnt,
+      arrow-end-below t,
+      arrow-end.Post,
     )
     (product-end-at t)
     product-end.Post
-    (product-end-word-at-requires t)
     (product-end-type-end-requires t)
     (product-end-returns t)
-    (product-end-here-requires t)
-    (product-end-returns-2 t))
+    (product-end-returns-2 t)
+    (product-end-word-at-requires t)
+    (product-end-arrow-end-requires t)
+    (product-end-returns-3 t))
     (λ t. type-end-lts.spec (
       word-at-reads.Asked,
       word-at-reads.Learnt,
@@ -885,6 +1000,7 @@ pub +arguments-end+arrow-end+atom-end+inside-end+product-end+type-end+use-end-sp
     (type-end-sub-atom-end t)
     (type-end-atom-end-requires t)
     (type-end-returns-2 t)
+    (type-end-word-at-requires-2 t)
     (type-end-sub-product-end t)
     (type-end-product-end-requires t)
     (type-end-returns-3 t)
@@ -892,11 +1008,24 @@ pub +arguments-end+arrow-end+atom-end+inside-end+product-end+type-end+use-end-sp
     (type-end-sub-arrow-end t)
     (type-end-arrow-end-requires t)
     (type-end-returns-5 t))
-    λ t. use-end-lts.spec
-    (arguments-end-below t, arguments-end.Post, numbers-end-reads.Asked, numbers-end-reads.Learnt)
+    λ t. use-end-lts.spec (
+      word-at-reads.Asked,
+      word-at-reads.Learnt,
+      numbers-end-reads.Asked,
+      numbers-end-reads.Learnt,
+      here-reads.Asked,
+      here-reads.Learnt,
+      arguments-end-below t,
+      arguments-end.Post,
+    )
     (use-end-at t)
     use-end.Post
-    (use-end-arguments-end-requires t)
-    (use-end-returns t)
+    (use-end-word-at-requires t)
     (use-end-numbers-end-requires t)
+    (use-end-returns t)
+    (use-end-here-requires t)
     (use-end-returns-2 t)
+    (use-end-arguments-end-requires t)
+    (use-end-returns-3 t)
+    (use-end-numbers-end-requires-2 t)
+    (use-end-returns-4 t)

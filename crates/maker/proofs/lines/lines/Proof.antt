@@ -8,21 +8,21 @@ use Rattle.maker.proofs.lines.lines.Statement.{statement}
 use Rattle.maker.proofs.lines.lines.Tie as tie
 
 abbrev Inv-loop : tie.InvT-loop
-Inv-loop text work₀ start at₀ seen₀ work at seen = ItemsGoing text work₀ start work at seen
+Inv-loop text work₀ start above at₀ seen₀ work at seen = ItemsGoing text work₀ start above work at seen
 
 abbrev μ-loop : tie.MeasureT-loop
-μ-loop text work₀ start at₀ seen₀ work at seen = length (from text at)
+μ-loop text work₀ start above at₀ seen₀ work at seen = length (from text at)
 
 loop-holds : tie.Need-loop-holds Inv-loop μ-loop
 loop-holds c =
     let a = c .before .before .args in
-    items-first (a .text .now) (a .work .now) (a .start)
+    items-first (a .text .now) (a .work .now) (a .start) (a .above)
 
 item-requires : tie.Need-item-requires Inv-loop μ-loop
 item-requires c κs =
     let o = c .before .loop in
     let x = c .before .before .before .before in
-    items-can (x .args .text .now) (x .args .work .now) (x .args .start) (x .pre) (o .work) (o .at) (o .seen) (o .inv)
+    items-can (x .args .text .now) (x .args .work .now) (x .args .start) (x .args .above) (x .pre) (o .work) (o .at) (o .seen) (o .inv)
 
 enum-known-next : tie.Need-enum-known-next Inv-loop μ-loop
 enum-known-next c = search needs
@@ -32,14 +32,14 @@ loop-less c =
     let f = c .before .before .before .before .before in
     let o = f .before .before .loop in
     let x = f .before .before .before .before .before in
-    items-less (x .args .text .now) (x .args .work .now) (x .args .start) (x .pre) (o .work) (o .at) (o .seen) (o .inv) (f .item .result) _ (f .item .ensures) _ _ (c .before .next .given .1)
+    items-less (x .args .text .now) (x .args .work .now) (x .args .start) (x .args .above) (x .pre) (o .work) (o .at) (o .seen) (o .inv) (f .item .result) _ (f .item .ensures) _ _ (c .before .next .given .1)
 
 loop-again : tie.Need-loop-again Inv-loop μ-loop
 loop-again c =
     let f = c .before .before .before .before .before in
     let o = f .before .before .loop in
     let x = f .before .before .before .before .before in
-    items-more (x .args .text .now) (x .args .work .now) (x .args .start) (x .pre) (o .work) (o .at) (o .seen) (o .inv) (f .item .result) _ (f .item .ensures) _ _ (c .before .next .given .1)
+    items-more (x .args .text .now) (x .args .work .now) (x .args .start) (x .args .above) (x .pre) (o .work) (o .at) (o .seen) (o .inv) (f .item .result) _ (f .item .ensures) _ _ (c .before .next .given .1)
 
 enum-told : tie.Need-enum-told Inv-loop μ-loop
 enum-told c = search needs
@@ -49,14 +49,14 @@ same-length c =
     let f = c .before .before .before .before in
     let o = f .before .before .loop in
     let x = f .before .before .before .before .before in
-    items-kept (x .args .text .now) (x .args .work .now) (x .args .start) (x .pre) (o .work) (o .at) (o .seen) (o .inv) (f .item .result) _ (f .item .ensures) .same
+    items-kept (x .args .text .now) (x .args .work .now) (x .args .start) (x .args .above) (x .pre) (o .work) (o .at) (o .seen) (o .inv) (f .item .result) _ (f .item .ensures) .same
 
 returns : tie.Need-returns Inv-loop μ-loop
 returns c =
     let f = c .before .before .before .before in
     let o = f .before .before .loop in
     let x = f .before .before .before .before .before in
-    items-end (x .args .text .now) (x .args .work .now) (x .args .start) (x .pre) (o .work) (o .at) (o .seen) (o .inv) (f .item .result) _ (f .item .ensures) (c .enum-told .given .1)
+    items-end (x .args .text .now) (x .args .work .now) (x .args .start) (x .args .above) (x .pre) (o .work) (o .at) (o .seen) (o .inv) (f .item .result) _ (f .item .ensures) (c .enum-told .given .1)
 
 enum-known-number : tie.Need-enum-known-number Inv-loop μ-loop
 enum-known-number c = search needs
@@ -66,14 +66,14 @@ same-length-2 c =
     let f = c .before .before .before .before .before in
     let o = f .before .before .loop in
     let x = f .before .before .before .before .before in
-    items-kept (x .args .text .now) (x .args .work .now) (x .args .start) (x .pre) (o .work) (o .at) (o .seen) (o .inv) (f .item .result) _ (f .item .ensures) .same
+    items-kept (x .args .text .now) (x .args .work .now) (x .args .start) (x .args .above) (x .pre) (o .work) (o .at) (o .seen) (o .inv) (f .item .result) _ (f .item .ensures) .same
 
 returns-2 : tie.Need-returns-2 Inv-loop μ-loop
 returns-2 c =
     let f = c .before .before .before .before .before in
     let o = f .before .before .loop in
     let x = f .before .before .before .before .before in
-    items-refused (x .args .text .now) (x .args .work .now) (x .args .start) (x .pre) (o .work) (o .at) (o .seen) (o .inv) (f .item .result) _ (f .item .ensures) _ _ (c .before .number .given .1)
+    items-refused (x .args .text .now) (x .args .work .now) (x .args .start) (x .args .above) (x .pre) (o .work) (o .at) (o .seen) (o .inv) (f .item .result) _ (f .item .ensures) _ _ (c .before .number .given .1)
 
 pub lines-spec : {M : Type 1} → statement M
 lines-spec =

@@ -1,7 +1,7 @@
 -- `type_walk::steps::enter` meets its contract: by the first word of the type. Assumes nothing.
 use Rattle.words.specs.Next.{saidWord}
 use Rattle.type_walk.proofs.MoveLaws.{onward}
-use Rattle.type_walk.proofs.StepLaws.{name-there, can-one, enter-name, enter-number, enter-round, enter-none}
+use Rattle.type_walk.proofs.StepLaws.{name-there, enter-name, enter-number, enter-round, enter-none}
 use borrow.Author.Needs.{needs}
 use Rattle.type_walk.proofs.steps.enter.Statement.{statement}
 use Rattle.type_walk.proofs.steps.enter.Tie as tie
@@ -18,14 +18,14 @@ same-length c = search needs
 returns : tie.Need-returns
 returns c = enter-name _ _ (saidWord (c .before .before .before .before .before .before .word-at .result)) (c .before .before .before .before .before .before .word-at .ensures) _ _ _ _ (c .before .before .before .before .if1 .taken) (c .before .before .named-at .ensures)
 
-side-from-requires : tie.Need-side-from-requires
-side-from-requires c κs = (can-one _ _ _ (c .before .before .before .before .before .before .before .before .pre .0), onward _ _ (saidWord (c .before .before .before .before .before .word-at .result)) (c .before .before .before .before .before .word-at .ensures) 22 (c .before .if2 .taken) .lexed)
+ones-from-requires : tie.Need-ones-from-requires
+ones-from-requires c κs = (c .before .before .before .before .before .before .before .before .pre .0, onward _ _ (saidWord (c .before .before .before .before .before .word-at .result)) (c .before .before .before .before .before .word-at .ensures) 22 (c .before .if2 .taken) .lexed)
 
 same-length-2 : tie.Need-same-length-2
 same-length-2 c = search needs
 
 returns-2 : tie.Need-returns-2
-returns-2 c = enter-number _ _ (saidWord (c .before .before .before .before .before .before .before .before .word-at .result)) (c .before .before .before .before .before .before .before .before .word-at .ensures) _ _ _ _ (c .before .before .before .before .if2 .taken) (c .before .before .side-from .ensures)
+returns-2 c = enter-number _ _ (saidWord (c .before .before .before .before .before .before .before .before .word-at .result)) (c .before .before .before .before .before .before .before .before .word-at .ensures) _ _ _ _ (c .before .before .before .before .if2 .taken) (c .before .before .ones-from .ensures)
 
 ask-inside-requires : tie.Need-ask-inside-requires
 ask-inside-requires c κs = (c .before .before .before .before .before .before .before .before .before .before .pre .0, onward _ _ (saidWord (c .before .before .before .before .before .before .before .word-at .result)) (c .before .before .before .before .before .before .before .word-at .ensures) 10 (c .before .if3 .taken) .lexed)
@@ -47,7 +47,7 @@ enter-spec =
     named-at-requires
     same-length
     returns
-    side-from-requires
+    ones-from-requires
     same-length-2
     returns-2
     ask-inside-requires

@@ -1,0 +1,26 @@
+-- `grammar::binds_end` meets its contract, by the word's code. Assumes nothing.
+use native.Mathlib.Omega.{arith}
+use Rattle.words.specs.Next.{saidWord}
+use Rattle.grammar.proofs.NameLaws.{binds-apart, binds-names}
+use borrow.Author.Needs.{needs}
+use Rattle.grammar.proofs.names.binds_end.Statement.{statement}
+use Rattle.grammar.proofs.names.binds_end.Tie as tie
+
+word-at-requires : tie.Need-word-at-requires
+word-at-requires c κs = search needs
+
+apart-end-requires : tie.Need-apart-end-requires
+apart-end-requires c κs = c .before .before .word-at .ensures .onward (λ z. omega (arith, c .if1 .taken)) .lexed
+
+returns : tie.Need-returns
+returns c = binds-apart (c .before .before .before .before .before .args .text .now) (c .before .before .before .before .before .args .at) (saidWord (c .before .before .before .word-at .result)) (c .before .before .before .word-at .ensures) (c .before .if1 .taken) (c .apart-end .result) (c .apart-end .ensures)
+
+names-end-requires : tie.Need-names-end-requires
+names-end-requires c κs = search needs
+
+returns-2 : tie.Need-returns-2
+returns-2 c = binds-names (c .before .before .before .before .before .args .text .now) (c .before .before .before .before .before .args .at) (saidWord (c .before .before .before .word-at .result)) (c .before .before .before .word-at .ensures) (c .before .if1 .left) (c .names-end .result) (c .names-end .ensures)
+
+pub binds-end-spec : {M : Type 1} → statement M
+binds-end-spec =
+    tie.close (tie.spec word-at-requires apart-end-requires returns names-end-requires returns-2)
