@@ -7,6 +7,7 @@ from __future__ import annotations
 
 import base64
 import hashlib
+import stat
 import sys
 import sysconfig
 import tomllib
@@ -53,7 +54,9 @@ def written(folder: str, files: dict[str, bytes]) -> str:
         for place, data in files.items():
             entry = zipfile.ZipInfo(place, (2020, 1, 1, 0, 0, 0))
             entry.compress_type = zipfile.ZIP_DEFLATED
-            entry.external_attr = (0o755 if place.endswith(".so") or carried.is_program(place) else 0o644) << 16
+            # pip keeps the bit that lets the host process run only for what is said to be a regular file
+            mode = 0o755 if place.endswith(".so") or carried.is_program(place) else 0o644
+            entry.external_attr = (stat.S_IFREG | mode) << 16
             wheel.writestr(entry, data)
             record += "%s,sha256=%s,%d\n" % (place, base64.urlsafe_b64encode(hashlib.sha256(data).digest()).rstrip(b"=").decode(), len(data))
         wheel.writestr(zipfile.ZipInfo(INFO + "/RECORD", (2020, 1, 1, 0, 0, 0)), record + INFO + "/RECORD,,\n")

@@ -3,8 +3,10 @@ from __future__ import annotations
 
 import contextlib
 import io
+import platform
 import signal
 import sys
+import unittest
 from pathlib import Path
 from typing import Iterator
 
@@ -13,6 +15,11 @@ from deltawobble.files import read
 
 ROOT = Path(__file__).resolve().parents[2]
 EXAMPLES = ROOT / "examples"
+
+#: the archive is for x86-64; elsewhere the desk calls a process under an emulator, and there is no library to load, to install or to look into
+ELSEWHERE = platform.machine() != "x86_64"
+NO_LIBRARY = "NOT RUN ON THIS PROCESSOR: what is called is a process under an emulator, and no library"
+with_library = unittest.skipIf(ELSEWHERE, NO_LIBRARY)
 
 
 def example(name: str) -> bytes:

@@ -16,11 +16,11 @@ from pathlib import Path
 from unittest import mock
 
 import deltawobble
-from deltawobble import WrongUse, calls, campaign, cli, engine, jobs, make
+from deltawobble import WrongUse, calls, campaign, cli, jobs, make
 from deltawobble.plan import line_of, read_plan
 from deltawobble.workers import Dask, Lost
 
-from .support import EXAMPLES, ROOT, command
+from .support import EXAMPLES, ROOT, command, with_library
 from .test_commands import DESK, Folder
 
 STICKY = (EXAMPLES / "sticky.dw").read_bytes()
@@ -278,7 +278,7 @@ class BrokenOff(Planned):
         parts[2].write_bytes(parts[3].read_bytes())
         self.same(folder)
 
-    @unittest.skipUnless((engine.MADE / "libdeltawobble.so").exists(), "NOT RUN: the child that would be killed is the process that is called")
+    @with_library  # elsewhere the child that would be killed may be the process that is called
     def test_a_worker_that_is_killed(self):
         folder = self.path("killed")
         text = self.plan(self.PLAN.replace("1500", "6000").replace("50", "400"), "long.toml")

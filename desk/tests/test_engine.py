@@ -14,7 +14,7 @@ from unittest import mock
 from deltawobble import NoCall, NoLibrary, Refused, calls, engine
 from deltawobble.engine import Host, Library, Request
 
-from .support import EXAMPLES, ROOT, command
+from .support import ELSEWHERE, EXAMPLES, NO_LIBRARY, ROOT, command
 
 HERE = Path(__file__).resolve().parent
 
@@ -111,6 +111,8 @@ class Proved(unittest.TestCase):
     def test_the_library_is_the_archive(self):
         how = engine.MADE / "how.json"
         made = json.loads(how.read_text()).get("library") if how.exists() and not {"DELTAWOBBLE_LIBRARY", "DELTAWOBBLE_HOST"} & set(os.environ) else None
+        if made is None and ELSEWHERE:
+            self.skipTest(NO_LIBRARY)
         if made is None:
             self.skipTest("NOT RUN: what is called is no library that desk/build has made")
         self.assertEqual(engine.find().name, "%s, in this process" % made)

@@ -14,7 +14,7 @@ from unittest import mock
 
 from deltawobble import engine, manual, version
 
-from .support import EXAMPLES, ROOT, command
+from .support import EXAMPLES, ROOT, command, with_library
 from .test_commands import Folder
 
 sys.path.insert(0, str(ROOT / "desk"))
@@ -32,10 +32,6 @@ def tree(folder: Path) -> dict[str, bytes]:
     return {str(p.relative_to(folder)): p.read_bytes() if p.is_file() else b"folder" for p in folder.rglob("*")}
 
 
-# where the archive is for another processor the desk calls a process, and there is no library to install
-LIBRARY = unittest.skipUnless((engine.MADE / "libdeltawobble.so").exists(), "NOT RUN: what is called is no library that desk/build has made")
-
-
 def install(*words: str, **env: str) -> subprocess.CompletedProcess:
     return subprocess.run([INSTALL, *words], env=dict(os.environ, **env), capture_output=True, text=True)
 
@@ -49,7 +45,7 @@ class Installed(Folder):
         (self.prefix / "share" / "mine").write_text("mine\n")
         self.before = tree(Path(self.made.name))
 
-    @LIBRARY
+    @with_library
     def test_installed_used_and_away_again(self):
         done = install(str(self.prefix))
         self.assertEqual(done.returncode, 0, done.stderr)
@@ -195,7 +191,7 @@ class Versions(Folder):
         shutil.copy(ROOT / "target/staticlib/libdeltawobble.a", place)
         return place
 
-    @LIBRARY
+    @with_library
     def test_verify(self):
         place = self.copy()
         with mock.patch.object(engine, "CARRIED", place), mock.patch.dict("os.environ"):

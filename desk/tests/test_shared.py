@@ -17,7 +17,7 @@ from deltawobble import Refused, calls, engine
 from deltawobble.engine import MIXED, Host, Library, NoLibrary, Request
 from deltawobble.netlist import Netlist, listing
 
-from .support import ROOT, examples, unshielded
+from .support import ELSEWHERE, NO_LIBRARY, ROOT, examples, unshielded
 
 ARCHIVE = ROOT / "target" / "staticlib" / "libdeltawobble.a"
 #: calls of threads, of forked processes and of interrupted ones
@@ -156,7 +156,7 @@ class ByLibrary(Shared, unittest.TestCase):
     def setUpClass(cls):
         cls.back_end = engine.find()
         if not isinstance(cls.back_end, Library):
-            raise unittest.SkipTest("NOT RUN: what is called is no library in this process")
+            raise unittest.SkipTest(NO_LIBRARY if ELSEWHERE else "NOT RUN: what is called is no library in this process")
 
 
 class ByHost(Shared, unittest.TestCase):
