@@ -68,15 +68,15 @@ static bool is_word(const uint8_t *text, size_t length, size_t at, const char *w
     return length - at >= size && memcmp(text + at, word, size) == 0 && (length - at == size || !in_name(text[at + size]));
 }
 
-/* A part stands at its own name, a pair at a comma, an application at a name, a part or a parenthesis; a function and a variable at a name, or at the
-   parenthesis of `fun (`; all else at a name. */
+/* A part stands at its own name, a pair at a comma, an application at a name, a part or a parenthesis; a function, a variable and a projection at a name, or at
+   the parenthesis of a list; all else at a name. */
 static bool stands_at(const uint8_t *text, size_t length, size_t at, size_t node) {
     static const char *const parts[] = {"zero", "reg", "and", "or", "xor", "inv", "one"};
     if (at >= length || (at > 0 && in_name(text[at]) && in_name(text[at - 1]))) return false;
     switch (kind_of[node]) {
     case 0x1A: return part_of[node] < 7 && is_word(text, length, at, parts[part_of[node]]);
     case 0x17: return text[at] == ',';
-    case 0x11: case 0x12: case 0x13: case 0x14: case 0x15: case 0x16: return begins_name(text[at]) || text[at] == '(';
+    case 0x11: case 0x12: case 0x13: case 0x14: case 0x15: case 0x16: case 0x18: return begins_name(text[at]) || text[at] == '(';
     }
     return begins_name(text[at]);
 }

@@ -12,13 +12,17 @@ const MOST_BYTES: usize = 65_535;
 
 /// Texts in which one thing stands in another so many times.
 #[rustfmt::skip]
-const NESTED: [(&str, fn(usize) -> String); 18] = [
+const NESTED: [(&str, fn(usize) -> String); 22] = [
     ("parentheses", |n| format!("main = {}zero{}", "(".repeat(n), ")".repeat(n))),
     ("functions", |n| format!("main = {}zero", "fun x : 1. ".repeat(n))),
     ("fixed points", |n| format!("main = {}x", "fix x : 1. ".repeat(n))),
     ("let, in its body", |n| format!("edition 2 main = {}x", "let x = zero in ".repeat(n))),
     ("let, in its value", |n| format!("edition 2 main = {}zero{}", "let x = ".repeat(n), " in x".repeat(n))),
     ("let of two, in its value", |n| format!("main = {}(zero, zero){}", "let (x, y) = ".repeat(n), " in (x, y)".repeat(n))),
+    ("lists of let", |n| format!("main = let {}x, y){} = zero in x", "(".repeat(n + 1), ", z)".repeat(n))),
+    ("lists of fun", |n| format!("main = fun {}x, y){} : 1. x", "(".repeat(n + 1), ", z)".repeat(n))),
+    ("lists beside one another", |n| format!("main = let ({}x, y) = zero in x", "(x, y), ".repeat(n))),
+    ("lists that are read, not made", |n| format!("d{{n}} = let {}x, y){} = zero in x main = zero", "(".repeat(n + 1), ", z)".repeat(n))),
     ("applications", |n| format!("main = {}zero{}", "inv (".repeat(n), ")".repeat(n))),
     ("pairs", |n| format!("main = {}zero{}", "(zero, ".repeat(n), ")".repeat(n))),
     ("types in parentheses", |n| format!("main = fun x : {}1{}. x", "(".repeat(n), ")".repeat(n))),
@@ -189,6 +193,16 @@ fn comments() -> String {
     over_and_over(&format!("type f[a] = 1 * {comment} a"), "f[1]")
 }
 
+/// Lists in one another around a comment, which each of them passes over, put in as often as they may be.
+fn lists_around_a_comment() -> String {
+    let comment = format!("--{}\n", "-".repeat(60_000));
+    let list = format!("{}{comment}x, y){}", "(".repeat(61), ", z)".repeat(60));
+    most(|times| {
+        let uses: String = (0..times).map(|number| format!("e{number} = d{{0}}\n")).collect();
+        format!("d{{n}} = let {list} = zero in zero\n{uses}main = zero")
+    })
+}
+
 /// The texts that took longest of those that were tried.
 #[rustfmt::skip]
 pub fn slow() -> Vec<Text> {
@@ -197,6 +211,7 @@ pub fn slow() -> Vec<Text> {
         text("a type family that doubles", doubling("", "f", "")),
         text("with a comment of 300 bytes", doubling("", "f", &format!("--{}\n", "-".repeat(300)))),
         text("a comment of 60,000 bytes", comments()),
+        text("60 lists around a comment", lists_around_a_comment()),
         text("250 clauses, names of 20 bytes", long_names(20)),
         text("250 clauses, names of 60 bytes", long_names(60)),
         text("250 clauses, names of 220 bytes", long_names(220)),

@@ -55,6 +55,12 @@ def words(s):
 # ---- Grammar. A reader takes the index of a word, and gives a value and the next index
 MOST_NESTED, MOST_CLAUSES, MOST_PUTS, MOST_ENTRIES = 80, 256, 32767, 1024
 Bound = namedtuple('Bound', 'name place'); Number = namedtuple('Number', 'open name plus place'); Clause = namedtuple('Clause', 'head types numbers type body end')
+Group = namedtuple('Group', 'place names')
+def nameless(at): return Bound((256 + at,), at)   # no name of a text, which are bytes
+def groups_tree(gs, e):
+    for g in reversed(gs):
+        e = ('apart', g.place, g.names, ('spine', g.place, ('named', g.place, nameless(g.place).name, [], []), []), e)
+    return e
 class Grammar:
     def __init__(self, ws): self.ws = ws
     def peek(self, i): return self.ws[i] if i < len(self.ws) else Word('sign', 'ends', 0)
@@ -135,30 +141,38 @@ class Grammar:
         need(more > 0, 34, at)
         if self.is_('fun', i) or self.is_('fix', i):
             many, xs, i = self.is_('fun', i), [], i + 1
-            if many and self.is_('(', i): return self.pair(more, at, i)
+            if many and self.is_('(', i):
+                p = self.place(i); (names, inner), i = self.lists(more, i)
+                i = self.expect(':', i); t, i = self.type(more - 1, False, i); i = self.expect('.', i)
+                e, i = self.term(more - 1, i)
+                return ('fun', at, [nameless(p)], t, groups_tree([Group(p, names)] + inner, e)), i
             x, i = self.name(i); xs.append(x)
             while many and not self.is_(':', i): x, i = self.name(i); xs.append(x)
             i = self.expect(':', i); t, i = self.type(more - 1, False, i); i = self.expect('.', i)
             e, i = self.term(more - 1, i)
             return ('fun' if many else 'fix', at, xs, t, e), i
         if self.is_('let', i):
-            if self.is_('(', i + 1):
-                xs, i = self.list(self.name, i + 2)
-                need(len(xs) >= 2, 32, self.place(i)); i = self.expect(')', i)
-            else: x, i = self.name(i + 1); xs = [x]
+            apart = self.is_('(', i + 1)
+            if apart: (names, inner), i = self.lists(more, i + 1)
+            else: x, i = self.name(i + 1)
             i = self.expect('=', i); v, i = self.term(more - 1, i); i = self.expect('in', i)
             e, i = self.term(more - 1, i)
-            return ('let' if len(xs) == 1 else 'apart', at, xs, v, e), i
+            return ('apart', at, names, v, groups_tree(inner, e)) if apart else ('let', at, [x], v, e), i
         a, i = self.atom(more - 1, i); rest = []
         while self.begins_atom(i): b, i = self.atom(more - 1, i); rest.append(b)
         return ('spine', at, a, rest), i
-    def pair(self, more, at, i):
-        p = self.place(i)
-        xs, i = self.list(self.name, i + 1)
+    def item(self, more, i):
+        """One of a list: what it binds, and its groups."""
+        if not self.is_('(', i): x, i = self.name(i); return (x, []), i
+        at = self.place(i)
+        (names, inner), i = self.lists(more, i)
+        return (nameless(at), [Group(at, names)] + inner), i
+    def lists(self, more, i):
+        """( names and lists, two at least ): the names, and the groups of the lists in it."""
+        need(more > 0, 34, self.place(i))
+        xs, i = self.list(lambda j: self.item(more - 1, j), i + 1)
         need(len(xs) >= 2, 32, self.place(i)); i = self.expect(')', i)
-        i = self.expect(':', i); t, i = self.type(more - 1, False, i); i = self.expect('.', i)
-        e, i = self.term(more - 1, i)
-        return ('fun', at, [Bound(b'', p)], t, ('apart', p, xs, ('spine', p, ('named', p, b'', [], []), []), e)), i
+        return ([bound for bound, _ in xs], [g for _, groups in xs for g in groups]), i
     def clause(self, is_type, i):
         x, i = self.name(i)
         ts, i = self.group(self.name, '[', ']', i); ks, i = self.group(self.number, '{', '}', i)

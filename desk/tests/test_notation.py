@@ -100,6 +100,25 @@ class Making(unittest.TestCase):
     def test_a_pair_is_taken_apart_where_it_is_bound(self):
         self.assertEqual(written("main = fun (a, b, c) : 1^3. (c, a)"), written("main = fun p : 1^3. let (a, b, c) = p in (c, a)"))
 
+    def test_lists_in_lists(self):
+        for short, long in [
+                ("let ((a, b), c) = v in (c, b)", "let (p, c) = v in let (a, b) = p in (c, b)"),
+                ("let (a, (b, c)) = v in (c, a)", "let (a, p) = v in let (b, c) = p in (c, a)"),
+                ("let ((a, (b, c)), (d, e)) = v in (e, b, a)", "let (p, r) = v in let (a, q) = p in let (b, c) = q in let (d, e) = r in (e, b, a)"),
+                ("let ((a, b), a) = v in a", "let (p, c) = v in let (a, b) = p in a"), ("let ((_, x), (_, _)) = v in x", "let (p, q) = v in let (a, x) = p in let (b, c) = q in x"),
+                ("fun ((a, b), c) : 1 * 1. a", "fun w : 1 * 1. let (p, c) = w in let (a, b) = p in a")]:
+            self.assertEqual(written("main = fun v : (1 * 1^2) * 1^2. " + short), written("main = fun v : (1 * 1^2) * 1^2. " + long), short)
+
+    def test_names_of_what_lists_bind(self):
+        """A list's variable has no name in the text; `show` takes the text's own where they mean what they did."""
+        made = make("main = fun ((a, b), (c, (d, e)), f) : 1^2 * 1^3 * 1. f")
+        self.assertEqual([origin.binds for origin in made.origins if origin.binds], [["whole"], ["a_b", "rest"], ["c_d_e", "f"], ["a", "b"], ["c", "d_e"], ["d", "e"]])
+        twice = make("d{0} = fun (a, b) : 1 * 1. (b, a)\nd{n + 1} = fun ((a, b), c) : (1 * 1) * 1. d{n} (c, a)\nmain = d{1}")
+        self.assertEqual([[put.node for put in origin.through] for origin in twice.origins][:6], [[0]] * 6)
+        self.assertEqual(max(len(origin.through) for origin in twice.origins), 2)
+        inside = make("d = fun x : 1. x\nmain = fun (y, (z, u)) : 1^3. d")
+        self.assertEqual([[inside.words.all[at].start for at in put.at] for origin in inside.origins for put in origin.through], [[47]] * 2)
+
     def test_bits_in_a_row(self):
         self.assertEqual(written("main = fun x : 1^3. x"), written("main = fun x : 1 * 1 * 1. x"))
         self.assertEqual(written("type bus{n} = 1^n + 1\nmain = fun x : bus{1} * 1 ^ 1. x"), written("main = fun x : (1 * 1) * 1. x"))
@@ -166,7 +185,14 @@ class Errors(unittest.TestCase):
                 ("main = zero $", 31, 12, 1, 13, "'$'"), ("main = 1x", 31, 7, 1, 8, "no number"), ("-- \u03bb\nmain = \u00e9", 31, 13, 2, 8, "\\xe9"),
                 ("main = (zero", 32, 12, 1, 13, "the '(' at 1:8 is open"), ("main = let (x, y = zero in x", 32, 17, 1, 18, "the '(' at 1:12 is open"),
                 ("main = f[1", 32, 10, 1, 11, "the '[' at 1:9 is open"), ("f{n +} = one main = f{1}", 32, 5, 1, 6, "a number is due"),
-                ("main = fun (a) : 1. a", 32, 13, 1, 14, "fun (x, y) : .. takes a pair apart, and here is one name"), ("main = fun () : 1. zero", 32, 12, 1, 13, "a name is due"),
+                ("main = fun (a) : 1. a", 32, 13, 1, 14, "fun (x, y) : .. takes a pair apart, and here is one name"), ("main = fun () : 1. zero", 32, 12, 1, 13, "a name or a list is due"),
+                ("main = fun ((a), b) : 1. a", 32, 14, 1, 15, "a list in a list takes a pair apart, and here is one name"),
+                ("main = let ((a, b)) = zero in a", 32, 18, 1, 19, "let (x, y) = .. takes a pair apart, and here is one list"),
+                ("main = fun (a, (b, one)) : 1. a", 32, 19, 1, 20, "one is a part"), ("main = fun (a, (b,)) : 1. a", 32, 18, 1, 19, "a name or a list is due"),
+                ("main = fun ((a, b) c) : 1. a", 32, 19, 1, 20, "',' or ')' is due"), ("main = let (x, (y, z) = zero in x", 32, 22, 1, 23, "the '(' at 1:12 is open"),
+                ("main = let ((first, a), b) = zero in frist", 33, 37, 1, 38, "did you mean first?"),
+                ("main = " + "(" * 40 + "let " + "(" * 40 + "x, y)" + ", z)" * 39 + " = zero in x" + ")" * 40, 34, 90, 1, 91, "80 terms"),
+                ("main = " + "(" * 40 + "let (" + "(x, y), " * 39 + "z) = zero in x" + ")" * 40, 34, 356, 1, 357, "each list"),
                 ("main = fun (a, b) c : 1. a", 32, 18, 1, 19, "':' is due"), ("main = fun (a, reg) : 1. a", 32, 15, 1, 16, "reg is a part"),
                 ("main = fun x : 1^. x", 32, 17, 1, 18, "a number or the name of one is due"), ("f{n} = fun x : 1^n +. x main = f{1}", 32, 20, 1, 21, "a number is due"),
                 ("main = fun x : 1^0. x", 33, 17, 1, 18, "zero bits"), ("f{n} = fun x : 1^n. x\nmain = f{0}", 33, 17, 1, 18, "zero bits"),

@@ -31,6 +31,21 @@ const MADE: &[(&str, &str, &str, &[usize])] = &[
     ("three names, taken apart", "main = fun (a, b, c) : 1 * 1 * 1. b",
       "01 020000 020001 030200 1303 18 1100 18 1100 1101", &[11, 12, 11, 15, 15, 34]),
     ("a circuit, taken apart", "main = fun (a, b) : 1 -> 1. a", "01 030000 040100 1502 18 1200 1101", &[11, 12, 11, 28]),
+    ("a list in a list, first: its variable is bound one before the last", "main = fun ((a, b), c) : (1 * 1) * 1. b",
+      "01 020000 020100 030200 1303 18 1100 18 1101 1100", &[11, 12, 11, 13, 12, 38]),
+    ("a list in a list, last", "main = fun p : 1 * 1 * 1. let (a, (b, c)) = p in a",
+      "01 020000 020001 030200 1303 18 1100 18 1100 1103", &[11, 31, 44, 35, 34, 49]),
+    ("two lists in a list, in the order of the text", "main = fun ((a, b), (c, d)) : (1 * 1) * 1 * 1. (a, d)",
+      "01 020000 020101 030201 1303 18 1100 18 1101 18 1102 1701 1103 1100", &[11, 12, 11, 13, 12, 21, 20, 49, 48, 51]),
+    ("a list in a list in a list of three: the rest stands at a parenthesis", "main = fun (a, (b, (c, d)), e) : 1 * (1 * 1 * 1) * 1. d",
+      "01 020000 020001 020200 020003 030400 1305 18 1100 18 1100 18 1101 18 1100 1100", &[11, 12, 11, 15, 15, 16, 15, 20, 19, 54]),
+    ("a list that opens later hides names", "main = fun ((a, b), a) : (1 * 1) * 1. a",
+      "01 020000 020100 030200 1303 18 1100 18 1101 1101", &[11, 12, 11, 13, 12, 38]),
+    ("one name in several lists", "main = fun ((_, x), (_, _)) : (1 * 1) * 1 * 1. x",
+      "01 020000 020101 030200 1303 18 1100 18 1101 18 1102 1102", &[11, 12, 11, 13, 12, 21, 20, 47]),
+    ("no pair, taken apart into a list in a list", "main = let ((a, b), c) = one in a", "01 18 1A0600 18 1101 1101", &[12, 25, 13, 12, 32]),
+    ("a circuit, taken apart into a list in a list", "main = fun ((a, b), c) : 1 -> 1. a",
+      "01 030000 040100 1502 18 1200 18 1101 1101", &[11, 12, 11, 13, 12, 33]),
     ("three in a row: pairs stand at the commas", "main = (one, zero, one)",
       "01 020000 020001 1702 1A0600 1701 1A0000 1A0600", &[11, 8, 17, 13, 19]),
     ("a pair with a circuit: 1 is taken for it", "main = (inv, one)", "01 030000 020000 1702 1A0501 1A0600", &[11, 8, 13]),
@@ -74,7 +89,13 @@ const REFUSED: &[(&str, usize, &str)] = &[
     ("a part's name", 32, "main = fun @and : 1. and"), ("one name in parentheses", 32, "main = let (x@) = zero in x"),
     ("one name of a function in parentheses", 32, "main = fun (x@) : 1. x"), ("a name behind a list", 32, "main = fun (x, y) @z : 1. x"),
     ("a name before a list", 32, "main = fun z @(x, y) : 1. x"), ("a list of no names", 32, "main = fun (@) : 1. zero"),
-    ("a list in a list", 32, "main = fun (x, @(y, z)) : 1. x"),
+    ("a second list", 32, "main = fun (x, y) @(z, w) : 1. x"), ("a list of a fixed point", 32, "main = fix @(x, y) : 1. x"),
+    ("one name in a list in a list", 32, "main = fun ((x@), y) : 1. x"), ("a list alone in a list", 32, "main = let ((x, y)@) = zero in x"),
+    ("a list of nothing in a list", 32, "main = let (x, (@)) = zero in x"), ("a part in a list in a list", 32, "main = fun (x, (y, @and)) : 1. x"),
+    ("a list that is not closed", 32, "main = fun (x, (y, z) @: 1. x"), ("no comma behind a list in a list", 32, "main = fun ((x, y) @z) : 1. x"),
+    ("a comma behind the last of a list", 32, "main = let ((x, y,@), z) = zero in x"), ("one parenthesis too many", 32, "main = let ((x, y), z)@) = zero in x"),
+    ("lists first, then what is not known", 33, "main = fun ((x, y), z) : 1. @w"), ("a list's names end with the body", 33, "main = (let ((x, y), z) = zero in x) @y"),
+    ("2,049 nodes by a list's variable", 34, "d{0} = zero d{n + 1} = d{n} d{n} main = let (@(x, y), z) = fix w : 1. d{10} in x"),
     ("edition 3", 32, "edition @3 main = zero"), ("edition behind", 32, "main = zero @edition 2"), ("a type's =", 32, "type t @zero"),
     ("no parameter", 32, "f[@] = zero"), ("no number", 32, "f{@} = zero"), ("a sum of names", 32, "f{n + @n} = zero"),
     ("two = in a row", 32, "d = e @= zero"), ("a head in parentheses", 32, "main = (zero @d{n} = one)"),
@@ -126,6 +147,11 @@ pub fn within_the_limits() -> Vec<(&'static str, String)> {
         ("1,024 arguments", arguments(1_024, "zero")),
         ("1,024 names", arguments(1_022, "fun x y : 1. x")),
         ("1,024 names with a pair's", arguments(1_020, "let (x, y) = zero in x")),
+        ("80 levels of lists that are read", unmade(79).into()),
+        ("80 levels by the lists of let", lists(40, "let ", 38, " = zero in zero")),
+        ("80 levels by the lists of fun", lists(40, "fun ", 37, " : 1. zero")),
+        ("1,024 names with those of lists in let", arguments(1_018, "let ((x, y), z) = zero in x")),
+        ("1,024 names with those of lists in fun", arguments(1_017, "fun ((x, y), z) : 1. x")),
         ("a cost of 32,767", costs("", 11)),
         ("a clause of 31 bytes", costs("", 31)),
         ("a number of 255", "e{n} = zero d{n} = e{n + 1} main = d{254}".into()),
@@ -144,6 +170,30 @@ fn passed() -> Vec<(&'static str, usize, String)> {
         ("1,025 arguments", 34, arguments(1_025, "zero").replace("main = f", "main = @f")),
         ("1,025 names", 34, arguments(1_022, "@fun x y z : 1. x")),
         ("1,025 names with a pair's", 34, arguments(1_021, "@let (x, y) = zero in x")),
+        ("81 levels of lists that are read", 34, marked(unmade(80), 81)),
+        ("81 levels by the lists of let", 34, marked(lists(40, "let ", 39, " = zero in zero"), 80)),
+        ("81 levels by the lists of fun", 34, marked(lists(40, "fun ", 38, " : 1. zero"), 79)),
+        ("81 levels by the only list of fun", 34, marked(lists(78, "fun ", 0, " : 1. zero"), 79)),
+        (
+            "1,025 names with those of a list in let",
+            34,
+            arguments(1_019, "let (@(x, y), z) = zero in x"),
+        ),
+        (
+            "1,025 names with those of the list of let",
+            34,
+            arguments(1_021, "@let ((x, y), z) = zero in x"),
+        ),
+        (
+            "1,025 names with those of a list in fun",
+            34,
+            arguments(1_018, "fun (@(x, y), z) : 1. x"),
+        ),
+        (
+            "1,025 names with those of the list of fun",
+            34,
+            arguments(1_020, "fun @((x, y), z) : 1. x"),
+        ),
         ("a cost of 32,768", 34, costs(", f{0}", 11) + "@"),
         ("a clause of 32 bytes", 34, costs("", 32) + "@"),
         ("65,536 bytes", 30, format!("@main = zero{}", " ".repeat(65_536 - 11))),
@@ -152,6 +202,29 @@ fn passed() -> Vec<(&'static str, usize, String)> {
 
 fn parentheses(times: usize) -> String {
     format!("main = {}zero{}", "(".repeat(times), ")".repeat(times))
+}
+
+/// So many lists in one another, in a list.
+fn in_a_list(inner: usize) -> String {
+    format!("{}x, y){}", "(".repeat(inner + 1), ", z)".repeat(inner))
+}
+
+/// A term in so many parentheses that takes so many lists in a list apart. In p parentheses it stands at level p + 1; of `let` the list
+/// number n within its list is taken apart at level p + 1 + n, and its variable stands one below; of `fun` one more.
+fn lists(parentheses: usize, open: &str, inner: usize, behind: &str) -> String {
+    let (before, after) = ("(".repeat(parentheses), ")".repeat(parentheses));
+    format!("main = {before}{open}{}{behind}{after}", in_a_list(inner))
+}
+
+/// A clause that is read, and not made.
+fn unmade(inner: usize) -> String {
+    format!("d{{n}} = let {} = zero in zero main = zero", in_a_list(inner))
+}
+
+/// A mark before an opening parenthesis, by its number from 1 on.
+fn marked(text: String, number: usize) -> String {
+    let (at, _) = text.match_indices('(').nth(number - 1).expect("so many parentheses");
+    format!("{}@{}", &text[..at], &text[at..])
 }
 
 fn bits(count: usize) -> String {

@@ -231,22 +231,29 @@ impl<'a> Parser<'_, 'a> {
         Ok(TermForm::Function(names, written, body))
     }
 
-    /// A list of names: the variable has none, and is taken apart.
+    /// A list: the variable has no name, and is taken apart.
     fn taken(&mut self, level: usize) -> Result<TermForm<'a>, Refusal> {
-        let round = self.word().at;
-        self.key("(")?;
-        let names = self.listed()?;
+        let list = self.list(level)?;
         let (written, body) = self.bound(level)?;
-        Ok(TermForm::Taken(round, names, written, body))
+        Ok(TermForm::Taken(list, written, body))
     }
 
-    /// Two names or more, behind an opening parenthesis.
-    fn listed(&mut self) -> Result<Vec<Named<'a>>, Refusal> {
-        let mut names = vec![self.name()?];
+    /// Two members or more; a list in a list has one level more.
+    fn list(&mut self, level: usize) -> Result<List<'a>, Refusal> {
+        let at = self.entered(level)?;
+        self.key("(")?;
+        let mut members = vec![self.member(level)?];
         self.key(",")?;
-        names.extend(self.row(Self::name)?);
+        members.extend(self.row(|parser| parser.member(level))?);
         self.key(")")?;
-        Ok(names)
+        Ok(List { at, members })
+    }
+
+    fn member(&mut self, level: usize) -> Result<Member<'a>, Refusal> {
+        match self.is("(") {
+            true => self.list(level + 1).map(Member::List),
+            false => self.name().map(Member::Name),
+        }
     }
 
     /// What stands behind the names of `fun` and `fix`.
@@ -258,11 +265,22 @@ impl<'a> Parser<'_, 'a> {
     }
 
     fn naming(&mut self, level: usize) -> Result<TermForm<'a>, Refusal> {
-        let names = if self.takes("(") { self.listed()? } else { vec![self.name()?] };
+        if self.is("(") {
+            let list = self.list(level)?;
+            let (named, body) = self.named(level)?;
+            return Ok(TermForm::Apart(list, named, body));
+        }
+        let name = self.name()?;
+        let (named, body) = self.named(level)?;
+        Ok(TermForm::Let(name, named, body))
+    }
+
+    /// What stands behind the name or the list of `let`.
+    fn named(&mut self, level: usize) -> Result<(Box<TermTree<'a>>, Box<TermTree<'a>>), Refusal> {
         self.key("=")?;
         let named = Box::new(self.term(level + 1)?);
         self.key("in")?;
-        Ok(TermForm::Let(names, named, Box::new(self.term(level + 1)?)))
+        Ok((named, Box::new(self.term(level + 1)?)))
     }
 
     fn atoms(&mut self, level: usize) -> Result<TermForm<'a>, Refusal> {

@@ -170,14 +170,10 @@ impl<'t, 'a> Maker<'t, 'a> {
             TermForm::Function(names, written, body) => {
                 self.functions(place, at, names, written, body)
             }
-            TermForm::Taken(round, names, written, body) => {
-                let bound = self.type_of(place, written)?;
-                self.scope.room(1, at)?;
-                self.entered(place, tree.level + 2, *round)?;
-                self.taken(place, *round, names, bound, body)
-            }
+            TermForm::Taken(list, written, body) => self.taken(place, at, list, written, body),
             TermForm::FixedPoint(name, written, body) => self.fixed(place, at, name, written, body),
-            TermForm::Let(names, named, body) => self.naming(place, at, names, named, body),
+            TermForm::Let(name, named, body) => self.naming(place, at, name, named, body),
+            TermForm::Apart(list, named, body) => self.apart(place, at, list, named, body),
             TermForm::Atoms(atoms) => self.applied(place, atoms),
             TermForm::Use(one) => self.term_use(place, one, tree.level),
             TermForm::Part(part) => self.part(*part, at),
@@ -185,8 +181,8 @@ impl<'t, 'a> Maker<'t, 'a> {
         }
     }
 
-    fn bind(&mut self, name: &'a [u8], of_type: TypeNumber) {
-        self.scope.entries.push(Entry::Variable(name, of_type));
+    fn bind(&mut self, called: Called<'a>, of_type: TypeNumber) {
+        self.scope.entries.push(Entry::Variable(called, of_type));
     }
 
     fn functions(
@@ -201,7 +197,7 @@ impl<'t, 'a> Maker<'t, 'a> {
         self.scope.room(names.len(), at)?;
         let before = self.scope.entries.len();
         for name in names {
-            self.bind(name.name, bound);
+            self.bind(Called::Name(name.name), bound);
         }
         let body = self.term(place, body)?;
         self.scope.entries.truncate(before);
@@ -214,23 +210,36 @@ impl<'t, 'a> Maker<'t, 'a> {
         self.node(at, vec![kind, of_type as u8], of_type, vec![body])
     }
 
-    /// `fun p : t. let (x, y, ..) = p in e`, where p has no name: the body stands a level deeper than it is written.
+    /// `fun p : t. let (x, y, ..) = p in e`, where p has no name.
     fn taken(
         &mut self,
         place: Place,
-        round: usize,
-        names: &[Named<'a>],
-        bound: TypeNumber,
+        at: usize,
+        list: &List<'a>,
+        written: &TypeTree<'a>,
         body: &TermTree<'a>,
     ) -> Answer {
+        let bound = self.type_of(place, written)?;
+        self.scope.room(1, at)?;
         let before = self.scope.entries.len();
-        self.bind(b"", bound);
-        let pair = self.variable(0, bound, round)?;
-        self.scope.room(2 * names.len(), round)?;
-        let place = Place { around: place.around + 1, ..place };
-        let made = self.projected(place, names, pair, body)?;
+        self.bind(Called::List(list.at), bound);
+        let made = self.lists(place, &[vec![list], list.inner()].concat(), body)?;
         self.scope.entries.truncate(before);
-        self.function(bound, made, round)
+        self.function(bound, made, list.at)
+    }
+
+    /// The lists' variables, each taken apart in the body of the one before, and a level deeper than it: so the body stands
+    /// as many levels deeper than it is written.
+    fn lists(&mut self, place: Place, lists: &[&List<'a>], body: &TermTree<'a>) -> Answer {
+        let [list, later @ ..] = lists else { return self.term(place, body) };
+        self.entered(place, body.level + 1, list.at)?;
+        let bound = self.scope.variable(place, Called::List(list.at));
+        let (binder, of_type) =
+            bound.expect("a list's variable is bound before its list is opened");
+        let pair = self.variable(binder, of_type, list.at)?;
+        self.scope.room(2 * list.members.len(), list.at)?;
+        let place = Place { around: place.around + 1, ..place };
+        self.projected(place, &list.members, pair, later, body)
     }
 
     fn fixed(
@@ -243,30 +252,42 @@ impl<'t, 'a> Maker<'t, 'a> {
     ) -> Answer {
         let bound = self.type_of(place, written)?;
         self.scope.room(1, at)?;
-        self.bind(name.name, bound);
+        self.bind(Called::Name(name.name), bound);
         let made = self.term(place, body)?;
         self.scope.entries.pop();
         self.node(name.at, vec![0x19, bound as u8], bound, vec![made])
     }
 
-    /// The named term is made first. One name is asked one entry of room, k names 2 k.
+    /// The named term is made first, then room is asked for.
     fn naming(
         &mut self,
         place: Place,
         at: usize,
-        names: &[Named<'a>],
+        name: &Named<'a>,
         named: &TermTree<'a>,
         body: &TermTree<'a>,
     ) -> Answer {
         let named = self.term(place, named)?;
+        self.scope.room(1, at)?;
         let before = self.scope.entries.len();
-        let made = if let [name] = names {
-            self.scope.room(1, at)?;
-            self.named(place, name, named, body)
-        } else {
-            self.scope.room(2 * names.len(), at)?;
-            self.projected(place, names, named, body)
-        };
+        let made = self.named(place, name, named, body);
+        self.scope.entries.truncate(before);
+        made
+    }
+
+    /// The same with a list, whose k members are asked 2 k entries of room.
+    fn apart(
+        &mut self,
+        place: Place,
+        at: usize,
+        list: &List<'a>,
+        named: &TermTree<'a>,
+        body: &TermTree<'a>,
+    ) -> Answer {
+        let named = self.term(place, named)?;
+        self.scope.room(2 * list.members.len(), at)?;
+        let before = self.scope.entries.len();
+        let made = self.projected(place, &list.members, named, &list.inner(), body);
         self.scope.entries.truncate(before);
         made
     }
@@ -279,7 +300,7 @@ impl<'t, 'a> Maker<'t, 'a> {
         named: MadeTerm,
         body: &TermTree<'a>,
     ) -> Answer {
-        self.bind(name.name, named.of_type);
+        self.bind(Called::Name(name.name), named.of_type);
         let body = self.term(place, body)?;
         let (at, of_type) = (name.at, body.of_type);
         let sharable = self.table.is_sharable(named.of_type);
@@ -291,29 +312,39 @@ impl<'t, 'a> Maker<'t, 'a> {
         self.node(at, vec![kind], of_type, vec![function, named])
     }
 
-    /// "with more names, one projection for each comma: the rest of the pair is taken apart in the body"
+    fn bind_member(&mut self, member: &Member<'a>, of_type: TypeNumber) {
+        let called = match member {
+            Member::Name(name) => Called::Name(name.name),
+            Member::List(list) => Called::List(list.at),
+        };
+        self.bind(called, of_type);
+    }
+
+    /// "with more members, one projection for each comma: the rest of the pair is taken apart in the body"; the later lists are
+    /// taken apart below them all.
     fn projected(
         &mut self,
         place: Place,
-        names: &[Named<'a>],
+        members: &[Member<'a>],
         pair: MadeTerm,
+        later: &[&List<'a>],
         body: &TermTree<'a>,
     ) -> Answer {
         let (left, right) = match self.table.get(pair.of_type) {
             Type::Product(left, right) => (left, right),
             _ => (BIT, BIT),
         };
-        self.bind(names[0].name, left);
-        let made = if let [_, last] = names {
-            self.bind(last.name, right);
-            self.term(place, body)?
+        self.bind_member(&members[0], left);
+        let made = if let [_, last] = members {
+            self.bind_member(last, right);
+            self.lists(place, later, body)?
         } else {
-            self.bind(b"", right);
-            let rest = self.variable(0, right, names[1].at)?;
-            self.projected(place, &names[1..], rest, body)?
+            self.bind(Called::Rest, right);
+            let rest = self.variable(0, right, members[1].at())?;
+            self.projected(place, &members[1..], rest, later, body)?
         };
         let of_type = made.of_type;
-        self.node(names[0].at, vec![0x18], of_type, vec![pair, made])
+        self.node(members[0].at(), vec![0x18], of_type, vec![pair, made])
     }
 
     /// "application, to the left"
@@ -334,8 +365,8 @@ impl<'t, 'a> Maker<'t, 'a> {
     }
 
     fn term_use(&mut self, place: Place, one: &Use<'a>, level: usize) -> Answer {
-        let variable = self.scope.variable(place, one.named.name).filter(|_| one.is_bare());
-        if let Some((binder, of_type)) = variable {
+        let variable = self.scope.variable(place, Called::Name(one.named.name));
+        if let Some((binder, of_type)) = variable.filter(|_| one.is_bare()) {
             return self.variable(binder, of_type, one.named.at);
         }
         let before = self.scope.entries.len();

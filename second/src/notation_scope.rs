@@ -9,10 +9,19 @@ use crate::sheet::TypeNumber;
 pub const ENTRIES: usize = 1_024;
 pub const COSTS: usize = 32_767;
 
+/// What a variable goes by.
+#[derive(Clone, Copy, Debug, PartialEq, Eq)]
+pub enum Called<'a> {
+    Name(&'a [u8]),
+    /// The variable of a list, by the list's parenthesis: no text can name it.
+    List(usize),
+    /// The rest of a pair that is taken apart further.
+    Rest,
+}
+
 #[derive(Clone, Copy, Debug)]
 pub enum Entry<'a> {
-    /// The rest of a pair that is taken apart further has no name.
-    Variable(&'a [u8], TypeNumber),
+    Variable(Called<'a>, TypeNumber),
     Type(&'a [u8], TypeNumber),
     Number(&'a [u8], usize),
     /// An argument that waits for later ones.
@@ -43,14 +52,14 @@ impl<'a> Scope<'a> {
     }
 
     /// "the nearest variable of its own definition": its binder number and its type.
-    pub fn variable(&self, place: Place, sought: &[u8]) -> Option<(usize, TypeNumber)> {
+    pub fn variable(&self, place: Place, sought: Called) -> Option<(usize, TypeNumber)> {
         let variables = self.entries[place.own..].iter().rev().filter_map(|entry| match *entry {
-            Entry::Variable(name, of_type) => Some((name, of_type)),
+            Entry::Variable(called, of_type) => Some((called, of_type)),
             _ => None,
         });
         let mut numbered = variables.enumerate();
         numbered
-            .find(|(_, (name, _))| *name == sought)
+            .find(|(_, (called, _))| *called == sought)
             .map(|(binder, (_, of_type))| (binder, of_type))
     }
 

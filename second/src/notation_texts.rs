@@ -4,7 +4,7 @@
 use crate::random::Random;
 
 const PARTS: [&str; 7] = ["zero", "reg", "and", "or", "xor", "inv", "one"];
-const VARIABLES: [&str; 6] = ["x", "y", "z", "p", "n", "f"];
+const VARIABLES: [&str; 7] = ["x", "y", "z", "p", "n", "f", "_"];
 
 /// Clauses that a text may begin with, and uses of what they define.
 #[rustfmt::skip]
@@ -154,8 +154,12 @@ fn term(random: &mut Random, known: &mut Known, size: usize) -> String {
         }
         4 => {
             let pair = term(random, known, size - 1);
-            let names: Vec<&str> = (0..random.within(2, 4)).map(|_| bind(random, known)).collect();
-            format!("let ({}) = {pair} in {}", names.join(", "), term(random, known, size - 1))
+            let (list, fitting) = list(random, known, 4);
+            let pair = match random.once_in(3) {
+                true => format!("(fix x : {fitting}. {})", atom(random, known, 0)),
+                false => pair,
+            };
+            format!("let {list} = {pair} in {}", term(random, known, size - 1))
         }
         _ => {
             let atoms: Vec<String> =
@@ -170,13 +174,28 @@ fn term(random: &mut Random, known: &mut Known, size: usize) -> String {
 fn function(random: &mut Random, known: &mut Known, size: usize) -> String {
     let sign = random.pick(&["fun ", "λ", "fun "]);
     let bound = written(random, known, 2);
-    if random.below(4) == 0 {
-        let names: Vec<&str> = (0..random.within(2, 3)).map(|_| bind(random, known)).collect();
+    if random.below(3) == 0 {
+        let (list, fitting) = list(random, known, 3);
+        let bound = if random.once_in(2) { fitting } else { bound };
         let body = term(random, known, size - 1);
-        return format!("{sign}({}) : {bound}. {body}", names.join(", "));
+        return format!("{sign}{list} : {bound}. {body}");
     }
     let names: Vec<&str> = (0..random.within(1, 2)).map(|_| bind(random, known)).collect();
     format!("{sign}{} : {bound}. {}", names.join(" "), term(random, known, size - 1))
+}
+
+/// Up to so many members, lists among them, in four levels at most; and a type that can be taken apart so.
+fn list(random: &mut Random, known: &mut Known, levels: usize) -> (String, String) {
+    let (mut members, mut types) = (Vec::new(), Vec::new());
+    for _ in 0..random.within(2, levels.max(2)) {
+        let (member, fitting) = match levels > 1 && random.once_in(5) {
+            true => list(random, known, levels - 1),
+            false => (bind(random, known).to_string(), random.pick(&["1", "1", "1^2"]).to_string()),
+        };
+        members.push(member);
+        types.push(fitting);
+    }
+    (format!("({})", members.join(", ")), format!("({})", types.join(" * ")))
 }
 
 fn bind(random: &mut Random, known: &mut Known) -> &'static str {
@@ -206,7 +225,7 @@ fn about(random: &mut Random, limit: usize) -> usize {
 
 /// A text in which one thing is near its limit.
 pub fn near(random: &mut Random) -> String {
-    match random.below(29) {
+    match random.below(33) {
         0 => nested(about(random, 79), "(", "zero", ")"),
         1 => nested(about(random, 63), "fun x : 1. ", "x", ""),
         2 => nested(about(random, 31), "inv (", "zero", ")"),
@@ -239,8 +258,60 @@ pub fn near(random: &mut Random) -> String {
         25 => clause_bytes(random),
         26 => deep_types(random),
         27 => wide_row(random),
+        28..=30 => deep_lists(random),
+        31 => list_nodes(random),
         _ => format!("main = {}", row(about(random, 64), "inv", " ")),
     }
+}
+
+/// Lists in one another or beside one another, near the levels in which they are read or taken apart, in a clause that is made or not.
+fn deep_lists(random: &mut Random) -> String {
+    let around = *random.pick(&[0, 0, 17, 39, 40, 41, 60, 76, 77, 78, 79]);
+    let lists = match around {
+        0 if random.once_in(2) => about(random, 79),
+        0 => about(random, 62),
+        _ => (80_usize.saturating_sub(around) + random.below(5)).saturating_sub(4).max(1),
+    };
+    let list = match random.below(4) {
+        0 => format!("({}x, y)", "(p, n), ".repeat(lists)),
+        1 => format!("{}x, y{}", "(_, ".repeat(lists) + "(", ")".repeat(lists + 1)),
+        2 => {
+            let (left, right) = (lists / 2, lists - lists / 2);
+            let side = |deep: usize| {
+                format!("{}x, y){}", "(".repeat(deep), ", z)".repeat(deep.max(1) - 1))
+            };
+            format!("({}, {})", side(left.max(1)), side(right))
+        }
+        _ => format!("{}x, y){}", "(".repeat(lists + 1), ", z)".repeat(lists)),
+    };
+    let body = random.pick(&["x", "y", "d{0}", "(x, y)", "d{2}"]);
+    let term = match random.once_in(2) {
+        true => format!("let {list} = {} in {body}", random.pick(&["zero", "(zero, one)", "inv"])),
+        false => format!("fun {list} : {}. {body}", random.pick(&["1", "1^3", "1 -> 1"])),
+    };
+    let (before, after) = ("(".repeat(around), ")".repeat(around));
+    let head = random.pick(&["main", "main", "e{n}", "e{n} = zero main"]);
+    format!(
+        "d{{0}} = zero d{{n + 1}} = (d{{n}}) {head} = {before}{term}{after}{}",
+        random.pick(&["", " main = one"])
+    )
+}
+
+/// Near 2,048 nodes where lists are taken apart.
+fn list_nodes(random: &mut Random) -> String {
+    let list = random.pick(&[
+        "((x, y), z)",
+        "(x, (y, z), p)",
+        "(x, y, (z, p))",
+        "((x, _), (_, z))",
+        "(((x, y), z), _)",
+    ]);
+    let fixes = "fix f : 1. ".repeat(random.below(4));
+    let value = random.pick(&["d{10}", "(d{9}, d{9})", "d{9} d{9}"]);
+    let body = random.pick(&["x", "(x, z)", "z", "_"]);
+    format!(
+        "d{{0}} = zero d{{n + 1}} = d{{n}} d{{n}}\nmain = let {list} = {fixes}{value} in {body}"
+    )
 }
 
 fn about_half(random: &mut Random) -> usize {
@@ -280,6 +351,9 @@ fn arguments_around(random: &mut Random) -> String {
         "let x = one in let (y, z, p, n) = x in n",
         "fix x : 1. fun y z : a3. x",
         "fun (x, y, z) : a3. let n = x in y",
+        "let ((x, y), z) = one in y",
+        "fun ((x, y), z) : a3. let n = x in y",
+        "fun (x, (y, z), (p, n)) : a3. let (x, (y, n)) = p in n",
         "fun x : g[1, a1, 1]. x",
         "h{1, 2, 3} (fun x y : a1. h{1, 2, 3})",
     ]);
@@ -330,7 +404,9 @@ fn deep_types(random: &mut Random) -> String {
 
 /// Texts at the corners of the grammar.
 #[rustfmt::skip]
-const ODD: [&str; 28] = [
+const ODD: [&str; 36] = [
+    "main = fun ((x, y)) : 1. x", "main = let () = one in x", "main = let ((), x) = one in x", "main = fun (x, (y)) : 1. x", "main = fun ((x, y), z : 1. x",
+    "main = let ((x, y), z) one in x", "main = fun ((x, y), z) (p, n) : 1. x", "main = fun (((x, x), x), x) : ((1 * 1^2) * 1^3) * 1^4. x",
     "", "main", "main = zero edition 1", "edition 01 main = fun x : 01. x", "main = zero x[ = one", "main = zero x[y{] = one",
     "main = zero x[y][z] = one", "main = zero x{y}[z] = one", "main = zero x{y}{z}{1} = one", "main = zero x] = one", "d = e = zero",
     "d[a, a]{n, n} = fun x : a. e{n} main = zero", "e{n} = zero d[a, a]{n, n} = fun x : a. e{n + 250} main = d[1, 1 * 1]{5, 7}",
@@ -375,6 +451,7 @@ fn many_nodes(random: &mut Random) -> String {
         "(d{9}, d{9})",
         "let x = d{9} in d{9}",
         "let (x, y) = d{9} in d{9}",
+        "let ((x, y), z) = d{9} in d{9}",
         "inv d{9} d{9}",
     ]);
     format!("d{{0}} = zero d{{n + 1}} = d{{n}} d{{n}}\nmain = {fixes}{body}")
@@ -438,15 +515,32 @@ const WORDS: [&str; 35] = [
 fn damage(random: &mut Random, text: &mut Vec<u8>) {
     let at = random.below(text.len() + 1);
     let here = at.min(text.len().saturating_sub(1));
-    match random.below(9) {
+    match random.below(11) {
         0 => text.truncate(at),
-        1 if !text.is_empty() => drop(text.remove(here)),
-        2 => text.insert(at, random.byte()),
-        3 if !text.is_empty() => text[here] = random.byte(),
-        4 if !text.is_empty() => text[here] = *random.pick(b"()[]{}=.,:+*^-> \n1n0x'_"),
-        5 => repeat_stretch(random, text, at),
-        6 => drop(text.drain(at..(at + random.below(12)).min(text.len()))),
+        1 | 2 if text.contains(&b'(') => change_sign(random, text),
+        3 if !text.is_empty() => drop(text.remove(here)),
+        4 => text.insert(at, random.byte()),
+        5 if !text.is_empty() => text[here] = random.byte(),
+        6 if !text.is_empty() => text[here] = *random.pick(b"()[]{}=.,:+*^-> \n1n0x'_"),
+        7 => repeat_stretch(random, text, at),
+        8 => drop(text.drain(at..(at + random.below(12)).min(text.len()))),
         _ => put_word(random, text, at),
+    }
+}
+
+/// A parenthesis or a comma that is dropped, doubled, or made another.
+fn change_sign(random: &mut Random, text: &mut Vec<u8>) {
+    let is_sign = |&at: &usize| b"(),".contains(&text[at]);
+    let places: Vec<usize> = (0..text.len()).filter(is_sign).collect();
+    let at = *random.pick(&places);
+    match random.below(4) {
+        0 => drop(text.remove(at)),
+        1 => text.insert(at, text[at]),
+        2 => text[at] = *random.pick(b"(), "),
+        _ => {
+            let words = *random.pick(&["(x, ", ", y)", "(_) ", "() ,"]);
+            text.splice(at..at, words.bytes());
+        }
     }
 }
 

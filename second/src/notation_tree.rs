@@ -7,6 +7,41 @@ pub struct Named<'a> {
     pub at: usize,
 }
 
+/// Two members or more in parentheses, and where the first parenthesis stands.
+#[derive(Clone, Debug)]
+pub struct List<'a> {
+    pub at: usize,
+    pub members: Vec<Member<'a>>,
+}
+
+/// What a list binds at one of its places: a name, or a variable that is taken apart into a list.
+#[derive(Clone, Debug)]
+pub enum Member<'a> {
+    Name(Named<'a>),
+    List(List<'a>),
+}
+
+impl Member<'_> {
+    /// Its word: the name, or the list's parenthesis.
+    pub fn at(&self) -> usize {
+        match self {
+            Member::Name(name) => name.at,
+            Member::List(list) => list.at,
+        }
+    }
+}
+
+impl List<'_> {
+    /// The lists in it, in the order in which they open.
+    pub fn inner(&self) -> Vec<&Self> {
+        let lists = self.members.iter().filter_map(|member| match member {
+            Member::Name(_) => None,
+            Member::List(list) => Some(list),
+        });
+        lists.flat_map(|list| [vec![list], list.inner()].concat()).collect()
+    }
+}
+
 /// `k`, or `n + k`.
 #[derive(Clone, Debug)]
 pub struct Count<'a> {
@@ -64,11 +99,12 @@ pub struct TermTree<'a> {
 #[derive(Clone, Debug)]
 pub enum TermForm<'a> {
     Function(Vec<Named<'a>>, TypeTree<'a>, Box<TermTree<'a>>),
-    /// `fun (x, y, ..)`, with the place of the parenthesis.
-    Taken(usize, Vec<Named<'a>>, TypeTree<'a>, Box<TermTree<'a>>),
+    /// `fun (x, y, ..)`
+    Taken(List<'a>, TypeTree<'a>, Box<TermTree<'a>>),
     FixedPoint(Named<'a>, TypeTree<'a>, Box<TermTree<'a>>),
-    /// One name is `let x`; more are `let (x, y, ..)`.
-    Let(Vec<Named<'a>>, Box<TermTree<'a>>, Box<TermTree<'a>>),
+    Let(Named<'a>, Box<TermTree<'a>>, Box<TermTree<'a>>),
+    /// `let (x, y, ..)`
+    Apart(List<'a>, Box<TermTree<'a>>, Box<TermTree<'a>>),
     Atoms(Vec<TermTree<'a>>),
     Use(Use<'a>),
     Part(u8),

@@ -41,7 +41,10 @@ use Rattle.foreign.specs.declared.Verdict.{Verdict}
 use Rattle.foreign.specs.declared.Verdict.the-variants as verdict
 use Rattle.deltawobble.specs.Boundary.{Packs, PacksBatch, checkedValue, PacksCheck, PacksLanes, PacksNever, PacksMake}
 use Rattle.never_calculus.specs.Search.{NeverCall}
-use Rattle.notation_calculus.specs.Make.{MakeCall}
+use Rattle.notation_calculus.specs.Make.{MakeCall, makeCall}
+use Rattle.notation_theorems.specs.MakePlace.{MakeCallPlace, no-memory, in-text, no-room, no-places, MakeCount}
+use Rattle.notation_theorems.proofs.MakePlaces.{place-few}
+use Rattle.notation_theorems.proofs.CallPlaces.{make-call-places}
 use Rattle.maker.specs.Made.{calledMake}
 use Rattle.never.specs.Told.{calledNever}
 
@@ -140,6 +143,18 @@ check-tells lean lean′ s s′ work work′ h h′ e = word-tells _ _ (check-ca
 
 pub verilog-tells : (s s′ out out′ work work′ : List ℕ) → packed (verilogCall s out work .said) ≡ packed (verilogCall s′ out′ work′ .said) → verilogCall s out work .said ≡ verilogCall s′ out′ work′ .said
 verilog-tells s s′ out out′ work work′ e = word-tells _ _ (verilog-fits s (length out) (verilog-places s out work)) (verilog-fits s′ (length out′) (verilog-places s′ out′ work′)) e
+
+make-fits : (text : List ℕ) (room roomPlaces : ℕ) {a : Answer ℕ} → Judged (MakeCallPlace text room roomPlaces) (MakeCount room) a → FitsWord a
+make-fits text room roomPlaces (value h) = omega (arith, h .0)
+make-fits text room roomPlaces (refusal no-memory) = (omega arith, omega arith, omega arith, omega arith, omega arith)
+make-fits text room roomPlaces (refusal (in-text {why} h)) = (omega (arith, h .from), omega (arith, h .to), omega (arith, place-few text why h), omega (arith, h .plain .0), omega (arith, h .plain .1))
+make-fits text room roomPlaces (refusal (no-room m l)) = (omega arith, omega arith, omega arith, omega arith, omega arith)
+make-fits text room roomPlaces (refusal (no-places m l)) = (omega arith, omega arith, omega arith, omega arith, omega arith)
+
+-- .. of every text, however long
+pub make-tells : (text text′ out out′ places places′ work work′ : List ℕ)
+    → packed (makeCall text out places work .said) ≡ packed (makeCall text′ out′ places′ work′ .said) → makeCall text out places work .said ≡ makeCall text′ out′ places′ work′ .said
+make-tells text text′ out out′ places places′ work work′ e = word-tells _ _ (make-fits text (length out) (length places) (make-call-places text out places work)) (make-fits text′ (length out′) (length places′) (make-call-places text′ out′ places′ work′)) e
 
 -- ---- a stretch
 

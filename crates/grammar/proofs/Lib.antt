@@ -6,4 +6,5 @@ pub mod TypeLaws
 pub mod NameLaws
 pub mod HeadLaws
 pub mod TermLaws
+pub mod ListLaws
 pub mod ItemLaws

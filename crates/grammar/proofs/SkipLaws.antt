@@ -11,10 +11,9 @@ use Rattle.calculus.specs.Answer.{Answer, good, refused, _>>=_, refuse, need}
 use Rattle.notation_calculus.specs.Words.{Sign, fun, fix, lets, within, equals, dot, comma, colon, plus, power, round, square, endSquare, curly, endCurly, endRound, times, arrow, linear, Token, sign, part, number, name, Word}
 use Rattle.notation_calculus.specs.Trees.{Bound, Number, TypeTree, typed, TypeTrees, Tree, Trees}
 use Rattle.notation_calculus.specs.Trees as Trees
-use Rattle.notation_calculus.specs.Grammar.{Got, got, peek, behind, place, isToken, is, expect, boundName, nameAt, isName, valueOf, listFrom, readNumber, numberAt, numbersAt, typesOf, argumentsAt, onesAt, typeAtomOf, productAt, arrowAt, typeAt, beginsAtom, treesFrom, readAtom, atomsFrom, spineAt, namesFrom, bindsEach, bindsPair, bindsFrom, functionTree, boundBody, letBody, letAt, termBy, termAt}
+use Rattle.notation_calculus.specs.Grammar.{Got, got, peek, behind, place, isToken, is, expect, boundName, nameAt, isName, valueOf, listFrom, readNumber, numberAt, numbersAt, typesOf, argumentsAt, onesAt, typeAtomOf, productAt, arrowAt, typeAt, beginsAtom, treesFrom, readAtom, atomsFrom, spineAt, namesFrom, nameless, Lists, groupAt, itemAt, boundsOf, groupsOf, listsAt, bindsEach, bindsPair, bindsFrom, functionTree, apartTree, boundBody, letBody, letAt, termBy, termAt}
 use Rattle.grammar.specs.Ends.{restOf, typeStep, termStep}
-use Rattle.grammar.specs.Skips.{Step, nameEnd, listMore, listEnd, groupEnd, isNumber, numberBy, numberEnd, onesEnd, numbersEnd, useEnd, typeAtomBy, productEnd, arrowEnd, typeLevel, treesEnd, tupleEnd, atomBy, atomEnd, atomsEnd, spineEnd, namesMore, namesEnd, boundEnd, letBodyEnd, expectCode, namesList, apartEnd, bindsEnd, letNamesEnd, termLevel}
-use Rattle.grammar.proofs.EndLaws.{expect-code}
+use Rattle.grammar.specs.Skips.{Step, nameEnd, listMore, listEnd, groupEnd, isNumber, numberBy, numberEnd, onesEnd, numbersEnd, useEnd, typeAtomBy, productEnd, arrowEnd, typeLevel, treesEnd, tupleEnd, atomBy, atomEnd, atomsEnd, spineEnd, namesMore, namesEnd, boundEnd, letBodyEnd, apartEnd, oneEnd, listsEnd, bindsEnd, termLevel}
 
 pub through : {A B : Type 0} (m : Answer (Got A)) (m′ : Answer (List Word)) (f : Got A → Answer (Got B)) (g : Step) → restOf m ≡ m′ → ((a : Got A) → restOf (f a) ≡ g (a .rest)) → restOf (m >>= f) ≡ (m′ >>= g)
 through (good a) m′ f g e h = h a ∙ ap (λ (k : Answer (List Word)). k >>= g) e
@@ -186,40 +185,42 @@ module _ {A : Type 0} (read : List Word → Answer (Got A)) where
   filled zero ws = tt
   filled (suc n) ws = filled-on (read ws) n
 
--- ---- names in parentheses
+-- ---- lists in parentheses
 
-module _ {B : Type 0} (go : List Bound → List Word → Answer (Got B)) (go′ : Step) (same : (xs : List Bound) (us : List Word) → restOf (go xs us) ≡ go′ us) where
-  -- what follows the names in parentheses
-  abbrev apartOn : Got (List Bound) → Answer (Got B)
-  apartOn xs = need (leb 2 (length (xs .value))) 32 (place (xs .rest)) >>= λ _. expect endRound (xs .rest) >>= λ after. go (xs .value) after
+module _ {A B : Type 0} (read : List Word → Answer (Got A)) (read′ : Step) (same : (us : List Word) → restOf (read us) ≡ read′ us) (build : List A → B) where
+  -- what follows those in parentheses
+  abbrev apartOn : Got (List A) → Answer (Got B)
+  apartOn xs = need (leb 2 (length (xs .value))) 32 (place (xs .rest)) >>= λ _. expect endRound (xs .rest) >>= λ after. got (build (xs .value)) after
 
-  apart-list : (x : Bound) (l : Answer (Got (List Bound))) (l′ : Answer (List Word)) → restOf l ≡ l′ → Filled l → restOf ((l >>= λ xs. got (x ∷ xs .value) (xs .rest)) >>= apartOn) ≡ ((l′ >>= λ us. expectCode 12 us) >>= λ vs. go′ vs)
+  apart-list : (x : A) (l : Answer (Got (List A))) (l′ : Answer (List Word)) → restOf l ≡ l′ → Filled l → restOf ((l >>= λ xs. got (x ∷ xs .value) (xs .rest)) >>= apartOn) ≡ (l′ >>= λ us. expect endRound us)
   apart-list x (good xs) l′ e f =
-      ap (λ (b : Bool). restOf (need b 32 (place (xs .rest)) >>= λ _. expect endRound (xs .rest) >>= λ after. go (x ∷ xs .value) after)) (le-leb 2 (length (x ∷ xs .value)) (omega arith))
-      ∙ across (expect endRound (xs .rest)) _ (λ vs. go′ vs) (λ after. same (x ∷ xs .value) after)
-      ∙ ap (λ (m : Answer (List Word)). m >>= λ vs. go′ vs) (expect-code endRound (xs .rest))
-      ∙ ap (λ (m : Answer (List Word)). (m >>= λ us. expectCode 12 us) >>= λ vs. go′ vs) e
-  apart-list x (refused why) l′ e f = ap (λ (m : Answer (List Word)). (m >>= λ us. expectCode 12 us) >>= λ vs. go′ vs) e
+      ap (λ (b : Bool). restOf (need b 32 (place (xs .rest)) >>= λ _. expect endRound (xs .rest) >>= λ after. got (build (x ∷ xs .value)) after)) (le-leb 2 (length (x ∷ xs .value)) (omega arith))
+      ∙ kept (expect endRound (xs .rest)) (build (x ∷ xs .value))
+      ∙ ap (λ (m : Answer (List Word)). m >>= λ us. expect endRound us) e
+  apart-list x (refused why) l′ e f = ap (λ (m : Answer (List Word)). m >>= λ us. expect endRound us) e
 
-  apart-comma : (b : Bool) (x : Got Bound) (k : ℕ) → restOf (cond b (listFrom nameAt k (behind (x .rest)) >>= λ xs. got (x .value ∷ xs .value) (xs .rest)) (got (x .value ∷ []) (x .rest)) >>= apartOn) ≡ ((need b 32 (place (x .rest)) >>= λ _. namesList 12 k (behind (x .rest))) >>= λ vs. go′ vs)
-  apart-comma true x k = apart-list (x .value) (listFrom nameAt k (behind (x .rest))) _ (list-rest nameAt nameEnd name-rest k (behind (x .rest))) (filled nameAt k (behind (x .rest)))
+  apart-comma : (b : Bool) (x : Got A) (k : ℕ) → restOf (cond b (listFrom read k (behind (x .rest)) >>= λ xs. got (x .value ∷ xs .value) (xs .rest)) (got (x .value ∷ []) (x .rest)) >>= apartOn) ≡ ((need b 32 (place (x .rest)) >>= λ _. good (behind (x .rest))) >>= λ vs. listEnd read′ k vs >>= λ us. expect endRound us)
+  apart-comma true x k = apart-list (x .value) (listFrom read k (behind (x .rest))) _ (list-rest read read′ same k (behind (x .rest))) (filled read k (behind (x .rest)))
   apart-comma false x k = refl
 
-  apart-name : (m : Answer (Got Bound)) (m′ : Answer (List Word)) (k : ℕ) → restOf m ≡ m′ → restOf ((m >>= λ x. cond (is comma (x .rest)) (listFrom nameAt k (behind (x .rest)) >>= λ xs. got (x .value ∷ xs .value) (xs .rest)) (got (x .value ∷ []) (x .rest))) >>= apartOn) ≡ ((m′ >>= λ us. need (is comma us) 32 (place us) >>= λ _. namesList 12 k (behind us)) >>= λ vs. go′ vs)
-  apart-name (good x) m′ k e = apart-comma (is comma (x .rest)) x k ∙ ap (λ (m : Answer (List Word)). (m >>= λ us. need (is comma us) 32 (place us) >>= λ _. namesList 12 k (behind us)) >>= λ vs. go′ vs) e
-  apart-name (refused why) m′ k e = ap (λ (m : Answer (List Word)). (m >>= λ us. need (is comma us) 32 (place us) >>= λ _. namesList 12 k (behind us)) >>= λ vs. go′ vs) e
+  apart-one : (m : Answer (Got A)) (m′ : Answer (List Word)) (k : ℕ) → restOf m ≡ m′ → restOf ((m >>= λ x. cond (is comma (x .rest)) (listFrom read k (behind (x .rest)) >>= λ xs. got (x .value ∷ xs .value) (xs .rest)) (got (x .value ∷ []) (x .rest))) >>= apartOn) ≡ (m′ >>= λ us. expect comma us >>= λ vs. listEnd read′ k vs >>= λ xs. expect endRound xs)
+  apart-one (good x) m′ k e = apart-comma (is comma (x .rest)) x k ∙ ap (λ (m : Answer (List Word)). m >>= λ us. expect comma us >>= λ vs. listEnd read′ k vs >>= λ xs. expect endRound xs) e
+  apart-one (refused why) m′ k e = ap (λ (m : Answer (List Word)). m >>= λ us. expect comma us >>= λ vs. listEnd read′ k vs >>= λ xs. expect endRound xs) e
 
-  apart-rest : (n : ℕ) (ws : List Word) → restOf (listFrom nameAt n ws >>= apartOn) ≡ (apartEnd n ws >>= λ vs. go′ vs)
+  apart-rest : (n : ℕ) (ws : List Word) → restOf (listFrom read n ws >>= apartOn) ≡ apartEnd read′ n ws
   apart-rest zero ws = refl
-  apart-rest (suc k) ws = apart-name (nameAt ws) (nameEnd ws) k (name-rest ws)
+  apart-rest (suc k) ws = apart-one (read ws) (read′ ws) k (same ws)
 
-plain : (m : Answer (List Word)) → (m >>= λ us. good us) ≡ m
-plain (good ws) = refl
-plain (refused why) = refl
+module _ (lists : List Word → Answer (Got Lists)) (lists′ : Step) (sameLists : (us : List Word) → restOf (lists us) ≡ lists′ us) where
+  one-rest : (ws : List Word) → restOf (itemAt lists ws) ≡ oneEnd lists′ ws
+  one-rest ws = either (is round ws) _ _ (lists′ ws) (nameEnd ws) (made (lists ws) (λ ls. record { bound = nameless (place ws); groups = groupAt (place ws) ls }) ∙ sameLists ws) (made (nameAt ws) (λ x. record { bound = x; groups = [] }) ∙ name-rest ws)
 
--- what `fun` binds
-binds-rest : (n : ℕ) (ws : List Word) → restOf (bindsFrom n ws) ≡ bindsEnd n ws
-binds-rest n ws = either (is round ws) _ _ (apartEnd (length ws) (behind ws)) (namesEnd n ws) (apart-rest (λ xs us. got (bindsPair (place ws) xs) us) (λ us. good us) (λ xs us. refl) (length ws) (behind ws) ∙ plain (apartEnd (length ws) (behind ws))) (made (namesFrom n ws) (λ xs. bindsEach xs) ∙ names-rest n ws)
+  binds-rest : (n : ℕ) (ws : List Word) → restOf (bindsFrom lists n ws) ≡ bindsEnd lists′ n ws
+  binds-rest n ws = either (is round ws) _ _ (lists′ ws) (namesEnd n ws) (made (lists ws) (λ ls. bindsPair (place ws) ls) ∙ sameLists ws) (made (namesFrom n ws) (λ xs. bindsEach xs) ∙ names-rest n ws)
+
+lists-rest : (more : ℕ) (ws : List Word) → restOf (listsAt more ws) ≡ listsEnd more ws
+lists-rest zero ws = refl
+lists-rest (suc more) ws = apart-rest (itemAt (λ us. listsAt more us)) (oneEnd (listsEnd more)) (one-rest (λ us. listsAt more us) (listsEnd more) (lists-rest more)) (λ xs. record { names = boundsOf xs; inner = groupsOf xs }) (length ws) (behind ws)
 
 -- ---- let
 
@@ -227,21 +228,25 @@ cond-then : (b : Bool) (x y : Answer (List Word)) (go : Step) → cond b (x >>= 
 cond-then true x y go = refl
 cond-then false x y go = refl
 
-module _ (read : List Word → Answer (Got Tree)) (read′ : Step) (same : (us : List Word) → restOf (read us) ≡ read′ us) where
-  let-rest : (at : ℕ) (ws : List Word) → restOf (letAt read at ws) ≡ (letNamesEnd ws >>= λ us. letBodyEnd read′ us)
-  let-rest at ws = either (is round ws) _ _ (apartEnd (length ws) (behind ws) >>= λ us. letBodyEnd read′ us) (nameEnd ws >>= λ us. letBodyEnd read′ us) (apart-rest (λ xs us. letBody read (Trees.apart at xs) us) (λ us. letBodyEnd read′ us) (λ xs us. let-body-rest read read′ same (Trees.apart at xs) us) (length ws) (behind ws)) (through (nameAt ws) _ _ (λ us. letBodyEnd read′ us) (name-rest ws) (λ x. let-body-rest read read′ same (Trees.name at (x .value)) (x .rest))) ∙ cond-then (is round ws) (apartEnd (length ws) (behind ws)) (nameEnd ws) (λ us. letBodyEnd read′ us)
+module _ (read : List Word → Answer (Got Tree)) (read′ : Step) (same : (us : List Word) → restOf (read us) ≡ read′ us) (lists : List Word → Answer (Got Lists)) (lists′ : Step) (sameLists : (us : List Word) → restOf (lists us) ≡ lists′ us) where
+  let-rest : (at : ℕ) (ws : List Word) → restOf (letAt read lists at ws) ≡ (oneEnd lists′ ws >>= λ us. letBodyEnd read′ us)
+  let-rest at ws =
+      either (is round ws) _ _ (lists′ ws >>= λ us. letBodyEnd read′ us) (nameEnd ws >>= λ us. letBodyEnd read′ us)
+      (through (lists ws) _ _ (λ us. letBodyEnd read′ us) (sameLists ws) (λ ls. let-body-rest read read′ same (apartTree at (ls .value)) (ls .rest)))
+      (through (nameAt ws) _ _ (λ us. letBodyEnd read′ us) (name-rest ws) (λ x. let-body-rest read read′ same (Trees.name at (x .value)) (x .rest)))
+      ∙ cond-then (is round ws) (lists′ ws) (nameEnd ws) (λ us. letBodyEnd read′ us)
 
   module _ (readType : List Word → Answer (Got TypeTree)) (readType′ : Step) (sameType : (us : List Word) → restOf (readType us) ≡ readType′ us) where
-    level-rest : (ws : List Word) → restOf (termBy read readType ws) ≡ termLevel read′ readType′ ws
+    level-rest : (ws : List Word) → restOf (termBy read readType lists ws) ≡ termLevel read′ readType′ lists′ ws
     level-rest ws =
-        either (is fun ws) _ _ (bindsEnd (length ws) (behind ws) >>= λ us. boundEnd read′ readType′ us) _ (through (bindsFrom (length ws) (behind ws)) _ _ (λ us. boundEnd read′ readType′ us) (binds-rest (length ws) (behind ws)) (λ xs. bound-rest read read′ same readType readType′ sameType (functionTree (place ws) (xs .value)) (xs .rest)))
+        either (is fun ws) _ _ (bindsEnd lists′ (length ws) (behind ws) >>= λ us. boundEnd read′ readType′ us) _ (through (bindsFrom lists (length ws) (behind ws)) _ _ (λ us. boundEnd read′ readType′ us) (binds-rest lists lists′ sameLists (length ws) (behind ws)) (λ xs. bound-rest read read′ same readType readType′ sameType (functionTree (place ws) (xs .value)) (xs .rest)))
         (either (is fix ws) _ _ (nameEnd (behind ws) >>= λ us. boundEnd read′ readType′ us) _ (through (nameAt (behind ws)) _ _ (λ us. boundEnd read′ readType′ us) (name-rest (behind ws)) (λ x. bound-rest read read′ same readType readType′ sameType (Trees.fix (place ws) (x .value)) (x .rest)))
-        (either (is lets ws) _ _ (letNamesEnd (behind ws) >>= λ us. letBodyEnd read′ us) _ (let-rest (place ws) (behind ws)) (spine-rest read read′ same readType readType′ sameType ws)))
+        (either (is lets ws) _ _ (oneEnd lists′ (behind ws) >>= λ us. letBodyEnd read′ us) _ (let-rest (place ws) (behind ws)) (spine-rest read read′ same readType readType′ sameType ws)))
 
-term-level : (more : ℕ) (ws : List Word) → termStep (suc more) ws ≡ termLevel (termStep more) (typeStep more false) ws
-term-level more ws = level-rest (λ us. termAt more us) (termStep more) (λ us. refl) (λ us. typeAt more false us) (typeStep more false) (λ us. refl) ws
+term-level : (more : ℕ) (ws : List Word) → termStep (suc more) ws ≡ termLevel (termStep more) (typeStep more false) (listsEnd (suc more)) ws
+term-level more ws = level-rest (λ us. termAt more us) (termStep more) (λ us. refl) (λ us. listsAt (suc more) us) (listsEnd (suc more)) (λ us. lists-rest (suc more) us) (λ us. typeAt more false us) (typeStep more false) (λ us. refl) ws
 
-pub term-by : (more : ℕ) (ws : List Word) → ¬ (more ≡ 0) → termStep more ws ≡ termLevel (termStep (more - 1)) (typeStep (more - 1) false) ws
+pub term-by : (more : ℕ) (ws : List Word) → ¬ (more ≡ 0) → termStep more ws ≡ termLevel (termStep (more - 1)) (typeStep (more - 1) false) (listsEnd more) ws
 term-by zero ws h = absurd (h refl)
 term-by (suc more) ws h = let e : suc more - 1 ≡ more = omega arith in rw e (term-level more ws)
 

@@ -14,7 +14,7 @@ use Rattle.words.specs.Next.{Said}
 use Rattle.words.specs.Lexed.{from, Lexed, Onward, Stands}
 use Rattle.grammar.specs.declared.steps.End.{End}
 use Rattle.grammar.specs.Ends.{Ends, EndsIn, typeStep, termStep}
-use Rattle.grammar.specs.Skips.{Step, expectCode, nameEnd, useEnd, treesEnd, tupleEnd, atomBy, atomEnd, atomsEnd, spineEnd, bindsEnd, boundEnd, letBodyEnd, letNamesEnd}
+use Rattle.grammar.specs.Skips.{Step, expectCode, nameEnd, useEnd, treesEnd, tupleEnd, atomBy, atomEnd, atomsEnd, spineEnd, oneEnd, listsEnd, bindsEnd, boundEnd, letBodyEnd}
 use Rattle.grammar.proofs.EndLaws.{sign-not, expect-code, is-yes, is-no, ends-word, ends-bad, ends-due, ends-as, ends-stop, step-is}
 use Rattle.grammar.proofs.StepLaws.{DueAt, code-is, code-not}
 use Rattle.grammar.proofs.LoopLaws.{Loops}
@@ -129,7 +129,7 @@ module _ (text : List ℕ) (at more : ℕ) (w : Said) (s : Stands text at w) whe
     spine = spineEnd (termStep (more - 1)) (typeStep (more - 1) false) words
 
     abbrev level : Bool → Bool → Bool → Answer (List Word)
-    level f x l = cond f (bindsEnd (length words) (behind words) >>= λ us. bound us) (cond x (nameEnd (behind words) >>= λ us. bound us) (cond l (letNamesEnd (behind words) >>= λ us. body us) spine))
+    level f x l = cond f (bindsEnd (listsEnd more) (length words) (behind words) >>= λ us. bound us) (cond x (nameEnd (behind words) >>= λ us. bound us) (cond l (oneEnd (listsEnd more) (behind words) >>= λ us. body us) spine))
 
     level-is : (f x l : Bool) → is fun words ≡ f → is fix words ≡ x → is lets words ≡ l → termStep more words ≡ level f x l
     level-is f x l a b c = term-by more words some ∙ ap (λ (z : Bool). level z (is fix words) (is lets words)) a ∙ ap (λ (z : Bool). level f z (is lets words)) b ∙ ap (level f x) c
@@ -137,11 +137,11 @@ module _ (text : List ℕ) (at more : ℕ) (w : Said) (s : Stands text at w) whe
     next : (n : ℕ) → w .code ≡ suc n → Onward text at (w .end)
     next n e = s .onward (λ z. omega arith)
 
-    pub term-fun : w .code ≡ 1 → (t : End) → EndsIn text (w .end) bindsEnd t → Along text (length words) (termStep more words) bound t
+    pub term-fun : w .code ≡ 1 → (t : End) → EndsIn text (w .end) (bindsEnd (listsEnd more)) t → Along text (length words) (termStep more words) bound t
     term-fun e t d = record {
-      step = bindsEnd (length words) (from text (w .end));
+      step = bindsEnd (listsEnd more) (length words) (from text (w .end));
       bound = length (from text (w .end));
-      total-is = level-is true (is fix words) (is lets words) (is-yes text at w s fun e) refl refl ∙ ap (λ (us : List Word). bindsEnd (length words) us >>= λ vs. bound vs) (next 0 e .rest);
+      total-is = level-is true (is fix words) (is lets words) (is-yes text at w s fun e) refl refl ∙ ap (λ (us : List Word). bindsEnd (listsEnd more) (length words) us >>= λ vs. bound vs) (next 0 e .rest);
       ends = d (length words) (next 0 e .fewer);
       within = omega (arith, next 0 e .fewer);
     }
@@ -157,11 +157,11 @@ module _ (text : List ℕ) (at more : ℕ) (w : Said) (s : Stands text at w) whe
       }
 
       module _ (b : ¬ (w .code ≡ 2)) where
-        pub term-let : w .code ≡ 3 → (t : End) → Ends text (length (from text (w .end))) (letNamesEnd (from text (w .end))) t → Along text (length words) (termStep more words) body t
+        pub term-let : w .code ≡ 3 → (t : End) → Ends text (length (from text (w .end))) (oneEnd (listsEnd more) (from text (w .end))) t → Along text (length words) (termStep more words) body t
         term-let e t d = record {
-          step = letNamesEnd (from text (w .end));
+          step = oneEnd (listsEnd more) (from text (w .end));
           bound = length (from text (w .end));
-          total-is = level-is false false true (is-no text at w s fun a) (is-no text at w s fix b) (is-yes text at w s lets e) ∙ ap (λ (us : List Word). letNamesEnd us >>= λ vs. body vs) (next 2 e .rest);
+          total-is = level-is false false true (is-no text at w s fun a) (is-no text at w s fix b) (is-yes text at w s lets e) ∙ ap (λ (us : List Word). oneEnd (listsEnd more) us >>= λ vs. body vs) (next 2 e .rest);
           ends = d;
           within = omega (arith, next 2 e .fewer);
         }

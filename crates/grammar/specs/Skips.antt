@@ -146,20 +146,26 @@ letBodyEnd read ws = expect equals ws >>= λ us. read us >>= λ vs. expect withi
 abbrev pub namesList : ℕ → ℕ → Step
 namesList closes rounds ws = listEnd nameEnd rounds ws >>= λ us. expectCode closes us
 
--- names between parentheses, two at least
-abbrev pub apartEnd : ℕ → Step
-apartEnd zero ws = refuse 32 (place ws)
-apartEnd (suc rounds) ws = nameEnd ws >>= λ us. need (is comma us) 32 (place us) >>= λ _. namesList 12 rounds (behind us)
+-- behind the parenthesis of a list: two or more with commas between, and the closing one
+abbrev pub apartEnd : Step → ℕ → Step
+apartEnd read zero ws = refuse 32 (place ws)
+apartEnd read (suc rounds) ws = read ws >>= λ us. expect comma us >>= λ vs. listEnd read rounds vs >>= λ xs. expect endRound xs
+
+-- one of a list, and what `let` binds: a name, or a list
+abbrev pub oneEnd : Step → Step
+oneEnd lists ws = cond (is round ws) (lists ws) (nameEnd ws)
+
+-- a list in parentheses; a list in a list is a level more
+abbrev pub listsEnd : ℕ → Step
+listsEnd zero ws = refuse 34 (place ws)
+listsEnd (suc more) ws = apartEnd (oneEnd (listsEnd more)) (length ws) (behind ws)
 
 -- what `fun` binds
-abbrev pub bindsEnd : ℕ → Step
-bindsEnd rounds ws = cond (is round ws) (apartEnd (length ws) (behind ws)) (namesEnd rounds ws)
+abbrev pub bindsEnd : Step → ℕ → Step
+bindsEnd lists rounds ws = cond (is round ws) (lists ws) (namesEnd rounds ws)
 
-abbrev pub letNamesEnd : Step
-letNamesEnd ws = cond (is round ws) (apartEnd (length ws) (behind ws)) (nameEnd ws)
-
-abbrev pub termLevel : Step → Step → Step
-termLevel read readType ws = cond (is fun ws) (bindsEnd (length ws) (behind ws) >>= λ us. boundEnd read readType us) (cond (is fix ws) (nameEnd (behind ws) >>= λ us. boundEnd read readType us) (cond (is lets ws) (letNamesEnd (behind ws) >>= λ us. letBodyEnd read us) (spineEnd read readType ws)))
+abbrev pub termLevel : Step → Step → Step → Step
+termLevel read readType lists ws = cond (is fun ws) (bindsEnd lists (length ws) (behind ws) >>= λ us. boundEnd read readType us) (cond (is fix ws) (nameEnd (behind ws) >>= λ us. boundEnd read readType us) (cond (is lets ws) (oneEnd lists (behind ws) >>= λ us. letBodyEnd read us) (spineEnd read readType ws)))
 
 -- ---- groups
 

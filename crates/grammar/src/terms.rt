@@ -130,7 +130,7 @@ pub fn term_end(text: &[u8], at: usize, more: usize) -> End
         return steps::refused(34, w.start);
     }
     if w.kind == FUN {
-        let x = names::binds_end(text, w.end);
+        let x = names::binds_end(text, w.end, more);
         if x.number != 0 {
             return x;
         }
@@ -144,7 +144,7 @@ pub fn term_end(text: &[u8], at: usize, more: usize) -> End
         return bound_end(text, x.at, more - 1);
     }
     if w.kind == LET {
-        let x = names::let_names_end(text, w.end);
+        let x = names::one_end(text, w.end, more);
         if x.number != 0 {
             return x;
         }

@@ -232,28 +232,77 @@ namesFrom (suc rounds) ws = do
     xs ← namesFrom rounds (x .rest)
     got (x .value ∷ xs .value) (xs .rest))
 
--- what `fun` binds: names, or names in parentheses, at a place, into which a pair is taken apart
-pub data Binds : Type 0 where
-  bindsEach : List Bound → Binds
-  bindsPair : ℕ → List Bound → Binds
+-- a variable that no text can name: no byte is above 255
+abbrev pub nameless : ℕ → Bound
+nameless at = record { name = (256 + at) ∷ []; place = at }
 
-abbrev pub bindsFrom : ℕ → List Word → Answer (Got Binds)
-bindsFrom rounds ws = cond (is round ws) (do
-  xs ← listFrom nameAt (length ws) (behind ws)
+-- a list in parentheses at a place, into whose names the nameless variable of that place is taken apart
+pub record Group : Type 0 where
+  pub place : ℕ
+  pub names : List Bound
+
+-- the names of a list, and the lists in it, in the order of the text; for each of them its nameless variable stands among the names
+pub record Lists : Type 0 where
+  pub names : List Bound
+  pub inner : List Group
+
+-- one of a list: a name, or a list
+pub record Item : Type 0 where
+  pub bound : Bound
+  pub groups : List Group
+
+abbrev pub groupAt : ℕ → Lists → List Group
+groupAt at ls = record { place = at; names = ls .names } ∷ ls .inner
+
+abbrev pub itemAt : (List Word → Answer (Got Lists)) → List Word → Answer (Got Item)
+itemAt read ws = cond (is round ws) (do
+  ls ← read ws
+  got (record { bound = nameless (place ws); groups = groupAt (place ws) (ls .value) }) (ls .rest)) (do
+    x ← nameAt ws
+    got (record { bound = x .value; groups = [] }) (x .rest))
+
+abbrev pub boundsOf : List Item → List Bound
+boundsOf [] = []
+boundsOf (x ∷ xs) = x .bound ∷ boundsOf xs
+
+abbrev pub groupsOf : List Item → List Group
+groupsOf [] = []
+groupsOf (x ∷ xs) = x .groups ++ groupsOf xs
+
+-- ( names and lists, two at least ); a list in a list is a level more
+abbrev pub listsAt : ℕ → List Word → Answer (Got Lists)
+listsAt zero ws = refuse 34 (place ws)
+listsAt (suc more) ws = do
+  xs ← listFrom (itemAt (λ us. listsAt more us)) (length ws) (behind ws)
   _ ← need (leb 2 (length (xs .value))) 32 (place (xs .rest))
   after ← expect endRound (xs .rest)
-  got (bindsPair (place ws) (xs .value)) after) (do
+  got (record { names = boundsOf (xs .value); inner = groupsOf (xs .value) }) after
+
+-- each list's variable is taken apart, in the body of the list before it
+abbrev pub groupsTree : List Group → Tree → Tree
+groupsTree [] e = e
+groupsTree (g ∷ gs) e = apart (g .place) (g .names) (spine (g .place) (named (g .place) (nameless (g .place) .name) noTypes []) noAtoms) (groupsTree gs e)
+
+-- what `fun` binds: names, or a list, at a place, into which its variable is taken apart
+pub data Binds : Type 0 where
+  bindsEach : List Bound → Binds
+  bindsPair : ℕ → Lists → Binds
+
+abbrev pub bindsFrom : (List Word → Answer (Got Lists)) → ℕ → List Word → Answer (Got Binds)
+bindsFrom readLists rounds ws = cond (is round ws) (do
+  ls ← readLists ws
+  got (bindsPair (place ws) (ls .value)) (ls .rest)) (do
     xs ← namesFrom rounds ws
     got (bindsEach (xs .value)) (xs .rest))
-
--- a variable that no text can name: no word has this name
-abbrev pub nameless : ℕ → Bound
-nameless at = record { name = []; place = at }
 
 -- fun (a, b) : t. e is fun p : t. let (a, b) = p in e, where p is nameless
 abbrev pub functionTree : ℕ → Binds → TypeTree → Tree → Tree
 functionTree at (bindsEach xs) t e = Trees.fun at xs t e
-functionTree at (bindsPair p xs) t e = Trees.fun at (nameless p ∷ []) t (apart p xs (spine p (named p [] noTypes []) noAtoms) e)
+functionTree at (bindsPair p ls) t e = Trees.fun at (nameless p ∷ []) t (groupsTree (groupAt p ls) e)
+
+-- let ((a, b), c) = v in e is let (p, c) = v in let (a, b) = p in e, where p is nameless
+abbrev pub apartTree : ℕ → Lists → Tree → Tree → Tree
+apartTree at ls v e = apart at (ls .names) v (groupsTree (ls .inner) e)
 
 -- : type . term
 abbrev pub boundBody : (List Word → Answer (Got Tree)) → (List Word → Answer (Got TypeTree)) → (TypeTree → Tree → Tree) → List Word → Answer (Got Tree)
@@ -273,26 +322,24 @@ letBody read build ws = do
   e ← read ws₂
   got (build (v .value) (e .value)) (e .rest)
 
-abbrev pub letAt : (List Word → Answer (Got Tree)) → ℕ → List Word → Answer (Got Tree)
-letAt read at ws = cond (is round ws) (do
-  xs ← listFrom nameAt (length ws) (behind ws)
-  _ ← need (leb 2 (length (xs .value))) 32 (place (xs .rest))
-  after ← expect endRound (xs .rest)
-  letBody read (apart at (xs .value)) after) (do
+abbrev pub letAt : (List Word → Answer (Got Tree)) → (List Word → Answer (Got Lists)) → ℕ → List Word → Answer (Got Tree)
+letAt read readLists at ws = cond (is round ws) (do
+  ls ← readLists ws
+  letBody read (apartTree at (ls .value)) (ls .rest)) (do
     x ← nameAt ws
     letBody read (Trees.name at (x .value)) (x .rest))
 
-abbrev pub termBy : (List Word → Answer (Got Tree)) → (List Word → Answer (Got TypeTree)) → List Word → Answer (Got Tree)
-termBy read readType ws =
+abbrev pub termBy : (List Word → Answer (Got Tree)) → (List Word → Answer (Got TypeTree)) → (List Word → Answer (Got Lists)) → List Word → Answer (Got Tree)
+termBy read readType readLists ws =
     cond (is fun ws) (do
-      xs ← bindsFrom (length ws) (behind ws)
+      xs ← bindsFrom readLists (length ws) (behind ws)
       boundBody read readType (functionTree (place ws) (xs .value)) (xs .rest)) (cond (is fix ws) (do
         x ← nameAt (behind ws)
-        boundBody read readType (Trees.fix (place ws) (x .value)) (x .rest)) (cond (is lets ws) (letAt read (place ws) (behind ws)) (spineAt read readType ws)))
+        boundBody read readType (Trees.fix (place ws) (x .value)) (x .rest)) (cond (is lets ws) (letAt read readLists (place ws) (behind ws)) (spineAt read readType ws)))
 
 abbrev pub termAt : ℕ → List Word → Answer (Got Tree)
 termAt zero ws = refuse 34 (place ws)
-termAt (suc more) ws = termBy (λ us. termAt more us) (λ us. typeAt more false us) ws
+termAt (suc more) ws = termBy (λ us. termAt more us) (λ us. typeAt more false us) (λ us. listsAt (suc more) us) ws
 
 -- ---- items
 

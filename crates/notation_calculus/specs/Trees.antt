@@ -1,6 +1,6 @@
 -- What a text says: its definitions, with their terms and types as trees; a place is the offset of a word. Assumes nothing.
 -- A tree has a level for each call of `termAt` or `typeAt` (Grammar) that reads it, parentheses too, so that one number bounds both
--- reading and putting in; but that of `fun (a, b) : t. e` has one more where it is put in, since it is the tree of a `let` in a function. The place that a tree begins with is that of its first word.
+-- reading and putting in; but a list of `fun`, and each list in a list, is the tree of one more `let`, which has a level of its own where it is put in. The place that a tree begins with is that of its first word.
 use Prim.Native.Nat.{ℕ}
 use mathlib.Core.Bool.{Bool}
 use mathlib.Core.List.{List}

@@ -9,11 +9,13 @@ use lib.Dec.{eqb, leb}
 use lib.ListN.{length}
 use Rattle.calculus.specs.Answer.{Answer, good, refused, _>>=_, need}
 use Rattle.notation_calculus.specs.Words.{Sign, ends, type, edition, table, fun, fix, lets, within, arrow, linear, times, round, endRound, equals, comma, colon, dot, square, endSquare, curly, endCurly, plus, power, Token, sign, part, number, name, Word}
-use Rattle.notation_calculus.specs.Trees.{Bound, Form, product, TypeTree, inside, nothing, Tree, apart, tuple, Body, ofType, ofTerm, Clause}
+use Rattle.notation_calculus.specs.Trees.{Form, product, TypeTree, inside, nothing, Tree, tuple, Body, ofType, ofTerm, Clause}
 use Rattle.notation_calculus.specs.Trees as Trees
-use Rattle.notation_calculus.specs.Grammar.{mostNested, Got, got, peek, behind, place, isToken, is, expect, boundName, nameAt, valueOf, listFrom, readNumber, numberAt, numbersAt, parametersAt, typesOf, argumentsAt, onesAt, typeAtomOf, sideAt, productAt, arrowAt, typeAt, beginsAtom, treesFrom, readAtom, atomsFrom, spineAt, namesFrom, bindsFrom, functionTree, boundBody, letBody, letAt, termBy, termAt, clauseAt, typeBody, termBody, editionAt}
+use Rattle.notation_calculus.specs.Grammar.{mostNested, Got, got, peek, behind, place, isToken, is, expect, boundName, nameAt, valueOf, listFrom, readNumber, numberAt, numbersAt, parametersAt, typesOf, argumentsAt, onesAt, typeAtomOf, sideAt, productAt, arrowAt, typeAt, beginsAtom, treesFrom, readAtom, atomsFrom, spineAt, namesFrom, Lists, itemAt, listsAt, apartTree, bindsFrom, functionTree, boundBody, letBody, letAt, termBy, termAt, clauseAt, typeBody, termBody, editionAt}
 use Rattle.calculus.specs.Record.{All}
 use Rattle.notation_theorems.proofs.Answering.{On, on-step, on-any, on-either}
+use Rattle.laws.proofs.Tests.{on-cond}
+use Rattle.notation_machine.specs.Lists.{behindLists, headAt}
 use Rattle.notation_machine.specs.Bodies.{bodyFrom, bodiesFrom, bodiesOf}
 use Rattle.notation_machine.proofs.ReadLaws.{on-expect}
 
@@ -74,8 +76,26 @@ module _ (P : List Word → Type 0) (next : (ws : List Word) → P ws → P (beh
   names-keep zero ws h = tt
   names-keep (suc rounds) ws h = on-step After After (nameAt ws) _ (name-keeps ws h) λ x g. on-either After (is colon (x .rest)) _ _ g (on-step After After (namesFrom rounds (x .rest)) _ (names-keep rounds (x .rest) g) λ xs i. i)
 
-  binds-keep : (rounds : ℕ) → Keeps (bindsFrom rounds)
-  binds-keep rounds ws h = on-either After (is round ws) _ _ (on-step After After (listFrom nameAt (length ws) (behind ws)) _ (list-keeps nameAt name-keeps (length ws) (behind ws) (next ws h)) λ xs g. on-any After (need (leb 2 (length (xs .value))) 32 (place (xs .rest))) _ λ _. on-expect After endRound (xs .rest) _ (next (xs .rest) g)) (on-step After After (namesFrom rounds ws) _ (names-keep rounds ws h) λ xs g. g)
+  lists-behind : (deep : ℕ) (ws : List Word) → P ws → P (behindLists deep ws)
+  lists-behind deep [] h = h
+  lists-behind zero (w ∷ ws) h = h
+  lists-behind (suc deep) (w ∷ ws) h = on-cond P (is ends (w ∷ [])) (w ∷ ws) _ (λ _. h) (on-cond P (is round (w ∷ [])) (behindLists (suc (suc deep)) ws) _ (λ _. lists-behind (suc (suc deep)) ws (next (w ∷ ws) h)) (on-cond P (is endRound (w ∷ [])) (behindLists deep ws) (behindLists (suc deep) ws) (λ _. lists-behind deep ws (next (w ∷ ws) h)) (lists-behind (suc deep) ws (next (w ∷ ws) h))))
+
+  head-keeps : Keeps headAt
+  head-keeps ws h = on-either After (is round ws) _ _ (lists-behind 1 (behind ws) (next ws h)) (name-keeps ws h)
+
+  pub heads-keep : (rounds : ℕ) → Keeps (listFrom headAt rounds)
+  heads-keep rounds = list-keeps headAt head-keeps rounds
+
+  item-keeps : (read : List Word → Answer (Got Lists)) → Keeps read → Keeps (itemAt read)
+  item-keeps read r ws h = on-either After (is round ws) _ _ (on-step After After (read ws) _ (r ws h) λ ls g. g) (on-step After After (nameAt ws) _ (name-keeps ws h) λ x g. g)
+
+  lists-keep : (m : ℕ) → Keeps (listsAt m)
+  lists-keep zero ws h = tt
+  lists-keep (suc m) ws h = on-step After After (listFrom (itemAt (λ us. listsAt m us)) (length ws) (behind ws)) _ (list-keeps (itemAt (λ us. listsAt m us)) (item-keeps (λ us. listsAt m us) (lists-keep m)) (length ws) (behind ws) (next ws h)) λ xs g. on-any After (need (leb 2 (length (xs .value))) 32 (place (xs .rest))) _ λ _. on-expect After endRound (xs .rest) _ (next (xs .rest) g)
+
+  binds-keep : (read : List Word → Answer (Got Lists)) → Keeps read → (rounds : ℕ) → Keeps (bindsFrom read rounds)
+  binds-keep read r rounds ws h = on-either After (is round ws) _ _ (on-step After After (read ws) _ (r ws h) λ ls g. g) (on-step After After (namesFrom rounds ws) _ (names-keep rounds ws h) λ xs g. g)
 
   module _ (read : List Word → Answer (Got Tree)) (r : Keeps read) (readType : List Word → Answer (Got TypeTree)) (rt : Keeps readType) where
     trees-keep : (rounds : ℕ) → Keeps (treesFrom read rounds)
@@ -99,18 +119,18 @@ module _ (P : List Word → Type 0) (next : (ws : List Word) → P ws → P (beh
     let-body-keeps : (build : Tree → Tree → Tree) → Keeps (letBody read build)
     let-body-keeps build ws h = on-expect After equals ws _ (on-step After After (read (behind ws)) _ (r (behind ws) (next ws h)) λ v g. on-expect After within (v .rest) _ (on-step After After (read (behind (v .rest))) _ (r (behind (v .rest)) (next (v .rest) g)) λ e i. i))
 
-    let-keeps : (at : ℕ) → Keeps (letAt read at)
-    let-keeps at ws h = on-either After (is round ws) _ _ (on-step After After (listFrom nameAt (length ws) (behind ws)) _ (list-keeps nameAt name-keeps (length ws) (behind ws) (next ws h)) λ xs g. on-any After (need (leb 2 (length (xs .value))) 32 (place (xs .rest))) _ λ _. on-expect After endRound (xs .rest) _ (let-body-keeps (apart at (xs .value)) (behind (xs .rest)) (next (xs .rest) g))) (on-step After After (nameAt ws) _ (name-keeps ws h) λ x g. let-body-keeps (Trees.name at (x .value)) (x .rest) g)
+    let-keeps : (readLists : List Word → Answer (Got Lists)) → Keeps readLists → (at : ℕ) → Keeps (letAt read readLists at)
+    let-keeps readLists rl at ws h = on-either After (is round ws) _ _ (on-step After After (readLists ws) _ (rl ws h) λ ls g. let-body-keeps (apartTree at (ls .value)) (ls .rest) g) (on-step After After (nameAt ws) _ (name-keeps ws h) λ x g. let-body-keeps (Trees.name at (x .value)) (x .rest) g)
 
     spine-keeps : Keeps (spineAt read readType)
     spine-keeps ws h = on-step After After (readAtom read readType (peek ws .token) ws) _ (atom-keeps (peek ws .token) ws (next ws h)) λ a g. on-step After After (atomsFrom read readType (length ws) (a .rest)) _ (atoms-keep (length ws) (a .rest) g) λ es i. i
 
-    term-by-keeps : Keeps (termBy read readType)
-    term-by-keeps ws h = on-either After (is fun ws) _ _ (on-step After After (bindsFrom (length ws) (behind ws)) _ (binds-keep (length ws) (behind ws) (next ws h)) λ xs g. bound-keeps (functionTree (place ws) (xs .value)) (xs .rest) g) (on-either After (is fix ws) _ _ (on-step After After (nameAt (behind ws)) _ (name-keeps (behind ws) (next ws h)) λ x g. bound-keeps (Trees.fix (place ws) (x .value)) (x .rest) g) (on-either After (is lets ws) _ _ (let-keeps (place ws) (behind ws) (next ws h)) (spine-keeps ws h)))
+    term-by-keeps : (readLists : List Word → Answer (Got Lists)) → Keeps readLists → Keeps (termBy read readType readLists)
+    term-by-keeps readLists rl ws h = on-either After (is fun ws) _ _ (on-step After After (bindsFrom readLists (length ws) (behind ws)) _ (binds-keep readLists rl (length ws) (behind ws) (next ws h)) λ xs g. bound-keeps (functionTree (place ws) (xs .value)) (xs .rest) g) (on-either After (is fix ws) _ _ (on-step After After (nameAt (behind ws)) _ (name-keeps (behind ws) (next ws h)) λ x g. bound-keeps (Trees.fix (place ws) (x .value)) (x .rest) g) (on-either After (is lets ws) _ _ (let-keeps readLists rl (place ws) (behind ws) (next ws h)) (spine-keeps ws h)))
 
   term-keeps : (m : ℕ) → Keeps (termAt m)
   term-keeps zero ws h = tt
-  term-keeps (suc m) ws h = term-by-keeps (λ us. termAt m us) (term-keeps m) (λ us. typeAt m false us) (type-keeps m false) ws h
+  term-keeps (suc m) ws h = term-by-keeps (λ us. termAt m us) (term-keeps m) (λ us. typeAt m false us) (type-keeps m false) (λ us. listsAt (suc m) us) (lists-keep (suc m)) ws h
 
   -- ---- clauses
 
@@ -188,9 +208,6 @@ name-left n ws h = name-keeps (λ (us : List Word). length us ≤ n) (behind-few
 
 pub names-left : (n rounds : ℕ) (ws : List Word) → length ws ≤ n → On (Left n) (namesFrom rounds ws)
 names-left n rounds ws h = names-keep (λ (us : List Word). length us ≤ n) (behind-fewer n) rounds ws h
-
-pub list-left : (n rounds : ℕ) (ws : List Word) → length ws ≤ n → On (Left n) (listFrom nameAt rounds ws)
-list-left n rounds ws h = list-keeps (λ (us : List Word). length us ≤ n) (behind-fewer n) nameAt (name-keeps (λ (us : List Word). length us ≤ n) (behind-fewer n)) rounds ws h
 
 -- ---- levels
 

@@ -5,6 +5,7 @@ pub mod Types
 pub mod Behind
 pub mod TypeFalls
 pub mod TypeFrom
+pub mod Lists
 pub mod Terms
 pub mod Worked
 pub mod Spending

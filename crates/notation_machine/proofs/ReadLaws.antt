@@ -102,7 +102,7 @@ lookup-both {A} {B} R n (e ∷ es) i {f} {a} {g} {b} h k = by (sameName n (e .na
     by false r = r
 
 -- where one sign stands, another does not
-one-sign : (s r : Sign) (k : Token) → eqb (signCode s) (signCode r) ≡ false → T (isToken r k) → isToken s k ≡ false
+pub one-sign : (s r : Sign) (k : Token) → eqb (signCode s) (signCode r) ≡ false → T (isToken r k) → isToken s k ≡ false
 one-sign s r (sign t) e h = subst (λ (c : ℕ). eqb (signCode s) c ≡ false) (eqb→eq (signCode r) (signCode t) h) e
 one-sign s r (part p) e h = absurd h
 one-sign s r (number n) e h = absurd h

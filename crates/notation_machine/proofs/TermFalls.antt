@@ -1,26 +1,29 @@
 -- The machine of terms ends: each step leaves fewer steps to do. Assumes nothing.
 use Prim.Native.Nat.{ℕ, zero, suc, _+_, _*_, _-_, _≤_, _<_}
-use mathlib.Core.Path.{_≡_, refl, sym, ap, subst, _∙_}
-use mathlib.Core.Bool.{Bool, true, false, _||_, cond}
+use mathlib.Core.Path.{_≡_, refl, sym, ap, subst}
+use mathlib.Core.Bool.{Bool, true, false, _||_}
 use mathlib.Core.List.{List, [], _∷_}
 use native.Mathlib.Omega.{arith}
 use native.Mathlib.Nat.{mul-le-mul-right}
 use lib.Dec.{T, eqb, leb, leb→le}
 use lib.ListN.{length, take}
-use Rattle.calculus.specs.Answer.{Answer, good, refused, _>>=_, need}
+use Rattle.calculus.specs.Answer.{Answer, good, _>>=_, refuse, need}
 use Rattle.calculus.specs.Types.{recAt}
 use Rattle.calculus.specs.Terms as Terms
-use Rattle.notation_calculus.specs.Words.{Name, sameName, Sign, signCode, fun, fix, lets, round, comma, square, curly, Token, sign, part, number, name, Word}
-use Rattle.notation_calculus.specs.Trees.{Bound, Number, TypeTree, TypeTrees, Text}
-use Rattle.notation_calculus.specs.Grammar.{mostNested, Got, got, peek, behind, place, isToken, is, boundName, nameAt, listFrom, numbersAt, argumentsAt, typeAt, beginsAtom, namesFrom}
-use Rattle.notation_calculus.specs.Making.{mostPuts, State, Found, Entry, Scope, lookup, bind, bindAll, withVariables, entries, roomFor, numbersIn, Put, clauseFor, onePut, FoundAll, foundAll, typeOf, Made, node, variable, partOf, functionsOf, nameOf, applied}
+use Rattle.notation_calculus.specs.Words.{Name, sameName, Sign, signCode, fun, fix, lets, round, endRound, equals, comma, colon, square, curly, Token, sign, part, number, name, Word}
+use Rattle.notation_calculus.specs.Trees.{Bound, Number, Text}
+use Rattle.notation_calculus.specs.Grammar.{mostNested, Got, got, peek, behind, place, isToken, is, expect, boundName, nameAt, listFrom, numbersAt, argumentsAt, typeAt, beginsAtom, namesFrom, nameless}
+use Rattle.notation_calculus.specs.Making.{mostPuts, State, Found, Entry, Scope, lookup, withVariables, entries, roomFor, numbersIn, Put, clauseFor, onePut, FoundAll, foundAll, typeOf, Made, node, variable, partOf, functionsOf, nameOf, applied}
 use Rattle.notation_theorems.proofs.Answering.{On, on-step, on-any, on-test, on-either, on-tests, on-map}
 use Rattle.notation_machine.specs.Bodies.{numberFor, wordsFor}
+use Rattle.notation_machine.specs.Lists.{headAt, nextList, listCount}
 use Rattle.notation_machine.specs.TypeFrom.{typeFrom, typesFrom}
 use Rattle.notation_machine.specs.TypeSteps.{AllShort}
-use Rattle.notation_machine.specs.TermMachine.{Function, none, some, Spine, Element, Taken, TermWish, ofFunction, ofFix, valueOfName, valueOfNames, underName, underNames, element, ofDefinition, TermLevel, Terming, wantedTerm, cameTerm, applying, TermHere, askTerm, termDone, pairsOf, Apart, apartFrom, projections, appliedTo, behindAtom, behindElement, termPutIn, termNamedAt, atomEntered, applicationFrom, pairMade, pairIn, pairFrom, namesTyped, functionFrom, fixFrom, letFrom, termEntered, doneBy, termLeft, termMove}
+use Rattle.notation_machine.specs.TermMachine.{Function, none, some, Spine, Element, TermWish, ofFunction, ofFix, valueOfName, valueOfNames, underName, underNames, element, ofDefinition, TermLevel, Terming, wantedTerm, cameTerm, applying, TermHere, askTerm, termDone, pairsOf, Apart, apartFrom, projections, appliedTo, behindAtom, behindElement, termPutIn, termNamedAt, atomEntered, applicationFrom, listMade, listBelow, underLists, pairFrom, namesTyped, functionFrom, fixFrom, letFrom, termEntered, doneBy, termLeft, termMove}
 use Rattle.notation_machine.specs.TermSteps.{termPutSteps, termWishSteps, termLevelSteps, termSteps, TermGoing}
-use Rattle.notation_machine.proofs.Behind.{Left, behind-fewer, numbers-left, type-left, arguments-left, name-left, names-left, list-left}
+use Rattle.notation_machine.proofs.ReadLaws.{on-expect, on-expected}
+use Rattle.notation_machine.proofs.Lists.{OutsideLists, count-ends, count-scan, count-next}
+use Rattle.notation_machine.proofs.Behind.{Left, behind-fewer, heads-keep, numbers-left, type-left, arguments-left, name-left, names-left}
 use Rattle.notation_machine.proofs.TypeFalls.{sign-some, behind-less, paid, clause-costs, words-short}
 use Rattle.notation_machine.proofs.Spending.{Spent, SpentAll, type-spends, types-spend, Unspent, node-free, part-free, functions-free, name-free, pairs-free, applied-free, apart-free, projections-free}
 
@@ -45,6 +48,26 @@ PassedAll n puts t = (length (t .rest) ≤ n) × (puts ≤ t .value .state .puts
 types-passed : (X : Text) (more : ℕ) (S : Scope) (at : ℕ) (σ : State) (n : ℕ) (ws : List Word) → length ws ≤ n → On (PassedAll n (σ .puts)) (typesFrom X more S at σ ws)
 unfolding typesFrom
 types-passed X more S at σ n ws h = on-step (Left n) (PassedAll n (σ .puts)) (argumentsAt (λ us. typeAt mostNested false us) ws) (λ ts. foundAll (λ R τ t. typeOf X more R τ t) S at 0 σ (ts .value) >>= λ xs. got xs (ts .rest)) (arguments-left n mostNested ws h) λ ts l. on-step (SpentAll (σ .puts)) (PassedAll n (σ .puts)) (foundAll (λ R τ t. typeOf X more R τ t) S at 0 σ (ts .value)) (λ xs. got xs (ts .rest)) (types-spend X more S at 0 σ (ts .value)) λ xs k. (l, k)
+
+-- ---- lists
+
+-- between two words no fewer words stand than lists begin
+abbrev Counted : List Word → List Word → Type 0
+Counted vs us = listCount vs + length us ≤ length vs + listCount us
+
+counted-next : (vs us : List Word) → Counted vs us → Counted vs (behind us)
+counted-next vs us c = omega (arith, count-next us)
+
+-- a sign behind the names of a list at `vs`: there and behind it stand fewer words than lists begin from `vs` on
+abbrev Ended : List Word → List Word → Type 0
+Ended vs us = listCount vs + length us + 1 ≤ length vs
+
+heads-ended : {B : Type 0} (Q : B → Type 0) (s : Sign) → OutsideLists s → eqb (signCode s) 0 ≡ false → (rounds : ℕ) (vs : List Word) (f : List Bound → List Word → Answer B) → ((xs : List Bound) (us : List Word) → Ended vs us → On Q (f xs us)) → On Q (listFrom headAt rounds vs >>= λ xs. expect endRound (xs .rest) >>= λ us. expect s us >>= λ ws. f (xs .value) ws)
+heads-ended Q s o z rounds vs f h =
+    on-step (λ (xs : Got (List Bound)). Counted vs (xs .rest)) Q (listFrom headAt rounds vs) _ (heads-keep (Counted vs) (counted-next vs) rounds vs (omega arith)) λ xs c.
+    on-expect Q endRound (xs .rest) _ (on-expected Q s (behind (xs .rest)) _ λ e.
+    let d : Counted vs (behind (xs .rest)) = counted-next vs (xs .rest) c in
+    h (xs .value) (behind (behind (xs .rest))) (omega (arith, count-ends s o (behind (xs .rest)) e, sign-some s (behind (xs .rest)) z (rw e tt))))
 
 -- ---- what is put in is paid for
 
@@ -150,22 +173,36 @@ module _ (X : Text) (bodies : List (List Word)) (most : ℕ) (short : AllShort m
 
   -- ---- functions, fixed points and names: the first word is passed
 
-  -- the variable is there that is taken apart: the two words passed before it pay for both levels
-  pair-in-falls :
-      (more : ℕ) (S : Scope) (σ : State) (at : ℕ) (xs : List Bound) (t : ℕ) (ws : List Word) (K : List TermLevel) (n : ℕ) → 4 + 3 * length ws + termLevelSteps K + termPutSteps most (σ .puts) ≤ n
-      → On (Most n) (pairIn more S σ at xs t ws K)
-  pair-in-falls zero S σ at xs t ws K n h = tt
-  pair-in-falls (suc zero) S σ at xs t ws K n h = tt
-  pair-in-falls (suc (suc more)) S σ at xs t ws K n h =
-      on-step (Unspent (σ .puts)) (Most n) (node at (variable (σ .table) 0 t) t 0 [] σ) _ (node-free at (variable (σ .table) 0 t) t 0 [] σ) λ v e.
-      let q : termPutSteps most (v .state .puts) ≡ termPutSteps most (σ .puts) = ap (termPutSteps most) e in omega arith
+  -- the variable is there that is taken apart: it and its level are paid for, and so are the lists behind it
+  list-in-falls :
+      (more : ℕ) (S : Scope) (σ : State) (at : ℕ) (xs : List Bound) (us ws : List Word) (K : List TermLevel) (n : ℕ) → 4 + 3 * listCount us + 3 * length ws + termLevelSteps K + termPutSteps most (σ .puts) ≤ n
+      → On (Most n) (listBelow more S σ at xs us ws K)
+  list-in-falls zero S σ at xs us ws K n h = tt
+  list-in-falls (suc more) S σ at xs us ws K n h = found (S .variables) 0
+    where
+      made : (more i t : ℕ) → On (Most n) (listMade more S σ at xs us i t ws K)
+      made zero i t = tt
+      made (suc more) i t =
+          on-step (Unspent (σ .puts)) (Most n) (node at (variable (σ .table) i t) t 0 [] σ) _ (node-free at (variable (σ .table) i t) t 0 [] σ) λ v e.
+          let q : termPutSteps most (v .state .puts) ≡ termPutSteps most (σ .puts) = ap (termPutSteps most) e in omega arith
+
+      found : (Γ : List Entry) (i : ℕ) → On (Most n) (lookup (nameless at .name) Γ i (λ i t. listMade more S σ at xs us i t ws K) (refuse 32 at))
+      found [] i = tt
+      found (e ∷ es) i = on-either (Most n) (sameName (nameless at .name) (e .name)) (listMade more S σ at xs us i (e .value) ws K) _ (made more i (e .value)) (found es (suc i))
+
+  -- the next list is one that is paid for; or the body is wanted
+  under-falls :
+      (more : ℕ) (S : Scope) (σ : State) (us ws : List Word) (K : List TermLevel) (n : ℕ) → 1 + 3 * listCount us + 3 * length ws + termLevelSteps K + termPutSteps most (σ .puts) ≤ n
+      → On (Most n) (underLists more S σ us ws K)
+  under-falls more S σ us ws K n h =
+      on-tests (Most n) (is round (nextList us)) _ _ (λ t. on-any (Most n) (listFrom headAt (length (nextList us)) (behind (nextList us))) _ λ xs. list-in-falls more S σ (place (nextList us)) (xs .value) (behind (nextList us)) ws K n (omega (arith, count-scan us t))) λ _. omega (arith, behind-less ws)
 
   pair-falls : (h : TermHere) (σ : State) (at : ℕ) (ws us : List Word) → length us + 1 ≤ length ws → T (is round us) → On (Most (here h (σ .puts) ws)) (pairFrom X bodies h σ at us)
   pair-falls h σ at ws us k t =
       let j : length (behind us) + 1 ≤ length us = sign-some round us refl t in
-      on-step (Left (length (behind us))) Q (listFrom nameAt (length us) (behind us)) _ (list-left (length (behind us)) (length us) (behind us) (omega arith)) λ xs l.
-      on-step (Passed (length (behind us)) (σ .puts)) Q (typeFrom X (h .more) (h .scope) σ (behind (behind (xs .rest)))) _ (type-passed X (h .more) (h .scope) σ (length (behind us)) (behind (behind (xs .rest))) (behind-fewer (length (behind us)) (behind (xs .rest)) (behind-fewer (length (behind us)) (xs .rest) l))) λ t (lt, kt).
-      on-any Q (roomFor (h .scope) 1 at) _ λ _. pair-in-falls (h .more) _ (t .value .state) (place us) (xs .value) (t .value .type) (t .rest) _ (here h (σ .puts) ws) (omega (arith, spent-less most (σ .puts) (t .value .state .puts) kt))
+      heads-ended Q colon (refl, refl, refl) refl (length us) (behind us) _ λ xs vs d.
+      on-step (Passed (length vs) (σ .puts)) Q (typeFrom X (h .more) (h .scope) σ vs) _ (type-passed X (h .more) (h .scope) σ (length vs) vs (omega arith)) λ t (lt, kt).
+      on-any Q (roomFor (h .scope) 1 at) _ λ _. list-in-falls (h .more) _ (t .value .state) (place us) xs (behind us) (t .rest) _ (here h (σ .puts) ws) (omega (arith, spent-less most (σ .puts) (t .value .state .puts) kt))
     where
       Q : Terming → Type 0
       Q = Most (here h (σ .puts) ws)
@@ -194,7 +231,9 @@ module _ (X : Text) (bodies : List (List Word)) (most : ℕ) (short : AllShort m
       Q = Most (here h (σ .puts) ws)
 
   let-falls : (h : TermHere) (σ : State) (at : ℕ) (ws us : List Word) → length us + 1 ≤ length ws → On (Most (here h (σ .puts) ws)) (letFrom X bodies h σ at us)
-  let-falls h σ at ws us k = on-tests Q (is round us) _ _ (λ t. let j : length (behind us) + 1 ≤ length us = sign-some round us refl t in on-step (Left (length (behind us))) Q (listFrom nameAt (length us) (behind us)) _ (list-left (length (behind us)) (length us) (behind us) (omega arith)) λ xs l. omega (arith, behind-less (xs .rest), behind-less (behind (xs .rest)))) λ _. on-step (λ (g : Got Bound). length (g .rest) + 1 ≤ length us) Q (nameAt us) _ (name-some us) λ x l. omega (arith, behind-less (x .rest))
+  let-falls h σ at ws us k =
+      on-tests Q (is round us) _ _ (λ t. let j : length (behind us) + 1 ≤ length us = sign-some round us refl t in heads-ended Q equals (refl, refl, refl) refl (length us) (behind us) (λ xs vs. good (askTerm h (valueOfNames at xs (behind us)) (h .scope) σ vs)) λ xs vs d. omega arith) λ _.
+      on-step (λ (g : Got Bound). length (g .rest) + 1 ≤ length us) Q (nameAt us) _ (name-some us) λ x l. omega (arith, behind-less (x .rest))
     where
       Q : Terming → Type 0
       Q = Most (here h (σ .puts) ws)
@@ -209,7 +248,13 @@ module _ (X : Text) (bodies : List (List Word)) (most : ℕ) (short : AllShort m
   left-falls h (ofFunction xs t) m ws = most-less (here h (m .state .puts) ws) (1 + 0 + here h (m .state .puts) ws) (doneBy X bodies h (functionsOf xs t m) ws) (omega arith) (done-falls h (m .state .puts) (functionsOf xs t m) ws (functions-free xs t m))
   left-falls h (ofFix x t) m ws = most-less (here h (m .state .puts) ws) (1 + 0 + here h (m .state .puts) ws) (termLeft X bodies h (ofFix x t) m ws) (omega arith) (done-falls h (m .state .puts) (node (x .place) (Terms.fix t (m .term)) t (m .deep) (m .places) (m .state)) ws (node-free (x .place) (Terms.fix t (m .term)) t (m .deep) (m .places) (m .state)))
   left-falls h (valueOfName at x) m ws = on-any (Most (1 + 2 + here h (m .state .puts) ws)) (roomFor (h .scope) 1 at) _ λ _. omega (arith, behind-less ws)
-  left-falls h (valueOfNames at xs) m ws = on-any (Most (1 + 2 + here h (m .state .puts) ws)) (roomFor (h .scope) (length xs + length xs) at) _ λ _. on-step (λ (a : Apart). a .state .puts ≡ m .state .puts) (Most (1 + 2 + here h (m .state .puts) ws)) (apartFrom (h .scope .variables) xs m []) _ (apart-free (h .scope .variables) xs m []) λ a e. let q : termPutSteps most (a .state .puts) ≡ termPutSteps most (m .state .puts) = ap (termPutSteps most) e in omega (arith, behind-less ws)
+  left-falls h (valueOfNames at xs us) m ws =
+      on-any Q (roomFor (h .scope) (length xs + length xs) at) _ λ _. on-step (λ (a : Apart). a .state .puts ≡ m .state .puts) Q (apartFrom (h .scope .variables) xs m []) _ (apart-free (h .scope .variables) xs m []) λ a e.
+      let q : termPutSteps most (a .state .puts) ≡ termPutSteps most (m .state .puts) = ap (termPutSteps most) e in
+      under-falls (h .more) (withVariables (h .scope) (a .variables)) (a .state) us ws (record { wish = underNames (a .taken); scope = h .scope } ∷ h .above) (1 + (2 + 3 * listCount us) + here h (m .state .puts) ws) (omega arith)
+    where
+      Q : Terming → Type 0
+      Q = Most (1 + (2 + 3 * listCount us) + here h (m .state .puts) ws)
   left-falls h (underName x v) m ws = most-less (here h (m .state .puts) ws) (1 + 0 + here h (m .state .puts) ws) (doneBy X bodies h (nameOf (X .edition) x v m) ws) (omega arith) (done-falls h (m .state .puts) (nameOf (X .edition) x v m) ws (name-free (X .edition) x v m))
   left-falls h (underNames ps) m ws = most-less (here h (m .state .puts) ws) (1 + 0 + here h (m .state .puts) ws) (doneBy X bodies h (projections ps m) ws) (omega arith) (done-falls h (m .state .puts) (projections ps m) ws (projections-free ps m))
   left-falls h (element s before) m ws = element-falls h s before m ws

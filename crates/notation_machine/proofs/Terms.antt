@@ -1,30 +1,32 @@
 -- The machine of terms does what `termOf` does to the tree that the grammar reads from the same words. Assumes nothing.
 use Prim.Native.Nat.{ℕ, zero, suc, _+_, _≤_}
 use mathlib.Core.Path.{_≡_, refl, sym, ap, subst, _∙_}
-use mathlib.Core.Bool.{Bool, true, false, not, _||_, cond}
-use mathlib.Core.List.{List, [], _∷_, _++_}
+use mathlib.Core.Bool.{Bool, true, false, _||_, cond}
+use mathlib.Core.List.{List, [], _∷_}
 use native.Mathlib.Omega.{arith}
-use lib.Dec.{T, eqb, leb}
+use lib.Dec.{T}
 use lib.ListN.{length, take}
-use Rattle.calculus.specs.Answer.{Answer, good, refused, _>>=_, refuse, need}
+use Rattle.calculus.specs.Answer.{Answer, good, refused, _>>=_, refuse}
 use Rattle.calculus.specs.Types.{recAt}
 use Rattle.calculus.specs.Terms.{var, proj}
 use Rattle.calculus.specs.Terms as Terms
-use Rattle.laws.proofs.Tests.{T-is}
-use Rattle.notation_calculus.specs.Words.{Name, Sign, fun, fix, lets, within, round, endRound, equals, comma, colon, dot, square, endSquare, curly, Token, sign, part, number, name, Word}
+use Rattle.laws.proofs.Tests.{T-is, or-left}
+use Rattle.notation_calculus.specs.Words.{Name, fun, fix, lets, within, round, endRound, equals, comma, colon, dot, square, curly, Token, sign, part, number, name, Word}
 use Rattle.notation_calculus.specs.Trees.{Bound, Number, TypeTree, TypeTrees, noTypes, types, Tree, spine, apart, Atom, named, tuple, Atoms, noAtoms, atoms, Trees, noTrees, trees, Body, ofType, ofTerm, Text}
 use Rattle.notation_calculus.specs.Trees as Trees
-use Rattle.notation_calculus.specs.Grammar.{mostNested, Got, got, peek, behind, place, isToken, is, expect, nameAt, listFrom, numbersAt, typesOf, argumentsAt, typeAt, beginsAtom, treesFrom, readAtom, atomsFrom, spineAt, namesFrom, Binds, bindsEach, bindsPair, bindsFrom, nameless, functionTree, boundBody, letBody, letAt, termBy, termAt}
-use Rattle.notation_calculus.specs.Making.{State, Found, Entry, Scope, lookup, bind, bindAll, withVariables, entries, roomFor, numbersIn, Put, clauseFor, onePut, FoundAll, foundAll, noArguments, putIn, typeOf, Made, node, over, variable, partOf, functionsOf, nameOf, halvesOf, rest, apartOf, pairOf, applied, tupleOf, bodyTerm, atomOf, spineOf, termOf}
+use Rattle.notation_calculus.specs.Grammar.{mostNested, Got, got, peek, behind, place, isToken, is, expect, nameAt, listFrom, numbersAt, argumentsAt, typeAt, beginsAtom, treesFrom, readAtom, atomsFrom, spineAt, namesFrom, nameless, Group, Lists, groupAt, listsAt, groupsTree, Binds, bindsEach, bindsPair, bindsFrom, functionTree, apartTree, boundBody, letBody, letAt, termAt}
+use Rattle.notation_calculus.specs.Making.{State, Found, Entry, Scope, lookup, bind, bindAll, withVariables, entries, roomFor, numbersIn, Put, clauseFor, onePut, FoundAll, foundAll, putIn, typeOf, Made, node, over, variable, partOf, functionsOf, nameOf, halvesOf, rest, apartOf, pairOf, applied, tupleOf, bodyTerm, atomOf, spineOf, termOf}
 use Rattle.notation_theorems.proofs.Answering.{On, on-step, on-any, on-test, on-either, on-map, on-is, on-good}
-use Rattle.notation_machine.specs.Walked.{walked, Runs}
+use Rattle.notation_machine.specs.Walked.{Runs}
 use Rattle.notation_machine.specs.Bodies.{wordsFor, AllRead}
-use Rattle.notation_machine.specs.TypeFrom.{typeFrom, typesFrom}
-use Rattle.notation_machine.specs.TermMachine.{Function, none, some, Spine, Element, Taken, TermWish, ofFunction, ofFix, valueOfName, valueOfNames, underName, underNames, element, ofDefinition, TermLevel, Terming, wantedTerm, cameTerm, applying, TermHere, askTerm, termDone, pairsOf, Apart, apartFrom, projections, appliedTo, behindAtom, behindElement, termPutIn, termNamedAt, atomEntered, applicationFrom, pairMade, pairIn, pairFrom, namesTyped, functionFrom, fixFrom, letFrom, termEntered, doneBy, termLeft, termMove}
+use Rattle.notation_machine.specs.Lists.{headAt, nextList}
+use Rattle.notation_machine.specs.TypeFrom.{typeFrom}
+use Rattle.notation_machine.specs.TermMachine.{none, some, Spine, Element, Taken, TermWish, ofFunction, ofFix, valueOfName, valueOfNames, underName, underNames, element, ofDefinition, TermLevel, Terming, wantedTerm, cameTerm, applying, TermHere, askTerm, termDone, pairsOf, Apart, apartFrom, projections, behindAtom, behindElement, termPutIn, atomEntered, listBelow, underLists, pairFrom, namesTyped, functionFrom, fixFrom, letFrom, termEntered, termLeft, termMove}
 use Rattle.notation_machine.proofs.Running.{Follows, good-right, bind-bind, follows-now, follows-as, follows-for, follows-step, follows-then, follows-to, follows-both, follows-same, follows-all}
-use Rattle.notation_machine.proofs.ReadLaws.{on-expect, on-pair, on-closed, Numbers, numbers-read, Arguments, arguments-read, Used, used-read, lookup-both}
+use Rattle.notation_machine.proofs.ReadLaws.{on-expect, on-expected, on-pair, on-closed, Numbers, numbers-read, Arguments, arguments-read, Used, used-read, lookup-both}
 use Rattle.notation_machine.proofs.Bodies.{BodyFound, body-found, read-take}
 use Rattle.notation_machine.proofs.Behind.{Left, behind-fewer, behind-one, atom-left}
+use Rattle.notation_machine.proofs.Lists.{Scans, among, ListsReady, ready-more, ListsMet, lists-read, scan-ends, heads-then, isIn, lookup-found, lookup-in, bound-in, Covers, covers-two, covers-one}
 use Rattle.notation_machine.proofs.TypeFrom.{TypeRead, TypesRead, type-read, types-read}
 
 module _ (X : Text) (bodies : List (List Word)) (reads : AllRead bodies (X .clauses)) where
@@ -48,28 +50,25 @@ module _ (X : Text) (bodies : List (List Word)) (reads : AllRead bodies (X .clau
 
   none-function : (at : ℕ) (xs : Binds) (t : TypeTree) (e : Tree) (S : Scope) (σ : State) → termOf X zero S σ (functionTree at xs t e) ≡ refuse 34 at
   none-function at (bindsEach xs) t e S σ = refl
-  none-function at (bindsPair p xs) t e S σ = refl
+  none-function at (bindsPair p ls) t e S σ = refl
 
   none-left : (m : ℕ) (ws : List Word) → On (None ws) (termAt m ws)
   none-left zero ws = tt
-  none-left (suc m) ws = on-either (None ws) (is fun ws) _ _ (on-any (None ws) (bindsFrom (length ws) (behind ws)) _ λ xs. none-bound m ws (xs .rest) (functionTree (place ws) (xs .value)) (none-function (place ws) (xs .value))) (on-either (None ws) (is fix ws) _ _ (on-any (None ws) (nameAt (behind ws)) _ λ x. none-bound m ws (x .rest) (Trees.fix (place ws) (x .value)) λ t e S σ. refl) (on-either (None ws) (is lets ws) _ _ (on-either (None ws) (is round (behind ws)) _ _ (on-any (None ws) (listFrom nameAt (length (behind ws)) (behind (behind ws))) _ λ xs. on-any (None ws) (need (leb 2 (length (xs .value))) 32 (place (xs .rest))) _ λ _. on-expect (None ws) endRound (xs .rest) _ (none-let m ws (behind (xs .rest)) (apart (place ws) (xs .value)) λ v e S σ. refl)) (on-any (None ws) (nameAt (behind ws)) _ λ x. none-let m ws (x .rest) (Trees.name (place ws) (x .value)) λ v e S σ. refl)) (on-any (None ws) (readAtom (λ vs. termAt m vs) (λ vs. typeAt m false vs) (peek ws .token) ws) _ λ f. on-any (None ws) (atomsFrom (λ vs. termAt m vs) (λ vs. typeAt m false vs) (length ws) (f .rest)) _ λ as′ S σ. refl)))
+  none-left (suc m) ws = on-either (None ws) (is fun ws) _ _ (on-any (None ws) (bindsFrom (λ vs. listsAt (suc m) vs) (length ws) (behind ws)) _ λ xs. none-bound m ws (xs .rest) (functionTree (place ws) (xs .value)) (none-function (place ws) (xs .value))) (on-either (None ws) (is fix ws) _ _ (on-any (None ws) (nameAt (behind ws)) _ λ x. none-bound m ws (x .rest) (Trees.fix (place ws) (x .value)) λ t e S σ. refl) (on-either (None ws) (is lets ws) _ _ (on-either (None ws) (is round (behind ws)) _ _ (on-any (None ws) (listsAt (suc m) (behind ws)) _ λ ls. none-let m ws (ls .rest) (apartTree (place ws) (ls .value)) λ v e S σ. refl) (on-any (None ws) (nameAt (behind ws)) _ λ x. none-let m ws (x .rest) (Trees.name (place ws) (x .value)) λ v e S σ. refl)) (on-any (None ws) (readAtom (λ vs. termAt m vs) (λ vs. typeAt m false vs) (peek ws .token) ws) _ λ f. on-any (None ws) (atomsFrom (λ vs. termAt m vs) (λ vs. typeAt m false vs) (length ws) (f .rest)) _ λ as′ S σ. refl)))
 
   none-goes : (m : ℕ) (ws : List Word) → On (TermGoes zero ws) (termAt m ws)
   none-goes m ws = on-map (None ws) (TermGoes zero ws) (termAt m ws) (none-left m ws) λ g h S σ K. follows-for move (h S σ) (follows-step move (record { steps = 0; lead = refl }))
 
-  -- a pair is taken apart, over those that are taken apart already
-  module _ (more : ℕ) (S : Scope) (K : List TermLevel) (us : List Word) (e : Got Tree) (E : TermGoes more us e) where
+  -- a pair is taken apart, over those that are taken apart already; in its body the machine does what a definition does
+  module _ (more : ℕ) (S : Scope) (K : List TermLevel) (after : List Word) (body : List Entry → State → List TermLevel → Answer Terming) (inBody : List Entry → State → Answer Made) (known : Name → Bool) (E : (Δ : List Entry) → ((n : Name) → T (known n) → T (isIn n Δ)) → (τ : State) (L : List TermLevel) → Follows move (body Δ τ L) (inBody Δ τ) (λ m. good (cameTerm more m after L))) where
     abbrev level : TermHere
     level = record { more = more; scope = S; above = K }
 
     abbrev apartAsk : Apart → Answer Terming
-    apartAsk a = good (askTerm level (underNames (a .taken)) (withVariables S (a .variables)) (a .state) us)
-
-    abbrev inBody : List Entry → State → Answer Made
-    inBody Δ τ = termOf X more (withVariables S Δ) τ (e .value)
+    apartAsk a = body (a .variables) (a .state) (record { wish = underNames (a .taken); scope = S } ∷ K)
 
     abbrev closedBy : List Taken → Made → Answer Terming
-    closedBy ps m = projections ps m >>= λ f. good (termDone level f (e .rest))
+    closedBy ps m = projections ps m >>= λ f. good (termDone level f after)
 
     abbrev projected : Bound → Made → Made → Answer Made
     projected x v b = over (x .place) proj (b .type) v b (b .state)
@@ -78,85 +77,113 @@ module _ (X : Text) (bodies : List (List Word)) (reads : AllRead bodies (X .clau
     onto x v ps = record { place = x .place; pair = v } ∷ ps
 
     close-one : (x : Bound) (v : Made) (ps : List Taken) (b : Made) → Follows move (closedBy (onto x v ps) b) (projected x v b) (closedBy ps)
-    close-one x v ps b = follows-as move (bind-bind (projected x v b) (λ f. projections ps f) (λ f. good (termDone level f (e .rest)))) (follows-all move (projected x v b))
+    close-one x v ps b = follows-as move (bind-bind (projected x v b) (λ f. projections ps f) (λ f. good (termDone level f after))) (follows-all move (projected x v b))
 
-    apart-goes : (Γ : List Entry) (xs : List Bound) (v : Made) (ps : List Taken) → Follows move (apartFrom Γ xs v ps >>= apartAsk) (apartOf inBody Γ xs v) (closedBy ps)
-    apart-goes Γ [] v ps = record { steps = 0; lead = refl }
-    apart-goes Γ (x ∷ []) v ps = record { steps = 0; lead = refl }
-    apart-goes Γ (x ∷ y ∷ []) v ps =
+    apart-goes : (Γ : List Entry) (xs : List Bound) (v : Made) (ps : List Taken) → Covers known xs Γ → Follows move (apartFrom Γ xs v ps >>= apartAsk) (apartOf inBody Γ xs v) (closedBy ps)
+    apart-goes Γ [] v ps c = record { steps = 0; lead = refl }
+    apart-goes Γ (x ∷ []) v ps c = record { steps = 0; lead = refl }
+    apart-goes Γ (x ∷ y ∷ []) v ps c =
         let h = halvesOf (recAt (v .state .table) (v .type)) in
-        follows-then move (inBody (bind y (h .right) (bind x (h .left) Γ)) (v .state)) (projected x v) (E (withVariables S (bind y (h .right) (bind x (h .left) Γ))) (v .state) (record { wish = underNames (onto x v ps); scope = S } ∷ K)) λ b. follows-step move (close-one x v ps b)
-    apart-goes Γ (x ∷ y ∷ z ∷ zs) v ps =
+        follows-then move (inBody (bind y (h .right) (bind x (h .left) Γ)) (v .state)) (projected x v) (E (bind y (h .right) (bind x (h .left) Γ)) (covers-two known x y (h .left) (h .right) Γ c) (v .state) (record { wish = underNames (onto x v ps); scope = S } ∷ K)) λ b. follows-step move (close-one x v ps b)
+    apart-goes Γ (x ∷ y ∷ z ∷ zs) v ps c =
         let h = halvesOf (recAt (v .state .table) (v .type)) in
         let Δ = bind rest (h .right) (bind x (h .left) Γ) in
         follows-as move (bind-bind (node (y .place) (var 0) (h .right) 0 [] (v .state)) (λ r. apartFrom Δ (y ∷ z ∷ zs) r (onto x v ps)) apartAsk) (follows-same move (node (y .place) (var 0) (h .right) 0 [] (v .state)) λ r.
-        follows-then move (apartOf inBody Δ (y ∷ z ∷ zs) r) (projected x v) (apart-goes Δ (y ∷ z ∷ zs) r (onto x v ps)) λ b. close-one x v ps b)
+        follows-then move (apartOf inBody Δ (y ∷ z ∷ zs) r) (projected x v) (apart-goes Δ (y ∷ z ∷ zs) r (onto x v ps) (covers-one known x rest (y ∷ z ∷ zs) (h .left) (h .right) Γ c)) λ b. close-one x v ps b)
 
-  -- ---- a function whose variable is taken apart
+  -- ---- lists in one another
 
-  -- the body stands two levels below
+  abbrev Goes : ℕ → Type 0
+  Goes more = (m : ℕ) → m ≤ mostNested → (ws : List Word) → On (TermGoes more ws) (termAt m ws)
+
+  -- a level, and all below it
   abbrev Lower : ℕ → Type 0
-  Lower zero = Unit {0}
-  Lower (suc more) = (m : ℕ) → m ≤ mostNested → (ws : List Word) → On (TermGoes more ws) (termAt m ws)
+  Lower zero = Goes zero
+  Lower (suc more) = Goes (suc more) × Lower more
+
+  goes-here : (more : ℕ) → Lower more → Goes more
+  goes-here zero lower = lower
+  goes-here (suc more) lower = lower .0
+
+  -- each list takes a level, and the body stands below all of them
+  abbrev BodyGoes : ℕ → List Group → List Word → Got Tree → Type 0
+  BodyGoes more [] ws e = TermGoes more ws e
+  BodyGoes zero (g ∷ gs) ws e = Unit {0}
+  BodyGoes (suc more) (g ∷ gs) ws e = BodyGoes more gs ws e
+
+  body-below : (more : ℕ) → Lower more → (gs : List Group) (m : ℕ) → m ≤ mostNested → (ws : List Word) → On (BodyGoes more gs ws) (termAt m ws)
+  body-below more lower [] m h ws = goes-here more lower m h ws
+  body-below zero lower (g ∷ gs) m h ws = on-map (None ws) (BodyGoes zero (g ∷ gs) ws) (termAt m ws) (none-left m ws) λ e k. tt
+  body-below (suc more) lower (g ∷ gs) m h ws = body-below more (lower .1) gs m h ws
+
+  -- behind the names of a list: the lists that the scan meets are taken apart, and then the body is made
+  abbrev Under : List Group → Type 0
+  Under gs =
+      (more : ℕ) (S : Scope) (σ : State) (us vs ws : List Word) (e : Got Tree) (K : List TermLevel) → Scans gs us vs → is round (nextList vs) ≡ false → ListsReady gs (λ n. isIn n (S .variables)) → BodyGoes more gs (behind ws) e
+      → Follows move (underLists more S σ us ws K) (termOf X more S σ (groupsTree gs (e .value))) (λ m. good (cameTerm more m (e .rest) K))
 
   abbrev valueTree : ℕ → Tree
-  valueTree p = spine p (named p [] noTypes []) noAtoms
+  valueTree p = spine p (named p (nameless p .name) noTypes []) noAtoms
+
+  in-goes :
+      (p : ℕ) (xs : List Bound) (gs : List Group) → Under gs
+      → (more : ℕ) (S : Scope) (σ : State) (us vs ws : List Word) (e : Got Tree) (K : List TermLevel) → Scans gs us vs → is round (nextList vs) ≡ false → T (isIn (nameless p .name) (S .variables)) → ListsReady gs (λ n. among n xs || isIn n (S .variables)) → BodyGoes more (record { place = p; names = xs } ∷ gs) (behind ws) e
+      → Follows move (listBelow more S σ p xs us ws K) (termOf X more S σ (apart p xs (valueTree p) (groupsTree gs (e .value)))) (λ m. good (cameTerm more m (e .rest) K))
+  in-goes p xs gs under zero S σ us vs ws e K s o t r E = record { steps = 0; lead = refl }
+  in-goes p xs gs under (suc zero) S σ us vs ws e K s o t r E = lookup-in (λ (q : Answer Terming). Follows move q (termOf X 1 S σ (apart p xs (valueTree p) (groupsTree gs (e .value)))) (λ m. good (cameTerm 1 m (e .rest) K))) (nameless p .name) (S .variables) 0 _ t λ i v. record { steps = 0; lead = refl }
+  in-goes p xs gs under (suc (suc k)) S σ us vs ws e K s o t r E =
+      lookup-found (λ (q : Answer Terming) (a : Answer Made). Follows move q ((a >>= λ f. good f) >>= taken) (λ m. good (cameTerm (suc (suc k)) m (e .rest) K))) (nameless p .name) (S .variables) 0 _ _ t λ i v.
+      follows-for move (ap (λ (q : Answer Made). q >>= taken) (good-right (node p (variable (σ .table) i v) v 0 [] σ))) (
+      follows-same move (node p (variable (σ .table) i v) v 0 [] σ) λ a.
+      follows-step move (follows-same move (roomFor S (length xs + length xs) p) λ _.
+      apart-goes (suc k) S K (e .rest) (λ Δ τ L. underLists (suc k) (withVariables S Δ) τ us ws L) inBody known (λ Δ c τ L. under (suc k) (withVariables S Δ) τ us vs ws e L s o (ready-more gs known (λ n. isIn n Δ) c r) E) (S .variables) xs a [] (λ n q. q)))
+    where
+      known : Name → Bool
+      known n = among n xs || isIn n (S .variables)
+
+      inBody : List Entry → State → Answer Made
+      inBody Δ τ = termOf X (suc k) (withVariables S Δ) τ (groupsTree gs (e .value))
+
+      taken : Made → Answer Made
+      taken a = roomFor S (length xs + length xs) p >>= λ _. apartOf inBody (S .variables) xs a
+
+  under-goes : (gs : List Group) → Under gs
+  under-goes [] more S σ us vs ws e K s o r E = rw (ap (λ (q : List Word). is round q) s ∙ o) (E S σ K)
+  under-goes (g ∷ gs) more S σ us vs ws e K s o r E =
+      rw (s .0 .opens, s .0 .heads, s .0 .stands) (in-goes (g .place) (g .names) gs (under-goes gs) more S σ (behind (nextList us)) vs ws e K (s .1) o (r .0) (r .1) E)
+
+  -- ---- a function whose variable is taken apart
 
   abbrev pairScope : Scope → ℕ → ℕ → Scope
   pairScope S p t = withVariables S (bind (nameless p) t (S .variables))
 
-  abbrev BodyGoes : ℕ → List Word → Got Tree → Type 0
-  BodyGoes zero ws e = Unit {0}
-  BodyGoes (suc more) ws e = TermGoes more ws e
+  abbrev pairTyped : ℕ → ℕ → ℕ → List Bound → List Word → List Word → Scope → State → List TermLevel → Answer Terming
+  pairTyped more at′ p xs us vs S σ K = expect colon us >>= λ ws. typeFrom X more S σ ws >>= λ t. roomFor S 1 at′ >>= λ _. listBelow more (pairScope S p (t .value .type)) (t .value .state) p xs vs (t .rest) (record { wish = ofFunction (nameless p ∷ []) (t .value .type); scope = S } ∷ K)
 
-  body-below : (more : ℕ) → Lower more → (m : ℕ) → m ≤ mostNested → (ws : List Word) → On (BodyGoes more ws) (termAt m ws)
-  body-below zero lower m h ws = on-map (None ws) (BodyGoes zero ws) (termAt m ws) (none-left m ws) λ g k. tt
-  body-below (suc more) lower m h ws = lower m h ws
+  abbrev PairGoes : ℕ → ℕ → ℕ → List Bound → List Word → List Word → Got Tree → Type 0
+  PairGoes more at′ p xs us vs g = (S : Scope) (σ : State) (K : List TermLevel) → Follows move (pairTyped more at′ p xs us vs S σ K) (termOf X (suc more) S σ (g .value)) (λ m. good (cameTerm (suc more) m (g .rest) K))
 
-  in-goes :
-      (more p : ℕ) (xs : List Bound) (t : ℕ) (S : Scope) (σ : State) (us : List Word) (e : Got Tree) (K : List TermLevel) → BodyGoes more (behind us) e
-      → Follows move (pairIn more (pairScope S p t) σ p xs t us K) (termOf X more (pairScope S p t) σ (apart p xs (valueTree p) (e .value))) (λ b. good (cameTerm more b (e .rest) K))
-  in-goes zero p xs t S σ us e K E = record { steps = 0; lead = refl }
-  in-goes (suc zero) p xs t S σ us e K E = record { steps = 0; lead = refl }
-  in-goes (suc (suc k)) p xs t S σ us e K E =
-      follows-for move (ap (λ (q : Answer Made). q >>= λ a. roomFor R (length xs + length xs) p >>= λ _. apartOf (λ Δ τ. termOf X (suc k) (withVariables R Δ) τ (e .value)) (R .variables) xs a) (good-right (node p (variable (σ .table) 0 t) t 0 [] σ)))
-      (follows-same move (node p (variable (σ .table) 0 t) t 0 [] σ) λ v.
-      follows-step move (follows-same move (roomFor R (length xs + length xs) p) λ _. apart-goes (suc k) R K (behind us) e E (R .variables) xs v []))
-    where
-      R : Scope
-      R = pairScope S p t
-
-  abbrev pairTyped : ℕ → ℕ → ℕ → List Bound → List Word → Scope → State → List TermLevel → Answer Terming
-  pairTyped more at′ p xs us S σ K = typeFrom X more S σ us >>= λ t. roomFor S 1 at′ >>= λ _. pairIn more (pairScope S p (t .value .type)) (t .value .state) p xs (t .value .type) (t .rest) (record { wish = ofFunction (nameless p ∷ []) (t .value .type); scope = S } ∷ K)
-
-  abbrev PairGoes : ℕ → ℕ → ℕ → List Bound → List Word → Got Tree → Type 0
-  PairGoes more at′ p xs us g = (S : Scope) (σ : State) (K : List TermLevel) → Follows move (pairTyped more at′ p xs us S σ K) (termOf X (suc more) S σ (g .value)) (λ m. good (cameTerm (suc more) m (g .rest) K))
-
-  pair-goes : (more : ℕ) → Lower more → (m : ℕ) → m ≤ mostNested → (at′ p : ℕ) (xs : List Bound) (us : List Word) → On (PairGoes more at′ p xs (behind us)) (boundBody (λ vs. termAt m vs) (λ vs. typeAt m false vs) (functionTree at′ (bindsPair p xs)) us)
-  pair-goes more lower m h at′ p xs us =
-      on-expect Q colon us _ (on-step (TypeRead X more (behind us)) Q (typeAt m false (behind us)) _ (type-read X more m h (behind us)) λ t T.
-      on-expect Q dot (t .rest) _ (on-step (BodyGoes more (behind (t .rest))) Q (termAt m (behind (t .rest))) _ (body-below more lower m h (behind (t .rest))) λ e E S σ K.
-      follows-as move (ap (λ (q : Answer (Got Found)). q >>= asked S K) (T S σ) ∙ bind-bind (typeOf X more S σ (t .value)) (λ x. got x (t .rest)) (asked S K)) (
+  pair-goes :
+      (more : ℕ) → Lower more → (m : ℕ) → m ≤ mostNested → (at′ p : ℕ) (ls : Lists) (us vs : List Word) → Scans (ls .inner) vs us → ListsReady (ls .inner) (λ n. among n (ls .names))
+      → On (PairGoes more at′ p (ls .names) us vs) (boundBody (λ vs. termAt m vs) (λ vs. typeAt m false vs) (functionTree at′ (bindsPair p ls)) us)
+  pair-goes more lower m h at′ p ls us vs s r =
+      on-expected Q colon us _ λ c. on-step (TypeRead X more (behind us)) Q (typeAt m false (behind us)) _ (type-read X more m h (behind us)) λ t T.
+      on-expect Q dot (t .rest) _ (on-step (BodyGoes more (groupAt p ls) (behind (t .rest))) Q (termAt m (behind (t .rest))) _ (body-below more lower (groupAt p ls) m h (behind (t .rest))) λ e E S σ K.
+      rw c (follows-as move (ap (λ (q : Answer (Got Found)). q >>= asked S K) (T S σ) ∙ bind-bind (typeOf X more S σ (t .value)) (λ x. got x (t .rest)) (asked S K)) (
       follows-same move (typeOf X more S σ (t .value)) λ θ. follows-same move (roomFor S 1 at′) λ _.
-      follows-then move (termOf X more (pairScope S p (θ .type)) (θ .state) (apart p xs (valueTree p) (e .value))) (functionsOf (nameless p ∷ []) (θ .type)) (in-goes more p xs (θ .type) S (θ .state) (t .rest) e (record { wish = ofFunction (nameless p ∷ []) (θ .type); scope = S } ∷ K) E) λ b.
+      follows-then move (termOf X more (pairScope S p (θ .type)) (θ .state) (groupsTree (groupAt p ls) (e .value))) (functionsOf (nameless p ∷ []) (θ .type)) (in-goes p (ls .names) (ls .inner) (under-goes (ls .inner)) more (pairScope S p (θ .type)) (θ .state) vs us (t .rest) e (record { wish = ofFunction (nameless p ∷ []) (θ .type); scope = S } ∷ K) s (scan-ends colon (refl, refl, refl) us c) (bound-in (nameless p) (θ .type) (S .variables)) (ready-more (ls .inner) (λ n. among n (ls .names)) (λ n. among n (ls .names) || isIn n (pairScope S p (θ .type) .variables)) (λ n q. or-left (among n (ls .names)) (isIn n (pairScope S p (θ .type) .variables)) q) r) E) λ b.
       follows-step move (follows-all move (functionsOf (nameless p ∷ []) (θ .type) b)))))
     where
       Q : Got Tree → Type 0
-      Q = PairGoes more at′ p xs (behind us)
+      Q = PairGoes more at′ p (ls .names) us vs
 
       asked : Scope → List TermLevel → Got Found → Answer Terming
-      asked S K t = roomFor S 1 at′ >>= λ _. pairIn more (pairScope S p (t .value .type)) (t .value .state) p xs (t .value .type) (t .rest) (record { wish = ofFunction (nameless p ∷ []) (t .value .type); scope = S } ∷ K)
+      asked S K t = roomFor S 1 at′ >>= λ _. listBelow more (pairScope S p (t .value .type)) (t .value .state) p (ls .names) vs (t .rest) (record { wish = ofFunction (nameless p ∷ []) (t .value .type); scope = S } ∷ K)
 
-  -- what `fun` binds is read, and then the rest
-  pair-read : (P : Got Tree → Type 0) (us : List Word) (xs : Got (List Bound)) (g : Got Binds → Answer (Got Tree)) → On P (g (record { value = bindsPair (place us) (xs .value); rest = behind (xs .rest) })) → On P ((need (leb 2 (length (xs .value))) 32 (place (xs .rest)) >>= λ _. expect endRound (xs .rest) >>= λ after. got (bindsPair (place us) (xs .value)) after) >>= g)
-  pair-read P us xs g h = by (leb 2 (length (xs .value))) (is endRound (xs .rest))
-    where
-      by : (a b : Bool) → On P ((need a 32 (place (xs .rest)) >>= λ _. (need b 32 (place (xs .rest)) >>= λ _. good (behind (xs .rest))) >>= λ after. got (bindsPair (place us) (xs .value)) after) >>= g)
-      by true true = h
-      by true false = tt
-      by false b = tt
+  module _ (more : ℕ) (lower : Lower more) where
+    below : Goes more
+    below = goes-here more lower
 
-  module _ (more : ℕ) (below : (m : ℕ) → m ≤ mostNested → (ws : List Word) → On (TermGoes more ws) (termAt m ws)) where
     abbrev at : Scope → List TermLevel → TermHere
     at S K = record { more = more; scope = S; above = K }
 
@@ -230,24 +257,39 @@ module _ (X : Text) (bodies : List (List Word)) (reads : AllRead bodies (X .clau
         follows-then move (go (withVariables S (bind x (a .type) (S .variables))) (a .state) (e .value)) (λ b. nameOf (X .edition) x a b) (E (withVariables S (bind x (a .type) (S .variables))) (a .state) (waits (underName x a) S K)) λ b.
         follows-step move (follows-all move (nameOf (X .edition) x a b)))
 
-    abbrev namesGo : ℕ → List Bound → List Word → Scope → State → List TermLevel → Answer Terming
-    namesGo place′ xs us S σ K = good (askTerm (at S K) (valueOfNames place′ xs) S σ us)
+    -- .. behind a list, which begins behind the parenthesis
+    abbrev namesGo : ℕ → List Bound → List Word → List Word → Scope → State → List TermLevel → Answer Terming
+    namesGo place′ xs us vs S σ K = expect equals us >>= λ ws. good (askTerm (at S K) (valueOfNames place′ xs vs) S σ ws)
 
-    names-go : (place′ : ℕ) (xs : List Bound) (m : ℕ) → m ≤ mostNested → (us : List Word) → On (Ends (namesGo place′ xs (behind us))) (letBody (λ vs. termAt m vs) (apart place′ xs) us)
-    names-go place′ xs m h us = let-reads m h us (apart place′ xs) (Ends (namesGo place′ xs (behind us))) λ v e A E S σ K.
-        follows-then move (go S σ (v .value)) (λ a. roomFor S (length xs + length xs) place′ >>= λ _. apartOf (λ Δ τ. go (withVariables S Δ) τ (e .value)) (S .variables) xs a) (A S σ (waits (valueOfNames place′ xs) S K)) λ a.
-        follows-step move (follows-same move (roomFor S (length xs + length xs) place′) λ _. apart-goes more S K (behind (v .rest)) e E (S .variables) xs a [])
-
-    let-goes : (place′ m : ℕ) → m ≤ mostNested → (us : List Word) → On (Ends (λ S σ K. letFrom X bodies (at S K) σ place′ us)) (letAt (λ vs. termAt m vs) place′ us)
-    let-goes place′ m h us = by (is round us)
+    names-go :
+        (place′ : ℕ) (ls : Lists) (m : ℕ) → m ≤ mostNested → (us vs : List Word) → Scans (ls .inner) vs us → ListsReady (ls .inner) (λ n. among n (ls .names))
+        → On (Ends (namesGo place′ (ls .names) us vs)) (letBody (λ vs. termAt m vs) (apartTree place′ ls) us)
+    names-go place′ ls m h us vs s r =
+        on-expected Q equals us _ λ c. on-step (TermGoes more (behind us)) Q (termAt m (behind us)) _ (below m h (behind us)) λ v A.
+        on-expect Q within (v .rest) _ (on-step (BodyGoes more (ls .inner) (behind (v .rest))) Q (termAt m (behind (v .rest))) _ (body-below more lower (ls .inner) m h (behind (v .rest))) λ e E S σ K.
+        rw c (follows-then move (go S σ (v .value)) (λ a. roomFor S (length (ls .names) + length (ls .names)) place′ >>= λ _. apartOf (inBody S e) (S .variables) (ls .names) a) (A S σ (waits (valueOfNames place′ (ls .names) vs) S K)) λ a.
+        follows-step move (follows-same move (roomFor S (length (ls .names) + length (ls .names)) place′) λ _.
+        apart-goes more S K (e .rest) (λ Δ τ L. underLists more (withVariables S Δ) τ vs (v .rest) L) (inBody S e) (λ n. among n (ls .names)) (λ Δ k τ L. under-goes (ls .inner) more (withVariables S Δ) τ vs us (v .rest) e L s (scan-ends equals (refl, refl, refl) us c) (ready-more (ls .inner) (λ n. among n (ls .names)) (λ n. isIn n Δ) k r) E) (S .variables) (ls .names) a [] (λ n q. or-left (among n (ls .names)) (isIn n (S .variables)) q))))
       where
-        Q : Bool → Got Tree → Type 0
-        Q b = Ends (λ S σ K. cond b (listFrom nameAt (length us) (behind us) >>= λ xs. namesGo place′ (xs .value) (behind (behind (xs .rest))) S σ K) (nameAt us >>= λ x. nameFrom place′ (x .value) (behind (x .rest)) S σ K))
+        Q : Got Tree → Type 0
+        Q = Ends (namesGo place′ (ls .names) us vs)
 
-        by : (b : Bool) → On (Q b) (cond b (listFrom nameAt (length us) (behind us) >>= λ xs. need (leb 2 (length (xs .value))) 32 (place (xs .rest)) >>= λ _. expect endRound (xs .rest) >>= λ after. letBody (λ vs. termAt m vs) (apart place′ (xs .value)) after) (nameAt us >>= λ x. letBody (λ vs. termAt m vs) (Trees.name place′ (x .value)) (x .rest)))
-        by true = reads-same (listFrom nameAt (length us) (behind us)) _ (λ xs. namesGo place′ (xs .value) (behind (behind (xs .rest)))) λ xs.
-            on-any (Ends (namesGo place′ (xs .value) (behind (behind (xs .rest))))) (need (leb 2 (length (xs .value))) 32 (place (xs .rest))) _ λ _.
-            on-expect (Ends (namesGo place′ (xs .value) (behind (behind (xs .rest))))) endRound (xs .rest) (letBody (λ vs. termAt m vs) (apart place′ (xs .value))) (names-go place′ (xs .value) m h (behind (xs .rest)))
+        inBody : Scope → Got Tree → List Entry → State → Answer Made
+        inBody S e Δ τ = go (withVariables S Δ) τ (groupsTree (ls .inner) (e .value))
+
+    let-goes : (place′ m k : ℕ) → m ≤ mostNested → (us : List Word) → On (Ends (λ S σ K. letFrom X bodies (at S K) σ place′ us)) (letAt (λ vs. termAt m vs) (λ vs. listsAt k vs) place′ us)
+    let-goes place′ m k h us = by (is round us)
+      where
+        lists : Scope → State → List TermLevel → Answer Terming
+        lists S σ K = listFrom headAt (length us) (behind us) >>= λ xs. expect endRound (xs .rest) >>= λ ws. namesGo place′ (xs .value) ws (behind us) S σ K
+
+        Q : Bool → Got Tree → Type 0
+        Q b = Ends (λ S σ K. cond b (lists S σ K) (nameAt us >>= λ x. nameFrom place′ (x .value) (behind (x .rest)) S σ K))
+
+        by : (b : Bool) → On (Q b) (cond b (listsAt k us >>= λ ls. letBody (λ vs. termAt m vs) (apartTree place′ (ls .value)) (ls .rest)) (nameAt us >>= λ x. letBody (λ vs. termAt m vs) (Trees.name place′ (x .value)) (x .rest)))
+        by true = on-step (ListsMet us) (Ends lists) (listsAt k us) _ (lists-read k us) λ ls L.
+            on-map (Ends (namesGo place′ (ls .value .names) (ls .rest) (behind us))) (Ends lists) (letBody (λ vs. termAt m vs) (apartTree place′ (ls .value)) (ls .rest)) (names-go place′ (ls .value) m h (ls .rest) (behind us) (L .scans) (L .ready)) λ g E S σ K.
+            follows-as move (heads-then us ls L λ xs ws. namesGo place′ xs ws (behind us) S σ K) (E S σ K)
         by false = reads-same (nameAt us) _ (λ x. nameFrom place′ (x .value) (behind (x .rest))) λ x. name-goes place′ (x .value) m h (x .rest)
 
     -- ---- tuples
@@ -390,8 +432,8 @@ module _ (X : Text) (bodies : List (List Word)) (reads : AllRead bodies (X .clau
     typed-goes m h ws = reads-same (namesFrom (length ws) (behind ws)) _ (λ xs S σ K. boundFrom (place ws) (length (xs .value)) (bindAll (xs .value)) (ofFunction (xs .value)) (functionsOf (xs .value)) (Trees.fun (place ws) (xs .value)) (behind (xs .rest)) S σ K) λ xs.
         bound-goes (place ws) (length (xs .value)) (bindAll (xs .value)) (ofFunction (xs .value)) (functionsOf (xs .value)) (Trees.fun (place ws) (xs .value)) (λ S K t b vs. refl) (λ S σ t e. refl) m h (xs .rest)
 
-    function-goes : Lower more → (m : ℕ) → m ≤ mostNested → (ws : List Word) → On (Ends (λ S σ K. functionFrom X bodies (at S K) σ ws)) (bindsFrom (length ws) (behind ws) >>= λ xs. boundBody (λ vs. termAt m vs) (λ vs. typeAt m false vs) (functionTree (place ws) (xs .value)) (xs .rest))
-    function-goes lower m h ws = by (is round us)
+    function-goes : (m k : ℕ) → m ≤ mostNested → (ws : List Word) → On (Ends (λ S σ K. functionFrom X bodies (at S K) σ ws)) (bindsFrom (λ vs. listsAt k vs) (length ws) (behind ws) >>= λ xs. boundBody (λ vs. termAt m vs) (λ vs. typeAt m false vs) (functionTree (place ws) (xs .value)) (xs .rest))
+    function-goes m k h ws = by (is round us)
       where
         us : List Word
         us = behind ws
@@ -399,14 +441,16 @@ module _ (X : Text) (bodies : List (List Word)) (reads : AllRead bodies (X .clau
         close : Got Binds → Answer (Got Tree)
         close xs = boundBody (λ vs. termAt m vs) (λ vs. typeAt m false vs) (functionTree (place ws) (xs .value)) (xs .rest)
 
-        listed : Got (List Bound) → Answer (Got Binds)
-        listed xs = need (leb 2 (length (xs .value))) 32 (place (xs .rest)) >>= λ _. expect endRound (xs .rest) >>= λ after. got (bindsPair (place us) (xs .value)) after
+        lists : Scope → State → List TermLevel → Answer Terming
+        lists S σ K = listFrom headAt (length us) (behind us) >>= λ xs. expect endRound (xs .rest) >>= λ vs. pairTyped more (place ws) (place us) (xs .value) vs (behind us) S σ K
 
         Q : Bool → Got Tree → Type 0
         Q b = Ends (λ S σ K. cond b (pairFrom X bodies (at S K) σ (place ws) us) (namesTyped X bodies (at S K) σ ws))
 
-        by : (b : Bool) → On (Q b) (cond b (listFrom nameAt (length us) (behind us) >>= listed) (namesFrom (length ws) us >>= λ xs. got (bindsEach (xs .value)) (xs .rest)) >>= close)
-        by true = subst (On (Q true)) (sym (bind-bind (listFrom nameAt (length us) (behind us)) listed close)) (reads-same (listFrom nameAt (length us) (behind us)) _ (λ xs S σ K. pairTyped more (place ws) (place us) (xs .value) (behind (behind (xs .rest))) S σ K) λ xs. pair-read _ us xs close (pair-goes more lower m h (place ws) (place us) (xs .value) (behind (xs .rest))))
+        by : (b : Bool) → On (Q b) (cond b (listsAt k us >>= λ ls. got (bindsPair (place us) (ls .value)) (ls .rest)) (namesFrom (length ws) us >>= λ xs. got (bindsEach (xs .value)) (xs .rest)) >>= close)
+        by true = subst (On (Q true)) (sym (bind-bind (listsAt k us) (λ ls. got (bindsPair (place us) (ls .value)) (ls .rest)) close)) (on-step (ListsMet us) (Ends lists) (listsAt k us) _ (lists-read k us) λ ls L.
+            on-map (PairGoes more (place ws) (place us) (ls .value .names) (ls .rest) (behind us)) (Ends lists) (close (record { value = bindsPair (place us) (ls .value); rest = ls .rest })) (pair-goes more lower m h (place ws) (place us) (ls .value) (ls .rest) (behind us) (L .scans) (L .ready)) λ g E S σ K.
+            follows-as move (heads-then us ls L λ xs vs. pairTyped more (place ws) (place us) xs vs (behind us) S σ K) (E S σ K))
         by false = subst (On (Q false)) (sym (bind-bind (namesFrom (length ws) us) (λ xs. got (bindsEach (xs .value)) (xs .rest)) close)) (typed-goes m h ws)
 
     fix-goes : (m : ℕ) → m ≤ mostNested → (ws : List Word) → On (Ends (λ S σ K. fixFrom X bodies (at S K) σ ws)) (nameAt (behind ws) >>= λ x. boundBody (λ vs. termAt m vs) (λ vs. typeAt m false vs) (Trees.fix (place ws) (x .value)) (x .rest))
@@ -416,9 +460,9 @@ module _ (X : Text) (bodies : List (List Word)) (reads : AllRead bodies (X .clau
         closed : Got Bound → ℕ → Made → Answer Made
         closed x t b = node (x .value .place) (Terms.fix t (b .term)) t (b .deep) (b .places) (b .state)
 
-    level-goes : Lower more → (m : ℕ) → m ≤ mostNested → (ws : List Word) → On (TermGoes (suc more) ws) (termAt m ws)
-    level-goes lower zero h ws = tt
-    level-goes lower (suc m) h ws = on-map (Ends (λ S σ K. termEntered X bodies (at S K) σ ws)) (TermGoes (suc more) ws) (termAt (suc m) ws) (by (is fun ws) (is fix ws) (is lets ws)) λ g E S σ K. follows-step move (E S σ K)
+    level-goes : Goes (suc more)
+    level-goes zero h ws = tt
+    level-goes (suc m) h ws = on-map (Ends (λ S σ K. termEntered X bodies (at S K) σ ws)) (TermGoes (suc more) ws) (termAt (suc m) ws) (by (is fun ws) (is fix ws) (is lets ws)) λ g E S σ K. follows-step move (E S σ K)
       where
         k : m ≤ mostNested
         k = omega arith
@@ -426,16 +470,18 @@ module _ (X : Text) (bodies : List (List Word)) (reads : AllRead bodies (X .clau
         Q : Bool → Bool → Bool → Got Tree → Type 0
         Q a b c = Ends (λ S σ K. cond a (functionFrom X bodies (at S K) σ ws) (cond b (fixFrom X bodies (at S K) σ ws) (cond c (letFrom X bodies (at S K) σ (place ws) (behind ws)) (atomEntered X bodies (at S K) (record { place = place ws; function = none }) σ (peek ws .token) ws))))
 
-        by : (a b c : Bool) → On (Q a b c) (cond a (bindsFrom (length ws) (behind ws) >>= λ xs. boundBody (λ vs. termAt m vs) (λ vs. typeAt m false vs) (functionTree (place ws) (xs .value)) (xs .rest)) (cond b (nameAt (behind ws) >>= λ x. boundBody (λ vs. termAt m vs) (λ vs. typeAt m false vs) (Trees.fix (place ws) (x .value)) (x .rest)) (cond c (letAt (λ vs. termAt m vs) (place ws) (behind ws)) (spineAt (λ vs. termAt m vs) (λ vs. typeAt m false vs) ws))))
-        by true b c = function-goes lower m k ws
+        by : (a b c : Bool) → On (Q a b c) (cond a (bindsFrom (λ vs. listsAt (suc m) vs) (length ws) (behind ws) >>= λ xs. boundBody (λ vs. termAt m vs) (λ vs. typeAt m false vs) (functionTree (place ws) (xs .value)) (xs .rest)) (cond b (nameAt (behind ws) >>= λ x. boundBody (λ vs. termAt m vs) (λ vs. typeAt m false vs) (Trees.fix (place ws) (x .value)) (x .rest)) (cond c (letAt (λ vs. termAt m vs) (λ vs. listsAt (suc m) vs) (place ws) (behind ws)) (spineAt (λ vs. termAt m vs) (λ vs. typeAt m false vs) ws))))
+        by true b c = function-goes m (suc m) k ws
         by false true c = fix-goes m k ws
-        by false false true = let-goes (place ws) m k (behind ws)
+        by false false true = let-goes (place ws) m (suc m) k (behind ws)
         by false false false = spine-goes m k ws
 
+  all-lower : (more : ℕ) → Lower more
+  all-lower zero = λ m h ws. none-goes m ws
+  all-lower (suc more) = let lower : Lower more = all-lower more in (level-goes more lower, lower)
+
   pub term-goes : (more m : ℕ) → m ≤ mostNested → (ws : List Word) → On (TermGoes more ws) (termAt m ws)
-  term-goes zero m h ws = none-goes m ws
-  term-goes (suc zero) m h ws = level-goes zero (term-goes zero) tt m h ws
-  term-goes (suc (suc more)) m h ws = level-goes (suc more) (term-goes (suc more)) (term-goes more) m h ws
+  term-goes more = goes-here more (all-lower more)
 
 -- where the grammar reads a tree from the words, the machine started at them does what `termOf` does to the tree: it gets to the term that
 -- `termOf` makes, before the words behind the tree, or refuses as `termOf` does

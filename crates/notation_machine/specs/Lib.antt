@@ -3,6 +3,7 @@ pub mod Bodies
 pub mod TypeMachine
 pub mod TypeSteps
 pub mod TypeFrom
+pub mod Lists
 pub mod TermMachine
 pub mod Worked
 pub mod TermSteps

@@ -8,11 +8,12 @@ use Rattle.calculus.specs.Answer.{Answer, good, _>>=_, refuse, need}
 use Rattle.calculus.specs.Types.{recAt}
 use Rattle.calculus.specs.Terms.{var, proj}
 use Rattle.calculus.specs.Terms as Terms
-use Rattle.notation_calculus.specs.Words.{fun, fix, lets, round, comma, square, curly, Token, sign, part, number, name, Word}
+use Rattle.notation_calculus.specs.Words.{fun, fix, lets, round, endRound, equals, comma, colon, square, curly, Token, sign, part, number, name, Word}
 use Rattle.notation_calculus.specs.Trees.{Bound, Text}
-use Rattle.notation_calculus.specs.Grammar.{peek, behind, place, isToken, is, nameAt, listFrom, numbersAt, beginsAtom, namesFrom, nameless}
+use Rattle.notation_calculus.specs.Grammar.{peek, behind, place, isToken, is, expect, nameAt, listFrom, numbersAt, beginsAtom, namesFrom, nameless}
 use Rattle.notation_calculus.specs.Making.{State, Entry, Scope, lookup, bind, bindAll, withVariables, entries, roomFor, numbersIn, clauseFor, onePut, Made, node, over, variable, partOf, functionsOf, nameOf, halvesOf, rest, pairOf, applied}
 use Rattle.notation_machine.specs.Bodies.{wordsFor}
+use Rattle.notation_machine.specs.Lists.{headAt, nextList}
 use Rattle.notation_machine.specs.TypeFrom.{typeFrom, typesFrom}
 
 -- ---- what waits
@@ -42,7 +43,7 @@ pub data TermWish : Type 0 where
   ofFunction : List Bound → ℕ → TermWish  -- the body behind names and their type
   ofFix : Bound → ℕ → TermWish
   valueOfName : ℕ → Bound → TermWish  -- `let` at a place
-  valueOfNames : ℕ → List Bound → TermWish
+  valueOfNames : ℕ → List Bound → List Word → TermWish  -- .. and the words behind the parenthesis of their list
   underName : Bound → Made → TermWish  -- the body of a `let` with its value
   underNames : List Taken → TermWish
   element : Spine → List Element → TermWish  -- of a tuple; with those before it, the last first
@@ -121,19 +122,25 @@ behindElement h s before m ws = cond (is comma ws) (good (askTerm h (element s (
   p ← pairsOf before m
   behindAtom h s p (behind ws))
 
--- ---- a function whose variable is taken apart
+-- ---- lists in one another
 
--- a variable that no text can name is made, for names at a place that it is taken apart into; this takes a level
-abbrev pub pairMade : ℕ → Scope → State → ℕ → List Bound → ℕ → List Word → List TermLevel → Answer Terming
-pairMade zero S σ at xs t ws K = refuse 34 at
-pairMade (suc more) S σ at xs t ws K = do
-  v ← node at (variable (σ .table) 0 t) t 0 [] σ
-  good (cameTerm (suc more) v ws (record { wish = valueOfNames at xs; scope = S } ∷ K))
+-- variable i of a type is made, for a list at a place: its names, and the words behind its parenthesis; this takes a level
+abbrev pub listMade : ℕ → Scope → State → ℕ → List Bound → List Word → ℕ → ℕ → List Word → List TermLevel → Answer Terming
+listMade zero S σ at xs us i t ws K = refuse 34 at
+listMade (suc more) S σ at xs us i t ws K = do
+  v ← node at (variable (σ .table) i t) t 0 [] σ
+  good (cameTerm (suc more) v ws (record { wish = valueOfNames at xs us; scope = S } ∷ K))
 
--- .. in the body of its function, one level below
-abbrev pub pairIn : ℕ → Scope → State → ℕ → List Bound → ℕ → List Word → List TermLevel → Answer Terming
-pairIn zero S σ at xs t ws K = refuse 34 at
-pairIn (suc more) S σ at xs t ws K = pairMade more S σ at xs t ws K
+-- .. in a body, one level below; the nameless variable of a list stands in the scope, and 32 is never met
+abbrev pub listBelow : ℕ → Scope → State → ℕ → List Bound → List Word → List Word → List TermLevel → Answer Terming
+listBelow zero S σ at xs us ws K = refuse 34 at
+listBelow (suc more) S σ at xs us ws K = lookup (nameless at .name) (S .variables) 0 (λ i t. listMade more S σ at xs us i t ws K) (refuse 32 at)
+
+-- the body of names that were bound, behind `in` or a dot: the next list is taken apart in it, or it is wanted
+abbrev pub underLists : ℕ → Scope → State → List Word → List Word → List TermLevel → Answer Terming
+underLists more S σ us ws K = cond (is round (nextList us)) (do
+  xs ← listFrom headAt (length (nextList us)) (behind (nextList us))
+  listBelow more S σ (place (nextList us)) (xs .value) (behind (nextList us)) ws K) (good (wantedTerm more S σ (behind ws) K))
 
 module _ (X : Text) (bodies : List (List Word)) where
   -- behind a name: its arguments, the clause, its cost, and then its body is wanted
@@ -169,13 +176,15 @@ module _ (X : Text) (bodies : List (List Word)) where
 
   -- ---- functions, fixed points and names
 
-  -- : type . term, behind `fun` at a place and names in parentheses
+  -- : type . term, behind `fun` at a place and before a list
   abbrev pub pairFrom : TermHere → State → ℕ → List Word → Answer Terming
   pairFrom h σ at ws = do
-    xs ← listFrom nameAt (length ws) (behind ws)
-    t ← typeFrom X (h .more) (h .scope) σ (behind (behind (xs .rest)))
+    xs ← listFrom headAt (length ws) (behind ws)
+    ws₁ ← expect endRound (xs .rest)
+    ws₂ ← expect colon ws₁
+    t ← typeFrom X (h .more) (h .scope) σ ws₂
     _ ← roomFor (h .scope) 1 at
-    pairIn (h .more) (withVariables (h .scope) (bind (nameless (place ws)) (t .value .type) (h .scope .variables))) (t .value .state) (place ws) (xs .value) (t .value .type) (t .rest) (record { wish = ofFunction (nameless (place ws) ∷ []) (t .value .type); scope = h .scope } ∷ h .above)
+    listBelow (h .more) (withVariables (h .scope) (bind (nameless (place ws)) (t .value .type) (h .scope .variables))) (t .value .state) (place ws) (xs .value) (behind ws) (t .rest) (record { wish = ofFunction (nameless (place ws) ∷ []) (t .value .type); scope = h .scope } ∷ h .above)
 
   -- .. behind `fun` and its names
   abbrev pub namesTyped : TermHere → State → List Word → Answer Terming
@@ -197,11 +206,13 @@ module _ (X : Text) (bodies : List (List Word)) where
     _ ← roomFor (h .scope) 1 (place ws)
     good (askTerm h (ofFix (x .value) (t .value .type)) (withVariables (h .scope) (bind (x .value) (t .value .type) (h .scope .variables))) (t .value .state) (behind (t .rest)))
 
-  -- = term, behind `let` at a place and a name, or names in parentheses
+  -- = term, behind `let` at a place and a name, or a list
   abbrev pub letFrom : TermHere → State → ℕ → List Word → Answer Terming
   letFrom h σ at ws = cond (is round ws) (do
-    xs ← listFrom nameAt (length ws) (behind ws)
-    good (askTerm h (valueOfNames at (xs .value)) (h .scope) σ (behind (behind (xs .rest))))) (do
+    xs ← listFrom headAt (length ws) (behind ws)
+    ws₁ ← expect endRound (xs .rest)
+    ws₂ ← expect equals ws₁
+    good (askTerm h (valueOfNames at (xs .value) (behind ws)) (h .scope) σ ws₂)) (do
       x ← nameAt ws
       good (askTerm h (valueOfName at (x .value)) (h .scope) σ (behind (x .rest))))
 
@@ -224,10 +235,10 @@ module _ (X : Text) (bodies : List (List Word)) where
   termLeft h (valueOfName at x) m ws = do
     _ ← roomFor (h .scope) 1 at
     good (askTerm h (underName x m) (withVariables (h .scope) (bind x (m .type) (h .scope .variables))) (m .state) (behind ws))
-  termLeft h (valueOfNames at xs) m ws = do
+  termLeft h (valueOfNames at xs us) m ws = do
     _ ← roomFor (h .scope) (length xs + length xs) at
     a ← apartFrom (h .scope .variables) xs m []
-    good (askTerm h (underNames (a .taken)) (withVariables (h .scope) (a .variables)) (a .state) (behind ws))
+    underLists (h .more) (withVariables (h .scope) (a .variables)) (a .state) us ws (record { wish = underNames (a .taken); scope = h .scope } ∷ h .above)
   termLeft h (underName x v) m ws = doneBy h (nameOf (X .edition) x v m) ws
   termLeft h (underNames ps) m ws = doneBy h (projections ps m) ws
   termLeft h (element s before) m ws = behindElement h s before m ws

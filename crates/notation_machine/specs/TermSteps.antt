@@ -4,18 +4,19 @@ use Prim.Native.Nat.{ℕ, _+_, _*_, _-_}
 use mathlib.Core.List.{List, [], _∷_}
 use lib.ListN.{length}
 use Rattle.notation_calculus.specs.Making.{mostPuts}
+use Rattle.notation_machine.specs.Lists.{listCount}
 use Rattle.notation_machine.specs.TermMachine.{TermWish, ofFunction, ofFix, valueOfName, valueOfNames, underName, underNames, element, ofDefinition, TermLevel, Terming, wantedTerm, cameTerm, applying}
 
 -- the steps of all definitions that may still be put in
 unfoldable pub termPutSteps : ℕ → ℕ → ℕ
 termPutSteps most puts = (mostPuts - puts) * (3 * most + 3)
 
--- the body of a `let` comes behind its value, and behind the body of a definition the words of the level go on
+-- the body of a `let` comes behind its value, each list in a list has a level and a variable, and behind the body of a definition the words of the level go on
 abbrev pub termWishSteps : TermWish → ℕ
 termWishSteps (ofFunction xs t) = 0
 termWishSteps (ofFix x t) = 0
 termWishSteps (valueOfName at x) = 2
-termWishSteps (valueOfNames at xs) = 2
+termWishSteps (valueOfNames at xs us) = 2 + 3 * listCount us
 termWishSteps (underName x v) = 0
 termWishSteps (underNames ps) = 0
 termWishSteps (element s before) = 0

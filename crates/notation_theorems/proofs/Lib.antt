@@ -15,3 +15,8 @@ pub mod Translating
 pub mod TextCircuit
 pub mod TypesMade
 pub mod TermsMade
+pub mod Telling
+pub mod TreeTells
+pub mod MakingTells
+pub mod MakePlaces
+pub mod CallPlaces

@@ -10,7 +10,7 @@ use Rattle.calculus.specs.Record.{All}
 use Rattle.notation_calculus.specs.Words.{Sign, signCode, ends, fun, fix, lets, within, type, edition, table, arrow, linear, times, round, endRound, equals, comma, colon, dot, square, endSquare, curly, endCurly, plus, power, Token, sign, part, number, name, Word}
 use Rattle.notation_calculus.specs.Trees.{Form, product, TypeTree, inside, nothing, Tree, apart, Atom, tuple, Trees, Body, ofType, ofTerm, Clause, Text}
 use Rattle.notation_calculus.specs.Trees as Trees
-use Rattle.notation_calculus.specs.Grammar.{mostNested, mostClauses, Got, got, peek, behind, place, isToken, is, expect, boundName, nameAt, valueOf, listFrom, readNumber, numberAt, numbersAt, parametersAt, typesOf, argumentsAt, onesAt, typeAtomOf, sideAt, productAt, arrowAt, typeAt, beginsAtom, treesFrom, readAtom, atomsFrom, spineAt, namesFrom, Binds, bindsEach, bindsPair, bindsFrom, functionTree, boundBody, letBody, letAt, termBy, termAt, mayFollowAll, Items, noItems, withClause, withLines, clauseAt, typeBody, termBody, itemsFrom, editionAt, textOf}
+use Rattle.notation_calculus.specs.Grammar.{mostNested, mostClauses, Got, got, peek, behind, place, isToken, is, expect, boundName, nameAt, valueOf, listFrom, readNumber, numberAt, numbersAt, parametersAt, typesOf, argumentsAt, onesAt, typeAtomOf, sideAt, productAt, arrowAt, typeAt, beginsAtom, treesFrom, readAtom, atomsFrom, spineAt, namesFrom, Group, Lists, Item, itemAt, boundsOf, groupsOf, listsAt, groupsTree, apartTree, Binds, bindsEach, bindsPair, bindsFrom, functionTree, boundBody, letBody, letAt, termBy, termAt, mayFollowAll, Items, noItems, withClause, withLines, clauseAt, typeBody, termBody, itemsFrom, editionAt, textOf}
 use Rattle.notation_theorems.specs.Counted.{BoundIn, TreeIn, AtomIn, AtomsIn, TreesIn, BodyIn, ClauseIn}
 use Rattle.notation_theorems.specs.Worded.{TokenIn, WordIn}
 use Rattle.notation_theorems.proofs.Answering.{On, on-step, on-any, on-test, on-either, on-tests}
@@ -119,7 +119,42 @@ module _ (P K : ℕ → Type 0) where
 
   -- ---- terms
 
-  module _ (read : List Word → Answer (Got Tree)) (r : Reads (TreeIn P K) read) where
+  -- the place of a list is that of its parenthesis
+  abbrev GroupIn : Group → Type 0
+  GroupIn g = P (g .place) × All (BoundIn P) (g .names)
+
+  abbrev ListsIn : Lists → Type 0
+  ListsIn ls = All (BoundIn P) (ls .names) × All GroupIn (ls .inner)
+
+  abbrev ItemIn : Item → Type 0
+  ItemIn x = BoundIn P (x .bound) × All GroupIn (x .groups)
+
+  round-placed : (ws : List Word) → In ws → T (is round ws) → P (place ws)
+  round-placed ws h t = token-placed round (peek ws .token) (place ws) tt t (peek-in ws h)
+
+  item-in : (read : List Word → Answer (Got Lists)) → Reads ListsIn read → Reads ItemIn (itemAt read)
+  item-in read r ws h = on-tests (GotIn ItemIn) (is round ws) _ _ (λ t. on-step (GotIn ListsIn) (GotIn ItemIn) (read ws) _ (r ws h) λ ls g. ((round-placed ws h t, ((round-placed ws h t, g .0 .0), g .0 .1)), g .1)) λ _. on-step (GotIn (BoundIn P)) (GotIn ItemIn) (nameAt ws) _ (name-in ws h) λ x g. ((g .0, tt), g .1)
+
+  bounds-in : (xs : List Item) → All ItemIn xs → All (BoundIn P) (boundsOf xs)
+  bounds-in [] h = tt
+  bounds-in (x ∷ xs) h = (h .0 .0, bounds-in xs (h .1))
+
+  groups-in : (xs : List Item) → All ItemIn xs → All GroupIn (groupsOf xs)
+  groups-in [] h = tt
+  groups-in (x ∷ xs) h = all-both GroupIn (x .groups) (groupsOf xs) (h .0 .1) (groups-in xs (h .1))
+
+  lists-in : (more : ℕ) → Reads ListsIn (listsAt more)
+  lists-in zero ws h = tt
+  lists-in (suc more) ws h =
+      on-step (GotIn (All ItemIn)) (GotIn ListsIn) (listFrom (itemAt (λ us. listsAt more us)) (length ws) (behind ws)) _ (list-in ItemIn (itemAt (λ us. listsAt more us)) (item-in (λ us. listsAt more us) (lists-in more)) (length ws) (behind ws) (behind-in ws h)) λ xs g.
+      on-any (GotIn ListsIn) (need (leb 2 (length (xs .value))) 32 (place (xs .rest))) _ λ _.
+      on-step In (GotIn ListsIn) (expect endRound (xs .rest)) _ (expect-in endRound (xs .rest) (g .1)) λ us i. ((bounds-in (xs .value) (g .0), groups-in (xs .value) (g .0)), i)
+
+  groups-tree-in : (gs : List Group) (e : Tree) → All GroupIn gs → TreeIn P K e → TreeIn P K (groupsTree gs e)
+  groups-tree-in [] e h a = a
+  groups-tree-in (g ∷ gs) e h a = (h .0 .1, (h .0 .0, h .0 .0, tt), groups-tree-in gs e (h .1) a)
+
+  module _ (read : List Word → Answer (Got Tree)) (r : Reads (TreeIn P K) read) (readLists : List Word → Answer (Got Lists)) (rl : Reads ListsIn readLists) where
     trees-in : (rounds : ℕ) → Reads (TreesIn P K) (treesFrom read rounds)
     trees-in zero ws h = (tt, h)
     trees-in (suc rounds) ws h = on-tests (GotIn (TreesIn P K)) (is comma ws) _ _ (λ t. on-step (GotIn (TreeIn P K)) (GotIn (TreesIn P K)) (read (behind ws)) _ (r (behind ws) (behind-in ws h)) λ e g. on-step (GotIn (TreesIn P K)) (GotIn (TreesIn P K)) (treesFrom read rounds (e .rest)) _ (trees-in rounds (e .rest) (g .1)) λ es i. ((token-placed comma (peek ws .token) (place ws) tt t (peek-in ws h), g .0, i .0), i .1)) λ _. (tt, h)
@@ -131,8 +166,8 @@ module _ (P K : ℕ → Type 0) where
         on-step In (GotIn (TreeIn P K)) (expect within (v .rest)) _ (expect-in within (v .rest) (g .1)) λ ws₂ h₂.
         on-step (GotIn (TreeIn P K)) (GotIn (TreeIn P K)) (read ws₂) _ (r ws₂ h₂) λ e i. (k (v .value) (e .value) (g .0) (i .0), i .1)
 
-    let-in : (at : ℕ) → Reads (TreeIn P K) (letAt read at)
-    let-in at ws h = on-either (GotIn (TreeIn P K)) (is round ws) _ _ (on-step (GotIn (All (BoundIn P))) (GotIn (TreeIn P K)) (listFrom nameAt (length ws) (behind ws)) _ (list-in (BoundIn P) nameAt name-in (length ws) (behind ws) (behind-in ws h)) λ xs g. on-any (GotIn (TreeIn P K)) (need (leb 2 (length (xs .value))) 32 (place (xs .rest))) _ λ _. on-step In (GotIn (TreeIn P K)) (expect endRound (xs .rest)) _ (expect-in endRound (xs .rest) (g .1)) λ us i. let-body-in (apart at (xs .value)) (λ v e a b. (g .0, a, b)) us i) (on-step (GotIn (BoundIn P)) (GotIn (TreeIn P K)) (nameAt ws) _ (name-in ws h) λ x g. let-body-in (Trees.name at (x .value)) (λ v e a b. (g .0, a, b)) (x .rest) (g .1))
+    let-in : (at : ℕ) → Reads (TreeIn P K) (letAt read readLists at)
+    let-in at ws h = on-either (GotIn (TreeIn P K)) (is round ws) _ _ (on-step (GotIn ListsIn) (GotIn (TreeIn P K)) (readLists ws) _ (rl ws h) λ ls g. let-body-in (apartTree at (ls .value)) (λ v e a b. (g .0 .0, a, groups-tree-in (ls .value .inner) e (g .0 .1) b)) (ls .rest) (g .1)) (on-step (GotIn (BoundIn P)) (GotIn (TreeIn P K)) (nameAt ws) _ (name-in ws h) λ x g. let-body-in (Trees.name at (x .value)) (λ v e a b. (g .0, a, b)) (x .rest) (g .1))
 
     module _ (readType : List Word → Answer (Got TypeTree)) (rt : Reads Free readType) where
       -- an atom begins with a word that is not the end
@@ -165,19 +200,18 @@ module _ (P K : ℕ → Type 0) where
           on-step (GotIn (BoundIn P)) (GotIn (All (BoundIn P))) (nameAt ws) _ (name-in ws h) λ x g.
           on-either (GotIn (All (BoundIn P))) (is colon (x .rest)) _ _ ((g .0, tt), g .1) (on-step (GotIn (All (BoundIn P))) (GotIn (All (BoundIn P))) (namesFrom rounds (x .rest)) _ (names-in rounds (x .rest) (g .1)) λ xs i. ((g .0, i .0), i .1))
 
-      -- the place of a list is that of its parenthesis
       abbrev BindsIn : Binds → Type 0
       BindsIn (bindsEach xs) = All (BoundIn P) xs
-      BindsIn (bindsPair at xs) = P at × All (BoundIn P) xs
+      BindsIn (bindsPair at ls) = P at × ListsIn ls
 
-      binds-in : (rounds : ℕ) → Reads BindsIn (bindsFrom rounds)
+      binds-in : (rounds : ℕ) → Reads BindsIn (bindsFrom readLists rounds)
       binds-in rounds ws h =
-          on-tests (GotIn BindsIn) (is round ws) _ _ (λ t. on-step (GotIn (All (BoundIn P))) (GotIn BindsIn) (listFrom nameAt (length ws) (behind ws)) _ (list-in (BoundIn P) nameAt name-in (length ws) (behind ws) (behind-in ws h)) λ xs g. on-any (GotIn BindsIn) (need (leb 2 (length (xs .value))) 32 (place (xs .rest))) _ λ _. on-step In (GotIn BindsIn) (expect endRound (xs .rest)) _ (expect-in endRound (xs .rest) (g .1)) λ us i. ((token-placed round (peek ws .token) (place ws) tt t (peek-in ws h), g .0), i)) λ _.
+          on-tests (GotIn BindsIn) (is round ws) _ _ (λ t. on-step (GotIn ListsIn) (GotIn BindsIn) (readLists ws) _ (rl ws h) λ ls g. ((round-placed ws h t, g .0), g .1)) λ _.
           on-step (GotIn (All (BoundIn P))) (GotIn BindsIn) (namesFrom rounds ws) _ (names-in rounds ws h) λ xs g. (g .0, g .1)
 
       function-in : (at : ℕ) (xs : Binds) (t : TypeTree) (e : Tree) → BindsIn xs → TreeIn P K e → TreeIn P K (functionTree at xs t e)
       function-in at (bindsEach xs) t e b a = (b, a)
-      function-in at (bindsPair p xs) t e b a = ((b .0, tt), (b .1, (b .0, b .0, tt), a))
+      function-in at (bindsPair p ls) t e b a = ((b .0, tt), (b .1 .0, (b .0, b .0, tt), groups-tree-in (ls .inner) e (b .1 .1) a))
 
       bound-body-in : (build : TypeTree → Tree → Tree) → ((t : TypeTree) (e : Tree) → TreeIn P K e → TreeIn P K (build t e)) → Reads (TreeIn P K) (boundBody read readType build)
       bound-body-in build k ws h =
@@ -186,12 +220,12 @@ module _ (P K : ℕ → Type 0) where
           on-step In (GotIn (TreeIn P K)) (expect dot (t .rest)) _ (expect-in dot (t .rest) (g .1)) λ ws₂ h₂.
           on-step (GotIn (TreeIn P K)) (GotIn (TreeIn P K)) (read ws₂) _ (r ws₂ h₂) λ e i. (k (t .value) (e .value) (i .0), i .1)
 
-      term-by-in : Reads (TreeIn P K) (termBy read readType)
-      term-by-in ws h = on-either (GotIn (TreeIn P K)) (is fun ws) _ _ (on-step (GotIn BindsIn) (GotIn (TreeIn P K)) (bindsFrom (length ws) (behind ws)) _ (binds-in (length ws) (behind ws) (behind-in ws h)) λ xs g. bound-body-in (functionTree (place ws) (xs .value)) (λ t e a. function-in (place ws) (xs .value) t e (g .0) a) (xs .rest) (g .1)) (on-either (GotIn (TreeIn P K)) (is fix ws) _ _ (on-step (GotIn (BoundIn P)) (GotIn (TreeIn P K)) (nameAt (behind ws)) _ (name-in (behind ws) (behind-in ws h)) λ x g. bound-body-in (Trees.fix (place ws) (x .value)) (λ t e a. (g .0, a)) (x .rest) (g .1)) (on-either (GotIn (TreeIn P K)) (is lets ws) _ _ (let-in (place ws) (behind ws) (behind-in ws h)) (spine-in ws h)))
+      term-by-in : Reads (TreeIn P K) (termBy read readType readLists)
+      term-by-in ws h = on-either (GotIn (TreeIn P K)) (is fun ws) _ _ (on-step (GotIn BindsIn) (GotIn (TreeIn P K)) (bindsFrom readLists (length ws) (behind ws)) _ (binds-in (length ws) (behind ws) (behind-in ws h)) λ xs g. bound-body-in (functionTree (place ws) (xs .value)) (λ t e a. function-in (place ws) (xs .value) t e (g .0) a) (xs .rest) (g .1)) (on-either (GotIn (TreeIn P K)) (is fix ws) _ _ (on-step (GotIn (BoundIn P)) (GotIn (TreeIn P K)) (nameAt (behind ws)) _ (name-in (behind ws) (behind-in ws h)) λ x g. bound-body-in (Trees.fix (place ws) (x .value)) (λ t e a. (g .0, a)) (x .rest) (g .1)) (on-either (GotIn (TreeIn P K)) (is lets ws) _ _ (let-in (place ws) (behind ws) (behind-in ws h)) (spine-in ws h)))
 
   term-in : (more : ℕ) → Reads (TreeIn P K) (termAt more)
   term-in zero ws h = tt
-  term-in (suc more) ws h = term-by-in (λ us. termAt more us) (term-in more) (λ us. typeAt more false us) (type-in more false) ws h
+  term-in (suc more) ws h = term-by-in (λ us. termAt more us) (term-in more) (λ us. listsAt (suc more) us) (lists-in (suc more)) (λ us. typeAt more false us) (type-in more false) ws h
 
   -- ---- items
 

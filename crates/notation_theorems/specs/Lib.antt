@@ -5,3 +5,5 @@ pub mod Limited
 pub mod Refusing
 pub mod Worded
 pub mod Sorted
+pub mod Standing
+pub mod MakePlace

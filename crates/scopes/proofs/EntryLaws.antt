@@ -7,12 +7,13 @@ use native.Mathlib.Omega.{arith}
 use lib.Dec.{eqb, leb}
 use lib.ListN.{length, getD, set, take, drop}
 use lib.Seq.{sets}
+use borrow.Author.Tests.{eq-eqb, ne-eqb}
 use Rattle.notation_calculus.specs.Words.{sameName}
 use Rattle.notation_calculus.specs.Making.{Entry, lookup}
 use Rattle.words.specs.Next.{runAt}
 use Rattle.making_memory.specs.Map.{scopeAt}
 use Rattle.scopes.specs.declared.frames.Frame.{Frame}
-use Rattle.scopes.specs.Entries.{placeIn, firstNamed, lastNamed}
+use Rattle.scopes.specs.Entries.{placeIn, firstNamed, lastNamed, lastPlaced}
 
 -- ---- frames
 
@@ -85,3 +86,35 @@ module _ (text work : List ℕ) (at from to : ℕ) where
         let g : e - from ≡ 0 = omega arith in
         let f : e ≡ from = omega (arith, s .low) in
         f ∙ sym (s .total ∙ ap (lastNamed text work at from) g)
+
+-- ---- the last of a place
+
+pub record PlacedLeft (work : List ℕ) (place from to e : ℕ) : Type 0 where
+  pub low : from ≤ e
+  pub most : e ≤ to
+  pub total : lastPlaced work place from (to - from) ≡ lastPlaced work place from (e - from)
+
+module _ (work : List ℕ) (place from to : ℕ) where
+  pub placed-none : from ≤ to → PlacedLeft work place from to to
+  placed-none h = record { low = h; most = omega arith; total = refl }
+
+  module _ (e : ℕ) (s : PlacedLeft work place from to e) where
+    module _ (more : from < e) (p : ℕ) (is : p ≡ placeIn work (e - 1)) where
+      placed-entry : lastPlaced work place from (to - from) ≡ cond (eqb p place) e (lastPlaced work place from (e - 1 - from))
+      placed-entry =
+          let g : e - from ≡ suc (e - 1 - from) = omega arith in
+          let f : from + (e - 1 - from) ≡ e - 1 = omega arith in
+          let h : e - 1 + 1 ≡ e = omega arith in
+          s .total ∙ ap (lastPlaced work place from) g ∙ ap (λ (j : ℕ). cond (eqb (placeIn work j) place) (j + 1) (lastPlaced work place from (e - 1 - from))) f ∙ ap (λ (j : ℕ). cond (eqb j place) (e - 1 + 1) (lastPlaced work place from (e - 1 - from))) (sym is) ∙ ap (λ (j : ℕ). cond (eqb p place) j (lastPlaced work place from (e - 1 - from))) h
+
+      pub placed-found : p ≡ place → e ≡ lastPlaced work place from (to - from)
+      placed-found h = sym (placed-entry ∙ ap (λ (b : Bool). cond b e (lastPlaced work place from (e - 1 - from))) (eq-eqb p place h))
+
+      pub placed-more : ¬ (p ≡ place) → PlacedLeft work place from to (e - 1)
+      placed-more h = record { low = omega arith; most = omega (arith, s .most); total = placed-entry ∙ ap (λ (b : Bool). cond b e (lastPlaced work place from (e - 1 - from))) (ne-eqb p place h) }
+
+    pub placed-all : e ≤ from → e ≡ lastPlaced work place from (to - from)
+    placed-all h =
+        let g : e - from ≡ 0 = omega arith in
+        let f : e ≡ from = omega (arith, s .low) in
+        f ∙ sym (s .total ∙ ap (lastPlaced work place from) g)

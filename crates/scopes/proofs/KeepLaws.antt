@@ -10,12 +10,12 @@ use lib.ListN.{length, getD, set, length-set}
 use lib.Seq.{getD-set-same, getD-set-other}
 use Rattle.notation_calculus.specs.Trees.{Bound, Clause}
 use Rattle.notation_calculus.specs.Making.{Entry, Scope, entries, bind, withVariables, mostEntries}
-use Rattle.words.specs.Next.{runAt}
+use Rattle.words.specs.Next.{runAt, nameIn}
 use Rattle.making_memory.specs.Map.{scopeAt, clausesAt, framesAt, clauseCountAt, makingSize}
 use Rattle.clauses.specs.Rows.{RowOf, clauseOf, HoldsRows}
 use Rattle.clauses.proofs.TableLaws.{row-same}
 use Rattle.scopes.specs.declared.frames.Frame.{Frame}
-use Rattle.scopes.specs.Entries.{placeIn, valueAt, entryIn, entriesBack, namedFrom, Places, withEntry, OnlyEntries}
+use Rattle.scopes.specs.Entries.{placeIn, valueAt, entryIn, variableIn, entriesBack, namedFrom, Places, withEntry, OnlyEntries}
 use Rattle.scopes.specs.Frames.{frameIn, HoldsParameters, HoldsScope}
 use Rattle.scopes.proofs.EntryLaws.{frame-parts}
 
@@ -66,9 +66,15 @@ module _ (text w w′ : List ℕ) (from to : ℕ) (o : OnlyEntries from to w w�
       let v : valueAt w′ e ≡ valueAt w e = o .below (scopeAt + 2 * e + 1) (omega arith) in
       ap (λ (j : ℕ). record { name = runAt text j; value = valueAt w′ e }) p ∙ ap (λ (j : ℕ). record { name = runAt text (placeIn w e); value = j }) v
 
+  variable-same : (e : ℕ) → e < from → variableIn text w′ e ≡ variableIn text w e
+  variable-same e h =
+      let p : placeIn w′ e ≡ placeIn w e = o .below (scopeAt + 2 * e) (omega arith) in
+      let v : valueAt w′ e ≡ valueAt w e = o .below (scopeAt + 2 * e + 1) (omega arith) in
+      ap (λ (j : ℕ). record { name = nameIn text j; value = valueAt w′ e }) p ∙ ap (λ (j : ℕ). record { name = nameIn text (placeIn w e); value = j }) v
+
   pub back-same : (n e : ℕ) → e + n ≤ from → entriesBack text w′ e n ≡ entriesBack text w e n
   back-same zero e h = refl
-  back-same (suc n) e h = ap (λ (x : Entry). x ∷ entriesBack text w′ e n) (entry-same (e + n) (omega arith)) ∙ ap (λ (xs : List Entry). entryIn text w (e + n) ∷ xs) (back-same n e (omega arith))
+  back-same (suc n) e h = ap (λ (x : Entry). x ∷ entriesBack text w′ e n) (variable-same (e + n) (omega arith)) ∙ ap (λ (xs : List Entry). variableIn text w (e + n) ∷ xs) (back-same n e (omega arith))
 
   pub named-same : (n e : ℕ) → e + n ≤ from → namedFrom text w′ e n ≡ namedFrom text w e n
   named-same zero e h = refl
@@ -110,10 +116,10 @@ module _ (text w : List ℕ) (frame top : ℕ) (S : Scope) (H : HoldsScope text 
   kept : HoldsScope text w′ frame top S
   kept = scope-kept text w w′ top (top + 1) (entry-only w top place value few (H .places .room)) (omega arith) frame S H
 
-  new-entry : (x : Bound) → x .name ≡ runAt text place → entryIn text w′ top ≡ record { name = x .name; value = value }
+  new-entry : (x : Bound) → x .name ≡ nameIn text place → variableIn text w′ top ≡ record { name = x .name; value = value }
   new-entry x e =
-      ap (λ (j : ℕ). record { name = runAt text j; value = valueAt w′ top }) (entry-place w top place value few (H .places .room))
-      ∙ ap (λ (j : ℕ). record { name = runAt text place; value = j }) (entry-value w top place value few (H .places .room))
+      ap (λ (j : ℕ). record { name = nameIn text j; value = valueAt w′ top }) (entry-place w top place value few (H .places .room))
+      ∙ ap (λ (j : ℕ). record { name = nameIn text place; value = j }) (entry-value w top place value few (H .places .room))
       ∙ ap (λ (n : List ℕ). record { name = n; value = value }) (sym e)
 
   new-place : (e : ℕ) → e < top + 1 → placeIn w′ e ≤ length text
@@ -123,14 +129,14 @@ module _ (text w : List ℕ) (frame top : ℕ) (S : Scope) (H : HoldsScope text 
   ]
 
   -- a name is bound
-  pub scope-bound : (x : Bound) → x .name ≡ runAt text place → HoldsScope text w′ frame (top + 1) (withVariables S (bind x value (S .variables)))
+  pub scope-bound : (x : Bound) → x .name ≡ nameIn text place → HoldsScope text w′ frame (top + 1) (withVariables S (bind x value (S .variables)))
   scope-bound x e =
       let at : S .under + length (S .variables) ≡ top = H .entries in
       record {
         places = record { room = kept .places .room; most = omega arith; inside = λ j a b. new-place j b };
         parameters = record { seen = kept .parameters .seen; types-first = kept .parameters .types-first; numbers-next = kept .parameters .numbers-next; types = kept .parameters .types; numbers = kept .parameters .numbers };
         under = kept .under;
-        variables = ap (λ (y : Entry). y ∷ entriesBack text w′ (S .under) (length (S .variables))) (ap (entryIn text w′) at ∙ new-entry x e) ∙ ap (λ (xs : List Entry). bind x value xs) (kept .variables);
+        variables = ap (λ (y : Entry). y ∷ entriesBack text w′ (S .under) (length (S .variables))) (ap (variableIn text w′) at ∙ new-entry x e) ∙ ap (λ (xs : List Entry). bind x value xs) (kept .variables);
         entries = omega (arith, at);
       }
 

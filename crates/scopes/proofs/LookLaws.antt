@@ -5,13 +5,14 @@ use mathlib.Core.Bool.{Bool, true, false, cond}
 use mathlib.Core.List.{List, [], _∷_}
 use native.Mathlib.Omega.{arith}
 use lib.Dec.{eqb}
-use lib.ListN.{length, take, drop}
+use lib.ListN.{length, getD, take, drop}
 use lib.Seq.{drop-length}
 use borrow.Author.Tests.{eqb-true}
 use Rattle.notation_calculus.specs.Words.{Name, sameName, run}
 use Rattle.notation_calculus.specs.Making.{Entry, lookup}
 use Rattle.words.specs.Next.{runAt}
-use Rattle.scopes.specs.Entries.{placeIn, valueAt, entryIn, entriesBack, namedFrom, firstNamed, lastNamed}
+use Rattle.words.proofs.PlaceLaws.{same-plain, same-round}
+use Rattle.scopes.specs.Entries.{placeIn, valueAt, entryIn, entriesBack, namedFrom, firstNamed, lastNamed, lastPlaced}
 
 module _ (text work : List ℕ) (at : ℕ) where
   abbrev wanted : Name
@@ -58,9 +59,15 @@ module _ (text work : List ℕ) (at : ℕ) where
       least = f .least;
     }
 
-    pub look-last : (n e i : ℕ) (found : ℕ → ℕ → A) (else : A) → FoundLast e n i (lastNamed text work at e n) found else (lookup wanted (entriesBack text work e n) i found else)
-    look-last zero e i found else = record { there = λ h. absurd (omega arith); none = λ h. refl; least = omega arith }
-    look-last (suc n) e i found else = last-by (matches (e + n)) e n i (lastNamed text work at e n) found else (lookup wanted (entriesBack text work e n) (suc i) found else) (look-last n e (suc i) found else)
+    -- by a name that has letters
+    pub look-last : 0 < run (drop at text) → (n e i : ℕ) (found : ℕ → ℕ → A) (else : A) → FoundLast e n i (lastNamed text work at e n) found else (lookup wanted (entriesBack text work e n) i found else)
+    look-last some zero e i found else = record { there = λ h. absurd (omega arith); none = λ h. refl; least = omega arith }
+    look-last some (suc n) e i found else = subst (λ (b : Bool). FoundLast e (suc n) i (lastNamed text work at e (suc n)) found else (cond b (found i (valueAt work (e + n))) (lookup wanted (entriesBack text work e n) (suc i) found else))) (sym (same-plain text at (placeIn work (e + n)) some)) (last-by (matches (e + n)) e n i (lastNamed text work at e n) found else (lookup wanted (entriesBack text work e n) (suc i) found else) (look-last some n e (suc i) found else))
+
+    -- by the place of a parenthesis
+    pub look-placed : getD text at 0 ≡ 40 → (n e i : ℕ) (found : ℕ → ℕ → A) (else : A) → FoundLast e n i (lastPlaced work at e n) found else (lookup ((256 + at) ∷ []) (entriesBack text work e n) i found else)
+    look-placed r zero e i found else = record { there = λ h. absurd (omega arith); none = λ h. refl; least = omega arith }
+    look-placed r (suc n) e i found else = subst (λ (b : Bool). FoundLast e (suc n) i (lastPlaced work at e (suc n)) found else (cond b (found i (valueAt work (e + n))) (lookup ((256 + at) ∷ []) (entriesBack text work e n) (suc i) found else))) (sym (same-round text at (placeIn work (e + n)) r)) (last-by (eqb (placeIn work (e + n)) at) e n i (lastPlaced work at e n) found else (lookup ((256 + at) ∷ []) (entriesBack text work e n) (suc i) found else) (look-placed r n e (suc i) found else))
 
     -- ---- those that have a name
 

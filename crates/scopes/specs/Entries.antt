@@ -8,7 +8,7 @@ use lib.Dec.{eqb}
 use lib.ListN.{length, getD, set}
 use Rattle.notation_calculus.specs.Words.{sameName}
 use Rattle.notation_calculus.specs.Making.{Entry, mostEntries}
-use Rattle.words.specs.Next.{runAt}
+use Rattle.words.specs.Next.{runAt, nameIn}
 use Rattle.making_memory.specs.Map.{scopeAt, halvesAt, makingSize}
 
 abbrev pub placeIn : List ℕ → ℕ → ℕ
@@ -20,12 +20,16 @@ valueAt work e = getD work (scopeAt + 2 * e + 1) 0
 abbrev pub entryIn : List ℕ → List ℕ → ℕ → Entry
 entryIn text work e = record { name = runAt text (placeIn work e); value = valueAt work e }
 
--- so many entries from one on, the latest first
+-- .. as a variable, which has a name that no text can have where a parenthesis stands at its place
+abbrev pub variableIn : List ℕ → List ℕ → ℕ → Entry
+variableIn text work e = record { name = nameIn text (placeIn work e); value = valueAt work e }
+
+-- so many variables from one on, the latest first
 abbrev pub entriesBack : List ℕ → List ℕ → ℕ → ℕ → List Entry
 entriesBack text work e zero = []
-entriesBack text work e (suc n) = entryIn text work (e + n) ∷ entriesBack text work e n
+entriesBack text work e (suc n) = variableIn text work (e + n) ∷ entriesBack text work e n
 
--- .. the earliest first, of those that have a name
+-- so many parameters from one on, the earliest first, of those that have a name
 abbrev pub namedFrom : List ℕ → List ℕ → ℕ → ℕ → List Entry
 namedFrom text work e zero = []
 namedFrom text work e (suc n) =
@@ -51,6 +55,13 @@ lastNamed text work at e zero = e
 lastNamed text work at e (suc n) =
     let earlier = lastNamed text work at e n in
     cond (sameName (runAt text at) (runAt text (placeIn work (e + n)))) (e + n + 1) earlier
+
+-- .. with exactly this place
+abbrev pub lastPlaced : List ℕ → ℕ → ℕ → ℕ → ℕ
+lastPlaced work place e zero = e
+lastPlaced work place e (suc n) =
+    let earlier = lastPlaced work place e n in
+    cond (eqb (placeIn work (e + n)) place) (e + n + 1) earlier
 
 -- an entry is set
 unfoldable pub withEntry : List ℕ → ℕ → ℕ → ℕ → List ℕ

@@ -6,7 +6,7 @@ ghost use lib.Dec.{leb};
 ghost use lib.ListN.{length};
 ghost use Rattle.notation_calculus.specs.Making.{mostEntries};
 ghost use Rattle.making_memory.specs.Map.{makingSize};
-ghost use Rattle.scopes.specs.Entries.{placeIn, valueAt, Places, firstNamed, lastNamed, withEntry};
+ghost use Rattle.scopes.specs.Entries.{placeIn, valueAt, Places, firstNamed, lastNamed, lastPlaced, withEntry};
 
 const MOST_ENTRIES: usize = 1024;
 
@@ -69,6 +69,22 @@ pub fn last_of(text: &[u8], work: &[u16], name: usize, from: usize, to: usize) -
     while from < e {
         let p = place_of(work, e - 1);
         if words::same_run(text, name, p) {
+            return e;
+        }
+        e = e - 1;
+    }
+    e
+}
+
+// Behind the last entry with exactly this place between two; or the earlier of the two.
+pub fn last_at(work: &[u16], place: usize, from: usize, to: usize) -> usize
+    requires { ⌜ (makingSize ≤ length (now work)) × ((to ≤ mostEntries) × (from ≤ to)) ⌝ }
+    ensures { λ r. ⌜ r ≡ lastPlaced (now (work .entry)) place from (to - from) ⌝ }
+{
+    let mut e = to;
+    while from < e {
+        let p = place_of(work, e - 1);
+        if p == place {
             return e;
         }
         e = e - 1;

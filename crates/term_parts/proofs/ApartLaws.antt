@@ -5,18 +5,17 @@ use mathlib.Core.Bool.{cond}
 use mathlib.Core.List.{List, []}
 use native.Mathlib.Omega.{arith}
 use lib.Dec.{eqb, ltb}
-use lib.ListN.{length, take}
-use lib.Seq.{drop-length}
+use lib.ListN.{length}
 use Rattle.calculus.specs.Answer.{Answer, good}
 use Rattle.calculus.specs.Types.{TyRec, rec01, rec02, rec03, rec04, recAt}
 use Rattle.calculus.specs.Terms.{Term, var}
 use Rattle.calculus.proofs.Answers.{good-inj, on-need}
-use Rattle.notation_calculus.specs.Words.{run}
 use Rattle.notation_calculus.specs.Trees.{Bound}
 use Rattle.notation_calculus.specs.Making.{State, Scope, bind, withVariables, mostEntries, Made, counted, node, halvesOf, rest}
 use Rattle.sheet_theorems.specs.Laid.{Below}
-use Rattle.words.specs.Next.{runAt}
+use Rattle.words.specs.Next.{nameIn}
 use Rattle.words.specs.Lexed.{from}
+use Rattle.words.proofs.PlaceLaws.{name-past}
 use Rattle.making_memory.specs.Map.{nodeCountAt}
 use Rattle.made_types.specs.Held.{kindIn, leftIn, rightIn, HoldsState}
 use Rattle.made_types.proofs.Sorts.{left-half-in, right-half-in}
@@ -29,11 +28,10 @@ use Rattle.made_nodes.specs.declared.MadeTerm.the-variants as made
 use Rattle.made_nodes.proofs.Answers.{on-term, on-no-term}
 use Rattle.scopes.specs.Frames.{HoldsScope}
 use Rattle.walks.proofs.Kept.{scope-on-terms, term-on-terms, terms-of-made}
-use Rattle.walks.specs.Says.{boundAt}
 use Rattle.term_parts.specs.declared.halves.Half.{Half}
 use Rattle.term_parts.specs.declared.names.TwoNames.{TwoNames}
 use Rattle.term_parts.specs.declared.apart.RestEnd.the-variants as rest-end
-use Rattle.term_parts.specs.Names.{TwoSay}
+use Rattle.term_parts.specs.Names.{boundIn, TwoSay}
 use Rattle.term_parts.specs.Halves.{withHalf, InHalves, PartsOnly}
 use Rattle.term_parts.specs.Parts.{NameBound, partedBy, firstName, secondName, HalfWaits, CanTake, TakeSays, RestSays, CanTakeAt, TakeLastSays, RestAnswers, TakeRestSays}
 use Rattle.term_parts.proofs.Stay.{half-above, half-put, half-state, parts-of-half, parts-of-entries, parts-of-made, parts-then, entries-state, half-same}
@@ -84,7 +82,7 @@ module _ (w : List ℕ) (entry half place other : ℕ) (v : Sub) (C : CanTake w 
     put-only : (top : ℕ) → top ≤ mostEntries → PartsOnly top half w₂ (withHalf w₂ half waitingHalf)
     put-only top h = parts-of-half w₂ half waitingHalf room-now top h
 
-    names-bound : (text : List ℕ) (frame : ℕ) (S : Scope) (m : Made) (x y : Bound) → HoldsScope text w frame entry S → HoldsState w (m .state) → TermHeld w v m → place ≤ length text → other ≤ length text → x .name ≡ runAt text place → y .name ≡ runAt text other → HoldsScope text w₂ frame (entry + 1 + 1) (withVariables S (partedBy m x y (S .variables)))
+    names-bound : (text : List ℕ) (frame : ℕ) (S : Scope) (m : Made) (x y : Bound) → HoldsScope text w frame entry S → HoldsState w (m .state) → TermHeld w v m → place ≤ length text → other ≤ length text → x .name ≡ nameIn text place → y .name ≡ nameIn text other → HoldsScope text w₂ frame (entry + 1 + 1) (withVariables S (partedBy m x y (S .variables)))
     names-bound text frame S m x y H K T pl ot nx ny =
         let ll : left ≡ halvesOf (recAt (m .state .table) (m .type)) .left = l ∙ held-left w v (m .state) m K T in
         let rr : right ≡ halvesOf (recAt (m .state .table) (m .type)) .right = r ∙ held-right w v (m .state) m K T in
@@ -120,17 +118,17 @@ node-counts at e t below ps σ r h = on-need (ltb (σ .nodes) 2048) 34 at _ r h 
 
 -- ---- for the names at an offset
 
-pub nameless : (text : List ℕ) → [] ≡ runAt text (length text)
-nameless text = sym (ap (λ (s : List ℕ). take (run s) s) (drop-length text))
+rest-unnamed : (text : List ℕ) → [] ≡ nameIn text (length text)
+rest-unnamed text = sym (name-past text (length text) (omega arith))
 
 module _ (text w : List ℕ) (at entry half : ℕ) (v : Sub) (C : CanTakeAt text w at entry half v) (t : TwoNames) (two : TwoSay text at t) where
-  second-is : secondName (from text at) ≡ boundAt text (t .second)
+  second-is : secondName (from text at) ≡ boundIn text (t .second)
   second-is = ap firstName (two .rest) ∙ two .second
 
   waits-so : (w′ : List ℕ) → HalfWaits w′ half v (t .first) → HalfWaits w′ half v (firstName (from text at) .place)
   waits-so w′ h = subst (HalfWaits w′ half v) (ap (λ (x : Bound). x .place) (sym (two .first))) h
 
-  name-so : firstName (from text at) .name ≡ runAt text (t .first)
+  name-so : firstName (from text at) .name ≡ nameIn text (t .first)
   name-so = ap (λ (x : Bound). x .name) (two .first)
 
   pub took-last : (w′ : List ℕ) → TakeSays w entry half (t .first) (t .second) v w′ → TakeLastSays text w at entry half v w′
@@ -157,7 +155,7 @@ module _ (text w : List ℕ) (at entry half : ℕ) (v : Sub) (C : CanTakeAt text
       rest-made = subst (λ (p : ℕ). MadeIn w₂ r (node p (var 0) (halvesOf (recAt (m .state .table) (m .type)) .right) 0 [] (m .state))) (ap (λ (x : Bound). x .place) (sym second-is)) (R .says (m .state) m (K .state (m .state) σ) (term-on-terms 0 entry text w w₁ (K .only .walked) v m T))
 
       rest-scope : HoldsScope text w₂ frame (entry + 2) (withVariables S (partedBy m (firstName (from text at)) rest (S .variables)))
-      rest-scope = scope-on-terms 0 (entry + 2) text w₁ w₂ (terms-of-made 0 (entry + 2) w₁ w₂ (C .few) (R .only)) frame (entry + 2) _ (omega arith) l (omega arith) (K .scope text frame S m (firstName (from text at)) rest l H σ T (omega (arith, two .inside)) (omega arith) name-so (nameless text))
+      rest-scope = scope-on-terms 0 (entry + 2) text w₁ w₂ (terms-of-made 0 (entry + 2) w₁ w₂ (C .few) (R .only)) frame (entry + 2) _ (omega arith) l (omega arith) (K .scope text frame S m (firstName (from text at)) rest l H σ T (omega (arith, two .inside)) (omega arith) name-so (rest-unnamed text))
 
       rest-good : (s : Sub) → r ≡ made.At s → (next : ℕ) → RestAnswers text w₂ frame (entry + 2) S (firstName (from text at)) m (rest-end.At next s) restNode
       rest-good s i next = on-term w₂ s (λ (a : Answer Made). restNode ≡ a → RestAnswers text w₂ frame (entry + 2) S (firstName (from text at)) m (rest-end.At next s) a) restNode (subst (λ (q : code.MadeTerm). MadeIn w₂ q restNode) i rest-made) (λ q K′ U e. record { scope = rest-scope; counts = node-counts _ (var 0) _ 0 [] (m .state) q e; state = K′; held = U }) refl

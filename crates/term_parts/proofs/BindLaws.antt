@@ -6,7 +6,7 @@ use native.Mathlib.Omega.{arith}
 use lib.ListN.{length, getD}
 use Rattle.calculus.specs.Answer.{Answer}
 use Rattle.notation_calculus.specs.Trees.{Bound}
-use Rattle.notation_calculus.specs.Grammar.{Got}
+use Rattle.notation_calculus.specs.Grammar.{Got, nameAt}
 use Rattle.notation_calculus.specs.Making.{Entry, Scope, bind, bindAll, withVariables, mostEntries}
 use Rattle.words.specs.Lexed.{from}
 use Rattle.making_memory.specs.Map.{scopeAt, makingSize}
@@ -20,7 +20,7 @@ use Rattle.walks.specs.Says.{boundAt}
 use Rattle.term_parts.specs.declared.names.NameEnd.{NameEnd}
 use Rattle.term_parts.specs.Names.{namesBy, AllNames, spaced, spacedNames, NamesStand, NameSays}
 use Rattle.term_parts.specs.Parts.{NameBound, CanBind, NamesBound}
-use Rattle.term_parts.proofs.NameLaws.{name-good}
+use Rattle.term_parts.proofs.NameLaws.{one-of-name, one-good}
 
 pub name-bound : (w : List ℕ) (top place ty : ℕ) → top < mostEntries → makingSize ≤ length w → (w′ : List ℕ) → w′ ≡ withEntry w top place ty → NameBound w top place ty w′
 name-bound w top place ty few room w′ is = subst (NameBound w top place ty) (sym is) (record {
@@ -40,7 +40,7 @@ pub record BoundLeft (text w : List ℕ) (frame top ty p left : ℕ) (S : Scope)
 -- so many are bound, and those from an offset on are left
 pub record Binding (text w₀ : List ℕ) (at count top ty : ℕ) (w : List ℕ) (i p : ℕ) : Type 0 where
   pub within : i ≤ count
-  pub stand : NamesStand spaced text p (count - i)
+  pub stand : NamesStand nameAt spaced text p (count - i)
   pub only : OnlyEntries top (top + i) w₀ w
   pub names : (w′ : List ℕ) → ((j : ℕ) → j < scopeAt + 2 * (top + i) → getD w′ j 0 ≡ getD w j 0) → NamesIn w′ (top + i) (spacedNames text p (count - i)) → NamesIn w′ top (spacedNames text at count)
   pub says : (frame : ℕ) (S : Scope) → HoldsScope text w₀ frame top S → BoundLeft text w frame (top + i) ty p (count - i) S (bindAll (spacedNames text at count) ty (S .variables))
@@ -86,17 +86,17 @@ module _ (text w₀ : List ℕ) (at count top ty : ℕ) (C : CanBind text w₀ a
     later-is : count - i ≡ suc later
     later-is = omega arith
 
-    all-later : AllNames spaced (suc later) (from text p)
-    all-later = subst (λ (k : ℕ). AllNames spaced k (from text p)) later-is (B .stand .all)
+    all-later : AllNames nameAt spaced (suc later) (from text p)
+    all-later = subst (λ (k : ℕ). AllNames nameAt spaced k (from text p)) later-is (B .stand .all)
 
     good-name : x .number ≡ 0
-    good-name = name-good text p x X _ _ (all-later .0)
+    good-name = one-good nameAt text p x (one-of-name text p x X) _ _ (all-later .0)
 
     pub binding-small : x .place < 65536
     binding-small = omega (arith, X .inside good-name, C .can .short)
 
     names-are : spacedNames text p (count - i) ≡ boundAt text (x .place) ∷ spacedNames text (x .end) later
-    names-are = ap (spacedNames text p) later-is ∙ ap (λ (m : Answer (Got Bound)). valueIn noBound m ∷ namesBy spaced later (restIn m)) (X .reads good-name)
+    names-are = ap (spacedNames text p) later-is ∙ ap (λ (m : Answer (Got Bound)). valueIn noBound m ∷ namesBy nameAt spaced later (restIn m)) (X .reads good-name)
 
     module _ (w′ : List ℕ) (N : NameBound w (top + i) (x .place) ty w′) where
       one-more : top + i + 1 ≡ top + (i + 1)
@@ -105,14 +105,14 @@ module _ (text w₀ : List ℕ) (at count top ty : ℕ) (C : CanBind text w₀ a
       pub binding-more : Binding text w₀ at count top ty w′ (i + 1) (x .end)
       binding-more = record {
         within = omega arith;
-        stand = record { lexed = X .onward good-name .lexed; all = subst (λ (m : Answer (Got Bound)). AllNames spaced later (restIn m)) (X .reads good-name) (all-later .1) };
+        stand = record { lexed = X .onward good-name .lexed; all = subst (λ (m : Answer (Got Bound)). AllNames nameAt spaced later (restIn m)) (X .reads good-name) (all-later .1) };
         only = only-then top (top + i) (top + i) (top + i + 1) top (top + (i + 1)) w₀ w w′ (omega arith) (omega arith) (omega arith) (omega arith) (B .only) (N .only);
         names = λ v same K. B .names v (λ j l. same j (omega arith) ∙ N .only .below j l) (subst (NamesIn v (top + i)) (sym names-are) (names-cons v (top + i) (boundAt text (x .place)) (spacedNames text (x .end) later) (same (scopeAt + 2 * (top + i)) (omega arith) ∙ N .placed) (subst (λ (j : ℕ). NamesIn v j (spacedNames text (x .end) later)) (sym one-more) K)));
         says = λ frame S H.
             let g = B .says frame S H in
             record {
               variables = bind (boundAt text (x .place)) ty (g .variables);
-              scope = subst (λ (j : ℕ). HoldsScope text w′ frame j (withVariables S (bind (boundAt text (x .place)) ty (g .variables)))) one-more (N .says text frame (withVariables S (g .variables)) (boundAt text (x .place)) (g .scope) (omega (arith, X .inside good-name)) refl);
+              scope = subst (λ (j : ℕ). HoldsScope text w′ frame j (withVariables S (bind (boundAt text (x .place)) ty (g .variables)))) one-more (N .says text frame (withVariables S (g .variables)) (boundAt text (x .place)) (g .scope) (omega (arith, X .inside good-name)) (sym (X .plain good-name)));
               going = g .going ∙ ap (λ (xs : List Bound). bindAll xs ty (g .variables)) names-are;
             };
       }

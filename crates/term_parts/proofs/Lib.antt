@@ -1,5 +1,6 @@
 pub mod Stay
 pub mod NameLaws
+pub mod ListLaws
 pub mod JoinLaws
 pub mod BindLaws
 pub mod LookFor

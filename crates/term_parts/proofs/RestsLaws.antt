@@ -9,7 +9,8 @@ use Rattle.calculus.specs.Types.{recAt}
 use Rattle.calculus.specs.Terms.{var}
 use Rattle.notation_calculus.specs.Words.{Word}
 use Rattle.notation_calculus.specs.Trees.{Bound}
-use Rattle.notation_calculus.specs.Grammar.{behind, nameAt}
+use Rattle.notation_calculus.specs.Grammar.{behind}
+use Rattle.notation_machine.specs.Lists.{headAt}
 use Rattle.notation_calculus.specs.Making.{State, Entry, Scope, withVariables, mostEntries, Made, counted, node, halvesOf, rest}
 use Rattle.notation_machine.specs.TermMachine.{Taken, Apart, apartFrom}
 use Rattle.words.specs.Lexed.{from}
@@ -43,7 +44,7 @@ typed-more w s m H T x y Γ a = let k = halves-known w s (m .state) m H T in (k 
 
 -- ---- the names that are left
 
-two-of : (n : ℕ) (ws : List Word) → 2 ≤ n → AllNames behind n ws → AllNames behind 2 ws
+two-of : (n : ℕ) (ws : List Word) → 2 ≤ n → AllNames headAt behind n ws → AllNames headAt behind 2 ws
 two-of zero ws h a = absurd (omega arith)
 two-of (suc zero) ws h a = absurd (omega arith)
 two-of (suc (suc n)) ws h a = (a .0, (a .1 .0, tt))
@@ -52,7 +53,7 @@ two-of (suc (suc n)) ws h a = (a .0, (a .1 .0, tt))
 
 pub record RestsGoing (text w₀ : List ℕ) (at count top waiting : ℕ) (v : Sub) (w : List ℕ) (p i : ℕ) (s : Sub) : Type 0 where
   pub within : i + 2 ≤ count
-  pub stand : NamesStand behind text p (count - i)
+  pub stand : NamesStand headAt behind text p (count - i)
   pub only : PartsOnly top waiting w₀ w
   pub says :
       (frame : ℕ) (S : Scope) (m : Made) → frame < 82 → HoldsScope text w₀ frame top S → HoldsState w₀ (m .state) → TermHeld w₀ v m
@@ -64,7 +65,7 @@ rests-none text w at count top waiting v C h =
     let y : top + 2 * 0 ≡ top = omega arith in
     record {
       within = omega arith;
-      stand = subst (NamesStand behind text at) (sym z) (C .names);
+      stand = subst (NamesStand headAt behind text at) (sym z) (C .names);
       only = parts-none top waiting w;
       says = λ frame S m l H σ T. record {
         variables = S .variables;
@@ -83,7 +84,7 @@ rests-none text w at count top waiting v C h =
 
 module _ (text w : List ℕ) (frame top waiting i left at : ℕ) (S : Scope) (s : Sub) (answer : Answer Apart) (P : Parting text w frame top waiting i left at S s answer) where
   -- what a pair that is taken apart next asks
-  pub parting-safe : NamesStand behind text at 2 → length text ≤ 65535 → top + 2 * i + 2 ≤ mostEntries → CanTakeAt text w at (top + 2 * i) (waiting + i) s
+  pub parting-safe : NamesStand headAt behind text at 2 → length text ≤ 65535 → top + 2 * i + 2 ≤ mostEntries → CanTakeAt text w at (top + 2 * i) (waiting + i) s
   parting-safe N short few = record {
     names = N;
     short = short;
@@ -103,7 +104,7 @@ module _ (text w₀ : List ℕ) (at count top waiting : ℕ) (v : Sub) (C : CanA
       let y : i ≡ count - 2 = omega (arith, G .within) in
       record {
         only = G .only;
-        next = subst (NamesStand behind text p) z (G .stand);
+        next = subst (NamesStand headAt behind text p) z (G .stand);
         says = λ frame S m l H σ T. subst (λ (k : ℕ). Parting text w frame top waiting k 2 p S s (apartFrom (S .variables) (listedNames text at count) m [])) y (subst (λ (k : ℕ). Parting text w frame top waiting i k p S s (apartFrom (S .variables) (listedNames text at count) m [])) z (G .says frame S m l H σ T));
       }
 
@@ -121,7 +122,7 @@ module _ (text w₀ : List ℕ) (at count top waiting : ℕ) (v : Sub) (C : CanA
     ws = from text p
 
     abbrev others : List Word
-    others = behind (restIn (nameAt ws))
+    others = behind (restIn (headAt ws))
 
     -- what comes of the first name and of the rest
     module _ (frame : ℕ) (S : Scope) (answer : Answer Apart) (P : Parting text w frame top waiting i (count - i) p S s answer) where
@@ -129,7 +130,7 @@ module _ (text w₀ : List ℕ) (at count top waiting : ℕ) (v : Sub) (C : CanA
       restNode = node (secondName ws .place) (var 0) (halvesOf (recAt (P .made .state .table) (P .made .type)) .right) 0 [] (P .made .state)
 
       abbrev goesOn : Made → Answer Apart
-      goesOn r = apartFrom (partedBy (P .made) (firstName ws) rest (P .variables)) (namesBy behind (suc (suc later)) others) r (record { place = firstName ws .place; pair = P .made } ∷ P .taken)
+      goesOn r = apartFrom (partedBy (P .made) (firstName ws) rest (P .variables)) (namesBy headAt behind (suc (suc later)) others) r (record { place = firstName ws .place; pair = P .made } ∷ P .taken)
 
       going-is : answer ≡ (restNode >>= λ r. goesOn r)
       going-is = P .going ∙ ap (λ (k : ℕ). apartFrom (P .variables) (listedNames text p k) (P .made) (P .taken)) left-is
@@ -143,7 +144,7 @@ module _ (text w₀ : List ℕ) (at count top waiting : ℕ) (v : Sub) (C : CanA
               variables = partedBy (P .made) (firstName ws) rest (P .variables);
               made = r;
               taken = record { place = firstName ws .place; pair = P .made } ∷ P .taken;
-              going = ap (λ (us : List Word). apartFrom (partedBy (P .made) (firstName ws) rest (P .variables)) (namesBy behind (suc (suc later)) us) r (record { place = firstName ws .place; pair = P .made } ∷ P .taken)) on ∙ ap (λ (k : ℕ). apartFrom (partedBy (P .made) (firstName ws) rest (P .variables)) (listedNames text next k) r (record { place = firstName ws .place; pair = P .made } ∷ P .taken)) (sym next-is);
+              going = ap (λ (us : List Word). apartFrom (partedBy (P .made) (firstName ws) rest (P .variables)) (namesBy headAt behind (suc (suc later)) us) r (record { place = firstName ws .place; pair = P .made } ∷ P .taken)) on ∙ ap (λ (k : ℕ). apartFrom (partedBy (P .made) (firstName ws) rest (P .variables)) (listedNames text next k) r (record { place = firstName ws .place; pair = P .made } ∷ P .taken)) (sym next-is);
               scope = subst (λ (k : ℕ). HoldsScope text w′ frame k (withVariables S (partedBy (P .made) (firstName ws) rest (P .variables)))) y (R .scope);
               state = R .state;
               held = R .held;
@@ -168,10 +169,10 @@ module _ (text w₀ : List ℕ) (at count top waiting : ℕ) (v : Sub) (C : CanA
       pub rests-more : (next : ℕ) (q : Sub) → r ≡ rest-end.At next q → RestsGoing text w₀ at count top waiting v w′ next (i + 1) q
       rests-more next q e =
           let N : RestNames text ws (rest-end.At next q) = subst (RestNames text ws) e (R .next) in
-          let all : AllNames behind (suc (suc (suc later))) ws = subst (λ (k : ℕ). AllNames behind k ws) left-is (G .stand .all) in
+          let all : AllNames headAt behind (suc (suc (suc later))) ws = subst (λ (k : ℕ). AllNames headAt behind k ws) left-is (G .stand .all) in
           record {
             within = omega arith;
-            stand = record { lexed = N .1; all = subst (λ (k : ℕ). AllNames behind k (from text next)) (sym next-is) (subst (AllNames behind (suc (suc later))) (N .0) (all .1)) };
+            stand = record { lexed = N .1; all = subst (λ (k : ℕ). AllNames headAt behind k (from text next)) (sym next-is) (subst (AllNames headAt behind (suc (suc later))) (N .0) (all .1)) };
             only = all-only;
             says = λ frame S m l H σ T.
                 let P = G .says frame S m l H σ T in

@@ -3,16 +3,17 @@
 use Prim.Native.Nat.{ℕ, _+_, _*_, _-_, _≤_, _<_}
 use mathlib.Core.Path.{_≡_}
 use mathlib.Core.List.{List, []}
-use lib.ListN.{length, getD}
+use lib.ListN.{length, getD, drop}
 use Rattle.calculus.specs.Answer.{Answer, good, refused, numbered, refuse}
 use Rattle.calculus.specs.Types.{recAt}
 use Rattle.calculus.specs.Terms.{var}
-use Rattle.notation_calculus.specs.Words.{Name, Word}
+use Rattle.notation_calculus.specs.Words.{Name, Word, run}
 use Rattle.notation_calculus.specs.Trees.{Bound}
-use Rattle.notation_calculus.specs.Grammar.{behind, nameAt}
+use Rattle.notation_calculus.specs.Grammar.{behind, nameAt, nameless}
+use Rattle.notation_machine.specs.Lists.{headAt}
 use Rattle.notation_calculus.specs.Making.{State, Entry, Scope, Made, lookup, bind, bindAll, withVariables, mostEntries, counted, halvesOf, rest, node}
 use Rattle.notation_machine.specs.TermMachine.{Taken, Apart, apartFrom}
-use Rattle.words.specs.Next.{runAt}
+use Rattle.words.specs.Next.{runAt, nameIn}
 use Rattle.words.specs.Lexed.{from, Lexed}
 use Rattle.making_memory.specs.Map.{nodeCountAt, makingSize}
 use Rattle.made_types.specs.Held.{HoldsState}
@@ -37,17 +38,17 @@ use Rattle.term_parts.specs.Halves.{mostHalves, halfIn, TakenIn, PartsOn
 
 -- ---- names bound
 
--- one name, in whatever text and scope
+-- the variable of one place, in whatever text and scope
 pub record NameBound (w : List ℕ) (top place ty : ℕ) (w′ : List ℕ) : Type 0 where
   pub only : OnlyEntries top (top + 1) w w′
   pub placed : placeIn w′ top ≡ place
   pub says :
-      (text : List ℕ) (frame : ℕ) (S : Scope) (x : Bound) → HoldsScope text w frame top S → place ≤ length text → x .name ≡ runAt text place
+      (text : List ℕ) (frame : ℕ) (S : Scope) (x : Bound) → HoldsScope text w frame top S → place ≤ length text → x .name ≡ nameIn text place
       → HoldsScope text w′ frame (top + 1) (withVariables S (bind x ty (S .variables)))
 
 -- so many names of `fun` stand at an offset, and there is room for them
 pub record CanBind (text w : List ℕ) (at count top : ℕ) : Type 0 where
-  pub names : NamesStand spaced text at count
+  pub names : NamesStand nameAt spaced text at count
   pub can : CanName text w top count
 
 pub record NamesBound (text w : List ℕ) (at count top ty : ℕ) (w′ : List ℕ) : Type 0 where
@@ -73,10 +74,22 @@ pub record CanLook (text w : List ℕ) (name frame top : ℕ) : Type 0 where
   pub level : frame < 82
   pub ordered : frameIn w frame .variables ≤ top
   pub inside : name ≤ length text
+  pub some : 0 < run (drop name text)
 
 -- the variables begin where the frame says
 pub record LookSays (text w : List ℕ) (name frame top : ℕ) (r : looked.Look) : Type 0 where
   pub says : (S : Scope) → HoldsScope text w frame top S → frameIn w frame .variables ≡ S .under → saidLook r ≡ lookFor (runAt text name) (S .variables)
+
+-- the nameless variable of a list can be looked up
+pub record CanLookAt (w : List ℕ) (frame top : ℕ) : Type 0 where
+  pub room : makingSize ≤ length w
+  pub most : top ≤ mostEntries
+  pub level : frame < 82
+  pub ordered : frameIn w frame .variables ≤ top
+
+-- .. by the place of its parenthesis, in whatever text
+pub record LookAtSays (w : List ℕ) (place frame top : ℕ) (r : looked.Look) : Type 0 where
+  pub says : (text : List ℕ) (S : Scope) → getD text place 0 ≡ 40 → HoldsScope text w frame top S → frameIn w frame .variables ≡ S .under → saidLook r ≡ lookFor (nameless place .name) (S .variables)
 
 -- ---- pairs taken apart
 
@@ -96,7 +109,7 @@ pub record TakeSays (w : List ℕ) (entry half place other : ℕ) (v : Sub) (w�
   pub state : (σ : State) → HoldsState w σ → HoldsState w′ σ
   pub scope :
       (text : List ℕ) (frame : ℕ) (S : Scope) (m : Made) (x y : Bound) → frame < 82 → HoldsScope text w frame entry S → HoldsState w (m .state) → TermHeld w v m
-      → place ≤ length text → other ≤ length text → x .name ≡ runAt text place → y .name ≡ runAt text other
+      → place ≤ length text → other ≤ length text → x .name ≡ nameIn text place → y .name ≡ nameIn text other
       → HoldsScope text w′ frame (entry + 2) (withVariables S (bind y (halvesOf (recAt (m .state .table) (m .type)) .right) (bind x (halvesOf (recAt (m .state .table) (m .type)) .left) (S .variables))))
 
 -- the rest of a pair as a variable of its own
@@ -110,14 +123,14 @@ partedBy m x y Γ = bind y (halvesOf (recAt (m .state .table) (m .type)) .right)
 
 -- the first two names of a list
 abbrev pub firstName : List Word → Bound
-firstName ws = valueIn noBound (nameAt ws)
+firstName ws = valueIn noBound (headAt ws)
 
 abbrev pub secondName : List Word → Bound
-secondName ws = firstName (behind (restIn (nameAt ws)))
+secondName ws = firstName (behind (restIn (headAt ws)))
 
 -- a pair can be taken apart for the first names at an offset: there are two
 pub record CanTakeAt (text w : List ℕ) (at entry half : ℕ) (v : Sub) : Type 0 where
-  pub names : NamesStand behind text at 2
+  pub names : NamesStand headAt behind text at 2
   pub short : length text ≤ 65535
   pub few : entry + 2 ≤ mostEntries
   pub halves : half < mostHalves
@@ -153,7 +166,7 @@ RestAnswers text w frame top S x m (rest-end.Refused number place) (refused why)
 
 -- the names that are left stand at an offset
 abbrev pub RestNames : List ℕ → List Word → ended.RestEnd → Type 0
-RestNames text ws (rest-end.At next s) = (behind (restIn (nameAt ws)) ≡ from text next) × Lexed text next
+RestNames text ws (rest-end.At next s) = (behind (restIn (headAt ws)) ≡ from text next) × Lexed text next
 RestNames text ws (rest-end.Refused number place) = Unit {0}
 
 pub record TakeRestSays (text w : List ℕ) (at entry half : ℕ) (v : Sub) (r : ended.RestEnd) (w′ : List ℕ) : Type 0 where
@@ -168,7 +181,7 @@ pub record TakeRestSays (text w : List ℕ) (at entry half : ℕ) (v : Sub) (r :
 
 -- a pair can be taken apart for so many names at an offset: there are fewer terms that wait than nodes, and room for two entries a name
 pub record CanApart (text w : List ℕ) (at count top waiting : ℕ) (v : Sub) : Type 0 where
-  pub names : NamesStand behind text at count
+  pub names : NamesStand headAt behind text at count
   pub short : length text ≤ 65535
   pub few : top + 2 * count ≤ mostEntries
   pub halves : waiting < getD w nodeCountAt 0
@@ -200,7 +213,7 @@ RestsAnswer text w frame top waiting i S (rest-end.At p s) answer = Parting text
 RestsAnswer text w frame top waiting i S (rest-end.Refused number place) answer = answer ≡ refuse number place
 
 abbrev pub RestsStand : List ℕ → ended.RestEnd → Type 0
-RestsStand text (rest-end.At p s) = NamesStand behind text p 2
+RestsStand text (rest-end.At p s) = NamesStand headAt behind text p 2
 RestsStand text (rest-end.Refused number place) = Unit {0}
 
 pub record RestsSay (text w : List ℕ) (at count top waiting : ℕ) (v : Sub) (r : ended.RestEnd) (w′ : List ℕ) : Type 0 where

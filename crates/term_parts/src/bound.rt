@@ -6,7 +6,7 @@ ghost use Rattle.making_memory.specs.Map.{makingSize};
 ghost use Rattle.term_parts.specs.Parts.{NameBound, CanBind, NamesBound};
 use scopes::entries;
 
-// The name at a place, bound with a type.
+// The name or the list at a place, bound with a type.
 pub fn bind_name(work: &mut [u16], top: usize, place: usize, ty: u16)
     requires { ⌜ (top < mostEntries) × ((makingSize ≤ length (now work)) × (place < 65536)) ⌝ }
     ensures { λ _. ⌜ NameBound (now (work .entry)) top place ty (now (work .exit)) ⌝ }

@@ -1,7 +1,7 @@
-// Variables looked up by their names.
+// Variables looked up by their names, or by the places of their lists.
 ghost use mathlib.Core.Path.{_≡_};
 ghost use Prim.Native.Nat.{_<_};
-ghost use Rattle.term_parts.specs.Parts.{CanLook, LookSays};
+ghost use Rattle.term_parts.specs.Parts.{CanLook, LookSays, CanLookAt, LookAtSays};
 use scopes::entries;
 use scopes::frames;
 
@@ -25,6 +25,20 @@ pub fn variable_at(text: &[u8], work: &[u16], name: usize, frame: usize, top: us
 {
     let f = frames::frame_at(work, frame);
     let e = entries::last_of(text, work, name, f.variables, top);
+    if e <= f.variables {
+        return Look::Nowhere;
+    }
+    let v = entries::value_of(work, e - 1);
+    Look::Here(narrow(top - e), narrow(v))
+}
+
+// The nameless variable of the list whose parenthesis stands at a place.
+pub fn list_at(work: &[u16], place: usize, frame: usize, top: usize) -> Look
+    requires { ⌜ CanLookAt (now work) frame top ⌝ }
+    ensures { λ r. ⌜ LookAtSays (now (work .entry)) place frame top r ⌝ }
+{
+    let f = frames::frame_at(work, frame);
+    let e = entries::last_at(work, place, f.variables, top);
     if e <= f.variables {
         return Look::Nowhere;
     }

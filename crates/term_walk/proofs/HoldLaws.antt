@@ -95,7 +95,7 @@ module _ (m top waiting : ℕ) (w w′ : List ℕ) (a : LevelWrites m top waitin
   wish-stays text t wt l (ofFunction xs θ) b c (f, n, y, k, N) = (f, n, y, omega (arith, a .walked .more-types), λ i h. a .walked .entries (scopeAt + 2 * (t + i)) (omega arith) (omega arith) ∙ N i h)
   wish-stays text t wt l (ofFix x θ) b c (f, p, y, k) = (f, p, y, omega (arith, a .walked .more-types))
   wish-stays text t wt l (valueOfName at x) b c h = h
-  wish-stays text t wt l (valueOfNames at xs) b c h = h
+  wish-stays text t wt l (valueOfNames at xs us) b c h = h
   wish-stays text t wt l (underName x v) b c (f, p, h) = (f, p, term-stays (subIn l) v h)
   wish-stays text t wt l (underNames ps) b c (f, n, h) = (f, n, halves-stay _ _ w w′ wt ps (λ j x y. a .halves j x (omega arith)) term-stays h)
   wish-stays text t wt l (element s before) b c (f, n, s′, h) = (f, n, left-stays (leftBy l) s s′, halves-stay _ _ w w′ wt before (λ j x y. a .halves j x (omega arith)) term-stays h)

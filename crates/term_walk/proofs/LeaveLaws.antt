@@ -15,8 +15,9 @@ use Rattle.notation_theorems.proofs.Answering.{On, on-any, on-map}
 use Rattle.notation_calculus.specs.Words.{comma, Word}
 use Rattle.notation_calculus.specs.Trees.{Bound, Text}
 use Rattle.notation_calculus.specs.Grammar.{behind, place, is}
+use Rattle.notation_machine.specs.Lists.{headAt}
 use Rattle.notation_calculus.specs.Making.{State, Entry, Scope, bind, halvesOf, rest, withVariables, entries, mostEntries, Made, node, functionsOf, nameOf}
-use Rattle.notation_machine.specs.TermMachine.{Spine, Element, Taken, TermWish, ofFunction, ofFix, valueOfName, valueOfNames, underName, underNames, element, ofDefinition, TermLevel, Terming, TermHere, askTerm, termDone, Apart, apartFrom, pairsOf, projections, behindAtom, termLeft}
+use Rattle.notation_machine.specs.TermMachine.{Spine, Element, Taken, TermWish, ofFunction, ofFix, valueOfName, valueOfNames, underName, underNames, element, ofDefinition, TermLevel, Terming, TermHere, askTerm, termDone, Apart, apartFrom, pairsOf, projections, behindAtom, underLists, termLeft}
 use Rattle.words.specs.Lexed.{from, Lexed}
 use Rattle.words.specs.declared.Word as code-word
 use Rattle.making_memory.specs.Map.{typeCountAt, nodeCountAt}
@@ -27,6 +28,7 @@ use Rattle.made_nodes.proofs.Terms.{workable-on}
 use Rattle.made_nodes.specs.declared.Sub.{Sub}
 use Rattle.made_nodes.specs.declared.MadeTerm as code
 use Rattle.made_nodes.specs.declared.MadeTerm.the-variants as made
+use Rattle.scopes.specs.Frames.{HoldsScope}
 use Rattle.walk_levels.specs.declared.Level.{Level}
 use Rattle.term_walk.specs.declared.Walk.{Walk}
 use Rattle.term_walk.specs.declared.Left.{Left}
@@ -40,11 +42,11 @@ use Rattle.term_parts.specs.Halves.{HalvesIn, ElementsIn, TakenIn, InHalves, wi
 use Rattle.term_parts.specs.Parts.{NameBound, CanApart, ApartHeld, ApartAnswers, ApartSays}
 use Rattle.term_walk.specs.Looks.{wordsAt, ReadableFrom, Looks}
 use Rattle.term_walk.specs.Holding.{LevelWrites, LeftHeld, subIn, leftBy, entriesOf, halvesFor, WishHeld, ScopeHeld, HereHeld, TermCame}
-use Rattle.term_walk.specs.Steps.{doneStep, partLevel, CanAskTerm, Asks, StepAnswers, termHereWith, bodiesIn, CanEnter, CanApply, CanApplyMade, BehindSays, MadeNodes, MadeSays, CanLeave, LeaveSays}
+use Rattle.term_walk.specs.Steps.{doneStep, partLevel, CanAskTerm, Below, Asks, StepAnswers, termHereWith, bodiesIn, CanEnter, CanApply, CanApplyMade, BehindSays, MadeNodes, MadeSays, CanBody, BodySays, underListsBody, CanLeave, LeaveSays}
 use Rattle.term_parts.proofs.Stay.{entries-state, half-long, half-state, parts-of-half, halves-put, can-join}
 use Rattle.term_walk.proofs.LookLaws.{words-lexed}
 use Rattle.term_walk.proofs.HoldLaws.{stepped-none, stepped-then, stepped-made, stepped-parts, stepped-entries, stepped-less, term-stays, left-stays, here-stays, here-now}
-use Rattle.term_walk.proofs.StepLaws.{made-nodes, done-says, stepped-asks, asked}
+use Rattle.term_walk.proofs.StepLaws.{made-nodes, done-says, stepped-asks, asks-below, asked}
 use Rattle.term_walk.proofs.AtomLaws.{here-room, here-workable, edition-in}
 use Rattle.term_walk.proofs.RoundLaws.{look-yes, look-no}
 use Rattle.term_walk.proofs.BinderLaws.{names-length}
@@ -73,7 +75,7 @@ module _ (text w : List ℕ) (h : Walk) (l : Level) (x : Sub) (C : CanLeave text
       by : (wish : TermWish) → WishHeld text w (h .top) (h .waiting) l wish → h .top + entriesOf wish ≤ mostEntries → TermCame w x (h .waiting + halvesFor wish) (C .m) → (l .ty < 256) × (h .top + l .count ≤ 1024)
       by (ofFix y θ₀) hh en t = absurd (omega (arith, hh .0, form))
       by (valueOfName p y) hh en t = absurd (omega (arith, hh .0, form))
-      by (valueOfNames p xs) hh en t = absurd (omega (arith, hh .0, form))
+      by (valueOfNames p xs us) hh en t = absurd (omega (arith, hh .0, form))
       by (underName y v) hh en t = absurd (omega (arith, hh .0, form))
       by (underNames ps) hh en t = absurd (omega (arith, hh .0, form))
       by (element q before) hh en t = absurd (omega (arith, hh .0, form))
@@ -86,7 +88,7 @@ module _ (text w : List ℕ) (h : Walk) (l : Level) (x : Sub) (C : CanLeave text
       by : (wish : TermWish) → WishHeld text w (h .top) (h .waiting) l wish → h .top + entriesOf wish ≤ mostEntries → TermCame w x (h .waiting + halvesFor wish) (C .m) → l .ty < 256
       by (ofFunction xs θ₀) hh en t = absurd (omega (arith, hh .0, form))
       by (valueOfName p y) hh en t = absurd (omega (arith, hh .0, form))
-      by (valueOfNames p xs) hh en t = absurd (omega (arith, hh .0, form))
+      by (valueOfNames p xs us) hh en t = absurd (omega (arith, hh .0, form))
       by (underName y v) hh en t = absurd (omega (arith, hh .0, form))
       by (underNames ps) hh en t = absurd (omega (arith, hh .0, form))
       by (element q before) hh en t = absurd (omega (arith, hh .0, form))
@@ -99,7 +101,7 @@ module _ (text w : List ℕ) (h : Walk) (l : Level) (x : Sub) (C : CanLeave text
       by : (wish : TermWish) → WishHeld text w (h .top) (h .waiting) l wish → h .top + entriesOf wish ≤ mostEntries → TermCame w x (h .waiting + halvesFor wish) (C .m) → l .next ≤ length text
       by (ofFunction xs θ₀) hh en t = absurd (omega (arith, hh .0, form))
       by (ofFix y θ₀) hh en t = absurd (omega (arith, hh .0, form))
-      by (valueOfNames p xs) hh en t = absurd (omega (arith, hh .0, form))
+      by (valueOfNames p xs us) hh en t = absurd (omega (arith, hh .0, form))
       by (underName y v) hh en t = absurd (omega (arith, hh .0, form))
       by (underNames ps) hh en t = absurd (omega (arith, hh .0, form))
       by (element q before) hh en t = absurd (omega (arith, hh .0, form))
@@ -113,7 +115,7 @@ module _ (text w : List ℕ) (h : Walk) (l : Level) (x : Sub) (C : CanLeave text
       by (ofFunction xs θ₀) hh en t = absurd (omega (arith, hh .0, form))
       by (ofFix y θ₀) hh en t = absurd (omega (arith, hh .0, form))
       by (valueOfName p y) hh en t = absurd (omega (arith, hh .0, form))
-      by (valueOfNames p xs) hh en t = absurd (omega (arith, hh .0, form))
+      by (valueOfNames p xs us) hh en t = absurd (omega (arith, hh .0, form))
       by (underNames ps) hh en t = absurd (omega (arith, hh .0, form))
       by (element q before) hh en t = absurd (omega (arith, hh .0, form))
       by (ofDefinition q us) hh en t = absurd (omega (arith, hh .0, form))
@@ -126,7 +128,7 @@ module _ (text w : List ℕ) (h : Walk) (l : Level) (x : Sub) (C : CanLeave text
       by (ofFunction xs θ₀) hh en t = absurd (omega (arith, hh .0, form))
       by (ofFix y θ₀) hh en t = absurd (omega (arith, hh .0, form))
       by (valueOfName p y) hh en t = absurd (omega (arith, hh .0, form))
-      by (valueOfNames p xs) hh en t = absurd (omega (arith, hh .0, form))
+      by (valueOfNames p xs us) hh en t = absurd (omega (arith, hh .0, form))
       by (underName y v) hh en t = absurd (omega (arith, hh .0, form))
       by (element q before) hh en t = absurd (omega (arith, hh .0, form))
       by (ofDefinition q us) hh en t = absurd (omega (arith, hh .0, form))
@@ -139,7 +141,7 @@ module _ (text w : List ℕ) (h : Walk) (l : Level) (x : Sub) (C : CanLeave text
       by (ofFunction xs θ₀) hh en t = absurd (omega (arith, hh .0, form))
       by (ofFix y θ₀) hh en t = absurd (omega (arith, hh .0, form))
       by (valueOfName p y) hh en t = absurd (omega (arith, hh .0, form))
-      by (valueOfNames p xs) hh en t = absurd (omega (arith, hh .0, form))
+      by (valueOfNames p xs us) hh en t = absurd (omega (arith, hh .0, form))
       by (underName y v) hh en t = absurd (omega (arith, hh .0, form))
       by (underNames ps) hh en t = absurd (omega (arith, hh .0, form))
       by (ofDefinition q us) hh en t = absurd (omega (arith, hh .0, form))
@@ -152,7 +154,7 @@ module _ (text w : List ℕ) (h : Walk) (l : Level) (x : Sub) (C : CanLeave text
       by (ofFunction xs θ₀) hh en t = absurd (omega (arith, hh .0, form))
       by (ofFix y θ₀) hh en t = absurd (omega (arith, hh .0, form))
       by (valueOfName p y) hh en t = absurd (omega (arith, hh .0, form))
-      by (valueOfNames p xs) hh en t = absurd (omega (arith, hh .0, form))
+      by (valueOfNames p xs us) hh en t = absurd (omega (arith, hh .0, form))
       by (underName y v) hh en t = absurd (omega (arith, hh .0, form))
       by (underNames ps) hh en t = absurd (omega (arith, hh .0, form))
       by (element q before) hh en t = absurd (omega (arith, hh .0, form))
@@ -169,7 +171,7 @@ module _ (text w : List ℕ) (h : Walk) (l : Level) (x : Sub) (C : CanLeave text
       by (underNames ps) hh en t = absurd (omega (arith, hh .0, form))
       by (element q before) hh en t = absurd (omega (arith, hh .0, form))
       by (ofDefinition q us) hh en t = absurd (omega (arith, hh .0, form))
-      by (valueOfNames p xs) (f, p′, e, st) en t = λ room. record { names = st; short = C .here .scope .walkable .short; few = omega arith; halves = omega (arith, t .few, C .here .scope .walkable .state .nodes); made = C .m; state = C .here .scope .walkable .state; held = t .term; frame = h .frame; level = C .here .scope .walkable .level; S = C .S; scope = C .here .scope .walkable .scope }
+      by (valueOfNames p xs us) (f, p′, e, st, u) en t = λ room. record { names = st; short = C .here .scope .walkable .short; few = omega arith; halves = omega (arith, t .few, C .here .scope .walkable .state .nodes); made = C .m; state = C .here .scope .walkable .state; held = t .term; frame = h .frame; level = C .here .scope .walkable .level; S = C .S; scope = C .here .scope .walkable .scope }
 
   -- the forms that are left
   pub let-forms : ¬ (l .form ≡ 1) → ¬ (l .form ≡ 2) → ¬ (l .form ≡ 7) → ¬ (l .form ≡ 8) → (3 ≤ l .form) × (l .form ≤ 6)
@@ -179,7 +181,7 @@ module _ (text w : List ℕ) (h : Walk) (l : Level) (x : Sub) (C : CanLeave text
       by (ofFunction xs t) hh = absurd (a (hh .0))
       by (ofFix y t) hh = absurd (b (hh .0))
       by (valueOfName p y) hh = (omega (arith, hh .0), omega (arith, hh .0))
-      by (valueOfNames p xs) hh = (omega (arith, hh .0), omega (arith, hh .0))
+      by (valueOfNames p xs us) hh = (omega (arith, hh .0), omega (arith, hh .0))
       by (underName y v) hh = (omega (arith, hh .0), omega (arith, hh .0))
       by (underNames ps) hh = (omega (arith, hh .0), omega (arith, hh .0))
       by (element q before) hh = absurd (c (hh .0))
@@ -204,7 +206,7 @@ module _ (text w : List ℕ) (h : Walk) (l : Level) (x : Sub) (C : CanLeave text
       by : (X : Text) (most bottom k : ℕ) (S : Scope) (K : List TermLevel) (m : Made) → h .more ≡ suc k → HereHeld text X most bottom w h S (m .state) K → (wish : TermWish) → WishHeld text w (h .top) (h .waiting) l wish → h .top + entriesOf wish ≤ mostEntries → TermCame w x (h .waiting + halvesFor wish) m → StepAnswers text X most bottom w′ r (termLeft X (bodiesIn text w X) (termHereWith k S K) wish m (wordsAt text (h .at)))
       by X most bottom k S K m c g (ofFix y θ₀) hh en t = absurd (omega (arith, hh .0, form))
       by X most bottom k S K m c g (valueOfName p y) hh en t = absurd (omega (arith, hh .0, form))
-      by X most bottom k S K m c g (valueOfNames p xs) hh en t = absurd (omega (arith, hh .0, form))
+      by X most bottom k S K m c g (valueOfNames p xs us) hh en t = absurd (omega (arith, hh .0, form))
       by X most bottom k S K m c g (underName y v) hh en t = absurd (omega (arith, hh .0, form))
       by X most bottom k S K m c g (underNames ps) hh en t = absurd (omega (arith, hh .0, form))
       by X most bottom k S K m c g (element q before) hh en t = absurd (omega (arith, hh .0, form))
@@ -219,7 +221,7 @@ module _ (text w : List ℕ) (h : Walk) (l : Level) (x : Sub) (C : CanLeave text
       by : (X : Text) (most bottom k : ℕ) (S : Scope) (K : List TermLevel) (m : Made) → h .more ≡ suc k → HereHeld text X most bottom w h S (m .state) K → (wish : TermWish) → WishHeld text w (h .top) (h .waiting) l wish → h .top + entriesOf wish ≤ mostEntries → TermCame w x (h .waiting + halvesFor wish) m → StepAnswers text X most bottom w′ r (termLeft X (bodiesIn text w X) (termHereWith k S K) wish m (wordsAt text (h .at)))
       by X most bottom k S K m c g (ofFunction xs θ₀) hh en t = absurd (omega (arith, hh .0, form))
       by X most bottom k S K m c g (valueOfName p y) hh en t = absurd (omega (arith, hh .0, form))
-      by X most bottom k S K m c g (valueOfNames p xs) hh en t = absurd (omega (arith, hh .0, form))
+      by X most bottom k S K m c g (valueOfNames p xs us) hh en t = absurd (omega (arith, hh .0, form))
       by X most bottom k S K m c g (underName y v) hh en t = absurd (omega (arith, hh .0, form))
       by X most bottom k S K m c g (underNames ps) hh en t = absurd (omega (arith, hh .0, form))
       by X most bottom k S K m c g (element q before) hh en t = absurd (omega (arith, hh .0, form))
@@ -235,7 +237,7 @@ module _ (text w : List ℕ) (h : Walk) (l : Level) (x : Sub) (C : CanLeave text
       by X most bottom k S K m c g (ofFunction xs θ₀) hh en t = absurd (omega (arith, hh .0, form))
       by X most bottom k S K m c g (ofFix y θ₀) hh en t = absurd (omega (arith, hh .0, form))
       by X most bottom k S K m c g (valueOfName p y) hh en t = absurd (omega (arith, hh .0, form))
-      by X most bottom k S K m c g (valueOfNames p xs) hh en t = absurd (omega (arith, hh .0, form))
+      by X most bottom k S K m c g (valueOfNames p xs us) hh en t = absurd (omega (arith, hh .0, form))
       by X most bottom k S K m c g (underNames ps) hh en t = absurd (omega (arith, hh .0, form))
       by X most bottom k S K m c g (element q before) hh en t = absurd (omega (arith, hh .0, form))
       by X most bottom k S K m c g (ofDefinition q us) hh en t = absurd (omega (arith, hh .0, form))
@@ -250,7 +252,7 @@ module _ (text w : List ℕ) (h : Walk) (l : Level) (x : Sub) (C : CanLeave text
       by X most bottom k S K m c g (ofFunction xs θ₀) hh en t = absurd (omega (arith, hh .0, form))
       by X most bottom k S K m c g (ofFix y θ₀) hh en t = absurd (omega (arith, hh .0, form))
       by X most bottom k S K m c g (valueOfName p y) hh en t = absurd (omega (arith, hh .0, form))
-      by X most bottom k S K m c g (valueOfNames p xs) hh en t = absurd (omega (arith, hh .0, form))
+      by X most bottom k S K m c g (valueOfNames p xs us) hh en t = absurd (omega (arith, hh .0, form))
       by X most bottom k S K m c g (underName y v) hh en t = absurd (omega (arith, hh .0, form))
       by X most bottom k S K m c g (element q before) hh en t = absurd (omega (arith, hh .0, form))
       by X most bottom k S K m c g (ofDefinition q us) hh en t = absurd (omega (arith, hh .0, form))
@@ -271,7 +273,7 @@ module _ (text w : List ℕ) (h : Walk) (l : Level) (x : Sub) (C : CanLeave text
       by X most bottom k S K m c g (ofFunction xs θ₀) hh en t = absurd (omega (arith, hh .0, form))
       by X most bottom k S K m c g (ofFix y θ₀) hh en t = absurd (omega (arith, hh .0, form))
       by X most bottom k S K m c g (valueOfName p y) hh en t = absurd (omega (arith, hh .0, form))
-      by X most bottom k S K m c g (valueOfNames p xs) hh en t = absurd (omega (arith, hh .0, form))
+      by X most bottom k S K m c g (valueOfNames p xs us) hh en t = absurd (omega (arith, hh .0, form))
       by X most bottom k S K m c g (underName y v) hh en t = absurd (omega (arith, hh .0, form))
       by X most bottom k S K m c g (underNames ps) hh en t = absurd (omega (arith, hh .0, form))
       by X most bottom k S K m c g (element q before) hh en t = absurd (omega (arith, hh .0, form))
@@ -295,7 +297,7 @@ module _ (text w : List ℕ) (h : Walk) (l : Level) (x : Sub) (C : CanLeave text
       by X most bottom k S K m c g (ofFunction xs θ₀) hh en t = absurd (omega (arith, hh .0, form))
       by X most bottom k S K m c g (ofFix y θ₀) hh en t = absurd (omega (arith, hh .0, form))
       by X most bottom k S K m c g (valueOfName p y) hh en t = absurd (omega (arith, hh .0, form))
-      by X most bottom k S K m c g (valueOfNames p xs) hh en t = absurd (omega (arith, hh .0, form))
+      by X most bottom k S K m c g (valueOfNames p xs us) hh en t = absurd (omega (arith, hh .0, form))
       by X most bottom k S K m c g (underName y v) hh en t = absurd (omega (arith, hh .0, form))
       by X most bottom k S K m c g (underNames ps) hh en t = absurd (omega (arith, hh .0, form))
       by X most bottom k S K m c g (ofDefinition q us) hh en t = absurd (omega (arith, hh .0, form))
@@ -341,7 +343,7 @@ module _ (text w : List ℕ) (h : Walk) (l : Level) (x : Sub) (C : CanLeave text
       by X most bottom k S K m c g (ofFunction xs θ₀) hh en t = absurd (omega (arith, hh .0, form))
       by X most bottom k S K m c g (ofFix y θ₀) hh en t = absurd (omega (arith, hh .0, form))
       by X most bottom k S K m c g (valueOfName p y) hh en t = absurd (omega (arith, hh .0, form))
-      by X most bottom k S K m c g (valueOfNames p xs) hh en t = absurd (omega (arith, hh .0, form))
+      by X most bottom k S K m c g (valueOfNames p xs us) hh en t = absurd (omega (arith, hh .0, form))
       by X most bottom k S K m c g (underName y v) hh en t = absurd (omega (arith, hh .0, form))
       by X most bottom k S K m c g (underNames ps) hh en t = absurd (omega (arith, hh .0, form))
       by X most bottom k S K m c g (ofDefinition q us) hh en t = absurd (omega (arith, hh .0, form))
@@ -377,6 +379,12 @@ waiting-as a b n e = ap (λ (k : ℕ). a + k) e
 pub count-as : (a b n : ℕ) → n ≡ b → a + (n + n) ≤ mostEntries → a + (b + b) ≤ mostEntries
 count-as a b n e h = subst (λ (k : ℕ). a + (k + k) ≤ mostEntries) e h
 
+pub lexed-as : (text : List ℕ) (a n : ℕ) → a ≡ n → Lexed text n → Lexed text a
+lexed-as text a n e x = subst (Lexed text) (sym e) x
+
+pub under-as : (text w : List ℕ) (n : Walk) (next at : ℕ) (r : step.Step) (w′ : List ℕ) (a : ℕ) → a ≡ next → BodySays text w n (underListsBody text a at) r w′ → BodySays text w n (underListsBody text next at) r w′
+under-as text w n next at r w′ a e E = subst (λ (k : ℕ). BodySays text w n (underListsBody text k at) r w′) e E
+
 pub half-length : (w : List ℕ) (i : ℕ) (x : Half) (w′ : List ℕ) → w′ ≡ withHalf w i x → InHalves w i → length w′ ≡ length w
 half-length w i x w′ e room = ap length e ∙ half-long w i x room
 
@@ -406,7 +414,7 @@ module _ (text w : List ℕ) (h : Walk) (l : Level) (x : Sub) (C : CanLeave text
       by : (X : Text) (most bottom k : ℕ) (S : Scope) (K : List TermLevel) (m : Made) → h .more ≡ suc k → HereHeld text X most bottom w h S (m .state) K → (wish : TermWish) → WishHeld text w (h .top) (h .waiting) l wish → h .top + entriesOf wish ≤ mostEntries → TermCame w x (h .waiting + halvesFor wish) m → StepAnswers text X most bottom w (step-is.Refused 34 n) (termLeft X (bodiesIn text w X) (termHereWith k S K) wish m (wordsAt text (h .at)))
       by X most bottom k S K m c g (ofFunction xs θ₀) hh en t = absurd (omega (arith, hh .0, form))
       by X most bottom k S K m c g (ofFix y θ₀) hh en t = absurd (omega (arith, hh .0, form))
-      by X most bottom k S K m c g (valueOfNames p xs) hh en t = absurd (omega (arith, hh .0, form))
+      by X most bottom k S K m c g (valueOfNames p xs us) hh en t = absurd (omega (arith, hh .0, form))
       by X most bottom k S K m c g (underName y v) hh en t = absurd (omega (arith, hh .0, form))
       by X most bottom k S K m c g (underNames ps) hh en t = absurd (omega (arith, hh .0, form))
       by X most bottom k S K m c g (element q before) hh en t = absurd (omega (arith, hh .0, form))
@@ -425,9 +433,9 @@ module _ (text w : List ℕ) (h : Walk) (l : Level) (x : Sub) (C : CanLeave text
       by X most bottom k S K m c g (underNames ps) hh en t = absurd (omega (arith, hh .0, form))
       by X most bottom k S K m c g (element q before) hh en t = absurd (omega (arith, hh .0, form))
       by X most bottom k S K m c g (ofDefinition q us) hh en t = absurd (omega (arith, hh .0, form))
-      by X most bottom k S K m c g (valueOfNames p xs) (f, p′, e′, st′) en t =
-          let j₁ : length xs ≡ j = ap length e′ ∙ names-length behind (l .count) (from text (l .next)) ∙ sym ej in
-          subst (λ (bb : Bool). StepAnswers text X most bottom w (step-is.Refused 34 n) (need bb 34 p >>= λ _. apartFrom (S .variables) xs m [] >>= λ a. good (askTerm (termHereWith k S K) (underNames (a .taken)) (withVariables S (a .variables)) (a .state) (behind (wordsAt text (h .at)))))) (sym (ap (λ (z : ℕ). leb (z + (length xs + length xs)) mostEntries) (g .scope .walkable .scope .entries) ∙ ap (λ (z : ℕ). leb (h .top + (z + z)) mostEntries) j₁ ∙ full)) (ap (numbered 34) (sym (en₀ ∙ p′)))
+      by X most bottom k S K m c g (valueOfNames p xs us) (f, p′, e′, st′, u′) en t =
+          let j₁ : length xs ≡ j = ap length e′ ∙ names-length headAt behind (l .count) (from text (l .next)) ∙ sym ej in
+          subst (λ (bb : Bool). StepAnswers text X most bottom w (step-is.Refused 34 n) (need bb 34 p >>= λ _. apartFrom (S .variables) xs m [] >>= λ a. underLists k (withVariables S (a .variables)) (a .state) us (wordsAt text (h .at)) (record { wish = underNames (a .taken); scope = S } ∷ K))) (sym (ap (λ (z : ℕ). leb (z + (length xs + length xs)) mostEntries) (g .scope .walkable .scope .entries) ∙ ap (λ (z : ℕ). leb (h .top + (z + z)) mostEntries) j₁ ∙ full)) (ap (numbered 34) (sym (en₀ ∙ p′)))
 
   abbrev nameLevel : Level
   nameLevel = record { form = 5; flag = 0; place = l .next; count = 0; node = x .node; ty = x .ty; deep = x .deep; next = 0 }
@@ -447,7 +455,7 @@ module _ (text w : List ℕ) (h : Walk) (l : Level) (x : Sub) (C : CanLeave text
       by : (X : Text) (most bottom k : ℕ) (S : Scope) (K : List TermLevel) (m : Made) → h .more ≡ suc k → HereHeld text X most bottom w h S (m .state) K → (wish : TermWish) → WishHeld text w (h .top) (h .waiting) l wish → h .top + entriesOf wish ≤ mostEntries → TermCame w x (h .waiting + halvesFor wish) m → StepAnswers text X most bottom w′ r (termLeft X (bodiesIn text w X) (termHereWith k S K) wish m (wordsAt text (h .at)))
       by X most bottom k S K m c g (ofFunction xs θ₀) hh en t = absurd (omega (arith, hh .0, form))
       by X most bottom k S K m c g (ofFix y θ₀) hh en t = absurd (omega (arith, hh .0, form))
-      by X most bottom k S K m c g (valueOfNames p xs) hh en t = absurd (omega (arith, hh .0, form))
+      by X most bottom k S K m c g (valueOfNames p xs us) hh en t = absurd (omega (arith, hh .0, form))
       by X most bottom k S K m c g (underName y v) hh en t = absurd (omega (arith, hh .0, form))
       by X most bottom k S K m c g (underNames ps) hh en t = absurd (omega (arith, hh .0, form))
       by X most bottom k S K m c g (element q before) hh en t = absurd (omega (arith, hh .0, form))
@@ -481,43 +489,79 @@ module _ (text w : List ℕ) (h : Walk) (l : Level) (x : Sub) (C : CanLeave text
       by X most bottom k S K m c g (underNames ps) hh en t = absurd (omega (arith, hh .0, form))
       by X most bottom k S K m c g (element q₀ before) hh en t = absurd (omega (arith, hh .0, form))
       by X most bottom k S K m c g (ofDefinition q₀ us) hh en t = absurd (omega (arith, hh .0, form))
-      by X most bottom k S K m c g (valueOfNames p xs) (f, p′, e′, st′) en t =
-          let j₁ : length xs ≡ l .count = ap length e′ ∙ names-length behind (l .count) (from text (l .next)) in
+      by X most bottom k S K m c g (valueOfNames p xs us) (f, p′, e′, st′, u′) en t =
+          let j₁ : length xs ≡ l .count = ap length e′ ∙ names-length headAt behind (l .count) (from text (l .next)) in
           let there : leb (entries S + (length xs + length xs)) mostEntries ≡ true = ap (λ (z : ℕ). leb (z + (length xs + length xs)) mostEntries) (g .scope .walkable .scope .entries) ∙ ap (λ (z : ℕ). leb (h .top + (z + z)) mostEntries) j₁ ∙ le-leb _ _ few in
           let i = P .says (h .frame) S m (g .scope .walkable .level) (g .scope .walkable .scope) (g .scope .walkable .state) (t .term) in
-          subst (λ (bb : Bool). StepAnswers text X most bottom w₁ (step-is.Refused n q) (need bb 34 p >>= λ _. apartFrom (S .variables) xs m [] >>= λ a. good (askTerm (termHereWith k S K) (underNames (a .taken)) (withVariables S (a .variables)) (a .state) (behind (wordsAt text (h .at)))))) (sym there) (
-          subst (λ (zs : List Bound). StepAnswers text X most bottom w₁ (step-is.Refused n q) (apartFrom (S .variables) zs m [] >>= λ a. good (askTerm (termHereWith k S K) (underNames (a .taken)) (withVariables S (a .variables)) (a .state) (behind (wordsAt text (h .at)))))) (sym e′) (
+          subst (λ (bb : Bool). StepAnswers text X most bottom w₁ (step-is.Refused n q) (need bb 34 p >>= λ _. apartFrom (S .variables) xs m [] >>= λ a. underLists k (withVariables S (a .variables)) (a .state) us (wordsAt text (h .at)) (record { wish = underNames (a .taken); scope = S } ∷ K))) (sym there) (
+          subst (λ (zs : List Bound). StepAnswers text X most bottom w₁ (step-is.Refused n q) (apartFrom (S .variables) zs m [] >>= λ a. underLists k (withVariables S (a .variables)) (a .state) us (wordsAt text (h .at)) (record { wish = underNames (a .taken); scope = S } ∷ K))) (sym e′) (
           rw (apart-refuses w₁ S n q (apartFrom (S .variables) (listedNames text (l .next) (l .count)) m []) (subst (λ (z : parted.ApartEnd). ApartAnswers text w₁ (h .frame) (h .waiting) S z (apartFrom (S .variables) (listedNames text (l .next) (l .count)) m [])) ey i)) refl))
 
-  pub values-taken : l .form ≡ 4 → h .top + (l .count + l .count) ≤ mostEntries → (v : code-word.Word) → Looks text (h .at) v → (y : parted.ApartEnd) (top waiting : ℕ) (w₁ : List ℕ) → y ≡ apart-end.At top waiting → ApartSays text w (l .next) (l .count) (h .top) (h .waiting) x y w₁ → CanAskTerm w₁ h → (r : step.Step) (w′ : List ℕ) → Asks w₁ h (namesLevel (waiting - h .waiting)) (h .frame) top waiting (v .end) r w′ → LeaveSays text w h l x r w′
-  values-taken form few v looks y top waiting w₁ ey P A₁ r w′ A = record { stepped = stepped-then (h .more) (h .top) (h .waiting) w w₁ w′ st (stepped-asks w₁ h (namesLevel (waiting - h .waiting)) (h .frame) top waiting (v .end) r w′ A₁ A); says = λ X most bottom k S K wish m c g held en t rd. by X most bottom k S K m c g wish held en t }
-    where
-      st : LevelWrites (h .more) (h .top) (h .waiting) w w₁
-      st = stepped-parts (h .more) (h .top) (h .waiting) w w₁ (P .only)
+  module _ (form : l .form ≡ 4) (few : h .top + (l .count + l .count) ≤ mostEntries) (y : parted.ApartEnd) (top waiting : ℕ) (w₁ : List ℕ) (ey : y ≡ apart-end.At top waiting) (P : ApartSays text w (l .next) (l .count) (h .top) (h .waiting) x y w₁) (A₁ : CanAskTerm w₁ h) (n : Walk) (w₂ : List ℕ) (B : Below w₁ h (namesLevel (waiting - h .waiting)) (h .frame) top waiting (h .at) n w₂) where
+    apart-stepped : LevelWrites (h .more) (h .top) (h .waiting) w w₁
+    apart-stepped = stepped-parts (h .more) (h .top) (h .waiting) w w₁ (P .only)
 
-      taken : (X : Text) (most bottom k : ℕ) (S : Scope) (K : List TermLevel) (m : Made) → h .more ≡ suc k → HereHeld text X most bottom w h S (m .state) K → (a : Answer Apart) → ApartAnswers text w₁ (h .frame) (h .waiting) S (apart-end.At top waiting) a → On (λ (z : Apart). length (S .variables) ≤ length (z .variables)) a → StepAnswers text X most bottom w′ r (a >>= λ z. good (askTerm (termHereWith k S K) (underNames (z .taken)) (withVariables S (z .variables)) (z .state) (behind (wordsAt text (h .at)))))
-      taken X most bottom k S K m c g (refused why) i o = absurd i
-      taken X most bottom k S K m c g (good a) i o =
-          let g₁ = here-stays text X most bottom w w₁ h S (m .state) K g st (a .state) (i .state) in
-          let Q = g₁ .scope .walkable in
-          subst (λ (vs : List Word). StepAnswers text X most bottom w′ r (good (askTerm (termHereWith k S K) (underNames (a .taken)) (withVariables S (a .variables)) (a .state) vs))) (sym (looks .rest)) (
-          asked text X most bottom w₁ h S (a .state) K k c g₁ (namesLevel (waiting - h .waiting)) (underNames (a .taken)) (h .frame) top waiting (v .end) (withVariables S (a .variables)) (refl, omega (arith, i .counted), i .taken) (record { walkable = record { short = Q .short; room = Q .room; level = Q .level; clauses = Q .clauses; state = Q .state; scope = i .scope; seen = Q .seen; types = Q .types; variables = i .typed (Q .variables) }; above = omega (arith, g .scope .above, c); variables = g₁ .scope .variables }) (omega (arith, o, i .scope .entries, g .scope .walkable .scope .entries)) (omega (arith, i .counted)) (omega (arith, i .fewer, i .state .nodes)) (looks .readable) r w′ A)
+    -- what waits for the body
+    abbrev underLevel : Scope → Apart → TermLevel
+    underLevel S a = record { wish = underNames (a .taken); scope = S }
 
-      by : (X : Text) (most bottom k : ℕ) (S : Scope) (K : List TermLevel) (m : Made) → h .more ≡ suc k → HereHeld text X most bottom w h S (m .state) K → (wish : TermWish) → WishHeld text w (h .top) (h .waiting) l wish → h .top + entriesOf wish ≤ mostEntries → TermCame w x (h .waiting + halvesFor wish) m → StepAnswers text X most bottom w′ r (termLeft X (bodiesIn text w X) (termHereWith k S K) wish m (wordsAt text (h .at)))
-      by X most bottom k S K m c g (ofFunction xs θ₀) hh en t = absurd (omega (arith, hh .0, form))
-      by X most bottom k S K m c g (ofFix y θ₀) hh en t = absurd (omega (arith, hh .0, form))
-      by X most bottom k S K m c g (valueOfName p y) hh en t = absurd (omega (arith, hh .0, form))
-      by X most bottom k S K m c g (underName y v) hh en t = absurd (omega (arith, hh .0, form))
-      by X most bottom k S K m c g (underNames ps) hh en t = absurd (omega (arith, hh .0, form))
-      by X most bottom k S K m c g (element q before) hh en t = absurd (omega (arith, hh .0, form))
-      by X most bottom k S K m c g (ofDefinition q us) hh en t = absurd (omega (arith, hh .0, form))
-      by X most bottom k S K m c g (valueOfNames p xs) (f, p′, e′, st′) en t =
-          let j₁ : length xs ≡ l .count = ap length e′ ∙ names-length behind (l .count) (from text (l .next)) in
-          let there : leb (entries S + (length xs + length xs)) mostEntries ≡ true = ap (λ (z : ℕ). leb (z + (length xs + length xs)) mostEntries) (g .scope .walkable .scope .entries) ∙ ap (λ (z : ℕ). leb (h .top + (z + z)) mostEntries) j₁ ∙ le-leb _ _ few in
-          let i = P .says (h .frame) S m (g .scope .walkable .level) (g .scope .walkable .scope) (g .scope .walkable .state) (t .term) in
-          subst (λ (bb : Bool). StepAnswers text X most bottom w′ r (need bb 34 p >>= λ _. apartFrom (S .variables) xs m [] >>= λ a. good (askTerm (termHereWith k S K) (underNames (a .taken)) (withVariables S (a .variables)) (a .state) (behind (wordsAt text (h .at)))))) (sym there) (
-          subst (λ (zs : List Bound). StepAnswers text X most bottom w′ r (apartFrom (S .variables) zs m [] >>= λ a. good (askTerm (termHereWith k S K) (underNames (a .taken)) (withVariables S (a .variables)) (a .state) (behind (wordsAt text (h .at)))))) (sym e′) (
-          taken X most bottom k S K m c g (apartFrom (S .variables) (listedNames text (l .next) (l .count)) m []) (subst (λ (z : parted.ApartEnd). ApartAnswers text w₁ (h .frame) (h .waiting) S z (apartFrom (S .variables) (listedNames text (l .next) (l .count)) m [])) ey i) (apart-longer (S .variables) (listedNames text (l .next) (l .count)) m [])))
+    -- the walk is in the body
+    apart-below : (X : Text) (most bottom k : ℕ) (S : Scope) (K : List TermLevel) (m : Made) → h .more ≡ suc k → HereHeld text X most bottom w h S (m .state) K → (a : Apart) → ApartHeld text w₁ (h .frame) top (h .waiting) waiting S a → length (S .variables) ≤ length (a .variables) → (n .more ≡ k) × HereHeld text X most bottom w₂ n (withVariables S (a .variables)) (a .state) (underLevel S a ∷ K)
+    apart-below X most bottom k S K m c g a i o =
+        let g₁ = here-stays text X most bottom w w₁ h S (m .state) K g apart-stepped (a .state) (i .state) in
+        let Q = g₁ .scope .walkable in
+        let held = asked text X most bottom w₁ h S (a .state) K k c g₁ (namesLevel (waiting - h .waiting)) (underNames (a .taken)) (h .frame) top waiting (h .at) (withVariables S (a .variables)) (refl, omega (arith, i .counted), i .taken) (record { walkable = record { short = Q .short; room = Q .room; level = Q .level; clauses = Q .clauses; state = Q .state; scope = i .scope; seen = Q .seen; types = Q .types; variables = i .typed (Q .variables) }; above = omega (arith, g .scope .above, c); variables = g₁ .scope .variables }) (omega (arith, o, i .scope .entries, g .scope .walkable .scope .entries)) (omega (arith, i .counted)) (omega (arith, i .fewer, i .state .nodes)) (C .readable) (step-is.Going n) w₂ (asks-below w₁ h (namesLevel (waiting - h .waiting)) (h .frame) top waiting (h .at) n w₂ B) in
+        (held .1, held .3)
+
+    apart-answers : (S : Scope) (m : Made) → HoldsScope text w (h .frame) (h .top) S → HoldsState w (m .state) → TermHeld w x m → h .frame < 82 → ApartAnswers text w₁ (h .frame) (h .waiting) S (apart-end.At top waiting) (apartFrom (S .variables) (listedNames text (l .next) (l .count)) m [])
+    apart-answers S m hs H t level = subst (λ (z : parted.ApartEnd). ApartAnswers text w₁ (h .frame) (h .waiting) S z (apartFrom (S .variables) (listedNames text (l .next) (l .count)) m [])) ey (P .says (h .frame) S m level hs H t)
+
+    pub values-can : CanBody text w₂ n
+    values-can = by (apartFrom (C .S .variables) (listedNames text (l .next) (l .count)) (C .m) []) (apart-answers (C .S) (C .m) (C .here .scope .walkable .scope) (C .here .scope .walkable .state) (C .came .term) (C .here .scope .walkable .level)) (apart-longer (C .S .variables) (listedNames text (l .next) (l .count)) (C .m) [])
+      where
+        by : (a : Answer Apart) → ApartAnswers text w₁ (h .frame) (h .waiting) (C .S) (apart-end.At top waiting) a → On (λ (z : Apart). length (C .S .variables) ≤ length (z .variables)) a → CanBody text w₂ n
+        by (refused why) i o = absurd i
+        by (good a) i o = record { X = C .X; most = C .most; bottom = C .bottom; S = withVariables (C .S) (a .variables); σ = a .state; K = underLevel (C .S) a ∷ C .K; here = apart-below (C .X) (C .most) (C .bottom) (C .k) (C .S) (C .K) (C .m) (C .is) (C .here) a i o .1 }
+
+    -- the body has no fewer entries and terms that wait
+    values-above : (h .top ≤ top) × (h .waiting ≤ waiting)
+    values-above = by (apartFrom (C .S .variables) (listedNames text (l .next) (l .count)) (C .m) []) (apart-answers (C .S) (C .m) (C .here .scope .walkable .scope) (C .here .scope .walkable .state) (C .came .term) (C .here .scope .walkable .level)) (apart-longer (C .S .variables) (listedNames text (l .next) (l .count)) (C .m) [])
+      where
+        by : (a : Answer Apart) → ApartAnswers text w₁ (h .frame) (h .waiting) (C .S) (apart-end.At top waiting) a → On (λ (z : Apart). length (C .S .variables) ≤ length (z .variables)) a → (h .top ≤ top) × (h .waiting ≤ waiting)
+        by (refused why) i o = absurd i
+        by (good a) i o = (omega (arith, o, i .scope .entries, C .here .scope .walkable .scope .entries), omega (arith, i .counted))
+
+    pub values-taken : (r : step.Step) (w′ : List ℕ) → BodySays text w₂ n (underListsBody text (l .next) (h .at)) r w′ → LeaveSays text w h l x r w′
+    values-taken r w′ E = record {
+      stepped = stepped-then (h .more) (h .top) (h .waiting) w w₂ w′ below-stepped (stepped-less (n .more) (h .more) (n .top) (h .top) (n .waiting) (h .waiting) w₂ w′ (omega (arith, ap (λ (m : Walk). m .more) (B .state))) (omega (arith, values-above .0, ap (λ (m : Walk). m .top) (B .state))) (omega (arith, values-above .1, ap (λ (m : Walk). m .waiting) (B .state))) (E .stepped));
+      says = λ X most bottom k S K wish m c g held en t rd. by X most bottom k S K m c g wish held en t;
+    }
+      where
+        below-stepped : LevelWrites (h .more) (h .top) (h .waiting) w w₂
+        below-stepped = stepped-then (h .more) (h .top) (h .waiting) w w₁ w₂ apart-stepped (stepped-asks w₁ h (namesLevel (waiting - h .waiting)) (h .frame) top waiting (h .at) (step-is.Going n) w₂ A₁ (asks-below w₁ h (namesLevel (waiting - h .waiting)) (h .frame) top waiting (h .at) n w₂ B))
+
+        taken : (X : Text) (most bottom k : ℕ) (S : Scope) (K : List TermLevel) (m : Made) → h .more ≡ suc k → HereHeld text X most bottom w h S (m .state) K → (a : Answer Apart) → ApartAnswers text w₁ (h .frame) (h .waiting) S (apart-end.At top waiting) a → On (λ (z : Apart). length (S .variables) ≤ length (z .variables)) a → StepAnswers text X most bottom w′ r (a >>= λ z. underLists k (withVariables S (z .variables)) (z .state) (from text (l .next)) (wordsAt text (h .at)) (underLevel S z ∷ K))
+        taken X most bottom k S K m c g (refused why) i o = absurd i
+        taken X most bottom k S K m c g (good a) i o =
+            let b = apart-below X most bottom k S K m c g a i o in
+            subst (λ (j : ℕ). StepAnswers text X most bottom w′ r (underListsBody text (l .next) (h .at) j (withVariables S (a .variables)) (a .state) (underLevel S a ∷ K))) (b .0) (E .says X most bottom (withVariables S (a .variables)) (a .state) (underLevel S a ∷ K) (b .1))
+
+        by : (X : Text) (most bottom k : ℕ) (S : Scope) (K : List TermLevel) (m : Made) → h .more ≡ suc k → HereHeld text X most bottom w h S (m .state) K → (wish : TermWish) → WishHeld text w (h .top) (h .waiting) l wish → h .top + entriesOf wish ≤ mostEntries → TermCame w x (h .waiting + halvesFor wish) m → StepAnswers text X most bottom w′ r (termLeft X (bodiesIn text w X) (termHereWith k S K) wish m (wordsAt text (h .at)))
+        by X most bottom k S K m c g (ofFunction xs θ₀) hh en t = absurd (omega (arith, hh .0, form))
+        by X most bottom k S K m c g (ofFix y θ₀) hh en t = absurd (omega (arith, hh .0, form))
+        by X most bottom k S K m c g (valueOfName p y) hh en t = absurd (omega (arith, hh .0, form))
+        by X most bottom k S K m c g (underName y v) hh en t = absurd (omega (arith, hh .0, form))
+        by X most bottom k S K m c g (underNames ps) hh en t = absurd (omega (arith, hh .0, form))
+        by X most bottom k S K m c g (element q₀ before) hh en t = absurd (omega (arith, hh .0, form))
+        by X most bottom k S K m c g (ofDefinition q₀ us) hh en t = absurd (omega (arith, hh .0, form))
+        by X most bottom k S K m c g (valueOfNames p xs us) (f, p′, e′, st′, u′) en t =
+            let j₁ : length xs ≡ l .count = ap length e′ ∙ names-length headAt behind (l .count) (from text (l .next)) in
+            let there : leb (entries S + (length xs + length xs)) mostEntries ≡ true = ap (λ (z : ℕ). leb (z + (length xs + length xs)) mostEntries) (g .scope .walkable .scope .entries) ∙ ap (λ (z : ℕ). leb (h .top + (z + z)) mostEntries) j₁ ∙ le-leb _ _ few in
+            let F : List Word → Apart → Answer Terming = λ vs a. underLists k (withVariables S (a .variables)) (a .state) vs (wordsAt text (h .at)) (underLevel S a ∷ K) in
+            subst (λ (bb : Bool). StepAnswers text X most bottom w′ r (need bb 34 p >>= λ _. apartFrom (S .variables) xs m [] >>= F us)) (sym there) (
+            subst (λ (vs : List Word). StepAnswers text X most bottom w′ r (apartFrom (S .variables) xs m [] >>= F vs)) (sym u′) (
+            subst (λ (zs : List Bound). StepAnswers text X most bottom w′ r (apartFrom (S .variables) zs m [] >>= F (from text (l .next)))) (sym e′) (
+            taken X most bottom k S K m c g (apartFrom (S .variables) (listedNames text (l .next) (l .count)) m []) (apart-answers S m (g .scope .walkable .scope) (g .scope .walkable .state) (t .term) (g .scope .walkable .level)) (apart-longer (S .variables) (listedNames text (l .next) (l .count)) m []))))
 
   -- how many terms there are now
   pub values-most : l .form ≡ 4 → h .top + (l .count + l .count) ≤ mostEntries → (y : parted.ApartEnd) (top waiting : ℕ) (w₁ : List ℕ) → y ≡ apart-end.At top waiting → ApartSays text w (l .next) (l .count) (h .top) (h .waiting) x y w₁ → (h .waiting ≤ waiting) × (waiting < 65536)

@@ -4,6 +4,7 @@ pub mod StepLaws
 pub mod TypeBehind
 pub mod AtomLaws
 pub mod RoundLaws
+pub mod ListLaws
 pub mod BinderLaws
 pub mod LeaveLaws
 pub mod PairLaws

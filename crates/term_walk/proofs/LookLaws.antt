@@ -99,6 +99,7 @@ module _ (text : List ℕ) (at : ℕ) where
         onward = λ k. absurd (k refl);
         fewer = λ k. absurd (k refl);
         named = λ k. absurd (omega arith);
+        long = λ k. absurd (omega arith);
       }
 
   module _ (l : Lexed text at) (w : Word) (s : Stands text at (saidWord w)) where
@@ -118,6 +119,7 @@ module _ (text : List ℕ) (at : ℕ) where
           onward = λ h. absurd (h refl);
           fewer = λ h. absurd (h refl);
           named = λ h. absurd (omega arith);
+          long = λ h. absurd (omega arith);
         }
       where
         last-value : (t : Words.Token) → 0 ≡ tokenCode t → 0 ≡ tokenValue t
@@ -140,6 +142,7 @@ module _ (text : List ℕ) (at : ℕ) where
           onward = λ h. o .lexed;
           fewer = λ h. omega (arith, ap length e, ap length (ap behind e), ap length (o .rest), o .fewer);
           named = λ h. ap (λ (ws : List Words.Word). peek ws .token) e ∙ s .named h ∙ ap (λ (k : ℕ). name (take k (drop (w .start) text))) (run-long (s .whole h));
+          long = λ h. omega (arith, s .whole h, s .long h);
         }
       where
         run-long : w .end ≡ w .start + run (drop (w .start) text) → w .end - w .start ≡ run (drop (w .start) text)

@@ -7,8 +7,9 @@ use Rattle.notation_calculus.specs.Words.{Word}
 use Rattle.notation_calculus.specs.Trees.{Bound, Text}
 use Rattle.notation_calculus.specs.Grammar.{behind}
 use Rattle.notation_calculus.specs.Making.{State, Scope, Made}
+use Rattle.notation_machine.specs.Lists.{headAt}
 use Rattle.notation_machine.specs.TermMachine.{Function, none, some, Spine, Element, Taken, TermWish, ofFunction, ofFix, valueOfName, valueOfNames, underName, underNames, element, ofDefinition, TermLevel, Terming, wantedTerm, cameTerm, applying}
-use Rattle.words.specs.Next.{runAt}
+use Rattle.words.specs.Next.{nameIn}
 use Rattle.words.specs.Lexed.{from, Lexed}
 use Rattle.making_memory.specs.Map.{halvesAt, typeCountAt}
 use Rattle.made_nodes.specs.Held.{TermHeld}
@@ -55,7 +56,7 @@ abbrev pub entriesOf : TermWish → ℕ
 entriesOf (ofFunction xs t) = length xs
 entriesOf (ofFix x t) = 0
 entriesOf (valueOfName at x) = 0
-entriesOf (valueOfNames at xs) = 0
+entriesOf (valueOfNames at xs us) = 0
 entriesOf (underName x v) = 0
 entriesOf (underNames ps) = 0
 entriesOf (element s before) = 0
@@ -65,7 +66,7 @@ abbrev pub halvesFor : TermWish → ℕ
 halvesFor (ofFunction xs t) = 0
 halvesFor (ofFix x t) = 0
 halvesFor (valueOfName at x) = 0
-halvesFor (valueOfNames at xs) = 0
+halvesFor (valueOfNames at xs us) = 0
 halvesFor (underName x v) = 0
 halvesFor (underNames ps) = length ps
 halvesFor (element s before) = length before
@@ -75,8 +76,8 @@ halvesFor (ofDefinition s us) = 0
 abbrev pub WishHeld : List ℕ → List ℕ → ℕ → ℕ → Level → TermWish → Type 0
 WishHeld text w top waiting l (ofFunction xs t) = (l .form ≡ 1) × (l .count ≡ length xs) × (l .ty ≡ t) × (t < getD w typeCountAt 0) × NamesIn w top xs
 WishHeld text w top waiting l (ofFix x t) = (l .form ≡ 2) × (l .place ≡ x .place) × (l .ty ≡ t) × (t < getD w typeCountAt 0)
-WishHeld text w top waiting l (valueOfName at x) = (l .form ≡ 3) × (l .place ≡ at) × (l .next ≡ x .place) × (x .name ≡ runAt text (l .next)) × (l .next ≤ length text)
-WishHeld text w top waiting l (valueOfNames at xs) = (l .form ≡ 4) × (l .place ≡ at) × (xs ≡ listedNames text (l .next) (l .count)) × NamesStand behind text (l .next) (l .count)
+WishHeld text w top waiting l (valueOfName at x) = (l .form ≡ 3) × (l .place ≡ at) × (l .next ≡ x .place) × (x .name ≡ nameIn text (l .next)) × (l .next ≤ length text)
+WishHeld text w top waiting l (valueOfNames at xs us) = (l .form ≡ 4) × (l .place ≡ at) × (xs ≡ listedNames text (l .next) (l .count)) × NamesStand headAt behind text (l .next) (l .count) × (us ≡ from text (l .next))
 WishHeld text w top waiting l (underName x v) = (l .form ≡ 5) × (l .place ≡ x .place) × TermHeld w (subIn l) v
 WishHeld text w top waiting l (underNames ps) = (l .form ≡ 6) × (l .count ≡ length ps) × TakenIn w waiting ps
 WishHeld text w top waiting l (element s before) = (l .form ≡ 7) × (l .count ≡ length before) × LeftHeld w (leftBy l) s × ElementsIn w waiting before

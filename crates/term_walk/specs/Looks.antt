@@ -5,8 +5,8 @@ use mathlib.Core.Path.{_≡_}
 use mathlib.Core.Bool.{cond}
 use mathlib.Core.List.{List, []}
 use lib.Dec.{leb}
-use lib.ListN.{length}
-use Rattle.notation_calculus.specs.Words.{name}
+use lib.ListN.{length, drop}
+use Rattle.notation_calculus.specs.Words.{name, run}
 use Rattle.notation_calculus.specs.Words as Words
 use Rattle.notation_calculus.specs.Grammar.{peek, behind, place}
 use Rattle.words.specs.Tables.{tokenCode, tokenValue}
@@ -32,3 +32,4 @@ pub record Looks (text : List ℕ) (at : ℕ) (w : Word) : Type 0 where
   pub onward : ¬ (w .kind ≡ 0) → Lexed text (w .end)
   pub fewer : ¬ (w .kind ≡ 0) → length (behind (wordsAt text at)) < length (wordsAt text at)
   pub named : w .kind ≡ 24 → peek (wordsAt text at) .token ≡ name (runAt text (w .start))
+  pub long : w .kind ≡ 24 → 0 < run (drop (w .start) text)

@@ -5,16 +5,18 @@ use mathlib.Core.Bool.{Bool, true, false}
 use mathlib.Core.List.{List, [], _∷_}
 use lib.ListN.{length, getD}
 use Rattle.calculus.specs.Answer.{Answer, good, refused, numbered, _>>=_}
-use Rattle.notation_calculus.specs.Words.{Word}
+use Rattle.notation_calculus.specs.Words.{endRound, equals, Word}
 use Rattle.notation_calculus.specs.Trees.{Text}
-use Rattle.notation_calculus.specs.Grammar.{mostNested, Got, peek, behind, place, nameAt, listFrom, nameless}
+use Rattle.notation_calculus.specs.Grammar.{mostNested, Got, peek, behind, place, expect, listFrom, nameless}
 use Rattle.calculus.specs.Record.{All}
 use Rattle.notation_calculus.specs.Making.{State, Scope, Found, Made, lookup, bind, bindAll, withVariables, roomFor, node, variable, mostEntries}
-use Rattle.words.specs.Next.{runAt}
+use Rattle.words.specs.Next.{runAt, nameIn}
 use Rattle.words.specs.Lexed.{from, Lexed}
+use Rattle.grammar.specs.Skips.{expectCode}
 use Rattle.clauses.specs.Meant.{valuesIn}
+use Rattle.notation_machine.specs.Lists.{headAt}
 use Rattle.notation_machine.specs.TypeFrom.{typeFrom}
-use Rattle.notation_machine.specs.TermMachine.{Spine, TermWish, TermLevel, Terming, TermHere, askTerm, behindAtom, termPutIn, termNamedAt, atomEntered, applicationFrom, pairMade, pairIn, pairFrom, namesTyped, functionFrom, fixFrom, letFrom, ofFunction, ofFix, ofDefinition, valueOfName, valueOfNames, termLeft, termMove}
+use Rattle.notation_machine.specs.TermMachine.{Spine, TermWish, TermLevel, Terming, TermHere, askTerm, behindAtom, termPutIn, termNamedAt, atomEntered, applicationFrom, listMade, listBelow, underLists, pairFrom, namesTyped, functionFrom, fixFrom, letFrom, ofFunction, ofFix, ofDefinition, valueOfName, valueOfNames, termLeft, termMove}
 use Rattle.notation_machine.specs.TermSteps.{TermGoing}
 use Rattle.making_memory.specs.Map.{typeCountAt, makingSize}
 use Rattle.made_types.specs.Held.{HoldsState}
@@ -44,6 +46,10 @@ nothingSub = record { node = 0; ty = 0; deep = 0 }
 
 abbrev pub wantsWalk : Walk → ℕ → ℕ → ℕ → ℕ → Walk
 wantsWalk h frame top waiting at = record { phase = 0; more = h .more - 1; frame = frame; top = top; waiting = waiting; place = 0; sub = nothingSub; at = at }
+
+-- the walk itself, at an offset
+abbrev pub walkAt : Walk → ℕ → Walk
+walkAt n at = record { phase = 0; more = n .more; frame = n .frame; top = n .top; waiting = n .waiting; place = 0; sub = nothingSub; at = at }
 
 abbrev pub wantsStep : Walk → ℕ → ℕ → ℕ → ℕ → step.Step
 wantsStep h frame top waiting at = step-is.Going (wantsWalk h frame top waiting at)
@@ -166,19 +172,20 @@ typedEntry text place from′ count at X bodies h σ = typeFrom X (h .more) (h .
 abbrev pub namesTypedEntry : List ℕ → ℕ → LevelEntry
 namesTypedEntry text at X bodies h σ = namesTyped X bodies h σ (wordsAt text at)
 
--- the variable of a function that is taken apart, in its body before the dot, for the names of a list
-abbrev pub pairMadeEntry : List ℕ → ℕ → ℕ → ℕ → ℕ → ℕ → LevelEntry
-pairMadeEntry text round′ from′ count ty at X bodies h σ = pairMade (h .more) (h .scope) σ round′ (listedNames text from′ count) ty (wordsAt text at) (h .above)
+-- variable i of a type, in the body that the walk is at before `in` or a dot, for the names of a list
+abbrev pub listMadeEntry : List ℕ → ℕ → ℕ → ℕ → ℕ → ℕ → ℕ → LevelEntry
+listMadeEntry text round′ from′ count i ty at X bodies h σ = listMade (h .more) (h .scope) σ round′ (listedNames text from′ count) (from text from′) i ty (wordsAt text at) (h .above)
 
+-- a function whose variable is taken apart, before the dot
 abbrev pub pairInEntry : List ℕ → ℕ → ℕ → ℕ → ℕ → ℕ → LevelEntry
-pairInEntry text round′ from′ count ty at X bodies h σ = pairIn (h .more) (withVariables (h .scope) (bind (nameless round′) ty (h .scope .variables))) σ round′ (listedNames text from′ count) ty (wordsAt text at) (record { wish = ofFunction (nameless round′ ∷ []) ty; scope = h .scope } ∷ h .above)
+pairInEntry text round′ from′ count ty at X bodies h σ = listBelow (h .more) (withVariables (h .scope) (bind (nameless round′) ty (h .scope .variables))) σ round′ (listedNames text from′ count) (from text from′) (wordsAt text at) (record { wish = ofFunction (nameless round′ ∷ []) ty; scope = h .scope } ∷ h .above)
 
 abbrev pub pairBoundEntry : List ℕ → ℕ → ℕ → ℕ → ℕ → ℕ → ℕ → LevelEntry
 pairBoundEntry text place round′ from′ count ty at X bodies h σ = roomFor (h .scope) 1 place >>= λ _. pairInEntry text round′ from′ count ty at X bodies h σ
 
--- .. before the colon
+-- .. behind the colon
 abbrev pub pairTypedEntry : List ℕ → ℕ → ℕ → ℕ → ℕ → ℕ → LevelEntry
-pairTypedEntry text place round′ from′ count at X bodies h σ = typeFrom X (h .more) (h .scope) σ (behind (wordsAt text at)) >>= λ t. roomFor (h .scope) 1 place >>= λ _. pairIn (h .more) (withVariables (h .scope) (bind (nameless round′) (t .value .type) (h .scope .variables))) (t .value .state) round′ (listedNames text from′ count) (t .value .type) (t .rest) (record { wish = ofFunction (nameless round′ ∷ []) (t .value .type); scope = h .scope } ∷ h .above)
+pairTypedEntry text place round′ from′ count at X bodies h σ = typeFrom X (h .more) (h .scope) σ (wordsAt text at) >>= λ t. roomFor (h .scope) 1 place >>= λ _. listBelow (h .more) (withVariables (h .scope) (bind (nameless round′) (t .value .type) (h .scope .variables))) (t .value .state) round′ (listedNames text from′ count) (from text from′) (t .rest) (record { wish = ofFunction (nameless round′ ∷ []) (t .value .type); scope = h .scope } ∷ h .above)
 
 abbrev pub pairEntry : List ℕ → ℕ → ℕ → LevelEntry
 pairEntry text place at X bodies h σ = pairFrom X bodies h σ place (from text at)
@@ -201,13 +208,15 @@ abbrev pub valueEntry : List ℕ → ℕ → ℕ → ℕ → LevelEntry
 valueEntry text place name at X bodies h σ = good (askTerm h (valueOfName place (boundAt text name)) (h .scope) σ (behind (wordsAt text at)))
 
 abbrev pub valuesEntry : List ℕ → ℕ → ℕ → ℕ → ℕ → LevelEntry
-valuesEntry text place from′ count at X bodies h σ = good (askTerm h (valueOfNames place (listedNames text from′ count)) (h .scope) σ (behind (behind (wordsAt text at))))
+valuesEntry text place from′ count at X bodies h σ = good (askTerm h (valueOfNames place (listedNames text from′ count) (from text from′)) (h .scope) σ (wordsAt text at))
 
 -- behind `let (`, with the parenthesis the first of the words from an offset on
 abbrev pub namesEntry : List ℕ → ℕ → ℕ → LevelEntry
 namesEntry text place at X bodies h σ = do
-  xs ← listFrom nameAt (length (from text at)) (behind (from text at))
-  good (askTerm h (valueOfNames place (xs .value)) (h .scope) σ (behind (behind (xs .rest))))
+  xs ← listFrom headAt (length (from text at)) (behind (from text at))
+  ws₁ ← expect endRound (xs .rest)
+  ws₂ ← expect equals ws₁
+  good (askTerm h (valueOfNames place (xs .value) (behind (from text at))) (h .scope) σ ws₂)
 
 abbrev pub letEntry : List ℕ → ℕ → ℕ → LevelEntry
 letEntry text place at X bodies h σ = letFrom X bodies h σ place (from text at)
@@ -230,21 +239,58 @@ pub record CanNames (text : List ℕ) (h : Walk) (start at : ℕ) : Type 0 where
   pub rest : behind (wordsAt text (h .at)) ≡ from text at
   pub fewer : length (from text at) < length (wordsAt text (h .at))
 
--- names of a list stand at an offset, and no name begins at its parenthesis
+-- a name stands at a place, and no parenthesis
+pub record NameStands (text : List ℕ) (name : ℕ) : Type 0 where
+  pub inside : name ≤ length text
+  pub plain : nameIn text name ≡ runAt text name
+
+-- items of a list stand at an offset, behind its parenthesis
 pub record ListStands (text : List ℕ) (round′ from′ count : ℕ) : Type 0 where
   pub inside : round′ ≤ length text
-  pub bare : runAt text round′ ≡ []
-  pub names : NamesStand behind text from′ count
+  pub opens : getD text round′ 0 ≡ 40
+  pub names : NamesStand headAt behind text from′ count
   pub few : count < 65536
 
--- the first of the words from an offset on is a parenthesis, at a place where no name begins
+-- the first of the words from an offset on is a parenthesis, at a place
 pub record Opens (text : List ℕ) (round′ start at : ℕ) : Type 0 where
   pub place : round′ ≡ place (from text start)
   pub inside : round′ ≤ length text
-  pub bare : runAt text round′ ≡ []
+  pub opens : getD text round′ 0 ≡ 40
   pub lexed : Lexed text at
   pub rest : behind (from text start) ≡ from text at
   pub fewer : length (from text at) < length (from text start)
+
+-- behind the items of a list: the closing parenthesis, and the sign of a code
+abbrev pub closedBy : ℕ → List Word → Answer (List Word)
+closedBy code ws = expectCode 12 ws >>= λ us. expectCode code us
+
+-- ---- a body
+
+-- what the machine does at a body, with so many levels, in a scope
+abbrev pub BodyEntry : Type 0
+BodyEntry = ℕ → Scope → State → List TermLevel → Answer Terming
+
+-- the walk is at a body, with no level or more from it on
+pub record CanBody (text w : List ℕ) (n : Walk) : Type 0 where
+  pub X : Text
+  pub most : ℕ
+  pub bottom : ℕ
+  pub S : Scope
+  pub σ : State
+  pub K : List TermLevel
+  pub here : HereHeld text X most bottom w n S σ K
+
+pub record BodySays (text w : List ℕ) (n : Walk) (D : BodyEntry) (r : step.Step) (w′ : List ℕ) : Type 0 where
+  pub stepped : LevelWrites (n .more) (n .top) (n .waiting) w w′
+  pub says : (X : Text) (most bottom : ℕ) (S : Scope) (σ : State) (K : List TermLevel) → HereHeld text X most bottom w n S σ K → StepAnswers text X most bottom w′ r (D (n .more) S σ K)
+
+-- a list is taken apart in it
+abbrev pub listInBody : List ℕ → ℕ → ℕ → ℕ → ℕ → BodyEntry
+listInBody text round′ from′ count at more S σ K = listBelow more S σ round′ (listedNames text from′ count) (from text from′) (wordsAt text at) K
+
+-- .. the next list of those that begin at an offset, if there is one
+abbrev pub underListsBody : List ℕ → ℕ → ℕ → BodyEntry
+underListsBody text next at more S σ K = underLists more S σ (from text next) (wordsAt text at) K
 
 -- ---- a type at an offset of the walk
 

@@ -9,8 +9,9 @@ use term_parts::variables::Look;
 use walks::PutEnd;
 use walks::TypesEnd;
 ghost use mathlib.Core.Path.{_≡_};
-ghost use Prim.Native.Nat.{_+_, _≤_};
-ghost use lib.ListN.{length};
+ghost use Prim.Native.Nat.{_+_, _≤_, _<_};
+ghost use lib.ListN.{length, drop};
+ghost use Rattle.notation_calculus.specs.Words.{run};
 ghost use Rattle.notation_calculus.specs.Making.{mostEntries};
 ghost use Rattle.words.specs.Lexed.{Lexed};
 ghost use Rattle.term_walk.specs.Looks.{ReadableFrom};
@@ -84,7 +85,7 @@ fn put_term(text: &[u8], work: &mut [u16], h: Walk, s: Left, name: usize, at: us
 
 // A name without arguments: the nearest variable of its definition, or a definition.
 fn plain_at(text: &[u8], work: &mut [u16], h: Walk, s: Left, name: usize, at: usize) -> Step
-    requires { ⌜ (CanAtom (now text) (now work) h s) × ((Lexed (now text) at) × (name ≤ length (now text))) ⌝ }
+    requires { ⌜ (CanAtom (now text) (now work) h s) × ((Lexed (now text) at) × ((name ≤ length (now text)) × (0 < run (drop name (now text))))) ⌝ }
     ensures { λ r. ⌜ AtomSays (now (text .entry)) (now (work .entry)) h s (plainEntry (now (text .entry)) name at) r (now (work .exit)) ⌝ }
 {
     let v = term_parts::variables::variable_at(text, work, name, h.frame, h.top);
@@ -99,7 +100,7 @@ fn plain_at(text: &[u8], work: &mut [u16], h: Walk, s: Left, name: usize, at: us
 
 // Behind a name: arguments, or none.
 fn named_at(text: &[u8], work: &mut [u16], h: Walk, s: Left, name: usize, at: usize) -> Step
-    requires { ⌜ (CanAtom (now text) (now work) h s) × ((Lexed (now text) at) × (name ≤ length (now text))) ⌝ }
+    requires { ⌜ (CanAtom (now text) (now work) h s) × ((Lexed (now text) at) × ((name ≤ length (now text)) × (0 < run (drop name (now text))))) ⌝ }
     ensures { λ r. ⌜ AtomSays (now (text .entry)) (now (work .entry)) h s (namedEntry (now (text .entry)) name at) r (now (work .exit)) ⌝ }
 {
     let w = words::word_at(text, at);

@@ -1,6 +1,7 @@
 // Functions, fixed points and names for terms, when they are entered; `place` is that of the word that the level begins with.
 use crate::Step;
 use crate::Walk;
+use crate::lists;
 use crate::looks;
 use scopes::entries;
 use term_parts::bound;
@@ -10,14 +11,19 @@ use walks::TypeEnd;
 ghost use mathlib.Core.Path.{_≡_};
 ghost use Prim.Native.Nat.{_+_, _≤_, _<_};
 ghost use lib.ListN.{length};
-ghost use Rattle.notation_calculus.specs.Grammar.{behind};
+ghost use Rattle.notation_calculus.specs.Grammar.{behind, nameAt};
+ghost use Rattle.notation_machine.specs.Lists.{headAt};
 ghost use Rattle.notation_calculus.specs.Making.{mostEntries};
 ghost use Rattle.words.specs.Lexed.{from, Lexed};
 ghost use Rattle.term_parts.specs.Names.{NamesStand, spaced};
 ghost use Rattle.term_walk.specs.Looks.{ReadableFrom};
-ghost use Rattle.term_walk.specs.Steps.{CanEnter, EnterSays, CanBound, CanNames, ListStands, Opens, boundEntry, typedEntry, pairMadeEntry, pairBoundEntry, pairTypedEntry, pairEntry, functionEntry, fixBoundEntry, fixTypedEntry, fixEntry, valueEntry, valuesEntry, namesEntry, letEntry};
+ghost use Rattle.term_walk.specs.Steps.{CanEnter, EnterSays, CanBound, CanNames, NameStands, ListStands, Opens, boundEntry, typedEntry, pairBoundEntry, pairTypedEntry, pairEntry, functionEntry, fixBoundEntry, fixTypedEntry, fixEntry, valueEntry, valuesEntry, namesEntry, letEntry};
 
 const ROUND: u8 = 11;
+
+const EQUALS: u8 = 13;
+
+const COLON: u8 = 15;
 
 // ---- functions
 
@@ -32,7 +38,7 @@ fn bind_function(
     ty: u16,
     at: usize,
 ) -> Step
-    requires { ⌜ (CanBound (now text) (now work) h ty at) × (NamesStand spaced (now text) from count × (count < 65536)) ⌝ }
+    requires { ⌜ (CanBound (now text) (now work) h ty at) × (NamesStand nameAt spaced (now text) from count × (count < 65536)) ⌝ }
     ensures { λ r. ⌜ EnterSays (now (text .entry)) (now (work .entry)) h (boundEntry (now (text .entry)) place from count ty at) r (now (work .exit)) ⌝ }
 {
     if !entries::has_room(h.top, count) {
@@ -63,7 +69,7 @@ fn function_type(
     count: usize,
     at: usize,
 ) -> Step
-    requires { ⌜ (CanEnter (now text) (now work) h) × (ReadableFrom (now text) at × (NamesStand spaced (now text) from count × (count < 65536))) ⌝ }
+    requires { ⌜ (CanEnter (now text) (now work) h) × (ReadableFrom (now text) at × (NamesStand nameAt spaced (now text) from count × (count < 65536))) ⌝ }
     ensures { λ r. ⌜ EnterSays (now (text .entry)) (now (work .entry)) h (typedEntry (now (text .entry)) place from count at) r (now (work .exit)) ⌝ }
 {
     let colon = looks::look(text, at);
@@ -76,39 +82,7 @@ fn function_type(
 
 // ---- functions whose variable is taken apart
 
-// The variable is made, in the body of its function; the names of a list wait for it before the dot.
-fn pair_made(
-    text: &[u8],
-    work: &mut [u16],
-    h: Walk,
-    round: usize,
-    from: usize,
-    count: usize,
-    ty: u16,
-    at: usize,
-) -> Step
-    requires { ⌜ (CanBound (now text) (now work) h ty at) × ListStands (now text) round from count ⌝ }
-    ensures { λ r. ⌜ EnterSays (now (text .entry)) (now (work .entry)) h (pairMadeEntry (now (text .entry)) round from count ty at) r (now (work .exit)) ⌝ }
-{
-    if h.more == 1 {
-        return Step::Refused(34, round);
-    }
-    let l = Level {
-        form: crate::VALUE_OF_NAMES,
-        flag: 0,
-        place: round as u16,
-        count: count as u16,
-        node: 0,
-        ty: 0,
-        deep: 0,
-        next: from as u16,
-    };
-    let n = crate::below(work, h, l, h.frame, h.top, h.waiting, at);
-    let made = made_nodes::leaves::variable(work, 0, ty, round as u16);
-    crate::done(n, made, at)
-}
-
-// The type of the variable is there: it is bound without a name, if there is room, and the function waits for its body.
+// The type of the variable is there: it is bound, if there is room, and the function waits for its body, in which the list is taken apart.
 fn bind_pair(
     text: &[u8],
     work: &mut [u16],
@@ -126,9 +100,6 @@ fn bind_pair(
     if !entries::has_room(h.top, 1) {
         return Step::Refused(34, place);
     }
-    if h.more == 1 {
-        return Step::Refused(34, round);
-    }
     bound::bind_name(work, h.top, round, ty);
     let l = Level {
         form: crate::OF_FUNCTION,
@@ -141,10 +112,10 @@ fn bind_pair(
         next: 0,
     };
     let n = crate::below(work, h, l, h.frame, h.top + 1, h.waiting, at);
-    pair_made(text, work, n, round, from, count, ty, at)
+    lists::list_in(text, work, n, round, from, count, at)
 }
 
-// Behind the closing parenthesis: a colon, and the type of the variable.
+// Behind the colon: the type of the variable.
 fn pair_type(
     text: &[u8],
     work: &mut [u16],
@@ -158,15 +129,14 @@ fn pair_type(
     requires { ⌜ (CanEnter (now text) (now work) h) × (ReadableFrom (now text) at × ListStands (now text) round from count) ⌝ }
     ensures { λ r. ⌜ EnterSays (now (text .entry)) (now (work .entry)) h (pairTypedEntry (now (text .entry)) place round from count at) r (now (work .exit)) ⌝ }
 {
-    let colon = looks::look(text, at);
-    let t = looks::type_behind(text, work, colon.end, h.more - 1, h.frame, h.top);
+    let t = looks::type_behind(text, work, at, h.more - 1, h.frame, h.top);
     match t {
         TypeEnd::Refused(number, place) => Step::Refused(number, place),
         TypeEnd::At(ty, end) => bind_pair(text, work, h, place, round, from, count, ty, end),
     }
 }
 
-// Behind `fun (`, whose parenthesis is the first word from an offset on: names.
+// Behind `fun (`, whose parenthesis is the first word from an offset on: a list.
 fn pair_from(
     text: &[u8],
     work: &mut [u16],
@@ -183,8 +153,11 @@ fn pair_from(
     if x.number != 0 {
         return Step::Refused(x.number, x.end);
     }
-    let closing = looks::look(text, x.end);
-    pair_type(text, work, h, place, round, at, x.count, closing.end)
+    let c = lists::closed(text, x.end, COLON);
+    if c.number != 0 {
+        return Step::Refused(c.number, c.at);
+    }
+    pair_type(text, work, h, place, round, at, x.count, c.at)
 }
 
 // Behind `fun`: names, or names in parentheses.
@@ -215,7 +188,7 @@ fn bind_fix(
     ty: u16,
     at: usize,
 ) -> Step
-    requires { ⌜ (CanBound (now text) (now work) h ty at) × (name ≤ length (now text)) ⌝ }
+    requires { ⌜ (CanBound (now text) (now work) h ty at) × (NameStands (now text) name) ⌝ }
     ensures { λ r. ⌜ EnterSays (now (text .entry)) (now (work .entry)) h (fixBoundEntry (now (text .entry)) place name ty at) r (now (work .exit)) ⌝ }
 {
     if !entries::has_room(h.top, 1) {
@@ -238,7 +211,7 @@ fn bind_fix(
 
 // Behind a fixed point's name: a colon, and its type.
 fn fix_type(text: &[u8], work: &mut [u16], h: Walk, place: usize, name: usize, at: usize) -> Step
-    requires { ⌜ (CanEnter (now text) (now work) h) × (ReadableFrom (now text) at × (name ≤ length (now text))) ⌝ }
+    requires { ⌜ (CanEnter (now text) (now work) h) × (ReadableFrom (now text) at × (NameStands (now text) name)) ⌝ }
     ensures { λ r. ⌜ EnterSays (now (text .entry)) (now (work .entry)) h (fixTypedEntry (now (text .entry)) place name at) r (now (work .exit)) ⌝ }
 {
     let colon = looks::look(text, at);
@@ -265,7 +238,7 @@ pub fn fix_from(text: &[u8], work: &mut [u16], h: Walk, start: usize, at: usize)
 
 // The value of a name is wanted behind an equals sign.
 fn ask_value(text: &[u8], work: &mut [u16], h: Walk, place: usize, name: usize, at: usize) -> Step
-    requires { ⌜ (CanEnter (now text) (now work) h) × (ReadableFrom (now text) at × ((name ≤ length (now text)) × (place ≤ length (now text)))) ⌝ }
+    requires { ⌜ (CanEnter (now text) (now work) h) × (ReadableFrom (now text) at × ((NameStands (now text) name) × (place ≤ length (now text)))) ⌝ }
     ensures { λ r. ⌜ EnterSays (now (text .entry)) (now (work .entry)) h (valueEntry (now (text .entry)) place name at) r (now (work .exit)) ⌝ }
 {
     let equals = looks::look(text, at);
@@ -282,7 +255,7 @@ fn ask_value(text: &[u8], work: &mut [u16], h: Walk, place: usize, name: usize, 
     crate::ask(work, h, l, h.frame, h.top, h.waiting, equals.end)
 }
 
-// The value of names in parentheses is wanted behind the closing one and an equals sign.
+// The value of names in parentheses is wanted, behind the equals sign.
 fn ask_values(
     text: &[u8],
     work: &mut [u16],
@@ -292,11 +265,9 @@ fn ask_values(
     count: usize,
     at: usize,
 ) -> Step
-    requires { ⌜ (CanEnter (now text) (now work) h) × (ReadableFrom (now text) at × ((place ≤ length (now text)) × (NamesStand behind (now text) from count × (count < 65536)))) ⌝ }
+    requires { ⌜ (CanEnter (now text) (now work) h) × (ReadableFrom (now text) at × ((place ≤ length (now text)) × (NamesStand headAt behind (now text) from count × (count < 65536)))) ⌝ }
     ensures { λ r. ⌜ EnterSays (now (text .entry)) (now (work .entry)) h (valuesEntry (now (text .entry)) place from count at) r (now (work .exit)) ⌝ }
 {
-    let round = looks::look(text, at);
-    let equals = looks::look(text, round.end);
     let l = Level {
         form: crate::VALUE_OF_NAMES,
         flag: 0,
@@ -307,10 +278,10 @@ fn ask_values(
         deep: 0,
         next: from as u16,
     };
-    crate::ask(work, h, l, h.frame, h.top, h.waiting, equals.end)
+    crate::ask(work, h, l, h.frame, h.top, h.waiting, at)
 }
 
-// Behind `let (`, which begins at an offset: names.
+// Behind `let (`, whose parenthesis is the first word from an offset on: a list.
 fn names_from(text: &[u8], work: &mut [u16], h: Walk, place: usize, start: usize, at: usize) -> Step
     requires { ⌜ (CanEnter (now text) (now work) h) × ((place ≤ length (now text)) × ((Lexed (now text) at) × ((behind (from (now text) start) ≡ from (now text) at) × (length (from (now text) at) < length (from (now text) start))))) ⌝ }
     ensures { λ r. ⌜ EnterSays (now (text .entry)) (now (work .entry)) h (namesEntry (now (text .entry)) place start) r (now (work .exit)) ⌝ }
@@ -319,7 +290,11 @@ fn names_from(text: &[u8], work: &mut [u16], h: Walk, place: usize, start: usize
     if x.number != 0 {
         return Step::Refused(x.number, x.end);
     }
-    ask_values(text, work, h, place, at, x.count, x.end)
+    let c = lists::closed(text, x.end, EQUALS);
+    if c.number != 0 {
+        return Step::Refused(c.number, c.at);
+    }
+    ask_values(text, work, h, place, at, x.count, c.at)
 }
 
 // Behind `let` at a place: a name, or names in parentheses.

@@ -3,6 +3,7 @@ use crate::Left;
 use crate::Step;
 use crate::Walk;
 use crate::atoms;
+use crate::lists;
 use crate::looks;
 use made_nodes::Sub;
 use made_types::wide;
@@ -88,12 +89,11 @@ fn leave_value(text: &[u8], work: &mut [u16], h: Walk, l: Level, x: Sub) -> Step
     Step::Refused(34, wide(l.place))
 }
 
-// The value is taken apart, its names are bound, and the body is wanted behind `in`.
+// The value is taken apart and its names are bound, for the body; the next list in this one is taken apart there.
 fn take_apart(text: &[u8], work: &mut [u16], h: Walk, l: Level, x: Sub) -> Step
     requires { ⌜ (CanLeave (now text) (now work) h l x) × ((l .form ≡ 4) × (h .top + (l .count + l .count) ≤ mostEntries)) ⌝ }
     ensures { λ r. ⌜ LeaveSays (now (text .entry)) (now (work .entry)) h l x r (now (work .exit)) ⌝ }
 {
-    let within = looks::look(text, h.at);
     let a = apart::apart(text, work, wide(l.next), wide(l.count), h.top, h.waiting, x);
     match a {
         ApartEnd::Refused(number, place) => Step::Refused(number, place),
@@ -108,7 +108,8 @@ fn take_apart(text: &[u8], work: &mut [u16], h: Walk, l: Level, x: Sub) -> Step
                 deep: 0,
                 next: 0,
             };
-            crate::ask(work, h, after, h.frame, top, waiting, within.end)
+            let n = crate::below(work, h, after, h.frame, top, waiting, h.at);
+            lists::under_lists(text, work, n, wide(l.next), h.at)
         }
     }
 }

@@ -4,11 +4,12 @@ use made_nodes::Sub;
 use walk_levels::Around;
 use walk_levels::Level;
 ghost use mathlib.Core.Path.{_≡_};
-ghost use Rattle.term_walk.specs.Steps.{nothingSub, partLevel, doneStep, appliesStep, CanAskTerm, Below, Asks};
+ghost use Rattle.term_walk.specs.Steps.{nothingSub, walkAt, partLevel, doneStep, appliesStep, CanAskTerm, Below, Asks};
 
 pub mod atoms;
 pub mod binders;
 pub mod leaving;
+pub mod lists;
 pub mod looks;
 pub mod rounds;
 
@@ -120,6 +121,22 @@ pub fn below(
         frame,
         top,
         waiting,
+        place: 0,
+        sub: nothing(),
+        at,
+    }
+}
+
+// The walk itself, where a term is wanted at an offset.
+pub fn wanted(n: Walk, at: usize) -> Walk
+    ensures { λ r. ⌜ r ≡ walkAt n at ⌝ }
+{
+    Walk {
+        phase: WANTED,
+        more: n.more,
+        frame: n.frame,
+        top: n.top,
+        waiting: n.waiting,
         place: 0,
         sub: nothing(),
         at,

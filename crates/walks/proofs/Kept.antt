@@ -17,7 +17,7 @@ use Rattle.notation_calculus.specs.Grammar.{mostNested, Got, got, behind, typeA
 use Rattle.notation_calculus.specs.Making.{State, Entry, Scope, mostEntries, Made}
 use Rattle.notation_machine.specs.Bodies.{ReadsAs, AllRead}
 use Rattle.notation_machine.specs.TypeSteps.{AllShort}
-use Rattle.words.specs.Next.{runAt, nextOf, told}
+use Rattle.words.specs.Next.{runAt, nameIn, nextOf, told}
 use Rattle.words.specs.Lexed.{from, Lexed, Stands}
 use Rattle.words.proofs.LexLaws.{stands}
 use Rattle.making_memory.specs.Map.{typesAt, scopeAt, halvesAt, clausesAt, framesAt, typeCountAt, nodeCountAt, putCountAt, clauseCountAt, secondAt, levelsAt, makingSize}
@@ -28,7 +28,7 @@ use Rattle.made_nodes.proofs.Terms.{term-kept}
 use Rattle.clauses.specs.Rows.{bodyAt, rowIn, clauseOf, noClause, HoldsRows}
 use Rattle.clauses.specs.Texts.{HoldsClauses}
 use Rattle.scopes.specs.declared.frames.Frame.{Frame}
-use Rattle.scopes.specs.Entries.{placeIn, valueAt, entryIn, entriesBack, namedFrom, Places, OnlyEntries}
+use Rattle.scopes.specs.Entries.{placeIn, valueAt, entryIn, variableIn, entriesBack, namedFrom, Places, OnlyEntries}
 use Rattle.scopes.specs.Frames.{frameIn, HoldsParameters, HoldsScope}
 use Rattle.scopes.proofs.EntryLaws.{frame-parts}
 use Rattle.scopes.proofs.KeepLaws.{rows-kept}
@@ -193,9 +193,12 @@ module _ (text w w′ : List ℕ) (t : ℕ) (same : (j : ℕ) → scopeAt ≤ j 
   pub entry-on : (e : ℕ) → e < t → entryIn text w′ e ≡ entryIn text w e
   entry-on e h = ap (λ (j : ℕ). record { name = runAt text j; value = valueAt w′ e }) (place-on e h) ∙ ap (λ (j : ℕ). record { name = runAt text (placeIn w e); value = j }) (same (scopeAt + 2 * e + 1) (omega arith) (omega arith))
 
+  variable-on : (e : ℕ) → e < t → variableIn text w′ e ≡ variableIn text w e
+  variable-on e h = ap (λ (j : ℕ). record { name = nameIn text j; value = valueAt w′ e }) (place-on e h) ∙ ap (λ (j : ℕ). record { name = nameIn text (placeIn w e); value = j }) (same (scopeAt + 2 * e + 1) (omega arith) (omega arith))
+
   pub back-on : (n e : ℕ) → e + n ≤ t → entriesBack text w′ e n ≡ entriesBack text w e n
   back-on zero e h = refl
-  back-on (suc n) e h = ap (λ (x : Entry). x ∷ entriesBack text w′ e n) (entry-on (e + n) (omega arith)) ∙ ap (λ (xs : List Entry). entryIn text w (e + n) ∷ xs) (back-on n e (omega arith))
+  back-on (suc n) e h = ap (λ (x : Entry). x ∷ entriesBack text w′ e n) (variable-on (e + n) (omega arith)) ∙ ap (λ (xs : List Entry). variableIn text w (e + n) ∷ xs) (back-on n e (omega arith))
 
   pub named-on : (n e : ℕ) → e + n ≤ t → namedFrom text w′ e n ≡ namedFrom text w e n
   named-on zero e h = refl

@@ -354,76 +354,97 @@ module _ (text : List ℕ) (at : ℕ) (l : Lexed text at) where
   pub stands : (w : Said) → w ≡ told (nextOf text at) → Stands text at w
   stands w e = rw e (stands-by (nextOf text at) (next-case text at (l .within)))
 
--- ---- a parenthesis begins no name
+-- ---- where an opening parenthesis is the next word
 
--- a word of this code is no run of letters and digits
-abbrev Bare : List ℕ → Answer Read → Type 0
-Bare r (good w) = tokenCode (w .token) ≡ 11 → run r ≡ 0
-Bare r (refused why) = Unit {0}
+-- a word of this code begins with this byte
+abbrev Opens : List ℕ → Answer Read → Type 0
+Opens r (good w) = tokenCode (w .token) ≡ 11 → first r ≡ 40
+Opens r (refused why) = Unit {0}
 
-bare-named : (n : List ℕ) (rs : List Spelled) → coded 11 rs ≡ true → ¬ (tokenCode (named n rs) ≡ 11)
-bare-named n [] e = λ z. omega arith
-bare-named n (r ∷ rs) e = let c = coded-row 11 r rs e in by (sameName n (r .spelling)) (c .0) (bare-named n rs (c .1))
+open-named : (n : List ℕ) (rs : List Spelled) → coded 11 rs ≡ true → ¬ (tokenCode (named n rs) ≡ 11)
+open-named n [] e = λ z. omega arith
+open-named n (r ∷ rs) e = let c = coded-row 11 r rs e in by (sameName n (r .spelling)) (c .0) (open-named n rs (c .1))
   where
     by : (b : Bool) → ¬ (tokenCode (r .token) ≡ 11) → ¬ (tokenCode (named n rs) ≡ 11) → ¬ (tokenCode (cond b (r .token) (named n rs)) ≡ 11)
     by true h g = h
     by false h g = g
 
-bare-reserved : (n : List ℕ) → ¬ (tokenCode (named n reserved) ≡ 11)
+open-reserved : (n : List ℕ) → ¬ (tokenCode (named n reserved) ≡ 11)
 unfolding reserved
-bare-reserved n = bare-named n reserved refl
+open-reserved n = open-named n reserved refl
 
-bare-number : (r : List ℕ) (at n k : ℕ) (a b : Bool) → Bare r (need a 31 at >>= λ _. need b 34 at >>= λ _. good (record { token = number n; long = k }))
-bare-number r at n k true true = λ z. absurd (omega arith)
-bare-number r at n k true false = tt
-bare-number r at n k false b = tt
+open-number : (r : List ℕ) (at n k : ℕ) (a b : Bool) → Opens r (need a 31 at >>= λ _. need b 34 at >>= λ _. good (record { token = number n; long = k }))
+open-number r at n k true true = λ z. absurd (omega arith)
+open-number r at n k true false = tt
+open-number r at n k false b = tt
 
--- no sign begins with the mark that goes on a name
-bare-mark : (c : ℕ) (s : List ℕ) (at : ℕ) → c ≡ 39 → Bare (c ∷ s) (signAt signs (c ∷ s) at)
+-- rows of this code are spelled so
+abbrev opened : List Spelled → Bool
+opened [] = true
+opened (r ∷ rs) = cond (eqb (tokenCode (r .token)) 11) (beginsWith (40 ∷ []) (r .spelling)) true && opened rs
+
+begins-first : (c : ℕ) (s u : List ℕ) → beginsWith (c ∷ []) s ≡ true → beginsWith s u ≡ true → first u ≡ c
+begins-first c [] u e f = let z : _≡_ {A = ℕ} 0 1 = cc in absurd (omega arith)
+begins-first c (d ∷ s) [] e f = let z : _≡_ {A = ℕ} 0 1 = cc in absurd (omega arith)
+begins-first c (d ∷ s) (b ∷ u) e f = by (eqb c d) (eqb d b) refl refl e f
+  where
+    by : (x y : Bool) → eqb c d ≡ x → eqb d b ≡ y → (x && true) ≡ true → (y && beginsWith s u) ≡ true → b ≡ c
+    by true true g h e f = sym (eqb-true c d g ∙ eqb-true d b h)
+    by true false g h e f = let z : _≡_ {A = ℕ} 0 1 = cc in absurd (omega arith)
+    by false y g h e f = let z : _≡_ {A = ℕ} 0 1 = cc in absurd (omega arith)
+
+opened-row : (r : Spelled) (rs : List Spelled) → opened (r ∷ rs) ≡ true → (tokenCode (r .token) ≡ 11 → beginsWith (40 ∷ []) (r .spelling) ≡ true) × (opened rs ≡ true)
+opened-row r rs e = by (eqb (tokenCode (r .token)) 11) (beginsWith (40 ∷ []) (r .spelling)) refl e
+  where
+    by : (b x : Bool) → eqb (tokenCode (r .token)) 11 ≡ b → (cond b x true && opened rs) ≡ true → (tokenCode (r .token) ≡ 11 → x ≡ true) × (opened rs ≡ true)
+    by true true h e = (λ z. refl, e)
+    by true false h e = let z : _≡_ {A = ℕ} 0 1 = cc in absurd (omega arith)
+    by false x h e = (λ z. absurd (eqb-false (tokenCode (r .token)) 11 h z), e)
+
+open-sign-by : (s : List ℕ) (r : Spelled) (b : Bool) (m : Answer Read) → beginsWith (r .spelling) s ≡ b → (tokenCode (r .token) ≡ 11 → beginsWith (40 ∷ []) (r .spelling) ≡ true) → Opens s m → Opens s (cond b (good (record { token = r .token; long = length (r .spelling) })) m)
+open-sign-by s r true m e h o = λ z. begins-first 40 (r .spelling) s (h z) e
+open-sign-by s r false m e h o = o
+
+open-sign : (s : List ℕ) (at : ℕ) (rs : List Spelled) → opened rs ≡ true → Opens s (signAt rs s at)
+open-sign s at [] e = tt
+open-sign s at (r ∷ rs) e = let o = opened-row r rs e in open-sign-by s r (beginsWith (r .spelling) s) (signAt rs s at) refl (o .0) (open-sign s at rs (o .1))
+
+open-signs : (s : List ℕ) (at : ℕ) → Opens s (signAt signs s at)
 unfolding signs
-bare-mark c s at e = rw e tt
+open-signs s at = open-sign s at signs refl
 
-bare-stops : (r : List ℕ) → run r ≡ 0 → (m : Answer Read) → Bare r m
-bare-stops r e (good w) = λ z. e
-bare-stops r e (refused why) = tt
-
-bare-sign : (r : List ℕ) (at : ℕ) → digit (first r) ≡ false → letter (first r) ≡ false → Bare r (signAt signs r at)
-bare-sign [] at d l = bare-stops [] refl (signAt signs [] at)
-bare-sign (c ∷ s) at d l = by (eqb c 39) refl
-  where
-    by : (b : Bool) → eqb c 39 ≡ b → Bare (c ∷ s) (signAt signs (c ∷ s) at)
-    by true e = bare-mark c s at (eqb-true c 39 e)
-    by false e = bare-stops (c ∷ s) (ap (λ (b : Bool). cond (b || digit c || eqb c 39) (suc (run s)) 0) l ∙ ap (λ (b : Bool). cond (b || eqb c 39) (suc (run s)) 0) d ∙ ap (λ (b : Bool). cond b (suc (run s)) 0) e) (signAt signs (c ∷ s) at)
-
-word-bare : (r : List ℕ) (at : ℕ) → Bare r (wordAt r at)
+word-opens : (r : List ℕ) (at : ℕ) → Opens r (wordAt r at)
 unfolding wordAt
-word-bare r at = by (digit (first r)) (letter (first r)) refl refl
+word-opens r at = by (digit (first r)) (letter (first r))
   where
-    by : (d l : Bool) → digit (first r) ≡ d → letter (first r) ≡ l → Bare r (cond d (numberWord (take (run r) r) at) (cond l (good (record { token = named (take (run r) r) reserved; long = length (take (run r) r) })) (signAt signs r at)))
-    by true l e f = bare-number r at (valueFrom 0 (take (run r) r)) (length (take (run r) r)) (allDigits (take (run r) r)) (leb (valueFrom 0 (take (run r) r)) 255)
-    by false true e f = λ z. absurd (bare-reserved (take (run r) r) z)
-    by false false e f = bare-sign r at e f
+    by : (d l : Bool) → Opens r (cond d (numberWord (take (run r) r) at) (cond l (good (record { token = named (take (run r) r) reserved; long = length (take (run r) r) })) (signAt signs r at)))
+    by true l = open-number r at (valueFrom 0 (take (run r) r)) (length (take (run r) r)) (allDigits (take (run r) r)) (leb (valueFrom 0 (take (run r) r)) 255)
+    by false true = λ z. absurd (open-reserved (take (run r) r) z)
+    by false false = open-signs r at
 
 module _ (text : List ℕ) (at : ℕ) (inside : at ≤ length text) where
-  abbrev BareAt : List Word → Type 0
-  BareAt ws = tokenCode (peek ws .token) ≡ 11 → run (drop (peek ws .place) text) ≡ 0
+  abbrev OpensAt : List Word → Type 0
+  OpensAt ws = tokenCode (peek ws .token) ≡ 11 → first (drop (peek ws .place) text) ≡ 40
 
-  bare-joined : (w : Read) (from′ : ℕ) → (tokenCode (w .token) ≡ 11 → run (drop from′ text) ≡ 0) → (m : Answer (List Word)) → BareAt (valued (m >>= λ ws. good (record { token = w .token; place = from′ } ∷ ws)))
-  bare-joined w from′ h (good ws) = h
-  bare-joined w from′ h (refused why) = λ z. absurd (omega arith)
+  open-joined : (w : Read) (from′ : ℕ) → (tokenCode (w .token) ≡ 11 → first (drop from′ text) ≡ 40) → (m : Answer (List Word)) → OpensAt (valued (m >>= λ ws. good (record { token = w .token; place = from′ } ∷ ws)))
+  open-joined w from′ h (good ws) = h
+  open-joined w from′ h (refused why) = λ z. absurd (omega arith)
 
-  bare-behind : (m : Answer Read) → Bare (drop (start text at inside) text) m → BareAt (valued (behindWord (goOn text at inside) (drop (start text at inside) text) (start text at inside) m))
-  bare-behind (good w) h = bare-joined w (start text at inside) h (goOn text at inside (drop (w .long) (drop (start text at inside) text)) (start text at inside + w .long))
-  bare-behind (refused why) h = λ z. absurd (omega arith)
+  open-behind : (m : Answer Read) → Opens (drop (start text at inside) text) m → OpensAt (valued (behindWord (goOn text at inside) (drop (start text at inside) text) (start text at inside) m))
+  open-behind (good w) h = open-joined w (start text at inside) h (goOn text at inside (drop (w .long) (drop (start text at inside) text)) (start text at inside + w .long))
+  open-behind (refused why) h = λ z. absurd (omega arith)
 
-  -- where the first word from an offset on is an opening parenthesis, no name begins at its place
-  pub round-bare : tokenCode (peek (from text at) .token) ≡ 11 → run (drop (peek (from text at) .place) text) ≡ 0
+  open-first : OpensAt (from text at)
   unfolding from
-  round-bare = subst (λ (m : Answer (List Word)). BareAt (valued m)) (sym (lexed-is text at inside)) (by (eqb (length (drop (start text at inside) text)) 0))
+  open-first = subst (λ (m : Answer (List Word)). OpensAt (valued m)) (sym (lexed-is text at inside)) (by (eqb (length (drop (start text at inside) text)) 0))
     where
-      by : (b : Bool) → BareAt (valued (cond b (good (record { token = sign ends; place = start text at inside } ∷ [])) (behindWord (goOn text at inside) (drop (start text at inside) text) (start text at inside) (wordAt (drop (start text at inside) text) (start text at inside)))))
+      by : (b : Bool) → OpensAt (valued (cond b (good (record { token = sign ends; place = start text at inside } ∷ [])) (behindWord (goOn text at inside) (drop (start text at inside) text) (start text at inside) (wordAt (drop (start text at inside) text) (start text at inside)))))
       by true = λ z. absurd (omega arith)
-      by false = bare-behind (wordAt (drop (start text at inside) text) (start text at inside)) (word-bare (drop (start text at inside) text) (start text at inside))
+      by false = open-behind (wordAt (drop (start text at inside) text) (start text at inside)) (word-opens (drop (start text at inside) text) (start text at inside))
+
+  -- where the first word from an offset on is an opening parenthesis, its byte stands at its place
+  pub round-byte : tokenCode (peek (from text at) .token) ≡ 11 → getD text (peek (from text at) .place) 0 ≡ 40
+  round-byte z = at-front text (peek (from text at) .place) ∙ open-first z
 
 -- ---- the pass over all words
 

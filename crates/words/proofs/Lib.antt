@@ -7,3 +7,4 @@ pub mod ClassLaws
 pub mod KeyLaws
 pub mod NameKeyLaws
 pub mod ReservedLaws
+pub mod PlaceLaws

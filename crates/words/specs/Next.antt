@@ -3,9 +3,9 @@ use Prim.Native.Nat.{ℕ, _+_}
 use mathlib.Core.Bool.{Bool, false, cond}
 use mathlib.Core.List.{List, [], _∷_}
 use lib.Dec.{eqb}
-use lib.ListN.{length, take, drop}
+use lib.ListN.{length, getD, take, drop}
 use Rattle.calculus.specs.Answer.{Answer, good, refused}
-use Rattle.notation_calculus.specs.Words.{ends, Token, sign, inName, reserved, gap, run, Read, named, wordAt}
+use Rattle.notation_calculus.specs.Words.{Name, ends, Token, sign, inName, reserved, gap, run, Read, named, wordAt}
 use Rattle.words.specs.Tables.{tokenCode, tokenValue}
 use Rattle.words.specs.declared.Word.{Word}
 
@@ -27,6 +27,10 @@ goesOn (c ∷ s) = inName c
 -- the letters and digits from an offset on
 abbrev pub runAt : List ℕ → ℕ → List ℕ
 runAt text from = take (run (drop from text)) (drop from text)
+
+-- the name that a variable has whose entry stands for this place: at a parenthesis one that no text can have (`nameless`)
+abbrev pub nameIn : List ℕ → ℕ → Name
+nameIn text at = cond (eqb (getD text at 0) 40) ((256 + at) ∷ []) (runAt text at)
 
 abbrev pub namedAt : List ℕ → ℕ → Answer Read
 namedAt text from = good (record { token = named (runAt text from) reserved; long = length (runAt text from) })

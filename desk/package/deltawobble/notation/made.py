@@ -56,7 +56,7 @@ class Made:
         return self._origins.span(self.origins[node].word)
 
     def own(self) -> Own:
-        """The text's own names; a variable that it does not name is called rest, or whole."""
+        """The text's own names; a variable that it does not name is called rest, or whole, or after the names in its list."""
         return Own({number: origin.binds for number, origin in enumerate(self.origins) if origin.binds}, self.type_names)
 
     @cached_property

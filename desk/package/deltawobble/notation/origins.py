@@ -60,13 +60,18 @@ class Origins:
 
     def _binds(self, node: Node, number: int) -> list[str]:
         """The names that a node binds. What a projection leaves for the next one has no name in the text, and is called rest; nor has the variable of
-        `fun (x, y)`, which is called whole."""
-        word = lambda at: self.words.all[min(at, len(self.words.all) - 1)]
+        `fun (x, y)`, which is called whole; nor that of a list in a list, which is called after the names in it."""
         if node.kind in (0x13, 0x15, 0x19, 0x1B):
-            return ["whole" if word(number).kind == "(" else word(number).text]
+            return ["whole" if self.words.all[number].kind == "(" else self.words.all[number].text]
         if node.kind == 0x18:
-            return [word(number).text, word(number + 2).text if word(number + 3).kind == ")" else "rest"]
+            second = self.words.behind_atoms(number, 1) + 1
+            last = self.words.all[self.words.behind_atoms(second, 1)].kind == ")"
+            return [self._member(number), self._member(second) if last else "rest"]
         return []
+
+    def _member(self, number: int) -> str:
+        """What is bound where a name or a list stands: (x, (y, z)) is called x_y_z."""
+        return "_".join(word.text for word in self.words.all[number:self.words.behind_atoms(number, 1)] if word.kind == "name")
 
     # ---- definitions that are put in
 
@@ -84,7 +89,10 @@ class Origins:
         return Put(node.number, name.text, self.words.at(name.start), at)
 
     def _again(self, node: Node, above: Node, around: tuple[Put, ...]) -> bool:
-        """Whether a clause that knows itself is put in once more."""
+        """Whether a clause that knows itself is put in once more. No definition begins with a variable, though that of a list may stand where the clause's
+        first node does."""
+        if node.is_variable:
+            return False
         place, first = self.places[node.number], around[-1].node if around else 0
         if not self.words.clauses[self.words.clause_at(place)].numbers or place != self.places[first]:
             return False
@@ -99,6 +107,8 @@ class Origins:
         named_by_let = words.all[max(number - 1, 0)].kind == "let"
         if above.kind == 0x17:
             return number + 1 if last else words.before_comma(number)
+        if above.kind == 0x18 and last and words.binder_of(number) == "fun":
+            return words.next_of(words.next_of(number, ":"), ".") + 1
         if above.kind in (0x18, 0x1B):
             return words.behind_in(number) if last else words.next_of(number, "=") + 1
         if above.kind in (0x13, 0x15, 0x19):

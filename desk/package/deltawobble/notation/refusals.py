@@ -60,7 +60,7 @@ class Around:
             self.open.pop()
         elif top and word.kind in (":", "=") and top.word.kind in ("fun", "fix", "let"):
             top.behind = word.kind
-        elif word.kind == "name" and any(o.behind in ("fun", "fix", "let") for o in self.open[-2:]):
+        elif word.kind == "name" and self.binder() is not None:
             self.bound.append(word.text)
 
     # ---- what is said
@@ -104,9 +104,9 @@ class Around:
         binds = top is not None and (top.behind in ("fun", "fix", "let") or self.in_list())
         if kind == "part" and (binds or self.before and self.before.kind == "type" or not self.open and self.words.all[self.number + 1].kind == "="):
             return "%s is a part, and cannot name anything else" % self.word.text
-        if kind == ")" and self.in_list() and self.before and self.before.kind == "name":
-            taken = "let (x, y) = .." if self.open[-2].behind == "let" else "fun (x, y) : .."
-            return "%s takes a pair apart, and here is one name" % taken
+        if kind == ")" and self.in_list() and self.before and self.before.kind in ("name", ")"):
+            taken = {"let": "let (x, y) = ..", "fun": "fun (x, y) : .."}.get(self.open[-2].behind, "a list in a list")
+            return "%s takes a pair apart, and here is one %s" % (taken, "name" if self.before.kind == "name" else "list")
         if kind in ("fun", "fix", "let") and self.before and self.before.kind in ("name", "part", ")", "]", "}") and not binds:
             return "%s as an argument stands in parentheses" % kind
         if self.before and self.before.kind == "edition" and kind == "number":
@@ -115,9 +115,18 @@ class Around:
             return "the edition stands before all else"
         return ""
 
+    def binder(self) -> Optional[Open]:
+        """The `fun`, `fix` or `let` whose names stand here: they are not yet at its `:` or `=`, and only lists are open in it."""
+        top = next((o for o in reversed(self.open) if o.word.kind != "("), None)
+        return top if top is not None and top.behind in ("fun", "fix", "let") else None
+
     def in_list(self) -> bool:
-        """Whether names stand here that `let` or `fun` takes from a pair."""
-        return len(self.open) > 1 and self.open[-1].word.kind == "(" and self.open[-2].behind in ("let", "fun")
+        """Whether a list stands here that `let` or `fun` takes from a pair, or a list in such a list."""
+        binder = self.binder()
+        return binder is not None and binder is not self.open[-1] and binder.behind in ("let", "fun")
+
+    def begins_list(self) -> bool:
+        return self.word.kind == "(" and (self.in_list() or self.before is not None and self.before.kind in ("let", "fun"))
 
     def in_head(self) -> bool:
         return self.clause is not None and self.clause.first <= self.number < self.clause.body
@@ -136,7 +145,9 @@ class Around:
             return "a name is due behind %s" % before, ""
         if before in ("^", "+") or top and top.word.kind == "{" and before in ("{", ","):
             return ("a number is due" if before == "+" else "a number or the name of one is due"), ""
-        if (self.in_list() or self.in_head()) and before in ("(", ",", "["):
+        if self.in_list() and before in ("(", ","):
+            return "a name or a list is due", ""
+        if self.in_head() and before in ("(", ",", "["):
             return "a name is due", ""
         if before in TYPE_DUE or self.in_type() and before in ("=", "(", ","):
             return "a type is due", ""
@@ -147,7 +158,8 @@ class Around:
     def inside(self, top: Optional[Open]) -> tuple[str, str]:
         if top and top.word.kind in OPENS:
             span = self.text.span(top.word.start, top.word.end)
-            return "'%s' is due" % OPENS[top.word.kind], "the '%s' at %s is open" % (top.word.kind, self.text.place_words(span))
+            due = "',' or ')'" if self.in_list() else "'%s'" % OPENS[top.word.kind]
+            return "%s is due" % due, "the '%s' at %s is open" % (top.word.kind, self.text.place_words(span))
         if top and top.behind in ("fun", "fix"):
             return "':' is due behind the variable", ""
         if top and top.behind == ":":
@@ -213,6 +225,8 @@ class Around:
             return "main passes a limit: what its definitions cost is at most 32767", ""
         if self.clause and self.clause.name.start == self.word.start:
             return "this definition passes a limit: 256 clauses, or 32767 for what is put in", ""
+        if self.begins_list():
+            return "a limit is passed here: 80 terms or types in one another (each list is taken apart in one of its own), 1024 names in scope, a term 64 deep, 2048 nodes, or 256 types", ""
         if self.word.kind in ("fun", "fix", "let"):
             return "a limit is passed here: 80 terms or types in one another, or 1024 names in scope", ""
         return "a limit is passed here: %s" % nodes, ""

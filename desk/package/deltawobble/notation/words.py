@@ -157,6 +157,12 @@ class Words:
             number += 1
         return number
 
+    def binder_of(self, number: int) -> str:
+        """The word before the outermost list that a word stands in: `fun` or `let`."""
+        while number > 0 and self.all[number].kind in ("name", "(", ")", ","):
+            number -= 1
+        return self.all[number].kind
+
     def before_comma(self, number: int) -> int:
         """The first word of the term that ends at a comma of a pair."""
         depth = 0

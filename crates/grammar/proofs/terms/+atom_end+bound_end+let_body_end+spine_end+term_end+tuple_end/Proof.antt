@@ -39,7 +39,7 @@ use Rattle.grammar.proofs.terms.tuple_end.Reads as tuple-end
 use Rattle.grammar.proofs.terms.tuple_end.Kinds as tuple-end-kinds
 use Rattle.grammar.proofs.terms.+atom_end+bound_end+let_body_end+spine_end+term_end+tuple_end.Lts-tuple_end as tuple-end-lts
 use Rattle.grammar.proofs.heads.begins_atom.Reads as begins-atom-reads
-use Rattle.grammar.proofs.names.let_names_end.Reads as let-names-end-reads
+use Rattle.grammar.proofs.names.one_end.Reads as one-end-reads
 use Rattle.grammar.proofs.names.binds_end.Reads as binds-end-reads
 use Rattle.grammar.proofs.steps.expect.Reads as expect-reads
 use Rattle.grammar.proofs.steps.name_end.Reads as name-end-reads
@@ -440,8 +440,8 @@ term-end-word-at-requires : (t : ℕ) → term-end-lts.Need-word-at-requires (
   bound-end.Post,
   name-end-reads.Asked,
   name-end-reads.Learnt,
-  let-names-end-reads.Asked,
-  let-names-end-reads.Learnt,
+  one-end-reads.Asked,
+  one-end-reads.Learnt,
   let-body-end-below t,
   let-body-end.Post,
   spine-end-below t,
@@ -460,8 +460,8 @@ term-end-refused-requires : (t : ℕ) → term-end-lts.Need-refused-requires (
   bound-end.Post,
   name-end-reads.Asked,
   name-end-reads.Learnt,
-  let-names-end-reads.Asked,
-  let-names-end-reads.Learnt,
+  one-end-reads.Asked,
+  one-end-reads.Learnt,
   let-body-end-below t,
   let-body-end.Post,
   spine-end-below t,
@@ -480,8 +480,8 @@ term-end-returns : (t : ℕ) → term-end-lts.Need-returns (
   bound-end.Post,
   name-end-reads.Asked,
   name-end-reads.Learnt,
-  let-names-end-reads.Asked,
-  let-names-end-reads.Learnt,
+  one-end-reads.Asked,
+  one-end-reads.Learnt,
   let-body-end-below t,
   let-body-end.Post,
   spine-end-below t,
@@ -500,8 +500,8 @@ term-end-binds-end-requires : (t : ℕ) → term-end-lts.Need-binds-end-requires
   bound-end.Post,
   name-end-reads.Asked,
   name-end-reads.Learnt,
-  let-names-end-reads.Asked,
-  let-names-end-reads.Learnt,
+  one-end-reads.Asked,
+  one-end-reads.Learnt,
   let-body-end-below t,
   let-body-end.Post,
   spine-end-below t,
@@ -520,8 +520,8 @@ term-end-returns-2 : (t : ℕ) → term-end-lts.Need-returns-2 (
   bound-end.Post,
   name-end-reads.Asked,
   name-end-reads.Learnt,
-  let-names-end-reads.Asked,
-  let-names-end-reads.Learnt,
+  one-end-reads.Asked,
+  one-end-reads.Learnt,
   let-body-end-below t,
   let-body-end.Post,
   spine-end-below t,
@@ -540,8 +540,8 @@ term-end-sub-bound-end : (t : ℕ) → term-end-lts.Need-sub-bound-end (
   bound-end.Post,
   name-end-reads.Asked,
   name-end-reads.Learnt,
-  let-names-end-reads.Asked,
-  let-names-end-reads.Learnt,
+  one-end-reads.Asked,
+  one-end-reads.Learnt,
   let-body-end-below t,
   let-body-end.Post,
   spine-end-below t,
@@ -560,8 +560,8 @@ term-end-bound-end-requires : (t : ℕ) → term-end-lts.Need-bound-end-requires
   bound-end.Post,
   name-end-reads.Asked,
   name-end-reads.Learnt,
-  let-names-end-reads.Asked,
-  let-names-end-reads.Learnt,
+  one-end-reads.Asked,
+  one-end-reads.Learnt,
   let-body-end-below t,
   let-body-end.Post,
   spine-end-below t,
@@ -580,8 +580,8 @@ term-end-returns-3 : (t : ℕ) → term-end-lts.Need-returns-3 (
   bound-end.Post,
   name-end-reads.Asked,
   name-end-reads.Learnt,
-  let-names-end-reads.Asked,
-  let-names-end-reads.Learnt,
+  one-end-reads.Asked,
+  one-end-reads.Learnt,
   let-body-end-below t,
   let-body-end.Post,
   spine-end-below t,
@@ -600,8 +600,8 @@ term-end-name-end-requires : (t : ℕ) → term-end-lts.Need-name-end-requires (
   bound-end.Post,
   name-end-reads.Asked,
   name-end-reads.Learnt,
-  let-names-end-reads.Asked,
-  let-names-end-reads.Learnt,
+  one-end-reads.Asked,
+  one-end-reads.Learnt,
   let-body-end-below t,
   let-body-end.Post,
   spine-end-below t,
@@ -620,8 +620,8 @@ term-end-returns-4 : (t : ℕ) → term-end-lts.Need-returns-4 (
   bound-end.Post,
   name-end-reads.Asked,
   name-end-reads.Learnt,
-  let-names-end-reads.Asked,
-  let-names-end-reads.Learnt,
+  one-end-reads.Asked,
+  one-end-reads.Learnt,
   let-body-end-below t,
   let-body-end.Post,
   spine-end-below t,
@@ -640,8 +640,8 @@ term-end-sub-bound-end-2 : (t : ℕ) → term-end-lts.Need-sub-bound-end-2 (
   bound-end.Post,
   name-end-reads.Asked,
   name-end-reads.Learnt,
-  let-names-end-reads.Asked,
-  let-names-end-reads.Learnt,
+  one-end-reads.Asked,
+  one-end-reads.Learnt,
   let-body-end-below t,
   let-body-end.Post,
   spine-end-below t,
@@ -660,8 +660,8 @@ term-end-bound-end-requires-2 : (t : ℕ) → term-end-lts.Need-bound-end-requir
   bound-end.Post,
   name-end-reads.Asked,
   name-end-reads.Learnt,
-  let-names-end-reads.Asked,
-  let-names-end-reads.Learnt,
+  one-end-reads.Asked,
+  one-end-reads.Learnt,
   let-body-end-below t,
   let-body-end.Post,
   spine-end-below t,
@@ -680,8 +680,8 @@ term-end-returns-5 : (t : ℕ) → term-end-lts.Need-returns-5 (
   bound-end.Post,
   name-end-reads.Asked,
   name-end-reads.Learnt,
-  let-names-end-reads.Asked,
-  let-names-end-reads.Learnt,
+  one-end-reads.Asked,
+  one-end-reads.Learnt,
   let-body-end-below t,
   let-body-end.Post,
   spine-end-below t,
@@ -689,7 +689,7 @@ term-end-returns-5 : (t : ℕ) → term-end-lts.Need-returns-5 (
 ) (term-end-at t) term-end.Post
 term-end-returns-5 t c = along-last (c .before .before .before .before .before .before .before .before .before .before .before .args .text .now) (length (from (c .before .before .before .before .before .before .before .before .before .before .before .args .text .now) (c .before .before .before .before .before .before .before .before .before .before .before .args .at))) (termStep (c .before .before .before .before .before .before .before .before .before .before .before .args .more) (from (c .before .before .before .before .before .before .before .before .before .before .before .args .text .now) (c .before .before .before .before .before .before .before .before .before .before .before .args .at))) (λ us. boundEnd (termStep (c .before .before .before .before .before .before .before .before .before .before .before .args .more - 1)) (typeStep (c .before .before .before .before .before .before .before .before .before .before .before .args .more - 1) false) us) (c .before .before .before .name-end .result) (c .bound-end2 .result) (term-fix (c .before .before .before .before .before .before .before .before .before .before .before .args .text .now) (c .before .before .before .before .before .before .before .before .before .before .before .args .at) (c .before .before .before .before .before .before .before .before .before .before .before .args .more) (saidWord (c .before .before .before .before .before .before .before .before .before .word-at .result)) (c .before .before .before .before .before .before .before .before .before .word-at .ensures) (c .before .before .before .before .before .before .before .before .if1 .left) (c .before .before .before .before .before .before .if2 .left) (c .before .before .before .before .if4 .taken) (c .before .before .before .name-end .result) (c .before .before .before .name-end .ensures)) (c .before .if5 .left) (c .bound-end2 .ensures)
 
-term-end-let-names-end-requires : (t : ℕ) → term-end-lts.Need-let-names-end-requires (
+term-end-one-end-requires : (t : ℕ) → term-end-lts.Need-one-end-requires (
   word-at-reads.Asked,
   word-at-reads.Learnt,
   refused-reads.Asked,
@@ -700,14 +700,14 @@ term-end-let-names-end-requires : (t : ℕ) → term-end-lts.Need-let-names-end-
   bound-end.Post,
   name-end-reads.Asked,
   name-end-reads.Learnt,
-  let-names-end-reads.Asked,
-  let-names-end-reads.Learnt,
+  one-end-reads.Asked,
+  one-end-reads.Learnt,
   let-body-end-below t,
   let-body-end.Post,
   spine-end-below t,
   spine-end.Post,
 ) (term-end-at t) term-end.Post
-term-end-let-names-end-requires t c κs = c .before .before .before .before .before .before .before .word-at .ensures .onward (λ z. omega (arith, c .if6 .taken)) .lexed
+term-end-one-end-requires t c κs = c .before .before .before .before .before .before .before .word-at .ensures .onward (λ z. omega (arith, c .if6 .taken)) .lexed
 
 term-end-returns-6 : (t : ℕ) → term-end-lts.Need-returns-6 (
   word-at-reads.Asked,
@@ -720,14 +720,14 @@ term-end-returns-6 : (t : ℕ) → term-end-lts.Need-returns-6 (
   bound-end.Post,
   name-end-reads.Asked,
   name-end-reads.Learnt,
-  let-names-end-reads.Asked,
-  let-names-end-reads.Learnt,
+  one-end-reads.Asked,
+  one-end-reads.Learnt,
   let-body-end-below t,
   let-body-end.Post,
   spine-end-below t,
   spine-end.Post,
 ) (term-end-at t) term-end.Post
-term-end-returns-6 t c = along-stop (c .before .before .before .before .before .before .before .before .before .before .before .before .args .text .now) (length (from (c .before .before .before .before .before .before .before .before .before .before .before .before .args .text .now) (c .before .before .before .before .before .before .before .before .before .before .before .before .args .at))) (termStep (c .before .before .before .before .before .before .before .before .before .before .before .before .args .more) (from (c .before .before .before .before .before .before .before .before .before .before .before .before .args .text .now) (c .before .before .before .before .before .before .before .before .before .before .before .before .args .at))) (λ us. letBodyEnd (termStep (c .before .before .before .before .before .before .before .before .before .before .before .before .args .more - 1)) us) (c .before .before .let-names-end .result) (term-let (c .before .before .before .before .before .before .before .before .before .before .before .before .args .text .now) (c .before .before .before .before .before .before .before .before .before .before .before .before .args .at) (c .before .before .before .before .before .before .before .before .before .before .before .before .args .more) (saidWord (c .before .before .before .before .before .before .before .before .before .before .word-at .result)) (c .before .before .before .before .before .before .before .before .before .before .word-at .ensures) (c .before .before .before .before .before .before .before .before .before .if1 .left) (c .before .before .before .before .before .before .before .if2 .left) (c .before .before .before .before .before .if4 .left) (c .before .before .before .if6 .taken) (c .before .before .let-names-end .result) (c .before .before .let-names-end .ensures)) (c .if7 .taken)
+term-end-returns-6 t c = along-stop (c .before .before .before .before .before .before .before .before .before .before .before .before .args .text .now) (length (from (c .before .before .before .before .before .before .before .before .before .before .before .before .args .text .now) (c .before .before .before .before .before .before .before .before .before .before .before .before .args .at))) (termStep (c .before .before .before .before .before .before .before .before .before .before .before .before .args .more) (from (c .before .before .before .before .before .before .before .before .before .before .before .before .args .text .now) (c .before .before .before .before .before .before .before .before .before .before .before .before .args .at))) (λ us. letBodyEnd (termStep (c .before .before .before .before .before .before .before .before .before .before .before .before .args .more - 1)) us) (c .before .before .one-end .result) (term-let (c .before .before .before .before .before .before .before .before .before .before .before .before .args .text .now) (c .before .before .before .before .before .before .before .before .before .before .before .before .args .at) (c .before .before .before .before .before .before .before .before .before .before .before .before .args .more) (saidWord (c .before .before .before .before .before .before .before .before .before .before .word-at .result)) (c .before .before .before .before .before .before .before .before .before .before .word-at .ensures) (c .before .before .before .before .before .before .before .before .before .if1 .left) (c .before .before .before .before .before .before .before .if2 .left) (c .before .before .before .before .before .if4 .left) (c .before .before .before .if6 .taken) (c .before .before .one-end .result) (c .before .before .one-end .ensures)) (c .if7 .taken)
 
 term-end-sub-let-body-end : (t : ℕ) → term-end-lts.Need-sub-let-body-end (
   word-at-reads.Asked,
@@ -740,8 +740,8 @@ term-end-sub-let-body-end : (t : ℕ) → term-end-lts.Need-sub-let-body-end (
   bound-end.Post,
   name-end-reads.Asked,
   name-end-reads.Learnt,
-  let-names-end-reads.Asked,
-  let-names-end-reads.Learnt,
+  one-end-reads.Asked,
+  one-end-reads.Learnt,
   let-body-end-below t,
   let-body-end.Post,
   spine-end-below t,
@@ -760,14 +760,14 @@ term-end-let-body-end-requires : (t : ℕ) → term-end-lts.Need-let-body-end-re
   bound-end.Post,
   name-end-reads.Asked,
   name-end-reads.Learnt,
-  let-names-end-reads.Asked,
-  let-names-end-reads.Learnt,
+  one-end-reads.Asked,
+  one-end-reads.Learnt,
   let-body-end-below t,
   let-body-end.Post,
   spine-end-below t,
   spine-end.Post,
 ) (term-end-at t) term-end.Post
-term-end-let-body-end-requires t c κs = (omega (arith, c .before .before .before .before .before .before .before .before .before .before .before .before .pre .0, c .before .before .before .before .before .before .before .before .before .if1 .left), along-lexed (c .before .before .before .before .before .before .before .before .before .before .before .before .args .text .now) (length (from (c .before .before .before .before .before .before .before .before .before .before .before .before .args .text .now) (c .before .before .before .before .before .before .before .before .before .before .before .before .args .at))) (termStep (c .before .before .before .before .before .before .before .before .before .before .before .before .args .more) (from (c .before .before .before .before .before .before .before .before .before .before .before .before .args .text .now) (c .before .before .before .before .before .before .before .before .before .before .before .before .args .at))) (λ us. letBodyEnd (termStep (c .before .before .before .before .before .before .before .before .before .before .before .before .args .more - 1)) us) (c .before .before .let-names-end .result) (term-let (c .before .before .before .before .before .before .before .before .before .before .before .before .args .text .now) (c .before .before .before .before .before .before .before .before .before .before .before .before .args .at) (c .before .before .before .before .before .before .before .before .before .before .before .before .args .more) (saidWord (c .before .before .before .before .before .before .before .before .before .before .word-at .result)) (c .before .before .before .before .before .before .before .before .before .before .word-at .ensures) (c .before .before .before .before .before .before .before .before .before .if1 .left) (c .before .before .before .before .before .before .before .if2 .left) (c .before .before .before .before .before .if4 .left) (c .before .before .before .if6 .taken) (c .before .before .let-names-end .result) (c .before .before .let-names-end .ensures)) (c .if7 .left))
+term-end-let-body-end-requires t c κs = (omega (arith, c .before .before .before .before .before .before .before .before .before .before .before .before .pre .0, c .before .before .before .before .before .before .before .before .before .if1 .left), along-lexed (c .before .before .before .before .before .before .before .before .before .before .before .before .args .text .now) (length (from (c .before .before .before .before .before .before .before .before .before .before .before .before .args .text .now) (c .before .before .before .before .before .before .before .before .before .before .before .before .args .at))) (termStep (c .before .before .before .before .before .before .before .before .before .before .before .before .args .more) (from (c .before .before .before .before .before .before .before .before .before .before .before .before .args .text .now) (c .before .before .before .before .before .before .before .before .before .before .before .before .args .at))) (λ us. letBodyEnd (termStep (c .before .before .before .before .before .before .before .before .before .before .before .before .args .more - 1)) us) (c .before .before .one-end .result) (term-let (c .before .before .before .before .before .before .before .before .before .before .before .before .args .text .now) (c .before .before .before .before .before .before .before .before .before .before .before .before .args .at) (c .before .before .before .before .before .before .before .before .before .before .before .before .args .more) (saidWord (c .before .before .before .before .before .before .before .before .before .before .word-at .result)) (c .before .before .before .before .before .before .before .before .before .before .word-at .ensures) (c .before .before .before .before .before .before .before .before .before .if1 .left) (c .before .before .before .before .before .before .before .if2 .left) (c .before .before .before .before .before .if4 .left) (c .before .before .before .if6 .taken) (c .before .before .one-end .result) (c .before .before .one-end .ensures)) (c .if7 .left))
 
 term-end-returns-7 : (t : ℕ) → term-end-lts.Need-returns-7 (
   word-at-reads.Asked,
@@ -780,14 +780,14 @@ term-end-returns-7 : (t : ℕ) → term-end-lts.Need-returns-7 (
   bound-end.Post,
   name-end-reads.Asked,
   name-end-reads.Learnt,
-  let-names-end-reads.Asked,
-  let-names-end-reads.Learnt,
+  one-end-reads.Asked,
+  one-end-reads.Learnt,
   let-body-end-below t,
   let-body-end.Post,
   spine-end-below t,
   spine-end.Post,
 ) (term-end-at t) term-end.Post
-term-end-returns-7 t c = along-last (c .before .before .before .before .before .before .before .before .before .before .before .before .before .args .text .now) (length (from (c .before .before .before .before .before .before .before .before .before .before .before .before .before .args .text .now) (c .before .before .before .before .before .before .before .before .before .before .before .before .before .args .at))) (termStep (c .before .before .before .before .before .before .before .before .before .before .before .before .before .args .more) (from (c .before .before .before .before .before .before .before .before .before .before .before .before .before .args .text .now) (c .before .before .before .before .before .before .before .before .before .before .before .before .before .args .at))) (λ us. letBodyEnd (termStep (c .before .before .before .before .before .before .before .before .before .before .before .before .before .args .more - 1)) us) (c .before .before .before .let-names-end .result) (c .let-body-end .result) (term-let (c .before .before .before .before .before .before .before .before .before .before .before .before .before .args .text .now) (c .before .before .before .before .before .before .before .before .before .before .before .before .before .args .at) (c .before .before .before .before .before .before .before .before .before .before .before .before .before .args .more) (saidWord (c .before .before .before .before .before .before .before .before .before .before .before .word-at .result)) (c .before .before .before .before .before .before .before .before .before .before .before .word-at .ensures) (c .before .before .before .before .before .before .before .before .before .before .if1 .left) (c .before .before .before .before .before .before .before .before .if2 .left) (c .before .before .before .before .before .before .if4 .left) (c .before .before .before .before .if6 .taken) (c .before .before .before .let-names-end .result) (c .before .before .before .let-names-end .ensures)) (c .before .if7 .left) (c .let-body-end .ensures)
+term-end-returns-7 t c = along-last (c .before .before .before .before .before .before .before .before .before .before .before .before .before .args .text .now) (length (from (c .before .before .before .before .before .before .before .before .before .before .before .before .before .args .text .now) (c .before .before .before .before .before .before .before .before .before .before .before .before .before .args .at))) (termStep (c .before .before .before .before .before .before .before .before .before .before .before .before .before .args .more) (from (c .before .before .before .before .before .before .before .before .before .before .before .before .before .args .text .now) (c .before .before .before .before .before .before .before .before .before .before .before .before .before .args .at))) (λ us. letBodyEnd (termStep (c .before .before .before .before .before .before .before .before .before .before .before .before .before .args .more - 1)) us) (c .before .before .before .one-end .result) (c .let-body-end .result) (term-let (c .before .before .before .before .before .before .before .before .before .before .before .before .before .args .text .now) (c .before .before .before .before .before .before .before .before .before .before .before .before .before .args .at) (c .before .before .before .before .before .before .before .before .before .before .before .before .before .args .more) (saidWord (c .before .before .before .before .before .before .before .before .before .before .before .word-at .result)) (c .before .before .before .before .before .before .before .before .before .before .before .word-at .ensures) (c .before .before .before .before .before .before .before .before .before .before .if1 .left) (c .before .before .before .before .before .before .before .before .if2 .left) (c .before .before .before .before .before .before .if4 .left) (c .before .before .before .before .if6 .taken) (c .before .before .before .one-end .result) (c .before .before .before .one-end .ensures)) (c .before .if7 .left) (c .let-body-end .ensures)
 
 term-end-sub-spine-end : (t : ℕ) → term-end-lts.Need-sub-spine-end (
   word-at-reads.Asked,
@@ -800,8 +800,8 @@ term-end-sub-spine-end : (t : ℕ) → term-end-lts.Need-sub-spine-end (
   bound-end.Post,
   name-end-reads.Asked,
   name-end-reads.Learnt,
-  let-names-end-reads.Asked,
-  let-names-end-reads.Learnt,
+  one-end-reads.Asked,
+  one-end-reads.Learnt,
   let-body-end-below t,
   let-body-end.Post,
   spine-end-below t,
@@ -820,8 +820,8 @@ term-end-spine-end-requires : (t : ℕ) → term-end-lts.Need-spine-end-requires
   bound-end.Post,
   name-end-reads.Asked,
   name-end-reads.Learnt,
-  let-names-end-reads.Asked,
-  let-names-end-reads.Learnt,
+  one-end-reads.Asked,
+  one-end-reads.Learnt,
   let-body-end-below t,
   let-body-end.Post,
   spine-end-below t,
@@ -840,8 +840,8 @@ term-end-returns-8 : (t : ℕ) → term-end-lts.Need-returns-8 (
   bound-end.Post,
   name-end-reads.Asked,
   name-end-reads.Learnt,
-  let-names-end-reads.Asked,
-  let-names-end-reads.Learnt,
+  one-end-reads.Asked,
+  one-end-reads.Learnt,
   let-body-end-below t,
   let-body-end.Post,
   spine-end-below t,
@@ -1037,8 +1037,8 @@ pub +atom-end+bound-end+let-body-end+spine-end+term-end+tuple-end-spec : {M : Ty
       bound-end.Post,
       name-end-reads.Asked,
       name-end-reads.Learnt,
-      let-names-end-reads.Asked,
-      let-names-end-reads.Learnt,
+      one-end-reads.Asked,
+      one-end-reads.Learnt,
       let-body-end-below t,
       let-body-end.Post,
       spine-end-below t,
@@ -1059,7 +1059,7 @@ pub +atom-end+bound-end+let-body-end+spine-end+term-end+tuple-end-spec : {M : Ty
     (term-end-sub-bound-end-2 t)
     (term-end-bound-end-requires-2 t)
     (term-end-returns-5 t)
-    (term-end-let-names-end-requires t)
+    (term-end-one-end-requires t)
     (term-end-returns-6 t)
     (term-end-sub-let-body-end t)
     (term-end-let-body-end-requires t)

@@ -41,7 +41,7 @@ returns-2 : tie.Need-returns-2
 returns-2 c = atom-part (c .before .before .before .before .before .before .before .before .before .before .before .before .before .before .before .before .before .args .text .now) (c .before .before .before .before .before .before .before .before .before .before .before .before .before .before .before .before .before .args .work .now) (c .before .before .before .before .before .before .before .before .before .before .before .before .before .before .before .before .before .args .h) (c .before .before .before .before .before .before .before .before .before .before .before .before .before .before .before .before .before .args .s) (c .before .before .before .before .before .before .before .before .before .before .before .before .before .before .look .result) (c .before .before .before .before .before .before .before .before .before .before .before .before .before .before .look .ensures) (enter-room (c .before .before .before .before .before .before .before .before .before .before .before .before .before .before .before .before .before .args .text .now) (c .before .before .before .before .before .before .before .before .before .before .before .before .before .before .before .before .before .args .work .now) (c .before .before .before .before .before .before .before .before .before .before .before .before .before .before .before .before .before .args .h) (c .before .before .before .before .before .before .before .before .before .before .before .before .before .before .before .before .before .pre .0 .can) .0) (enter-room (c .before .before .before .before .before .before .before .before .before .before .before .before .before .before .before .before .before .args .text .now) (c .before .before .before .before .before .before .before .before .before .before .before .before .before .before .before .before .before .args .work .now) (c .before .before .before .before .before .before .before .before .before .before .before .before .before .before .before .before .before .args .h) (c .before .before .before .before .before .before .before .before .before .before .before .before .before .before .before .before .before .pre .0 .can) .1) (c .before .before .before .before .before .before .before .before .before .before .if2 .taken) _ _ (c .before .before .before .before .before .before .part .ensures) _ _ (c .before .before .behind-made .ensures)
 
 named-at-requires : tie.Need-named-at-requires
-named-at-requires c κs = (c .before .before .before .before .before .before .before .before .before .before .pre .0, (c .before .before .before .before .before .before .before .look .ensures .onward (λ z. absurd (omega (arith, z, c .before .if3 .taken))), c .before .before .before .before .before .before .before .look .ensures .inside))
+named-at-requires c κs = (c .before .before .before .before .before .before .before .before .before .before .pre .0, (c .before .before .before .before .before .before .before .look .ensures .onward (λ z. absurd (omega (arith, z, c .before .if3 .taken))), (c .before .before .before .before .before .before .before .look .ensures .inside, c .before .before .before .before .before .before .before .look .ensures .long (c .before .if3 .taken))))
 
 same-length-3 : tie.Need-same-length-3
 same-length-3 c = search needs

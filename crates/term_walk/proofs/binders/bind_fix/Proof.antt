@@ -20,7 +20,7 @@ look-requires : tie.Need-look-requires
 look-requires c κs = search needs
 
 bind-name-requires : tie.Need-bind-name-requires
-bind-name-requires c κs = ((leb-less (c .before .before .before .before .before .before .args .h .top) 1024 (sym (c .before .before .before .has-room .ensures) ∙ not-no _ (c .before .before .if1 .left))), (c .before .before .before .before .before .before .pre .0 .can .here .scope .walkable .room, omega (arith, c .before .before .before .before .before .before .pre .1, c .before .before .before .before .before .before .pre .0 .can .here .scope .walkable .short)))
+bind-name-requires c κs = ((leb-less (c .before .before .before .before .before .before .args .h .top) 1024 (sym (c .before .before .before .has-room .ensures) ∙ not-no _ (c .before .before .if1 .left))), (c .before .before .before .before .before .before .pre .0 .can .here .scope .walkable .room, omega (arith, c .before .before .before .before .before .before .pre .1 .inside, c .before .before .before .before .before .before .pre .0 .can .here .scope .walkable .short)))
 
 cast-t15 : tie.Need-cast-t15
 cast-t15 c = search needs

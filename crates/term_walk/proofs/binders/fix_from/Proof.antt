@@ -13,7 +13,7 @@ returns : tie.Need-returns
 returns c = fix-refused (c .before .before .before .before .before .args .text .now) (c .before .before .before .before .before .args .work .now) (c .before .before .before .before .before .args .h) (c .before .before .before .before .before .args .start) (c .before .before .before .before .before .args .at) (c .before .before .before .before .before .pre .1) (c .before .before .name-at .result) (c .before .before .name-at .ensures) (c .if1 .taken)
 
 fix-type-requires : tie.Need-fix-type-requires
-fix-type-requires c κs = (c .before .before .before .before .before .before .pre .0, ((λ _. c .before .before .before .name-at .ensures .onward (c .before .if1 .left) .lexed), omega (arith, c .before .before .before .name-at .ensures .inside (c .before .if1 .left))))
+fix-type-requires c κs = (c .before .before .before .before .before .before .pre .0, ((λ _. c .before .before .before .name-at .ensures .onward (c .before .if1 .left) .lexed), record { inside = omega (arith, c .before .before .before .name-at .ensures .inside (c .before .if1 .left)); plain = c .before .before .before .name-at .ensures .plain (c .before .if1 .left) }))
 
 same-length : tie.Need-same-length
 same-length c = search needs

@@ -25,7 +25,7 @@ returns-2 : tie.Need-returns-2
 returns-2 c = let-refused (c .before .before .before .before .before .before .before .before .args .text .now) (c .before .before .before .before .before .before .before .before .args .work .now) (c .before .before .before .before .before .before .before .before .args .h) (c .before .before .before .before .before .before .before .before .args .place) (c .before .before .before .before .before .before .before .before .args .at) (c .before .before .before .before .before .word-at .result) (c .before .before .before .before .before .word-at .ensures) (c .before .before .before .if1 .left) (c .before .before .name-at .result) (c .before .before .name-at .ensures) (c .if2 .taken)
 
 ask-value-requires : tie.Need-ask-value-requires
-ask-value-requires c κs = (c .before .before .before .before .before .before .before .before .before .pre .0, ((λ _. c .before .before .before .name-at .ensures .onward (c .before .if2 .left) .lexed), (omega (arith, c .before .before .before .name-at .ensures .inside (c .before .if2 .left)), c .before .before .before .before .before .before .before .before .before .pre .1 .0)))
+ask-value-requires c κs = (c .before .before .before .before .before .before .before .before .before .pre .0, ((λ _. c .before .before .before .name-at .ensures .onward (c .before .if2 .left) .lexed), (record { inside = omega (arith, c .before .before .before .name-at .ensures .inside (c .before .if2 .left)); plain = c .before .before .before .name-at .ensures .plain (c .before .if2 .left) }, c .before .before .before .before .before .before .before .before .before .pre .1 .0)))
 
 same-length-2 : tie.Need-same-length-2
 same-length-2 c = search needs

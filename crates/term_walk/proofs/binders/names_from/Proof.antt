@@ -1,6 +1,5 @@
--- The names are those of `listFrom nameAt`. Assumes nothing.
-use Rattle.term_walk.proofs.BinderLaws.{names-refused, names-named}
-use Rattle.term_walk.proofs.BinderLaws.{names-refused, names-named}
+-- The items are those of `listFrom headAt`, and `)` and `=` stand behind them. Assumes nothing.
+use Rattle.term_walk.proofs.BinderLaws.{names-refused, names-open, names-named}
 use native.Mathlib.Omega.{arith}
 use borrow.Author.Needs.{needs}
 use Rattle.term_walk.proofs.binders.names_from.Statement.{statement}
@@ -12,15 +11,29 @@ count-listed-requires c κs = search needs
 returns : tie.Need-returns
 returns c = names-refused (c .before .before .before .before .before .args .text .now) (c .before .before .before .before .before .args .work .now) (c .before .before .before .before .before .args .h) (c .before .before .before .before .before .args .place) (c .before .before .before .before .before .args .start) (c .before .before .before .before .before .args .at) (c .before .before .before .before .before .pre .1 .1 .1 .0) (c .before .before .before .before .before .pre .1 .1 .1 .1) (c .before .before .count-listed .result) (c .before .before .count-listed .ensures) (c .if1 .taken)
 
+closed-requires : tie.Need-closed-requires
+closed-requires c κs = (c .before .before .count-listed .ensures .lexed (c .if1 .left), omega arith)
+
+returns-2 : tie.Need-returns-2
+returns-2 c = names-open (c .before .before .before .before .before .before .before .before .args .text .now) (c .before .before .before .before .before .before .before .before .args .work .now) (c .before .before .before .before .before .before .before .before .args .h) (c .before .before .before .before .before .before .before .before .args .place) (c .before .before .before .before .before .before .before .before .args .start) (c .before .before .before .before .before .before .before .before .args .at) (c .before .before .before .before .before .before .before .before .pre .1 .1 .1 .0) (c .before .before .before .before .before .before .before .before .pre .1 .1 .1 .1) (c .before .before .before .before .before .count-listed .result) (c .before .before .before .before .before .count-listed .ensures) (c .before .before .before .if1 .left) (c .before .before .closed .result) (c .before .before .closed .ensures) (c .if2 .taken)
+
 ask-values-requires : tie.Need-ask-values-requires
-ask-values-requires c κs = (c .before .before .before .before .before .before .pre .0, ((λ _. c .before .before .before .count-listed .ensures .lexed (c .before .if1 .left)), (c .before .before .before .before .before .before .pre .1 .0, (c .before .before .before .count-listed .ensures .stand (c .before .if1 .left), omega (arith, c .before .before .before .count-listed .ensures .few, c .before .before .before .before .before .before .pre .0 .here .scope .walkable .short)))))
+ask-values-requires c κs = (c .before .before .before .before .before .before .before .before .before .pre .0, ((λ _. c .before .before .before .closed .ensures .reaches (c .before .if2 .left) .lexed), (c .before .before .before .before .before .before .before .before .before .pre .1 .0, (c .before .before .before .before .before .before .count-listed .ensures .stand (c .before .before .before .before .if1 .left), omega (arith, c .before .before .before .before .before .before .count-listed .ensures .few, c .before .before .before .before .before .before .before .before .before .pre .0 .here .scope .walkable .short)))))
 
 same-length : tie.Need-same-length
 same-length c = search needs
 
-returns-2 : tie.Need-returns-2
-returns-2 c = names-named (c .before .before .before .before .before .before .before .before .before .args .text .now) (c .before .before .before .before .before .before .before .before .before .args .work .now) (c .before .before .before .before .before .before .before .before .before .args .h) (c .before .before .before .before .before .before .before .before .before .args .place) (c .before .before .before .before .before .before .before .before .before .args .start) (c .before .before .before .before .before .before .before .before .before .args .at) (c .before .before .before .before .before .before .before .before .before .pre .1 .1 .1 .0) (c .before .before .before .before .before .before .before .before .before .pre .1 .1 .1 .1) (c .before .before .before .before .before .before .count-listed .result) (c .before .before .before .before .before .before .count-listed .ensures) (c .before .before .before .before .if1 .left) _ _ (c .before .before .ask-values .ensures)
+returns-3 : tie.Need-returns-3
+returns-3 c = names-named (c .before .before .before .before .before .before .before .before .before .before .before .before .args .text .now) (c .before .before .before .before .before .before .before .before .before .before .before .before .args .work .now) (c .before .before .before .before .before .before .before .before .before .before .before .before .args .h) (c .before .before .before .before .before .before .before .before .before .before .before .before .args .place) (c .before .before .before .before .before .before .before .before .before .before .before .before .args .start) (c .before .before .before .before .before .before .before .before .before .before .before .before .args .at) (c .before .before .before .before .before .before .before .before .before .before .before .before .pre .1 .1 .1 .0) (c .before .before .before .before .before .before .before .before .before .before .before .before .pre .1 .1 .1 .1) (c .before .before .before .before .before .before .before .before .before .count-listed .result) (c .before .before .before .before .before .before .before .before .before .count-listed .ensures) (c .before .before .before .before .before .before .before .if1 .left) (c .before .before .before .before .before .before .closed .result) (c .before .before .before .before .before .before .closed .ensures) (c .before .before .before .before .if2 .left) _ _ (c .before .before .ask-values .ensures)
 
 pub names-from-spec : {M : Type 1} → statement M
 names-from-spec =
-    tie.close (tie.spec count-listed-requires returns ask-values-requires same-length returns-2)
+    tie.close
+    (tie.spec
+    count-listed-requires
+    returns
+    closed-requires
+    returns-2
+    ask-values-requires
+    same-length
+    returns-3)
