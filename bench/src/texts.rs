@@ -79,6 +79,11 @@ fn most(text: impl Fn(usize) -> String) -> String {
     text(steps.fold(1, |found, step| if taken(found + step) { found + step } else { found }))
 }
 
+/// A comment with so many bytes between its dashes and its end.
+fn comment(bytes: usize) -> String {
+    format!("--{}\n", "-".repeat(bytes))
+}
+
 /// A type that is put in as often as it may be. `z` has 100 parameters, and throws them away.
 fn over_and_over(clauses: &str, one: &str) -> String {
     let z = row(100, "a", ",");
@@ -127,17 +132,28 @@ fn parameters(length: usize, times: usize) -> String {
     over_and_over(&clause, &format!("f[{}]", row(900, "1", ",")))
 }
 
-/// Type parameters with long names, and behind them one with a short name, which the body names and nothing else.
-fn passed_parameters(length: usize, times: usize) -> String {
-    let clause = format!("type f[{},x] = {}", alike(899, length).join(","), rows(times, "x"));
+/// Type parameters with names of a length, and behind them one with a short name, which the body names and nothing else.
+fn passed_parameters(length: usize, times: usize, argument: &str) -> String {
+    let clause = format!("type f[{},x] = {}", alike(899, length).join(","), rows(times, argument));
     over_and_over(&clause, &format!("f[{}]", row(900, "1", ",")))
 }
 
-/// 240 clauses of 50 numbers that differ in their last, of which the last one is meant.
-fn numbers() -> String {
-    let head = |last: usize| format!("d{{{},{last}}}", row(49, "n", ","));
-    let clauses: Vec<String> = (0..240).map(|last| format!("type {} = 1\n", head(last))).collect();
-    over_and_over(&clauses.concat(), &rows(1, &format!("d{{{},239}}", row(49, "0", ","))))
+/// 900 numbers, of which the body names the last, and nothing else but `d`, which takes 24.
+fn passed_numbers(times: usize, argument: &str) -> String {
+    let clause = format!("type f{{{},x}} = {}", row(899, "n", ","), rows(times, argument));
+    let taker = format!("type d{{{}}} = 1\n", row(24, "n", ","));
+    over_and_over(&format!("{taker}{clause}"), &format!("f{{{}}}", row(900, "1", ",")))
+}
+
+/// Clauses that differ in their last number, so many and one more, which is meant: in the others numbers are written in these ways, so many in each.
+fn numbers(passed: usize, written: &[(usize, &str)], before_last: &str) -> String {
+    let count = written.iter().map(|(times, _)| times).sum();
+    let others: String =
+        written.iter().map(|(times, one)| format!("{one},").repeat(*times)).collect();
+    let clause = |last: usize| format!("type d{{{others}{before_last}{last}}}=1\n");
+    let meant = |one: &str| format!("d{{{}{passed}}}", one.repeat(count));
+    let clauses: String = (0..passed).map(clause).collect();
+    over_and_over(&format!("{clauses}type {}=1", meant("n,")), &rows(1, &meant("0,")))
 }
 
 /// A table of 240 products, from 2 to 16 bits on the left and 1 to 16 on the right.
@@ -166,41 +182,55 @@ fn rows_in_pieces() -> String {
     rows_of_bits(&(2..=90).map(line).collect::<String>())
 }
 
-/// 250 definitions of 720 gates, whose types stand last in a full table.
-fn last_gates() -> String {
-    let gates = row(16, &format!("({})", row(45, "or", " ")), ",");
-    let uses = |times: usize| -> String {
-        (0..times).map(|number| format!("e{number} = d{{0}}\n")).collect()
-    };
+/// A term that is judged as often as it may be.
+fn judged(clauses: &str, one: &str) -> String {
     most(|times| {
-        let times = times.min(250);
-        format!("{}table 1->1->1\nd{{n}} = ({gates})\n{}main = zero", products(), uses(times))
+        let uses: String =
+            (0..times.min(250)).map(|number| format!("e{number} = {one}\n")).collect();
+        format!("{clauses}\n{uses}main = zero")
     })
 }
 
-/// Definitions of 2,047 nodes, judged one after the other.
-fn many_nodes() -> String {
-    most(|times| {
-        let uses: String =
-            (0..times.min(250)).map(|number| format!("e{number} = d{{10}}\n")).collect();
-        format!("d{{0}} = zero d{{n + 1}} = d{{n}} d{{n}}\n{uses}main = zero")
-    })
+/// 250 definitions of 720 atoms.
+fn atoms(clauses: &str, atom: &str) -> String {
+    let all = row(16, &format!("({})", row(45, atom, " ")), ",");
+    judged(&format!("{clauses}\nd{{n}} = ({all})"), "d{0}")
+}
+
+/// .. which are gates, whose types stand last in a full table.
+fn last_gates() -> String {
+    atoms(&format!("{}table 1->1->1", products()), "or")
+}
+
+/// .. which are names of a definition that is put in, before another one with this head, by which it ends.
+fn term_before(head: &str) -> String {
+    atoms(&format!("a = zero {head} = zero"), "a")
+}
+
+/// A type that is put in as often as it may be, before a definition with this name, by which it ends.
+fn type_before(name: &str) -> String {
+    over_and_over(&format!("type k=1 {name} = zero"), &rows(1, "k"))
+}
+
+/// Definitions in which a term is put in 2 to the n times, judged one after the other.
+fn doubled(term: &str, depth: usize) -> String {
+    judged(&format!("d{{0}} = {term} d{{n + 1}} = d{{n}} d{{n}}"), &format!("d{{{depth}}}"))
+}
+
+/// A term that takes apart lists in one another, so many.
+fn lists_in_lists(count: usize) -> String {
+    format!("let {}x,y){} = zero in zero", "(z,".repeat(count - 1) + "(", ")".repeat(count - 1))
 }
 
 /// One word and another behind a comment as long as a text may be, put in as often as it may be.
 fn comments() -> String {
-    let comment = format!("--{}\n", "-".repeat(60_000));
-    over_and_over(&format!("type f[a] = 1 * {comment} a"), "f[1]")
+    over_and_over(&format!("type f[a] = 1 * {} a", comment(60_000)), "f[1]")
 }
 
-/// Lists in one another around a comment, which each of them passes over, put in as often as they may be.
-fn lists_around_a_comment() -> String {
-    let comment = format!("--{}\n", "-".repeat(60_000));
-    let list = format!("{}{comment}x, y){}", "(".repeat(61), ", z)".repeat(60));
-    most(|times| {
-        let uses: String = (0..times).map(|number| format!("e{number} = d{{0}}\n")).collect();
-        format!("d{{n}} = let {list} = zero in zero\n{uses}main = zero")
-    })
+/// Lists in one another around something, which each of them passes over, put in as often as they may be.
+fn lists_around(inside: &str) -> String {
+    let list = format!("{}{inside}x, y){}", "(".repeat(61), ", z)".repeat(60));
+    judged(&format!("d{{n}} = let {list} = zero in zero"), "d{0}")
 }
 
 /// The texts that took longest of those that were tried.
@@ -209,22 +239,46 @@ pub fn slow() -> Vec<Text> {
     let text = |name, text| Text { name, text };
     vec![
         text("a type family that doubles", doubling("", "f", "")),
-        text("with a comment of 300 bytes", doubling("", "f", &format!("--{}\n", "-".repeat(300)))),
+        text("with a comment of 300 bytes", doubling("", "f", &comment(300))),
         text("a comment of 60,000 bytes", comments()),
-        text("60 lists around a comment", lists_around_a_comment()),
+        text("60 lists around a comment", lists_around(&comment(60_000))),
+        text("60 lists around blanks", lists_around(&"\t".repeat(60_000))),
+        text("56 lists in one another", doubled(&lists_in_lists(56), 4)),
+        text("a type before a long name", type_before(&"n".repeat(60_000))),
+        text("a term before a long name", term_before(&"n".repeat(60_000))),
+        text("a term before 29,000 parameters", term_before(&format!("b[{}]", row(29_000, "x", ",")))),
+        text("a term before 29,000 numbers", term_before(&format!("b{{{}}}", row(29_000, "n", ",")))),
         text("250 clauses, names of 20 bytes", long_names(20)),
         text("250 clauses, names of 60 bytes", long_names(60)),
         text("250 clauses, names of 220 bytes", long_names(220)),
         text("250 names of 220 bytes passed", passed_names(220)),
-        text("899 parameters of 55 bytes passed", passed_parameters(55, 40)),
-        text("240 clauses of 50 numbers", numbers()),
+        text("899 parameters of 55 bytes passed", passed_parameters(55, 40, "x")),
+        text("240 clauses of a number", numbers(239, &[], "")),
+        text("240 clauses of 50 numbers", numbers(239, &[(49, "n")], "")),
+        text("240 clauses of 50 numbers n+0", numbers(239, &[(49, "n+0")], "")),
+        text("240 clauses of 80 numbers", numbers(239, &[(79, "n")], "")),
+        text("240 clauses of a number, blanks", numbers(239, &[], &"\t".repeat(240))),
+        text("240 clauses of a number, comment", numbers(239, &[], &comment(240))),
+        text("240 clauses of a number, zeros", numbers(239, &[], &"0".repeat(240))),
+        text("240 clauses, names of 220 bytes", numbers(239, &[(1, &"n".repeat(220))], "")),
+        text("240 clauses of ten, blanks", numbers(239, &[(9, &format!("{}n", "\t".repeat(20)))], &"\t".repeat(20))),
+        text("blanks before the 28th number", numbers(239, &[(27, "n")], &"\t".repeat(170))),
+        text("a comment before the 28th number", numbers(239, &[(27, "n")], &comment(170))),
+        text("zeros before the 28th number", numbers(239, &[(27, "n")], &"0".repeat(170))),
+        text("a 28th number of 170 bytes", numbers(239, &[(27, "n"), (1, &"n".repeat(170))], "")),
+        text("n+0 from the 28th number on", numbers(239, &[(27, "n"), (36, "n+0")], "")),
+        text("blanks before one 28th number", numbers(1, &[(27, "n")], &"\t".repeat(57_000))),
+        text("zeros before one 28th number", numbers(1, &[(27, "n")], &"0".repeat(57_000))),
+        text("899 parameters passed in products", passed_parameters(3, 5, &row(58, "x", "*"))),
+        text("899 numbers passed in products", passed_numbers(2, &row(60, "1^x", "*"))),
+        text("899 numbers passed in arguments", passed_numbers(10, &format!("d{{{}}}", row(24, "x", ",")))),
         text("900 type arguments of 3 bytes", parameters(3, 70)),
         text("900 type arguments of 30 bytes", parameters(30, 9)),
         text("256 types, the last one meant", last_types()),
         text("256 types, the gates' are last", last_gates()),
         text("rows of 128 bits", rows_of_bits("")),
         text("rows of 128 bits in pieces", rows_in_pieces()),
-        text("2,047 nodes over and over", many_nodes()),
+        text("2,047 nodes over and over", doubled("zero", 10)),
         text("65,535 bytes, one name", format!("main = {}", "x".repeat(MOST_BYTES - 7))),
         text("65,535 bytes, one comment", format!("main = zero --{}", "-".repeat(MOST_BYTES - 14))),
         text("65,535 bytes of parentheses", format!("main = {}", "(".repeat(MOST_BYTES - 7))),

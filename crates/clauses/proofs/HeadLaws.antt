@@ -1,23 +1,24 @@
 -- The row of a clause that the grammar has read: its offsets are those of the clause's parts. Assumes nothing.
 use Prim.Native.Nat.{ℕ, _+_, _-_, _≤_, _<_}
 use mathlib.Core.Path.{_≡_, refl, sym, ap, _∙_, subst}
-use mathlib.Core.Bool.{Bool, true, false}
+use mathlib.Core.Bool.{Bool, true, false, not, _&&_, _||_, cond}
 use mathlib.Core.List.{List}
 use native.Mathlib.Omega.{arith}
 use lib.ListN.{length, take, drop}
 use Rattle.calculus.specs.Answer.{Answer, good, refused, _>>=_}
 use Rattle.calculus.proofs.Answers.{refused≢good, good-inj, on-bind, on-need}
 use Rattle.laws.proofs.Tests.{T-is}
-use Rattle.notation_calculus.specs.Words.{equals, Name, name, Word, run}
+use Rattle.notation_calculus.specs.Words.{round, equals, Token, Name, name, Word, run}
 use Rattle.notation_calculus.specs.Trees.{TypeTree, Tree, Body, ofType, ofTerm, Clause}
-use Rattle.notation_calculus.specs.Grammar.{mostNested, Got, got, peek, behind, place, is, expect, nameAt, parametersAt, numbersAt, typeAt, termAt, clauseAt, isType}
+use Rattle.notation_calculus.specs.Grammar.{mostNested, Got, got, peek, behind, place, isToken, is, expect, isName, isPart, behindGroup, beginsAtom, nameAt, parametersAt, numbersAt, typeAt, termAt, clauseAt, isType}
 use Rattle.words.specs.Next.{Said, runAt}
 use Rattle.words.specs.Lexed.{from, Lexed, Onward, Stands}
 use Rattle.grammar.specs.Ends.{restOf}
+use Rattle.grammar.specs.Skips.{opensGroup}
 use Rattle.clauses.specs.declared.groups.Group.{Group}
 use Rattle.clauses.specs.Groups.{codeAt, GroupRead}
 use Rattle.clauses.specs.Rows.{bodyAt, keyFor, RowOf, ClauseEnds, RowRead}
-use Rattle.clauses.proofs.ListLaws.{is-code, NameRead, name-read, types-group, numbers-group}
+use Rattle.clauses.proofs.ListLaws.{is-code, skip-first, NameRead, name-read, types-group, numbers-group}
 
 -- what leaves words has read something
 pub rest-back : {A C : Type 0} (m : Answer (Got A)) (ws : List Word) → restOf m ≡ good ws → ((g : Got A) → m ≡ good g → g .rest ≡ ws → C) → C
@@ -38,6 +39,15 @@ term-sort (refused why) b e = absurd (refused≢good e)
 body-sort : (sort : Bool) (us : List Word) (b : Got Body) → bodyAt sort us ≡ good b → isType (b .value) ≡ sort
 body-sort true us b e = type-sort (typeAt mostNested false us) b e
 body-sort false us b e = term-sort (termAt mostNested us) b e
+
+-- a name, its groups and `=` begin no atom
+abbrev atomBy : Token → Bool → Bool
+atomBy t b = isToken round t || isPart t || (isName t && not (isName t && b))
+
+pub head-none : (ws us : List Word) (n : Name) → peek ws .token ≡ name n → behindGroup 0 (behind ws) ≡ behindGroup 0 us → is equals us ≡ true → beginsAtom ws ≡ false
+head-none ws us n e f g =
+    let here : behindGroup 0 us ≡ us = skip-first us ∙ ap (λ (c : ℕ). cond (opensGroup c) (behindGroup 1 (behind us)) us) (is-code equals us g) in
+    ap (λ (t : Token). atomBy t (is equals (behindGroup 0 (behind ws)))) e ∙ ap (atomBy (name n)) (ap (is equals) (f ∙ here) ∙ g)
 
 module _ (text : List ℕ) (at : ℕ) (w : Said) (s : Stands text at w) where
   -- a name that stands first, by its offsets
@@ -82,7 +92,9 @@ module _ (text : List ℕ) (at : ℕ) (w : Said) (s : Stands text at w) where
           let hks′ : numbersAt (from text (gt .end)) ≡ good ks = subst (λ (us : List Word). numbersAt us ≡ good ks) tr hks in
           let ik = numbers-group (from text (gt .end)) (ks .value) (ks .rest) hks′ in
           let kr : ks .rest ≡ from text (gk .end) = sym (ik .past) ∙ sym (hk .past) in
-          let equal : codeAt (ks .rest) ≡ 13 = is-code equals (ks .rest) (T-is (is equals (ks .rest)) te) in
+          let yes : is equals (ks .rest) ≡ true = T-is (is equals (ks .rest)) te in
+          let equal : codeAt (ks .rest) ≡ 13 = is-code equals (ks .rest) yes in
+          let past : behindGroup 0 (behind here) ≡ behindGroup 0 (ks .rest) = ap (behindGroup 0) (o .rest) ∙ it .skip ∙ ap (behindGroup 0) tr ∙ ik .skip in
           let ze : e .code ≡ 13 = se .code ∙ ap codeAt (sym kr) ∙ equal in
           let oe = se .onward (λ q. omega arith) in
           let ur : us ≡ from text (e .end) = sym (good-inj e₆) ∙ ap behind kr ∙ oe .rest in
@@ -96,6 +108,7 @@ module _ (text : List ℕ) (at : ℕ) (w : Said) (s : Stands text at w) where
               name-place = nr .place ∙ sym (s .place);
               name-is = spelled-here (x .value .name) z (nr .token);
               name-inside = omega (arith, place-inside z);
+              heads = ap beginsAtom (s .begins) ∙ head-none here (ks .rest) (x .value .name) (nr .token) past yes;
               types-lexed = o .lexed;
               types = hts′ ∙ ap (λ (us : List Word). got (ts .value) us) tr;
               numbers-lexed = ht .lexed;

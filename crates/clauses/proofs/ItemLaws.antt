@@ -24,6 +24,7 @@ use Rattle.grammar.proofs.ItemLaws.{type-clause-rest, term-clause-rest}
 use Rattle.making_memory.specs.Map.{clauseCountAt, makingSize}
 use Rattle.clauses.specs.declared.rows.Row.{Row}
 use Rattle.clauses.specs.Rows.{bodyAt, RowOf, ClauseEnds, RowRead, ShortRow, HoldsRows}
+use Rattle.clauses.specs.Cells.{CellsStored}
 use Rattle.clauses.specs.Follows.{RowThere, RowsThere, RowAdded, withRow}
 use Rattle.clauses.specs.Texts.{clauseItem, lineItem, itemOf, OnlyRows, TableHeld, GrownTo, Proceeds, ProceedsIn, SoFar, OnlyClauses, Defined, definesBy}
 use Rattle.clauses.proofs.HeadLaws.{rest-back}
@@ -67,8 +68,8 @@ module _ (text : List ℕ) (at : ℕ) (sort : Bool) (w : List ℕ) (l : Lexed te
     definition-ends = record { lexed = l; reads = d .reaches z .is; past = d .reaches z .lexed }
 
     module _ (r : Row) (R : RowRead text at sort (e .at) r) where
-      pub definition-row : RowsThere text w × (RowThere text r × ShortRow r)
-      definition-row = (rows-there text w (T .items .clauses) (T .holds) (T .room), (row-there text (R .clause) r (R .row), short-row text (R .clause) r (R .row) (T .short)))
+      pub definition-row : RowsThere text w × (RowThere text r × (ShortRow r × (length text ≤ 65535)))
+      definition-row = (rows-there text w (T .items .clauses) (T .holds) (T .room), (row-there text (R .clause) r (R .row), (short-row text (R .clause) r (R .row) (T .short), T .short)))
 
       item-is : (items : Items) → clauseItem sort here items ≡ (withClause items (R .clause) >>= λ next. got next (from text (e .at)))
       unfolding clauseItem
@@ -93,7 +94,7 @@ module _ (text : List ℕ) (at : ℕ) (sort : Bool) (w : List ℕ) (l : Lexed te
             record {
               items = record { clauses = items .clauses ++ R .clause ∷ []; lines = items .lines };
               is = item-is items ∙ ap (λ (m : Answer Items). m >>= λ next. got next (from text (e .at))) (j .0);
-              holds = subst (λ (v : List ℕ). HoldsRows text v (items .clauses ++ R .clause ∷ [])) (sym (A .added q)) (rows-more w r (length (items .clauses)) (H .counted) (j .1) (T .room) text (items .clauses) H refl (R .clause) (R .row));
+              holds = rows-more w r (length (items .clauses)) (H .counted) (j .1) (T .room) text w′ (subst (λ (k : ℕ). CellsStored text (withRow w r) k (r .numbered) (r .numbers) w′) (H .counted) (A .added q)) (items .clauses) H refl (R .clause) (R .row);
             }
 
         pub definition-grown : n ≡ 0 → Proceeds text (length here) (clauseItem sort here) w w′ e
@@ -102,7 +103,7 @@ module _ (text : List ℕ) (at : ℕ) (sort : Bool) (w : List ℕ) (l : Lexed te
           grows = λ _ items H. grown-by q items H;
           fewer = λ _. d .reaches z .fewer;
           lexed = λ _. d .reaches z .lexed;
-          kept = subst (OnlyRows w) (sym (A .added q)) (with-row-kept w r (length (T .items .clauses)) (T .holds .counted) (few-now q) (T .room));
+          kept = with-row-kept w r (length (T .items .clauses)) (T .holds .counted) (few-now q) (T .room) text w′ (subst (λ (k : ℕ). CellsStored text (withRow w r) k (r .numbered) (r .numbers) w′) (T .holds .counted) (A .added q));
         }
 
 -- ---- an item by its first word

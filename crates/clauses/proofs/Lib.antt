@@ -4,6 +4,7 @@ pub mod ListLaws
 pub mod HeadLaws
 pub mod NumberLaws
 pub mod FollowLaws
+pub mod CellLaws
 pub mod TableLaws
 pub mod ItemLaws
 pub mod TextLaws

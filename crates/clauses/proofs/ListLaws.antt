@@ -12,12 +12,14 @@ use Rattle.calculus.proofs.Answers.{refused≢good, good-inj, on-bind, on-need}
 use Rattle.laws.proofs.Tests.{T-is}
 use Rattle.notation_calculus.specs.Words.{Sign, signCode, comma, plus, square, endSquare, curly, endCurly, Token, sign, part, number, name, Word}
 use Rattle.notation_calculus.specs.Trees.{Bound, Number}
-use Rattle.notation_calculus.specs.Grammar.{Got, got, peek, behind, place, is, isToken, expect, boundName, nameAt, valueOf, listFrom, readNumber, numberAt, numbersAt, parametersAt}
+use Rattle.notation_calculus.specs.Grammar.{Got, got, peek, behind, place, is, isToken, behindGroup, expect, boundName, nameAt, valueOf, listFrom, readNumber, numberAt, numbersAt, parametersAt}
 use Rattle.words.specs.Tables.{tokenCode}
-use Rattle.grammar.specs.Skips.{closesGroup}
+use Rattle.grammar.specs.Skips.{opensGroup, closesGroup}
 use Rattle.grammar.proofs.EndLaws.{token-is}
+use Rattle.grammar.proofs.HeadLaws.{onward, onward-is}
+use Rattle.clauses.specs.Numbers.{noNumber}
 use Rattle.clauses.specs.Groups.{codeAt, leavesGroup, countIn, pastIn, groupCount, groupPast, valueIn, restIn, listIn, Readable}
-use Rattle.clauses.specs.Rows.{noNumber, noBound}
+use Rattle.clauses.specs.Rows.{noBound}
 use Rattle.clauses.proofs.GroupLaws.{count-by, past-by}
 
 -- ---- a word by its code
@@ -35,21 +37,39 @@ plain-count c us e f g = count-by us ∙ ap (λ (x : ℕ). cond (leavesGroup x) 
 plain-past : (c : ℕ) (us : List Word) → codeAt us ≡ c → eqb c 0 ≡ false → closesGroup c ≡ false → pastIn us ≡ pastIn (behind us)
 plain-past c us e f g = past-by us ∙ ap (λ (x : ℕ). cond (eqb x 0) us (cond (closesGroup x) (behind us) (pastIn (behind us)))) e ∙ ap (λ (b : Bool). cond b us (cond (closesGroup c) (behind us) (pastIn (behind us)))) f ∙ ap (λ (b : Bool). cond b (behind us) (pastIn (behind us))) g
 
+-- ---- the groups behind a name, word by word
+
+-- within groups the words behind them are the same from a later word on
+abbrev Skips : List Word → List Word → Type 0
+Skips us vs = (d : ℕ) → behindGroup (suc d) us ≡ behindGroup (suc d) vs
+
+skip-by : (d : ℕ) (us : List Word) → behindGroup (suc d) us ≡ onward (suc d) (peek us) (behind us) (opensGroup (codeAt us)) (closesGroup (codeAt us))
+skip-by d [] = refl
+skip-by d (u ∷ us) = onward-is (suc d) u us
+
+pub skip-first : (us : List Word) → behindGroup 0 us ≡ cond (opensGroup (codeAt us)) (behindGroup 1 (behind us)) us
+skip-first [] = refl
+skip-first (u ∷ us) = onward-is 0 u us
+
+module _ (c : ℕ) (us : List Word) (e : codeAt us ≡ c) (shuts : opensGroup c ≡ false) where
+  skip-word : (k : Bool) → closesGroup c ≡ k → (d : ℕ) → behindGroup (suc d) us ≡ cond k (behindGroup d (behind us)) (behindGroup (suc d) (behind us))
+  skip-word k f d = skip-by d us ∙ ap (λ (x : ℕ). onward (suc d) (peek us) (behind us) (opensGroup x) (closesGroup x)) e ∙ ap (λ (o : Bool). onward (suc d) (peek us) (behind us) o (closesGroup c)) shuts ∙ ap (onward (suc d) (peek us) (behind us) false) f
+
 -- what is read counts as one: no comma, no bracket
 abbrev Counts : List Word → List Word → Type 0
-Counts us vs = (countIn us ≡ countIn vs) × (pastIn us ≡ pastIn vs)
+Counts us vs = (countIn us ≡ countIn vs) × (pastIn us ≡ pastIn vs) × Skips us vs
 
 counts-then : (us vs ws : List Word) → Counts us vs → Counts vs ws → Counts us ws
-counts-then us vs ws a b = (a .0 ∙ b .0, a .1 ∙ b .1)
+counts-then us vs ws a b = (a .0 ∙ b .0, a .1 ∙ b .1, λ d. a .2 d ∙ b .2 d)
 
 name-counts : (us : List Word) → codeAt us ≡ 24 → Counts us (behind us)
-name-counts us e = (plain-count 24 us e refl refl, plain-past 24 us e refl refl)
+name-counts us e = (plain-count 24 us e refl refl, plain-past 24 us e refl refl, skip-word 24 us e refl false refl)
 
 number-counts : (us : List Word) → codeAt us ≡ 23 → Counts us (behind us)
-number-counts us e = (plain-count 23 us e refl refl, plain-past 23 us e refl refl)
+number-counts us e = (plain-count 23 us e refl refl, plain-past 23 us e refl refl, skip-word 23 us e refl false refl)
 
 plus-counts : (us : List Word) → codeAt us ≡ 21 → Counts us (behind us)
-plus-counts us e = (plain-count 21 us e refl refl, plain-past 21 us e refl refl)
+plus-counts us e = (plain-count 21 us e refl refl, plain-past 21 us e refl refl, skip-word 21 us e refl false refl)
 
 -- ---- a name, a number
 
@@ -98,6 +118,7 @@ module _ {A : Type 0} (else : A) (read : List Word → Answer (Got A)) where
   pub record ListRead (ws : List Word) (g : Got (List A)) : Type 0 where
     pub count : countIn (behind ws) ≡ length (g .value)
     pub past : pastIn (behind ws) ≡ behind (g .rest)
+    pub skip : behindGroup 1 (behind ws) ≡ behindGroup 0 (behind (g .rest))
     pub each : listIn else read (length (g .value)) ws ≡ g .value
     pub readable : Readable else read (length (g .value)) ws
 
@@ -105,6 +126,7 @@ module _ {A : Type 0} (else : A) (read : List Word → Answer (Got A)) where
   pub record GroupIs (opens : ℕ) (ws : List Word) (xs : List A) (rest : List Word) : Type 0 where
     pub count : groupCount opens ws ≡ length xs
     pub past : groupPast opens ws ≡ rest
+    pub skip : behindGroup 0 ws ≡ behindGroup 0 rest
     pub each : listIn else read (length xs) ws ≡ xs
     pub readable : Readable else read (length xs) ws
 
@@ -125,7 +147,7 @@ module _ {A : Type 0} (else : A) (read : List Word → Answer (Got A)) (one : (u
   first-read : (ws : List Word) (x : Got A) → read (behind ws) ≡ good x → (n : ℕ) (xs : List A) → listIn else read n (x .rest) ≡ xs → Readable else read n (x .rest) → (listIn else read (suc n) ws ≡ x .value ∷ xs) × Readable else read (suc n) ws
   first-read ws x h n xs e r = (ap (λ (m : Answer (Got A)). valueIn else m ∷ listIn else read n (restIn m)) h ∙ ap (λ (l : List A). x .value ∷ l) e, subst (λ (m : Answer (Got A)). (m ≡ got (valueIn else m) (restIn m)) × Readable else read n (restIn m)) (sym h) (refl, r))
 
-  module _ (c : ℕ) (leaves : leavesGroup c ≡ true) (word : eqb c 0 ≡ false) (closes : closesGroup c ≡ true) where
+  module _ (c : ℕ) (leaves : leavesGroup c ≡ true) (word : eqb c 0 ≡ false) (closes : closesGroup c ≡ true) (shuts : opensGroup c ≡ false) where
     -- a list by its first, where `go` knows the others
     list-by : (n : ℕ) → ((ws : List Word) (g : Got (List A)) → listFrom read n (behind ws) ≡ good g → codeAt (g .rest) ≡ c → ListRead else read ws g) → (ws : List Word) (g : Got (List A)) → codeAt (g .rest) ≡ c → (x : Got A) → read (behind ws) ≡ good x → (b : Bool) → is comma (x .rest) ≡ b → cond b (listFrom read n (behind (x .rest)) >>= λ xs. got (x .value ∷ xs .value) (xs .rest)) (got (x .value ∷ []) (x .rest)) ≡ good g → ListRead else read ws g
     list-by n go ws g k x h true f e = on-bind (listFrom read n (behind (x .rest))) _ g e λ xs h₁ e₁.
@@ -136,6 +158,7 @@ module _ {A : Type 0} (else : A) (read : List Word → Answer (Got A)) (one : (u
         subst (ListRead else read ws) (good-inj e₁) (record {
           count = s .0 ∙ comma-count (x .rest) (is-code comma (x .rest) f) ∙ ap suc (r .count);
           past = s .1 ∙ comma-past (x .rest) (is-code comma (x .rest) f) ∙ r .past;
+          skip = s .2 0 ∙ skip-word 14 (x .rest) (is-code comma (x .rest) f) refl false refl 0 ∙ r .skip;
           each = d .0;
           readable = d .1;
         })
@@ -146,6 +169,7 @@ module _ {A : Type 0} (else : A) (read : List Word → Answer (Got A)) (one : (u
         subst (ListRead else read ws) (good-inj e) (record {
           count = s .0 ∙ closed-count c (x .rest) same leaves;
           past = s .1 ∙ closed-past c (x .rest) same word closes;
+          skip = s .2 0 ∙ skip-word c (x .rest) same shuts true closes 0;
           each = d .0;
           readable = d .1;
         })
@@ -156,20 +180,21 @@ module _ {A : Type 0} (else : A) (read : List Word → Answer (Got A)) (one : (u
 
   -- ---- a group
 
-  pub group-is : (opens closes : Sign) → leavesGroup (signCode closes) ≡ true → eqb (signCode closes) 0 ≡ false → closesGroup (signCode closes) ≡ true → (ws : List Word) (xs : List A) (rest : List Word) → cond (is opens ws) (listFrom read (length ws) (behind ws) >>= λ ns. expect closes (ns .rest) >>= λ after. got (ns .value) after) (got [] ws) ≡ got xs rest → GroupIs else read (signCode opens) ws xs rest
+  pub group-is : (opens closes : Sign) → leavesGroup (signCode closes) ≡ true → eqb (signCode closes) 0 ≡ false → closesGroup (signCode closes) ≡ true → opensGroup (signCode closes) ≡ false → opensGroup (signCode opens) ≡ true → (ws : List Word) (xs : List A) (rest : List Word) → cond (is opens ws) (listFrom read (length ws) (behind ws) >>= λ ns. expect closes (ns .rest) >>= λ after. got (ns .value) after) (got [] ws) ≡ got xs rest → GroupIs else read (signCode opens) ws xs rest
   unfolding groupCount groupPast
-  group-is opens closes a b d ws xs rest e = by (is opens ws) refl e
+  group-is opens closes a b d u v ws xs rest e = by (is opens ws) refl e
     where
       by : (t : Bool) → is opens ws ≡ t → cond t (listFrom read (length ws) (behind ws) >>= λ ns. expect closes (ns .rest) >>= λ after. got (ns .value) after) (got [] ws) ≡ got xs rest → GroupIs else read (signCode opens) ws xs rest
       by true f e =
           let opened : eqb (signCode opens) (codeAt ws) ≡ true = eq-eqb _ _ (sym (is-code opens ws f)) in
           on-bind (listFrom read (length ws) (behind ws)) _ _ e λ ns h e₁. on-bind (expect closes (ns .rest)) _ _ e₁ λ after h₂ e₂. on-need (is closes (ns .rest)) 32 (place (ns .rest)) _ _ h₂ λ t e₃.
-          let r = list-read (signCode closes) a b d (length ws) ws ns h (is-code closes (ns .rest) (T-is (is closes (ns .rest)) t)) in
+          let r = list-read (signCode closes) a b d u (length ws) ws ns h (is-code closes (ns .rest) (T-is (is closes (ns .rest)) t)) in
           let values : ns .value ≡ xs = ap (λ (g : Got (List A)). g .value) (good-inj e₂) in
           let rests : behind (ns .rest) ≡ rest = good-inj e₃ ∙ ap (λ (g : Got (List A)). g .rest) (good-inj e₂) in
           record {
             count = ap (λ (x : Bool). cond x (countIn (behind ws)) 0) opened ∙ r .count ∙ ap length values;
             past = ap (λ (x : Bool). cond x (pastIn (behind ws)) ws) opened ∙ r .past ∙ rests;
+            skip = skip-first ws ∙ ap (λ (x : ℕ). cond (opensGroup x) (behindGroup 1 (behind ws)) ws) (is-code opens ws f) ∙ ap (λ (x : Bool). cond x (behindGroup 1 (behind ws)) ws) v ∙ r .skip ∙ ap (behindGroup 0) rests;
             each = subst (λ (l : List A). listIn else read (length l) ws ≡ l) values (r .each);
             readable = subst (λ (l : List A). Readable else read (length l) ws) values (r .readable);
           }
@@ -180,12 +205,13 @@ module _ {A : Type 0} (else : A) (read : List Word → Answer (Got A)) (one : (u
           record {
             count = ap (λ (x : Bool). cond x (countIn (behind ws)) 0) shut ∙ ap length values;
             past = ap (λ (x : Bool). cond x (pastIn (behind ws)) ws) shut ∙ rests;
+            skip = ap (behindGroup 0) rests;
             each = subst (λ (l : List A). listIn else read (length l) ws ≡ l) values refl;
             readable = subst (λ (l : List A). Readable else read (length l) ws) values tt;
           }
 
 pub types-group : (ws : List Word) (xs : List Bound) (rest : List Word) → parametersAt ws ≡ got xs rest → GroupIs noBound nameAt 17 ws xs rest
-types-group ws xs rest e = group-is noBound nameAt name-reads-one square endSquare refl refl refl ws xs rest e
+types-group ws xs rest e = group-is noBound nameAt name-reads-one square endSquare refl refl refl refl refl ws xs rest e
 
 pub numbers-group : (ws : List Word) (xs : List Number) (rest : List Word) → numbersAt ws ≡ got xs rest → GroupIs noNumber numberAt 19 ws xs rest
-numbers-group ws xs rest e = group-is noNumber numberAt number-reads-one curly endCurly refl refl refl ws xs rest e
+numbers-group ws xs rest e = group-is noNumber numberAt number-reads-one curly endCurly refl refl refl refl refl ws xs rest e

@@ -14,17 +14,17 @@ use Rattle.notation_calculus.specs.Trees.{Number, Clause}
 use Rattle.notation_calculus.specs.Grammar.{behind, numberAt, isType, namesake}
 use Rattle.notation_calculus.specs.Making.{fits, fitAll, hasNumbers, upTo, seenBy, Put, putOf, meant, clauseFor}
 use Rattle.words.specs.Next.{runAt}
-use Rattle.words.specs.Lexed.{from}
+use Rattle.words.specs.Lexed.{from, Lexed, Onward}
 use Rattle.making_memory.specs.Map.{scopeAt, clauseCountAt}
 use Rattle.clauses.specs.declared.numbers.Num.{Num}
 use Rattle.clauses.specs.declared.rows.Row.{Row}
 use Rattle.clauses.specs.declared.meant.Asked.{Asked}
 use Rattle.clauses.specs.Groups.{restIn, listIn}
-use Rattle.clauses.specs.Rows.{RowOf, rowIn, noNumber, noClause, clauseOf, HoldsRows, keyFor, KeyFrom, KeyBelow}
-use Rattle.clauses.specs.Numbers.{NumberRead, plainNumber, numbersFrom, NumbersThere}
+use Rattle.clauses.specs.Rows.{RowOf, rowIn, noClause, clauseOf, HoldsRows, keyFor, KeyFrom, KeyBelow}
+use Rattle.clauses.specs.Numbers.{noNumber, NumberThere, NumberRead, NumberPast, plainNumber, numbersFrom, NumbersThere}
 use Rattle.clauses.specs.Follows.{rowNamesake, RowsThere}
 use Rattle.clauses.specs.Meant.{valuesIn, rowMeant, firstMeant, rowsUpTo, rowSeen}
-use Rattle.clauses.proofs.NumberLaws.{numbers-step}
+use Rattle.clauses.proofs.NumberLaws.{list-long, numbers-step, number-there}
 use Rattle.clauses.proofs.FollowLaws.{namesake-other}
 use Rattle.clauses.proofs.TableLaws.{row-numbers, namesake-row}
 
@@ -80,11 +80,42 @@ module _ (text work : List ℕ) (at n first i p : ℕ) (c : Fitting text work at
   pub fitting-all : n ≤ i → true ≡ fitAll (numbersFrom text at n) (valuesIn work first n)
   fitting-all h = let e : n - i ≡ 0 = omega arith in sym (c .total ∙ ap (λ (j : ℕ). fitAll (numbersFrom text p j) (valuesIn work (first + i) j)) e)
 
--- ---- a row that is meant
+-- .. read on behind the bracket or the comma, where the next number stands
+pub record FittingOn (text work : List ℕ) (at n first i p : ℕ) : Type 0 where
+  pub back : ℕ
+  pub fitting : Fitting text work at n first i back
+  pub ahead : i < n → Onward text back p
 
-list-long : (n : ℕ) (ws : List Word) → length (listIn noNumber numberAt n ws) ≡ n
-list-long zero ws = refl
-list-long (suc n) ws = ap suc (list-long n (restIn (numberAt (behind ws))))
+pub on-none : (text work : List ℕ) (at n first p : ℕ) → NumbersThere text at n → (NumberThere (behind (from text at)) → Onward text at p) → FittingOn text work at n first 0 p
+on-none text work at n first p t o = record { back = at; fitting = fitting-none text work at n first t; ahead = λ h. o (number-there text at n t h) }
+
+module _ (text work : List ℕ) (at n first i p : ℕ) (c : FittingOn text work at n first i p) where
+  module _ (more : i < n) where
+    onward : Onward text (c .back) p
+    onward = c .ahead more
+
+    pub on-there : (Lexed text p) × (NumberThere (from text p))
+    on-there = (onward .lexed, subst NumberThere (onward .rest) (number-there text (c .back) (n - i) (c .fitting .there) (omega arith)))
+
+    module _ (k : Num) (x : NumberPast text (from text p) k) (v : ℕ) (value : v ≡ getD work (scopeAt + 2 * (first + i) + 1) 0) where
+      abbrev stopped : Num
+      stopped = record { named = k .named; place = k .place; plus = k .plus; end = x .stop }
+
+      read-back : NumberRead text (behind (from text (c .back))) stopped
+      read-back = subst (λ (us : List Word). NumberRead text us stopped) (sym (onward .rest)) (x .read)
+
+      pub on-no : fits (plainNumber k) v ≡ false → false ≡ fitAll (numbersFrom text at n) (valuesIn work first n)
+      on-no e = fitting-no text work at n first i (c .back) (c .fitting) more stopped read-back v value e
+
+      pub on-more : fits (plainNumber k) v ≡ true → FittingOn text work at n first (i + 1) (k .end)
+      on-more e =
+          let f = fitting-more text work at n first i (c .back) (c .fitting) more stopped read-back v value e in
+          record { back = x .stop; fitting = f; ahead = λ h. x .past (number-there text (x .stop) (n - (i + 1)) (f .there) (omega arith)) }
+
+  pub on-all : n ≤ i → true ≡ fitAll (numbersFrom text at n) (valuesIn work first n)
+  on-all h = fitting-all text work at n first i (c .back) (c .fitting) h
+
+-- ---- a row that is meant
 
 pub values-long : (work : List ℕ) (first n : ℕ) → length (valuesIn work first n) ≡ n
 values-long work first zero = refl

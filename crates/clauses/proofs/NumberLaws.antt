@@ -14,11 +14,11 @@ use Rattle.notation_calculus.specs.Grammar.{Got, got, peek, behind, place, is, 
 use Rattle.words.specs.Tables.{tokenCode, tokenValue}
 use Rattle.words.specs.Next.{Said}
 use Rattle.words.specs.Lexed.{from, Lexed, Onward, Stands}
-use Rattle.grammar.proofs.EndLaws.{sign-not, is-yes, is-no}
+use Rattle.words.specs.Marks.{Marks}
+use Rattle.grammar.proofs.EndLaws.{sign-not, is-yes, mark-stands, mark-no}
 use Rattle.clauses.specs.declared.numbers.Num.{Num}
 use Rattle.clauses.specs.Groups.{codeAt, valueIn, restIn, listIn, Readable}
-use Rattle.clauses.specs.Rows.{noNumber}
-use Rattle.clauses.specs.Numbers.{NumberThere, NumberRead, plainNumber, numbersFrom, NumbersThere}
+use Rattle.clauses.specs.Numbers.{noNumber, NumberThere, NumberRead, NumberPast, plainNumber, numbersFrom, NumbersThere}
 use Rattle.clauses.proofs.HeadLaws.{spelled-here, name-onward, name-some, place-inside}
 
 true-false : {C : Type 0} → _≡_ {A = Bool} true false → C
@@ -49,6 +49,12 @@ module _ (text : List ℕ) (at : ℕ) (w : Said) (s : Stands text at w) (there :
   abbrev here : List Word
   here = from text at
 
+  -- the first word is a number or a name, so there are words behind it
+  pub number-onward : Onward text at (w .end)
+  number-onward = s .onward λ q.
+      let d = number-by (peek here .token) here _ (λ e. absurd (omega (arith, s .code, e, q))) there in
+      absurd (omega (arith, s .code, d .0, q))
+
   pub number-plain : ¬ (w .code ≡ 24) → (v : ℕ) → (v ≡ w .value) × (v ≤ 255) → NumberRead text here (record { named = false; place = w .place; plus = v; end = w .end })
   number-plain z v ev =
       let d = number-by (peek here .token) here _ (λ q. z (s .code ∙ q)) there in
@@ -66,7 +72,7 @@ module _ (text : List ℕ) (at : ℕ) (w : Said) (s : Stands text at w) (there :
         some = λ e. true-false (sym e);
       }
 
-  module _ (z : w .code ≡ 24) (p : Said) (sp : Stands text (w .end) p) where
+  module _ (z : w .code ≡ 24) (p : Said) (sp : Marks text (w .end) p) where
     abbrev next : List Word
     next = from text (w .end)
 
@@ -86,7 +92,7 @@ module _ (text : List ℕ) (at : ℕ) (w : Said) (s : Stands text at w) (there :
     pub number-name : ¬ (p .code ≡ 21) → NumberRead text here (record { named = true; place = w .place; plus = 0; end = w .end })
     number-name q = first-name (NumberRead text here (record { named = true; place = w .place; plus = 0; end = w .end })) λ n e. record {
       number = openNumber n 0;
-      is = named-is n e false (is-no text (w .end) p sp plus q);
+      is = named-is n e false (mark-no text (w .end) p plus (sp .plus) q);
       lexed = name-onward text at w s z .lexed;
       isOpen = refl;
       plus = refl;
@@ -99,12 +105,12 @@ module _ (text : List ℕ) (at : ℕ) (w : Said) (s : Stands text at w) (there :
 
     module _ (q : p .code ≡ 21) where
       pub plus-onward : Onward text (w .end) (p .end)
-      plus-onward = sp .onward (λ y. omega arith)
+      plus-onward = mark-stands text (w .end) p sp 21 q (λ y. omega arith) .onward (λ y. omega arith)
 
       pub number-plus : (k : Said) → Stands text (p .end) k → (v : ℕ) → (v ≡ k .value) × (v ≤ 255) → NumberRead text here (record { named = true; place = w .place; plus = v; end = k .end })
       number-plus k sk v ev = first-name (NumberRead text here (record { named = true; place = w .place; plus = v; end = k .end })) λ n e.
           let last : List Word = from text (p .end) in
-          let step : numberAt here ≡ (valueOf (peek last .token) (place last) >>= λ j. got (openNumber n j) (behind last)) = named-is n e true (is-yes text (w .end) p sp plus q) ∙ ap (λ (us : List Word). valueOf (peek us .token) (place us) >>= λ j. got (openNumber n j) (behind us)) (plus-onward .rest) in
+          let step : numberAt here ≡ (valueOf (peek last .token) (place last) >>= λ j. got (openNumber n j) (behind last)) = named-is n e true (is-yes text (w .end) p (mark-stands text (w .end) p sp 21 q (λ y. omega arith)) plus q) ∙ ap (λ (us : List Word). valueOf (peek us .token) (place us) >>= λ j. got (openNumber n j) (behind us)) (plus-onward .rest) in
           on-bind (valueOf (peek last .token) (place last)) (λ j. got (openNumber n j) (behind last)) _ (sym step ∙ there) λ j h e₁.
           let d = valued-by (peek last .token) (place last) j h in
           let o = sk .onward (λ y. absurd (omega (arith, sk .code, d .0, y))) in
@@ -126,6 +132,10 @@ module _ (text : List ℕ) (at : ℕ) (w : Said) (s : Stands text at w) (there :
 pub behind-on : (text : List ℕ) (at : ℕ) (w : Said) → Stands text at w → NumberThere (behind (from text at)) → Onward text at (w .end)
 behind-on text at w s there = s .onward (λ z. absurd (refused≢good (sym (ap numberAt (s .last z)) ∙ there)))
 
+-- the word that stands behind a number is passed
+pub past-by : (text : List ℕ) (us : List Word) (b : Bool) (p k stop : ℕ) (w : Said) → NumberRead text us (record { named = b; place = p; plus = k; end = stop }) → Stands text stop w → NumberPast text us (record { named = b; place = p; plus = k; end = w .end })
+past-by text us b p k stop w x s = record { stop = stop; read = x; past = λ there. behind-on text stop w s there }
+
 -- ---- one covers another
 
 pub covers-plain : (text : List ℕ) (us vs : List Word) (p q : Num) (x : NumberRead text us p) (y : NumberRead text vs q) → covers (x .number) (y .number) ≡ covers (plainNumber p) (plainNumber q)
@@ -142,6 +152,10 @@ pub covering-none : (text : List ℕ) (a b n : ℕ) → NumbersThere text a n �
 covering-none text a b n x y =
     let e : n - 0 ≡ n = omega arith in
     record { most = omega arith; first = rw e x; second = rw e y; total = rw e }
+
+pub list-long : (n : ℕ) (ws : List Word) → length (listIn noNumber numberAt n ws) ≡ n
+list-long zero ws = refl
+list-long (suc n) ws = ap suc (list-long n (restIn (numberAt (behind ws))))
 
 -- one of a list, and the others behind it
 pub numbers-step : (text : List ℕ) (at n : ℕ) (r : Num) → NumbersThere text at (suc n) → (x : NumberRead text (behind (from text at)) r) → (numbersFrom text at (suc n) ≡ x .number ∷ numbersFrom text (r .end) n) × NumbersThere text (r .end) n

@@ -17,14 +17,16 @@ use Rattle.notation_calculus.specs.Trees.{Number, Clause}
 use Rattle.notation_calculus.specs.Grammar.{mostClauses, got, numberAt, coverAll, isType, sameSort, namesake, mayFollow, mayFollowAll, Items, withClause}
 use Rattle.words.specs.Next.{runAt}
 use Rattle.words.specs.Lexed.{from}
-use Rattle.making_memory.specs.Map.{clausesAt, framesAt, clauseCountAt, makingSize}
+use Rattle.making_memory.specs.Map.{clausesAt, cellsAt, framesAt, clauseCountAt, makingSize}
 use Rattle.clauses.specs.declared.rows.Row.{Row}
 use Rattle.clauses.specs.Groups.{listIn, Readable}
-use Rattle.clauses.specs.Rows.{RowOf, rowNumbers, ShortRow, rowIn, noNumber, noClause, clauseOf, HoldsRows}
-use Rattle.clauses.specs.Numbers.{numbersFrom, NumbersThere}
+use Rattle.clauses.specs.Rows.{RowOf, rowNumbers, ShortRow, rowIn, noClause, clauseOf, HoldsRows}
+use Rattle.clauses.specs.Numbers.{noNumber, numbersFrom, NumbersThere}
+use Rattle.clauses.specs.Cells.{CellsThere, CellsStored}
 use Rattle.clauses.specs.Follows.{RowThere, rowNamesake, rowFollows, followsFrom, RowsThere, rowRefusal, withRow}
 use Rattle.clauses.specs.Texts.{OnlyRows}
 use Rattle.clauses.proofs.ListLaws.{numbers-group}
+use Rattle.clauses.proofs.CellLaws.{cells-same}
 use Rattle.clauses.proofs.RowLaws.{row-parts, key-sort, key-short}
 
 -- ---- one row
@@ -85,6 +87,7 @@ module _ (text work : List ℕ) (cs : List Clause) (H : HoldsRows text work cs) 
     room = h;
     few = omega (arith, H .counted, H .few);
     each = λ k l. row-there text (clauseOf cs k) (rowIn work k) (H .rows k (omega (arith, H .counted)));
+    cells = λ k l. H .cells k (omega (arith, H .counted));
   }
 
   module _ (D : Clause) (d : Row) (S : RowOf text D d) where
@@ -180,27 +183,44 @@ module _ (w : List ℕ) (d : Row) (n : ℕ) (e : getD w clauseCountAt 0 ≡ n) (
   pub count-new : getD (withRow w d) clauseCountAt 0 ≡ n + 1
   count-new = ap (λ (l : List ℕ). getD l clauseCountAt 0) with-row-by ∙ getD-set-same stored clauseCountAt (n + 1) 0 (omega (arith, length-stored))
 
-  pub with-row-kept : OnlyRows w (withRow w d)
-  with-row-kept = record {
-    same = ap length with-row-by ∙ length-set stored clauseCountAt (n + 1) ∙ length-stored;
-    below = λ j h. other j (λ q. absurd (omega arith)) ∙ sets-before (rowNumbers d) w (clausesAt + 8 * n) j 0 (omega arith);
-    above = λ j h g. other j g ∙ sets-outside (rowNumbers d) w (clausesAt + 8 * n) j 0 (omega arith) (omega arith);
-  }
+  -- cells of the rows
+  cells-old : (j : ℕ) → cellsAt ≤ j → j < framesAt → getD (withRow w d) j 0 ≡ getD w j 0
+  cells-old j h g = other j (λ q. absurd (omega arith)) ∙ sets-outside (rowNumbers d) w (clausesAt + 8 * n) j 0 (omega arith) (omega arith)
 
-  pub rows-more : (text : List ℕ) (cs : List Clause) → HoldsRows text w cs → length cs ≡ n → (D : Clause) → RowOf text D d → HoldsRows text (withRow w d) (cs ++ D ∷ [])
-  rows-more text cs H ln D S = record {
-    counted = count-new ∙ sym (long ∙ ap (λ (k : ℕ). k + 1) ln);
-    few = omega (arith, long);
-    rows = λ k h. elim (decLe (suc k) n) [
-      | yes lt ↦ subst (λ (C : Clause). RowOf text C (rowIn (withRow w d) k)) (sym (List·getD-append cs (D ∷ []) noClause k (omega arith))) (subst (RowOf text (clauseOf cs k)) (sym (row-old k lt)) (H .rows k (omega arith)))
-      | no ge ↦ let at : k ≡ n = omega (arith, long, h) in
-          let at′ : k ≡ length cs = omega arith in
-          subst (λ (C : Clause). RowOf text C (rowIn (withRow w d) k)) (sym (ap (λ (j : ℕ). getD (cs ++ D ∷ []) j noClause) at′ ∙ getD-append-seam cs D [] noClause)) (subst (RowOf text D) (sym (ap (rowIn (withRow w d)) at ∙ row-new (ap (leb 32768) (S .key) ∙ key-sort (d .sort) (runAt text (d .name))))) S)
-    ];
-  }
-    where
-      long : length (cs ++ D ∷ []) ≡ length cs + 1
-      long = length-append cs (D ∷ [])
+  -- .. and the new row's are stored
+  module _ (text w′ : List ℕ) (A : CellsStored text (withRow w d) n (d .numbered) (d .numbers) w′) where
+    pub with-row-kept : OnlyRows w w′
+    with-row-kept = record {
+      same = A .same ∙ ap length with-row-by ∙ length-set stored clauseCountAt (n + 1) ∙ length-stored;
+      below = λ j h. A .below j (omega arith) ∙ other j (λ q. absurd (omega arith)) ∙ sets-before (rowNumbers d) w (clausesAt + 8 * n) j 0 (omega arith);
+      above = λ j h g. A .above j (omega arith) ∙ other j g ∙ sets-outside (rowNumbers d) w (clausesAt + 8 * n) j 0 (omega arith) (omega arith);
+    }
+
+    row-now : (k : ℕ) → k < mostClauses → rowIn w′ k ≡ rowIn (withRow w d) k
+    row-now k h = row-same (withRow w d) w′ k (λ j l g. A .below j (omega arith))
+
+    pub rows-more : (cs : List Clause) → HoldsRows text w cs → length cs ≡ n → (D : Clause) → RowOf text D d → HoldsRows text w′ (cs ++ D ∷ [])
+    rows-more cs H ln D S = record {
+      counted = A .above clauseCountAt (omega arith) ∙ count-new ∙ sym (long ∙ ap (λ (k : ℕ). k + 1) ln);
+      few = omega (arith, long);
+      rows = λ k h. elim (decLe (suc k) n) [
+        | yes lt ↦ subst (λ (C : Clause). RowOf text C (rowIn w′ k)) (sym (List·getD-append cs (D ∷ []) noClause k (omega arith))) (subst (RowOf text (clauseOf cs k)) (sym (row-now k (omega arith) ∙ row-old k lt)) (H .rows k (omega arith)))
+        | no ge ↦ let at : k ≡ n = omega (arith, long, h) in
+            let at′ : k ≡ length cs = omega arith in
+            subst (λ (C : Clause). RowOf text C (rowIn w′ k)) (sym (ap (λ (j : ℕ). getD (cs ++ D ∷ []) j noClause) at′ ∙ getD-append-seam cs D [] noClause)) (subst (RowOf text D) (sym (ap (rowIn w′) at ∙ new-is)) S)
+      ];
+      cells = λ k h. elim (decLe (suc k) n) [
+        | yes lt ↦ subst (λ (r : Row). CellsThere text w′ k (r .numbered) (r .numbers)) (sym (row-now k (omega arith) ∙ row-old k lt)) (cells-same text w w′ k (rowIn w k .numbered) (rowIn w k .numbers) (H .cells k (omega arith)) (λ j a g. A .below j (omega arith) ∙ cells-old j (omega arith) (omega arith)))
+        | no ge ↦ let at : k ≡ n = omega (arith, long, h) in
+            subst (λ (j : ℕ). CellsThere text w′ j (rowIn w′ j .numbered) (rowIn w′ j .numbers)) (sym at) (subst (λ (r : Row). CellsThere text w′ n (r .numbered) (r .numbers)) (sym new-is) (A .cells))
+      ];
+    }
+      where
+        long : length (cs ++ D ∷ []) ≡ length cs + 1
+        long = length-append cs (D ∷ [])
+
+        new-is : rowIn w′ n ≡ d
+        new-is = row-now n few ∙ row-new (ap (leb 32768) (S .key) ∙ key-sort (d .sort) (runAt text (d .name)))
 
 -- ---- frames
 

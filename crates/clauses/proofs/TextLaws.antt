@@ -90,7 +90,7 @@ module _ (w : List ℕ) (f : ℕ) (room : makingSize ≤ length w) where
   begun-else j g l = getD-set-other (set w clauseCountAt 0) secondAt j f 0 l ∙ getD-set-other w clauseCountAt j 0 0 g
 
   begun-rows : (text : List ℕ) → HoldsRows text begun []
-  begun-rows text = record { counted = begun-count; few = omega arith; rows = λ k h. absurd (omega arith) }
+  begun-rows text = record { counted = begun-count; few = omega arith; rows = λ k h. absurd (omega arith); cells = λ k h. absurd (omega arith) }
 
   pub begun-held : (text : List ℕ) → length text ≤ 65535 → TableHeld text begun
   begun-held text h = record { short = h; room = omega (arith, length-begun); items = noItems; holds = begun-rows text }

@@ -13,6 +13,7 @@ use Rattle.making_memory.specs.Map.{clausesAt, clauseCountAt, makingSize}
 use Rattle.clauses.specs.declared.rows.Row.{Row}
 use Rattle.clauses.specs.Rows.{keyFor, rowNumbers, ShortRow, rowIn}
 use Rattle.clauses.specs.Numbers.{numbersFrom, NumbersThere}
+use Rattle.clauses.specs.Cells.{CellsThere, CellsStored}
 
 -- a row whose name and numbers can be read, and whose key is that of its sort and name
 pub record RowThere (text : List ℕ) (r : Row) : Type 0 where
@@ -37,6 +38,7 @@ pub record RowsThere (text work : List ℕ) : Type 0 where
   pub room : makingSize ≤ length work
   pub few : getD work clauseCountAt 0 ≤ mostClauses
   pub each : (k : ℕ) → k < getD work clauseCountAt 0 → RowThere text (rowIn work k)
+  pub cells : (k : ℕ) → k < getD work clauseCountAt 0 → CellsThere text work k (rowIn work k .numbered) (rowIn work k .numbers)
 
 -- 34, then 36, or 0
 unfoldable pub rowRefusal : List ℕ → List ℕ → Row → ℕ
@@ -46,8 +48,8 @@ rowRefusal text work d = cond (ltb (getD work clauseCountAt 0) mostClauses) (con
 unfoldable pub withRow : List ℕ → Row → List ℕ
 withRow work d = set (sets work (clausesAt + 8 * getD work clauseCountAt 0) (rowNumbers d)) clauseCountAt (getD work clauseCountAt 0 + 1)
 
--- a row is put behind the table, or refused
+-- a row is put behind the table, or refused; its numbers have their cells
 pub record RowAdded (text work : List ℕ) (d : Row) (work′ : List ℕ) (r : ℕ) : Type 0 where
   pub refusal : r ≡ rowRefusal text work d
-  pub added : r ≡ 0 → work′ ≡ withRow work d
+  pub added : r ≡ 0 → CellsStored text (withRow work d) (getD work clauseCountAt 0) (d .numbered) (d .numbers) work′
   pub same : ¬ (r ≡ 0) → work′ ≡ work

@@ -1,7 +1,7 @@
 -- k, n or n + k at an offset, and lists of them compared. Assumes nothing.
 use Prim.Native.Nat.{ℕ, _≤_, _<_}
 use mathlib.Core.Path.{_≡_}
-use mathlib.Core.Bool.{Bool, true}
+use mathlib.Core.Bool.{Bool, true, false}
 use mathlib.Core.List.{List, []}
 use lib.ListN.{length, drop}
 use Rattle.calculus.specs.Answer.{good}
@@ -9,10 +9,12 @@ use Rattle.notation_calculus.specs.Words.{Word, run}
 use Rattle.notation_calculus.specs.Trees.{Number}
 use Rattle.notation_calculus.specs.Grammar.{got, behind, numberAt}
 use Rattle.words.specs.Next.{runAt}
-use Rattle.words.specs.Lexed.{from, Lexed}
+use Rattle.words.specs.Lexed.{from, Lexed, Onward}
 use Rattle.clauses.specs.declared.numbers.Num.{Num}
 use Rattle.clauses.specs.Groups.{valueIn, restIn, listIn, Readable}
-use Rattle.clauses.specs.Rows.{noNumber}
+
+abbrev pub noNumber : Number
+noNumber = record { isOpen = false; name = []; plus = 0; place = 0 }
 
 -- a number is read from these words
 abbrev pub NumberThere : List Word → Type 0
@@ -30,6 +32,12 @@ pub record NumberRead (text : List ℕ) (us : List Word) (r : Num) : Type 0 wher
   pub name : r .named ≡ true → number .name ≡ runAt text (r .place)
   pub inside : r .named ≡ true → r .place < length text
   pub some : r .named ≡ true → 0 < run (drop (r .place) text)
+
+-- .. with the offset behind the word that follows it: behind that word stands another number, or the offset does not matter
+pub record NumberPast (text : List ℕ) (us : List Word) (r : Num) : Type 0 where
+  pub stop : ℕ
+  pub read : NumberRead text us (record { named = r .named; place = r .place; plus = r .plus; end = stop })
+  pub past : NumberThere (behind (from text stop)) → Onward text stop (r .end)
 
 -- .. but its name
 abbrev pub plainNumber : Num → Number

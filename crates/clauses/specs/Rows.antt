@@ -8,13 +8,14 @@ use lib.ListN.{length, getD}
 use Rattle.calculus.specs.Answer.{Answer, good}
 use Rattle.notation_calculus.specs.Words.{equals, Word}
 use Rattle.notation_calculus.specs.Trees.{Bound, Number, TypeTree, typed, one, nothing, Body, ofType, Clause}
-use Rattle.notation_calculus.specs.Grammar.{Got, got, place, expect, parametersAt, numbersAt, typeBody, termBody, clauseAt, isType, mostClauses}
+use Rattle.notation_calculus.specs.Grammar.{Got, got, place, expect, parametersAt, numbersAt, beginsAtom, typeBody, termBody, clauseAt, isType, mostClauses}
 use Rattle.words.specs.Next.{runAt}
 use Rattle.words.specs.NameKeys.{nameKey}
 use Rattle.words.specs.Lexed.{from, Lexed}
 use Rattle.grammar.specs.Ends.{restOf}
 use Rattle.making_memory.specs.Map.{clausesAt, clauseCountAt}
 use Rattle.clauses.specs.declared.rows.Row.{Row}
+use Rattle.clauses.specs.Cells.{CellsThere}
 
 -- a body of a sort: yes means a type
 abbrev pub bodyAt : Bool → List Word → Answer (Got Body)
@@ -31,6 +32,7 @@ pub record RowOf (text : List ℕ) (c : Clause) (r : Row) : Type 0 where
   pub name-place : c .head .place ≡ r .name
   pub name-is : c .head .name ≡ runAt text (r .name)
   pub name-inside : r .name ≤ length text
+  pub heads : beginsAtom (from text (r .name)) ≡ false
   pub types-lexed : Lexed text (r .typed)
   pub types : parametersAt (from text (r .typed)) ≡ got (c .types) (from text (r .numbered))
   pub numbers-lexed : Lexed text (r .numbered)
@@ -106,8 +108,11 @@ pub record KeyBelow (work : List ℕ) (key k r : ℕ) : Type 0 where
   pub most : r ≤ k
   pub others : (j : ℕ) → r ≤ j → j < k → ¬ (rowIn work j .key ≡ key)
 
-abbrev pub noNumber : Number
-noNumber = record { isOpen = false; name = []; plus = 0; place = 0 }
+-- a row of the table has its name at an offset
+pub record HeadAt (work : List ℕ) (place : ℕ) : Type 0 where
+  pub row : ℕ
+  pub counted : row < getD work clauseCountAt 0
+  pub here : rowIn work row .name ≡ place
 
 abbrev pub noBound : Bound
 noBound = record { name = []; place = 0 }
@@ -124,3 +129,4 @@ pub record HoldsRows (text work : List ℕ) (cs : List Clause) : Type 0 where
   pub counted : getD work clauseCountAt 0 ≡ length cs
   pub few : length cs ≤ mostClauses
   pub rows : (k : ℕ) → k < length cs → RowOf text (clauseOf cs k) (rowIn work k)
+  pub cells : (k : ℕ) → k < length cs → CellsThere text work k (rowIn work k .numbered) (rowIn work k .numbers)

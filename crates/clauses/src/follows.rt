@@ -1,4 +1,5 @@
 // A clause after those of the table: refusals 34 and 36.
+use crate::cells;
 use crate::numbers;
 use crate::rows;
 use crate::rows::Row;
@@ -28,7 +29,7 @@ pub fn namesake(text: &[u8], r: Row, sort: bool, at: usize) -> bool
     if !same_sort(r.sort, sort) {
         return false;
     }
-    words::same_run(text, r.name, at)
+    words::same::same_run(text, at, r.name)
 }
 
 // A later clause of a name may follow if it has as many parameters, and fits numbers that the earlier do not fit.
@@ -74,7 +75,7 @@ fn may_follow_all(text: &[u8], work: &[u16], n: usize, d: Row) -> bool
 
 // 34, then 36; or 0, and the row stands behind the table.
 pub fn with_row(text: &[u8], work: &mut [u16], d: Row) -> u8
-    requires { ⌜ (RowsThere (now text) (now work)) × ((RowThere (now text) d) × ShortRow d) ⌝ }
+    requires { ⌜ (RowsThere (now text) (now work)) × ((RowThere (now text) d) × ((ShortRow d) × (length (now text) ≤ 65535))) ⌝ }
     ensures { λ r. ⌜ RowAdded (now (text .entry)) (now (work .entry)) d (now (work .exit)) r ⌝ }
 {
     let n = row_count(work);
@@ -86,5 +87,6 @@ pub fn with_row(text: &[u8], work: &mut [u16], d: Row) -> u8
     }
     rows::store(work, n, d);
     work[making_memory::CLAUSE_COUNT] = n as u16 + 1;
+    cells::store(text, work, n, d.numbered, d.numbers);
     0
 }

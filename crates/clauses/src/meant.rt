@@ -1,4 +1,5 @@
 // The clause that a name means with its arguments, and the clauses that a clause knows.
+use crate::cells;
 use crate::follows;
 use crate::numbers;
 use crate::numbers::Num;
@@ -12,6 +13,7 @@ ghost use Rattle.making_memory.specs.Map.{scopeAt, clauseCountAt, makingSize};
 ghost use Rattle.words.specs.Next.{runAt};
 ghost use Rattle.clauses.specs.Rows.{keyFor};
 ghost use Rattle.clauses.specs.Numbers.{plainNumber, numbersFrom, NumbersThere};
+ghost use Rattle.clauses.specs.Cells.{CellsThere};
 ghost use Rattle.clauses.specs.Follows.{RowThere, RowsThere};
 ghost use Rattle.clauses.specs.Meant.{valuesIn, rowMeant, firstMeant, CanAsk, rowsUpTo, rowSeen};
 
@@ -44,14 +46,14 @@ pub fn value_of(work: &[u16], entry: usize) -> usize
 }
 
 // The n number parameters at an offset fit the values of the entries from one on.
-fn fit_all(text: &[u8], work: &[u16], at: usize, n: usize, first: usize) -> bool
+pub fn fit_all(text: &[u8], work: &[u16], at: usize, n: usize, first: usize) -> bool
     requires { ⌜ (NumbersThere (now text) at n) × ((first + n ≤ mostEntries) × (makingSize ≤ length (now work))) ⌝ }
     ensures { λ r. ⌜ r ≡ fitAll (numbersFrom (now (text .entry)) at n) (valuesIn (now (work .entry)) first n) ⌝ }
 {
     let mut i: usize = 0;
-    let mut p = at;
+    let mut p = numbers::first_at(text, at);
     while i < n {
-        let k = numbers::number_behind(text, p);
+        let k = numbers::number_past(text, p);
         let v = value_of(work, first + i);
         if !fits(k, v) {
             return false;
@@ -62,8 +64,9 @@ fn fit_all(text: &[u8], work: &[u16], at: usize, n: usize, first: usize) -> bool
     true
 }
 
-fn meant(text: &[u8], work: &[u16], q: Asked, r: Row) -> bool
-    requires { ⌜ (CanAsk (now text) (now work) q) × (RowThere (now text) r) ⌝ }
+// Row k, which is r, is meant.
+fn meant(text: &[u8], work: &[u16], q: Asked, k: usize, r: Row) -> bool
+    requires { ⌜ (CanAsk (now text) (now work) q) × ((RowThere (now text) r) × ((k < 256) × (CellsThere (now text) (now work) k (r .numbered) (r .numbers)))) ⌝ }
     ensures { λ x. ⌜ x ≡ rowMeant (now (text .entry)) (now (work .entry)) q r ⌝ }
 {
     if !follows::namesake(text, r, q.sort, q.name) {
@@ -75,7 +78,7 @@ fn meant(text: &[u8], work: &[u16], q: Asked, r: Row) -> bool
     if r.numbers != q.numbers {
         return false;
     }
-    fit_all(text, work, r.numbered, r.numbers, q.first)
+    cells::numbers_fit(text, work, k, r.numbered, r.numbers, q.first)
 }
 
 // The first clause that is meant, among those that are known; or how many are known.
@@ -87,7 +90,7 @@ pub fn clause_for(text: &[u8], work: &[u16], q: Asked, seen: usize) -> usize
     let mut k = rows::key_from(work, key, 0, seen);
     while k < seen {
         let r = rows::row_at(work, k);
-        if meant(text, work, q, r) {
+        if meant(text, work, q, k, r) {
             return k;
         }
         k = rows::key_from(work, key, k + 1, seen);

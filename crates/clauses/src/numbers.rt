@@ -2,8 +2,8 @@
 ghost use mathlib.Core.Path.{_≡_};
 ghost use Prim.Native.Nat.{_≤_};
 ghost use Rattle.notation_calculus.specs.Grammar.{behind, covers, coverAll};
-ghost use Rattle.words.specs.Lexed.{from, Lexed};
-ghost use Rattle.clauses.specs.Numbers.{NumberThere, NumberRead, plainNumber, numbersFrom, NumbersThere};
+ghost use Rattle.words.specs.Lexed.{from, Lexed, Onward};
+ghost use Rattle.clauses.specs.Numbers.{NumberThere, NumberRead, NumberPast, plainNumber, numbersFrom, NumbersThere};
 
 const PLUS: u8 = 21;
 
@@ -34,7 +34,7 @@ pub fn number_at(text: &[u8], at: usize) -> Num
             end: w.end,
         };
     }
-    let p = words::word_at(text, w.end);
+    let p = words::marks::mark_at(text, w.end);
     if p.kind != PLUS {
         return Num {
             named: true,
@@ -59,6 +59,50 @@ pub fn number_behind(text: &[u8], at: usize) -> Num
 {
     let w = words::word_at(text, at);
     number_at(text, w.end)
+}
+
+// Behind the opening bracket at an offset, where the first number of a list stands.
+pub fn first_at(text: &[u8], at: usize) -> usize
+    requires { ⌜ Lexed (now text) at ⌝ }
+    ensures { λ r. ⌜ (NumberThere (behind (from (now (text .entry)) at)) → Onward (now (text .entry)) at r) ⌝ }
+{
+    let w = words::word_at(text, at);
+    w.end
+}
+
+// The number at an offset, and the offset behind the word that follows it, a comma or the closing bracket. That word is read to look for a plus; so a list is
+// read with each word once, where `number_behind` reads each comma twice.
+pub fn number_past(text: &[u8], at: usize) -> Num
+    requires { ⌜ (Lexed (now text) at) × (NumberThere (from (now text) at)) ⌝ }
+    ensures { λ r. ⌜ NumberPast (now (text .entry)) (from (now (text .entry)) at) r ⌝ }
+{
+    let w = words::word_at(text, at);
+    let p = words::word_here(text, w.end);
+    if w.kind != words::NAME {
+        return Num {
+            named: false,
+            place: w.start,
+            plus: wide(w.value),
+            end: p.end,
+        };
+    }
+    if p.kind != PLUS {
+        return Num {
+            named: true,
+            place: w.start,
+            plus: 0,
+            end: p.end,
+        };
+    }
+    let k = words::word_at(text, p.end);
+    let plus = wide(k.value);
+    let c = words::word_here(text, k.end);
+    Num {
+        named: true,
+        place: w.start,
+        plus,
+        end: c.end,
+    }
 }
 
 // An earlier parameter fits all that a later one fits.

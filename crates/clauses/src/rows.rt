@@ -1,12 +1,13 @@
 // A clause's row: where its parts stand in the text, and how many parameters it has.
 use crate::groups;
 ghost use mathlib.Core.Path.{_≡_};
+ghost use mathlib.Core.Bool.{true};
 ghost use Prim.Native.Nat.{_+_, _*_, _≤_, _<_};
-ghost use lib.ListN.{length};
+ghost use lib.ListN.{length, getD};
 ghost use lib.Seq.{sets};
-ghost use Rattle.making_memory.specs.Map.{clausesAt, makingSize};
+ghost use Rattle.making_memory.specs.Map.{clausesAt, clauseCountAt, makingSize};
 ghost use Rattle.words.specs.Next.{runAt};
-ghost use Rattle.clauses.specs.Rows.{ClauseEnds, RowRead, flagOf, keyFor, rowNumbers, ShortRow, rowIn, KeyFrom, KeyBelow};
+ghost use Rattle.clauses.specs.Rows.{ClauseEnds, RowRead, flagOf, keyFor, rowNumbers, ShortRow, rowIn, KeyFrom, KeyBelow, HeadAt};
 
 const SQUARE: u8 = 17;
 
@@ -114,6 +115,36 @@ pub fn key_below(work: &[u16], key: usize, k: usize) -> usize
         i = i - 1;
     }
     i
+}
+
+// The offset of row k's name alone.
+pub fn name_at(work: &[u16], k: usize) -> usize
+    requires { ⌜ (k < 256) × (makingSize ≤ length (now work)) ⌝ }
+    ensures { λ r. ⌜ r ≡ rowIn (now (work .entry)) k .name ⌝ }
+{
+    wide(work[making_memory::CLAUSES + 8 * k])
+}
+
+// A clause begins at an offset: rows stand in the order of the text, so each look passes half of those that are left. Only a yes is to be believed.
+pub fn head_at(work: &[u16], place: usize) -> bool
+    requires { ⌜ (getD (now work) clauseCountAt 0 ≤ 256) × (makingSize ≤ length (now work)) ⌝ }
+    ensures { λ r. ⌜ (r ≡ true → HeadAt (now (work .entry)) place) ⌝ }
+{
+    let mut low: usize = 0;
+    let mut high = wide(work[making_memory::CLAUSE_COUNT]);
+    while low < high {
+        let middle = (low + high) / 2;
+        let name = name_at(work, middle);
+        if name == place {
+            return true;
+        }
+        if name < place {
+            low = middle + 1;
+        } else {
+            high = middle;
+        }
+    }
+    false
 }
 
 // Row k of the table.

@@ -13,6 +13,7 @@ use Rattle.notation_calculus.specs.Grammar.{peek, behind, place, isToken, is, e
 use Rattle.words.specs.Tables.{tokenCode}
 use Rattle.words.specs.Next.{Said}
 use Rattle.words.specs.Lexed.{from, Lexed, Stands}
+use Rattle.words.specs.Marks.{Untold, Marks}
 use Rattle.grammar.specs.declared.steps.End.{End}
 use Rattle.grammar.specs.Ends.{Ends}
 use Rattle.grammar.specs.Skips.{Step, expectCode, isNumber}
@@ -109,6 +110,21 @@ module _ (text : List ℕ) (at : ℕ) (w : Said) (s : Stands text at w) where
 
   pub is-no : (t : Sign) → ¬ (w .code ≡ signCode t) → is t (from text at) ≡ false
   is-no t e = token-is t (peek (from text at) .token) ∙ ne-eqb _ _ (λ q. e (s .code ∙ sym q))
+
+-- .. where only a sign is asked for: one that was told stands there
+pub mark-stands : (text : List ℕ) (at : ℕ) (w : Said) → Marks text at w → (n : ℕ) → w .code ≡ n → ¬ (n ≡ 24) → Stands text at w
+mark-stands text at w m n e d = m .stands (λ z. d (sym e ∙ z))
+
+-- .. and one that was not does not
+pub mark-no : (text : List ℕ) (at : ℕ) (w : Said) (t : Sign) → Untold text at w (signCode t) → ¬ (w .code ≡ signCode t) → is t (from text at) ≡ false
+mark-no text at w t u n = token-is t (peek (from text at) .token) ∙ ne-eqb _ _ (λ q. u n (sym q))
+
+-- .. and who knows the word knows that
+pub word-marks : (text : List ℕ) (at : ℕ) (w : Said) → Stands text at w → Marks text at w
+word-marks text at w s = record { stands = λ _. s; arrow = untold 8; linear = untold 9; times = untold 10; square = untold 17; curly = untold 19; plus = untold 21; power = untold 25 }
+  where
+    untold : (k : ℕ) → Untold text at w k
+    untold k n z = n (s .code ∙ z)
 
 -- ---- ends
 

@@ -76,11 +76,11 @@ closes-is : (w : Word) → (is endSquare (w ∷ []) || is endCurly (w ∷ [])) �
 closes-is w = ap (λ (b : Bool). b || is endCurly (w ∷ [])) (token-is endSquare (w .token)) ∙ ap (λ (b : Bool). eqb 18 (tokenCode (w .token)) || b) (token-is endCurly (w .token))
 
 -- behind a word, by what it opens and closes
-abbrev onward : ℕ → Word → List Word → Bool → Bool → List Word
+abbrev pub onward : ℕ → Word → List Word → Bool → Bool → List Word
 onward zero w ws o k = cond o (behindGroup 1 ws) (w ∷ ws)
 onward (suc d) w ws o k = cond o (behindGroup (suc (suc d)) ws) (cond k (behindGroup d ws) (behindGroup (suc d) ws))
 
-onward-is : (d : ℕ) (w : Word) (ws : List Word) → behindGroup d (w ∷ ws) ≡ onward d w ws (opensGroup (tokenCode (w .token))) (closesGroup (tokenCode (w .token)))
+pub onward-is : (d : ℕ) (w : Word) (ws : List Word) → behindGroup d (w ∷ ws) ≡ onward d w ws (opensGroup (tokenCode (w .token))) (closesGroup (tokenCode (w .token)))
 onward-is zero w ws = ap (λ (o : Bool). cond o (behindGroup 1 ws) (w ∷ ws)) (opens-is w)
 onward-is (suc d) w ws = ap (λ (o : Bool). cond o (behindGroup (suc (suc d)) ws) (cond (is endSquare (w ∷ []) || is endCurly (w ∷ [])) (behindGroup d ws) (behindGroup (suc d) ws))) (opens-is w) ∙ ap (λ (k : Bool). cond (opensGroup (tokenCode (w .token))) (behindGroup (suc (suc d)) ws) (cond k (behindGroup d ws) (behindGroup (suc d) ws))) (closes-is w)
 

@@ -8,7 +8,7 @@ use lib.ListN.{length}
 use borrow.Author.Tests.{eq-eqb, ne-eqb}
 use Rattle.calculus.specs.Answer.{Answer, good, refused, _>>=_, refuse, need}
 use Rattle.notation_calculus.specs.Words.{plus, power, Token, sign, part, number, name, Word}
-use Rattle.notation_calculus.specs.Grammar.{peek, behind, place}
+use Rattle.notation_calculus.specs.Grammar.{peek, behind, place, is}
 use Rattle.words.specs.Tables.{tokenCode}
 use Rattle.words.specs.Next.{Said}
 use Rattle.words.specs.Lexed.{from, Onward, Stands}
@@ -38,6 +38,9 @@ number-by-none (sign t) ws e f = refl
 number-by-none (part p) ws e f = refl
 number-by-none (number n) ws e f = absurd (e refl)
 number-by-none (name n) ws e f = absurd (f refl)
+
+pub plus-none : (ws : List Word) → is plus ws ≡ false → plusEnd ws ≡ good ws
+plus-none ws e = ap (λ (b : Bool). cond b (need (isNumber (peek (behind ws) .token)) 32 (place (behind ws)) >>= λ _. good (behind (behind ws))) (good ws)) e
 
 module _ (text : List ℕ) (at : ℕ) (w : Said) (s : Stands text at w) where
   abbrev here : List Word
@@ -71,9 +74,6 @@ module _ (text : List ℕ) (at : ℕ) (w : Said) (s : Stands text at w) where
 
   abbrev plusBy : Bool → List Word → Answer (List Word)
   plusBy b us = cond b (need (isNumber (peek us .token)) 32 (place us) >>= λ _. good (behind us)) (good here)
-
-  pub plus-none : ¬ (w .code ≡ 21) → plusEnd here ≡ good here
-  plus-none e = ap (λ (b : Bool). plusBy b (behind here)) (is-no text at w s plus e)
 
   pub plus-on : w .code ≡ 21 → Onward text at (w .end)
   plus-on e = s .onward (not-end 20 e)

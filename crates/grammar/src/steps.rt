@@ -82,7 +82,7 @@ fn plus_end(text: &[u8], at: usize) -> End
     requires { ⌜ Lexed (now text) at ⌝ }
     ensures { λ r. ⌜ Ends (now (text .entry)) (length (from (now (text .entry)) at) + 1) (plusEnd (from (now (text .entry)) at)) r ⌝ }
 {
-    let p = words::word_at(text, at);
+    let p = words::marks::mark_at(text, at);
     if p.kind != PLUS {
         return here(text, at);
     }

@@ -16,26 +16,29 @@ halvesAt = 13312
 abbrev pub clausesAt : ℕ
 clausesAt = 21504
 
+abbrev pub cellsAt : ℕ
+cellsAt = 23552
+
 abbrev pub framesAt : ℕ
-framesAt = 23552
+framesAt = 30720
 
 abbrev pub typeCountAt : ℕ
-typeCountAt = 24064
+typeCountAt = 31232
 
 abbrev pub nodeCountAt : ℕ
-nodeCountAt = 24065
+nodeCountAt = 31233
 
 abbrev pub putCountAt : ℕ
-putCountAt = 24066
+putCountAt = 31234
 
 abbrev pub clauseCountAt : ℕ
-clauseCountAt = 24067
+clauseCountAt = 31235
 
 abbrev pub secondAt : ℕ
-secondAt = 24068
+secondAt = 31236
 
 abbrev pub levelsAt : ℕ
-levelsAt = 24576
+levelsAt = 31744
 
 abbrev pub makingSize : ℕ
 makingSize = 32768

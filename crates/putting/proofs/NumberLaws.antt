@@ -12,16 +12,16 @@ use Rattle.notation_calculus.specs.Trees.{Number}
 use Rattle.notation_calculus.specs.Grammar.{Got, got, behind, expect, listFrom, numberAt, numbersAt}
 use Rattle.notation_calculus.specs.Making.{Scope, entries, numbersIn, mostEntries}
 use Rattle.words.specs.Next.{Said}
-use Rattle.words.specs.Lexed.{from, Stands}
+use Rattle.words.specs.Lexed.{from}
+use Rattle.words.specs.Marks.{Untold}
 use Rattle.grammar.specs.declared.steps.End.{End}
 use Rattle.grammar.specs.Ends.{restOf, Ends}
 use Rattle.grammar.specs.Skips.{numbersEnd}
-use Rattle.grammar.proofs.EndLaws.{is-no}
+use Rattle.grammar.proofs.EndLaws.{mark-no}
 use Rattle.grammar.proofs.SkipLaws.{numbers-rest}
 use Rattle.clauses.specs.declared.groups.Group.{Group}
 use Rattle.clauses.specs.Groups.{Readable, GroupRead}
-use Rattle.clauses.specs.Rows.{noNumber}
-use Rattle.clauses.specs.Numbers.{numbersFrom}
+use Rattle.clauses.specs.Numbers.{noNumber, numbersFrom}
 use Rattle.clauses.specs.Meant.{valuesIn}
 use Rattle.clauses.proofs.ListLaws.{numbers-group}
 use Rattle.scopes.specs.declared.frames.Frame.{Frame}
@@ -52,10 +52,10 @@ not-read text w first n p f (good g) e = absurd (refused≢good (sym e))
 not-read text w first n p f (refused why) e = refused-inj e
 
 -- there are none
-pub numbers-none : (text w : List ℕ) (name at types frame top into : ℕ) → CanPut text w name at types frame top into → (v : Said) → Stands text at v → ¬ (v .code ≡ 19) → NumbersSay text w name at types frame top (numbers-end.At 0 at) w
-numbers-none text w name at types frame top into P v s c = record {
+pub numbers-none : (text w : List ℕ) (name at types frame top into : ℕ) → CanPut text w name at types frame top into → (v : Said) → Untold text at v 19 → ¬ (v .code ≡ 19) → NumbersSay text w name at types frame top (numbers-end.At 0 at) w
+numbers-none text w name at types frame top into P v u c = record {
   only = only-none (top + types) mostEntries w;
-  says = λ S H. subst (λ (q : Bool). NumbersAnswer text w (top + types) (numbers-end.At 0 at) (numbersIf (from text at) q >>= λ ks. numbersIn S name types (ks .value) >>= λ ns. got ns (ks .rest))) (sym (is-no text at v s curly c)) (record { numbers = refl; few = omega (arith, P .few); rest = record { is = refl; lexed = P .lexed } });
+  says = λ S H. subst (λ (q : Bool). NumbersAnswer text w (top + types) (numbers-end.At 0 at) (numbersIf (from text at) q >>= λ ks. numbersIn S name types (ks .value) >>= λ ns. got ns (ks .rest))) (sym (mark-no text at v curly u c)) (record { numbers = refl; few = omega (arith, P .few); rest = record { is = refl; lexed = P .lexed } });
 }
 
 module _ (text w : List ℕ) (name at types frame top into : ℕ) (P : CanPut text w name at types frame top into) (e : End) (b : ℕ) (E : Ends text b (numbersEnd (from text at)) e) where

@@ -35,7 +35,7 @@ fn numbers_behind(
     requires { ⌜ CanPut (now text) (now work) name at types frame top into ⌝ }
     ensures { λ r. ⌜ NumbersSay (now (text .entry)) (now (work .entry)) name at types frame top r (now (work .exit)) ⌝ }
 {
-    let w = words::word_at(text, at);
+    let w = words::marks::mark_at(text, at);
     if w.kind != grammar::steps::CURLY {
         return NumbersEnd::At(0, at);
     }

@@ -17,8 +17,7 @@ use Rattle.words.specs.Next.{Said}
 use Rattle.words.specs.Lexed.{from, Onward, Stands}
 use Rattle.making_memory.specs.Map.{scopeAt, makingSize}
 use Rattle.clauses.specs.Groups.{valueIn, restIn, listIn, Readable}
-use Rattle.clauses.specs.Rows.{noNumber}
-use Rattle.clauses.specs.Numbers.{NumberThere, numbersFrom, NumbersThere}
+use Rattle.clauses.specs.Numbers.{noNumber, NumberThere, numbersFrom, NumbersThere}
 use Rattle.clauses.specs.Meant.{valuesIn}
 use Rattle.clauses.proofs.NumberLaws.{behind-on, number-there}
 use Rattle.scopes.specs.declared.frames.Frame.{Frame}

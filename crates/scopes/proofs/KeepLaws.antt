@@ -12,7 +12,10 @@ use Rattle.notation_calculus.specs.Trees.{Bound, Clause}
 use Rattle.notation_calculus.specs.Making.{Entry, Scope, entries, bind, withVariables, mostEntries}
 use Rattle.words.specs.Next.{runAt, nameIn}
 use Rattle.making_memory.specs.Map.{scopeAt, clausesAt, framesAt, clauseCountAt, makingSize}
-use Rattle.clauses.specs.Rows.{RowOf, clauseOf, HoldsRows}
+use Rattle.clauses.specs.declared.rows.Row.{Row}
+use Rattle.clauses.specs.Cells.{CellsThere}
+use Rattle.clauses.specs.Rows.{RowOf, clauseOf, HoldsRows, rowIn}
+use Rattle.clauses.proofs.CellLaws.{cells-same}
 use Rattle.clauses.proofs.TableLaws.{row-same}
 use Rattle.scopes.specs.declared.frames.Frame.{Frame}
 use Rattle.scopes.specs.Entries.{placeIn, valueAt, entryIn, variableIn, entriesBack, namedFrom, Places, withEntry, OnlyEntries}
@@ -147,5 +150,9 @@ pub rows-kept : (text w w′ : List ℕ) (cs : List Clause) → HoldsRows text w
 rows-kept text w w′ cs H same count = record {
   counted = count ∙ H .counted;
   few = H .few;
-  rows = λ k h. subst (RowOf text (clauseOf cs k)) (sym (row-same w w′ k (λ j a b. same j (omega arith) (omega (arith, H .few))))) (H .rows k h);
+  rows = λ k h. subst (RowOf text (clauseOf cs k)) (sym (row-is k h)) (H .rows k h);
+  cells = λ k h. subst (λ (r : Row). CellsThere text w′ k (r .numbered) (r .numbers)) (sym (row-is k h)) (cells-same text w w′ k (rowIn w k .numbered) (rowIn w k .numbers) (H .cells k h) (λ j a b. same j (omega arith) (omega (arith, H .few))));
 }
+  where
+    row-is : (k : ℕ) → k < length cs → rowIn w′ k ≡ rowIn w k
+    row-is k h = row-same w w′ k (λ j a b. same j (omega arith) (omega (arith, H .few)))

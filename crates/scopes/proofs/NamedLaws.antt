@@ -19,8 +19,8 @@ use Rattle.words.specs.Lexed.{from, Lexed, Onward, Stands}
 use Rattle.making_memory.specs.Map.{scopeAt, makingSize}
 use Rattle.clauses.specs.declared.numbers.Num.{Num}
 use Rattle.clauses.specs.Groups.{codeAt, valueIn, restIn, listIn, Readable}
-use Rattle.clauses.specs.Rows.{noBound, noNumber}
-use Rattle.clauses.specs.Numbers.{NumberRead, numbersFrom, NumbersThere}
+use Rattle.clauses.specs.Rows.{noBound}
+use Rattle.clauses.specs.Numbers.{noNumber, NumberRead, numbersFrom, NumbersThere}
 use Rattle.clauses.specs.Meant.{valuesIn}
 use Rattle.clauses.proofs.ListLaws.{NameRead, name-read}
 use Rattle.clauses.proofs.HeadLaws.{spelled-here, name-onward, place-inside}

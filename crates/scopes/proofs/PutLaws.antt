@@ -10,8 +10,7 @@ use borrow.Author.Tests.{le-leb, lt-leb}
 use Rattle.notation_calculus.specs.Trees.{Clause}
 use Rattle.notation_calculus.specs.Grammar.{place}
 use Rattle.notation_calculus.specs.Making.{costOf, mostPuts}
-use Rattle.words.specs.Next.{Said}
-use Rattle.words.specs.Lexed.{from, Stands}
+use Rattle.words.specs.Lexed.{from}
 use Rattle.making_memory.specs.Map.{putCountAt}
 use Rattle.clauses.specs.declared.rows.Row.{Row}
 use Rattle.clauses.specs.Rows.{RowOf}
@@ -22,14 +21,15 @@ pub cost-is : (text : List ℕ) (C : Clause) (r : Row) → RowOf text C r → co
 unfolding rowCost
 cost-is text C r R = ap (λ (e : ℕ). 1 + (e - C .head .place) / 32) (R .end) ∙ ap (λ (e : ℕ). 1 + (place (from text (r .end)) - e) / 32) (R .name-place)
 
-module _ (text : List ℕ) (r : Row) (w : Said) (s : Stands text (r .end) w) where
-  pub cost-none : w .place < r .name → 1 ≡ rowCost text r
+-- .. where a word begins behind the clause
+module _ (text : List ℕ) (r : Row) (start : ℕ) (s : start ≡ place (from text (r .end))) where
+  pub cost-none : start < r .name → 1 ≡ rowCost text r
   unfolding rowCost
-  cost-none h = let z : w .place - r .name ≡ 0 = omega arith in sym (ap (λ (e : ℕ). 1 + (e - r .name) / 32) (sym (s .place)) ∙ ap (λ (e : ℕ). 1 + e / 32) z)
+  cost-none h = let z : start - r .name ≡ 0 = omega arith in sym (ap (λ (e : ℕ). 1 + (e - r .name) / 32) (sym s) ∙ ap (λ (e : ℕ). 1 + e / 32) z)
 
-  pub cost-some : 1 + (w .place - r .name) / 32 ≡ rowCost text r
+  pub cost-some : 1 + (start - r .name) / 32 ≡ rowCost text r
   unfolding rowCost
-  cost-some = ap (λ (e : ℕ). 1 + (e - r .name) / 32) (s .place)
+  cost-some = ap (λ (e : ℕ). 1 + (e - r .name) / 32) s
 
 true-not : {C : Type 0} → _≡_ {A = Bool} true false → C
 true-not e = let z : _≡_ {A = ℕ} 0 1 = cc in absurd (omega arith)

@@ -49,10 +49,11 @@ pub fn first_of(text: &[u8], work: &[u16], name: usize, from: usize, to: usize) 
     requires { ⌜ (Places (now text) (now work) from to) × ((from ≤ to) × (name ≤ length (now text))) ⌝ }
     ensures { λ r. ⌜ r ≡ firstNamed (now (text .entry)) (now (work .entry)) name from (to - from) ⌝ }
 {
+    let long = words::same::long_of(text, name);
     let mut e = from;
     while e < to {
         let p = place_of(work, e);
-        if words::same_run(text, name, p) {
+        if words::same::is_name(text, name, long, p) {
             return e;
         }
         e = e + 1;
@@ -65,10 +66,11 @@ pub fn last_of(text: &[u8], work: &[u16], name: usize, from: usize, to: usize) -
     requires { ⌜ (Places (now text) (now work) from to) × ((from ≤ to) × (name ≤ length (now text))) ⌝ }
     ensures { λ r. ⌜ r ≡ lastNamed (now (text .entry)) (now (work .entry)) name from (to - from) ⌝ }
 {
+    let long = words::same::long_of(text, name);
     let mut e = to;
     while from < e {
         let p = place_of(work, e - 1);
-        if words::same_run(text, name, p) {
+        if words::same::is_name(text, name, long, p) {
             return e;
         }
         e = e - 1;

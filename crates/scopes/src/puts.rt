@@ -13,11 +13,11 @@ pub fn cost_of(text: &[u8], r: Row) -> usize
     requires { ⌜ Lexed (now text) (r .end) ⌝ }
     ensures { λ x. ⌜ x ≡ rowCost (now (text .entry)) r ⌝ }
 {
-    let w = words::word_at(text, r.end);
-    if w.start < r.name {
+    let start = words::starts::start_of(text, r.end);
+    if start < r.name {
         return 1;
     }
-    let long = w.start - r.name;
+    let long = start - r.name;
     1 + long / 32
 }
 

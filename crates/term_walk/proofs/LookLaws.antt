@@ -10,12 +10,13 @@ use lib.ListN.{length, drop, take, length-drop}
 use Rattle.calculus.specs.Answer.{Answer, good, refused, _>>=_}
 use Rattle.notation_calculus.specs.Words.{ends, sign, name, blank, endsLine, first, gap, run, Read, wordAt, wordsFrom}
 use Rattle.notation_calculus.specs.Words as Words
-use Rattle.notation_calculus.specs.Grammar.{peek, behind, place}
+use Rattle.notation_calculus.specs.Grammar.{peek, behind, place, beginsAtom}
 use Rattle.words.specs.Tables.{tokenCode, tokenValue}
 use Rattle.words.specs.Next.{runAt, saidWord}
 use Rattle.words.specs.Lexed.{lexed, valued, from, Lexed, Stands}
 use Rattle.words.specs.declared.Word.{Word}
-use Rattle.term_walk.specs.Looks.{wordsAt, ReadableFrom, Looks}
+use Rattle.clauses.specs.Rows.{HeadAt}
+use Rattle.term_walk.specs.Looks.{wordsAt, ReadableFrom, HeadsHeld, Looks}
 
 -- ---- the place of a word is an offset of the text
 
@@ -82,6 +83,12 @@ words-past text at h = ap (λ (b : Bool). cond b (from text at) []) (leb-no at (
 
 pub words-lexed : (text : List ℕ) (at : ℕ) → Lexed text at → wordsAt text at ≡ from text at
 words-lexed text at l = words-inside text at (l .within)
+
+-- where a clause of the table begins no atom does
+pub no-atom : (text w : List ℕ) → HeadsHeld text w → (start at : ℕ) → HeadAt w start → from text start ≡ from text at → beginsAtom (from text at) ≡ false
+no-atom text w T start at h e =
+    let H = T .rows in
+    ap beginsAtom (sym e) ∙ ap (λ (n : ℕ). beginsAtom (from text n)) (sym (h .here)) ∙ H .rows (h .row) (omega (arith, H .counted, h .counted)) .heads
 
 -- ---- the cases
 

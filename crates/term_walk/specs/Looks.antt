@@ -8,11 +8,14 @@ use lib.Dec.{leb}
 use lib.ListN.{length, drop}
 use Rattle.notation_calculus.specs.Words.{name, run}
 use Rattle.notation_calculus.specs.Words as Words
+use Rattle.notation_calculus.specs.Trees.{Clause}
 use Rattle.notation_calculus.specs.Grammar.{peek, behind, place}
 use Rattle.words.specs.Tables.{tokenCode, tokenValue}
 use Rattle.words.specs.Next.{runAt}
 use Rattle.words.specs.Lexed.{from, Lexed}
 use Rattle.words.specs.declared.Word.{Word}
+use Rattle.making_memory.specs.Map.{makingSize}
+use Rattle.clauses.specs.Rows.{HoldsRows}
 
 unfoldable pub wordsAt : List ℕ → ℕ → List Words.Word
 wordsAt text at = cond (leb at (length text)) (from text at) []
@@ -20,6 +23,12 @@ wordsAt text at = cond (leb at (length text)) (from text at) []
 -- an offset of the text, from which on all words are good, or one behind its end
 abbrev pub ReadableFrom : List ℕ → ℕ → Type 0
 ReadableFrom text at = at ≤ length text → Lexed text at
+
+-- the memory holds the table of some clauses of the text
+pub record HeadsHeld (text w : List ℕ) : Type 0 where
+  pub clauses : List Clause
+  pub room : makingSize ≤ length w
+  pub rows : HoldsRows text w clauses
 
 -- the first of the words from an offset on
 pub record Looks (text : List ℕ) (at : ℕ) (w : Word) : Type 0 where

@@ -103,7 +103,7 @@ fn named_at(text: &[u8], work: &mut [u16], h: Walk, s: Left, name: usize, at: us
     requires { ⌜ (CanAtom (now text) (now work) h s) × ((Lexed (now text) at) × ((name ≤ length (now text)) × (0 < run (drop name (now text))))) ⌝ }
     ensures { λ r. ⌜ AtomSays (now (text .entry)) (now (work .entry)) h s (namedEntry (now (text .entry)) name at) r (now (work .exit)) ⌝ }
 {
-    let w = words::word_at(text, at);
+    let w = words::marks::mark_at(text, at);
     if w.kind == SQUARE {
         return put_term(text, work, h, s, name, at);
     }
@@ -139,7 +139,7 @@ pub fn application_from(text: &[u8], work: &mut [u16], h: Walk) -> Step
     ensures { λ r. ⌜ ApplicationSays (now (text .entry)) (now (work .entry)) h r (now (work .exit)) ⌝ }
 {
     let sub = h.sub;
-    if looks::begins_atom(text, h.at) {
+    if looks::begins_atom(text, work, h.at) {
         let s = Left {
             place: h.place,
             flag: 1,

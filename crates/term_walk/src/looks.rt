@@ -3,7 +3,7 @@ ghost use mathlib.Core.Path.{_≡_};
 ghost use Prim.Native.Nat.{_<_};
 ghost use lib.ListN.{length};
 ghost use Rattle.notation_calculus.specs.Grammar.{beginsAtom};
-ghost use Rattle.term_walk.specs.Looks.{wordsAt, ReadableFrom, Looks};
+ghost use Rattle.term_walk.specs.Looks.{wordsAt, ReadableFrom, HeadsHeld, Looks};
 ghost use Rattle.term_walk.specs.Steps.{CanBehind, BehindType};
 use walks::TypeEnd;
 use words::Word;
@@ -51,13 +51,18 @@ pub fn type_behind(
     type_walk::type_from(text, work, at, more, frame, top)
 }
 
-// An atom begins at an offset.
-pub fn begins_atom(text: &[u8], at: usize) -> bool
-    requires { ⌜ ReadableFrom (now text) at ⌝ }
+// An atom begins at an offset. Where the table says that a clause begins there, none does: the clause's head, which may be long, is not read at each
+// use of the clause before it.
+pub fn begins_atom(text: &[u8], work: &[u16], at: usize) -> bool
+    requires { ⌜ (ReadableFrom (now text) at) × (HeadsHeld (now text) (now work)) ⌝ }
     ensures { λ r. ⌜ r ≡ beginsAtom (wordsAt (now (text .entry)) at) ⌝ }
 {
     if text.len() < at {
         return false;
     }
-    grammar::heads::begins_atom(text, at)
+    let start = words::starts::start_of(text, at);
+    if clauses::rows::head_at(work, start) {
+        return false;
+    }
+    grammar::heads::begins_atom(text, start)
 }

@@ -20,7 +20,8 @@ use Rattle.words.specs.Lexed.{from, Lexed, Stands}
 use Rattle.grammar.specs.declared.steps.End.{End}
 use Rattle.grammar.specs.Ends.{restOf, typeStep, Ends}
 use Rattle.grammar.specs.Skips.{groupEnd}
-use Rattle.grammar.proofs.EndLaws.{is-yes, is-no}
+use Rattle.words.specs.Marks.{Marks}
+use Rattle.grammar.proofs.EndLaws.{is-yes, is-no, mark-no}
 use Rattle.grammar.proofs.SkipLaws.{group-rest}
 use Rattle.making_memory.specs.Map.{scopeAt, typeCountAt, nodeCountAt, putCountAt, makingSize}
 use Rattle.made_types.specs.Held.{HoldsState}
@@ -347,13 +348,13 @@ abbrev argumentsIf : List Word → Bool → Answer (Got TypeTrees)
 argumentsIf ws c = cond c (listFrom read (length ws) (behind ws) >>= λ ts. expect endSquare (ts .rest) >>= λ after. got (typesOf (ts .value)) after) (got noTypes ws)
 
 -- there are none
-pub types-none : (text w : List ℕ) (at more frame top name : ℕ) (v : Said) → Stands text at v → CanType text w at more frame top → ¬ (v .code ≡ 17) → TypesSay text w at more frame top name (types-end.At 0 at) w
+pub types-none : (text w : List ℕ) (at more frame top name : ℕ) (v : Said) → Marks text at v → CanType text w at more frame top → ¬ (v .code ≡ 17) → TypesSay text w at more frame top name (types-end.At 0 at) w
 unfolding typesFrom
-types-none text w at more frame top name v s C n = record {
+types-none text w at more frame top name v m C n = record {
   walked = types-walked-none more top w;
   says = λ X S σ G.
       let z : top ≡ top + 0 = omega arith in
-      subst (λ (q : Answer (Got TypeTrees)). TypesAnswer text w top (types-end.At 0 at) (q >>= λ ts. foundAll (λ R τ t. typeOf X more R τ t) S name 0 σ (ts .value) >>= λ xs. got xs (ts .rest))) (sym (ap (argumentsIf (from text at)) (is-no text at v s square n))) (record { types = refl; known = tt; few = omega (arith, G .scope .places .most); state = G .state; rest = record { is = refl; lexed = C .lexed } });
+      subst (λ (q : Answer (Got TypeTrees)). TypesAnswer text w top (types-end.At 0 at) (q >>= λ ts. foundAll (λ R τ t. typeOf X more R τ t) S name 0 σ (ts .value) >>= λ xs. got xs (ts .rest))) (sym (ap (argumentsIf (from text at)) (mark-no text at v square (m .square) n))) (record { types = refl; known = tt; few = omega (arith, G .scope .places .most); state = G .state; rest = record { is = refl; lexed = C .lexed } });
 }
 
 module _ (text w : List ℕ) (at more frame top name : ℕ) (b : ℕ) (e : End) (E : Ends text b (groupEnd square endSquare (typeStep mostNested false) (from text at)) e) where

@@ -18,7 +18,8 @@ use Rattle.notation_theorems.proofs.Answering.{On, on-any, on-either, on-good}
 use Rattle.notation_machine.specs.TypeMachine.{other, TypeLevel, Typing, came, TypeHere, askType, typeDone, askSide, arrowFrom, sideFrom, behindSide}
 use Rattle.words.specs.Next.{Said}
 use Rattle.words.specs.Lexed.{lexed, from, Lexed, Onward, Stands}
-use Rattle.grammar.proofs.EndLaws.{is-yes, is-no}
+use Rattle.words.specs.Marks.{Marks}
+use Rattle.grammar.proofs.EndLaws.{is-yes, mark-stands, mark-no}
 use Rattle.made_types.specs.Held.{HoldsState}
 use Rattle.walk_levels.specs.TypeLevels.{flagNumber, sideNumber}
 use Rattle.walks.specs.Walkable.{rowBodies}
@@ -126,12 +127,12 @@ side-asked text w w′ h form ty sign end flag tight r C l a b f g =
     waited-moved text w h _ _ r w′ (Known ty) (sideAsk text form tight ty sign end) waits g (λ X m₀ base σ S K A k. ask-held w h _ waits text X m₀ base σ S K A (other (formBy form) sign ty) tight (h .frame) (h .top) end S f (form-number form a b, refl, refl) k (places-none text w (h .top) (A .walkable .scope .places)) (omega (arith, A .level)) (omega arith) (A .walkable) l)
 
 -- the side behind the sign that stands at an offset
-module _ (text : List ℕ) (at : ℕ) (v : Said) (s : Stands text at v) where
+module _ (text : List ℕ) (at : ℕ) (v : Said) (m : Marks text at v) where
   abbrev ws : List Word
   ws = from text at
 
-  asked-words : (n : ℕ) → v .code ≡ suc n → (t : TypeHere) (f : Form) (tight : Bool) (ty : ℕ) (σ : State) → good (askSide t f tight (foundIn ty σ) ws) ≡ good (askType t (other f (v .place) ty) tight (t .scope) σ (from text (v .end)))
-  asked-words n e t f tight ty σ = ap (λ (p : ℕ). good (askType t (other f p ty) tight (t .scope) σ (behind ws))) (sym (s .place)) ∙ ap (λ (us : List Word). good (askType t (other f (v .place) ty) tight (t .scope) σ us)) (onward text at v s n e .rest)
+  asked-words : (n : ℕ) → v .code ≡ suc n → Stands text at v → (t : TypeHere) (f : Form) (tight : Bool) (ty : ℕ) (σ : State) → good (askSide t f tight (foundIn ty σ) ws) ≡ good (askType t (other f (v .place) ty) tight (t .scope) σ (from text (v .end)))
+  asked-words n e s t f tight ty σ = ap (λ (p : ℕ). good (askType t (other f p ty) tight (t .scope) σ (behind ws))) (sym (s .place)) ∙ ap (λ (us : List Word). good (askType t (other f (v .place) ty) tight (t .scope) σ us)) (onward text at v s n e .rest)
 
   abbrev arrowIf : ℕ → Bool → Bool → Bool → TypeHere → State → Answer Typing
   arrowIf ty a b c t σ = good (cond a (typeDone t (foundIn ty σ) ws) (cond b (askSide t Trees.arrow false (foundIn ty σ) ws) (cond c (askSide t Trees.linear false (foundIn ty σ) ws) (typeDone t (foundIn ty σ) ws))))
@@ -144,19 +145,19 @@ module _ (text : List ℕ) (at : ℕ) (v : Said) (s : Stands text at v) where
         ∙ ap (λ (x : Bool). arrowIf ty a b x (hereWith h S K) σ) g
 
     pub arrow-arrow : h .tight ≡ false → v .code ≡ 8 → Moved text w h (Known ty) (sideAsk text 4 false ty (v .place) (v .end)) r w′ → Moved text w h (Known ty) (arrowAfter text ty at) r w′
-    arrow-arrow t e M = moved-as (Known ty) (sideAsk text 4 false ty (v .place) (v .end)) (arrowAfter text ty at) (λ X bodies σ S K. arrow-if false true (is linear ws) S K σ t (is-yes text at v s arrow e) refl ∙ asked-words 7 e (hereWith h S K) Trees.arrow false ty σ) M
+    arrow-arrow t e M = let s = mark-stands text at v m 8 e (λ z. omega arith) in moved-as (Known ty) (sideAsk text 4 false ty (v .place) (v .end)) (arrowAfter text ty at) (λ X bodies σ S K. arrow-if false true (is linear ws) S K σ t (is-yes text at v s arrow e) refl ∙ asked-words 7 e s (hereWith h S K) Trees.arrow false ty σ) M
 
     pub arrow-linear : h .tight ≡ false → ¬ (v .code ≡ 8) → v .code ≡ 9 → Moved text w h (Known ty) (sideAsk text 5 false ty (v .place) (v .end)) r w′ → Moved text w h (Known ty) (arrowAfter text ty at) r w′
-    arrow-linear t n e M = moved-as (Known ty) (sideAsk text 5 false ty (v .place) (v .end)) (arrowAfter text ty at) (λ X bodies σ S K. arrow-if false false true S K σ t (is-no text at v s arrow n) (is-yes text at v s linear e) ∙ asked-words 8 e (hereWith h S K) Trees.linear false ty σ) M
+    arrow-linear t n e M = let s = mark-stands text at v m 9 e (λ z. omega arith) in moved-as (Known ty) (sideAsk text 5 false ty (v .place) (v .end)) (arrowAfter text ty at) (λ X bodies σ S K. arrow-if false false true S K σ t (mark-no text at v arrow (m .arrow) n) (is-yes text at v s linear e) ∙ asked-words 8 e s (hereWith h S K) Trees.linear false ty σ) M
 
     pub arrow-none : h .tight ≡ false → ¬ (v .code ≡ 8) → ¬ (v .code ≡ 9) → Moved text w h (Known ty) (doneAfter text ty at) r w′ → Moved text w h (Known ty) (arrowAfter text ty at) r w′
-    arrow-none t n o M = moved-as (Known ty) (doneAfter text ty at) (arrowAfter text ty at) (λ X bodies σ S K. arrow-if false false false S K σ t (is-no text at v s arrow n) (is-no text at v s linear o)) M
+    arrow-none t n o M = moved-as (Known ty) (doneAfter text ty at) (arrowAfter text ty at) (λ X bodies σ S K. arrow-if false false false S K σ t (mark-no text at v arrow (m .arrow) n) (mark-no text at v linear (m .linear) o)) M
 
     pub side-times : v .code ≡ 10 → Moved text w h (Known ty) (sideAsk text 3 true ty (v .place) (v .end)) r w′ → Moved text w h (Known ty) (sideAfter text ty at) r w′
-    side-times e M = moved-as (Known ty) (sideAsk text 3 true ty (v .place) (v .end)) (sideAfter text ty at) (λ X bodies σ S K. ap (λ (b : Bool). good (cond b (askSide (hereWith h S K) product true (foundIn ty σ) ws) (arrowFrom (hereWith h S K) (foundIn ty σ) ws))) (is-yes text at v s times e) ∙ asked-words 9 e (hereWith h S K) product true ty σ) M
+    side-times e M = let s = mark-stands text at v m 10 e (λ z. omega arith) in moved-as (Known ty) (sideAsk text 3 true ty (v .place) (v .end)) (sideAfter text ty at) (λ X bodies σ S K. ap (λ (b : Bool). good (cond b (askSide (hereWith h S K) product true (foundIn ty σ) ws) (arrowFrom (hereWith h S K) (foundIn ty σ) ws))) (is-yes text at v s times e) ∙ asked-words 9 e s (hereWith h S K) product true ty σ) M
 
     pub side-none : ¬ (v .code ≡ 10) → Moved text w h (Known ty) (arrowAfter text ty at) r w′ → Moved text w h (Known ty) (sideAfter text ty at) r w′
-    side-none n M = moved-as (Known ty) (arrowAfter text ty at) (sideAfter text ty at) (λ X bodies σ S K. ap (λ (b : Bool). good (cond b (askSide (hereWith h S K) product true (foundIn ty σ) ws) (arrowFrom (hereWith h S K) (foundIn ty σ) ws))) (is-no text at v s times n)) M
+    side-none n M = moved-as (Known ty) (arrowAfter text ty at) (sideAfter text ty at) (λ X bodies σ S K. ap (λ (b : Bool). good (cond b (askSide (hereWith h S K) product true (foundIn ty σ) ws) (arrowFrom (hereWith h S K) (foundIn ty σ) ws))) (mark-no text at v times (m .times) n)) M
 
 pub arrow-tight : (text w w′ : List ℕ) (h : Here) (ty at : ℕ) (r : code.Walking) → h .tight ≡ true → Moved text w h (Known ty) (doneAfter text ty at) r w′ → Moved text w h (Known ty) (arrowAfter text ty at) r w′
 arrow-tight text w w′ h ty at r t M = moved-as (Known ty) (doneAfter text ty at) (arrowAfter text ty at) (λ X bodies σ S K. ap (λ (b : Bool). good (cond b (typeDone (hereWith h S K) (foundIn ty σ) (from text at)) (cond (is arrow (from text at)) (askSide (hereWith h S K) Trees.arrow false (foundIn ty σ) (from text at)) (cond (is linear (from text at)) (askSide (hereWith h S K) Trees.linear false (foundIn ty σ) (from text at)) (typeDone (hereWith h S K) (foundIn ty σ) (from text at)))))) t) M

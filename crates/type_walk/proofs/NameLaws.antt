@@ -14,8 +14,9 @@ use Rattle.notation_calculus.specs.Making.{State, Entry, Scope, Put, lookup, en
 use Rattle.notation_theorems.proofs.Answering.{On, on-step, on-any, on-either, on-good}
 use Rattle.notation_machine.specs.TypeMachine.{argument, body, TypeLevel, Typing, TypeHere, askType, sideFrom, askArgument, typePutIn}
 use Rattle.words.specs.Next.{Said, runAt}
-use Rattle.words.specs.Lexed.{from, Lexed, Stands}
-use Rattle.grammar.proofs.EndLaws.{is-yes, is-no}
+use Rattle.words.specs.Lexed.{from, Lexed}
+use Rattle.words.specs.Marks.{Marks}
+use Rattle.grammar.proofs.EndLaws.{is-yes, mark-stands, mark-no}
 use Rattle.clauses.specs.Meant.{valuesIn}
 use Rattle.scopes.specs.declared.frames.Frame.{Frame}
 use Rattle.scopes.specs.Entries.{valueAt, Places, namedFrom, firstNamed}
@@ -250,7 +251,7 @@ module _ (text w : List ℕ) (h : Here) (name at : ℕ) (N : NameAt text name) (
 
 -- ---- behind a name
 
-module _ (text w w′ : List ℕ) (h : Here) (name at : ℕ) (r : code.Walking) (v : Said) (s : Stands text at v) where
+module _ (text w w′ : List ℕ) (h : Here) (name at : ℕ) (r : code.Walking) (v : Said) (m : Marks text at v) where
   abbrev ws : List Word
   ws = from text at
 
@@ -263,13 +264,13 @@ module _ (text w w′ : List ℕ) (h : Here) (name at : ℕ) (r : code.Walking) 
   named-if a b e f X bodies σ S K = ap (λ (c : Bool). namedIf c (is curly ws) X bodies (hereWith h S K) σ) e ∙ ap (λ (c : Bool). namedIf a c X bodies (hereWith h S K) σ) f
 
   pub named-square : v .code ≡ 17 → Moved text w h (Given w (h .top) 0) (argumentAsk text w (h .top) name 0 (v .end)) r w′ → Moved text w h Anything (namedAfter text name at) r w′
-  named-square e M = moved-by (Given w (h .top) 0) Anything (argumentAsk text w (h .top) name 0 (v .end)) (namedAfter text name at) (λ X m₀ base σ S K A _. (tt, λ bodies. named-if true (is curly ws) (is-yes text at v s square e) refl X bodies σ S K ∙ ap (λ (us : List Word). askArgument (hereWith h S K) σ (boundAt text name) [] us) (onward text at v s 16 e .rest))) M
+  named-square e M = let s = mark-stands text at v m 17 e (λ z. omega arith) in moved-by (Given w (h .top) 0) Anything (argumentAsk text w (h .top) name 0 (v .end)) (namedAfter text name at) (λ X m₀ base σ S K A _. (tt, λ bodies. named-if true (is curly ws) (is-yes text at v s square e) refl X bodies σ S K ∙ ap (λ (us : List Word). askArgument (hereWith h S K) σ (boundAt text name) [] us) (onward text at v s 16 e .rest))) M
 
   pub named-curly : ¬ (v .code ≡ 17) → v .code ≡ 19 → Moved text w h (Valued w (h .top) 0) (putAfter text w (h .top) name 0 at) r w′ → Moved text w h Anything (namedAfter text name at) r w′
-  named-curly n e M = moved-by (Valued w (h .top) 0) Anything (putAfter text w (h .top) name 0 at) (namedAfter text name at) (λ X m₀ base σ S K A _. (tt, λ bodies. named-if false true (is-no text at v s square n) (is-yes text at v s curly e) X bodies σ S K)) M
+  named-curly n e M = let s = mark-stands text at v m 19 e (λ z. omega arith) in moved-by (Valued w (h .top) 0) Anything (putAfter text w (h .top) name 0 at) (namedAfter text name at) (λ X m₀ base σ S K A _. (tt, λ bodies. named-if false true (mark-no text at v square (m .square) n) (is-yes text at v s curly e) X bodies σ S K)) M
 
   pub named-plain : ¬ (v .code ≡ 17) → ¬ (v .code ≡ 19) → Moved text w h Anything (plainAfter text name at) r w′ → Moved text w h Anything (namedAfter text name at) r w′
-  named-plain n o M = moved-as Anything (plainAfter text name at) (namedAfter text name at) (λ X bodies σ S K. named-if false false (is-no text at v s square n) (is-no text at v s curly o) X bodies σ S K) M
+  named-plain n o M = moved-as Anything (plainAfter text name at) (namedAfter text name at) (λ X bodies σ S K. named-if false false (mark-no text at v square (m .square) n) (mark-no text at v curly (m .curly) o) X bodies σ S K) M
 
 -- no argument waits
 pub can-places : (text w : List ℕ) (h : Here) (P : State → Type 0) → CanMove text w h P → Places text w 0 (h .top + 0)

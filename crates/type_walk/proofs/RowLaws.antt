@@ -15,18 +15,18 @@ use Rattle.notation_theorems.proofs.Answering.{On, on-any, on-either, on-good}
 use Rattle.notation_machine.specs.TypeMachine.{TypeLevel, Typing, TypeHere, sideFrom, onesFrom}
 use Rattle.words.specs.Next.{Said}
 use Rattle.words.specs.Lexed.{from, Lexed, Stands}
+use Rattle.words.specs.Marks.{Marks}
 use Rattle.grammar.specs.declared.steps.End.{End}
 use Rattle.grammar.specs.Ends.{restOf, Ends}
 use Rattle.grammar.specs.Skips.{numberEnd}
-use Rattle.grammar.proofs.EndLaws.{is-yes, is-no}
+use Rattle.grammar.proofs.EndLaws.{is-yes, mark-stands, mark-no}
 use Rattle.grammar.proofs.SkipLaws.{number-rest}
 use Rattle.making_memory.specs.Map.{typeCountAt, makingSize}
 use Rattle.made_types.specs.declared.FoundType as found-code
 use Rattle.made_types.specs.declared.FoundType.the-variants as found-type
 use Rattle.made_types.specs.Listing.{RowSays}
 use Rattle.clauses.specs.Groups.{valueIn, restIn}
-use Rattle.clauses.specs.Rows.{noNumber}
-use Rattle.clauses.specs.Numbers.{NumberThere}
+use Rattle.clauses.specs.Numbers.{noNumber, NumberThere}
 use Rattle.scopes.specs.declared.frames.Frame.{Frame}
 use Rattle.scopes.specs.declared.arguments.Value.{Value}
 use Rattle.scopes.specs.Frames.{frameIn, HoldsScope}
@@ -45,7 +45,7 @@ can-one text w h C = record { X = C .X; m₀ = C .m₀; base = C .base; σ = C .
 
 -- ---- behind a 1
 
-module _ (text : List ℕ) (at : ℕ) (v : Said) (s : Stands text at v) where
+module _ (text : List ℕ) (at : ℕ) (v : Said) (m : Marks text at v) where
   abbrev ws : List Word
   ws = from text at
 
@@ -54,13 +54,13 @@ module _ (text : List ℕ) (at : ℕ) (v : Said) (s : Stands text at v) where
 
   module _ (w w′ : List ℕ) (h : Here) (r : code.Walking) where
     pub ones-power : v .code ≡ 25 → Moved text w h Anything (powerAfter text (v .place) (v .end)) r w′ → Moved text w h Anything (onesAfter text at) r w′
-    ones-power e M = moved-as Anything (powerAfter text (v .place) (v .end)) (onesAfter text at) (λ X bodies σ S K.
+    ones-power e M = let s = mark-stands text at v m 25 e (λ z. omega arith) in moved-as Anything (powerAfter text (v .place) (v .end)) (onesAfter text at) (λ X bodies σ S K.
         ap (λ (b : Bool). onesIf b (place ws) (behind ws) (hereWith h S K) σ) (is-yes text at v s power e)
         ∙ ap (λ (p : ℕ). onesIf true p (behind ws) (hereWith h S K) σ) (sym (s .place))
         ∙ ap (λ (us : List Word). onesIf true (v .place) us (hereWith h S K) σ) (onward text at v s 24 e .rest)) M
 
     pub ones-none : ¬ (v .code ≡ 25) → Moved text w h (Known 0) (sideAfter text 0 at) r w′ → Moved text w h Anything (onesAfter text at) r w′
-    ones-none n M = moved-by (Known 0) Anything (sideAfter text 0 at) (onesAfter text at) (λ X m₀ base σ S K A _. (A .walkable .state .types .some, λ bodies. ap (λ (b : Bool). onesIf b (place ws) (behind ws) (hereWith h S K) σ) (is-no text at v s power n))) M
+    ones-none n M = moved-by (Known 0) Anything (sideAfter text 0 at) (onesAfter text at) (λ X m₀ base σ S K A _. (A .walkable .state .types .some, λ bodies. ap (λ (b : Bool). onesIf b (place ws) (behind ws) (hereWith h S K) σ) (mark-no text at v power (m .power) n))) M
 
 -- ---- behind the sign
 

@@ -141,7 +141,7 @@ pub fn types_from(
     requires { ⌜ CanType (now text) (now work) at more frame top ⌝ }
     ensures { λ r. ⌜ TypesSay (now (text .entry)) (now (work .entry)) at more frame top name r (now (work .exit)) ⌝ }
 {
-    let w = words::word_at(text, at);
+    let w = words::marks::mark_at(text, at);
     if w.kind != SQUARE {
         return TypesEnd::At(0, at);
     }

@@ -115,7 +115,7 @@ pub fn named_at(text: &[u8], work: &mut [u16], h: Here, name: usize, at: usize) 
     requires { ⌜ (CanMove (now text) (now work) h Anything) × ((Lexed (now text) at) × (NameAt (now text) name)) ⌝ }
     ensures { λ r. ⌜ Moved (now (text .entry)) (now (work .entry)) h Anything (namedAfter (now (text .entry)) name at) r (now (work .exit)) ⌝ }
 {
-    let w = words::word_at(text, at);
+    let w = words::marks::mark_at(text, at);
     if w.kind == SQUARE {
         return ask_argument(text, work, h, name, 0, w.end);
     }

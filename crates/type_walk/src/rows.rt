@@ -47,7 +47,7 @@ pub fn ones_from(text: &[u8], work: &mut [u16], h: Here, at: usize) -> Walking
     requires { ⌜ (CanMove (now text) (now work) h Anything) × (Lexed (now text) at) ⌝ }
     ensures { λ r. ⌜ Moved (now (text .entry)) (now (work .entry)) h Anything (onesAfter (now (text .entry)) at) r (now (work .exit)) ⌝ }
 {
-    let w = words::word_at(text, at);
+    let w = words::marks::mark_at(text, at);
     if w.kind == words::POWER {
         return power_at(text, work, h, w.start, w.end);
     }

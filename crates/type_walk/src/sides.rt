@@ -72,7 +72,7 @@ pub fn arrow_from(text: &[u8], work: &mut [u16], h: Here, ty: u16, at: usize) ->
     if h.tight {
         return done(h, ty, at);
     }
-    let w = words::word_at(text, at);
+    let w = words::marks::mark_at(text, at);
     if w.kind == ARROW {
         return ask_side(text, work, h, 4, false, ty, w.start, w.end);
     }
@@ -87,7 +87,7 @@ pub fn side_from(text: &[u8], work: &mut [u16], h: Here, ty: u16, at: usize) -> 
     requires { ⌜ (CanMove (now text) (now work) h (Known ty)) × (Lexed (now text) at) ⌝ }
     ensures { λ r. ⌜ Moved (now (text .entry)) (now (work .entry)) h (Known ty) (sideAfter (now (text .entry)) ty at) r (now (work .exit)) ⌝ }
 {
-    let w = words::word_at(text, at);
+    let w = words::marks::mark_at(text, at);
     if w.kind == TIMES {
         return ask_side(text, work, h, 3, true, ty, w.start, w.end);
     }

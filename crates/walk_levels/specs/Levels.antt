@@ -8,7 +8,7 @@ use Rattle.walk_levels.specs.declared.Level.{Level}
 use Rattle.walk_levels.specs.declared.Around.{Around}
 
 abbrev pub scopesAt : ℕ
-scopesAt = 25232
+scopesAt = 32400
 
 -- there is room for level m
 abbrev pub InLevels : List ℕ → ℕ → Type 0

@@ -9,7 +9,7 @@ ghost use Rattle.walk_levels.specs.Levels.{scopesAt, InLevels, levelIn, 
 use making_memory::LEVELS;
 
 // The scopes of the levels, behind the levels: four numbers each.
-pub const SCOPES: usize = 25232;
+pub const SCOPES: usize = 32400;
 
 // What is done with what comes: a form; a flag; the offset of a word; how many names, arguments or elements there are; a node, its type and
 // its depth; and an offset in the text, or a node.

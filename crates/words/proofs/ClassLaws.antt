@@ -1,6 +1,6 @@
 -- What the class of a byte tells of the word that it begins. Assumes nothing.
 use Prim.Native.Nat.{ℕ, suc, _+_, _-_, _≤_, _<_}
-use mathlib.Core.Path.{_≡_, refl, sym, ap, _∙_}
+use mathlib.Core.Path.{_≡_, refl, sym, ap, subst, _∙_}
 use mathlib.Core.Bool.{Bool, true, false, not, _&&_, cond}
 use mathlib.Core.List.{List, [], _∷_, _++_}
 use native.Mathlib.Omega.{arith}
@@ -16,6 +16,8 @@ use Rattle.words.proofs.ByteLaws.{late-blank, letter-high, letter-name,
 use Rattle.words.proofs.WordLaws.{drop-here, run-behind, gap-stops, no-dash, and-false}
 use Rattle.words.proofs.KeyLaws.{both-parts, off}
 use Rattle.words.proofs.FoundLaws.{digit-low, named-name, longRows, long-row}
+use Rattle.words.proofs.LexLaws.{next-word, word-single, stands}
+use Rattle.words.specs.Lexed.{Lexed, Stands}
 
 -- ---- a byte that no reserved word begins with
 
@@ -120,6 +122,20 @@ class-other c k (others b d l m) e = (b, d, l, m)
 module _ (text : List ℕ) (at k : ℕ) (h : at < length text) (is : ClassIs (getD text at 0) k) where
   pub class-stops : 1 < k → gap false (drop at text) ≡ 0
   class-stops g = let b = class-begins (getD text at 0) k is g in gap-stops text at h (b .0) (no-dash text at (b .1))
+
+-- a sign of one byte that stands right at an offset
+single-stands : (text : List ℕ) (at k : ℕ) → Lexed text at → at < length text → ClassIs (getD text at 0) k → 1 < k → k < 64 → Stands text at (record { code = k; value = 0; place = at; end = at + 1 })
+single-stands text at k lexed h is g l =
+    let s = class-sign (getD text at 0) k is g l in
+    stands text at lexed _ (word-single text at (s .0) k h (s .1) (s .2) ∙ next-word text at at (omega (arith, class-stops text at k h is g)) h)
+
+pub comma-stands : (text : List ℕ) (at : ℕ) → Lexed text at → at < length text → getD text at 0 ≡ 44 → Stands text at (record { code = 14; value = 0; place = at; end = at + 1 })
+unfolding rowOf signs
+comma-stands text at lexed h e = single-stands text at 14 lexed h (subst (λ (c : ℕ). ClassIs c 14) (sym e) (signed (omega arith) (omega arith) (refl, refl) refl refl (λ s. refl))) (omega arith) (omega arith)
+
+pub plus-stands : (text : List ℕ) (at : ℕ) → Lexed text at → at < length text → getD text at 0 ≡ 43 → Stands text at (record { code = 21; value = 0; place = at; end = at + 1 })
+unfolding rowOf signs
+plus-stands text at lexed h e = single-stands text at 21 lexed h (subst (λ (c : ℕ). ClassIs c 21) (sym e) (signed (omega arith) (omega arith) (refl, refl) refl refl (λ s. refl))) (omega arith) (omega arith)
 
 -- a name that begins as no reserved word does
 pub plain-name : (text : List ℕ) (start end : ℕ) → start < length text → PlainLetter (getD text start 0) → end ≡ start + 1 + run (drop (start + 1) text) → record { code = 24; value = 0; place = start; end = end } ≡ told (foundAt start (namedAt text start))

@@ -13,6 +13,7 @@ use Rattle.calculus.specs.Answer.{Answer, good, refuse}
 use Rattle.notation_calculus.specs.Words.{Token, name, Spelled, sameName, digit, inName, run, allDigits, capped, valueFrom, Read, named, beginsWith, signAt, numberWord, reserved, signs}
 use Rattle.words.specs.Tables.{tokenCode, tokenValue, rowFits, RowSaid, rowOf}
 use Rattle.words.specs.Next.{foundAt, runAt, Said, told}
+use Rattle.words.specs.Digits.{DigitsAt}
 use Rattle.words.proofs.WordLaws.{take-here}
 
 -- ---- runs
@@ -41,17 +42,21 @@ digits-here text at end h g =
     let z : end - at - 1 ≡ end - (at + 1) = omega arith in
     take-here text at (end - at) (omega arith) (omega arith) ∙ ap (λ (n : ℕ). getD text at 0 ∷ take n (drop (at + 1) text)) z
 
--- the digits from `start` to `end`, read up to `at`
-pub record DigitsAt (text : List ℕ) (start end value at : ℕ) : Type 0 where
-  pub all : allDigits (runAt text start) ≡ allDigits (take (end - at) (drop at text))
-  pub sum : valueFrom 0 (runAt text start) ≡ valueFrom value (take (end - at) (drop at text))
-  pub small : value ≤ 256
-  pub within : at ≤ end
-  pub inside : end ≤ length text
-  pub ends : end ≡ start + run (drop start text)
-
 pub digits-first : (text : List ℕ) (start end : ℕ) → start ≤ length text → end ≡ start + run (drop start text) → DigitsAt text start end 0 start
 digits-first text start end h e = record { all = ap allDigits (run-part text start end e); sum = ap (valueFrom 0) (run-part text start end e); small = omega arith; within = omega arith; inside = omega (arith, run-inside text start h); ends = e }
+
+-- a zero that stands first tells nothing
+pub zero-on : (text : List ℕ) (start end at : ℕ) → DigitsAt text start end 0 at → at < end → getD text at 0 ≡ 48 → DigitsAt text start end 0 (at + 1)
+zero-on text start end at d h e =
+    let rest′ = take (end - (at + 1)) (drop (at + 1) text) in
+    record {
+      all = d .all ∙ ap allDigits (digits-here text at end h (d .inside)) ∙ ap (λ (c : ℕ). digit c && allDigits rest′) e;
+      sum = d .sum ∙ ap (valueFrom 0) (digits-here text at end h (d .inside)) ∙ ap (λ (c : ℕ). valueFrom (capped (10 * 0 + (c - 48))) rest′) e;
+      small = omega arith;
+      within = omega arith;
+      inside = d .inside;
+      ends = d .ends;
+    }
 
 pub digit-low : (c : ℕ) → digit c ≡ true → 48 ≤ c
 digit-low c e = by (leb 48 c) refl e

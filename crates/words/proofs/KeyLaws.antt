@@ -93,7 +93,7 @@ unfolding rowOf rowNamed
 row-named s long [] h = refl
 row-named s long (r ∷ rs) h = ap (λ (b : Bool). cond b (record { code = tokenCode (r .token); value = tokenValue (r .token); long = length (r .spelling) }) (rowOf true long s rs)) (sym (same-name (r .spelling) s long h)) ∙ ap (λ (x : RowSaid). cond (sameName (take long s) (r .spelling)) (record { code = tokenCode (r .token); value = tokenValue (r .token); long = length (r .spelling) }) x) (row-named s long rs h)
 
-same-is : (w v : List ℕ) → sameName w v ≡ true → w ≡ v
+pub same-is : (w v : List ℕ) → sameName w v ≡ true → w ≡ v
 same-is [] [] e = refl
 same-is [] (d ∷ v) e = let z : _≡_ {A = ℕ} 0 1 = cc in absurd (omega arith)
 same-is (c ∷ w) [] e = let z : _≡_ {A = ℕ} 0 1 = cc in absurd (omega arith)
@@ -119,6 +119,27 @@ row-missed w [] e = refl
 row-missed w (r ∷ rs) e =
     let p = both-parts (not (eqb (length (r .spelling)) (length w) && eqb (keyOf (r .spelling)) (keyOf w))) (misses (keyOf w) (length w) rs) e in
     missed-by w r rs (sameName w (r .spelling)) refl (p .0) (row-missed w rs (p .1))
+
+-- ---- two stretches of a text
+
+same-self : (w : List ℕ) → sameName w w ≡ true
+same-self [] = refl
+same-self (c ∷ w) = ap (λ (b : Bool). b && sameName w w) (eq-eqb c c refl) ∙ same-self w
+
+module _ (text : List ℕ) (a b n j k : ℕ) where
+  pub keys-same : a + n ≤ length text → b + n ≤ length text → Small text → j ≡ keyOf (take n (drop a text)) → k ≡ keyOf (take n (drop b text)) → j ≡ k → sameName (take n (drop a text)) (take n (drop b text)) ≡ true
+  keys-same ha hb t e f g =
+      let la = length-take-le n (drop a text) (omega (arith, length-drop a text)) in
+      let lb = length-take-le n (drop b text) (omega (arith, length-drop b text)) in
+      let z = key-tells (take n (drop a text)) (take n (drop b text)) 0 0 (la ∙ sym lb) (small-take (drop a text) n (small-drop text a t)) (small-take (drop b text) n (small-drop text b t)) (sym e ∙ g ∙ f) .1 in
+      ap (λ (w : List ℕ). sameName w (take n (drop b text))) z ∙ same-self (take n (drop b text))
+
+  pub keys-differ : j ≡ keyOf (take n (drop a text)) → k ≡ keyOf (take n (drop b text)) → ¬ (j ≡ k) → sameName (take n (drop a text)) (take n (drop b text)) ≡ false
+  keys-differ e f h = by (sameName (take n (drop a text)) (take n (drop b text))) refl
+    where
+      by : (x : Bool) → sameName (take n (drop a text)) (take n (drop b text)) ≡ x → x ≡ false
+      by true g = absurd (h (e ∙ ap keyOf (same-is (take n (drop a text)) (take n (drop b text)) g) ∙ sym f))
+      by false g = refl
 
 -- ---- at an offset
 

@@ -72,7 +72,7 @@ pub data View (r : List ℕ) (at : ℕ) : Answer Read → Type 0 where
   large : View r at (refuse 34 at)
 
 -- no row has this code
-abbrev coded : ℕ → List Spelled → Bool
+abbrev pub coded : ℕ → List Spelled → Bool
 coded n [] = true
 coded n (r ∷ rs) = not (eqb (tokenCode (r .token)) n) && coded n rs
 
@@ -83,17 +83,21 @@ coded-row n r rs e = by (eqb (tokenCode (r .token)) n) refl e
     by true h e = let z : _≡_ {A = ℕ} 0 1 = cc in absurd (omega arith)
     by false h e = (eqb-false (tokenCode (r .token)) n h, e)
 
-named-by : (b : Bool) (t u : Token) → ¬ (tokenCode t ≡ 0) → ¬ (tokenCode u ≡ 0) → ¬ (tokenCode (cond b t u) ≡ 0)
-named-by true t u h g = h
-named-by false t u h g = g
+-- a run of letters that may be reserved has the code of a name, or of a row
+named-off : (k : ℕ) → ¬ (24 ≡ k) → (n : List ℕ) (rs : List Spelled) → coded k rs ≡ true → ¬ (tokenCode (named n rs) ≡ k)
+named-off k d n [] e = d
+named-off k d n (r ∷ rs) e = let c = coded-row k r rs e in by (sameName n (r .spelling)) (c .0) (named-off k d n rs (c .1))
+  where
+    by : (b : Bool) → ¬ (tokenCode (r .token) ≡ k) → ¬ (tokenCode (named n rs) ≡ k) → ¬ (tokenCode (cond b (r .token) (named n rs)) ≡ k)
+    by true h g = h
+    by false h g = g
 
-named-coded : (n : List ℕ) (rs : List Spelled) → coded 0 rs ≡ true → ¬ (tokenCode (named n rs) ≡ 0)
-named-coded n [] e = λ z. omega arith
-named-coded n (r ∷ rs) e = let c = coded-row 0 r rs e in named-by (sameName n (r .spelling)) (r .token) (named n rs) (c .0) (named-coded n rs (c .1))
+pub reserved-off : (k : ℕ) → ¬ (24 ≡ k) → (n : List ℕ) → coded k reserved ≡ true → ¬ (tokenCode (named n reserved) ≡ k)
+reserved-off k d n e = named-off k d n reserved e
 
 reserved-coded : (n : List ℕ) → ¬ (tokenCode (named n reserved) ≡ 0)
 unfolding reserved
-reserved-coded n = named-coded n reserved refl
+reserved-coded n = reserved-off 0 (λ z. omega arith) n refl
 
 spelt-by : (n : List ℕ) (b : Bool) (t u : Token) → ¬ (tokenCode t ≡ 24) → (tokenCode u ≡ 24 → u ≡ name n) → tokenCode (cond b t u) ≡ 24 → cond b t u ≡ name n
 spelt-by n true t u h g e = absurd (h e)
@@ -285,6 +289,12 @@ module _ (text : List ℕ) (at : ℕ) (inside : at ≤ length text) where
   same-words : lexed text (start text at inside) ≡ lexed text at
   same-words = lexed-is text (start text at inside) (start-inside text at inside) ∙ ap (λ (n : ℕ). cond (eqb (length (drop n text)) 0) (good (record { token = sign ends; place = n } ∷ [])) (behindWord (wordsFrom (length text)) (drop n text) n (wordAt (drop n text) n))) start-again ∙ sym (lexed-is text at inside)
 
+  start-same : (r : ℕ) → r ≡ at + gap false (drop at text) → Lexed text at → Lexed text r × (from text r ≡ from text at)
+  unfolding from start
+  start-same r is l =
+      let same : lexed text r ≡ lexed text at = ap (lexed text) is ∙ same-words in
+      (record { within = omega (arith, is, start-inside text at inside); words = same ∙ l .words ∙ ap good (sym (ap valued same)) }, ap valued same)
+
   -- a word, and a refusal too, has the place where the gap ends
   place-by : (m : Answer Read) → View (drop (start text at inside) text) (start text at inside) m → told (foundAt (start text at inside) m) .place ≡ start text at inside
   place-by (good w) (fine h g c d) = refl
@@ -299,12 +309,9 @@ module _ (text : List ℕ) (at : ℕ) (inside : at ≤ length text) where
       by true = refl
       by false = place-by (wordAt (drop (start text at inside) text) (start text at inside)) (word-view (drop (start text at inside) text) (start text at inside))
 
-  pub starts-same : (w : Said) → w ≡ told (nextOf text at) → Lexed text at → Lexed text (w .place) × (from text (w .place) ≡ from text at)
-  unfolding from
-  starts-same w e l =
-      let is : w .place ≡ start text at inside = ap (λ (v : Said). v .place) e ∙ next-place in
-      let same : lexed text (w .place) ≡ lexed text at = ap (lexed text) is ∙ same-words in
-      (record { within = omega (arith, is, start-inside text at inside); words = same ∙ l .words ∙ ap good (sym (ap valued same)) }, ap valued same)
+  starts-same : (w : Said) → w ≡ told (nextOf text at) → Lexed text at → Lexed text (w .place) × (from text (w .place) ≡ from text at)
+  unfolding start
+  starts-same w e l = start-same (w .place) (ap (λ (v : Said). v .place) e ∙ next-place) l
 
 -- ---- the word at an offset
 
@@ -313,8 +320,8 @@ unfolding from
 from-is text at ws e = ap valued e
 
 module _ (text : List ℕ) (at : ℕ) (l : Lexed text at) where
-  word-stands : (f : FoundWord) → at < f .end → f .end ≤ length text → ¬ (tokenCode (f .token) ≡ 0) → NameAt text f → (m : Answer (List Word)) → lexed text (f .end) ≡ m → lexed text at ≡ wordJoined f m → Stands text at (told (good f))
-  word-stands f h g c d (good ws) e j =
+  word-stands : (f : FoundWord) → at < f .end → f .end ≤ length text → ¬ (tokenCode (f .token) ≡ 0) → NameAt text f → from text (f .place) ≡ from text at → (m : Answer (List Word)) → lexed text (f .end) ≡ m → lexed text at ≡ wordJoined f m → Stands text at (told (good f))
+  word-stands f h g c d b (good ws) e j =
       let here = from-is text at _ j in
       let there = from-is text (f .end) ws e in
       record {
@@ -331,11 +338,12 @@ module _ (text : List ℕ) (at : ℕ) (l : Lexed text at) where
         named = λ z. ap (λ (us : List Word). peek us .token) here ∙ d z .0;
         whole = λ z. d z .1;
         long = λ z. d z .2;
+        begins = b;
       }
-  word-stands f h g c d (refused why) e j = absurd (refused≢good (sym j ∙ l .words))
+  word-stands f h g c d b (refused why) e j = absurd (refused≢good (sym j ∙ l .words))
 
-  stands-by : (m : Answer FoundWord) → Case text at m → Stands text at (told m)
-  stands-by (good f) (last n h e) =
+  stands-by : (m : Answer FoundWord) → Case text at m → from text (told m .place) ≡ from text at → Stands text at (told m)
+  stands-by (good f) (last n h e) b =
       let here = from-is text at _ e in
       record {
         code = sym (ap (λ (us : List Word). tokenCode (peek us .token)) here);
@@ -346,13 +354,21 @@ module _ (text : List ℕ) (at : ℕ) (l : Lexed text at) where
         named = λ z. absurd (omega arith);
         whole = λ z. absurd (omega arith);
         long = λ z. absurd (omega arith);
+        begins = b;
       }
-  stands-by (good f) (word f′ h g c d e) = word-stands f′ h g c d (lexed text (f′ .end)) refl e
-  stands-by (refused why) (bad31 n e) = absurd (refused≢good (sym e ∙ l .words))
-  stands-by (refused why) (bad34 n e) = absurd (refused≢good (sym e ∙ l .words))
+  stands-by (good f) (word f′ h g c d e) b = word-stands f′ h g c d b (lexed text (f′ .end)) refl e
+  stands-by (refused why) (bad31 n e) b = absurd (refused≢good (sym e ∙ l .words))
+  stands-by (refused why) (bad34 n e) b = absurd (refused≢good (sym e ∙ l .words))
 
   pub stands : (w : Said) → w ≡ told (nextOf text at) → Stands text at w
-  stands w e = rw e (stands-by (nextOf text at) (next-case text at (l .within)))
+  stands w e = rw e (stands-by (nextOf text at) (next-case text at (l .within)) (starts-same text at (l .within) (told (nextOf text at)) refl l .1))
+
+  -- where the gap ends the next word stands
+  pub start-found : (r : ℕ) → r ≡ at + gap false (drop at text) → Lexed text r × (from text r ≡ from text at) × (r ≡ peek (from text at) .place)
+  unfolding start
+  start-found r is =
+      let same = start-same text at (l .within) r is l in
+      (same .0, same .1, is ∙ sym (next-place text at (l .within)) ∙ stands (told (nextOf text at)) refl .place)
 
 -- ---- where an opening parenthesis is the next word
 
@@ -361,17 +377,9 @@ abbrev Opens : List ℕ → Answer Read → Type 0
 Opens r (good w) = tokenCode (w .token) ≡ 11 → first r ≡ 40
 Opens r (refused why) = Unit {0}
 
-open-named : (n : List ℕ) (rs : List Spelled) → coded 11 rs ≡ true → ¬ (tokenCode (named n rs) ≡ 11)
-open-named n [] e = λ z. omega arith
-open-named n (r ∷ rs) e = let c = coded-row 11 r rs e in by (sameName n (r .spelling)) (c .0) (open-named n rs (c .1))
-  where
-    by : (b : Bool) → ¬ (tokenCode (r .token) ≡ 11) → ¬ (tokenCode (named n rs) ≡ 11) → ¬ (tokenCode (cond b (r .token) (named n rs)) ≡ 11)
-    by true h g = h
-    by false h g = g
-
 open-reserved : (n : List ℕ) → ¬ (tokenCode (named n reserved) ≡ 11)
 unfolding reserved
-open-reserved n = open-named n reserved refl
+open-reserved n = reserved-off 11 (λ z. omega arith) n refl
 
 open-number : (r : List ℕ) (at n k : ℕ) (a b : Bool) → Opens r (need a 31 at >>= λ _. need b 34 at >>= λ _. good (record { token = number n; long = k }))
 open-number r at n k true true = λ z. absurd (omega arith)

@@ -8,3 +8,4 @@ pub mod KeyLaws
 pub mod NameKeyLaws
 pub mod ReservedLaws
 pub mod PlaceLaws
+pub mod MarkLaws

@@ -42,6 +42,7 @@ pub record Stands (text : List ℕ) (at : ℕ) (w : Said) : Type 0 where
   pub named : w .code ≡ 24 → peek (from text at) .token ≡ name (take (w .end - w .place) (drop (w .place) text))
   pub whole : w .code ≡ 24 → w .end ≡ w .place + run (drop (w .place) text)
   pub long : w .code ≡ 24 → w .place < w .end
+  pub begins : from text (w .place) ≡ from text at
 
 -- what the pass over all words says: 0 where they are good, or a refusal's number, and its place
 abbrev pub Passed : List ℕ → ℕ → ℕ → Type 0

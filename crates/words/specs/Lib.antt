@@ -1,7 +1,10 @@
 pub mod Steps
+pub mod Stretches
 pub mod Tables
 pub mod Classes
 pub mod Keys
 pub mod Next
+pub mod Digits
 pub mod Lexed
 pub mod NameKeys
+pub mod Marks

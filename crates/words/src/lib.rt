@@ -9,9 +9,12 @@ ghost use Rattle.notation_calculus.specs.Words.{sameName, between, blank, endsL
 ghost use Rattle.words.specs.Steps.{CommentTo, StepTo};
 ghost use Rattle.words.specs.Classes.{ClassIs, NotListed, NoSingle, PlainLetter};
 ghost use Rattle.words.specs.Next.{goesOn, runAt, foundAt, namedAt, nextOf, saidWord, told};
+ghost use Rattle.words.specs.Digits.{DigitsAt};
 ghost use Rattle.words.specs.Lexed.{Lexed, Stands, Passed};
 
 pub mod keys;
+pub mod marks;
+pub mod same;
 mod spelling;
 pub mod starts;
 
@@ -92,6 +95,21 @@ pub fn run_end(text: &[u8], from: usize) -> usize
     let mut at = from;
     while at < text.len() {
         if !in_name(text[at]) {
+            return at;
+        }
+        at = at + 1;
+    }
+    at
+}
+
+// Behind the blanks at an offset.
+fn blanks_end(text: &[u8], from: usize) -> usize
+    requires { ⌜ from ≤ length (now text) ⌝ }
+    ensures { λ r. ⌜ (from ≤ r) × ((r ≤ length (now (text .entry))) × (r + gap false (drop r (now (text .entry))) ≡ from + gap false (drop from (now (text .entry))))) ⌝ }
+{
+    let mut at = from;
+    while at < text.len() {
+        if !blank(text[at]) {
             return at;
         }
         at = at + 1;
@@ -210,14 +228,30 @@ fn more_digits(n: u16, c: u8) -> u16
     256
 }
 
+// Behind the zeros that a number begins with. A number may have as many as it likes, and they are passed at each use.
+fn zeros_end(text: &[u8], start: usize) -> usize
+    requires { ⌜ start ≤ length (now text) ⌝ }
+    ensures { λ r. ⌜ (r + run (drop r (now (text .entry))) ≡ start + run (drop start (now (text .entry)))) × (DigitsAt (now (text .entry)) start (start + run (drop start (now (text .entry)))) 0 r) ⌝ }
+{
+    let mut at = start;
+    while at < text.len() {
+        if text[at] != 48 {
+            return at;
+        }
+        at = at + 1;
+    }
+    at
+}
+
 // A run that begins with a digit: 31 if it is no number, 34 if it is above 255.
 fn number_at(text: &[u8], start: usize) -> Word
     requires { ⌜ start ≤ length (now text) ⌝ }
     ensures { λ r. ⌜ saidWord r ≡ told (foundAt start (numberWord (runAt (now (text .entry)) start) start)) ⌝ }
 {
-    let end = run_end(text, start);
+    let first = zeros_end(text, start);
+    let end = run_end(text, first);
     let mut value: u16 = 0;
-    let mut at = start;
+    let mut at = first;
     while at < end {
         let c = text[at];
         if !digit(c) {
@@ -306,6 +340,19 @@ fn sign_at(text: &[u8], start: usize) -> Word
     }
 }
 
+// A sign of one byte.
+fn single(kind: u8, start: usize) -> Word
+    requires { ⌜ start < 18446744073709551615 ⌝ }
+    ensures { λ r. ⌜ saidWord r ≡ record { code = kind; value = 0; place = start; end = start + 1 } ⌝ }
+{
+    Word {
+        kind,
+        value: 0,
+        start,
+        end: start + 1,
+    }
+}
+
 // A word whose first byte is of a class that tells.
 fn word_by(text: &[u8], start: usize, class: u8) -> Word
     requires { ⌜ (start < length (now text)) × ClassIs (getD (now text) start 0) class × (1 < class) ⌝ }
@@ -340,7 +387,7 @@ pub fn next(text: &[u8], at: usize) -> Word
             return word_by(text, start, k);
         }
         if k == 1 {
-            start = start + 1;
+            start = blanks_end(text, start + 1);
         } else {
             let past = step(text, start);
             if past == start {
@@ -365,6 +412,24 @@ pub fn word_at(text: &[u8], at: usize) -> Word
     next(text, at)
 }
 
+// .. where a comma or a plus may stand right at the offset: it is told by its byte, without a call.
+pub fn word_here(text: &[u8], at: usize) -> Word
+    requires { ⌜ Lexed (now text) at ⌝ }
+    ensures { λ r. ⌜ Stands (now (text .entry)) at (saidWord r) ⌝ }
+{
+    if text.len() <= at {
+        return next(text, at);
+    }
+    let c = text[at];
+    if c == 44 {
+        return single(14, at);
+    }
+    if c == 43 {
+        return single(21, at);
+    }
+    next(text, at)
+}
+
 // What stands at an offset goes on a name.
 fn goes_on(text: &[u8], at: usize) -> bool
     ensures { λ r. ⌜ r ≡ goesOn (drop at (now (text .entry))) ⌝ }
@@ -373,42 +438,6 @@ fn goes_on(text: &[u8], at: usize) -> bool
         return false;
     }
     in_name(text[at])
-}
-
-// Two names are the same, of which the second stands behind the first. Bytes are compared before an end is sought: a long name that is passed
-// over costs nothing, and of two equal bytes one is asked.
-fn same_behind(text: &[u8], a: usize, b: usize) -> bool
-    requires { ⌜ (a ≤ b) × (b ≤ length (now text)) ⌝ }
-    ensures { λ r. ⌜ r ≡ sameName (runAt (now (text .entry)) a) (runAt (now (text .entry)) b) ⌝ }
-{
-    let most = text.len() - b;
-    let mut i: usize = 0;
-    while i < most {
-        let c = text[a + i];
-        let d = text[b + i];
-        if c != d {
-            if in_name(c) {
-                return false;
-            }
-            return !in_name(d);
-        }
-        if !in_name(c) {
-            return true;
-        }
-        i = i + 1;
-    }
-    !goes_on(text, a + i)
-}
-
-// Two names, each at its place, are the same.
-pub fn same_run(text: &[u8], a: usize, b: usize) -> bool
-    requires { ⌜ (a ≤ length (now text)) × (b ≤ length (now text)) ⌝ }
-    ensures { λ r. ⌜ r ≡ sameName (runAt (now (text .entry)) a) (runAt (now (text .entry)) b) ⌝ }
-{
-    if a <= b {
-        return same_behind(text, a, b);
-    }
-    same_behind(text, b, a)
 }
 
 // A refusal's number, 0 for none, and its place.

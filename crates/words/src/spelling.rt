@@ -29,7 +29,7 @@ fn as_row(kind: u8, value: u8, long: usize) -> Row
 
 // The bytes of a part of the text as one number, so that a reserved word is told by one look: a table of them would be written to the stack at
 // each call.
-fn key2(text: &[u8], at: usize) -> usize
+pub fn key2(text: &[u8], at: usize) -> usize
     requires { ⌜ at + 2 ≤ length (now text) ⌝ }
     ensures { λ r. ⌜ (r ≡ keyOf (take 2 (drop at (now (text .entry))))) × (r < 65536) ⌝ }
 {
@@ -43,7 +43,7 @@ fn key3(text: &[u8], at: usize) -> usize
     key2(text, at) * 256 + wide(text[at + 2])
 }
 
-fn key4(text: &[u8], at: usize) -> usize
+pub fn key4(text: &[u8], at: usize) -> usize
     requires { ⌜ at + 4 ≤ length (now text) ⌝ }
     ensures { λ r. ⌜ (r ≡ keyOf (take 4 (drop at (now (text .entry))))) × (r < 4294967296) ⌝ }
 {
@@ -69,6 +69,13 @@ fn key7(text: &[u8], at: usize) -> usize
     ensures { λ r. ⌜ (r ≡ keyOf (take 7 (drop at (now (text .entry))))) × (r < 72057594037927936) ⌝ }
 {
     key6(text, at) * 256 + wide(text[at + 6])
+}
+
+pub fn key8(text: &[u8], at: usize) -> usize
+    requires { ⌜ at + 8 ≤ length (now text) ⌝ }
+    ensures { λ r. ⌜ r ≡ keyOf (take 8 (drop at (now (text .entry)))) ⌝ }
+{
+    key7(text, at) * 256 + wide(text[at + 7])
 }
 
 // in, or

@@ -6,11 +6,11 @@ use borrow.Author.Needs.{needs}
 use Rattle.putting.proofs.numbers_behind.Statement.{statement}
 use Rattle.putting.proofs.numbers_behind.Tie as tie
 
-word-at-requires : tie.Need-word-at-requires
-word-at-requires c κs = search needs
+mark-at-requires : tie.Need-mark-at-requires
+mark-at-requires c κs = search needs
 
 returns : tie.Need-returns
-returns c = numbers-none (c .before .before .before .before .before .args .text .now) (c .before .before .before .before .before .args .work .now) (c .before .before .before .before .before .args .name) (c .before .before .before .before .before .args .at) (c .before .before .before .before .before .args .types) (c .before .before .before .before .before .args .frame) (c .before .before .before .before .before .args .top) (c .before .before .before .before .before .args .into) (c .before .before .before .before .before .pre) (saidWord (c .before .before .word-at .result)) (c .before .before .word-at .ensures) (c .if1 .taken)
+returns c = numbers-none (c .before .before .before .before .before .args .text .now) (c .before .before .before .before .before .args .work .now) (c .before .before .before .before .before .args .name) (c .before .before .before .before .before .args .at) (c .before .before .before .before .before .args .types) (c .before .before .before .before .before .args .frame) (c .before .before .before .before .before .args .top) (c .before .before .before .before .before .args .into) (c .before .before .before .before .before .pre) (saidWord (c .before .before .mark-at .result)) (c .before .before .mark-at .ensures .curly) (c .if1 .taken)
 
 numbers-end-requires : tie.Need-numbers-end-requires
 numbers-end-requires c κs = search needs
@@ -46,7 +46,7 @@ pub numbers-behind-spec : {M : Type 1} → statement M
 numbers-behind-spec =
     tie.close
     (tie.spec
-    word-at-requires
+    mark-at-requires
     returns
     numbers-end-requires
     returns-2

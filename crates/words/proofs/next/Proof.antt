@@ -40,20 +40,23 @@ returns c =
     let stops = class-stops (a .text .now) (l .start) (k .result) h (k .ensures) (c .before .if1 .taken) in
     c .word-by .ensures ∙ next-word (a .text .now) (a .at) (l .start) (omega (arith, stops, l .inv .1)) h
 
-add-start : tie.Need-add-start Inv-loop μ-loop
-add-start c = search needs
+add-blanks-end : tie.Need-add-blanks-end Inv-loop μ-loop
+add-blanks-end c = search needs
+
+blanks-end-requires : tie.Need-blanks-end-requires Inv-loop μ-loop
+blanks-end-requires c κs = omega (arith, c .before .before .before .before .loop-test .taken)
 
 loop-less : tie.Need-loop-less Inv-loop μ-loop
-loop-less c = let h = c .before .before .before .before .loop-test .taken in omega arith
+loop-less c = omega (arith, c .before .before .before .before .before .loop-test .taken, c .blanks-end .ensures .0, c .blanks-end .ensures .1 .0)
 
 loop-again : tie.Need-loop-again Inv-loop μ-loop
 loop-again c =
-    let a = c .before .before .before .before .before .before .before .args in
-    let l = c .before .before .before .before .before .loop in
-    let h = c .before .before .before .before .loop-test .taken in
-    let k = c .before .before .class in
-    let on = gap-blank (a .text .now) (l .start) h (class-blank (getD (a .text .now) (l .start) 0) (k .result) (k .ensures) (c .if2 .taken)) in
-    (omega (arith, h), omega (arith, on, l .inv .1))
+    let a = c .before .before .before .before .before .before .before .before .args in
+    let l = c .before .before .before .before .before .before .loop in
+    let h = c .before .before .before .before .before .loop-test .taken in
+    let k = c .before .before .before .class in
+    let on = gap-blank (a .text .now) (l .start) h (class-blank (getD (a .text .now) (l .start) 0) (k .result) (k .ensures) (c .before .if2 .taken)) in
+    (c .blanks-end .ensures .1 .0, omega (arith, on, l .inv .1, c .blanks-end .ensures .1 .1))
 
 step-requires : tie.Need-step-requires Inv-loop μ-loop
 step-requires c κs =
@@ -113,7 +116,8 @@ next-spec =
     class-requires
     word-by-requires
     returns
-    add-start
+    add-blanks-end
+    blanks-end-requires
     loop-less
     loop-again
     step-requires

@@ -3,6 +3,7 @@ use Prim.Native.Nat.{_-_}
 use mathlib.Core.Path.{sym, ap, subst, _∙_}
 use native.Mathlib.Omega.{arith}
 use Rattle.clauses.specs.declared.rows.Row.{Row}
+use Rattle.clauses.specs.Cells.{CellsThere}
 use Rattle.clauses.specs.Follows.{RowThere}
 use Rattle.clauses.specs.Meant.{rowMeant}
 use Rattle.clauses.proofs.MeantLaws.{Seeking, seeking-none, seeking-found, seeking-more, seeking-key, seeking-all}
@@ -37,7 +38,8 @@ row-at-requires c κs =
 meant-requires : tie.Need-meant-requires Inv-loop μ-loop
 meant-requires c κs =
     let x = c .before .before .before .before .before .before .before in
-    (x .pre .0, subst (RowThere (x .args .text .now)) (sym (c .row-at .ensures)) (x .pre .0 .there .each (c .before .before .loop .k) (omega (arith, c .before .loop-test .taken, x .pre .1))))
+    let k = c .before .before .loop .k in
+    (x .pre .0, (subst (RowThere (x .args .text .now)) (sym (c .row-at .ensures)) (x .pre .0 .there .each k (omega (arith, c .before .loop-test .taken, x .pre .1))), (omega (arith, c .before .loop-test .taken, x .pre .0 .there .few, x .pre .1), subst (λ (r : Row). CellsThere (x .args .text .now) (x .args .work .now) k (r .numbered) (r .numbers)) (sym (c .row-at .ensures)) (x .pre .0 .there .cells k (omega (arith, c .before .loop-test .taken, x .pre .1))))))
 
 returns : tie.Need-returns Inv-loop μ-loop
 returns c =

@@ -15,20 +15,20 @@ wide-requires c κs = search needs
 returns : tie.Need-returns
 returns c = number-plain (c .before .before .before .before .before .args .text .now) (c .before .before .before .before .before .args .at) (saidWord (c .before .before .before .word-at .result)) (c .before .before .before .word-at .ensures) (c .before .before .before .before .before .pre .1) (c .before .if1 .taken) (c .wide .result) (c .wide .ensures)
 
-word-at-requires-2 : tie.Need-word-at-requires-2
-word-at-requires-2 c κs = name-onward (c .before .before .before .before .args .text .now) (c .before .before .before .before .args .at) (saidWord (c .before .before .word-at .result)) (c .before .before .word-at .ensures) (c .if1 .left) .lexed
+mark-at-requires : tie.Need-mark-at-requires
+mark-at-requires c κs = name-onward (c .before .before .before .before .args .text .now) (c .before .before .before .before .args .at) (saidWord (c .before .before .word-at .result)) (c .before .before .word-at .ensures) (c .if1 .left) .lexed
 
 returns-2 : tie.Need-returns-2
-returns-2 c = number-name (c .before .before .before .before .before .before .before .args .text .now) (c .before .before .before .before .before .before .before .args .at) (saidWord (c .before .before .before .before .before .word-at .result)) (c .before .before .before .before .before .word-at .ensures) (c .before .before .before .before .before .before .before .pre .1) (c .before .before .before .if1 .left) (saidWord (c .before .before .word-at2 .result)) (c .before .before .word-at2 .ensures) (c .if2 .taken)
+returns-2 c = number-name (c .before .before .before .before .before .before .before .args .text .now) (c .before .before .before .before .before .before .before .args .at) (saidWord (c .before .before .before .before .before .word-at .result)) (c .before .before .before .before .before .word-at .ensures) (c .before .before .before .before .before .before .before .pre .1) (c .before .before .before .if1 .left) (saidWord (c .before .before .mark-at .result)) (c .before .before .mark-at .ensures) (c .if2 .taken)
 
-word-at-requires-3 : tie.Need-word-at-requires-3
-word-at-requires-3 c κs = plus-onward (c .before .before .before .before .before .before .before .args .text .now) (c .before .before .before .before .before .before .before .args .at) (saidWord (c .before .before .before .before .before .word-at .result)) (c .before .before .before .before .before .word-at .ensures) (c .before .before .before .before .before .before .before .pre .1) (c .before .before .before .if1 .left) (saidWord (c .before .before .word-at2 .result)) (c .before .before .word-at2 .ensures) (c .if2 .left) .lexed
+word-at-requires-2 : tie.Need-word-at-requires-2
+word-at-requires-2 c κs = plus-onward (c .before .before .before .before .before .before .before .args .text .now) (c .before .before .before .before .before .before .before .args .at) (saidWord (c .before .before .before .before .before .word-at .result)) (c .before .before .before .before .before .word-at .ensures) (c .before .before .before .before .before .before .before .pre .1) (c .before .before .before .if1 .left) (saidWord (c .before .before .mark-at .result)) (c .before .before .mark-at .ensures) (c .if2 .left) .lexed
 
 wide-requires-2 : tie.Need-wide-requires-2
 wide-requires-2 c κs = search needs
 
 returns-3 : tie.Need-returns-3
-returns-3 c = number-plus (c .before .before .before .before .before .before .before .before .before .args .text .now) (c .before .before .before .before .before .before .before .before .before .args .at) (saidWord (c .before .before .before .before .before .before .before .word-at .result)) (c .before .before .before .before .before .before .before .word-at .ensures) (c .before .before .before .before .before .before .before .before .before .pre .1) (c .before .before .before .before .before .if1 .left) (saidWord (c .before .before .before .before .word-at2 .result)) (c .before .before .before .before .word-at2 .ensures) (c .before .before .if2 .left) (saidWord (c .before .word-at3 .result)) (c .before .word-at3 .ensures) (c .wide2 .result) (c .wide2 .ensures)
+returns-3 c = number-plus (c .before .before .before .before .before .before .before .before .before .args .text .now) (c .before .before .before .before .before .before .before .before .before .args .at) (saidWord (c .before .before .before .before .before .before .before .word-at .result)) (c .before .before .before .before .before .before .before .word-at .ensures) (c .before .before .before .before .before .before .before .before .before .pre .1) (c .before .before .before .before .before .if1 .left) (saidWord (c .before .before .before .before .mark-at .result)) (c .before .before .before .before .mark-at .ensures) (c .before .before .if2 .left) (saidWord (c .before .word-at2 .result)) (c .before .word-at2 .ensures) (c .wide2 .result) (c .wide2 .ensures)
 
 pub number-at-spec : {M : Type 1} → statement M
 number-at-spec =
@@ -37,8 +37,8 @@ number-at-spec =
     word-at-requires
     wide-requires
     returns
-    word-at-requires-2
+    mark-at-requires
     returns-2
-    word-at-requires-3
+    word-at-requires-2
     wide-requires-2
     returns-3)

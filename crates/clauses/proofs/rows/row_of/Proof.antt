@@ -31,7 +31,7 @@ returns : tie.Need-returns
 returns c =
     let s = c .before .before .before .before .before .before .before in
     let w = c .before .before .before .before .before .word-at in
-    row-read (s .args .text .now) (s .args .at) (saidWord (w .result)) (w .ensures) (s .args .sort) (s .args .end) (s .pre) (c .before .before .before .before .group-at .result) (c .before .before .before .group-at2 .result) (saidWord (c .before .before .word-at2 .result)) (c .before .before .before .before .group-at .ensures) (c .before .before .before .group-at2 .ensures) (c .before .before .word-at2 .ensures) (c .before .key-of .result) (c .before .key-of .ensures) (c .start-of .result) (c .start-of .ensures)
+    row-read (s .args .text .now) (s .args .at) (saidWord (w .result)) (w .ensures) (s .args .sort) (s .args .end) (s .pre) (c .before .before .before .before .group-at .result) (c .before .before .before .group-at2 .result) (saidWord (c .before .before .word-at2 .result)) (c .before .before .before .before .group-at .ensures) (c .before .before .before .group-at2 .ensures) (c .before .before .word-at2 .ensures) (c .before .key-of .result) (c .before .key-of .ensures) (c .start-of .result) (c .start-of .ensures .0, c .start-of .ensures .1)
 
 pub row-of-spec : {M : Type 1} → statement M
 row-of-spec =

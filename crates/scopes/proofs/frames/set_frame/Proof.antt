@@ -62,7 +62,7 @@ same-length : tie.Need-same-length
 same-length c = simp length-set
 
 returns : tie.Need-returns
-returns c = four-stores (c .before .before .before .before .args .work .now) (23552 + 4 * c .before .before .before .before .args .f) _ _ _ _
+returns c = four-stores (c .before .before .before .before .args .work .now) (30720 + 4 * c .before .before .before .before .args .f) _ _ _ _
 
 pub set-frame-spec : {M : Type 1} → statement M
 set-frame-spec =

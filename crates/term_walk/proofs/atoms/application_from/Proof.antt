@@ -7,24 +7,50 @@ use Rattle.term_walk.proofs.atoms.application_from.Statement.{statement
 use Rattle.term_walk.proofs.atoms.application_from.Tie as tie
 
 begins-atom-requires : tie.Need-begins-atom-requires
-begins-atom-requires c κs = search needs
+begins-atom-requires c κs =
+    let p = c .before .before .before .before .pre in
+    let w = p .here .scope .walkable in
+    (p .readable, record { clauses = p .X .clauses; room = w .room; rows = w .clauses .rows })
 
 atom-at-requires : tie.Need-atom-at-requires
-atom-at-requires c κs = (record { can = record { X = c .before .before .before .before .before .before .pre .X; most = c .before .before .before .before .before .before .pre .most; bottom = c .before .before .before .before .before .before .pre .bottom; k = c .before .before .before .before .before .before .pre .k; S = c .before .before .before .before .before .before .pre .S; σ = c .before .before .before .before .before .before .pre .f .state; K = c .before .before .before .before .before .before .pre .K; is = c .before .before .before .before .before .before .pre .is; here = c .before .before .before .before .before .before .pre .here }; p = record { place = c .before .before .before .before .before .before .args .h .place; function = some (c .before .before .before .before .before .before .pre .f) }; left = record { place = refl; function = (refl, c .before .before .before .before .before .before .pre .came .term) } }, c .before .before .before .before .before .before .pre .readable)
+atom-at-requires c κs =
+    let x = c .before .before .before .before .before .before .before in
+    let p = x .pre in (
+      record {
+        can = record { X = p .X; most = p .most; bottom = p .bottom; k = p .k; S = p .S; σ = p .f .state; K = p .K; is = p .is; here = p .here };
+        p = record { place = x .args .h .place; function = some (p .f) };
+        left = record { place = refl; function = (refl, p .came .term) };
+      },
+      p .readable,
+    )
 
 same-length : tie.Need-same-length
 same-length c = search needs
 
 returns : tie.Need-returns
-returns c = application-on (c .before .before .before .before .before .before .before .before .before .args .text .now) (c .before .before .before .before .before .before .before .before .before .args .work .now) (c .before .before .before .before .before .before .before .before .before .args .h) (c .before .before .before .before .before .before .before .before .before .pre .readable) (sym (c .before .before .before .before .before .begins-atom .ensures) ∙ c .before .before .before .before .if1 .taken) _ _ (c .before .before .atom-at .ensures)
+returns c =
+    let x = c .before .before .before .before .before .before .before .before .before .before in
+    application-on (x .args .text .now) (x .args .work .now) (x .args .h) (x .pre .readable) (sym (c .before .before .before .before .before .begins-atom .ensures) ∙ c .before .before .before .before .if1 .taken) _ _ (c .before .before .atom-at .ensures)
 
 done-requires : tie.Need-done-requires
 done-requires c κs = search needs
 
+same-length-2 : tie.Need-same-length-2
+same-length-2 c = search needs
+
 returns-2 : tie.Need-returns-2
-returns-2 c = application-done (c .before .before .before .before .before .before .args .text .now) (c .before .before .before .before .before .before .args .work .now) (c .before .before .before .before .before .before .args .h) (c .before .before .before .before .before .before .pre .readable) (sym (c .before .before .begins-atom .ensures) ∙ c .before .if1 .left) _ (c .done .ensures)
+returns-2 c =
+    let x = c .before .before .before .before .before .before .before in
+    application-done (x .args .text .now) (x .args .work .now) (x .args .h) (x .pre .readable) (sym (c .before .before .begins-atom .ensures) ∙ c .before .if1 .left) _ (c .done .ensures)
 
 pub application-from-spec : {M : Type 1} → statement M
 application-from-spec =
     tie.close
-    (tie.spec begins-atom-requires atom-at-requires same-length returns done-requires returns-2)
+    (tie.spec
+    begins-atom-requires
+    atom-at-requires
+    same-length
+    returns
+    done-requires
+    same-length-2
+    returns-2)

@@ -1,0 +1,30 @@
+-- What is told of the next word to who asks only for the signs that may stand behind a name or a number. Assumes nothing.
+use Prim.Native.Nat.{ℕ, _<_}
+use mathlib.Core.Path.{_≡_}
+use mathlib.Core.List.{List}
+use Rattle.notation_calculus.specs.Grammar.{peek}
+use Rattle.words.specs.Tables.{tokenCode}
+use Rattle.words.specs.Classes.{ClassIs}
+use Rattle.words.specs.Next.{Said}
+use Rattle.words.specs.Lexed.{from, Stands}
+
+-- a code that is not told is not the first word's
+abbrev pub Untold : List ℕ → ℕ → Said → ℕ → Type 0
+Untold text at w k = ¬ (w .code ≡ k) → ¬ (tokenCode (peek (from text at) .token) ≡ k)
+
+-- a byte that begins a number, a name or a reserved word
+pub record Unread (c : ℕ) : Type 0 where
+  pub class : ℕ
+  pub is : ClassIs c class
+  pub high : 63 < class
+
+-- a name is told where any word stands that begins with a letter or a digit; anything else is the first word
+pub record Marks (text : List ℕ) (at : ℕ) (w : Said) : Type 0 where
+  pub stands : ¬ (w .code ≡ 24) → Stands text at w
+  pub arrow : Untold text at w 8
+  pub linear : Untold text at w 9
+  pub times : Untold text at w 10
+  pub square : Untold text at w 17
+  pub curly : Untold text at w 19
+  pub plus : Untold text at w 21
+  pub power : Untold text at w 25
