@@ -277,7 +277,47 @@ pub fn edges() -> Vec<TextEdge> {
         answer: Ok((hex(sheet), places.to_vec())),
     });
     let short = REFUSED.iter().map(|&(name, number, text)| (name, number, text.to_string()));
-    made.chain(short.chain(passed()).map(refused)).collect()
+    let all = made.chain(short.chain(passed()).map(refused));
+    all.chain(by_one_number()).chain(by_one_letter()).collect()
+}
+
+/// Two clauses of 40 numbers that differ in one of them, wherever it stands: the second is meant, or none.
+fn by_one_number() -> Vec<TextEdge> {
+    let list = |others: &str, at: usize, one: &str| {
+        let one_of = |number: usize| if number == at { one } else { others }.to_string();
+        (0..40).map(one_of).collect::<Vec<String>>().join(", ")
+    };
+    let text = |at: usize, given: &str| {
+        let [first, second] = ["5", "m + 7"].map(|one| list("n", at, one));
+        format!("d{{{first}}} = zero d{{{second}}} = one main = @d{{{}}}", list("0", at, given))
+    };
+    let meant = |at: usize| {
+        let text = text(at, "7").replacen('@', "", 1);
+        let place = text.find("one").expect("the second body");
+        let answer = Ok((hex("01 1A0600"), vec![place]));
+        TextEdge { name: format!("number {at} of 40 tells"), text: text.into(), answer }
+    };
+    let places = [0, 1, 25, 26, 27, 28, 39];
+    let none = |&at: &usize| refused((&format!("number {at} of 40 fits none"), 33, text(at, "6")));
+    places.iter().map(|&at| meant(at)).chain(places.iter().map(none)).collect()
+}
+
+/// Parameters that differ from the last one in one letter, or go on behind it: the last one is meant.
+fn by_one_letter() -> Vec<TextEdge> {
+    let tells = |long: usize| {
+        let last = "b".repeat(long);
+        let mut names: Vec<String> = (0..long)
+            .map(|at| format!("{}a{}", "b".repeat(at), "b".repeat(long - at - 1)))
+            .collect();
+        names.extend([format!("{last}b"), format!("{last}'"), format!("{last}0"), last.clone()]);
+        let types = "1, ".repeat(names.len() - 1);
+        let head = format!("type f[{}] = {last} main = fun ", names.join(", "));
+        let text = format!("{head}x : f[{types}1 * 1]. x");
+        let places = vec![head.len(), text.len() - 1];
+        let answer = Ok((hex("01 020000 030101 1302 1100"), places));
+        TextEdge { name: format!("a name of {long} letters"), text: text.into(), answer }
+    };
+    (1..=20).map(tells).collect()
 }
 
 fn refused((name, number, marked): (&str, usize, String)) -> TextEdge {

@@ -51,6 +51,40 @@ pub fn type_behind(
     type_walk::type_from(text, work, at, more, frame, top)
 }
 
+// A byte that ends a look ahead: not a letter, a digit or a space, or nearly so.
+fn stops(c: u8) -> bool {
+    match c {
+        32 => false,
+        61 | 91 | 123 => true,
+        _ => c < 48,
+    }
+}
+
+// .. behind which more may have to be read: no parenthesis, comma, dot or `=`.
+fn opens(c: u8) -> bool {
+    match c {
+        40 | 41 | 44 | 46 | 61 => false,
+        _ => true,
+    }
+}
+
+// Whether the table is worth a look: behind the next few bytes there may stand much that nobody pays for. Nothing is said of the answer, since either is
+// right: a short head is read faster than it is found.
+fn far(text: &[u8], start: usize) -> bool {
+    let mut at = start;
+    while at < text.len() {
+        let c = text[at];
+        if stops(c) {
+            return opens(c);
+        }
+        if 24 <= at - start {
+            return true;
+        }
+        at = at + 1;
+    }
+    false
+}
+
 // An atom begins at an offset. Where the table says that a clause begins there, none does: the clause's head, which may be long, is not read at each
 // use of the clause before it.
 pub fn begins_atom(text: &[u8], work: &[u16], at: usize) -> bool
@@ -61,8 +95,10 @@ pub fn begins_atom(text: &[u8], work: &[u16], at: usize) -> bool
         return false;
     }
     let start = words::starts::start_of(text, at);
-    if clauses::rows::head_at(work, start) {
-        return false;
+    if far(text, start) {
+        if clauses::rows::head_at(work, start) {
+            return false;
+        }
     }
     grammar::heads::begins_atom(text, start)
 }

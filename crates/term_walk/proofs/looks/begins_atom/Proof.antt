@@ -15,18 +15,21 @@ returns c =
 start-of-requires : tie.Need-start-of-requires
 start-of-requires c κs = c .before .before .before .pre .0 (omega (arith, c .if1 .left))
 
+far-requires : tie.Need-far-requires
+far-requires c κs = search needs
+
 head-at-requires : tie.Need-head-at-requires
 head-at-requires c κs = search needs
 
 returns-2 : tie.Need-returns-2
 returns-2 c =
-    let x = c .before .before .before .before .before .before in
-    let s = c .before .before .start-of in
-    let lexed = x .pre .0 (omega (arith, c .before .before .before .if1 .left)) in
-    sym (ap beginsAtom (words-lexed (x .args .text .now) (x .args .at) lexed) ∙ no-atom (x .args .text .now) (x .args .work .now) (x .pre .1) (s .result) (x .args .at) (c .before .head-at .ensures (c .if2 .taken)) (s .ensures .1))
+    let x = c .before .before .before .before .before .before .before .before in
+    let s = c .before .before .before .before .start-of in
+    let lexed = x .pre .0 (omega (arith, c .before .before .before .before .before .if1 .left)) in
+    sym (ap beginsAtom (words-lexed (x .args .text .now) (x .args .at) lexed) ∙ no-atom (x .args .text .now) (x .args .work .now) (x .pre .1) (s .result) (x .args .at) (c .before .head-at .ensures (c .if3 .taken)) (s .ensures .1))
 
 begins-atom-requires : tie.Need-begins-atom-requires
-begins-atom-requires c κs = search needs
+begins-atom-requires c κs = c .before .before .start-of .ensures .0
 
 returns-3 : tie.Need-returns-3
 returns-3 c =
@@ -38,4 +41,4 @@ returns-3 c =
 pub begins-atom-spec : {M : Type 1} → statement M
 begins-atom-spec =
     tie.close
-    (tie.spec returns start-of-requires head-at-requires returns-2 begins-atom-requires returns-3)
+    (tie.spec returns start-of-requires far-requires head-at-requires returns-2 begins-atom-requires returns-3)
