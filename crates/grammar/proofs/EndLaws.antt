@@ -121,7 +121,7 @@ mark-no text at w t u n = token-is t (peek (from text at) .token) ∙ ne-eqb _ _
 
 -- .. and who knows the word knows that
 pub word-marks : (text : List ℕ) (at : ℕ) (w : Said) → Stands text at w → Marks text at w
-word-marks text at w s = record { stands = λ _. s; arrow = untold 8; linear = untold 9; times = untold 10; square = untold 17; curly = untold 19; plus = untold 21; power = untold 25 }
+word-marks text at w s = record { stands = λ _. s; arrow = untold 8; linear = untold 9; times = untold 10; equals = untold 13; square = untold 17; curly = untold 19; plus = untold 21; power = untold 25 }
   where
     untold : (k : ℕ) → Untold text at w k
     untold k n z = n (s .code ∙ z)

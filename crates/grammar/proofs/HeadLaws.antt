@@ -13,6 +13,7 @@ use Rattle.notation_calculus.specs.Grammar.{peek, behind, is, isName, isPart, i
 use Rattle.words.specs.Tables.{tokenCode}
 use Rattle.words.specs.Next.{Said}
 use Rattle.words.specs.Lexed.{from, Lexed, Onward, Stands}
+use Rattle.words.specs.Marks.{Marks}
 use Rattle.grammar.specs.Skips.{opensGroup, closesGroup, depthBy, stopsBy}
 use Rattle.grammar.proofs.EndLaws.{token-is, is-yes, is-no, name-yes, name-no, part-yes, part-no}
 use Rattle.grammar.proofs.StepLaws.{code-is, code-not}
@@ -175,6 +176,24 @@ module _ (text : List ℕ) (start at deep : ℕ) (w : Said) (g : Grouped text st
 
 pub groups-stop : (text : List ℕ) (start at deep : ℕ) (w : Said) → Grouped text start at deep w → stopsBy (w .code) deep ≡ true → eqb (w .code) 13 ≡ is equals (behindGroup 0 (from text start))
 groups-stop text start at deep w g e = group-stop text at w (g .stands) deep e ∙ sym (g .same)
+
+-- ---- the sign behind a name
+
+pub heads-equals : (text : List ℕ) (at : ℕ) (w : Said) → Stands text at w → w .code ≡ 13 → true ≡ is equals (behindGroup 0 (from text at))
+heads-equals text at w s e = sym (eq-eqb (w .code) 13 e) ∙ group-stop text at w s 0 (ap (λ (c : ℕ). stopsBy c 0) e)
+
+pub heads-none : (us : List Word) → opensGroup (tokenCode (peek us .token)) ≡ false → ¬ (tokenCode (peek us .token) ≡ 13) → false ≡ is equals (behindGroup 0 us)
+heads-none [] o e = refl
+heads-none (u ∷ us) o e = sym (ap (is equals) (onward-is zero u us ∙ ap (λ (b : Bool). cond b (behindGroup 1 us) (u ∷ us)) o) ∙ token-is equals (u .token) ∙ ne-eqb 13 (tokenCode (u .token)) (λ q. e (sym q)))
+
+-- a word that opens no group as it was told opens none
+pub opens-none : (text : List ℕ) (at : ℕ) (w : Said) → Marks text at w → opensGroup (w .code) ≡ false → opensGroup (tokenCode (peek (from text at) .token)) ≡ false
+opens-none text at w m e =
+    let n = or-none _ _ e in
+    let c = tokenCode (peek (from text at) .token) in
+    let a = m .square (λ z. eqb-false 17 (w .code) (n .0) (sym z)) in
+    let b = m .curly (λ z. eqb-false 19 (w .code) (n .1) (sym z)) in
+    ap (λ (x : Bool). x || eqb 19 c) (ne-eqb 17 c (λ q. a (sym q))) ∙ ne-eqb 19 c (λ q. b (sym q))
 
 -- ---- where an atom begins
 

@@ -81,10 +81,10 @@ pub list-by : (read : Step) (n : ℕ) (us : List Word) → 0 < n → listEnd rea
 list-by read zero us h = absurd (omega arith)
 list-by read (suc n) us h = let e : suc n - 1 ≡ n = omega arith in ap (λ (k : ℕ). read us >>= λ vs. listMore read k vs) (sym e)
 
-module _ (text : List ℕ) (at : ℕ) (w : Said) (s : Stands text at w) (opens closes : Sign) (read : Step) where
-  pub group-none : ¬ (w .code ≡ signCode opens) → groupEnd opens closes read (from text at) ≡ good (from text at)
-  group-none e = ap (λ (b : Bool). cond b (listEnd read (length (from text at)) (behind (from text at)) >>= λ us. expect closes us) (good (from text at))) (is-no text at w s opens e)
+pub group-none : (us : List Word) (opens closes : Sign) (read : Step) → is opens us ≡ false → groupEnd opens closes read us ≡ good us
+group-none us opens closes read e = ap (λ (b : Bool). cond b (listEnd read (length us) (behind us) >>= λ vs. expect closes vs) (good us)) e
 
+module _ (text : List ℕ) (at : ℕ) (w : Said) (s : Stands text at w) (opens closes : Sign) (read : Step) where
   pub group-first : w .code ≡ signCode opens → ¬ (w .code ≡ 0) → (t : End) → Ends text (length (from text (w .end))) (read (from text (w .end))) t → Loops text (listMore read) (λ us. expect closes us) (groupEnd opens closes read (from text at)) (length (from text at)) t
   group-first e z t n =
       let o = s .onward z in

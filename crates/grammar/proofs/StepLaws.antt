@@ -39,6 +39,9 @@ number-by-none (part p) ws e f = refl
 number-by-none (number n) ws e f = absurd (e refl)
 number-by-none (name n) ws e f = absurd (f refl)
 
+pub ones-none : (ws : List Word) → is power ws ≡ false → onesEnd ws ≡ good ws
+ones-none ws e = ap (λ (b : Bool). cond b (numberEnd (behind ws)) (good ws)) e
+
 pub plus-none : (ws : List Word) → is plus ws ≡ false → plusEnd ws ≡ good ws
 plus-none ws e = ap (λ (b : Bool). cond b (need (isNumber (peek (behind ws) .token)) 32 (place (behind ws)) >>= λ _. good (behind (behind ws))) (good ws)) e
 
@@ -106,9 +109,6 @@ module _ (text : List ℕ) (at : ℕ) (w : Said) (s : Stands text at w) where
 
   abbrev onesBy : Bool → List Word → Answer (List Word)
   onesBy b us = cond b (numberEnd us) (good here)
-
-  pub ones-none : ¬ (w .code ≡ 25) → onesEnd here ≡ good here
-  ones-none e = ap (λ (b : Bool). onesBy b (behind here)) (is-no text at w s power e)
 
   pub power-on : w .code ≡ 25 → Onward text at (w .end)
   power-on e = s .onward (not-end 24 e)

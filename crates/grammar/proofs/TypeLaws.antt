@@ -88,14 +88,15 @@ module _ (text : List ℕ) (at : ℕ) (w : Said) (s : Stands text at w) (read : 
   pub arrow-none : ¬ (w .code ≡ 8) → ¬ (w .code ≡ 9) → arrowEnd read here ≡ good here
   arrow-none d e = arrow-by false false (is-no text at w s arrow d) (is-no text at w s linear e)
 
-  -- behind a name: no types, no types and no numbers
-  pub use-numbers : ¬ (w .code ≡ 17) → useEnd read here ≡ numbersEnd here
-  use-numbers e = ap (λ (m : Answer (List Word)). m >>= λ us. numbersEnd us) (group-none text at w s square endSquare read e)
-
-  pub use-none : ¬ (w .code ≡ 17) → ¬ (w .code ≡ 19) → useEnd read here ≡ good here
-  use-none d e = use-numbers d ∙ group-none text at w s curly endCurly numberEnd e
-
 -- ---- a use, and a type in parentheses
+
+-- behind a name: no types, no types and no numbers
+module _ (read : Step) (ws : List Word) (none : is square ws ≡ false) where
+  pub use-numbers : useEnd read ws ≡ numbersEnd ws
+  use-numbers = ap (λ (m : Answer (List Word)). m >>= λ us. numbersEnd us) (group-none ws square endSquare read none)
+
+  pub use-none : is curly ws ≡ false → useEnd read ws ≡ good ws
+  use-none e = use-numbers ∙ group-none ws curly endCurly numberEnd e
 
 module _ (text : List ℕ) (at : ℕ) (read : Step) (t : End) where
   pub use-stop : Ends text (length (from text at) + 1) (groupEnd square endSquare read (from text at)) t → ¬ (t .number ≡ 0) → Ends text (length (from text at) + 1) (useEnd read (from text at)) t

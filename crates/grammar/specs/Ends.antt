@@ -24,6 +24,11 @@ typeStep more tight ws = restOf (typeAt more tight ws)
 abbrev pub termStep : ℕ → List Word → Answer (List Word)
 termStep more ws = restOf (termAt more ws)
 
+-- the first of the words from an offset on, by its code, its place and where it ends
+pub record WordThere (text : List ℕ) (at code place end : ℕ) : Type 0 where
+  pub value : ℕ
+  pub stands : Stands text at (record { code = code; value = value; place = place; end = end })
+
 -- the words behind are those from an offset on, and fewer than b
 pub record Reaches (text : List ℕ) (b : ℕ) (m : Answer (List Word)) (end : ℕ) : Type 0 where
   pub is : m ≡ good (from text end)

@@ -60,8 +60,8 @@ fn stops(kind: u8, deep: usize) -> bool
     false
 }
 
-// Behind a name: `=` behind its groups.
-fn heads(text: &[u8], start: usize) -> bool
+// Behind a name with groups: `=` behind them.
+fn groups(text: &[u8], start: usize) -> bool
     requires { ⌜ Lexed (now text) start ⌝ }
     ensures { λ r. ⌜ r ≡ is equals (behindGroup 0 (from (now (text .entry)) start)) ⌝ }
 {
@@ -74,6 +74,21 @@ fn heads(text: &[u8], start: usize) -> bool
         w = words::word_at(text, at);
     }
     w.kind == EQUALS
+}
+
+// Behind a name: `=` behind its groups, if it has any. The sign behind the name mostly tells.
+fn heads(text: &[u8], start: usize) -> bool
+    requires { ⌜ Lexed (now text) start ⌝ }
+    ensures { λ r. ⌜ r ≡ is equals (behindGroup 0 (from (now (text .entry)) start)) ⌝ }
+{
+    let kind = words::marks::mark_kind(text, start);
+    if kind == EQUALS {
+        return true;
+    }
+    if opens(kind) {
+        return groups(text, start);
+    }
+    false
 }
 
 // An atom begins with the word at an offset, and no definition.
@@ -91,13 +106,4 @@ pub fn word_begins(text: &[u8], at: usize, w: Word) -> bool
         return !heads(text, w.end);
     }
     false
-}
-
-// An atom begins here, and no definition.
-pub fn begins_atom(text: &[u8], at: usize) -> bool
-    requires { ⌜ Lexed (now text) at ⌝ }
-    ensures { λ r. ⌜ r ≡ beginsAtom (from (now (text .entry)) at) ⌝ }
-{
-    let w = words::word_at(text, at);
-    word_begins(text, at, w)
 }

@@ -27,7 +27,7 @@ fn parameters_end(text: &[u8], at: usize) -> End
     requires { ⌜ Lexed (now text) at ⌝ }
     ensures { λ r. ⌜ Ends (now (text .entry)) (length (from (now (text .entry)) at) + 1) (groupEnd square endSquare nameEnd (from (now (text .entry)) at)) r ⌝ }
 {
-    let w = words::word_at(text, at);
+    let w = words::marks::mark_at(text, at);
     if w.kind == steps::SQUARE {
         return names::names_list(text, w.end, steps::END_SQUARE);
     }

@@ -59,7 +59,7 @@ pub fn expect(text: &[u8], at: usize, sign: u8) -> End
     requires { ⌜ (Lexed (now text) at) × (0 < sign) ⌝ }
     ensures { λ r. ⌜ Ends (now (text .entry)) (length (from (now (text .entry)) at)) (expectCode sign (from (now (text .entry)) at)) r ⌝ }
 {
-    let w = words::word_at(text, at);
+    let w = words::word_here(text, at);
     expect_word(w, sign)
 }
 
@@ -119,7 +119,7 @@ pub fn ones_end(text: &[u8], at: usize) -> End
     requires { ⌜ Lexed (now text) at ⌝ }
     ensures { λ r. ⌜ Ends (now (text .entry)) (length (from (now (text .entry)) at) + 1) (onesEnd (from (now (text .entry)) at)) r ⌝ }
 {
-    let w = words::word_at(text, at);
+    let w = words::marks::mark_at(text, at);
     if w.kind != words::POWER {
         return here(text, at);
     }
@@ -131,7 +131,7 @@ pub fn numbers_end(text: &[u8], at: usize) -> End
     requires { ⌜ Lexed (now text) at ⌝ }
     ensures { λ r. ⌜ Ends (now (text .entry)) (length (from (now (text .entry)) at) + 1) (numbersEnd (from (now (text .entry)) at)) r ⌝ }
 {
-    let w = words::word_at(text, at);
+    let w = words::marks::mark_at(text, at);
     if w.kind != CURLY {
         return here(text, at);
     }

@@ -7,7 +7,7 @@ use crate::types;
 ghost use mathlib.Core.Bool.{false};
 ghost use lib.ListN.{length};
 ghost use Rattle.words.specs.Lexed.{from, Lexed};
-ghost use Rattle.grammar.specs.Ends.{Ends, EndsIn, typeStep, termStep};
+ghost use Rattle.grammar.specs.Ends.{Ends, EndsIn, typeStep, termStep, WordThere};
 ghost use Rattle.grammar.specs.Skips.{tupleEnd, atomEnd, spineEnd, boundEnd, letBodyEnd};
 
 const FUN: u8 = 1;
@@ -35,47 +35,44 @@ fn tuple_end(text: &[u8], at: usize, more: usize) -> End
 {
     let mut t = term_end(text, at, more);
     while t.number == 0 {
-        let c = words::word_at(text, t.at);
+        let c = words::word_here(text, t.at);
         if c.kind != steps::COMMA {
-            return steps::expect(text, t.at, END_ROUND);
+            return steps::expect_word(c, END_ROUND);
         }
         t = term_end(text, c.end, more);
     }
     t
 }
 
-// A name that is used, a part, or terms in parentheses.
-fn atom_end(text: &[u8], at: usize, more: usize) -> End
-    requires { ⌜ Lexed (now text) at ⌝ }
+// By the word at an offset: a name that is used, a part, or terms in parentheses. A word is passed on by its fields, which take no stack at each level.
+fn atom_end(text: &[u8], at: usize, more: usize, kind: u8, start: usize, end: usize) -> End
+    requires { ⌜ (Lexed (now text) at) × (WordThere (now text) at kind start end) ⌝ }
     ensures { λ r. ⌜ Ends (now (text .entry)) (length (from (now (text .entry)) at)) (atomEnd (termStep more) (typeStep more false) (from (now (text .entry)) at)) r ⌝ }
 {
-    let w = words::word_at(text, at);
-    if w.kind == words::NAME {
-        return types::use_end(text, w.end, more);
+    if kind == words::NAME {
+        return types::use_end(text, end, more);
     }
-    if w.kind == ROUND {
-        return tuple_end(text, w.end, more);
+    if kind == ROUND {
+        return tuple_end(text, end, more);
     }
-    if w.kind == words::PART {
-        return End {
-            number: 0,
-            at: w.end,
-        };
+    if kind == words::PART {
+        return End { number: 0, at: end };
     }
-    steps::refused(32, w.start)
+    steps::refused(32, start)
 }
 
 // An atom, and the atoms that it is applied to: up to the next head, or a word that begins no atom.
-fn spine_end(text: &[u8], at: usize, more: usize) -> End
-    requires { ⌜ Lexed (now text) at ⌝ }
+fn spine_end(text: &[u8], at: usize, more: usize, kind: u8, start: usize, end: usize) -> End
+    requires { ⌜ (Lexed (now text) at) × (WordThere (now text) at kind start end) ⌝ }
     ensures { λ r. ⌜ Ends (now (text .entry)) (length (from (now (text .entry)) at)) (spineEnd (termStep more) (typeStep more false) (from (now (text .entry)) at)) r ⌝ }
 {
-    let mut t = atom_end(text, at, more);
+    let mut t = atom_end(text, at, more, kind, start, end);
     while t.number == 0 {
-        if !heads::begins_atom(text, t.at) {
+        let w = words::word_at(text, t.at);
+        if !heads::word_begins(text, t.at, w) {
             return t;
         }
-        t = atom_end(text, t.at, more);
+        t = atom_end(text, t.at, more, w.kind, w.start, w.end);
     }
     t
 }
@@ -150,5 +147,5 @@ pub fn term_end(text: &[u8], at: usize, more: usize) -> End
         }
         return let_body_end(text, x.at, more - 1);
     }
-    spine_end(text, at, more - 1)
+    spine_end(text, at, more - 1, w.kind, w.start, w.end)
 }

@@ -47,11 +47,11 @@ pub fn use_end(text: &[u8], at: usize, more: usize) -> End
     requires { ⌜ Lexed (now text) at ⌝ }
     ensures { λ r. ⌜ Ends (now (text .entry)) (length (from (now (text .entry)) at) + 1) (useEnd (typeStep more false) (from (now (text .entry)) at)) r ⌝ }
 {
-    let w = words::word_at(text, at);
-    if w.kind == steps::CURLY {
+    let kind = words::marks::mark_kind(text, at);
+    if kind == steps::CURLY {
         return steps::numbers_end(text, at);
     }
-    if w.kind != steps::SQUARE {
+    if kind != steps::SQUARE {
         return steps::here(text, at);
     }
     let t = arguments_end(text, at, more);

@@ -35,8 +35,8 @@ fn numbers_behind(
     requires { ⌜ CanPut (now text) (now work) name at types frame top into ⌝ }
     ensures { λ r. ⌜ NumbersSay (now (text .entry)) (now (work .entry)) name at types frame top r (now (work .exit)) ⌝ }
 {
-    let w = words::marks::mark_at(text, at);
-    if w.kind != grammar::steps::CURLY {
+    let kind = words::marks::mark_kind(text, at);
+    if kind != grammar::steps::CURLY {
         return NumbersEnd::At(0, at);
     }
     let e = grammar::steps::numbers_end(text, at);

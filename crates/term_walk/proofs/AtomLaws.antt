@@ -21,7 +21,7 @@ use Rattle.notation_machine.specs.Bodies.{wordsFor}
 use Rattle.notation_machine.specs.TypeFrom.{typesFrom}
 use Rattle.notation_machine.specs.TermMachine.{Function, none, some, Spine, TermWish, element, ofDefinition, TermLevel, Terming, TermHere, askTerm, behindAtom, termPutIn, termNamedAt, atomEntered, applicationFrom}
 use Rattle.words.specs.Tables.{tokenCode, tokenValue}
-use Rattle.words.specs.Next.{runAt, saidWord}
+use Rattle.words.specs.Next.{runAt, Said}
 use Rattle.words.specs.Lexed.{from, Lexed}
 use Rattle.words.specs.declared.Word as code-word
 use Rattle.words.specs.Marks.{Marks}
@@ -236,15 +236,15 @@ module _ (text w : List ℕ) (h : Walk) (s : Left) (name at : ℕ) (lexed : Lexe
 
   -- ---- arguments, or none
 
-  module _ (v : code-word.Word) (m : Marks text at (saidWord v)) where
-    pub named-square : v .kind ≡ 17 → (r : step.Step) (w′ : List ℕ) → AtomSays text w h s (putEntry text name at) r w′ → AtomSays text w h s (namedEntry text name at) r w′
-    named-square e r w′ A = record { stepped = A .stepped; says = λ X most bottom k S σ K p c g l. rw (is-yes text at (saidWord v) (mark-stands text at (saidWord v) m 17 e (λ z. omega arith)) square e) (A .says X most bottom k S σ K p c g l) }
+  module _ (v : Said) (m : Marks text at v) where
+    pub named-square : v .code ≡ 17 → (r : step.Step) (w′ : List ℕ) → AtomSays text w h s (putEntry text name at) r w′ → AtomSays text w h s (namedEntry text name at) r w′
+    named-square e r w′ A = record { stepped = A .stepped; says = λ X most bottom k S σ K p c g l. rw (is-yes text at v (mark-stands text at v m 17 e (λ z. omega arith)) square e) (A .says X most bottom k S σ K p c g l) }
 
-    pub named-curly : ¬ (v .kind ≡ 17) → v .kind ≡ 19 → (r : step.Step) (w′ : List ℕ) → AtomSays text w h s (putEntry text name at) r w′ → AtomSays text w h s (namedEntry text name at) r w′
-    named-curly n e r w′ A = record { stepped = A .stepped; says = λ X most bottom k S σ K p c g l. rw (mark-no text at (saidWord v) square (m .square) n, is-yes text at (saidWord v) (mark-stands text at (saidWord v) m 19 e (λ z. omega arith)) curly e) (A .says X most bottom k S σ K p c g l) }
+    pub named-curly : ¬ (v .code ≡ 17) → v .code ≡ 19 → (r : step.Step) (w′ : List ℕ) → AtomSays text w h s (putEntry text name at) r w′ → AtomSays text w h s (namedEntry text name at) r w′
+    named-curly n e r w′ A = record { stepped = A .stepped; says = λ X most bottom k S σ K p c g l. rw (mark-no text at v square (m .square) n, is-yes text at v (mark-stands text at v m 19 e (λ z. omega arith)) curly e) (A .says X most bottom k S σ K p c g l) }
 
-    pub named-plain : ¬ (v .kind ≡ 17) → ¬ (v .kind ≡ 19) → (r : step.Step) (w′ : List ℕ) → AtomSays text w h s (plainEntry text name at) r w′ → AtomSays text w h s (namedEntry text name at) r w′
-    named-plain n e r w′ A = record { stepped = A .stepped; says = λ X most bottom k S σ K p c g l. rw (mark-no text at (saidWord v) square (m .square) n, mark-no text at (saidWord v) curly (m .curly) e) (A .says X most bottom k S σ K p c g l) }
+    pub named-plain : ¬ (v .code ≡ 17) → ¬ (v .code ≡ 19) → (r : step.Step) (w′ : List ℕ) → AtomSays text w h s (plainEntry text name at) r w′ → AtomSays text w h s (namedEntry text name at) r w′
+    named-plain n e r w′ A = record { stepped = A .stepped; says = λ X most bottom k S σ K p c g l. rw (mark-no text at v square (m .square) n, mark-no text at v curly (m .curly) e) (A .says X most bottom k S σ K p c g l) }
 
 -- ---- what the calls ask
 

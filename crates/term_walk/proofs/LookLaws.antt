@@ -15,8 +15,9 @@ use Rattle.words.specs.Tables.{tokenCode, tokenValue}
 use Rattle.words.specs.Next.{runAt, saidWord}
 use Rattle.words.specs.Lexed.{lexed, valued, from, Lexed, Stands}
 use Rattle.words.specs.declared.Word.{Word}
+use Rattle.grammar.proofs.HeadLaws.{begins-none}
 use Rattle.clauses.specs.Rows.{HeadAt}
-use Rattle.term_walk.specs.Looks.{wordsAt, ReadableFrom, HeadsHeld, Looks}
+use Rattle.term_walk.specs.Looks.{wordsAt, ReadableFrom, HeadsHeld, Looks, AtomWord}
 
 -- ---- the place of a word is an offset of the text
 
@@ -154,3 +155,38 @@ module _ (text : List ℕ) (at : ℕ) where
       where
         run-long : w .end ≡ w .start + run (drop (w .start) text) → w .end - w .start ≡ run (drop (w .start) text)
         run-long h = omega arith
+
+-- ---- the word that begins an atom
+
+-- the words are the same from both offsets on
+looks-at : (text : List ℕ) (a b : ℕ) (w : Word) → wordsAt text b ≡ wordsAt text a → Looks text a w → Looks text b w
+looks-at text a b w e L = record {
+  code = L .code ∙ ap (λ (ws : List Words.Word). tokenCode (peek ws .token)) (sym e);
+  value = L .value ∙ ap (λ (ws : List Words.Word). tokenValue (peek ws .token)) (sym e);
+  place = L .place ∙ ap (λ (ws : List Words.Word). place ws) (sym e);
+  inside = L .inside;
+  rest = ap behind e ∙ L .rest;
+  readable = L .readable;
+  onward = L .onward;
+  fewer = λ h. omega (arith, ap length e, ap length (ap behind e), L .fewer h);
+  named = λ h. ap (λ (ws : List Words.Word). peek ws .token) e ∙ L .named h;
+  long = L .long;
+}
+
+-- no atom begins at the end
+atom-some : (text : List ℕ) (at : ℕ) (w : Word) → Stands text at (saidWord w) → beginsAtom (from text at) ≡ true → ¬ (w .kind ≡ 0)
+atom-some text at w s b k =
+    let n = begins-none text at (saidWord w) s (λ z. absurd (omega arith)) (λ z. absurd (omega arith)) (λ z. absurd (omega arith)) in
+    let z : false ≡ true = n ∙ b in
+    let q : _≡_ {A = ℕ} 0 1 = cc in
+    absurd (omega arith)
+
+pub atom-first : (text : List ℕ) (start at : ℕ) → Lexed text start → Lexed text at → from text start ≡ from text at → (w : Word) → Stands text start (saidWord w) → beginsAtom (from text start) ≡ true → AtomWord text at w
+atom-first text start at l m e w s b = record {
+  none = λ k. absurd (atom-some text start w s b k);
+  begins = λ _. ap beginsAtom (words-lexed text at m ∙ sym e) ∙ b;
+  first = λ k. looks-at text start at w (words-lexed text at m ∙ sym e ∙ sym (words-lexed text start l)) (look-word text start l w s k);
+}
+
+pub atom-nowhere : (text : List ℕ) (at : ℕ) (w : Word) → w .kind ≡ 0 → beginsAtom (wordsAt text at) ≡ false → AtomWord text at w
+atom-nowhere text at w k b = record { none = λ _. b; begins = λ n. absurd (n k); first = λ n. absurd (n k) }

@@ -2,14 +2,14 @@
 -- where no words are left. Assumes nothing.
 use Prim.Native.Nat.{ℕ, _≤_, _<_}
 use mathlib.Core.Path.{_≡_}
-use mathlib.Core.Bool.{cond}
+use mathlib.Core.Bool.{true, false, cond}
 use mathlib.Core.List.{List, []}
 use lib.Dec.{leb}
 use lib.ListN.{length, drop}
 use Rattle.notation_calculus.specs.Words.{name, run}
 use Rattle.notation_calculus.specs.Words as Words
 use Rattle.notation_calculus.specs.Trees.{Clause}
-use Rattle.notation_calculus.specs.Grammar.{peek, behind, place}
+use Rattle.notation_calculus.specs.Grammar.{peek, behind, place, beginsAtom}
 use Rattle.words.specs.Tables.{tokenCode, tokenValue}
 use Rattle.words.specs.Next.{runAt}
 use Rattle.words.specs.Lexed.{from, Lexed}
@@ -42,3 +42,9 @@ pub record Looks (text : List ℕ) (at : ℕ) (w : Word) : Type 0 where
   pub fewer : ¬ (w .kind ≡ 0) → length (behind (wordsAt text at)) < length (wordsAt text at)
   pub named : w .kind ≡ 24 → peek (wordsAt text at) .token ≡ name (runAt text (w .start))
   pub long : w .kind ≡ 24 → 0 < run (drop (w .start) text)
+
+-- the first of the words from an offset on, where an atom begins; and no word where none does
+pub record AtomWord (text : List ℕ) (at : ℕ) (w : Word) : Type 0 where
+  pub none : w .kind ≡ 0 → beginsAtom (wordsAt text at) ≡ false
+  pub begins : ¬ (w .kind ≡ 0) → beginsAtom (wordsAt text at) ≡ true
+  pub first : ¬ (w .kind ≡ 0) → Looks text at w

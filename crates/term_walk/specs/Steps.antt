@@ -130,6 +130,10 @@ pub record EnterSays (text w : List ℕ) (h : Walk) (D : LevelEntry) (r : step.S
 abbrev pub AtomEntry : Type 0
 AtomEntry = Text → List (List Word) → TermHere → Spine → State → Answer Terming
 
+-- where the application begins, and the function so far, if there is one: the walk has it
+abbrev pub leftHere : Walk → ℕ → ℕ → Left
+leftHere h place flag = record { place = place; flag = flag; sub = h .sub }
+
 pub record CanAtom (text w : List ℕ) (h : Walk) (s : Left) : Type 0 where
   pub can : CanEnter text w h
   pub p : Spine

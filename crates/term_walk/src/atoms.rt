@@ -14,8 +14,8 @@ ghost use lib.ListN.{length, drop};
 ghost use Rattle.notation_calculus.specs.Words.{run};
 ghost use Rattle.notation_calculus.specs.Making.{mostEntries};
 ghost use Rattle.words.specs.Lexed.{Lexed};
-ghost use Rattle.term_walk.specs.Looks.{ReadableFrom};
-ghost use Rattle.term_walk.specs.Steps.{CanApply, BehindSays, CanApplyMade, MadeSays, CanAtom, AtomSays, TypesWait, clauseEntry, putEntry, plainEntry, namedEntry, atomEntry, CanApplication, ApplicationSays};
+ghost use Rattle.term_walk.specs.Looks.{Looks};
+ghost use Rattle.term_walk.specs.Steps.{leftHere, CanApply, BehindSays, CanApplyMade, MadeSays, CanAtom, AtomSays, TypesWait, clauseEntry, putEntry, plainEntry, namedEntry, atomEntry, CanApplication, ApplicationSays};
 
 const ROUND: u8 = 11;
 
@@ -103,34 +103,46 @@ fn named_at(text: &[u8], work: &mut [u16], h: Walk, s: Left, name: usize, at: us
     requires { ⌜ (CanAtom (now text) (now work) h s) × ((Lexed (now text) at) × ((name ≤ length (now text)) × (0 < run (drop name (now text))))) ⌝ }
     ensures { λ r. ⌜ AtomSays (now (text .entry)) (now (work .entry)) h s (namedEntry (now (text .entry)) name at) r (now (work .exit)) ⌝ }
 {
-    let w = words::marks::mark_at(text, at);
-    if w.kind == SQUARE {
+    let kind = words::marks::mark_kind(text, at);
+    if kind == SQUARE {
         return put_term(text, work, h, s, name, at);
     }
-    if w.kind == CURLY {
+    if kind == CURLY {
         return put_term(text, work, h, s, name, at);
     }
     plain_at(text, work, h, s, name, at)
 }
 
-// An atom begins at the offset: behind an opening parenthesis the first element is wanted.
-pub fn atom_at(text: &[u8], work: &mut [u16], h: Walk, s: Left) -> Step
-    requires { ⌜ (CanAtom (now text) (now work) h s) × ReadableFrom (now text) (h .at) ⌝ }
-    ensures { λ r. ⌜ AtomSays (now (text .entry)) (now (work .entry)) h s (atomEntry (now (text .entry)) (h .at)) r (now (work .exit)) ⌝ }
+// An atom begins with the word at the offset: behind an opening parenthesis the first element is wanted. The word, and where the application begins, are
+// passed on by their fields: a struct that was just written is waited for where it is copied as a whole.
+pub fn atom_at(
+    text: &[u8],
+    work: &mut [u16],
+    h: Walk,
+    place: u16,
+    flag: u16,
+    kind: u8,
+    value: u8,
+    start: usize,
+    end: usize,
+) -> Step
+    requires { ⌜ (CanAtom (now text) (now work) h (leftHere h place flag)) × Looks (now text) (h .at) (record { kind = kind; value = value; start = start; end = end }) ⌝ }
+    ensures { λ r. ⌜ AtomSays (now (text .entry)) (now (work .entry)) h (leftHere h place flag) (atomEntry (now (text .entry)) (h .at)) r (now (work .exit)) ⌝ }
 {
-    let w = looks::look(text, h.at);
-    if w.kind == ROUND {
+    let sub = h.sub;
+    let s = Left { place, flag, sub };
+    if kind == ROUND {
         let l = crate::part_level(crate::ELEMENT, s, 0, 0);
-        return crate::ask(work, h, l, h.frame, h.top, h.waiting, w.end);
+        return crate::ask(work, h, l, h.frame, h.top, h.waiting, end);
     }
-    if w.kind == words::PART {
-        let made = made_nodes::leaves::part(work, w.value as u16, w.start as u16);
-        return behind_made(work, h, s, made, w.end);
+    if kind == words::PART {
+        let made = made_nodes::leaves::part(work, value as u16, start as u16);
+        return behind_made(work, h, s, made, end);
     }
-    if w.kind == words::NAME {
-        return named_at(text, work, h, s, w.start, w.end);
+    if kind == words::NAME {
+        return named_at(text, work, h, s, start, end);
     }
-    Step::Refused(32, w.start)
+    Step::Refused(32, start)
 }
 
 // Behind the function of an application: one more atom, or no more.
@@ -139,13 +151,9 @@ pub fn application_from(text: &[u8], work: &mut [u16], h: Walk) -> Step
     ensures { λ r. ⌜ ApplicationSays (now (text .entry)) (now (work .entry)) h r (now (work .exit)) ⌝ }
 {
     let sub = h.sub;
-    if looks::begins_atom(text, work, h.at) {
-        let s = Left {
-            place: h.place,
-            flag: 1,
-            sub,
-        };
-        return atom_at(text, work, h, s);
+    let w = looks::atom_word(text, work, h.at);
+    if w.kind == 0 {
+        return crate::done(h, MadeTerm::At(sub), h.at);
     }
-    crate::done(h, MadeTerm::At(sub), h.at)
+    atom_at(text, work, h, h.place, 1, w.kind, w.value, w.start, w.end)
 }

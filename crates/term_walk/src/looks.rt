@@ -2,8 +2,7 @@
 ghost use mathlib.Core.Path.{_≡_};
 ghost use Prim.Native.Nat.{_<_};
 ghost use lib.ListN.{length};
-ghost use Rattle.notation_calculus.specs.Grammar.{beginsAtom};
-ghost use Rattle.term_walk.specs.Looks.{wordsAt, ReadableFrom, HeadsHeld, Looks};
+ghost use Rattle.term_walk.specs.Looks.{ReadableFrom, HeadsHeld, Looks, AtomWord};
 ghost use Rattle.term_walk.specs.Steps.{CanBehind, BehindType};
 use walks::TypeEnd;
 use words::Word;
@@ -21,7 +20,7 @@ pub fn look(text: &[u8], at: usize) -> Word
             end: past,
         };
     }
-    let w = words::word_at(text, at);
+    let w = words::word_here(text, at);
     if w.kind == 0 {
         return Word {
             kind: 0,
@@ -85,20 +84,36 @@ fn far(text: &[u8], start: usize) -> bool {
     false
 }
 
-// An atom begins at an offset. Where the table says that a clause begins there, none does: the clause's head, which may be long, is not read at each
-// use of the clause before it.
-pub fn begins_atom(text: &[u8], work: &[u16], at: usize) -> bool
+// No word: nothing is told but that.
+fn no_word() -> Word
+    ensures { λ r. ⌜ r .kind ≡ 0 ⌝ }
+{
+    Word {
+        kind: 0,
+        value: 0,
+        start: 0,
+        end: 0,
+    }
+}
+
+// The word that begins an atom at an offset; none where no atom begins. Where the table says that a clause begins there, none does: the clause's head,
+// which may be long, is not read at each use of the clause before it.
+pub fn atom_word(text: &[u8], work: &[u16], at: usize) -> Word
     requires { ⌜ (ReadableFrom (now text) at) × (HeadsHeld (now text) (now work)) ⌝ }
-    ensures { λ r. ⌜ r ≡ beginsAtom (wordsAt (now (text .entry)) at) ⌝ }
+    ensures { λ r. ⌜ AtomWord (now (text .entry)) at r ⌝ }
 {
     if text.len() < at {
-        return false;
+        return no_word();
     }
     let start = words::starts::start_of(text, at);
     if far(text, start) {
         if clauses::rows::head_at(work, start) {
-            return false;
+            return no_word();
         }
     }
-    grammar::heads::begins_atom(text, start)
+    let w = words::word_here(text, start);
+    if grammar::heads::word_begins(text, start, w) {
+        return w;
+    }
+    no_word()
 }

@@ -1,5 +1,4 @@
 // The loop over steps.
-use crate::Left;
 use crate::Step;
 use crate::Walk;
 use crate::atoms;
@@ -35,12 +34,17 @@ fn enter(text: &[u8], work: &mut [u16], h: Walk) -> Step
     if w.kind == LET {
         return binders::let_from(text, work, h, w.start, w.end);
     }
-    let s = Left {
-        place: w.start as u16,
-        flag: 0,
-        sub: crate::nothing(),
-    };
-    atoms::atom_at(text, work, h, s)
+    atoms::atom_at(
+        text,
+        work,
+        h,
+        w.start as u16,
+        0,
+        w.kind,
+        w.value,
+        w.start,
+        w.end,
+    )
 }
 
 // One step.

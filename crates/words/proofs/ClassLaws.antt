@@ -124,18 +124,10 @@ module _ (text : List ℕ) (at k : ℕ) (h : at < length text) (is : ClassIs (ge
   class-stops g = let b = class-begins (getD text at 0) k is g in gap-stops text at h (b .0) (no-dash text at (b .1))
 
 -- a sign of one byte that stands right at an offset
-single-stands : (text : List ℕ) (at k : ℕ) → Lexed text at → at < length text → ClassIs (getD text at 0) k → 1 < k → k < 64 → Stands text at (record { code = k; value = 0; place = at; end = at + 1 })
+pub single-stands : (text : List ℕ) (at k : ℕ) → Lexed text at → at < length text → ClassIs (getD text at 0) k → 1 < k → k < 64 → Stands text at (record { code = k; value = 0; place = at; end = at + 1 })
 single-stands text at k lexed h is g l =
     let s = class-sign (getD text at 0) k is g l in
     stands text at lexed _ (word-single text at (s .0) k h (s .1) (s .2) ∙ next-word text at at (omega (arith, class-stops text at k h is g)) h)
-
-pub comma-stands : (text : List ℕ) (at : ℕ) → Lexed text at → at < length text → getD text at 0 ≡ 44 → Stands text at (record { code = 14; value = 0; place = at; end = at + 1 })
-unfolding rowOf signs
-comma-stands text at lexed h e = single-stands text at 14 lexed h (subst (λ (c : ℕ). ClassIs c 14) (sym e) (signed (omega arith) (omega arith) (refl, refl) refl refl (λ s. refl))) (omega arith) (omega arith)
-
-pub plus-stands : (text : List ℕ) (at : ℕ) → Lexed text at → at < length text → getD text at 0 ≡ 43 → Stands text at (record { code = 21; value = 0; place = at; end = at + 1 })
-unfolding rowOf signs
-plus-stands text at lexed h e = single-stands text at 21 lexed h (subst (λ (c : ℕ). ClassIs c 21) (sym e) (signed (omega arith) (omega arith) (refl, refl) refl refl (λ s. refl))) (omega arith) (omega arith)
 
 -- a name that begins as no reserved word does
 pub plain-name : (text : List ℕ) (start end : ℕ) → start < length text → PlainLetter (getD text start 0) → end ≡ start + 1 + run (drop (start + 1) text) → record { code = 24; value = 0; place = start; end = end } ≡ told (foundAt start (namedAt text start))

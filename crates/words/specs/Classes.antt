@@ -31,6 +31,12 @@ pub data ClassIs (c : ℕ) : ℕ → Type 0 where
   lettered : BeginsWord c → digit c ≡ false → letter c ≡ true → ClassIs c 66
   others : blank c ≡ false → digit c ≡ false → letter c ≡ false → NoSingle c → ClassIs c 0
 
+-- the class of a byte that is a sign by itself, or 0
+pub record SignCode (c k : ℕ) : Type 0 where
+  pub class : ¬ (k ≡ 0) → ClassIs c k
+  pub word : ¬ (k ≡ 0) → 1 < k
+  pub sign : k < 64
+
 -- no letter that begins a reserved word: a e f i l o r t x z; and no sign by itself
 pub record NotListed (c : ℕ) : Type 0 where
   pub letter97 : ¬ (c ≡ 97)

@@ -7,7 +7,7 @@ ghost use lib.ListN.{length, getD, take, drop};
 ghost use Rattle.calculus.specs.Answer.{good};
 ghost use Rattle.notation_calculus.specs.Words.{sameName, between, blank, endsLine, digit, letter, inName, first, gap, run, capped, numberWord, signAt, signs, wordAt};
 ghost use Rattle.words.specs.Steps.{CommentTo, StepTo};
-ghost use Rattle.words.specs.Classes.{ClassIs, NotListed, NoSingle, PlainLetter};
+ghost use Rattle.words.specs.Classes.{ClassIs, SignCode, NotListed, NoSingle, PlainLetter};
 ghost use Rattle.words.specs.Next.{goesOn, runAt, foundAt, namedAt, nextOf, saidWord, told};
 ghost use Rattle.words.specs.Digits.{DigitsAt};
 ghost use Rattle.words.specs.Lexed.{Lexed, Stands, Passed};
@@ -375,12 +375,13 @@ fn word_by(text: &[u8], start: usize, class: u8) -> Word
     named_at(text, start)
 }
 
-// The word that stands next, behind blanks and comments; or the end, or a refusal.
+// The word that stands next, behind blanks and comments; or the end, or a refusal. Blanks are passed before the first byte's class is asked for: a jump
+// by the class is dear where it cannot be foreseen.
 pub fn next(text: &[u8], at: usize) -> Word
     requires { ⌜ at ≤ length (now text) ⌝ }
     ensures { λ r. ⌜ saidWord r ≡ told (nextOf (now (text .entry)) at) ⌝ }
 {
-    let mut start = at;
+    let mut start = blanks_end(text, at);
     while start < text.len() {
         let k = class(text[start]);
         if 1 < k {
@@ -412,7 +413,21 @@ pub fn word_at(text: &[u8], at: usize) -> Word
     next(text, at)
 }
 
-// .. where a comma or a plus may stand right at the offset: it is told by its byte, without a call.
+// The code of a sign that is told by its byte, without a call: ( ) + , or a dot; 0 for any other byte.
+fn sign_code(c: u8) -> u8
+    ensures { λ r. ⌜ SignCode c r ⌝ }
+{
+    match c {
+        40 => 11,
+        41 => 12,
+        43 => 21,
+        44 => 14,
+        46 => 16,
+        _ => 0,
+    }
+}
+
+// .. where such a sign may stand right at the offset.
 pub fn word_here(text: &[u8], at: usize) -> Word
     requires { ⌜ Lexed (now text) at ⌝ }
     ensures { λ r. ⌜ Stands (now (text .entry)) at (saidWord r) ⌝ }
@@ -420,14 +435,11 @@ pub fn word_here(text: &[u8], at: usize) -> Word
     if text.len() <= at {
         return next(text, at);
     }
-    let c = text[at];
-    if c == 44 {
-        return single(14, at);
+    let k = sign_code(text[at]);
+    if k == 0 {
+        return next(text, at);
     }
-    if c == 43 {
-        return single(21, at);
-    }
-    next(text, at)
+    single(k, at)
 }
 
 // What stands at an offset goes on a name.

@@ -1,7 +1,7 @@
 -- `words::next` meets its contract. The invariant: the gap from the start ends where the gap from here does. The measure is the bytes left.
 -- Assumes nothing.
 use Prim.Native.Nat.{_+_, _-_, _≤_}
-use mathlib.Core.Path.{_≡_, refl, _∙_}
+use mathlib.Core.Path.{_≡_, _∙_}
 use mathlib.Core.Bool.{false}
 use native.Mathlib.Omega.{arith}
 use borrow.Author.Needs.{needs}
@@ -19,8 +19,11 @@ Inv-loop text at start₀ start = (start ≤ length text) × (start + gap false 
 abbrev μ-loop : tie.MeasureT-loop
 μ-loop text at start₀ start = length text - start
 
+blanks-end-requires : tie.Need-blanks-end-requires Inv-loop μ-loop
+blanks-end-requires c κs = c .before .pre
+
 loop-holds : tie.Need-loop-holds Inv-loop μ-loop
-loop-holds c = (c .before .pre, refl)
+loop-holds c = c .blanks-end .ensures .1
 
 shared-slice-read-class : tie.Need-shared-slice-read-class Inv-loop μ-loop
 shared-slice-read-class c = search needs
@@ -33,7 +36,7 @@ word-by-requires c κs = (c .before .before .before .loop-test .taken, c .before
 
 returns : tie.Need-returns Inv-loop μ-loop
 returns c =
-    let a = c .before .before .before .before .before .before .before .args in
+    let a = c .before .before .before .before .before .before .before .before .args in
     let l = c .before .before .before .before .before .loop in
     let h = c .before .before .before .before .loop-test .taken in
     let k = c .before .before .class in
@@ -43,24 +46,24 @@ returns c =
 add-blanks-end : tie.Need-add-blanks-end Inv-loop μ-loop
 add-blanks-end c = search needs
 
-blanks-end-requires : tie.Need-blanks-end-requires Inv-loop μ-loop
-blanks-end-requires c κs = omega (arith, c .before .before .before .before .loop-test .taken)
+blanks-end-requires-2 : tie.Need-blanks-end-requires-2 Inv-loop μ-loop
+blanks-end-requires-2 c κs = omega (arith, c .before .before .before .before .loop-test .taken)
 
 loop-less : tie.Need-loop-less Inv-loop μ-loop
-loop-less c = omega (arith, c .before .before .before .before .before .loop-test .taken, c .blanks-end .ensures .0, c .blanks-end .ensures .1 .0)
+loop-less c = omega (arith, c .before .before .before .before .before .loop-test .taken, c .blanks-end2 .ensures .0, c .blanks-end2 .ensures .1 .0)
 
 loop-again : tie.Need-loop-again Inv-loop μ-loop
 loop-again c =
-    let a = c .before .before .before .before .before .before .before .before .args in
+    let a = c .before .before .before .before .before .before .before .before .before .args in
     let l = c .before .before .before .before .before .before .loop in
     let h = c .before .before .before .before .before .loop-test .taken in
     let k = c .before .before .before .class in
     let on = gap-blank (a .text .now) (l .start) h (class-blank (getD (a .text .now) (l .start) 0) (k .result) (k .ensures) (c .before .if2 .taken)) in
-    (c .blanks-end .ensures .1 .0, omega (arith, on, l .inv .1, c .blanks-end .ensures .1 .1))
+    (c .blanks-end2 .ensures .1 .0, omega (arith, on, l .inv .1, c .blanks-end2 .ensures .1 .1))
 
 step-requires : tie.Need-step-requires Inv-loop μ-loop
 step-requires c κs =
-    let a = c .before .before .before .before .before .before .before .args in
+    let a = c .before .before .before .before .before .before .before .before .args in
     let l = c .before .before .before .before .before .loop in
     let k = c .before .before .class in
     let z : k .result ≡ 0 = omega (arith, c .before .if1 .left, c .if2 .left) in
@@ -68,7 +71,7 @@ step-requires c κs =
 
 sign-at-requires : tie.Need-sign-at-requires Inv-loop μ-loop
 sign-at-requires c κs =
-    let a = c .before .before .before .before .before .before .before .before .before .args in
+    let a = c .before .before .before .before .before .before .before .before .before .before .args in
     let l = c .before .before .before .before .before .before .before .loop in
     let k = c .before .before .before .before .class in
     let z : k .result ≡ 0 = omega (arith, c .before .before .before .if1 .left, c .before .before .if2 .left) in
@@ -76,7 +79,7 @@ sign-at-requires c κs =
 
 returns-2 : tie.Need-returns-2 Inv-loop μ-loop
 returns-2 c =
-    let a = c .before .before .before .before .before .before .before .before .before .before .args in
+    let a = c .before .before .before .before .before .before .before .before .before .before .before .args in
     let l = c .before .before .before .before .before .before .before .before .loop in
     let h = c .before .before .before .before .before .before .before .loop-test .taken in
     let k = c .before .before .before .before .before .class in
@@ -100,7 +103,7 @@ loop-again-2 c =
 
 returns-3 : tie.Need-returns-3 Inv-loop μ-loop
 returns-3 c =
-    let a = c .before .before .before .args in
+    let a = c .before .before .before .before .args in
     let l = c .before .loop in
     let past = gap-past (a .text .now) (l .start) false (c .loop-test .left) in
     next-end (a .text .now) (a .at) (l .start) (omega (arith, past, l .inv .1)) (c .loop-test .left)
@@ -111,13 +114,14 @@ next-spec =
     (tie.spec
     Inv-loop
     μ-loop
+    blanks-end-requires
     loop-holds
     shared-slice-read-class
     class-requires
     word-by-requires
     returns
     add-blanks-end
-    blanks-end-requires
+    blanks-end-requires-2
     loop-less
     loop-again
     step-requires

@@ -1,56 +1,40 @@
--- `grammar::heads` meets its contract. The invariant: what is behind the groups from here on is what is behind them all. The measure is the
--- words that are left. Assumes nothing.
-use mathlib.Core.Path.{sym, _∙_}
-use native.Mathlib.Omega.{arith}
-use lib.ListN.{length}
-use Rattle.words.specs.Next.{saidWord}
+-- `grammar::heads` meets its contract, by the sign behind the name. Assumes nothing.
 use Rattle.words.specs.Lexed.{from}
-use Rattle.words.proofs.WordLaws.{not-yes, not-no}
-use Rattle.grammar.proofs.HeadLaws.{Grouped, groups-first, groups-on, groups-turn, groups-stop}
+use native.Mathlib.Omega.{arith}
+use mathlib.Core.Path.{sym, ap, _∙_}
+use Rattle.grammar.specs.Skips.{opensGroup}
+use Rattle.grammar.proofs.EndLaws.{mark-stands}
+use Rattle.grammar.proofs.HeadLaws.{heads-equals, heads-none, opens-none}
+use borrow.Author.Needs.{needs}
 use Rattle.grammar.proofs.heads.heads.Statement.{statement}
 use Rattle.grammar.proofs.heads.heads.Tie as tie
 
-abbrev Inv-loop : tie.InvT-loop
-Inv-loop text start at₀ deep₀ w₀ at deep w = Grouped text start at deep (saidWord w)
+mark-kind-requires : tie.Need-mark-kind-requires
+mark-kind-requires c κs = search needs
 
-abbrev μ-loop : tie.MeasureT-loop
-μ-loop text start at₀ deep₀ w₀ at deep w = length (from text at)
+returns : tie.Need-returns
+returns c =
+    let a = c .before .before .before .args in
+    let m = c .before .mark-kind .ensures in
+    let e = sym (m .code) ∙ c .if1 .taken in
+    heads-equals (a .text .now) (a .start) (m .word) (mark-stands (a .text .now) (a .start) (m .word) (m .marks) 13 e (λ z. omega arith)) e
 
-word-at-requires : tie.Need-word-at-requires Inv-loop μ-loop
-word-at-requires c κs = c .before .pre
+opens-requires : tie.Need-opens-requires
+opens-requires c κs = search needs
 
-loop-holds : tie.Need-loop-holds Inv-loop μ-loop
-loop-holds c = groups-first (c .before .before .args .text .now) (c .before .before .args .start) (saidWord (c .word-at .result)) (c .before .before .pre) (c .word-at .ensures)
+groups-requires : tie.Need-groups-requires
+groups-requires c κs = search needs
 
-stops-requires : tie.Need-stops-requires Inv-loop μ-loop
-stops-requires c κs = tt
+returns-2 : tie.Need-returns-2
+returns-2 c = search needs
 
-depth-requires : tie.Need-depth-requires Inv-loop μ-loop
-depth-requires c κs = omega (arith, groups-on (c .before .before .before .before .before .args .text .now) (c .before .before .before .before .before .args .start) (c .before .before .loop .at) (c .before .before .loop .deep) (saidWord (c .before .before .loop .w)) (c .before .before .loop .inv) (sym (c .before .stops .ensures) ∙ not-yes _ (c .if1 .taken)) .past, c .before .before .loop .inv .low)
-
-word-at-requires-2 : tie.Need-word-at-requires-2 Inv-loop μ-loop
-word-at-requires-2 c κs = groups-on (c .before .before .before .before .before .before .args .text .now) (c .before .before .before .before .before .before .args .start) (c .before .before .before .loop .at) (c .before .before .before .loop .deep) (saidWord (c .before .before .before .loop .w)) (c .before .before .before .loop .inv) (sym (c .before .before .stops .ensures) ∙ not-yes _ (c .before .if1 .taken)) .lexed
-
-loop-less : tie.Need-loop-less Inv-loop μ-loop
-loop-less c = groups-on (c .before .before .before .before .before .before .before .args .text .now) (c .before .before .before .before .before .before .before .args .start) (c .before .before .before .before .loop .at) (c .before .before .before .before .loop .deep) (saidWord (c .before .before .before .before .loop .w)) (c .before .before .before .before .loop .inv) (sym (c .before .before .before .stops .ensures) ∙ not-yes _ (c .before .before .if1 .taken)) .fewer
-
-loop-again : tie.Need-loop-again Inv-loop μ-loop
-loop-again c = groups-turn (c .before .before .before .before .before .before .before .args .text .now) (c .before .before .before .before .before .before .before .args .start) (c .before .before .before .before .loop .at) (c .before .before .before .before .loop .deep) (saidWord (c .before .before .before .before .loop .w)) (c .before .before .before .before .loop .inv) (sym (c .before .before .before .stops .ensures) ∙ not-yes _ (c .before .before .if1 .taken)) (c .before .depth .result) (c .before .depth .ensures) (saidWord (c .word-at2 .result)) (c .word-at2 .ensures)
-
-returns : tie.Need-returns Inv-loop μ-loop
-returns c = groups-stop (c .before .before .before .before .before .before .args .text .now) (c .before .before .before .before .before .before .args .start) (c .before .before .before .loop .at) (c .before .before .before .loop .deep) (saidWord (c .before .before .before .loop .w)) (c .before .before .before .loop .inv) (sym (c .before .before .stops .ensures) ∙ not-no _ (c .before .if1 .left))
+returns-3 : tie.Need-returns-3
+returns-3 c =
+    let a = c .before .before .before .before .before .args in
+    let m = c .before .before .before .mark-kind .ensures in
+    heads-none (from (a .text .now) (a .start)) (opens-none (a .text .now) (a .start) (m .word) (m .marks) (ap opensGroup (sym (m .code)) ∙ sym (c .before .opens .ensures) ∙ c .if2 .left)) (m .marks .equals (λ z. c .before .before .if1 .left (m .code ∙ z)))
 
 pub heads-spec : {M : Type 1} → statement M
 heads-spec =
     tie.close
-    (tie.spec
-    Inv-loop
-    μ-loop
-    word-at-requires
-    loop-holds
-    stops-requires
-    depth-requires
-    word-at-requires-2
-    loop-less
-    loop-again
-    returns)
+    (tie.spec mark-kind-requires returns opens-requires groups-requires returns-2 returns-3)

@@ -38,15 +38,17 @@ use Rattle.grammar.proofs.terms.+atom_end+bound_end+let_body_end+spine_
 use Rattle.grammar.proofs.terms.tuple_end.Reads as tuple-end
 use Rattle.grammar.proofs.terms.tuple_end.Kinds as tuple-end-kinds
 use Rattle.grammar.proofs.terms.+atom_end+bound_end+let_body_end+spine_end+term_end+tuple_end.Lts-tuple_end as tuple-end-lts
-use Rattle.grammar.proofs.heads.begins_atom.Reads as begins-atom-reads
+use Rattle.grammar.proofs.heads.word_begins.Reads as word-begins-reads
 use Rattle.grammar.proofs.names.one_end.Reads as one-end-reads
 use Rattle.grammar.proofs.names.binds_end.Reads as binds-end-reads
 use Rattle.grammar.proofs.steps.expect.Reads as expect-reads
+use Rattle.grammar.proofs.steps.expect_word.Reads as expect-word-reads
 use Rattle.grammar.proofs.steps.name_end.Reads as name-end-reads
 use Rattle.grammar.proofs.steps.refused.Reads as refused-reads
 use Rattle.grammar.proofs.types.type_end.Reads as type-end-reads
 use Rattle.grammar.proofs.types.use_end.Reads as use-end-reads
 use Rattle.words.proofs.word_at.Reads as word-at-reads
+use Rattle.words.proofs.word_here.Reads as word-here-reads
 use Rattle.grammar.proofs.terms.+atom_end+bound_end+let_body_end+spine_end+term_end+tuple_end.{
   statement,
 }
@@ -119,21 +121,7 @@ abbrev tuple-end-below : ℕ → In 1 tuple-end-kinds.ps
 tuple-end-below t =
     and 1 tuple-end-kinds.ps (falls 1 tuple-end-kinds.ps _<_ μ-tuple-end t) tuple-end.Pre
 
-atom-end-word-at-requires : (t : ℕ) → atom-end-lts.Need-word-at-requires (
-  word-at-reads.Asked,
-  word-at-reads.Learnt,
-  use-end-reads.Asked,
-  use-end-reads.Learnt,
-  tuple-end-below t,
-  tuple-end.Post,
-  refused-reads.Asked,
-  refused-reads.Learnt,
-) (atom-end-at t) atom-end.Post
-atom-end-word-at-requires t c κs = c .before .pre .1
-
 atom-end-use-end-requires : (t : ℕ) → atom-end-lts.Need-use-end-requires (
-  word-at-reads.Asked,
-  word-at-reads.Learnt,
   use-end-reads.Asked,
   use-end-reads.Learnt,
   tuple-end-below t,
@@ -141,11 +129,9 @@ atom-end-use-end-requires : (t : ℕ) → atom-end-lts.Need-use-end-requires (
   refused-reads.Asked,
   refused-reads.Learnt,
 ) (atom-end-at t) atom-end.Post
-atom-end-use-end-requires t c κs = c .before .before .word-at .ensures .onward (λ z. omega (arith, c .if1 .taken)) .lexed
+atom-end-use-end-requires t c κs = c .before .before .pre .1 .1 .stands .onward (λ z. omega (arith, c .if1 .taken)) .lexed
 
 atom-end-returns : (t : ℕ) → atom-end-lts.Need-returns (
-  word-at-reads.Asked,
-  word-at-reads.Learnt,
   use-end-reads.Asked,
   use-end-reads.Learnt,
   tuple-end-below t,
@@ -153,11 +139,9 @@ atom-end-returns : (t : ℕ) → atom-end-lts.Need-returns (
   refused-reads.Asked,
   refused-reads.Learnt,
 ) (atom-end-at t) atom-end.Post
-atom-end-returns t c = atom-name (c .before .before .before .before .before .args .text .now) (c .before .before .before .before .before .args .at) (saidWord (c .before .before .before .word-at .result)) (c .before .before .before .word-at .ensures) (termStep (c .before .before .before .before .before .args .more)) (typeStep (c .before .before .before .before .before .args .more) false) (c .before .if1 .taken) (c .use-end .result) (c .use-end .ensures)
+atom-end-returns t c = atom-name (c .before .before .before .args .text .now) (c .before .before .before .args .at) _ (c .before .before .before .pre .1 .1 .stands) (termStep (c .before .before .before .args .more)) (typeStep (c .before .before .before .args .more) false) (c .before .if1 .taken) (c .use-end .result) (c .use-end .ensures)
 
 atom-end-tuple-end-requires : (t : ℕ) → atom-end-lts.Need-tuple-end-requires (
-  word-at-reads.Asked,
-  word-at-reads.Learnt,
   use-end-reads.Asked,
   use-end-reads.Learnt,
   tuple-end-below t,
@@ -165,11 +149,9 @@ atom-end-tuple-end-requires : (t : ℕ) → atom-end-lts.Need-tuple-end-requires
   refused-reads.Asked,
   refused-reads.Learnt,
 ) (atom-end-at t) atom-end.Post
-atom-end-tuple-end-requires t c κs = (omega (arith, c .before .before .before .before .before .before .pre .0), c .before .before .before .before .word-at .ensures .onward (λ z. omega (arith, c .if2 .taken)) .lexed)
+atom-end-tuple-end-requires t c κs = (omega (arith, c .before .before .before .pre .0), c .before .before .before .pre .1 .1 .stands .onward (λ z. omega (arith, c .if2 .taken)) .lexed)
 
 atom-end-returns-2 : (t : ℕ) → atom-end-lts.Need-returns-2 (
-  word-at-reads.Asked,
-  word-at-reads.Learnt,
   use-end-reads.Asked,
   use-end-reads.Learnt,
   tuple-end-below t,
@@ -177,11 +159,9 @@ atom-end-returns-2 : (t : ℕ) → atom-end-lts.Need-returns-2 (
   refused-reads.Asked,
   refused-reads.Learnt,
 ) (atom-end-at t) atom-end.Post
-atom-end-returns-2 t c = atom-round (c .before .before .before .before .before .before .before .args .text .now) (c .before .before .before .before .before .before .before .args .at) (saidWord (c .before .before .before .before .before .word-at .result)) (c .before .before .before .before .before .word-at .ensures) (termStep (c .before .before .before .before .before .before .before .args .more)) (typeStep (c .before .before .before .before .before .before .before .args .more) false) (c .before .if2 .taken) (c .tuple-end .result) (c .tuple-end .ensures)
+atom-end-returns-2 t c = atom-round (c .before .before .before .before .args .text .now) (c .before .before .before .before .args .at) _ (c .before .before .before .before .pre .1 .1 .stands) (termStep (c .before .before .before .before .args .more)) (typeStep (c .before .before .before .before .args .more) false) (c .before .if2 .taken) (c .tuple-end .result) (c .tuple-end .ensures)
 
 atom-end-returns-3 : (t : ℕ) → atom-end-lts.Need-returns-3 (
-  word-at-reads.Asked,
-  word-at-reads.Learnt,
   use-end-reads.Asked,
   use-end-reads.Learnt,
   tuple-end-below t,
@@ -189,11 +169,9 @@ atom-end-returns-3 : (t : ℕ) → atom-end-lts.Need-returns-3 (
   refused-reads.Asked,
   refused-reads.Learnt,
 ) (atom-end-at t) atom-end.Post
-atom-end-returns-3 t c = atom-part (c .before .before .before .before .before .before .before .before .args .text .now) (c .before .before .before .before .before .before .before .before .args .at) (saidWord (c .before .before .before .before .before .before .word-at .result)) (c .before .before .before .before .before .before .word-at .ensures) (termStep (c .before .before .before .before .before .before .before .before .args .more)) (typeStep (c .before .before .before .before .before .before .before .before .args .more) false) (c .if3 .taken)
+atom-end-returns-3 t c = atom-part (c .before .before .before .before .args .text .now) (c .before .before .before .before .args .at) _ (c .before .before .before .before .pre .1 .1 .stands) (termStep (c .before .before .before .before .args .more)) (typeStep (c .before .before .before .before .args .more) false) (c .if3 .taken)
 
 atom-end-refused-requires : (t : ℕ) → atom-end-lts.Need-refused-requires (
-  word-at-reads.Asked,
-  word-at-reads.Learnt,
   use-end-reads.Asked,
   use-end-reads.Learnt,
   tuple-end-below t,
@@ -204,8 +182,6 @@ atom-end-refused-requires : (t : ℕ) → atom-end-lts.Need-refused-requires (
 atom-end-refused-requires t c κs = tt
 
 atom-end-returns-4 : (t : ℕ) → atom-end-lts.Need-returns-4 (
-  word-at-reads.Asked,
-  word-at-reads.Learnt,
   use-end-reads.Asked,
   use-end-reads.Learnt,
   tuple-end-below t,
@@ -213,7 +189,7 @@ atom-end-returns-4 : (t : ℕ) → atom-end-lts.Need-returns-4 (
   refused-reads.Asked,
   refused-reads.Learnt,
 ) (atom-end-at t) atom-end.Post
-atom-end-returns-4 t c = atom-none (c .before .before .before .before .before .before .before .before .before .args .text .now) (c .before .before .before .before .before .before .before .before .before .args .at) (saidWord (c .before .before .before .before .before .before .before .word-at .result)) (c .before .before .before .before .before .before .before .word-at .ensures) (termStep (c .before .before .before .before .before .before .before .before .before .args .more)) (typeStep (c .before .before .before .before .before .before .before .before .before .args .more) false) (c .before .before .before .before .before .if1 .left) (c .before .before .before .if2 .left) (c .before .if3 .left) (c .refused .result) (c .refused .ensures)
+atom-end-returns-4 t c = atom-none (c .before .before .before .before .before .args .text .now) (c .before .before .before .before .before .args .at) _ (c .before .before .before .before .before .pre .1 .1 .stands) (termStep (c .before .before .before .before .before .args .more)) (typeStep (c .before .before .before .before .before .args .more) false) (c .before .before .before .if1 .left) (c .before .before .if2 .left) (c .before .if3 .left) (c .refused .result) (c .refused .ensures)
 
 bound-end-expect-requires : (t : ℕ) → bound-end-lts.Need-expect-requires (
   expect-reads.Asked,
@@ -360,72 +336,98 @@ let-body-end-returns-4 : (t : ℕ) → let-body-end-lts.Need-returns-4 (
 let-body-end-returns-4 t c = along-last (c .before .before .before .before .before .before .before .before .before .before .before .args .text .now) (length (from (c .before .before .before .before .before .before .before .before .before .before .before .args .text .now) (c .before .before .before .before .before .before .before .before .before .before .before .args .at))) (letBodyEnd (termStep (c .before .before .before .before .before .before .before .before .before .before .before .args .more)) (from (c .before .before .before .before .before .before .before .before .before .before .before .args .text .now) (c .before .before .before .before .before .before .before .before .before .before .before .args .at))) (termStep (c .before .before .before .before .before .before .before .before .before .before .before .args .more)) (c .before .before .before .expect2 .result) (c .term-end2 .result) (along-expect (c .before .before .before .before .before .before .before .before .before .before .before .args .text .now) (length (from (c .before .before .before .before .before .before .before .before .before .before .before .args .text .now) (c .before .before .before .before .before .before .before .before .before .before .before .args .at))) (letBodyEnd (termStep (c .before .before .before .before .before .before .before .before .before .before .before .args .more)) (from (c .before .before .before .before .before .before .before .before .before .before .before .args .text .now) (c .before .before .before .before .before .before .before .before .before .before .before .args .at))) within (termStep (c .before .before .before .before .before .before .before .before .before .before .before .args .more)) (c .before .before .before .before .before .before .term-end .result) (c .before .before .before .expect2 .result) (along-next (c .before .before .before .before .before .before .before .before .before .before .before .args .text .now) (length (from (c .before .before .before .before .before .before .before .before .before .before .before .args .text .now) (c .before .before .before .before .before .before .before .before .before .before .before .args .at))) (letBodyEnd (termStep (c .before .before .before .before .before .before .before .before .before .before .before .args .more)) (from (c .before .before .before .before .before .before .before .before .before .before .before .args .text .now) (c .before .before .before .before .before .before .before .before .before .before .before .args .at))) (termStep (c .before .before .before .before .before .before .before .before .before .before .before .args .more)) (λ vs. expect within vs >>= λ xs. (termStep (c .before .before .before .before .before .before .before .before .before .before .before .args .more)) xs) (c .before .before .before .before .before .before .before .before .before .expect .result) (c .before .before .before .before .before .before .term-end .result) (along-sign (c .before .before .before .before .before .before .before .before .before .before .before .args .text .now) (c .before .before .before .before .before .before .before .before .before .before .before .args .at) equals (letBodyEnd (termStep (c .before .before .before .before .before .before .before .before .before .before .before .args .more)) (from (c .before .before .before .before .before .before .before .before .before .before .before .args .text .now) (c .before .before .before .before .before .before .before .before .before .before .before .args .at))) (λ us. (termStep (c .before .before .before .before .before .before .before .before .before .before .before .args .more)) us >>= λ vs. expect within vs >>= λ xs. (termStep (c .before .before .before .before .before .before .before .before .before .before .before .args .more)) xs) (c .before .before .before .before .before .before .before .before .before .expect .result) refl (c .before .before .before .before .before .before .before .before .before .expect .ensures)) (c .before .before .before .before .before .before .before .if1 .left) (c .before .before .before .before .before .before .term-end .ensures)) (c .before .before .before .before .if2 .left) (c .before .before .before .expect2 .ensures)) (c .before .if3 .left) (c .term-end2 .ensures)
 
 abbrev spine-end-Inv-loop : spine-end-lts.InvT-loop
-spine-end-Inv-loop text at more t₀ t = Loops text (atomsEnd (termStep more) (typeStep more false)) (λ us. good us) (spineEnd (termStep more) (typeStep more false) (from text at)) (length (from text at)) t
+spine-end-Inv-loop text at more kind start end t₀ t = Loops text (atomsEnd (termStep more) (typeStep more false)) (λ us. good us) (spineEnd (termStep more) (typeStep more false) (from text at)) (length (from text at)) t
 
 abbrev spine-end-μ-loop : spine-end-lts.MeasureT-loop
-spine-end-μ-loop text at more t₀ t = leftWords text t
+spine-end-μ-loop text at more kind start end t₀ t = leftWords text t
 
 spine-end-atom-end-requires : (t : ℕ) → spine-end-lts.Need-atom-end-requires (
   atom-end-below t,
   atom-end.Post,
-  begins-atom-reads.Asked,
-  begins-atom-reads.Learnt,
+  word-at-reads.Asked,
+  word-at-reads.Learnt,
+  word-begins-reads.Asked,
+  word-begins-reads.Learnt,
 ) (spine-end-at t) spine-end.Post spine-end-Inv-loop spine-end-μ-loop
 spine-end-atom-end-requires t c κs = (omega (arith, c .before .pre .0), c .before .pre .1)
 
 spine-end-loop-holds : (t : ℕ) → spine-end-lts.Need-loop-holds (
   atom-end-below t,
   atom-end.Post,
-  begins-atom-reads.Asked,
-  begins-atom-reads.Learnt,
+  word-at-reads.Asked,
+  word-at-reads.Learnt,
+  word-begins-reads.Asked,
+  word-begins-reads.Learnt,
 ) (spine-end-at t) spine-end.Post spine-end-Inv-loop spine-end-μ-loop
 spine-end-loop-holds t c = spine-first (c .before .before .args .text .now) (c .before .before .args .at) (termStep (c .before .before .args .more)) (typeStep (c .before .before .args .more) false) (c .atom-end .result) (c .atom-end .ensures)
 
-spine-end-begins-atom-requires : (t : ℕ) → spine-end-lts.Need-begins-atom-requires (
+spine-end-word-at-requires : (t : ℕ) → spine-end-lts.Need-word-at-requires (
   atom-end-below t,
   atom-end.Post,
-  begins-atom-reads.Asked,
-  begins-atom-reads.Learnt,
+  word-at-reads.Asked,
+  word-at-reads.Learnt,
+  word-begins-reads.Asked,
+  word-begins-reads.Learnt,
 ) (spine-end-at t) spine-end.Post spine-end-Inv-loop spine-end-μ-loop
-spine-end-begins-atom-requires t c κs = c .before .before .loop .inv .ends .reaches (c .if1 .taken) .lexed
+spine-end-word-at-requires t c κs = c .before .before .loop .inv .ends .reaches (c .if1 .taken) .lexed
+
+spine-end-word-begins-requires : (t : ℕ) → spine-end-lts.Need-word-begins-requires (
+  atom-end-below t,
+  atom-end.Post,
+  word-at-reads.Asked,
+  word-at-reads.Learnt,
+  word-begins-reads.Asked,
+  word-begins-reads.Learnt,
+) (spine-end-at t) spine-end.Post spine-end-Inv-loop spine-end-μ-loop
+spine-end-word-begins-requires t c κs = c .word-at .ensures
 
 spine-end-returns : (t : ℕ) → spine-end-lts.Need-returns (
   atom-end-below t,
   atom-end.Post,
-  begins-atom-reads.Asked,
-  begins-atom-reads.Learnt,
+  word-at-reads.Asked,
+  word-at-reads.Learnt,
+  word-begins-reads.Asked,
+  word-begins-reads.Learnt,
 ) (spine-end-at t) spine-end.Post spine-end-Inv-loop spine-end-μ-loop
-spine-end-returns t c = loop-done (c .before .before .before .before .before .before .before .args .text .now) (atomsEnd (termStep (c .before .before .before .before .before .before .before .args .more)) (typeStep (c .before .before .before .before .before .before .before .args .more) false)) (λ us. good us) _ _ (c .before .before .before .before .loop .t) (c .before .before .before .before .loop .inv) (c .before .before .if1 .taken) (loop-stop (c .before .before .before .before .before .before .before .args .text .now) (atomsEnd (termStep (c .before .before .before .before .before .before .before .args .more)) (typeStep (c .before .before .before .before .before .before .before .args .more) false)) (λ us. beginsAtom us) (λ us. atomEnd (termStep (c .before .before .before .before .before .before .before .args .more)) (typeStep (c .before .before .before .before .before .before .before .args .more) false) us) (λ r us. refl) (λ us. good us) (spineEnd (termStep (c .before .before .before .before .before .before .before .args .more)) (typeStep (c .before .before .before .before .before .before .before .args .more) false) (from (c .before .before .before .before .before .before .before .args .text .now) (c .before .before .before .before .before .before .before .args .at))) (length (from (c .before .before .before .before .before .before .before .args .text .now) (c .before .before .before .before .before .before .before .args .at))) (c .before .before .before .before .loop .t) (c .before .before .before .before .loop .inv) (c .before .before .if1 .taken) (sym (c .before .begins-atom .ensures) ∙ not-yes _ (c .if2 .taken)))
+spine-end-returns t c = loop-done (c .before .before .before .before .before .before .before .before .args .text .now) (atomsEnd (termStep (c .before .before .before .before .before .before .before .before .args .more)) (typeStep (c .before .before .before .before .before .before .before .before .args .more) false)) (λ us. good us) _ _ (c .before .before .before .before .before .loop .t) (c .before .before .before .before .before .loop .inv) (c .before .before .before .if1 .taken) (loop-stop (c .before .before .before .before .before .before .before .before .args .text .now) (atomsEnd (termStep (c .before .before .before .before .before .before .before .before .args .more)) (typeStep (c .before .before .before .before .before .before .before .before .args .more) false)) (λ us. beginsAtom us) (λ us. atomEnd (termStep (c .before .before .before .before .before .before .before .before .args .more)) (typeStep (c .before .before .before .before .before .before .before .before .args .more) false) us) (λ r us. refl) (λ us. good us) (spineEnd (termStep (c .before .before .before .before .before .before .before .before .args .more)) (typeStep (c .before .before .before .before .before .before .before .before .args .more) false) (from (c .before .before .before .before .before .before .before .before .args .text .now) (c .before .before .before .before .before .before .before .before .args .at))) (length (from (c .before .before .before .before .before .before .before .before .args .text .now) (c .before .before .before .before .before .before .before .before .args .at))) (c .before .before .before .before .before .loop .t) (c .before .before .before .before .before .loop .inv) (c .before .before .before .if1 .taken) (sym (c .before .word-begins .ensures) ∙ not-yes _ (c .if2 .taken)))
 
 spine-end-atom-end-requires-2 : (t : ℕ) → spine-end-lts.Need-atom-end-requires-2 (
   atom-end-below t,
   atom-end.Post,
-  begins-atom-reads.Asked,
-  begins-atom-reads.Learnt,
+  word-at-reads.Asked,
+  word-at-reads.Learnt,
+  word-begins-reads.Asked,
+  word-begins-reads.Learnt,
 ) (spine-end-at t) spine-end.Post spine-end-Inv-loop spine-end-μ-loop
-spine-end-atom-end-requires-2 t c κs = (omega (arith, c .before .before .before .before .before .before .before .pre .0), c .before .before .before .before .loop .inv .ends .reaches (c .before .before .if1 .taken) .lexed)
+spine-end-atom-end-requires-2 t c κs = (omega (arith, c .before .before .before .before .before .before .before .before .pre .0), (c .before .before .before .before .before .loop .inv .ends .reaches (c .before .before .before .if1 .taken) .lexed, record { value = c .before .before .word-at .result .value; stands = c .before .before .word-at .ensures }))
 
 spine-end-loop-less : (t : ℕ) → spine-end-lts.Need-loop-less (
   atom-end-below t,
   atom-end.Post,
-  begins-atom-reads.Asked,
-  begins-atom-reads.Learnt,
+  word-at-reads.Asked,
+  word-at-reads.Learnt,
+  word-begins-reads.Asked,
+  word-begins-reads.Learnt,
 ) (spine-end-at t) spine-end.Post spine-end-Inv-loop spine-end-μ-loop
-spine-end-loop-less t c = left-less (c .before .before .before .before .before .before .before .before .args .text .now) _ _ (c .before .before .before .before .before .loop .t) (c .atom-end2 .result) (c .before .before .before .if1 .taken) (c .atom-end2 .ensures) (omega arith)
+spine-end-loop-less t c = left-less (c .before .before .before .before .before .before .before .before .before .args .text .now) _ _ (c .before .before .before .before .before .before .loop .t) (c .atom-end2 .result) (c .before .before .before .before .if1 .taken) (c .atom-end2 .ensures) (omega arith)
 
 spine-end-loop-again : (t : ℕ) → spine-end-lts.Need-loop-again (
   atom-end-below t,
   atom-end.Post,
-  begins-atom-reads.Asked,
-  begins-atom-reads.Learnt,
+  word-at-reads.Asked,
+  word-at-reads.Learnt,
+  word-begins-reads.Asked,
+  word-begins-reads.Learnt,
 ) (spine-end-at t) spine-end.Post spine-end-Inv-loop spine-end-μ-loop
-spine-end-loop-again t c = loop-turn (c .before .before .before .before .before .before .before .before .args .text .now) (atomsEnd (termStep (c .before .before .before .before .before .before .before .before .args .more)) (typeStep (c .before .before .before .before .before .before .before .before .args .more) false)) (λ us. beginsAtom us) (λ us. atomEnd (termStep (c .before .before .before .before .before .before .before .before .args .more)) (typeStep (c .before .before .before .before .before .before .before .before .args .more) false) us) (λ r us. refl) (λ us. good us) (spineEnd (termStep (c .before .before .before .before .before .before .before .before .args .more)) (typeStep (c .before .before .before .before .before .before .before .before .args .more) false) (from (c .before .before .before .before .before .before .before .before .args .text .now) (c .before .before .before .before .before .before .before .before .args .at))) (length (from (c .before .before .before .before .before .before .before .before .args .text .now) (c .before .before .before .before .before .before .before .before .args .at))) (c .before .before .before .before .before .loop .t) (c .before .before .before .before .before .loop .inv) (c .before .before .before .if1 .taken) (sym (c .before .before .begins-atom .ensures) ∙ not-no _ (c .before .if2 .left)) _ (c .atom-end2 .result) (c .atom-end2 .ensures) (omega arith)
+spine-end-loop-again t c = loop-turn (c .before .before .before .before .before .before .before .before .before .args .text .now) (atomsEnd (termStep (c .before .before .before .before .before .before .before .before .before .args .more)) (typeStep (c .before .before .before .before .before .before .before .before .before .args .more) false)) (λ us. beginsAtom us) (λ us. atomEnd (termStep (c .before .before .before .before .before .before .before .before .before .args .more)) (typeStep (c .before .before .before .before .before .before .before .before .before .args .more) false) us) (λ r us. refl) (λ us. good us) (spineEnd (termStep (c .before .before .before .before .before .before .before .before .before .args .more)) (typeStep (c .before .before .before .before .before .before .before .before .before .args .more) false) (from (c .before .before .before .before .before .before .before .before .before .args .text .now) (c .before .before .before .before .before .before .before .before .before .args .at))) (length (from (c .before .before .before .before .before .before .before .before .before .args .text .now) (c .before .before .before .before .before .before .before .before .before .args .at))) (c .before .before .before .before .before .before .loop .t) (c .before .before .before .before .before .before .loop .inv) (c .before .before .before .before .if1 .taken) (sym (c .before .before .word-begins .ensures) ∙ not-no _ (c .before .if2 .left)) _ (c .atom-end2 .result) (c .atom-end2 .ensures) (omega arith)
 
 spine-end-returns-2 : (t : ℕ) → spine-end-lts.Need-returns-2 (
   atom-end-below t,
   atom-end.Post,
-  begins-atom-reads.Asked,
-  begins-atom-reads.Learnt,
+  word-at-reads.Asked,
+  word-at-reads.Learnt,
+  word-begins-reads.Asked,
+  word-begins-reads.Learnt,
 ) (spine-end-at t) spine-end.Post spine-end-Inv-loop spine-end-μ-loop
 spine-end-returns-2 t c = record { reaches = λ z. absurd (c .if1 .left z); refuses = λ z. loop-bad (c .before .before .before .before .before .args .text .now) (atomsEnd (termStep (c .before .before .before .before .before .args .more)) (typeStep (c .before .before .before .before .before .args .more) false)) (λ us. beginsAtom us) (λ us. atomEnd (termStep (c .before .before .before .before .before .args .more)) (typeStep (c .before .before .before .before .before .args .more) false) us) (λ r us. refl) (λ us. good us) (spineEnd (termStep (c .before .before .before .before .before .args .more)) (typeStep (c .before .before .before .before .before .args .more) false) (from (c .before .before .before .before .before .args .text .now) (c .before .before .before .before .before .args .at))) (length (from (c .before .before .before .before .before .args .text .now) (c .before .before .before .before .before .args .at))) (c .before .before .loop .t) (c .before .before .loop .inv) z }
 
@@ -827,7 +829,7 @@ term-end-spine-end-requires : (t : ℕ) → term-end-lts.Need-spine-end-requires
   spine-end-below t,
   spine-end.Post,
 ) (term-end-at t) term-end.Post
-term-end-spine-end-requires t c κs = (omega (arith, c .before .before .before .before .before .before .before .before .before .pre .0, c .before .before .before .before .before .before .if1 .left), c .before .before .before .before .before .before .before .before .before .pre .1)
+term-end-spine-end-requires t c κs = (omega (arith, c .before .before .before .before .before .before .before .before .before .pre .0, c .before .before .before .before .before .before .if1 .left), (c .before .before .before .before .before .before .before .before .before .pre .1, record { value = c .before .before .before .before .before .before .before .word-at .result .value; stands = c .before .before .before .before .before .before .before .word-at .ensures }))
 
 term-end-returns-8 : (t : ℕ) → term-end-lts.Need-returns-8 (
   word-at-reads.Asked,
@@ -858,90 +860,90 @@ tuple-end-μ-loop text at more t₀ t = leftWords text t
 tuple-end-term-end-requires : (t : ℕ) → tuple-end-lts.Need-term-end-requires (
   term-end-below t,
   term-end.Post,
-  word-at-reads.Asked,
-  word-at-reads.Learnt,
-  expect-reads.Asked,
-  expect-reads.Learnt,
+  word-here-reads.Asked,
+  word-here-reads.Learnt,
+  expect-word-reads.Asked,
+  expect-word-reads.Learnt,
 ) (tuple-end-at t) tuple-end.Post tuple-end-Inv-loop tuple-end-μ-loop
 tuple-end-term-end-requires t c κs = (omega (arith, c .before .pre .0), c .before .pre .1)
 
 tuple-end-loop-holds : (t : ℕ) → tuple-end-lts.Need-loop-holds (
   term-end-below t,
   term-end.Post,
-  word-at-reads.Asked,
-  word-at-reads.Learnt,
-  expect-reads.Asked,
-  expect-reads.Learnt,
+  word-here-reads.Asked,
+  word-here-reads.Learnt,
+  expect-word-reads.Asked,
+  expect-word-reads.Learnt,
 ) (tuple-end-at t) tuple-end.Post tuple-end-Inv-loop tuple-end-μ-loop
 tuple-end-loop-holds t c = λ n h. tuple-first (c .before .before .args .text .now) (c .before .before .args .at) (termStep (c .before .before .args .more)) (typeStep (c .before .before .args .more) false) (c .term-end .result) n h (c .term-end .ensures)
 
-tuple-end-word-at-requires : (t : ℕ) → tuple-end-lts.Need-word-at-requires (
+tuple-end-word-here-requires : (t : ℕ) → tuple-end-lts.Need-word-here-requires (
   term-end-below t,
   term-end.Post,
-  word-at-reads.Asked,
-  word-at-reads.Learnt,
-  expect-reads.Asked,
-  expect-reads.Learnt,
+  word-here-reads.Asked,
+  word-here-reads.Learnt,
+  expect-word-reads.Asked,
+  expect-word-reads.Learnt,
 ) (tuple-end-at t) tuple-end.Post tuple-end-Inv-loop tuple-end-μ-loop
-tuple-end-word-at-requires t c κs = c .before .before .loop .inv (length (from (c .before .before .before .before .before .args .text .now) (c .before .before .before .before .before .args .at)) + 1) (omega arith) .ends .reaches (c .if1 .taken) .lexed
+tuple-end-word-here-requires t c κs = c .before .before .loop .inv (length (from (c .before .before .before .before .before .args .text .now) (c .before .before .before .before .before .args .at)) + 1) (omega arith) .ends .reaches (c .if1 .taken) .lexed
 
-tuple-end-expect-requires : (t : ℕ) → tuple-end-lts.Need-expect-requires (
+tuple-end-expect-word-requires : (t : ℕ) → tuple-end-lts.Need-expect-word-requires (
   term-end-below t,
   term-end.Post,
-  word-at-reads.Asked,
-  word-at-reads.Learnt,
-  expect-reads.Asked,
-  expect-reads.Learnt,
+  word-here-reads.Asked,
+  word-here-reads.Learnt,
+  expect-word-reads.Asked,
+  expect-word-reads.Learnt,
 ) (tuple-end-at t) tuple-end.Post tuple-end-Inv-loop tuple-end-μ-loop
-tuple-end-expect-requires t c κs = (c .before .before .before .before .before .loop .inv (length (from (c .before .before .before .before .before .before .before .before .args .text .now) (c .before .before .before .before .before .before .before .before .args .at)) + 1) (omega arith) .ends .reaches (c .before .before .before .if1 .taken) .lexed, omega arith)
+tuple-end-expect-word-requires t c κs = tt
 
 tuple-end-returns : (t : ℕ) → tuple-end-lts.Need-returns (
   term-end-below t,
   term-end.Post,
-  word-at-reads.Asked,
-  word-at-reads.Learnt,
-  expect-reads.Asked,
-  expect-reads.Learnt,
+  word-here-reads.Asked,
+  word-here-reads.Learnt,
+  expect-word-reads.Asked,
+  expect-word-reads.Learnt,
 ) (tuple-end-at t) tuple-end.Post tuple-end-Inv-loop tuple-end-μ-loop
-tuple-end-returns t c = λ n h. ends-as (c .before .before .before .before .before .before .before .before .before .args .text .now) _ _ _ _ (c .expect .result) (omega (arith, c .before .before .before .before .before .before .loop .inv n h .ends .reaches (c .before .before .before .before .if1 .taken) .fewer, c .before .before .before .before .before .before .loop .inv n h .within)) (loop-stop (c .before .before .before .before .before .before .before .before .before .args .text .now) (treesEnd (termStep (c .before .before .before .before .before .before .before .before .before .args .more))) (λ us. isSign comma us) (λ us. termStep (c .before .before .before .before .before .before .before .before .before .args .more) (behind us)) (λ r us. refl) (λ us. expect endRound us) (tupleEnd (termStep (c .before .before .before .before .before .before .before .before .before .args .more)) n (from (c .before .before .before .before .before .before .before .before .before .args .text .now) (c .before .before .before .before .before .before .before .before .before .args .at))) (length (from (c .before .before .before .before .before .before .before .before .before .args .text .now) (c .before .before .before .before .before .before .before .before .before .args .at))) (c .before .before .before .before .before .before .loop .t) (c .before .before .before .before .before .before .loop .inv n h) (c .before .before .before .before .if1 .taken) (is-no (c .before .before .before .before .before .before .before .before .before .args .text .now) (c .before .before .before .before .before .before .loop .t .at) (saidWord (c .before .before .before .word-at .result)) (c .before .before .before .word-at .ensures) comma (c .before .if2 .taken)) ∙ expect-code endRound (from (c .before .before .before .before .before .before .before .before .before .args .text .now) (c .before .before .before .before .before .before .loop .t .at))) (c .expect .ensures)
+tuple-end-returns t c = λ n h. ends-as (c .before .before .before .before .before .before .before .before .before .args .text .now) _ _ _ _ (c .expect-word .result) (omega (arith, c .before .before .before .before .before .before .loop .inv n h .ends .reaches (c .before .before .before .before .if1 .taken) .fewer, c .before .before .before .before .before .before .loop .inv n h .within)) (loop-stop (c .before .before .before .before .before .before .before .before .before .args .text .now) (treesEnd (termStep (c .before .before .before .before .before .before .before .before .before .args .more))) (λ us. isSign comma us) (λ us. termStep (c .before .before .before .before .before .before .before .before .before .args .more) (behind us)) (λ r us. refl) (λ us. expect endRound us) (tupleEnd (termStep (c .before .before .before .before .before .before .before .before .before .args .more)) n (from (c .before .before .before .before .before .before .before .before .before .args .text .now) (c .before .before .before .before .before .before .before .before .before .args .at))) (length (from (c .before .before .before .before .before .before .before .before .before .args .text .now) (c .before .before .before .before .before .before .before .before .before .args .at))) (c .before .before .before .before .before .before .loop .t) (c .before .before .before .before .before .before .loop .inv n h) (c .before .before .before .before .if1 .taken) (is-no (c .before .before .before .before .before .before .before .before .before .args .text .now) (c .before .before .before .before .before .before .loop .t .at) (saidWord (c .before .before .before .word-here .result)) (c .before .before .before .word-here .ensures) comma (c .before .if2 .taken)) ∙ expect-code endRound (from (c .before .before .before .before .before .before .before .before .before .args .text .now) (c .before .before .before .before .before .before .loop .t .at))) (c .expect-word .ensures (c .before .before .before .before .before .before .before .before .before .args .text .now) (c .before .before .before .before .before .before .loop .t .at) (c .before .before .before .word-here .ensures) (omega arith))
 
 tuple-end-term-end-requires-2 : (t : ℕ) → tuple-end-lts.Need-term-end-requires-2 (
   term-end-below t,
   term-end.Post,
-  word-at-reads.Asked,
-  word-at-reads.Learnt,
-  expect-reads.Asked,
-  expect-reads.Learnt,
+  word-here-reads.Asked,
+  word-here-reads.Learnt,
+  expect-word-reads.Asked,
+  expect-word-reads.Learnt,
 ) (tuple-end-at t) tuple-end.Post tuple-end-Inv-loop tuple-end-μ-loop
-tuple-end-term-end-requires-2 t c κs = (omega (arith, c .before .before .before .before .before .before .before .before .pre .0), (c .before .before .word-at .ensures .onward (λ z. omega (arith, c .if2 .left))) .lexed)
+tuple-end-term-end-requires-2 t c κs = (omega (arith, c .before .before .before .before .before .before .before .before .pre .0), (c .before .before .word-here .ensures .onward (λ z. omega (arith, c .if2 .left))) .lexed)
 
 tuple-end-loop-less : (t : ℕ) → tuple-end-lts.Need-loop-less (
   term-end-below t,
   term-end.Post,
-  word-at-reads.Asked,
-  word-at-reads.Learnt,
-  expect-reads.Asked,
-  expect-reads.Learnt,
+  word-here-reads.Asked,
+  word-here-reads.Learnt,
+  expect-word-reads.Asked,
+  expect-word-reads.Learnt,
 ) (tuple-end-at t) tuple-end.Post tuple-end-Inv-loop tuple-end-μ-loop
-tuple-end-loop-less t c = left-less (c .before .before .before .before .before .before .before .before .before .args .text .now) _ _ (c .before .before .before .before .before .before .loop .t) (c .term-end2 .result) (c .before .before .before .before .if1 .taken) (c .term-end2 .ensures) (omega (arith, (c .before .before .before .word-at .ensures .onward (λ z. omega (arith, c .before .if2 .left))) .fewer))
+tuple-end-loop-less t c = left-less (c .before .before .before .before .before .before .before .before .before .args .text .now) _ _ (c .before .before .before .before .before .before .loop .t) (c .term-end2 .result) (c .before .before .before .before .if1 .taken) (c .term-end2 .ensures) (omega (arith, (c .before .before .before .word-here .ensures .onward (λ z. omega (arith, c .before .if2 .left))) .fewer))
 
 tuple-end-loop-again : (t : ℕ) → tuple-end-lts.Need-loop-again (
   term-end-below t,
   term-end.Post,
-  word-at-reads.Asked,
-  word-at-reads.Learnt,
-  expect-reads.Asked,
-  expect-reads.Learnt,
+  word-here-reads.Asked,
+  word-here-reads.Learnt,
+  expect-word-reads.Asked,
+  expect-word-reads.Learnt,
 ) (tuple-end-at t) tuple-end.Post tuple-end-Inv-loop tuple-end-μ-loop
-tuple-end-loop-again t c = λ n h. loop-turn (c .before .before .before .before .before .before .before .before .before .args .text .now) (treesEnd (termStep (c .before .before .before .before .before .before .before .before .before .args .more))) (λ us. isSign comma us) (λ us. termStep (c .before .before .before .before .before .before .before .before .before .args .more) (behind us)) (λ r us. refl) (λ us. expect endRound us) (tupleEnd (termStep (c .before .before .before .before .before .before .before .before .before .args .more)) n (from (c .before .before .before .before .before .before .before .before .before .args .text .now) (c .before .before .before .before .before .before .before .before .before .args .at))) (length (from (c .before .before .before .before .before .before .before .before .before .args .text .now) (c .before .before .before .before .before .before .before .before .before .args .at))) (c .before .before .before .before .before .before .loop .t) (c .before .before .before .before .before .before .loop .inv n h) (c .before .before .before .before .if1 .taken) (is-yes (c .before .before .before .before .before .before .before .before .before .args .text .now) (c .before .before .before .before .before .before .loop .t .at) (saidWord (c .before .before .before .word-at .result)) (c .before .before .before .word-at .ensures) comma (c .before .if2 .left)) _ (c .term-end2 .result) (ends-as (c .before .before .before .before .before .before .before .before .before .args .text .now) _ (length (from (c .before .before .before .before .before .before .before .before .before .args .text .now) (c .before .before .before .word-at .result .end))) _ _ (c .term-end2 .result) (omega arith) (ap (λ (us : List Word). termStep (c .before .before .before .before .before .before .before .before .before .args .more) us) ((c .before .before .before .word-at .ensures .onward (λ z. omega (arith, c .before .if2 .left))) .rest)) (c .term-end2 .ensures)) (omega (arith, (c .before .before .before .word-at .ensures .onward (λ z. omega (arith, c .before .if2 .left))) .fewer))
+tuple-end-loop-again t c = λ n h. loop-turn (c .before .before .before .before .before .before .before .before .before .args .text .now) (treesEnd (termStep (c .before .before .before .before .before .before .before .before .before .args .more))) (λ us. isSign comma us) (λ us. termStep (c .before .before .before .before .before .before .before .before .before .args .more) (behind us)) (λ r us. refl) (λ us. expect endRound us) (tupleEnd (termStep (c .before .before .before .before .before .before .before .before .before .args .more)) n (from (c .before .before .before .before .before .before .before .before .before .args .text .now) (c .before .before .before .before .before .before .before .before .before .args .at))) (length (from (c .before .before .before .before .before .before .before .before .before .args .text .now) (c .before .before .before .before .before .before .before .before .before .args .at))) (c .before .before .before .before .before .before .loop .t) (c .before .before .before .before .before .before .loop .inv n h) (c .before .before .before .before .if1 .taken) (is-yes (c .before .before .before .before .before .before .before .before .before .args .text .now) (c .before .before .before .before .before .before .loop .t .at) (saidWord (c .before .before .before .word-here .result)) (c .before .before .before .word-here .ensures) comma (c .before .if2 .left)) _ (c .term-end2 .result) (ends-as (c .before .before .before .before .before .before .before .before .before .args .text .now) _ (length (from (c .before .before .before .before .before .before .before .before .before .args .text .now) (c .before .before .before .word-here .result .end))) _ _ (c .term-end2 .result) (omega arith) (ap (λ (us : List Word). termStep (c .before .before .before .before .before .before .before .before .before .args .more) us) ((c .before .before .before .word-here .ensures .onward (λ z. omega (arith, c .before .if2 .left))) .rest)) (c .term-end2 .ensures)) (omega (arith, (c .before .before .before .word-here .ensures .onward (λ z. omega (arith, c .before .if2 .left))) .fewer))
 
 tuple-end-returns-2 : (t : ℕ) → tuple-end-lts.Need-returns-2 (
   term-end-below t,
   term-end.Post,
-  word-at-reads.Asked,
-  word-at-reads.Learnt,
-  expect-reads.Asked,
-  expect-reads.Learnt,
+  word-here-reads.Asked,
+  word-here-reads.Learnt,
+  expect-word-reads.Asked,
+  expect-word-reads.Learnt,
 ) (tuple-end-at t) tuple-end.Post tuple-end-Inv-loop tuple-end-μ-loop
 tuple-end-returns-2 t c = λ n h. record { reaches = λ z. absurd (c .if1 .left z); refuses = λ z. loop-bad (c .before .before .before .before .before .args .text .now) (treesEnd (termStep (c .before .before .before .before .before .args .more))) (λ us. isSign comma us) (λ us. termStep (c .before .before .before .before .before .args .more) (behind us)) (λ r us. refl) (λ us. expect endRound us) (tupleEnd (termStep (c .before .before .before .before .before .args .more)) n (from (c .before .before .before .before .before .args .text .now) (c .before .before .before .before .before .args .at))) (length (from (c .before .before .before .before .before .args .text .now) (c .before .before .before .before .before .args .at))) (c .before .before .loop .t) (c .before .before .loop .inv n h) z }
 
@@ -955,8 +957,6 @@ pub +atom-end+bound-end+let-body-end+spine-end+term-end+tuple-end-spec : {M : Ty
     μ-term-end
     μ-tuple-end
     (λ t. atom-end-lts.spec (
-      word-at-reads.Asked,
-      word-at-reads.Learnt,
       use-end-reads.Asked,
       use-end-reads.Learnt,
       tuple-end-below t,
@@ -966,7 +966,6 @@ pub +atom-end+bound-end+let-body-end+spine-end+term-end+tuple-end-spec : {M : Ty
     )
     (atom-end-at t)
     atom-end.Post
-    (atom-end-word-at-requires t)
     (atom-end-use-end-requires t)
     (atom-end-returns t)
     (atom-end-tuple-end-requires t)
@@ -1011,8 +1010,10 @@ pub +atom-end+bound-end+let-body-end+spine-end+term-end+tuple-end-spec : {M : Ty
     (λ t. spine-end-lts.spec (
       atom-end-below t,
       atom-end.Post,
-      begins-atom-reads.Asked,
-      begins-atom-reads.Learnt,
+      word-at-reads.Asked,
+      word-at-reads.Learnt,
+      word-begins-reads.Asked,
+      word-begins-reads.Learnt,
     )
     (spine-end-at t)
     spine-end.Post
@@ -1020,7 +1021,8 @@ pub +atom-end+bound-end+let-body-end+spine-end+term-end+tuple-end-spec : {M : Ty
     spine-end-μ-loop
     (spine-end-atom-end-requires t)
     (spine-end-loop-holds t)
-    (spine-end-begins-atom-requires t)
+    (spine-end-word-at-requires t)
+    (spine-end-word-begins-requires t)
     (spine-end-returns t)
     (spine-end-atom-end-requires-2 t)
     (spine-end-loop-less t)
@@ -1070,10 +1072,10 @@ pub +atom-end+bound-end+let-body-end+spine-end+term-end+tuple-end-spec : {M : Ty
     λ t. tuple-end-lts.spec (
       term-end-below t,
       term-end.Post,
-      word-at-reads.Asked,
-      word-at-reads.Learnt,
-      expect-reads.Asked,
-      expect-reads.Learnt,
+      word-here-reads.Asked,
+      word-here-reads.Learnt,
+      expect-word-reads.Asked,
+      expect-word-reads.Learnt,
     )
     (tuple-end-at t)
     tuple-end.Post
@@ -1081,8 +1083,8 @@ pub +atom-end+bound-end+let-body-end+spine-end+term-end+tuple-end-spec : {M : Ty
     tuple-end-μ-loop
     (tuple-end-term-end-requires t)
     (tuple-end-loop-holds t)
-    (tuple-end-word-at-requires t)
-    (tuple-end-expect-requires t)
+    (tuple-end-word-here-requires t)
+    (tuple-end-expect-word-requires t)
     (tuple-end-returns t)
     (tuple-end-term-end-requires-2 t)
     (tuple-end-loop-less t)

@@ -5,11 +5,11 @@ use mathlib.Core.Path.{refl, ap, _∙_}
 use mathlib.Core.List.{List}
 use native.Mathlib.Omega.{arith}
 use lib.ListN.{length}
-use Rattle.notation_calculus.specs.Words.{comma, square, endSquare, Word}
+use Rattle.notation_calculus.specs.Words.{comma, square, endSquare, curly, Word}
 use Rattle.notation_calculus.specs.Grammar.{behind, is as isSign, expect}
 use Rattle.words.specs.Lexed.{from}
 use Rattle.grammar.specs.Skips.{listMore, groupEnd}
-use Rattle.grammar.proofs.EndLaws.{is-yes, is-no, expect-code, ends-as}
+use Rattle.grammar.proofs.EndLaws.{is-yes, is-no, expect-code, mark-no, ends-as}
 use Rattle.grammar.proofs.LoopLaws.{Loops, leftWords, left-less, loop-bad, loop-stop, loop-turn, group-none, group-first}
 use Rattle.words.specs.Next.{saidWord}
 use mathlib.Core.Bool.{true, false}
@@ -44,6 +44,7 @@ use Rattle.grammar.proofs.steps.here.Reads as here-reads
 use Rattle.grammar.proofs.steps.numbers_end.Reads as numbers-end-reads
 use Rattle.grammar.proofs.steps.ones_end.Reads as ones-end-reads
 use Rattle.grammar.proofs.steps.refused.Reads as refused-reads
+use Rattle.words.proofs.marks.mark_kind.Reads as mark-kind-reads
 use Rattle.words.proofs.word_at.Reads as word-at-reads
 use Rattle.grammar.proofs.types.+arguments_end+arrow_end+atom_end+inside_end+product_end+type_end+use_end.{
   statement,
@@ -168,7 +169,7 @@ arguments-end-returns : (t : ℕ) → arguments-end-lts.Need-returns (
   expect-word-reads.Asked,
   expect-word-reads.Learnt,
 ) (arguments-end-at t) arguments-end.Post arguments-end-Inv-loop arguments-end-μ-loop
-arguments-end-returns t c = ends-as (c .before .before .before .before .before .args .text .now) _ _ _ _ (c .here .result) (omega arith) (group-none (c .before .before .before .before .before .args .text .now) (c .before .before .before .before .before .args .at) (saidWord (c .before .before .before .word-at .result)) (c .before .before .before .word-at .ensures) square endSquare (typeStep (c .before .before .before .before .before .args .more) false) (c .before .if1 .taken)) (c .here .ensures)
+arguments-end-returns t c = ends-as (c .before .before .before .before .before .args .text .now) _ _ _ _ (c .here .result) (omega arith) (group-none _ square endSquare (typeStep (c .before .before .before .before .before .args .more) false) (is-no (c .before .before .before .before .before .args .text .now) (c .before .before .before .before .before .args .at) (saidWord (c .before .before .before .word-at .result)) (c .before .before .before .word-at .ensures) square (c .before .if1 .taken))) (c .here .ensures)
 
 arguments-end-type-end-requires : (t : ℕ) → arguments-end-lts.Need-type-end-requires (
   word-at-reads.Asked,
@@ -768,9 +769,9 @@ type-end-returns-5 : (t : ℕ) → type-end-lts.Need-returns-5 (
 ) (type-end-at t) type-end.Post
 type-end-returns-5 t c = type-loose (c .before .before .before .before .before .before .before .before .before .before .args .text .now) (c .before .before .before .before .before .before .before .before .before .before .args .at) (c .before .before .before .before .before .before .before .before .before .before .args .more) (c .before .before .before .before .before .before .before .before .before .before .args .tight) (c .before .before .before .before .before .before .before .before .if1 .left) (c .before .before .before .before .before .before .before .atom-end .result) (c .before .before .before .before .before .before .before .atom-end .ensures) (c .before .before .before .before .before .if2 .left) (saidWord (c .before .before .before .before .word-at2 .result)) (c .before .before .before .before .word-at2 .ensures) (c .before .before .if3 .left) (c .before .if4 .left) (c .arrow-end .result) (c .arrow-end .ensures)
 
-use-end-word-at-requires : (t : ℕ) → use-end-lts.Need-word-at-requires (
-  word-at-reads.Asked,
-  word-at-reads.Learnt,
+use-end-mark-kind-requires : (t : ℕ) → use-end-lts.Need-mark-kind-requires (
+  mark-kind-reads.Asked,
+  mark-kind-reads.Learnt,
   numbers-end-reads.Asked,
   numbers-end-reads.Learnt,
   here-reads.Asked,
@@ -778,11 +779,11 @@ use-end-word-at-requires : (t : ℕ) → use-end-lts.Need-word-at-requires (
   arguments-end-below t,
   arguments-end.Post,
 ) (use-end-at t) use-end.Post
-use-end-word-at-requires t c κs = c .before .pre .1
+use-end-mark-kind-requires t c κs = c .before .pre .1
 
 use-end-numbers-end-requires : (t : ℕ) → use-end-lts.Need-numbers-end-requires (
-  word-at-reads.Asked,
-  word-at-reads.Learnt,
+  mark-kind-reads.Asked,
+  mark-kind-reads.Learnt,
   numbers-end-reads.Asked,
   numbers-end-reads.Learnt,
   here-reads.Asked,
@@ -790,11 +791,11 @@ use-end-numbers-end-requires : (t : ℕ) → use-end-lts.Need-numbers-end-requir
   arguments-end-below t,
   arguments-end.Post,
 ) (use-end-at t) use-end.Post
-use-end-numbers-end-requires t c κs = c .before .before .before .before .pre .1
+use-end-numbers-end-requires t c κs = c .before .before .before .pre .1
 
 use-end-returns : (t : ℕ) → use-end-lts.Need-returns (
-  word-at-reads.Asked,
-  word-at-reads.Learnt,
+  mark-kind-reads.Asked,
+  mark-kind-reads.Learnt,
   numbers-end-reads.Asked,
   numbers-end-reads.Learnt,
   here-reads.Asked,
@@ -802,11 +803,11 @@ use-end-returns : (t : ℕ) → use-end-lts.Need-returns (
   arguments-end-below t,
   arguments-end.Post,
 ) (use-end-at t) use-end.Post
-use-end-returns t c = ends-as (c .before .before .before .before .before .args .text .now) _ _ _ _ (c .numbers-end .result) (omega arith) (use-numbers (c .before .before .before .before .before .args .text .now) (c .before .before .before .before .before .args .at) (saidWord (c .before .before .before .word-at .result)) (c .before .before .before .word-at .ensures) (typeStep (c .before .before .before .before .before .args .more) false) (λ z. omega (arith, c .before .if1 .taken))) (c .numbers-end .ensures)
+use-end-returns t c = ends-as (c .before .before .before .before .args .text .now) _ _ _ _ (c .numbers-end .result) (omega arith) (use-numbers (typeStep (c .before .before .before .before .args .more) false) (from (c .before .before .before .before .args .text .now) (c .before .before .before .before .args .at)) (mark-no (c .before .before .before .before .args .text .now) (c .before .before .before .before .args .at) (c .before .before .mark-kind .ensures .word) square (c .before .before .mark-kind .ensures .marks .square) (λ z. omega (arith, z, c .before .before .mark-kind .ensures .code, c .before .if1 .taken)))) (c .numbers-end .ensures)
 
 use-end-here-requires : (t : ℕ) → use-end-lts.Need-here-requires (
-  word-at-reads.Asked,
-  word-at-reads.Learnt,
+  mark-kind-reads.Asked,
+  mark-kind-reads.Learnt,
   numbers-end-reads.Asked,
   numbers-end-reads.Learnt,
   here-reads.Asked,
@@ -814,11 +815,11 @@ use-end-here-requires : (t : ℕ) → use-end-lts.Need-here-requires (
   arguments-end-below t,
   arguments-end.Post,
 ) (use-end-at t) use-end.Post
-use-end-here-requires t c κs = c .before .before .before .before .before .before .pre .1
+use-end-here-requires t c κs = c .before .before .before .before .pre .1
 
 use-end-returns-2 : (t : ℕ) → use-end-lts.Need-returns-2 (
-  word-at-reads.Asked,
-  word-at-reads.Learnt,
+  mark-kind-reads.Asked,
+  mark-kind-reads.Learnt,
   numbers-end-reads.Asked,
   numbers-end-reads.Learnt,
   here-reads.Asked,
@@ -826,11 +827,11 @@ use-end-returns-2 : (t : ℕ) → use-end-lts.Need-returns-2 (
   arguments-end-below t,
   arguments-end.Post,
 ) (use-end-at t) use-end.Post
-use-end-returns-2 t c = ends-as (c .before .before .before .before .before .before .before .args .text .now) _ _ _ _ (c .here .result) (omega arith) (use-none (c .before .before .before .before .before .before .before .args .text .now) (c .before .before .before .before .before .before .before .args .at) (saidWord (c .before .before .before .before .before .word-at .result)) (c .before .before .before .before .before .word-at .ensures) (typeStep (c .before .before .before .before .before .before .before .args .more) false) (c .before .if2 .taken) (c .before .before .before .if1 .left)) (c .here .ensures)
+use-end-returns-2 t c = ends-as (c .before .before .before .before .before .args .text .now) _ _ _ _ (c .here .result) (omega arith) (use-none (typeStep (c .before .before .before .before .before .args .more) false) _ (mark-no (c .before .before .before .before .before .args .text .now) (c .before .before .before .before .before .args .at) (c .before .before .before .mark-kind .ensures .word) square (c .before .before .before .mark-kind .ensures .marks .square) (λ z. c .before .if2 .taken (c .before .before .before .mark-kind .ensures .code ∙ z))) (mark-no (c .before .before .before .before .before .args .text .now) (c .before .before .before .before .before .args .at) (c .before .before .before .mark-kind .ensures .word) curly (c .before .before .before .mark-kind .ensures .marks .curly) (λ z. c .before .before .if1 .left (c .before .before .before .mark-kind .ensures .code ∙ z)))) (c .here .ensures)
 
 use-end-arguments-end-requires : (t : ℕ) → use-end-lts.Need-arguments-end-requires (
-  word-at-reads.Asked,
-  word-at-reads.Learnt,
+  mark-kind-reads.Asked,
+  mark-kind-reads.Learnt,
   numbers-end-reads.Asked,
   numbers-end-reads.Learnt,
   here-reads.Asked,
@@ -838,11 +839,11 @@ use-end-arguments-end-requires : (t : ℕ) → use-end-lts.Need-arguments-end-re
   arguments-end-below t,
   arguments-end.Post,
 ) (use-end-at t) use-end.Post
-use-end-arguments-end-requires t c κs = (omega (arith, c .before .before .before .before .before .before .pre .0), c .before .before .before .before .before .before .pre .1)
+use-end-arguments-end-requires t c κs = (omega (arith, c .before .before .before .before .pre .0), c .before .before .before .before .pre .1)
 
 use-end-returns-3 : (t : ℕ) → use-end-lts.Need-returns-3 (
-  word-at-reads.Asked,
-  word-at-reads.Learnt,
+  mark-kind-reads.Asked,
+  mark-kind-reads.Learnt,
   numbers-end-reads.Asked,
   numbers-end-reads.Learnt,
   here-reads.Asked,
@@ -850,11 +851,11 @@ use-end-returns-3 : (t : ℕ) → use-end-lts.Need-returns-3 (
   arguments-end-below t,
   arguments-end.Post,
 ) (use-end-at t) use-end.Post
-use-end-returns-3 t c = use-stop (c .before .before .before .before .before .before .before .before .before .args .text .now) (c .before .before .before .before .before .before .before .before .before .args .at) (typeStep (c .before .before .before .before .before .before .before .before .before .args .more) false) (c .before .before .arguments-end .result) (c .before .before .arguments-end .ensures) (c .if3 .taken)
+use-end-returns-3 t c = use-stop (c .before .before .before .before .before .before .before .args .text .now) (c .before .before .before .before .before .before .before .args .at) (typeStep (c .before .before .before .before .before .before .before .args .more) false) (c .before .before .arguments-end .result) (c .before .before .arguments-end .ensures) (c .if3 .taken)
 
 use-end-numbers-end-requires-2 : (t : ℕ) → use-end-lts.Need-numbers-end-requires-2 (
-  word-at-reads.Asked,
-  word-at-reads.Learnt,
+  mark-kind-reads.Asked,
+  mark-kind-reads.Learnt,
   numbers-end-reads.Asked,
   numbers-end-reads.Learnt,
   here-reads.Asked,
@@ -865,8 +866,8 @@ use-end-numbers-end-requires-2 : (t : ℕ) → use-end-lts.Need-numbers-end-requ
 use-end-numbers-end-requires-2 t c κs = c .before .before .arguments-end .ensures .reaches (c .if3 .left) .lexed
 
 use-end-returns-4 : (t : ℕ) → use-end-lts.Need-returns-4 (
-  word-at-reads.Asked,
-  word-at-reads.Learnt,
+  mark-kind-reads.Asked,
+  mark-kind-reads.Learnt,
   numbers-end-reads.Asked,
   numbers-end-reads.Learnt,
   here-reads.Asked,
@@ -874,7 +875,7 @@ use-end-returns-4 : (t : ℕ) → use-end-lts.Need-returns-4 (
   arguments-end-below t,
   arguments-end.Post,
 ) (use-end-at t) use-end.Post
-use-end-returns-4 t c = use-on (c .before .before .before .before .before .before .before .before .before .before .args .text .now) (c .before .before .before .before .before .before .before .before .before .before .args .at) (typeStep (c .before .before .before .before .before .before .before .before .before .before .args .more) false) (c .before .before .before .arguments-end .result) (c .before .before .before .arguments-end .ensures) (c .before .if3 .left) (c .numbers-end2 .result) (c .numbers-end2 .ensures)
+use-end-returns-4 t c = use-on (c .before .before .before .before .before .before .before .before .args .text .now) (c .before .before .before .before .before .before .before .before .args .at) (typeStep (c .before .before .before .before .before .before .before .before .args .more) false) (c .before .before .before .arguments-end .result) (c .before .before .before .arguments-end .ensures) (c .before .if3 .left) (c .numbers-end2 .result) (c .numbers-end2 .ensures)
 
 pub +arguments-end+arrow-end+atom-end+inside-end+product-end+type-end+use-end-spec :
     {M : Type 1} → statement M
@@ -1009,8 +1010,8 @@ pub +arguments-end+arrow-end+atom-end+inside-end+product-end+type-end+use-end-sp
     (type-end-arrow-end-requires t)
     (type-end-returns-5 t))
     λ t. use-end-lts.spec (
-      word-at-reads.Asked,
-      word-at-reads.Learnt,
+      mark-kind-reads.Asked,
+      mark-kind-reads.Learnt,
       numbers-end-reads.Asked,
       numbers-end-reads.Learnt,
       here-reads.Asked,
@@ -1020,7 +1021,7 @@ pub +arguments-end+arrow-end+atom-end+inside-end+product-end+type-end+use-end-sp
     )
     (use-end-at t)
     use-end.Post
-    (use-end-word-at-requires t)
+    (use-end-mark-kind-requires t)
     (use-end-numbers-end-requires t)
     (use-end-returns t)
     (use-end-here-requires t)

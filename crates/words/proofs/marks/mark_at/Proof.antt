@@ -1,4 +1,4 @@
--- `words::marks::mark_at` meets its contract: a word that begins with a letter or a digit is none of the signs. Assumes nothing.
+-- `words::marks::mark_at` meets its contract: a word whose first byte tells is none of the signs. Assumes nothing.
 use Rattle.words.specs.Next.{saidWord}
 use Rattle.words.proofs.MarkLaws.{marks-word, marks-none}
 use Rattle.words.proofs.marks.mark_at.Statement.{statement}
@@ -16,7 +16,7 @@ returns c =
     let s = c .before .before .before .before in
     let g = c .before .before .gap-end in
     let u = c .before .unread .ensures (c .if1 .taken) in
-    marks-none (s .args .text .now) (s .args .at) (s .pre) (g .result) (u .1 .class) (u .0) (g .ensures .1) (u .1 .is) (u .1 .high)
+    marks-none (s .args .text .now) (s .args .at) (s .pre) (g .result) (u .0) (g .ensures .1) (u .1)
 
 next-requires : tie.Need-next-requires
 next-requires c κs = c .before .before .before .before .pre .within
