@@ -10,14 +10,14 @@ ghost use Rattle.back.specs.Said.{said_parts, SaidGate};
 use net_reader::Record;
 
 // As many parts and no point, with the offset behind them; or the offset of the first point.
-#[derive(Drop)]
+#[derive(Clone, Copy)]
 pub enum Parts {
     All(usize, usize),
     Point(usize),
 }
 
 // A part and its first terminal, and where the reader stands next.
-#[derive(Drop)]
+#[derive(Clone, Copy)]
 pub struct Gate {
     pub part: u8,
     pub first: u16,
@@ -25,7 +25,7 @@ pub struct Gate {
 }
 
 // The undriven inputs, and all inputs.
-#[derive(Drop)]
+#[derive(Clone, Copy)]
 pub struct Counts {
     pub undriven: usize,
     pub inputs: usize,

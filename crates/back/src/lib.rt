@@ -1,4 +1,6 @@
 // From a netlist back to a sheet (document 02, L11).
+#![tactic(auto)]
+
 mod gates;
 mod write;
 

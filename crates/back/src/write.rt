@@ -11,7 +11,7 @@ ghost use Rattle.back.specs.Room.{SourceRoom, SourcesRoom, PartRoom, PartsRoom, 
 use crate::gates;
 
 // Past what was written, the undriven inputs so far, and where the next part stands in the netlist.
-#[derive(Drop)]
+#[derive(Clone, Copy)]
 struct Next {
     at: usize,
     before: usize,

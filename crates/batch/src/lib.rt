@@ -1,4 +1,6 @@
 // One call over sheets laid end to end.
+#![tactic(auto)]
+
 ghost use Rattle.std.specs.Prelude.{◌≡◌, ◌<◌, ◌≤◌, eqb, length};
 ghost use Rattle.export_calculus.specs.CardCall.{wished_call};
 ghost use Rattle.translator.specs.Said.{said_answer};

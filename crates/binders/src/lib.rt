@@ -1,11 +1,13 @@
 // The binders in scope: a struct by value, the nearest last. Binders of both sorts share one count.
 // The struct is large, so what has to be decided is decided on the numbers of one binder; who holds the struct stores in place.
+#![tactic(auto)]
+
 ghost use Rattle.std.specs.Prelude.{◌≡◌, ◌<◌, get_or};
 ghost use Rattle.binders.specs.Stacks.{binary_digits, set_digit, bits_of, with_bit, binder_of, no_binders, slot_of, shared_use, linear_use};
 
 // For each binder in scope its type number, its sort (0 sharable, 1 linear), and for a linear one if it is used (0 or 1): sorts and
 // marks are a bit each, so that a level of the walk takes little stack.
-#[derive(Drop)]
+#[derive(Clone, Copy)]
 pub struct Binders {
     pub types: [u8; 128],
     pub sorts: [u64; 2],
@@ -14,7 +16,7 @@ pub struct Binders {
 }
 
 // What a leaf of the term gives: its type number, or the number of a refusal.
-#[derive(Drop)]
+#[derive(Clone, Copy)]
 pub enum Use {
     Type(u8),
     Refused(u8),

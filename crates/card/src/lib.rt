@@ -1,5 +1,7 @@
 // The card's profile (document 02, L12), over the root's type and the lean netlist that stands in the working memory by terminal: a pass for 28,
 // and three for 29, whose marks are taken away again.
+#![tactic(auto)]
+
 mod chain;
 mod mark;
 pub mod rings;
@@ -13,7 +15,7 @@ ghost use Rattle.card.specs.Judged.{said_judged};
 ghost use Rattle.card.specs.Marks.{Markable};
 
 // The profile passes, or a refusal: its number and its place.
-#[derive(Drop)]
+#[derive(Clone, Copy)]
 pub enum Judged {
     Passes,
     Refused(u8, usize),

@@ -10,7 +10,7 @@ const END_SQUARE: u8 = 18;
 const END_CURLY: u8 = 20;
 
 // How many stand in a group, and the offset behind it.
-#[derive(Drop)]
+#[derive(Clone, Copy)]
 pub struct Group {
     pub count: usize,
     pub end: usize,

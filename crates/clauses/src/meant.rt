@@ -15,7 +15,7 @@ use crate::{cells, follows, numbers, rows};
 
 // What is named: a type or a term, by a name at a place, with so many type arguments and so many numbers, which stand in the scope from an
 // entry on.
-#[derive(Drop)]
+#[derive(Clone, Copy)]
 pub struct Asked {
     pub sort: bool,
     pub name: usize,

@@ -7,7 +7,7 @@ ghost use Rattle.clauses.specs.Numbers.{NumberThere, NumberRead, NumberPast, pla
 const PLUS: u8 = 21;
 
 // If it has a name, the name's place or the number's, k, and the offset behind it.
-#[derive(Drop)]
+#[derive(Clone, Copy)]
 pub struct Num {
     pub named: bool,
     pub place: usize,

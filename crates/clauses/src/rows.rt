@@ -13,7 +13,7 @@ const CURLY: u8 = 19;
 
 // The offsets of the name, of what stands behind it, of the number parameters, of the body and of what stands behind that; yes for a type;
 // the key of sort and name; how many type parameters and number parameters.
-#[derive(Drop)]
+#[derive(Clone, Copy)]
 pub struct Row {
     pub name: usize,
     pub typed: usize,

@@ -19,7 +19,7 @@ const TABLE: u8 = 7;
 
 // A refusal's number and its place; or 0, the place of the text's end, the offset of its first line `table` (its end if it has none), and how
 // many clauses stand above that.
-#[derive(Drop)]
+#[derive(Clone, Copy)]
 pub struct Whole {
     pub number: u8,
     pub place: usize,

@@ -1,6 +1,8 @@
 // Reads packed calls from standard input, and prints a line for each: for the full, then the lean netlist, the answer and the checksums of
 // output and memory after the call; then where some nodes' stretches begin, and their lengths. Its input was made by
 // 'second pack whole 12 1800 640000', and what it must print by 'second answers whole'.
+#![tactic(auto)]
+
 ghost use Rattle.std.specs.Prelude.{◌<◌};
 
 use translation::Wish;

@@ -1,4 +1,6 @@
 // The public calls for C: the answer of each is one number.
+#![tactic(auto)]
+
 ghost use Rattle.std.specs.Prelude.{◌≡◌};
 ghost use Rattle.calculus.specs.Stretch.{stretch_of};
 ghost use Rattle.batch_calculus.specs.Batch.{batch_call};

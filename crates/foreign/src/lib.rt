@@ -1,4 +1,6 @@
 // The check of a netlist from outside (document 02, L8).
+#![tactic(auto)]
+
 mod table;
 mod take;
 
@@ -13,21 +15,21 @@ ghost use Rattle.foreign.specs.Walk.{said_went, gone_to, WalkAgrees, said_check,
 use take::{State, Taken};
 
 // Accepted, or a refusal's number and place.
-#[derive(Drop)]
+#[derive(Clone, Copy)]
 pub enum Verdict {
     Accepted,
     Refused(u8, usize),
 }
 
 // All records read: the first terminal above those taken; or the first refusal.
-#[derive(Drop)]
+#[derive(Clone, Copy)]
 enum Walked {
     Done(usize),
     Refused(u8, usize),
 }
 
 // One record further: how far it went, and where the reader stands next; or a refusal.
-#[derive(Drop)]
+#[derive(Clone, Copy)]
 enum Went {
     On(State, usize),
     Refused(u8),

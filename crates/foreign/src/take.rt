@@ -9,13 +9,13 @@ use crate::table;
 use net_reader::Record;
 
 // How far the records came (0 elements, 1 wires, 2 pins), and the first terminal above those taken.
-#[derive(Drop)]
+#[derive(Clone, Copy)]
 pub struct State {
     pub stage: u8,
     pub next: usize,
 }
 
-#[derive(Drop)]
+#[derive(Clone, Copy)]
 pub enum Taken {
     Next(State),
     Refused(u8),

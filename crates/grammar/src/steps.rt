@@ -21,7 +21,7 @@ pub const COMMA: u8 = 14;
 pub const PLUS: u8 = 21;
 
 // An offset behind what was read; or a refusal's number, which is not 0, and its place.
-#[derive(Drop)]
+#[derive(Clone, Copy)]
 pub struct End {
     pub number: u8,
     pub at: usize,

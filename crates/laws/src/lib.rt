@@ -1,1 +1,2 @@
 // The laws stand in proofs/; there is no code here.
+#![tactic(auto)]

@@ -1,4 +1,6 @@
 // The roots of a netlist's outputs, in linear time, and the lean netlist.
+#![tactic(auto)]
+
 ghost use Rattle.std.specs.Prelude.{◌≡◌, ◌≤◌, length, drop};
 ghost use Rattle.std.proofs.lemmas.List.Edits.{sets};
 ghost use Rattle.calculus.specs.Makers.{written};

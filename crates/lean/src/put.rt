@@ -51,7 +51,7 @@ fn put_element(
 }
 
 // Where the writer goes on: at an offset and a terminal, with the maker that the next output takes.
-#[derive(Drop)]
+#[derive(Clone, Copy)]
 struct Next {
     at: usize,
     x: usize,

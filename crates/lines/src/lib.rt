@@ -1,4 +1,6 @@
 // The text of a listing: words, numbers in decimal, and lines.
+#![tactic(auto)]
+
 ghost use Rattle.std.specs.Prelude.{◌≡◌, ◌∷◌, ◌+◌, ◌*◌, ◌≤◌, ◌<◌, length};
 ghost use Rattle.calculus.specs.Listing.{line};
 ghost use Rattle.parts.specs.Table.{name_at};

@@ -1,4 +1,6 @@
 // Reads one sheet from standard input, and prints its full and its lean netlist, or its refusal.
+#![tactic(auto)]
+
 ghost use Rattle.std.specs.Prelude.{◌+◌, ◌≤◌, length};
 
 use translation::Wish;

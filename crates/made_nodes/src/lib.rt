@@ -1,5 +1,7 @@
 // Nodes in the working memory, each made behind its subterms; refusal 34. Types are not judged: where a rule gives no type the single bit is
 // taken.
+#![tactic(auto)]
+
 ghost use Rattle.std.specs.Prelude.{◌≡◌, cond, ◌∷◌, [], ◌+◌, ◌*◌, ◌≤◌, ◌<◌, leb, length, set};
 ghost use Rattle.std.proofs.lemmas.List.Edits.{sets};
 ghost use Rattle.notation_calculus.specs.Making.{larger};
@@ -15,21 +17,21 @@ pub mod pairs;
 use making_memory::{MOST_DEEP, MOST_NODES, NODE_COUNT, NODES};
 
 // A term that was made: its last node, which is its root, its type, and its depth.
-#[derive(Drop)]
+#[derive(Clone, Copy)]
 pub struct Sub {
     pub node: u16,
     pub ty: u16,
     pub deep: u16,
 }
 
-#[derive(Drop)]
+#[derive(Clone, Copy)]
 pub enum MadeTerm {
     At(Sub),
     Refused(u8, u16),
 }
 
 // A node to be: its kind, its first body byte, its subterms, and the offset of its word.
-#[derive(Drop)]
+#[derive(Clone, Copy)]
 pub struct Node {
     pub kind: u16,
     pub body: u16,

@@ -1,4 +1,6 @@
 // The table of types in the working memory: each type once, behind its sides; refusals 35 and 34. Type 0 is the single bit.
+#![tactic(auto)]
+
 ghost use Rattle.std.specs.Prelude.{◌≡◌, cond, ◌∷◌, [], ◌+◌, ◌*◌, ◌≤◌, ◌<◌, eqb, leb, length, get_or, set};
 ghost use Rattle.std.proofs.lemmas.List.Edits.{sets};
 ghost use Rattle.making_memory.specs.Map.{types_at, type_count_at, making_size};
@@ -9,14 +11,14 @@ ghost use Rattle.made_types.specs.States.{Begun, Forgot};
 use making_memory::{MOST_TYPES, NODE_COUNT, PUT_COUNT, TYPE_COUNT, TYPES};
 
 // A type's number, or a refusal.
-#[derive(Drop)]
+#[derive(Clone, Copy)]
 pub enum FoundType {
     At(u16),
     Refused(u8, u16),
 }
 
 // A product, an arrow or a linear arrow: kinds 2 to 4, and the sides' numbers.
-#[derive(Drop)]
+#[derive(Clone, Copy)]
 pub struct Record {
     pub kind: u16,
     pub left: u16,

@@ -1,4 +1,6 @@
 // The call that makes a sheet of a text: its words and its clauses, its lines, its definitions judged, `main`, and the sheet written.
+#![tactic(auto)]
+
 mod judged;
 mod lines;
 
@@ -14,7 +16,7 @@ use translator::Answer;
 use walks::TermEnd;
 
 // A stage of the call passes, or refuses the text by a number and a place.
-#[derive(Drop)]
+#[derive(Clone, Copy)]
 pub enum Stage {
     Passed,
     Refused(u8, usize),

@@ -17,7 +17,7 @@ const TABLE: u8 = 7;
 const COMMA: u8 = 14;
 
 // Behind a type of a line: the offset of the next one, or of what stands behind the line; or a refusal.
-#[derive(Drop)]
+#[derive(Clone, Copy)]
 pub enum Typed {
     More(usize),
     Last(usize),
@@ -25,7 +25,7 @@ pub enum Typed {
 }
 
 // Behind an item: the offset where the items go on, and how many clauses stand above it; the text's end; or a refusal.
-#[derive(Drop)]
+#[derive(Clone, Copy)]
 pub enum Went {
     On(usize, usize),
     Ends,

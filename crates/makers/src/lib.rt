@@ -1,4 +1,6 @@
 // The nodes that made the elements of a netlist, in the working memory: one flat pass over the term's records.
+#![tactic(auto)]
+
 ghost use Rattle.std.specs.Prelude.{◌≡◌, ◌+◌, ◌≤◌, length, replicate};
 ghost use Rattle.std.proofs.lemmas.List.Edits.{sets};
 ghost use Rattle.calculus.specs.Makers.{makers};

@@ -1,5 +1,6 @@
 // The map of the working memory, 32,768 numbers, while a sheet is made from its text. The levels' scopes stand from 32,400 on (`walk_levels`); from 32,728
 // on it is free.
+#![tactic(auto)]
 
 // The nodes in the order in which they are made, so each behind its subterms: kind, first body byte, left (of a part its type), right, and
 // the offset of the word that it came from. At most 2,048, five numbers each.

@@ -1,4 +1,6 @@
 // The map of the working memory, 32,768 numbers, and its clearing.
+#![tactic(auto)]
+
 ghost use Rattle.std.specs.Prelude.{◌≡◌, ◌≤◌, length};
 ghost use Rattle.calculus.specs.Translate.{zeroed};
 ghost use Rattle.memory.specs.Map.{memory_size};

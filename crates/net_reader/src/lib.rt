@@ -1,4 +1,6 @@
 // The records of a netlist from outside, read one after the other: a reader over the lent bytes, and the plain functions below it.
+#![tactic(auto)]
+
 ghost use Rattle.std.specs.Prelude.{◌≡◌, ◌+◌, ◌<◌, length};
 ghost use Rattle.calculus.specs.Read.{byte};
 ghost use Rattle.calculus.specs.Net.{point, wire_of, element, wire, pin};
@@ -9,7 +11,7 @@ use parts::Named;
 
 // What stands at an offset: a record of kind 21 to 24, the end, or no record (kind unknown, body cut short, part unknown). Terminals
 // are bare numbers here: which are inputs and which outputs the elements tell, and not the record.
-#[derive(Drop)]
+#[derive(Clone, Copy)]
 pub enum Record {
     Point(u16),
     Part(u8, u16),
@@ -107,7 +109,7 @@ fn size_of(r: Record) -> usize
 }
 
 // A record, and where the next one stands: the offset past it, or the same offset where no record stands.
-#[derive(Drop)]
+#[derive(Clone, Copy)]
 pub struct Step {
     pub found: Record,
     pub past: usize,
@@ -123,7 +125,7 @@ fn step_at(s: &[u8], at: usize) -> Step
 }
 
 // A reader: the lent bytes, and where the next record stands.
-#[derive(Drop)]
+#[derive(Clone, Copy)]
 pub struct Reader<'a> {
     pub bytes: &'a [u8],
     pub at: usize,

@@ -1,4 +1,6 @@
 // Terminals, the records of a netlist as bytes, and the full netlist.
+#![tactic(auto)]
+
 ghost use Rattle.std.specs.Prelude.{◌≡◌, ◌∷◌, [], map, ◌+◌, ◌*◌, ◌≤◌, ◌<◌, length, false};
 ghost use Rattle.std.proofs.lemmas.List.Edits.{sets};
 ghost use Rattle.calculus.specs.Net.{two, number, point, part, wire_of, element_bytes, wire_bytes, pin_bytes};
@@ -10,14 +12,14 @@ ghost use Rattle.netlist.specs.Elements.{output_of, after, element_size, node_si
 ghost use Rattle.netlist.specs.Fitting.{ElementsFit, WiresFit, PinsFit, Writable};
 
 // An input terminal, and an output terminal, by its number.
-#[derive(Drop)]
+#[derive(Clone, Copy)]
 pub struct In(pub u16);
 
-#[derive(Drop)]
+#[derive(Clone, Copy)]
 pub struct Out(pub u16);
 
 // A terminal of an interface.
-#[derive(Drop)]
+#[derive(Clone, Copy)]
 pub enum Terminal {
     Input(In),
     Output(Out),

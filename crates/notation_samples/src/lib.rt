@@ -1,1 +1,2 @@
 // The definitions stand in specs/; there is no code here.
+#![tactic(auto)]

@@ -1,10 +1,12 @@
 // The table of the seven parts (document 01, "The sheet"), for the checker, the netlist writer and the listing.
+#![tactic(auto)]
+
 ghost use Rattle.std.specs.Prelude.{◌≡◌, length};
 ghost use Rattle.parts.specs.Table.{said_part, entry_of, said_named, named, name_at, padded};
 
 // A part: its inputs, its outputs and the shape of its type, as the number of arrows from the single bit: 0 is the bit itself,
 // 1 reg's type, 2 the arrow from the bit to reg's type; and if it takes a pair of single bits to one in the second edition.
-#[derive(Drop)]
+#[derive(Clone, Copy)]
 pub struct Part {
     pub inputs: u8,
     pub outputs: u8,
@@ -13,14 +15,14 @@ pub struct Part {
 }
 
 // What a part number names.
-#[derive(Drop)]
+#[derive(Clone, Copy)]
 pub enum Named {
     Part(Part),
     Unknown,
 }
 
 // A name: its letters, zeros behind them, and how many there are.
-#[derive(Drop)]
+#[derive(Clone, Copy)]
 pub struct Name {
     pub letters: [u8; 4],
     pub count: u8,

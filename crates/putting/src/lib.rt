@@ -1,4 +1,6 @@
 // A definition put in: the numbers that it is given, the clause that its name means, what that costs, and the scope that its body has.
+#![tactic(auto)]
+
 ghost use Rattle.std.specs.Prelude.{◌≡◌};
 ghost use Rattle.walks.specs.Says.{CanPut, PutSays};
 ghost use Rattle.putting.specs.Putting.{NumbersSay, CanPlace, PlacedSays, CanMean, MeantSays, ended_at};
@@ -10,14 +12,14 @@ use walks::{PutAt, PutEnd};
 pub mod mains;
 
 // How many numbers wait as arguments, and the offset behind them.
-#[derive(Drop)]
+#[derive(Clone, Copy)]
 pub enum NumbersEnd {
     At(usize, usize),
     Refused(u8, usize),
 }
 
 // The offset of a definition's body, and how many entries there are now.
-#[derive(Drop)]
+#[derive(Clone, Copy)]
 pub enum BodyEnd {
     At(usize, usize),
     Refused(u8, usize),

@@ -1,11 +1,13 @@
 // One record of a sheet: a type, a node or a refusal.
+#![tactic(auto)]
+
 ghost use Rattle.std.specs.Prelude.{◌≡◌, get_or, take, drop, length, ◌+◌, ◌≤◌};
 ghost use Rattle.records.specs.Record.{shape_of, form_of, record_at, no_node, node_at};
 ghost use Rattle.records.specs.Forms.{said_form, rec_in};
 ghost use Rattle.records.specs.TypeNumbers.{sided_of, bound_in};
 
 // The rule for a type.
-#[derive(Drop)]
+#[derive(Clone, Copy)]
 pub enum TypeRule {
     Bit,
     Product,
@@ -14,7 +16,7 @@ pub enum TypeRule {
 }
 
 // The rule for a node.
-#[derive(Drop)]
+#[derive(Clone, Copy)]
 pub enum Rule {
     Variable,
     LinearVariable,
@@ -30,7 +32,7 @@ pub enum Rule {
 }
 
 // What a kind byte fixes: the body's length, of a node the number of subterms, and the rule.
-#[derive(Drop)]
+#[derive(Clone, Copy)]
 pub enum Shape {
     Type(usize, TypeRule),
     Node(usize, usize, Rule),
@@ -66,7 +68,7 @@ pub fn shape_of(kind: u8) -> Shape
 }
 
 // A type record: the single bit, or a product, a sharable or a linear arrow with its two type numbers.
-#[derive(Drop)]
+#[derive(Clone, Copy)]
 pub enum Form {
     Bit,
     Product(u8, u8),
@@ -86,7 +88,7 @@ fn form_of(rule: TypeRule, left: u8, right: u8) -> Form
 }
 
 // A node's record: its rule, its two bytes (0 where the body is shorter), its number of subterms, and the offset past it.
-#[derive(Drop)]
+#[derive(Clone, Copy)]
 pub struct Node {
     pub rule: Rule,
     pub first: u8,
@@ -96,7 +98,7 @@ pub struct Node {
 }
 
 // What stands at an offset: a type and the offset past its record, a node, or a refusal (3 or 4) with its number and its place.
-#[derive(Drop)]
+#[derive(Clone, Copy)]
 pub enum Record {
     Type(Form, usize),
     Node(Node),
@@ -204,7 +206,7 @@ pub fn type_at(s: &[u8], t: u8) -> Form
 }
 
 // A type record as numbers: its kind, 1 to 4, and its two sides, 0 for the single bit.
-#[derive(Drop)]
+#[derive(Clone, Copy)]
 pub struct Sided {
     pub kind: u8,
     pub left: u8,

@@ -1,1 +1,2 @@
 // Theorems on the refusals, in proofs/; there is no code here.
+#![tactic(auto)]

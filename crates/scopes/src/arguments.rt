@@ -9,7 +9,7 @@ use crate::frames::Frame;
 const MOST_ENTRIES: usize = 1024;
 
 // A value and the offset behind it; or a refusal's number, which is not 0, and its place.
-#[derive(Drop)]
+#[derive(Clone, Copy)]
 pub struct Value {
     pub number: u8,
     pub value: usize,
@@ -54,7 +54,7 @@ pub fn value_at(text: &[u8], work: &[u16], at: usize, f: Frame) -> Value
 }
 
 // 0, or a refusal's number and its place.
-#[derive(Drop)]
+#[derive(Clone, Copy)]
 pub struct Given {
     pub number: u8,
     pub place: usize,

@@ -4,7 +4,7 @@ ghost use Rattle.std.proofs.lemmas.List.Edits.{sets};
 ghost use Rattle.making_memory.specs.Map.{frames_at, making_size};
 ghost use Rattle.scopes.specs.Frames.{frame_in};
 
-#[derive(Drop)]
+#[derive(Clone, Copy)]
 pub struct Frame {
     pub seen: usize,
     pub types: usize,

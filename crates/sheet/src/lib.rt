@@ -1,4 +1,6 @@
 // A sheet is read: refusals 2 to 9, the sizes of its types, and the stretch of a node.
+#![tactic(auto)]
+
 ghost use Rattle.std.specs.Prelude.{◌≡◌, length};
 ghost use Rattle.calculus.specs.Answer.{numbered};
 ghost use Rattle.calculus.specs.Terms.{is_second, opening};
@@ -23,14 +25,14 @@ const LONGEST_SHEET: usize = 16384;
 const MOST_DEPTH: usize = 64;
 
 // How many types and nodes a sheet has, and where its term begins behind the opening; or a refusal's number and place.
-#[derive(Drop)]
+#[derive(Clone, Copy)]
 pub enum Verdict {
     Read(usize, usize, usize),
     Refused(u8, usize),
 }
 
 // .. and the size of each type; 0 past them, and where the sheet is refused.
-#[derive(Drop)]
+#[derive(Clone, Copy)]
 pub struct Reading {
     pub verdict: Verdict,
     pub sizes: [u8; 256],
@@ -124,7 +126,7 @@ pub fn read(s: &[u8]) -> Reading
 // ---- the stretch of a node
 
 // A part of the sheet: where it begins, and its length.
-#[derive(Drop)]
+#[derive(Clone, Copy)]
 pub struct Bounds {
     pub start: usize,
     pub size: usize,

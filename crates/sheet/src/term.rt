@@ -9,7 +9,7 @@ use records::{Node, Record, Rule};
 const MOST_NODES: usize = 2048;
 
 // A node's record: where the next record is due and the number of subterms, or a refusal.
-#[derive(Drop)]
+#[derive(Clone, Copy)]
 pub enum Head {
     Opens(usize, usize),
     Refused(u8, usize),
@@ -73,7 +73,7 @@ fn head_at(s: &[u8], at: usize, count: usize, more: usize, types: usize, second:
 }
 
 // The end of a term: where the next record is due and how many nodes there have been, or a refusal.
-#[derive(Drop)]
+#[derive(Clone, Copy)]
 pub enum Span {
     Next(usize, usize),
     Refused(u8, usize),

@@ -161,7 +161,7 @@ fn size_of(sizes: &[u8], f: Form) -> usize
 }
 
 // A type record against those before it: its size, or a refusal's number and place.
-#[derive(Drop)]
+#[derive(Clone, Copy)]
 pub enum Checked {
     Size(u8),
     Refused(u8, usize),
@@ -201,14 +201,14 @@ fn check_type(
 }
 
 // The type records: their number and the offset past them, or a refusal's number and place.
-#[derive(Drop)]
+#[derive(Clone, Copy)]
 pub enum Listed {
     All(usize, usize),
     Refused(u8, usize),
 }
 
 // .. and the size of each type; 0 past them, and where they are refused.
-#[derive(Drop)]
+#[derive(Clone, Copy)]
 pub struct Types {
     pub listed: Listed,
     pub sizes: [u8; 256],

@@ -1,4 +1,6 @@
 // The sheet that stands in the working memory: its length, and its bytes and places, written; refusals 17 and 37.
+#![tactic(auto)]
+
 ghost use Rattle.std.specs.Prelude.{◌≡◌, cond, ◌+◌, ◌*◌, ◌≤◌, ◌<◌, eqb, length, get_or};
 ghost use Rattle.std.proofs.lemmas.List.Edits.{sets};
 ghost use Rattle.making_memory.specs.Map.{nodes_at, making_size};
@@ -9,13 +11,13 @@ ghost use Rattle.sheet_writer.specs.Wrote.{TermStands, Measures, TermFits, TermW
 use making_memory::{NODES, SECOND, TYPE_COUNT, TYPES};
 
 // Bytes and nodes: how many, or where the next come.
-#[derive(Drop)]
+#[derive(Clone, Copy)]
 pub struct Span {
     pub bytes: usize,
     pub nodes: usize,
 }
 
-#[derive(Drop)]
+#[derive(Clone, Copy)]
 pub enum WroteSheet {
     Bytes(usize),
     Refused(u8, usize),

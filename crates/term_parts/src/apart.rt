@@ -8,7 +8,7 @@ use crate::{bound, halves, names};
 use made_nodes::{MadeTerm, Node, Sub};
 
 // How many entries and how many terms that wait there are now; or a refusal's number and its place.
-#[derive(Drop)]
+#[derive(Clone, Copy)]
 pub enum ApartEnd {
     At(usize, usize),
     Refused(u8, usize),
@@ -49,7 +49,7 @@ fn rest_of(work: &mut [u16], place: u16, v: Sub) -> MadeTerm
 }
 
 // The rest of a pair that was taken apart, and the offset of the names that are left for it; or a refusal's number and its place.
-#[derive(Drop)]
+#[derive(Clone, Copy)]
 pub enum RestEnd {
     At(usize, Sub),
     Refused(u8, usize),

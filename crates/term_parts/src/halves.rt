@@ -5,7 +5,7 @@ ghost use Rattle.term_parts.specs.Halves.{half_in, with_half, InHalves};
 use making_memory::HALVES;
 
 // A term's root, its type and its depth, and the offset of a comma or of a name.
-#[derive(Drop)]
+#[derive(Clone, Copy)]
 pub struct Half {
     pub node: u16,
     pub ty: u16,

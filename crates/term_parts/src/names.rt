@@ -16,7 +16,7 @@ const COMMA: u8 = 14;
 const COLON: u8 = 15;
 
 // A name's place and the offset behind it; or a refusal's number, which is not 0, and its place.
-#[derive(Drop)]
+#[derive(Clone, Copy)]
 pub struct NameEnd {
     pub number: u8,
     pub place: usize,
@@ -43,7 +43,7 @@ pub fn name_at(text: &[u8], at: usize) -> NameEnd
 }
 
 // How many names there are, and the offset behind them; or a refusal's number, which is not 0, and its place.
-#[derive(Drop)]
+#[derive(Clone, Copy)]
 pub struct NamesEnd {
     pub number: u8,
     pub count: usize,
@@ -163,7 +163,7 @@ pub fn count_listed(text: &[u8], at: usize) -> NamesEnd
 }
 
 // The first two names of a list: their places, and the offset of the second.
-#[derive(Drop)]
+#[derive(Clone, Copy)]
 pub struct TwoNames {
     pub first: usize,
     pub second: usize,
@@ -185,7 +185,7 @@ pub fn two_names(text: &[u8], at: usize) -> TwoNames
 }
 
 // Whether there is a next list; the place of its parenthesis and the offset behind that.
-#[derive(Drop)]
+#[derive(Clone, Copy)]
 pub struct NextList {
     pub found: bool,
     pub place: usize,

@@ -5,7 +5,7 @@ ghost use Rattle.term_parts.specs.Parts.{CanLook, LookSays, CanLookAt, LookAtSay
 use scopes::{entries, frames};
 
 // A variable's number and its type; or none has the name.
-#[derive(Drop)]
+#[derive(Clone, Copy)]
 pub enum Look {
     Here(u16, u16),
     Nowhere,

@@ -1,4 +1,6 @@
 // The walk over a term of a text: one loop, each round of which does one step of the machine of terms.
+#![tactic(auto)]
+
 ghost use Rattle.std.specs.Prelude.{◌≡◌};
 ghost use Rattle.term_walk.specs.Steps.{nothing_sub, walk_at, part_level, done_step, applies_step, CanAskTerm, Below, Asks};
 
@@ -25,7 +27,7 @@ pub const APPLYING: u8 = 2;
 
 // Which of the three; how many levels there may be from this one on; the frame of the scope, its entries, and how many terms wait; where the
 // application begins; the term that came or the function; and the offset of the next word.
-#[derive(Drop)]
+#[derive(Clone, Copy)]
 pub struct Walk {
     pub phase: u8,
     pub more: usize,
@@ -38,14 +40,14 @@ pub struct Walk {
 }
 
 // What stands left of an atom: where the application begins, and the function so far, if there is one.
-#[derive(Drop)]
+#[derive(Clone, Copy)]
 pub struct Left {
     pub place: u16,
     pub flag: u16,
     pub sub: Sub,
 }
 
-#[derive(Drop)]
+#[derive(Clone, Copy)]
 pub enum Step {
     Going(Walk),
     Refused(u8, usize),

@@ -1,4 +1,6 @@
 // The calls that run a recorded trace, or sixteen at once, through the lean netlist of a sheet.
+#![tactic(auto)]
+
 mod free;
 mod net;
 pub mod ordering;

@@ -10,7 +10,7 @@ use trace_steps::order;
 
 // The lowest input on a ring that passes through no register; or there is none: the first terminal that no element takes, and how many
 // outputs stand in the order.
-#[derive(Drop)]
+#[derive(Clone, Copy)]
 pub enum Ordered {
     OnRing(usize),
     Free(usize, usize),

@@ -1,4 +1,6 @@
 // The call that writes a netlist: it makes the full one in the working memory, writes the one that is wished, and clears.
+#![tactic(auto)]
+
 mod write;
 
 ghost use Rattle.std.specs.Prelude.{◌≡◌, length};
@@ -11,7 +13,7 @@ use translator::{Answer, Made};
 
 // What a caller wishes: the lean netlist or the full one; the plain kinds 21 and 22, or every element with the node that made it; the
 // card's profile checked, or not.
-#[derive(Drop)]
+#[derive(Clone, Copy)]
 pub struct Wish {
     pub lean: bool,
     pub plain: bool,

@@ -1,5 +1,7 @@
 // The stages that every call begins with, from a sheet's bytes to its full netlist in the working memory, and the clearing that every
 // call ends with.
+#![tactic(auto)]
+
 ghost use Rattle.std.specs.Prelude.{◌≡◌, ◌≤◌, min, length};
 ghost use Rattle.calculus.specs.Translate.{work_of};
 ghost use Rattle.translator.specs.Stages.{ReadStage, WellTyped};
@@ -14,14 +16,14 @@ use wiring::Counts;
 
 // What a call that writes answers: the number of bytes written, or a refusal, its number and place, and for 12 the type number wanted and
 // the one found.
-#[derive(Drop)]
+#[derive(Clone, Copy)]
 pub enum Answer {
     Written(usize),
     Refused(Refusal),
 }
 
 // How many elements, wires and pins of the netlist stand in the working memory, and the number of the root's type; or a refusal.
-#[derive(Drop)]
+#[derive(Clone, Copy)]
 pub enum Made {
     Net(Counts, u8),
     Refused(Refusal),

@@ -8,7 +8,7 @@ ghost use Rattle.type_walk.specs.Moves.{CanWait, Waited};
 use walk_levels::{Around, Level};
 
 // A type is wanted at an offset, with so many levels left, in the scope of a frame and so many entries; no arrow is read behind a tight one.
-#[derive(Drop)]
+#[derive(Clone, Copy)]
 pub struct Want {
     pub more: usize,
     pub tight: bool,
@@ -18,7 +18,7 @@ pub struct Want {
 }
 
 // A type came, over so many entries, and the offset behind it.
-#[derive(Drop)]
+#[derive(Clone, Copy)]
 pub struct Come {
     pub more: usize,
     pub top: usize,
@@ -26,7 +26,7 @@ pub struct Come {
     pub at: usize,
 }
 
-#[derive(Drop)]
+#[derive(Clone, Copy)]
 pub enum Walking {
     Wanted(Want),
     Came(Come),
@@ -34,7 +34,7 @@ pub enum Walking {
 }
 
 // The level that the walk is at: the levels that there may still be below it, and its scope.
-#[derive(Drop)]
+#[derive(Clone, Copy)]
 pub struct Here {
     pub more: usize,
     pub tight: bool,

@@ -1,5 +1,7 @@
 // The walk over types: the type at an offset, worked out word by word, with a level in the working memory for each type that is not yet
 // done. One round of the loop is one step of the machine of types (`typeMove`).
+#![tactic(auto)]
+
 pub mod levels;
 pub mod names;
 pub mod rows;

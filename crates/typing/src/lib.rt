@@ -1,4 +1,6 @@
 // The typing walk (document 01, "Numbers of the refusals": 10 to 15; document 02, L3 and L7), on type numbers. Places are node numbers.
+#![tactic(auto)]
+
 ghost use Rattle.std.specs.Prelude.{◌≡◌, ◌∷◌, ℕ, ◌+◌, ◌<◌, ◌≤◌, get_or, drop};
 ghost use Rattle.calculus.specs.Walk.{Stack};
 ghost use Rattle.records.specs.Forms.{rec_in};
@@ -19,14 +21,14 @@ use rules::Fit;
 mod rules;
 
 // A term's type number, the offset past it and the nodes up to there; or a refusal.
-#[derive(Drop)]
+#[derive(Clone, Copy)]
 pub enum Verdict {
     Fine { ty: u8, next: usize, count: usize },
     Refused(Refusal),
 }
 
 // A verdict, and the marks of use after it. The binders themselves are as before, so that no level hands them back.
-#[derive(Drop)]
+#[derive(Clone, Copy)]
 pub struct Checked {
     pub verdict: Verdict,
     pub used: [u64; 2],
@@ -285,7 +287,7 @@ fn walk(s: &[u8], at: usize, node: usize, b: Binders, types: usize, second: bool
 }
 
 // The type of a sheet's term, by its number, or a refusal.
-#[derive(Drop)]
+#[derive(Clone, Copy)]
 pub enum Typing {
     Type(u8),
     Refused(Refusal),

@@ -123,7 +123,7 @@ pub fn number(t: u8) -> u16
 }
 
 // What entering a node does: bind nothing, a sharable or a linear variable of a type, or find a written type of the wrong shape.
-#[derive(Drop)]
+#[derive(Clone, Copy)]
 pub enum Opening {
     Nothing,
     Shared(u8),
@@ -169,7 +169,7 @@ pub fn opens(s: &[u8], rule: Rule, t: u8) -> Opening
 }
 
 // What an opening binds: so many variables, 0 or 1, of a type and a sort.
-#[derive(Drop)]
+#[derive(Clone, Copy)]
 pub struct Binding {
     pub fits: bool,
     pub count: usize,
@@ -230,7 +230,7 @@ pub fn enters(s: &[u8], rule: Rule, t: u8) -> bool
 }
 
 // The types of the variables that are bound between two subterms, the first one's type being t: a projection's two, or the one of 1B.
-#[derive(Drop)]
+#[derive(Clone, Copy)]
 pub struct Halves {
     pub first: u8,
     pub second: u8,
@@ -253,7 +253,7 @@ pub fn halves_of(s: &[u8], rule: Rule, t: u8) -> Halves
 }
 
 // The type of a node, or the type number wanted and the one found.
-#[derive(Drop)]
+#[derive(Clone, Copy)]
 pub enum Fit {
     Type(u8),
     Misfit(u16, u8),

@@ -1,4 +1,6 @@
 // The call that writes the lean netlist of a sheet as a module of Verilog.
+#![tactic(auto)]
+
 mod form;
 mod line;
 mod walk;

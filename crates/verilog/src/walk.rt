@@ -14,7 +14,7 @@ use lean::{KIND, LEAN, LEFT_OUT, PINS};
 use netlist::{In, Out, Terminal};
 
 // The groups of lines, as they stand in the module.
-#[derive(Drop)]
+#[derive(Clone, Copy)]
 pub enum Group {
     Ports,
     Elements,

@@ -1,5 +1,7 @@
 // What waits at each level of a walk over a text, in the working memory. A level is named by the levels that there may still be below the
 // one that it waits for.
+#![tactic(auto)]
+
 ghost use Rattle.std.specs.Prelude.{◌≡◌, ◌+◌, ◌*◌, ◌≤◌, ◌<◌, length};
 ghost use Rattle.std.proofs.lemmas.List.Edits.{sets};
 ghost use Rattle.making_memory.specs.Map.{levels_at, making_size};
@@ -12,7 +14,7 @@ pub const SCOPES: usize = 32400;
 
 // What is done with what comes: a form; a flag; the offset of a word; how many names, arguments or elements there are; a node, its type and
 // its depth; and an offset in the text, or a node.
-#[derive(Drop)]
+#[derive(Clone, Copy)]
 pub struct Level {
     pub form: u16,
     pub flag: u16,
@@ -25,7 +27,7 @@ pub struct Level {
 }
 
 // The scope of a level: the frame of its definition, how many entries there are, and how many terms of tuples wait.
-#[derive(Drop)]
+#[derive(Clone, Copy)]
 pub struct Around {
     pub frame: u16,
     pub top: u16,

@@ -47,7 +47,7 @@ fn unturned(work: &mut [u16], to: usize, l: usize, n: usize, output: bool)
 }
 
 // A side of an arrow, or the whole, whose interface is still to be made at `to`: its type, where its points start, and which interface.
-#[derive(Drop)]
+#[derive(Clone, Copy)]
 pub struct Due {
     pub ty: u8,
     pub to: usize,

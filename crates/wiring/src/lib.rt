@@ -1,5 +1,7 @@
 // The full netlist of a sheet in the working memory: its terminals counted, its elements, wires and pins made. The bytes are those
 // behind the sheet's opening: no edition is seen here.
+#![tactic(auto)]
+
 ghost use Rattle.std.specs.Prelude.{◌≡◌, [], length};
 ghost use Rattle.calculus.specs.Net.{make};
 ghost use Rattle.wiring.specs.Count.{own_in};
@@ -48,7 +50,7 @@ pub fn count(s: &[u8], sizes: &[u8], from: usize, nodes: usize) -> usize
 }
 
 // The numbers of elements, wires and pins that stand in the working memory.
-#[derive(Drop)]
+#[derive(Clone, Copy)]
 pub struct Counts {
     pub elements: usize,
     pub wires: usize,

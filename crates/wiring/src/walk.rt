@@ -12,7 +12,7 @@ use memory::{BINDERS, ELEMENTS, POINT, STACK};
 use records::{Node, Rule};
 
 // The next free terminal, the numbers of elements and wires made, the height of the stack and the number of binders in scope.
-#[derive(Drop)]
+#[derive(Clone, Copy)]
 pub struct State {
     pub next: usize,
     pub elements: usize,
@@ -22,7 +22,7 @@ pub struct State {
 }
 
 // What a term leaves: the offset past it, its type, the length of its interface at the height on entry, and the numbers after it.
-#[derive(Drop)]
+#[derive(Clone, Copy)]
 pub struct Built {
     pub past: usize,
     pub ty: u8,

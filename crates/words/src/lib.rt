@@ -1,4 +1,6 @@
 // The words of a text, one after the other over lent bytes.
+#![tactic(auto)]
+
 ghost use Rattle.std.specs.Prelude.{◌≡◌, true, false, ◌&&◌, ◌||◌, ◌+◌, ◌*◌, ◌-◌, ◌≤◌, ◌<◌, eqb, length, get_or, take, drop};
 ghost use Rattle.calculus.specs.Answer.{good};
 ghost use Rattle.notation_calculus.specs.Words.{same_name, between, blank, ends_line, digit, letter, in_name, first, gap, run, capped, number_word, sign_at, signs, word_at};
@@ -205,7 +207,7 @@ pub const POWER: u8 = 25;
 
 // A word: its code (a sign's own, or that of a part, a number or a name; or the number of a refusal), the number that it holds, its place, and the
 // offset behind it.
-#[derive(Drop)]
+#[derive(Clone, Copy)]
 pub struct Word {
     pub kind: u8,
     pub value: u8,
@@ -450,7 +452,7 @@ fn goes_on(text: &[u8], at: usize) -> bool
 }
 
 // A refusal's number, 0 for none, and its place.
-#[derive(Drop)]
+#[derive(Clone, Copy)]
 pub struct Refused {
     pub number: u8,
     pub place: usize,

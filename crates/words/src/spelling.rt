@@ -6,7 +6,7 @@ ghost use Rattle.words.specs.Keys.{key_of};
 ghost use Rattle.words.specs.Tables.{said_row, row_of, two_signs, three_signs};
 
 // A row: its token's code and value, and the spelling's length; 0 where no row fits.
-#[derive(Drop)]
+#[derive(Clone, Copy)]
 pub struct Row {
     pub kind: u8,
     pub value: u8,
