@@ -39,6 +39,10 @@ one_shared : {Γ Γ' : Ctx} {i : ℕ} {θ θ' : Ty} → Alike Γ Γ' → InΓ Γ
 one_shared (alike_many l) (in_here z) (in_here w) = refl
 one_shared (alike_many l) (in_many x) (in_many y) = one_shared l x y
 one_shared (alike_away l) (in_away x) (in_away y) = one_shared l x y
+one_shared {i = i} {θ = θ} alike_end x y = elim x [ ]
+one_shared {i = i} {θ = θ} (alike_once {κ = κ} {Γ = Γ} _) x _ = elim x [ ]
+one_shared {i = i} {θ = θ} (alike_left {κ = κ} {Γ = Γ} _) x _ = elim x [ ]
+one_shared {i = i} {θ = θ} (alike_right {κ = κ} {Γ = Γ} _) _ y = elim y [ ]
 
 -- a linear binder that is in only one of the two is not the variable
 taken : {Γ Γ' : Ctx} {i : ℕ} {κ ρ κ' : Ty} → IsΔ (away ∷ Γ') i κ' → IsΔ (once ρ ∷ Γ) i κ → ⊥
@@ -50,6 +54,7 @@ one_linear (alike_left l) x y = absurd (taken y x)
 one_linear (alike_right l) x y = absurd (taken x y)
 one_linear (alike_many l) (is_many x) (is_many y) = one_linear l x y
 one_linear (alike_away l) (is_away x) (is_away y) = one_linear l x y
+one_linear {i = i} {κ = κ} alike_end x y = elim x [ ]
 
 arrow_right : {a b c d : Ty} → arrow a b ≡ arrow c d → b ≡ d
 arrow_right e = cc
