@@ -13,7 +13,7 @@ use Rattle.laws.proofs.Tests.{by_eqb, or_elim, T-is, is_false}
 use Rattle.calculus.specs.Answer.{Answer, good, ◌>>=◌}
 use Rattle.calculus.specs.Terms.{part_at, parts}
 use Rattle.calculus.specs.Read.{byte}
-use Rattle.calculus.specs.Net.{Terminal, inp, out, Interface, number, Element, point, part, Wire, Net, Item, element, wire, pin, two, item_bytes, element_bytes, wire_bytes, pin_bytes, net_bytes}
+use Rattle.calculus.specs.Net.{Terminal, inp, out, Interface, number, Element, point, part, Wire, Net, Item, element, wire, pin, item_bytes, element_bytes, wire_bytes, pin_bytes, net_bytes}
 use Rattle.calculus.specs.Record.{All}
 use Rattle.calculus.specs.Inputs.{made_at_lem, is_out}
 use Rattle.circuit_theorems.specs.Formed.{Rising, Formed}

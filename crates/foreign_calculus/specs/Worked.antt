@@ -1,5 +1,5 @@
 -- Netlists from outside whose answers were worked out by hand from document 02, L8: told to be full, and told to be lean. Assumes nothing.
-use Rattle.std.specs.Prelude.{ℕ, Bool, true, false, cond, List, [], ◌∷◌, ◌++◌}
+use Rattle.std.specs.Prelude.{ℕ, true, false, cond, List, [], ◌∷◌, ◌++◌}
 use Prim.Native.String.{String}
 use Rattle.calculus.specs.Texts.{hex, all_bytes}
 use Rattle.calculus.specs.Answer.{Answer, good, refuse}
