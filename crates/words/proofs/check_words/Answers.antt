@@ -1,0 +1,26 @@
+-- `words::check_words` meets its contract. The invariant: the words from here on decide. The measure is the bytes left. Assumes nothing.
+use Prim.Native.Nat.{◌-◌}
+use native.Mathlib.Omega.{arith}
+use lib.ListN.{length}
+use Rattle.words.proofs.LexLaws.{Pending, pending_first, went, passed_bad, passed_good}
+use Rattle.words.proofs.check_words.Goals as goal
+
+pub loop-at-init : goal.loop-at-init
+loop-at-init c = pending_first c.args.text.now
+
+pub next-w-requires : goal.next-w-requires
+next-w-requires c = c.loop-at.invariant.within
+
+pub returns-then-w-gt-POWER : goal.returns-then-w-gt-POWER
+returns-then-w-gt-POWER c = passed_bad c.args.text.now c.loop-at.at c.loop-at.invariant c.next-w.result.kind c.next-w.result.start c.if-w-gt-POWER.true ((went c.args.text.now c.loop-at.at c.loop-at.invariant c.loop-at-test.true _ c.next-w.ensures).bad c.if-w-gt-POWER.true)
+
+pub loop-at-smaller : goal.loop-at-smaller
+loop-at-smaller c =
+    let step = went c.args.text.now c.loop-at.at c.loop-at.invariant c.loop-at-test.true _ c.next-w.ensures in
+    omega (arith, step.past c.if-w-gt-POWER.false, (step.on c.if-w-gt-POWER.false).within)
+
+pub loop-at-preserved : goal.loop-at-preserved
+loop-at-preserved c = (went c.args.text.now c.loop-at.at c.loop-at.invariant c.loop-at-test.true _ c.next-w.ensures).on c.if-w-gt-POWER.false
+
+pub returns : goal.returns
+returns c = passed_good c.args.text.now c.loop-at.at 0 c.loop-at.invariant c.loop-at-test.false

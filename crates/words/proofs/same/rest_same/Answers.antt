@@ -1,0 +1,20 @@
+-- `words::rest_same` meets its contract: the first four bytes of both, then the others. Assumes nothing.
+use mathlib.Core.Path.{sym, ◌∙◌}
+use native.Mathlib.Omega.{arith}
+use borrow.Author.Rules.{rules}
+use Rattle.words.proofs.NameLaws.{stretch-differ, stretch_on}
+use Rattle.words.proofs.same.rest_same.Goals as goal
+
+pub returns-then-key4 : goal.returns-then-key4
+returns-then-key4 c =
+    let t = c.shared_slice_known-1 in
+    let i = c.key4 in
+    let j = c.key4-2 in
+    stretch-differ c.args.text.now c.args.a c.args.b c.args.n 4 c.requires.0 c.if-n-lt4.false (λ n. omega (arith, t.given n)) i.result j.result i.ensures.0 j.ensures.0 c.if-key4.true
+
+pub returns : goal.returns
+returns c =
+    let t = c.shared_slice_known-1 in
+    let i = c.key4 in
+    let j = c.key4-2 in
+    c.few_same-2.ensures ∙ sym (stretch_on c.args.text.now c.args.a c.args.b c.args.n 4 c.requires.0 c.if-n-lt4.false (λ n. omega (arith, t.given n)) i.result j.result i.ensures.0 j.ensures.0 c.if-key4.false)
