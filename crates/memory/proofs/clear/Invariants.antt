@@ -1,0 +1,17 @@
+-- The invariant: the numbers before i are 0, and the others as they were.
+use borrow.Author.Rules.{rules}
+use Rattle.memory.proofs.Zeroed.{zeroed-none, zeroed-more}
+use native.Mathlib.Omega.{arith}
+use mathlib.Core.Path.{◌≡◌, refl, ◌∙◌, ap}
+use mathlib.Core.List.{List}
+use Prim.Native.Nat.{ℕ, ◌≤◌, ◌-◌}
+use lib.ListN.{length, set, length-set}
+use Rattle.calculus.specs.Translate.{zeroed}
+use Rattle.memory.specs.Map.{memory_size}
+use Rattle.memory.proofs.clear.Given as goal
+
+abbrev pub invariant-loop-i : goal.invariant-loop-i
+invariant-loop-i l = (l.i ≤ memory_size) × ((length l.work ≡ length l.initial.work) × (l.work ≡ zeroed l.i l.initial.work))
+
+abbrev pub decreases-loop-i : goal.decreases-loop-i
+decreases-loop-i l = memory_size - l.i
