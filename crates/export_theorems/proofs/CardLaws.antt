@@ -1,7 +1,7 @@
 -- A netlist is refused by the card's profile exactly when one of its three rules is broken, and the places are the lowest. Assumes nothing.
 use Prim.Native.Nat.{ℕ, ◌+◌, ◌≤◌}
 use mathlib.Core.Path.{◌≡◌, refl, sym, ap, ◌∙◌, subst}
-use mathlib.Core.Logic.{◌⊎◌, inl, inr, ⊎_elim, ◌↔◌}
+use mathlib.Core.Logic.{inl, inr, ⊎_elim, ◌↔◌}
 use mathlib.Core.Bool.{Bool, true, false, ◌||◌}
 use mathlib.Core.List.{List, [], ◌∷◌}
 use native.Mathlib.Nat.{le_refl}
@@ -28,6 +28,7 @@ pub record FirstFail {A : Type 0} (ok : A → Bool) (place : A → ℕ) (xs : Li
 
 module _ {A : Type 0} (ok : A → Bool) (n : ℕ) (place : A → ℕ) where
   pub all_good : (xs : List A) → need_all ok n place xs ≡ good tt → (x : A) → Among x xs → T (ok x)
+  all_good [] e x x4 = elim x4 [ ]
   all_good (y ∷ xs) e x here = go (ok x) e
     where
       go : (b : Bool) → (need b n (place x) >>= λ _. need_all ok n place xs) ≡ good tt → T b
@@ -53,6 +54,7 @@ module _ {A : Type 0} (ok : A → Bool) (n : ℕ) (place : A → ℕ) where
   Rises (x ∷ xs) k = (k ≤ place x) × Rises xs (place x)
 
   rises-low : {x : A} (xs : List A) (k : ℕ) → Rises xs k → Among x xs → k ≤ place x
+  rises-low {x = x} [] k r x3 = elim x3 [ ]
   rises-low (y ∷ xs) k r here = r.0
   rises-low {x} (y ∷ xs) k r (there h) = let l = rises-low {x = x} xs (place y) r.1 h in omega (arith, r.0)
 
@@ -114,6 +116,7 @@ drives_in [] o t = absurd t
 drives_in (w ∷ ws) o t = or_elim (eqb w.from o) (drives ws o) t (λ u. (w, here, eqb→eq w.from o u)) (λ u. let r = drives_in ws o u in (r.0, there r.1, r.2))
 
 in_drives : (ws : List Wire) (w : Wire) → Among w ws → T (drives ws w.from)
+in_drives [] w x' = elim x' [ ]
 in_drives (v ∷ ws) w here = or_left (eqb w.from w.from) (drives ws w.from) (eqb_refl w.from)
 in_drives (v ∷ ws) w (there h) = or_right (eqb v.from w.from) (drives ws w.from) (in_drives ws w h)
 
@@ -123,6 +126,7 @@ pin_in (inp i ∷ ps) o t = there (pin_in ps o t)
 pin_in (out x ∷ ps) o t = or_elim (eqb x o) (is_out_pin ps o) t (λ u. subst (λ (z : ℕ). Among (out o) (out z ∷ ps)) (sym (eqb→eq x o u)) here) (λ u. there (pin_in ps o u))
 
 in_pin : (ps : Interface) (o : ℕ) → Among (out o) ps → T (is_out_pin ps o)
+in_pin [] o x' = elim x' [ ]
 in_pin (out x ∷ ps) o here = or_left (eqb o o) (is_out_pin ps o) (eqb_refl o)
 in_pin (inp i ∷ ps) o (there h) = in_pin ps o h
 in_pin (out x ∷ ps) o (there h) = or_right (eqb x o) (is_out_pin ps o) (in_pin ps o h)

@@ -12,7 +12,7 @@ use Rattle.laws.proofs.Tests.{T-is, and_both, not_true, is_false}
 use Rattle.laws.proofs.Below.{all, below}
 use Rattle.calculus.specs.Record.{All}
 use Rattle.export_calculus.specs.Verilog.{four_digits, is_mark, pick, letter, filled, Line, line_text, lines_text}
-use Rattle.export_calculus.specs.VerilogRead.{is_digit_lem, number_here, char_here, with_number, scan, Taken, first_fit, more, block}
+use Rattle.export_calculus.specs.VerilogRead.{is_digit_lem, number_here, char_here, with_number, scan, Taken, first_fit, block}
 
 -- ---- numbers
 

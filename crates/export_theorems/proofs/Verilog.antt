@@ -91,6 +91,7 @@ module _ (s : List ℕ) (m : Net) (e : full s ≡ good m) where
   ring_low i r = let h : i + 2 < 10000 = among (lean m).elements lean-four.elements r.kept in omega arith
     where
       among : (es : List Element) → All ElementFour es → Among (point i) es → i + 2 < 10000
+      among [] a x'' = elim x'' [ ]
       among (x ∷ es) a here = a.0
       among (x ∷ es) a (there k) = among es a.1 k
 

@@ -1,16 +1,16 @@
 -- Sixteen traces at once, by what calls leave: each lane is a call of `run`, and a call goes on where the last one ended. Assumes nothing.
-use Prim.Native.Nat.{ℕ, zero, suc, ◌+◌, ◌≤◌, ◌<◌}
-use mathlib.Core.Path.{◌≡◌, refl, sym, ap, ap₂, ◌∙◌, subst}
+use Prim.Native.Nat.{ℕ, zero, suc, ◌+◌, ◌<◌}
+use mathlib.Core.Path.{◌≡◌, refl, sym, ap, ap₂, ◌∙◌}
 use mathlib.Core.List.{List, [], ◌∷◌, ◌++◌}
 use native.Mathlib.Omega.{arith}
 use lib.ListN.{length, drop, take, length-append}
 use lib.Seq.{take-append_seam}
 use Rattle.calculus.specs.Answer.{Answer, good, refused}
-use Rattle.calculus.specs.Translate.{said_of, out_of, work_of, Call}
+use Rattle.calculus.specs.Translate.{said_of, out_of}
 use Rattle.calculus.proofs.Answers.{refused≢good, good-inj}
 use Rattle.trace_calculus.specs.Trace.{trace, run_call}
-use Rattle.trace_calculus.specs.Lanes.{lane_bit, lane, LanesEnd, lanes_trace, outs, state_of, LanesCall, lanes_call}
-use Rattle.trace_calculus.specs.LanesPromise.{lane_out, LanesAreRuns, JoinedCall, LanesCallsJoin}
+use Rattle.trace_calculus.specs.Lanes.{lane, LanesEnd, lanes_trace, outs, state_of, LanesCall, lanes_call}
+use Rattle.trace_calculus.specs.LanesPromise.{lane_out, LanesAreRuns, LanesCallsJoin}
 use Rattle.trace_calculus.proofs.LaneBits.{lane-length, lane-append}
 use Rattle.trace_theorems.proofs.LaneRuns.{lanes_exact}
 use Rattle.trace_theorems.proofs.LaneJoin.{lanes_join}

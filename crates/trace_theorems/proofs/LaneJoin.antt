@@ -9,17 +9,16 @@ use lib.Dec.{T, eqb, leb}
 use lib.ListN.{length, get_or, length-append, get_or-append}
 use lib.Seq.{get_or-append-add}
 use borrow.Author.Tests.{eq-eqb, le-leb}
-use Rattle.calculus.specs.Answer.{Answer, good, ◌>>=◌, need}
+use Rattle.calculus.specs.Answer.{good}
 use Rattle.calculus.specs.Net.{Interface, inp, out, Element, part, Net}
 use Rattle.calculus.specs.Lean.{is_pin, lean}
 use Rattle.calculus.specs.Record.{Bits, All, Among, here, there}
-use Rattle.calculus.specs.Translate.{full}
 use Rattle.calculus.proofs.Answers.{good-inj}
 use Rattle.circuit_theorems.specs.Terminals.{has}
 use Rattle.circuit_theorems.specs.Formed.{Shown, Formed}
 use Rattle.circuit_theorems.proofs.Main.{formed-lean}
-use Rattle.trace_calculus.specs.Trace.{OnRing, Source, source, bit, gate, none_on_ring, inputs, run, terminals, in_pins, out_pins, registers, place, given_bits, start_bits, bit_byte_lem, row}
-use Rattle.trace_calculus.specs.Lanes.{lane, word, lane_run, lane_row, lane_rows, lane_held, LanesEnd, went, lanes_ran, lanes_trace}
+use Rattle.trace_calculus.specs.Trace.{OnRing, Source, source, bit, gate, run, terminals, in_pins, out_pins, registers, place, given_bits, start_bits}
+use Rattle.trace_calculus.specs.Lanes.{lane, lane_run, lane_row, lane_rows, lane_held, LanesEnd, went, lanes_ran, lanes_trace}
 use Rattle.trace_calculus.specs.LanesPromise.{LanesJoin}
 use Rattle.trace_calculus.proofs.Bytes.{byte-bit}
 use Rattle.trace_calculus.proofs.LaneBits.{word_same, lane-length, lane-append}
@@ -28,7 +27,7 @@ use Rattle.trace_theorems.proofs.Sources.{Decided, is-pin, is-wire, is-point, is
 use Rattle.trace_theorems.proofs.TraceRings.{accepted}
 use Rattle.trace_theorems.proofs.TraceRun.{held_at, solved, tick_is}
 use Rattle.trace_theorems.proofs.Lending.{row_at, pin_has, in_registers, registers_in}
-use Rattle.trace_theorems.proofs.LaneRuns.{lane-row, RanWell, ran_well, TracedWell, traced_well}
+use Rattle.trace_theorems.proofs.LaneRuns.{lane-row, ran_well, traced_well}
 
 -- ---- the same bits from tick n on, where the pins are given them and the registers hold them
 

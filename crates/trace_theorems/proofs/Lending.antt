@@ -78,7 +78,7 @@ registers_in (part p j ∷ es) i t = by (eqb p 1) refl t (registers_in es i)
     by true q t f = or_elim (eqb j i) (has (registers es) i) t (λ v. subst (λ (a : ℕ). Among (part 1 i) (part a j ∷ es)) (sym (eqb→eq p 1 (subst T (sym q) tt))) (subst (λ (a : ℕ). Among (part 1 i) (part 1 a ∷ es)) (sym (eqb→eq j i v)) here)) (λ v. there (f v))
     by false q t f = there (f t)
 
-pub in_registers : {es : List Element} (i : ℕ) → Among (part 1 i) es → T (has (registers es) i)
+pub in_registers : (i : ℕ) {es : List Element} → Among (part 1 i) es → T (has (registers es) i)
 in_registers i (here {xs = es}) = or_left (eqb i i) (has (registers es) i) (eqb_refl i)
 in_registers i (there {y = point j} h) = in_registers i h
 in_registers i (there {y = part p j} {xs = es} h) = by (eqb p 1) (in_registers i h)

@@ -18,7 +18,7 @@ pub has_in : (xs : List ℕ) (x : ℕ) → T (has xs x) → Among x xs
 has_in [] x t = absurd t
 has_in (y ∷ xs) x t = or_elim (eqb y x) (has xs x) t (λ u. subst (λ (z : ℕ). Among x (z ∷ xs)) (sym (eqb→eq y x u)) here) (λ u. there (has_in xs x u))
 
-pub in_has : {xs : List ℕ} {x : ℕ} → Among x xs → T (has xs x)
+pub in_has : {x : ℕ} {xs : List ℕ} → Among x xs → T (has xs x)
 in_has {x = x} (here {xs = xs}) = or_left (eqb x x) (has xs x) (eqb_refl x)
 in_has {x = x} (there {y = y} {xs = xs} h) = or_right (eqb y x) (has xs x) (in_has h)
 

@@ -40,7 +40,7 @@ above (point i) es n e r = let q : i + 2 ≡ i + 1 + 1 = omega arith in subst (�
 above (part p i) es n e r = r.1
 
 -- two elements that share a terminal are one
-pub same_owner : {es : List Element} {a b : Element} (n e x : ℕ) → Rising es n e → Among a es → Among b es → start a ≤ x → x ≤ last a → start b ≤ x → x ≤ last b → a ≡ b
+pub same_owner : {a b : Element} {es : List Element} (n e x : ℕ) → Rising es n e → Among a es → Among b es → start a ≤ x → x ≤ last a → start b ≤ x → x ≤ last b → a ≡ b
 same_owner n e x r here here _ _ _ _ = refl
 same_owner {a = a} n e x r (here {xs = es}) (there h) l k l' k' = absurd (let z = low (last a + 1) e h (above a es n e r) in omega arith)
 same_owner {b = b} n e x r (there h) (here {xs = es}) l k l' k' = absurd (let z = low (last b + 1) e h (above b es n e r) in omega arith)
@@ -79,7 +79,7 @@ in_keep m {a} (there {y = b} {xs = es} h) t = by (kept m b) (in_keep m h t)
     by true h = there h
     by false h = h
 
-pub point_in_lem : {es : List Element} {i : ℕ} → Among (point i) es → T (point_in es i)
+pub point_in_lem : {i : ℕ} {es : List Element} → Among (point i) es → T (point_in es i)
 point_in_lem {i = i} (here {xs = es}) = or_left (eqb i i) (point_in es i) (eqb_refl i)
 point_in_lem {i = i} (there {y = point j} {xs = es} h) = or_right (eqb j i) (point_in es i) (point_in_lem h)
 point_in_lem {i = i} (there {y = part p j} {xs = es} h) = point_in_lem h

@@ -1,6 +1,6 @@
 -- What decides a terminal of a formed netlist, full or lean.
 -- Assumes nothing.
-use Prim.Native.Nat.{ℕ, zero, suc, ◌+◌, ◌-◌, ◌<◌, ◌≤◌}
+use Prim.Native.Nat.{ℕ, zero, suc, ◌+◌, ◌<◌, ◌≤◌}
 use mathlib.Core.Path.{◌≡◌, refl, sym, ap, ◌∙◌, subst}
 use mathlib.Core.Logic.{◌⊎◌, inl, inr, ⊎_elim}
 use mathlib.Core.Bool.{Bool, true, false, cond, ◌||◌}
@@ -13,7 +13,7 @@ use Rattle.calculus.specs.Terms.{part_at}
 use Rattle.calculus.specs.Net.{Element, point, part, Wire, Net, part_side}
 use Rattle.calculus.specs.Lean.{driver, is_pin}
 use Rattle.calculus.specs.Record.{All, Among, here, there}
-use Rattle.trace_calculus.specs.Trace.{Source, pin, from, made_part as made_by, source_among, source, looks, before, up_from, terminals, inputs}
+use Rattle.trace_calculus.specs.Trace.{Source, pin, from, made_part as made_by, source_among, source, looks, before, up_from, terminals}
 use Rattle.calculus.specs.Inputs.{ins, made_at_lem, targets, is_out, has_wire}
 use Rattle.circuit_theorems.specs.Terminals.{has}
 use Rattle.circuit_theorems.specs.Formed.{Rising, Formed}
@@ -55,25 +55,25 @@ view (part p i ∷ es) d x =
     (λ e _. of_part p i here e)
     (λ n q. behind (part p i) (λ t. subst (λ (b : Bool). T (b || is_out es x)) (sym q) t) (view es d x)) refl
 
-pub point_low : {es : List Element} {i : ℕ} (n e : ℕ) → Among (point i) es → Rising es n e → n ≤ i
+pub point_low : {i : ℕ} {es : List Element} (n e : ℕ) → Among (point i) es → Rising es n e → n ≤ i
 point_low n e here r = r.0
 point_low {es} n e (there {y = point j} h) r = let l = point_low (j + 2) e h r.1 in omega (arith, r.0)
 point_low {es} n e (there {y = part p j} h) r = let l = point_low (j + (part_at p).inputs + 1) e h r.1 in omega (arith, r.0)
 
-pub part-from : {es : List Element} {p i : ℕ} (n e : ℕ) → Among (part p i) es → Rising es n e → n ≤ i
+pub part-from : {p i : ℕ} {es : List Element} (n e : ℕ) → Among (part p i) es → Rising es n e → n ≤ i
 part-from n e here r = r.0
 part-from {es} n e (there {y = point j} h) r = let l = part-from (j + 2) e h r.1 in omega (arith, r.0)
 part-from {es} n e (there {y = part p j} h) r = let l = part-from (j + (part_at p).inputs + 1) e h r.1 in omega (arith, r.0)
 
 -- in a rising list each output is found at its own element
-pub point_source : {es : List Element} {i : ℕ} (n e : ℕ) (d : Source) → Among (point i) es → Rising es n e → source_among es d (i + 1) ≡ from i
+pub point_source : {i : ℕ} {es : List Element} (n e : ℕ) (d : Source) → Among (point i) es → Rising es n e → source_among es d (i + 1) ≡ from i
 point_source {i = i} n e d (here {xs = es}) r = by_eqb (λ b. cond b (from i) (source_among es d (i + 1)) ≡ from i) (i + 1) (i + 1) (λ e. refl) (λ f. absurd (f refl))
 point_source {i = i} n e d (there {y = point j} {xs = es} h) r =
     by_eqb (λ b. cond b (from j) (source_among es d (i + 1)) ≡ from i) (j + 1) (i + 1) (λ f. absurd (let l = point_low (j + 2) e h r.1 in omega arith)) (λ f. point_source (j + 2) e d h r.1)
 point_source {i = i} n e d (there {y = part p j} {xs = es} h) r =
     by_eqb (λ b. cond b (made_by p j) (source_among es d (i + 1)) ≡ from i) (j + (part_at p).inputs) (i + 1) (λ f. absurd (let l = point_low (j + (part_at p).inputs + 1) e h r.1 in omega arith)) (λ f. point_source (j + (part_at p).inputs + 1) e d h r.1)
 
-pub part-source : {es : List Element} {p i : ℕ} (n e : ℕ) (d : Source) → Among (part p i) es → Rising es n e → source_among es d (i + (part_at p).inputs) ≡ made_by p i
+pub part-source : {p i : ℕ} {es : List Element} (n e : ℕ) (d : Source) → Among (part p i) es → Rising es n e → source_among es d (i + (part_at p).inputs) ≡ made_by p i
 part-source {p = p} {i = i} n e d (here {xs = es}) r = by_eqb (λ b. cond b (made_by p i) (source_among es d (i + (part_at p).inputs)) ≡ made_by p i) (i + (part_at p).inputs) (i + (part_at p).inputs) (λ e. refl) (λ f. absurd (f refl))
 part-source {p = p} {i = i} n e d (there {y = point j} {xs = es} h) r =
     by_eqb (λ b. cond b (from j) (source_among es d (i + (part_at p).inputs)) ≡ made_by p i) (j + 1) (i + (part_at p).inputs) (λ f. absurd (let l = part-from (j + 2) e h r.1 in omega arith)) (λ f. part-source (j + 2) e d h r.1)
@@ -126,22 +126,22 @@ pub has_up : (k i x : ℕ) → T (has (up_from k i) x) → (i ≤ x) × (x < i +
 has_up zero i x t = absurd t
 has_up (suc k) i x t = or_elim (eqb i x) (has (up_from k (i + 1)) x) t (λ u. let e = eqb→eq i x u in (omega arith, omega arith)) (λ u. let r = has_up k (i + 1) x u in (omega arith, omega arith))
 
-pub out_of_point : {es : List Element} {i : ℕ} → Among (point i) es → T (is_out es (i + 1))
+pub out_of_point : {i : ℕ} {es : List Element} → Among (point i) es → T (is_out es (i + 1))
 out_of_point {i = i} (here {xs = es}) = or_left (eqb (i + 1) (i + 1)) (is_out es (i + 1)) (eqb_refl (i + 1))
 out_of_point {i = i} (there {y = point j} {xs = es} h) = or_right (eqb (j + 1) (i + 1)) (is_out es (i + 1)) (out_of_point h)
 out_of_point {i = i} (there {y = part p j} {xs = es} h) = or_right (eqb (j + (part_at p).inputs) (i + 1)) (is_out es (i + 1)) (out_of_point h)
 
-pub out_of-part : {es : List Element} {p i : ℕ} → Among (part p i) es → T (is_out es (i + (part_at p).inputs))
+pub out_of-part : {p i : ℕ} {es : List Element} → Among (part p i) es → T (is_out es (i + (part_at p).inputs))
 out_of-part {p = p} {i = i} (here {xs = es}) = or_left (eqb (i + (part_at p).inputs) (i + (part_at p).inputs)) (is_out es (i + (part_at p).inputs)) (eqb_refl (i + (part_at p).inputs))
 out_of-part {p = p} {i = i} (there {y = point j} {xs = es} h) = or_right (eqb (j + 1) (i + (part_at p).inputs)) (is_out es (i + (part_at p).inputs)) (out_of-part h)
 out_of-part {p = p} {i = i} (there {y = part q j} {xs = es} h) = or_right (eqb (j + (part_at q).inputs) (i + (part_at p).inputs)) (is_out es (i + (part_at p).inputs)) (out_of-part h)
 
-pub point_terminal : {es : List Element} {i : ℕ} → Among (point i) es → T (has (terminals es) i)
+pub point_terminal : {i : ℕ} {es : List Element} → Among (point i) es → T (has (terminals es) i)
 point_terminal {i = i} (here {xs = es}) = has_left (up_from 2 i) (terminals es) i (up_has 2 i i (le_refl i) (omega arith))
 point_terminal {i = i} (there {y = point j} {xs = es} h) = has_right (up_from 2 j) (terminals es) i (point_terminal h)
 point_terminal {i = i} (there {y = part p j} {xs = es} h) = has_right (up_from (suc (part_at p).inputs) j) (terminals es) i (point_terminal h)
 
-pub part_terminal : {es : List Element} {p i : ℕ} (x : ℕ) → Among (part p i) es → i ≤ x → x ≤ i + (part_at p).inputs → T (has (terminals es) x)
+pub part_terminal : {p i : ℕ} {es : List Element} (x : ℕ) → Among (part p i) es → i ≤ x → x ≤ i + (part_at p).inputs → T (has (terminals es) x)
 part_terminal {p = p} {i = i} x (here {xs = es}) l h = has_left (up_from (suc (part_at p).inputs) i) (terminals es) x (up_has (suc (part_at p).inputs) i x l (omega arith))
 part_terminal x (there {y = point j} {xs = es} k) l h = has_right (up_from 2 j) (terminals es) x (part_terminal x k l h)
 part_terminal x (there {y = part q j} {xs = es} k) l h = has_right (up_from (suc (part_at q).inputs) j) (terminals es) x (part_terminal x k l h)

@@ -1,5 +1,5 @@
 -- Refusal 19: a formed netlist is refused exactly when some terminal is on a ring without a register, at the lowest input terminal on any. Assumes nothing.
-use Prim.Native.Nat.{ℕ, zero, suc, ◌+◌, ◌-◌, ◌<◌, ◌≤◌}
+use Prim.Native.Nat.{ℕ, zero, suc, ◌+◌, ◌<◌, ◌≤◌}
 use mathlib.Core.Path.{◌≡◌, refl, sym, ap, ◌∙◌, subst}
 use mathlib.Core.Logic.{◌⊎◌, inl, inr, ⊎_elim, ◌↔◌}
 use mathlib.Core.Bool.{Bool, true, false, cond, not, ◌||◌}
@@ -13,7 +13,7 @@ use Rattle.calculus.proofs.Answers.{refused≢good, refused-inj}
 use Rattle.calculus.specs.Terms.{part_at}
 use Rattle.calculus.specs.Net.{part_side, Element, point, part, Net}
 use Rattle.calculus.specs.Record.{Among, here, there}
-use Rattle.trace_calculus.specs.Trace.{Feeds, by_wire, by_point, by_gate, Leads, one_step, then, OnRing, Source, from, looks, before, up_from, terminals, inputs, rounds, on_ring, none_on_ring}
+use Rattle.trace_calculus.specs.Trace.{Feeds, by_wire, by_point, by_gate, Leads, one_step, then, OnRing, Source, looks, before, up_from, terminals, inputs, rounds, on_ring, none_on_ring}
 use Rattle.calculus.specs.Inputs.{ins, made_at_lem, targets}
 use Rattle.circuit_theorems.specs.Terminals.{has}
 use Rattle.circuit_theorems.specs.Formed.{Rising, Formed}
@@ -77,12 +77,12 @@ module _ (m : Net) (ok : Formed m) where
 
   -- ---- every ring passes through an input terminal
 
-  input-has : {es : List Element} {i : ℕ} → Among (point i) es → T (has (inputs es) i)
+  input-has : {i : ℕ} {es : List Element} → Among (point i) es → T (has (inputs es) i)
   input-has {i = i} (here {xs = es}) = or_left (eqb i i) (has (inputs es) i) (eqb_refl i)
   input-has {i = i} (there {y = point j} {xs = es} h) = or_right (eqb j i) (has (inputs es) i) (input-has h)
   input-has {i = i} (there {y = part p j} {xs = es} h) = has_right (up_from (part_at p).inputs j) (inputs es) i (input-has h)
 
-  part-has : {es : List Element} {p i : ℕ} (x : ℕ) → Among (part p i) es → i ≤ x → x < i + (part_at p).inputs → T (has (inputs es) x)
+  part-has : {p i : ℕ} {es : List Element} (x : ℕ) → Among (part p i) es → i ≤ x → x < i + (part_at p).inputs → T (has (inputs es) x)
   part-has {p = p} {i = i} x (here {xs = es}) l k = has_left (up_from (part_at p).inputs i) (inputs es) x (up_has (part_at p).inputs i x l k)
   part-has x (there {y = point j} {xs = es} h) l k = or_right (eqb j x) (has (inputs es) x) (part-has x h l k)
   part-has x (there {y = part q j} {xs = es} h) l k = has_right (up_from (part_at q).inputs j) (inputs es) x (part-has x h l k)

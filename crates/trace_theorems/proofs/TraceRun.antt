@@ -1,5 +1,5 @@
 -- The run of a formed netlist without rings is a possible record with the bits and starts given, and the only one. Assumes nothing.
-use Prim.Native.Nat.{ℕ, zero, suc, ◌+◌, ◌-◌, ◌<◌}
+use Prim.Native.Nat.{ℕ, zero, suc, ◌+◌, ◌<◌}
 use mathlib.Core.Path.{◌≡◌, refl, sym, ap, ap₂, ◌∙◌, subst}
 use mathlib.Core.Bool.{Bool, not, ◌&&◌, ◌||◌, xor}
 use mathlib.Core.List.{List, [], ◌∷◌}
