@@ -7,7 +7,7 @@ use native.Mathlib.Omega.{arith}
 use lib.Dec.{T, eqb}
 use lib.ListN.{length}
 use borrow.Author.Tests.{eq-eqb, ne_eqb}
-use Rattle.calculus.specs.Answer.{Answer, good, refused, ◌>>=◌, refuse, need}
+use Rattle.calculus.specs.Answer.{Answer, good, ◌>>=◌, refuse, need}
 use Rattle.notation_calculus.specs.Words.{Sign, sign_code, ends, fun, fix, lets, within, type, edition, table, arrow, linear, times, round, endRound, equals, comma, colon, dot, square, endSquare, curly, endCurly, plus, power, Token, sign, part, number, name, Word, between}
 use Rattle.notation_calculus.specs.Grammar.{peek, behind, place, is_token, is, expect, is_name, is_part}
 use Rattle.words.specs.Tables.{token_code}

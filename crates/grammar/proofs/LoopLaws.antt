@@ -15,7 +15,7 @@ use Rattle.words.specs.Lexed.{from, Stands}
 use Rattle.grammar.specs.declared.steps.End.{End}
 use Rattle.grammar.specs.Ends.{Ends}
 use Rattle.grammar.specs.Skips.{Step, list_more, list_end, group_end}
-use Rattle.grammar.proofs.EndLaws.{is_yes, is_no}
+use Rattle.grammar.proofs.EndLaws.{is_yes}
 
 pub both_steps : (m : Answer (List Word)) (f g : Step) → ((m >>= f) >>= g) ≡ (m >>= λ us. f us >>= g)
 both_steps (good ws) f g = refl

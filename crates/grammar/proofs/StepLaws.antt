@@ -6,7 +6,7 @@ use mathlib.Core.List.{List}
 use native.Mathlib.Omega.{arith}
 use lib.ListN.{length}
 use borrow.Author.Tests.{eq-eqb, ne_eqb}
-use Rattle.calculus.specs.Answer.{Answer, good, refused, ◌>>=◌, refuse, need}
+use Rattle.calculus.specs.Answer.{Answer, good, ◌>>=◌, refuse, need}
 use Rattle.notation_calculus.specs.Words.{plus, power, Token, sign, part, number, name, Word}
 use Rattle.notation_calculus.specs.Grammar.{peek, behind, place, is}
 use Rattle.words.specs.Tables.{token_code}
@@ -15,7 +15,7 @@ use Rattle.words.specs.Lexed.{from, Onward, Stands}
 use Rattle.grammar.specs.declared.steps.End.{End}
 use Rattle.grammar.specs.Ends.{Ends}
 use Rattle.grammar.specs.Skips.{expect_code, name_end, is_number, plus_end, number_by_lem, number_end, ones_end}
-use Rattle.grammar.proofs.EndLaws.{sign_not, name_yes, name_no, number_yes, number_no, is_yes, is_no, ends-word, ends-due, ends_as}
+use Rattle.grammar.proofs.EndLaws.{sign_not, name_yes, name_no, number_yes, number_no, is_yes, ends-word, ends-due, ends_as}
 
 -- what `refused(32, w.start)` gives
 abbrev pub DueAt : End → Said → Type 0

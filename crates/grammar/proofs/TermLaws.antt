@@ -7,7 +7,7 @@ use native.Mathlib.Omega.{arith}
 use lib.ListN.{length}
 use borrow.Author.Tests.{eq-eqb, ne_eqb}
 use Rattle.calculus.specs.Answer.{Answer, good, ◌>>=◌, refuse, need}
-use Rattle.notation_calculus.specs.Words.{Sign, sign_code, fun, fix, lets, within, endRound, Token, sign, part, number, name, Word}
+use Rattle.notation_calculus.specs.Words.{Sign, sign_code, fun, fix, lets, endRound, Token, sign, part, number, name, Word}
 use Rattle.notation_calculus.specs.Grammar.{peek, behind, place, is, expect}
 use Rattle.words.specs.Tables.{token_code}
 use Rattle.words.specs.Next.{Said}

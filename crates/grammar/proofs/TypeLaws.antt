@@ -1,5 +1,5 @@
 -- Types by the code of the first word, and one level of a type step by step. Assumes nothing.
-use Prim.Native.Nat.{ℕ, suc, ◌+◌, ◌-◌, ◌<◌}
+use Prim.Native.Nat.{ℕ, suc, ◌+◌, ◌-◌}
 use mathlib.Core.Path.{◌≡◌, refl, sym, ap, ◌∙◌}
 use mathlib.Core.Bool.{Bool, true, false, cond}
 use mathlib.Core.List.{List}
@@ -16,7 +16,7 @@ use Rattle.words.specs.Lexed.{from, Onward, Stands}
 use Rattle.grammar.specs.declared.steps.End.{End}
 use Rattle.grammar.specs.Ends.{Ends, type_step}
 use Rattle.grammar.specs.Skips.{Step, expect_code, group_end, number_end, ones_end, numbers_end, use_end, inside_end, type_atom_by, type_atom_end, product_end, arrow_end, times_end}
-use Rattle.grammar.proofs.EndLaws.{sign_not, is_yes, is_no, ends-word, ends_bad, ends-due, ends_as, ends-stop, ends_then, ends-expect, step_is}
+use Rattle.grammar.proofs.EndLaws.{sign_not, is_yes, is_no, ends_bad, ends-due, ends_as, ends-stop, ends_then, ends-expect, step_is}
 use Rattle.grammar.proofs.StepLaws.{DueAt, code_is, code_not}
 use Rattle.grammar.proofs.LoopLaws.{group_none}
 use Rattle.grammar.proofs.SkipLaws.{type_by, type_none}

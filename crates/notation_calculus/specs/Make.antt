@@ -6,9 +6,9 @@ use Rattle.calculus.specs.Read.{Sheet}
 use Rattle.calculus.specs.Write.{sheet_bytes}
 use Rattle.calculus.specs.Translate.{work_of}
 use Rattle.notation_calculus.specs.Words.{Name, ascii, words}
-use Rattle.notation_calculus.specs.Trees.{TypeTree, no_types, Body, of_type, of_term, Clause, Line, Text}
+use Rattle.notation_calculus.specs.Trees.{no_types, Body, of_type, of_term, Clause, Line, Text}
 use Rattle.notation_calculus.specs.Grammar.{most_nested, namesake, text_of}
-use Rattle.notation_calculus.specs.Making.{State, Found, Scope, parameters, cost_of, one_put, put_in, type_of, Made, body_term, term_of}
+use Rattle.notation_calculus.specs.Making.{State, Scope, parameters, cost_of, one_put, put_in, type_of, Made, body_term, term_of}
 
 -- the table begins with **1**
 abbrev pub start : State

@@ -1,6 +1,6 @@
 -- The term of a text: definitions put in where they are named, types of results worked out; refusals 33, 34 and 35. Assumes nothing.
 -- Types are not judged: a term whose types do not fit is made, and **1** taken where a rule gives no type. Type 0 is **1**.
-use Rattle.std.specs.Prelude.{ℕ, zero, suc, ◌+◌, ◌-◌, ◌/◌, Bool, true, false, not, ◌&&◌, ◌||◌, cond, List, [], ◌∷◌, ◌++◌, eqb, leb, ltb, length, get_or, take}
+use Rattle.std.specs.Prelude.{ℕ, zero, suc, ◌+◌, ◌-◌, ◌/◌, Bool, true, false, ◌&&◌, cond, List, [], ◌∷◌, ◌++◌, eqb, leb, ltb, length, take}
 use Rattle.calculus.specs.Answer.{Answer, good, ◌>>=◌, refuse, need}
 use Rattle.calculus.specs.Types.{size, TyRec, rec01, rec02, rec03, rec04, rec_eq, Table, rec_at, ty_of, tys_from}
 use Rattle.calculus.specs.Read.{formed, repeated}

@@ -1,7 +1,7 @@
 -- Texts with known results: their sheets' bytes, or the refusal. Assumes nothing.
 use Rattle.std.specs.Prelude.{ℕ, List, [], ◌∷◌}
 use Prim.Native.String.{String}
-use Rattle.calculus.specs.Answer.{Answer, good, refused, refuse, ◌>>=◌}
+use Rattle.calculus.specs.Answer.{Answer, good, refuse, ◌>>=◌}
 use Rattle.notation_calculus.specs.Words.{ascii}
 use Rattle.notation_calculus.specs.Make.{make, bytes_of, Written, make_answer}
 

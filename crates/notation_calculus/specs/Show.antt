@@ -1,7 +1,7 @@
 -- A text for every sheet: each type has a line and a name, `table` gives their order, each binder is named by the number of binders
 -- around it, and every subterm of an application stands in parentheses. For the theorem that `make` gives the sheet back; the desk's
 -- `show` writes for people. Assumes nothing.
-use Rattle.std.specs.Prelude.{ℕ, suc, ◌+◌, ◌-◌, List, [], ◌∷◌, ◌++◌, get_or}
+use Rattle.std.specs.Prelude.{ℕ, suc, ◌-◌, List, [], ◌∷◌, ◌++◌, get_or}
 use Prim.Native.String.{String}
 use Rattle.calculus.specs.Types.{TyRec, rec01, rec02, rec03, rec04, Table, rec_at}
 use Rattle.calculus.specs.Terms.{Edition, first, second, Term, var, lvar, fun, app, lfun, lapp, pair, proj, fix, con, name}

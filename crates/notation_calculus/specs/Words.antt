@@ -1,6 +1,6 @@
 -- The words of a text (docs/NOTATION.md), each with its place, an offset in the text; refusals 31 and 34. Assumes nothing.
 -- A text is bytes. Names, numbers and reserved words are runs of letters, digits, `_` and `'`; all else is a sign or stands between words.
-use Rattle.std.specs.Prelude.{ℕ, zero, suc, ◌+◌, ◌*◌, ◌-◌, Bool, true, false, not, ◌&&◌, ◌||◌, cond, List, [], ◌∷◌, ◌++◌, eqb, leb, ltb, length, get_or, take, drop}
+use Rattle.std.specs.Prelude.{ℕ, zero, suc, ◌+◌, ◌*◌, ◌-◌, Bool, true, false, not, ◌&&◌, ◌||◌, cond, List, [], ◌∷◌, eqb, leb, length, get_or, take, drop}
 use Prim.Native.Char.{code}
 use Prim.Native.String.{String, [] as end, ◌∷◌ as ◌then◌}
 use Rattle.calculus.specs.Answer.{Answer, good, ◌>>=◌, refuse, need}

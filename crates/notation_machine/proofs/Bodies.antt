@@ -1,11 +1,10 @@
 -- The words of the clause that a name means read as its body. Assumes nothing.
 use Prim.Native.Nat.{ℕ, zero, suc}
-use mathlib.Core.Path.{◌≡◌, refl, subst}
 use mathlib.Core.Bool.{Bool, true, false, ◌&&◌, cond}
 use mathlib.Core.List.{List, [], ◌∷◌}
 use lib.Dec.{T, eqb}
 use lib.ListN.{length, get_or, take}
-use Rattle.calculus.specs.Answer.{Answer, good}
+use Rattle.calculus.specs.Answer.{good}
 use Rattle.laws.proofs.Tests.{and_both}
 use Rattle.notation_calculus.specs.Words.{Name, Word}
 use Rattle.notation_calculus.specs.Trees.{Body, of_type, of_term, Clause}

@@ -1,7 +1,6 @@
 -- Laws of runs. A run follows an answer m if it gets to f x where m is the value x, and refuses where m refuses. Assumes nothing.
 use Prim.Native.Nat.{ℕ, zero, suc}
 use mathlib.Core.Path.{◌≡◌, refl, sym, ap, subst, ◌∙◌}
-use mathlib.Core.Bool.{Bool, true, false, cond}
 use Rattle.calculus.specs.Answer.{Answer, good, refused, ◌>>=◌}
 use Rattle.notation_theorems.proofs.Answering.{On}
 use Rattle.notation_machine.specs.Walked.{walked, Runs}

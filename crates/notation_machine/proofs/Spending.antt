@@ -1,18 +1,18 @@
 -- What definitions that are put in have cost only grows: types spend, and nodes spend nothing. Assumes nothing.
 use Prim.Native.Nat.{ℕ, zero, suc, ◌+◌, ◌≤◌}
-use mathlib.Core.Path.{◌≡◌, refl, sym, ◌∙◌}
-use mathlib.Core.Bool.{Bool, true, false, ◌&&◌, cond}
+use mathlib.Core.Path.{◌≡◌, refl, ◌∙◌}
+use mathlib.Core.Bool.{true, ◌&&◌, cond}
 use mathlib.Core.List.{List, [], ◌∷◌, ◌++◌}
 use native.Mathlib.Omega.{arith}
 use lib.Dec.{leb, ltb}
 use lib.ListN.{length, take}
-use Rattle.calculus.specs.Answer.{Answer, good, refused, ◌>>=◌, need}
+use Rattle.calculus.specs.Answer.{Answer, good, need}
 use Rattle.calculus.specs.Types.{TyRec, rec01, rec02, rec03, rec04, rec_at}
 use Rattle.calculus.specs.Terms.{Edition, first, second, is_second, Term, var, app, lfun, lapp, proj, con, part_at}
 use Rattle.calculus.specs.Terms as Terms
 use Rattle.notation_calculus.specs.Words.{Name, same_name}
-use Rattle.notation_calculus.specs.Trees.{Bound, Number, Form, product, TypeTree, typed, TypeAtom, one, ones, inside, typeNamed, Side, nothing, side, TypeTrees, no_types, types, Body, of_type, of_term, Text}
-use Rattle.notation_calculus.specs.Making.{most_puts, State, Found, Entry, Scope, lookup, bind, form_of, listed, entries, room_for, number_of, numbers_in, Put, clause_for, one_put, FoundAll, waiting, found_all, no_arguments, put_in, joined, ones_of, atom_type, body_type, type_of, shares, Made, node, larger, over, part_type, part_of, arrow_of, function_of, functions_of, name_of, halves_of, rest, half_of, pair_of, applied}
+use Rattle.notation_calculus.specs.Trees.{Bound, Number, TypeTree, typed, TypeAtom, one, ones, inside, typeNamed, Side, nothing, side, TypeTrees, no_types, types, Body, of_type, of_term, Text}
+use Rattle.notation_calculus.specs.Making.{most_puts, State, Found, Entry, Scope, lookup, bind, form_of, listed, entries, room_for, number_of, numbers_in, clause_for, one_put, FoundAll, waiting, found_all, no_arguments, put_in, joined, ones_of, atom_type, body_type, type_of, shares, Made, node, larger, over, part_type, part_of, arrow_of, function_of, functions_of, name_of, halves_of, rest, half_of, pair_of, applied}
 use Rattle.notation_theorems.proofs.Answering.{On, on_step, on_any, on_either, on_map}
 use Rattle.notation_machine.specs.TermMachine.{Element, Taken, pairs_of, Apart, apart_from, projections}
 use Rattle.notation_machine.proofs.TypeFalls.{listed_puts, ones_puts}

@@ -8,7 +8,7 @@ use lib.ListN.{length}
 use Rattle.calculus.specs.Answer.{Answer, good, refused, ◌>>=◌, need}
 use Rattle.calculus.specs.Terms.{Edition}
 use Rattle.notation_calculus.specs.Words.{ends, type, table, equals, Word}
-use Rattle.notation_calculus.specs.Trees.{Bound, Number, TypeTree, Tree, Body, of_type, of_term, Clause, Text}
+use Rattle.notation_calculus.specs.Trees.{Bound, Number, TypeTree, Body, of_type, of_term, Clause, Text}
 use Rattle.notation_calculus.specs.Grammar.{most_nested, most_clauses, Got, got, behind, place, is, expect, name_at, list_from, numbers_at, parameters_at, type_at, term_at, may_follow_all, Items, no_items, with_clause, with_lines, clause_at, type_body, term_body, items_from, edition_at, text_of}
 use Rattle.notation_theorems.proofs.Answering.{On, on_step, on_any, on_is, on_map, on_good}
 use Rattle.notation_machine.specs.Bodies.{ReadsAs, AllRead, body_from, bodies_from, bodies_of}

@@ -1,5 +1,5 @@
 -- The machine of types ends: each step leaves fewer steps to do. Assumes nothing.
-use Prim.Native.Nat.{ℕ, zero, suc, ◌+◌, ◌*◌, ◌-◌, ◌/◌, ◌≤◌, ◌<◌}
+use Prim.Native.Nat.{ℕ, zero, suc, ◌+◌, ◌*◌, ◌-◌, ◌≤◌, ◌<◌}
 use mathlib.Core.Path.{◌≡◌, refl, sym, ap, subst, ◌∙◌}
 use mathlib.Core.Bool.{Bool, true, false, ◌||◌, cond}
 use mathlib.Core.List.{List, [], ◌∷◌}
@@ -7,7 +7,7 @@ use native.Mathlib.Omega.{arith}
 use native.Mathlib.Nat.{add-mul, one-mul, mul-le-mul_right}
 use lib.Dec.{T, eqb, leb, leb→le, ltb}
 use lib.ListN.{length, get_or, take}
-use Rattle.calculus.specs.Answer.{Answer, good, refused, ◌>>=◌, need}
+use Rattle.calculus.specs.Answer.{Answer, good, ◌>>=◌, need}
 use Rattle.calculus.specs.Types.{TyRec, size, ty_of, tys_from}
 use Rattle.calculus.specs.Read.{formed, repeated}
 use Rattle.calculus.specs.Record.{All}
@@ -16,11 +16,11 @@ use Rattle.notation_calculus.specs.Words.{Name, same_name, Sign, sign_code, arro
 use Rattle.notation_calculus.specs.Trees.{Bound, Number, Form, product, Clause, Text}
 use Rattle.notation_calculus.specs.Trees as Trees
 use Rattle.notation_calculus.specs.Grammar.{Got, peek, behind, place, is_token, is, number_at, numbers_at}
-use Rattle.notation_calculus.specs.Making.{most_puts, State, Found, Entry, Scope, lookup, form_of, listed, entries, room_for, number_of, numbers_in, Put, meant, cost_of, put_of, clause_for, one_put, waiting, ones_of}
+use Rattle.notation_calculus.specs.Making.{most_puts, State, Found, Entry, Scope, lookup, form_of, listed, entries, room_for, number_of, numbers_in, Put, meant, clause_for, one_put, ones_of}
 use Rattle.notation_theorems.proofs.Answering.{On, on_step, on_any, on_test, on_either, on_tests, on_map, on_good}
 use Rattle.notation_theorems.proofs.Growing.{ones_keep}
 use Rattle.notation_machine.specs.Bodies.{number_for, words_for, bodies_of}
-use Rattle.notation_machine.specs.TypeMachine.{Wish, enclosed, argument, body, other, TypeLevel, Typing, wanted, came, TypeHere, ask_type, type_done, ask_side, arrow_from, side_from, behind_side, ones_from, in_order_lem, ask_argument, type_put_in, behind_argument, type_named_at, type_entered, type_left, type_move}
+use Rattle.notation_machine.specs.TypeMachine.{Wish, enclosed, argument, body, other, Typing, wanted, came, TypeHere, ask_type, type_done, ask_side, arrow_from, side_from, behind_side, ones_from, in_order_lem, ask_argument, type_put_in, type_named_at, type_entered, type_left, type_move}
 use Rattle.notation_machine.specs.TypeSteps.{put_steps, wish_steps, level_steps, type_steps, AllShort, Going}
 use Rattle.notation_machine.proofs.Behind.{Left, behind_fewer, number-left, numbers-left, bodies_of_keep}
 

@@ -1,13 +1,13 @@
 -- Types that a term wants: where the grammar reads them within some levels, they are those that `typeFrom` gives. Assumes nothing.
 use Prim.Native.Nat.{ℕ, ◌≤◌}
-use mathlib.Core.Path.{◌≡◌, refl, sym, ap, ◌∙◌}
+use mathlib.Core.Path.{◌≡◌, sym, ap, ◌∙◌}
 use mathlib.Core.Bool.{false}
 use mathlib.Core.List.{List}
 use Rattle.calculus.specs.Answer.{Answer, good, ◌>>=◌}
 use Rattle.notation_calculus.specs.Words.{Word}
 use Rattle.notation_calculus.specs.Trees.{TypeTree, TypeTrees, Text}
 use Rattle.notation_calculus.specs.Grammar.{most_nested, Got, got, arguments_at, type_at}
-use Rattle.notation_calculus.specs.Making.{State, Found, Scope, FoundAll, found_all, type_of}
+use Rattle.notation_calculus.specs.Making.{State, Found, Scope, found_all, type_of}
 use Rattle.notation_theorems.proofs.Answering.{On, on_map, on_good}
 use Rattle.notation_machine.specs.Walked.{Runs}
 use Rattle.notation_machine.specs.Bodies.{AllRead}

@@ -1,23 +1,23 @@
 -- The machine of types does what `type_of` does to the tree that the grammar reads from the same words. Assumes nothing.
 use Prim.Native.Nat.{ℕ, zero, suc}
-use mathlib.Core.Path.{◌≡◌, refl, sym, ap, subst, ◌∙◌}
-use mathlib.Core.Bool.{Bool, true, false, not, ◌&&◌, ◌||◌, cond}
+use mathlib.Core.Path.{◌≡◌, refl, ap}
+use mathlib.Core.Bool.{Bool, true, false, cond}
 use mathlib.Core.List.{List, [], ◌∷◌}
-use lib.Dec.{T, eqb}
+use lib.Dec.{eqb}
 use lib.ListN.{length, take}
-use Rattle.calculus.specs.Answer.{Answer, good, refused, ◌>>=◌, refuse, need}
+use Rattle.calculus.specs.Answer.{Answer, good, ◌>>=◌, need}
 use Rattle.laws.proofs.Tests.{T-is}
-use Rattle.notation_calculus.specs.Words.{Name, same_name, Sign, arrow, linear, times, round, endRound, comma, square, endSquare, curly, endCurly, power, Token, sign, part, number, name, Word}
+use Rattle.notation_calculus.specs.Words.{Name, arrow, linear, times, round, endRound, comma, square, endSquare, curly, power, Token, sign, part, number, name, Word}
 use Rattle.notation_calculus.specs.Trees.{Bound, Number, Form, product, TypeTree, typed, TypeAtom, one, ones, inside, typeNamed, Side, nothing, side, TypeTrees, no_types, types, Body, of_type, of_term, Text}
 use Rattle.notation_calculus.specs.Trees as Trees
 use Rattle.notation_calculus.specs.Grammar.{most_nested, Got, got, peek, behind, place, is, is_token, expect, list_from, number_at, numbers_at, types_of, arguments_at, ones_at, type_atom_of, side_at, product_at, arrow_at, type_at}
-use Rattle.notation_calculus.specs.Making.{State, Found, Entry, Scope, lookup, form_of, listed, entries, room_for, number_of, numbers_in, Put, clause_for, one_put, waiting, FoundAll, found_all, no_arguments, put_in, joined, ones_of, atom_type, body_type, type_of}
-use Rattle.notation_theorems.proofs.Answering.{On, on_step, on_any, on_test, on_either, on_map, on_is, on_good}
-use Rattle.notation_machine.specs.Walked.{walked, Runs}
+use Rattle.notation_calculus.specs.Making.{State, Found, Scope, lookup, form_of, listed, entries, room_for, number_of, numbers_in, Put, clause_for, one_put, waiting, found_all, put_in, joined, ones_of, atom_type, body_type, type_of}
+use Rattle.notation_theorems.proofs.Answering.{On, on_step, on_any, on_test, on_map, on_is, on_good}
+use Rattle.notation_machine.specs.Walked.{Runs}
 use Rattle.notation_machine.specs.Bodies.{words_for, AllRead}
 use Rattle.notation_machine.proofs.ReadLaws.{on_expected, on_pair, Some, list_some, some_arguments, Numbers, numbers-read, lookup-both}
 use Rattle.notation_machine.proofs.Bodies.{BodyFound, body-found, read_take}
-use Rattle.notation_machine.specs.TypeMachine.{Wish, enclosed, argument, body, other, TypeLevel, Typing, wanted, came, TypeHere, ask_type, type_done, ask_side, arrow_from, side_from, behind_side, in_order_lem, ask_argument, type_put_in, type_entered, type_left, type_move}
+use Rattle.notation_machine.specs.TypeMachine.{enclosed, argument, body, other, TypeLevel, Typing, wanted, came, TypeHere, ask_type, type_done, ask_side, arrow_from, side_from, behind_side, in_order_lem, ask_argument, type_put_in, type_entered, type_move}
 use Rattle.notation_machine.proofs.Running.{Follows, follows_now, follows_step, follows_then, follows_to, follows_both, follows_same, follows_all}
 
 module _ (X : Text) (bodies : List (List Word)) (reads : AllRead bodies X.clauses) where

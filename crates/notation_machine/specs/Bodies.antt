@@ -2,7 +2,7 @@
 use Rattle.std.specs.Prelude.{ℕ, zero, suc, ◌≡◌, Bool, false, cond, List, [], ◌∷◌, length, get_or}
 use Rattle.calculus.specs.Answer.{Answer, good, ◌>>=◌}
 use Rattle.notation_calculus.specs.Words.{ends, type, equals, table, Name, Word}
-use Rattle.notation_calculus.specs.Trees.{TypeTree, Tree, Body, of_type, of_term, Clause}
+use Rattle.notation_calculus.specs.Trees.{Body, of_type, of_term, Clause}
 use Rattle.notation_calculus.specs.Grammar.{most_nested, is, behind, expect, name_at, list_from, numbers_at, parameters_at, type_at, term_at, clause_at, type_body, term_body, edition_at}
 use Rattle.notation_calculus.specs.Making.{meant}
 

@@ -2,7 +2,7 @@
 -- `lists-read` (proofs/Lists) says that for words that the grammar reads these are the lists that `listsAt` reads.
 use Rattle.std.specs.Prelude.{ℕ, zero, suc, Bool, ◌||◌, cond, List, [], ◌∷◌}
 use Rattle.calculus.specs.Answer.{Answer}
-use Rattle.notation_calculus.specs.Words.{ends, round, endRound, comma, Token, Word}
+use Rattle.notation_calculus.specs.Words.{ends, round, endRound, comma, Word}
 use Rattle.notation_calculus.specs.Trees.{Bound}
 use Rattle.notation_calculus.specs.Grammar.{Got, got, behind, place, is, is_name, name_at, nameless}
 

@@ -1,8 +1,8 @@
 -- The machine that works out a type as the code reads it: word by word, with a level for each type that is not yet done. It knows no trees;
 -- `machine-types` (proofs/Types) says that it does what `type_of` does to the tree of these words. Assumes nothing.
-use Rattle.std.specs.Prelude.{ℕ, zero, suc, Bool, true, false, not, ◌||◌, cond, List, [], ◌∷◌, length, take}
+use Rattle.std.specs.Prelude.{ℕ, zero, suc, Bool, true, false, ◌||◌, cond, List, [], ◌∷◌, length, take}
 use Rattle.calculus.specs.Answer.{Answer, good, ◌>>=◌, refuse, need}
-use Rattle.notation_calculus.specs.Words.{Sign, arrow, linear, times, round, endRound, comma, square, endSquare, curly, power, Token, sign, part, number, name, Word}
+use Rattle.notation_calculus.specs.Words.{arrow, linear, times, round, endRound, comma, square, endSquare, curly, power, Token, sign, part, number, name, Word}
 use Rattle.notation_calculus.specs.Trees.{Bound, Form, product, Text}
 use Rattle.notation_calculus.specs.Trees as Trees
 use Rattle.notation_calculus.specs.Grammar.{peek, behind, place, is_token, is, number_at, numbers_at}

@@ -1,10 +1,9 @@
 -- The machines run on texts: types with results worked out by hand, and the samples of the notation. Assumes nothing.
 use Rattle.std.specs.Prelude.{ℕ, false, List, [], ◌∷◌, length}
 use Prim.Native.String.{String}
-use Rattle.calculus.specs.Answer.{Answer, good, refused, ◌>>=◌, refuse}
+use Rattle.calculus.specs.Answer.{Answer, good, ◌>>=◌, refuse}
 use Rattle.calculus.specs.Types.{rec01, rec02, rec03, rec04, Table}
 use Rattle.notation_calculus.specs.Words.{ascii, words}
-use Rattle.notation_calculus.specs.Trees.{Text}
 use Rattle.notation_calculus.specs.Grammar.{most_nested, text_of}
 use Rattle.notation_calculus.specs.Making.{Found, Made, clause_for, one_put}
 use Rattle.notation_calculus.specs.Make.{start, above, lines_table, judged_from, main_name, bytes_of}

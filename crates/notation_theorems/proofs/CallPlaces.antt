@@ -7,10 +7,10 @@ use borrow.Author.Tests.{leb-false}
 use lib.Dec.{leb, leb→le}
 use lib.ListN.{length}
 use Rattle.calculus.specs.Answer.{Refusal, Answer, good, numbered}
-use Rattle.sheet_theorems.proofs.Judging.{Judged, value, refusal, Any, of_bind, of_require, weaker}
+use Rattle.sheet_theorems.proofs.Judging.{Judged, value, refusal, of_bind, of_require, weaker}
 use Rattle.sheet_theorems.proofs.SheetRead.{TermLimits, read-written, sheet-short}
 use Rattle.notation_calculus.specs.Make.{Placed, make, bytes_of, Written, make_answer, said_make, make_call}
-use Rattle.notation_theorems.specs.MakePlace.{MakePlace, MakeCallPlace, no_memory, in_text, no_room, no_places, MakeCount}
+use Rattle.notation_theorems.specs.MakePlace.{MakeCallPlace, no_memory, in_text, no_room, no_places, MakeCount}
 use Rattle.notation_theorems.proofs.Reading.{make-reads, places_of}
 use Rattle.notation_theorems.proofs.MakePlaces.{make-places}
 

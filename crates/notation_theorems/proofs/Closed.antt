@@ -1,14 +1,13 @@
 -- Hygiene: a definition that is put in is a closed term, so no variable of the place where it is named is caught; and the sheet of a text
 -- has no variable out of scope. Assumes nothing.
 use Prim.Native.Nat.{ℕ, zero, suc, ◌+◌, ◌<◌, ◌≤◌}
-use mathlib.Core.Path.{◌≡◌, refl, sym, ap, subst, ◌∙◌}
-use mathlib.Core.Bool.{Bool, true, false, ◌&&◌, cond}
+use mathlib.Core.Path.{◌≡◌, refl, ap, subst, ◌∙◌}
+use mathlib.Core.Bool.{Bool, false, ◌&&◌, cond}
 use mathlib.Core.List.{List, [], ◌∷◌, ◌++◌}
 use native.Mathlib.Omega.{arith}
-use native.Mathlib.Numerals.{unary_clauses}
-use lib.Dec.{T, ltb, leb}
+use lib.Dec.{ltb, leb}
 use lib.ListN.{length, take}
-use Rattle.calculus.specs.Answer.{Answer, good, refused, ◌>>=◌, refuse, need}
+use Rattle.calculus.specs.Answer.{Answer, good, refused, ◌>>=◌, need}
 use Rattle.calculus.specs.Types.{TyRec, rec01, rec02, rec03, rec04, rec_at}
 use Rattle.calculus.specs.Terms.{Edition, is_second, Term, var, lvar, app, lfun, lapp, proj, con, part_at}
 use Rattle.calculus.specs.Terms as Terms
@@ -163,7 +162,7 @@ atom_fits X more S σ (named at n ts ks) H = on_either (Fit k) (no_arguments ts 
     found j v h = node-fits (length S.variables) at (variable σ.table j v) v 0 [] σ (on_cond (Scoped (length S.variables)) (shares σ.table v) (var j) (lvar j) (λ _. h) h)
 
     there : On (Fit (length S.variables)) (put_in X false S (λ R τ t. type_of X more R τ t) (body_term (λ R τ e. term_of X more R τ e)) σ at n ts ks)
-    there = put_in_bare (Fit (length S.variables)) X false S _ _ σ at n ts ks (body-fits X more (length S.variables) H)
+    there = put_in_bare (Fit (length S.variables)) X false S (λ R τ t. type_of X more R τ t) (body_term (λ R τ e. term_of X more R τ e)) σ at n ts ks (body-fits X more (length S.variables) H)
 
 -- every variable of a term that is made is bound in it, or is one of the scope's
 pub term_fits : (X : Text) (more : ℕ) (S : Scope) (σ : State) (e : Tree) → On (Fit (length S.variables)) (term_of X more S σ e)

@@ -1,12 +1,12 @@
 -- What a text's term keeps while it is made (Counted): one lemma a form. Assumes nothing.
-use Prim.Native.Nat.{ℕ, zero, suc, ◌+◌, ◌<◌, ◌≤◌, max}
+use Prim.Native.Nat.{ℕ, zero, suc, ◌+◌, max}
 use mathlib.Core.Path.{◌≡◌, refl, sym, ap, subst, ◌∙◌}
 use mathlib.Core.Bool.{Bool, true, false, ◌&&◌, cond}
 use mathlib.Core.List.{List, [], ◌∷◌, ◌++◌}
 use native.Mathlib.Omega.{arith}
 use lib.Dec.{T, leb, ltb, leb→le, nleb→lt, ltb→lt}
 use lib.ListN.{length, length-append, take}
-use Rattle.calculus.specs.Answer.{Answer, good, refused, ◌>>=◌, need}
+use Rattle.calculus.specs.Answer.{Answer, good, ◌>>=◌, need}
 use Rattle.calculus.specs.Types.{TyRec, rec01, rec02, rec03, rec04, rec_at, size, ty_of, tys_from}
 use Rattle.calculus.specs.Read.{formed, repeated}
 use Rattle.calculus.specs.Record.{All}
@@ -17,11 +17,11 @@ use Rattle.laws.proofs.Tests.{on_cond, and_both}
 use Rattle.notation_calculus.specs.Words.{Name, same_name}
 use Rattle.notation_calculus.specs.Trees.{Bound, Number, TypeTree, typed, TypeAtom, one, ones, inside, typeNamed, Side, nothing, side, TypeTrees, no_types, types, Tree, spine, fun, fix, name, apart, Atom, named, part, tuple, Atoms, noAtoms, atoms, Trees, noTrees, trees, Body, of_type, of_term, Clause, Line, Text}
 use Rattle.notation_calculus.specs.Grammar.{most_nested}
-use Rattle.notation_calculus.specs.Making.{most_puts, State, Found, Entry, Scope, lookup, bind, bind_all, with_type, number_in, with_variables, entries, room_for, number_of, numbers_in, Put, put_of, meant, clause_for, one_put, FoundAll, waiting, found_all, no_arguments, put_in, form_of, joined, ones_of, atom_type, body_type, type_of, Made, counted, node, larger, over, shares, variable, part_type, part_of, arrow_of, listed, function_of, functions_of, name_of, Halves, halves_of, rest, apart_of, half_of, pair_of, applied, tuple_of, body_term, atom_of, spine_of, term_of}
-use Rattle.notation_calculus.specs.Make.{Placed, start, above, lines_table, judged_body, judged_clause, is_judged, judged_from, main_name, main_of, sheet_of}
+use Rattle.notation_calculus.specs.Making.{most_puts, State, Found, Entry, Scope, lookup, bind, bind_all, number_in, with_variables, entries, room_for, number_of, numbers_in, Put, put_of, meant, clause_for, one_put, FoundAll, waiting, found_all, no_arguments, put_in, form_of, joined, ones_of, atom_type, body_type, type_of, Made, counted, node, larger, over, shares, variable, part_type, part_of, arrow_of, listed, function_of, functions_of, name_of, Halves, halves_of, rest, apart_of, half_of, pair_of, applied, tuple_of, body_term, atom_of, spine_of, term_of}
+use Rattle.notation_calculus.specs.Make.{start, above, lines_table, judged_body, judged_clause, is_judged, judged_from, main_name, main_of}
 use Rattle.notation_calculus.specs.Making.{cost_of}
 use Rattle.notation_theorems.specs.Counted.{Spelt, Kept, BoundIn, TreeIn, AtomIn, AtomsIn, TreesIn, BodyIn, ClauseIn}
-use Rattle.notation_theorems.proofs.Answering.{On, on_step, on_any, on_test, on_either, on_tests, on_map, on_good}
+use Rattle.notation_theorems.proofs.Answering.{On, on_step, on_any, on_test, on_either, on_tests, on_map}
 use Rattle.notation_theorems.proofs.Growing.{ones_keep}
 
 -- ---- the nodes of a state

@@ -2,16 +2,16 @@
 -- type. Assumes nothing.
 use Prim.Native.Nat.{ℕ, zero, suc, ◌+◌, ◌<◌, ◌≤◌}
 use mathlib.Core.Path.{◌≡◌, refl, sym, ap, subst, ◌∙◌}
-use mathlib.Core.Bool.{Bool, true, false, not, ◌&&◌, ◌||◌, cond}
-use mathlib.Core.List.{List, [], ◌∷◌, ◌++◌, append_assoc}
+use mathlib.Core.Bool.{Bool, true, false, not, ◌||◌, cond}
+use mathlib.Core.List.{[], ◌∷◌, ◌++◌, append_assoc}
 use native.Mathlib.Omega.{arith}
 use lib.Dec.{T, leb, ltb, ltb→lt, lt→ltb}
-use lib.ListN.{length, get_or, length-append}
+use lib.ListN.{length, length-append}
 use lib.Seq.{get_or-append_seam}
-use Rattle.calculus.specs.Answer.{Answer, good, refused, ◌>>=◌, refuse, need}
-use Rattle.calculus.specs.Types.{Ty, bit, prod, arrow, lolli, size, sharable, is_arrow, TyRec, rec01, rec02, rec03, rec04, rec_eq, Table, rec_at, ty_of, tys_from, tree}
+use Rattle.calculus.specs.Answer.{Answer, good, ◌>>=◌, need}
+use Rattle.calculus.specs.Types.{bit, size, TyRec, rec01, rec02, rec03, rec04, rec_eq, Table, rec_at, ty_of, tys_from, tree}
 use Rattle.calculus.specs.Read.{known, formed, repeated, check_type}
-use Rattle.laws.proofs.Tests.{and_of, or_elim, T-is}
+use Rattle.laws.proofs.Tests.{and_of}
 use Rattle.sheet_theorems.specs.Laid.{Agrees, Below, TableOk}
 use Rattle.sheet_theorems.proofs.Tables.{checked}
 use Rattle.sheet_theorems.proofs.TableRead.{tree_prefix, rec_eq→eq}

@@ -14,12 +14,12 @@ use Rattle.calculus.specs.Record.{All, Among, here, there}
 use Rattle.calculus.proofs.Answers.{good-inj, refused≢good}
 use Rattle.laws.proofs.Tests.{and_both}
 use Rattle.sheet_theorems.proofs.Judging.{Judged, value, refusal, Any, of_bind, of_require, weaker}
-use Rattle.notation_calculus.specs.Words.{sign, ends, Word, Spelled, reserved, signs, blank, ends_line, digit, letter, in_name, first, gap, run, all_digits, value_from, Read, named, begins_with, sign_at, number_word, word_at, words_from, words}
+use Rattle.notation_calculus.specs.Words.{Word, Spelled, signs, blank, ends_line, digit, letter, in_name, first, gap, run, all_digits, value_from, Read, begins_with, sign_at, number_word, word_at, words_from, words}
 use Rattle.notation_calculus.specs.Grammar.{text_of}
 use Rattle.notation_calculus.specs.Make.{sheet_of, make}
 use Rattle.notation_theorems.specs.MakePlace.{Due, first as begins, next, MakePlace}
 use Rattle.notation_theorems.specs.Worded.{BeginsAt}
-use Rattle.notation_theorems.proofs.Telling.{RefusedOn, of_tests, of_either}
+use Rattle.notation_theorems.proofs.Telling.{RefusedOn, of_tests}
 use Rattle.notation_theorems.proofs.TreeTells.{Ended, In, text_tells}
 use Rattle.notation_theorems.proofs.MakingTells.{sheet_tells}
 
@@ -149,7 +149,7 @@ module _ (text : List ℕ) (few : length text ≤ 65535) where
       of_tests (eqb (length r) 0) _ _ (λ _. value (((inside, d), tt), tt)) λ t.
       of_bind (word_at r (at + n)) _ (weaker (of-stop (at + n) (below (some (length r) t)) d) (word_tells r (at + n))) λ w q k.
       of_bind (words_from rounds (drop w.long r) (at + n + w.long)) _ (words-from rounds (drop w.long r) (at + n + w.long) (on w.long) (left w.long k.1) (fewer w.long k.0 k.1) (after w q)) λ ws _ g.
-      value (((inside, d), g.0), ended_on _ ws g.1)
+      value (((inside, d), g.0), ended_on (record { token = w.token; place = at + n }) ws g.1)
     where
       n : ℕ
       n = gap false s

@@ -1,11 +1,11 @@
 -- A text's term is refused at places that its trees name: a definition that is put in has the sort that was asked, and a list that is taken
 -- apart has two names, so that the refusals at 0 never come. Assumes nothing.
 use Prim.Native.Nat.{ℕ, zero, suc, ◌+◌}
-use mathlib.Core.Bool.{Bool, true, false, not, ◌&&◌, cond}
-use mathlib.Core.List.{List, [], ◌∷◌, ◌++◌}
+use mathlib.Core.Bool.{Bool, true, false, ◌&&◌, cond}
+use mathlib.Core.List.{List, [], ◌∷◌}
 use lib.Dec.{T, eqb, leb, ltb}
 use lib.ListN.{length, take}
-use Rattle.calculus.specs.Answer.{Refusal, Answer, good, refuse, numbered, ◌>>=◌}
+use Rattle.calculus.specs.Answer.{Answer, good, refuse, numbered, ◌>>=◌}
 use Rattle.calculus.specs.Types.{TyRec, rec01, rec02, rec03, rec04, rec_at, size, ty_of, tys_from}
 use Rattle.calculus.specs.Read.{formed, repeated}
 use Rattle.calculus.specs.Record.{All}
@@ -16,8 +16,8 @@ use Rattle.sheet_theorems.proofs.Judging.{Judged, value, refusal, Any, of_bind, 
 use Rattle.notation_calculus.specs.Words.{Name, same_name}
 use Rattle.notation_calculus.specs.Trees.{Bound, Number, TypeTree, typed, TypeAtom, one, ones, inside, typeNamed, Side, nothing, side, TypeTrees, no_types, types, Tree, spine, fun, fix, name, apart, Atom, named, part, tuple, Atoms, noAtoms, atoms, Trees, noTrees, trees, Body, of_type, of_term, Clause, Line, Text}
 use Rattle.notation_calculus.specs.Grammar.{most_nested, is_type, same_sort}
-use Rattle.notation_calculus.specs.Making.{most_puts, most_entries, State, Found, Entry, Scope, lookup, bind, bind_all, with_variables, entries, room_for, number_of, numbers_in, fit_all, Put, put_of, cost_of, meant, clause_for, one_put, FoundAll, waiting, found_all, no_arguments, put_in, form_of, joined, more_bits, ones_of, atom_type, body_type, type_of, Made, node, over, shares, variable, part_type, part_of, arrow_of, listed, function_of, functions_of, name_of, halves_of, rest, apart_of, pair_of, applied, tuple_of, body_term, atom_of, spine_of, term_of}
-use Rattle.notation_calculus.specs.Make.{Placed, start, above, lines_table, judged_body, judged_clause, is_judged, judged_from, main_name, main_of, sheet_of}
+use Rattle.notation_calculus.specs.Making.{most_puts, most_entries, State, Found, Entry, Scope, lookup, bind, bind_all, with_variables, entries, room_for, number_of, numbers_in, fit_all, Put, put_of, cost_of, meant, clause_for, one_put, waiting, found_all, no_arguments, put_in, form_of, joined, more_bits, ones_of, atom_type, body_type, type_of, Made, node, over, shares, variable, part_type, part_of, arrow_of, listed, function_of, functions_of, name_of, halves_of, apart_of, pair_of, applied, tuple_of, body_term, atom_of, spine_of, term_of}
+use Rattle.notation_calculus.specs.Make.{start, above, lines_table, judged_body, judged_clause, is_judged, judged_from, main_name, main_of, sheet_of}
 use Rattle.notation_theorems.specs.Standing.{Two, BoundOn, NumberOn, TypeOn, TypeAtomOn, SideOn, TypesOn, TreeOn, AtomOn, AtomsOn, TreesOn, BodyOn, ClauseOn, TypeLineOn, TextOn}
 use Rattle.notation_theorems.proofs.Telling.{RefusedOn, unknown, beyond, unformed, of_tests, of_either}
 

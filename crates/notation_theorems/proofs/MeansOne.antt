@@ -1,16 +1,15 @@
 -- A text means one term at most. Assumes nothing.
-use Prim.Native.Nat.{ℕ, zero, suc}
+use Prim.Native.Nat.{ℕ, suc}
 use mathlib.Core.Path.{◌≡◌, refl, sym, ap, subst, ◌∙◌}
 use mathlib.Core.Bool.{Bool, true, false, not}
-use mathlib.Core.List.{List, [], ◌∷◌}
+use mathlib.Core.List.{List, ◌∷◌}
 use native.Mathlib.Omega.{arith}
 use lib.Dec.{T}
-use lib.ListN.{length, take}
-use Rattle.calculus.specs.Answer.{good}
+use lib.ListN.{length}
 use Rattle.calculus.proofs.Answers.{good-inj}
-use Rattle.calculus.specs.Types.{Ty, bit, prod}
+use Rattle.calculus.specs.Types.{Ty, prod}
 use Rattle.notation_calculus.specs.Words.{Name}
-use Rattle.notation_calculus.specs.Trees.{Bound, Form, TypeTree, TypeAtom, Side, TypeTrees, Tree, Atom, Atoms, Trees, Body, of_type, of_term, Clause, Text}
+use Rattle.notation_calculus.specs.Trees.{Bound, Form, TypeTree, TypeAtom, Side, TypeTrees, Tree, Atom, Atoms, Trees, of_type, of_term, Clause, Text}
 use Rattle.notation_calculus.specs.Making.{meant}
 use Rattle.notation_calculus.specs.Means.{Full, TypeEntry, Here, with, enter, entry, rest_entry, Nearest, near, far, First, first_here, first_later, in_clause, joined_ty, bits_ty, TypeIs, type_is, AtomIs, one_is, ones_is, inside_is, parameter-is, put_is, SideIs, no-side, a-side, TypesAre, no_types_lem, more_types, Is, spine-is, fun-is, fix_is, name_is, apart-is, Apart, apart-two, apart_more, AtomMeans, variable-means, part-means, tuple-means, put_means, Tuple, alone, pairs, Applied, to_none, to-more, full_functions, arrows_of, named_of, app_of, result_of, first_of, second_of, half_ty, full_variable, Means}
 use Rattle.notation_calculus.specs.Means as Means

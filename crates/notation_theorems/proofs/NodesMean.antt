@@ -1,23 +1,23 @@
 -- The nodes that are made stand for the terms that a tree means: each form by itself. Assumes nothing.
-use Prim.Native.Nat.{ℕ, zero, suc, ◌+◌, ◌<◌, ◌≤◌}
+use Prim.Native.Nat.{ℕ, zero, suc, ◌<◌, ◌≤◌}
 use mathlib.Core.Path.{◌≡◌, refl, sym, ap, subst, ◌∙◌}
-use mathlib.Core.Bool.{Bool, true, false, not, ◌&&◌, cond}
+use mathlib.Core.Bool.{Bool, true, false, ◌&&◌, cond}
 use mathlib.Core.List.{List, [], ◌∷◌, ◌++◌}
 use native.Mathlib.Omega.{arith}
-use lib.Dec.{T, ltb}
+use lib.Dec.{ltb}
 use lib.ListN.{length}
-use Rattle.calculus.specs.Answer.{Answer, good, refused, ◌>>=◌, need}
+use Rattle.calculus.specs.Answer.{Answer, good, ◌>>=◌, need}
 use Rattle.calculus.specs.Types.{Ty, bit, prod, lolli, sharable, TyRec, rec01, rec02, rec03, rec04, Table, rec_at, tree}
 use Rattle.calculus.specs.Types as Types
 use Rattle.calculus.specs.Terms.{Edition, first, second, is_second, Term, var, lvar, app, lfun, lapp, proj, con, part_at}
 use Rattle.calculus.specs.Terms as Terms
 use Rattle.laws.proofs.Tests.{and_of, T-is, not_true}
-use Rattle.sheet_theorems.specs.Laid.{Agrees, Below, TableOk}
+use Rattle.sheet_theorems.specs.Laid.{Agrees, Below}
 use Rattle.notation_calculus.specs.Trees.{Bound}
-use Rattle.notation_calculus.specs.Making.{State, Found, shares, is_sharable, listed, arrow_of, Made, counted, node, larger, over, variable, part_type, part_of, function_of, functions_of, name_of, half_of, pair_of, applied}
+use Rattle.notation_calculus.specs.Making.{State, shares, is_sharable, listed, arrow_of, Made, counted, node, larger, over, variable, part_type, part_of, function_of, functions_of, name_of, half_of, pair_of, applied}
 use Rattle.notation_calculus.specs.Means.{Full, full}
 use Rattle.notation_calculus.specs.Means as Means
-use Rattle.notation_theorems.proofs.Answering.{On, on_step, on_any, on_test, on_tests, on_map}
+use Rattle.notation_theorems.proofs.Answering.{On, on_step, on_test, on_tests, on_map}
 use Rattle.notation_theorems.proofs.Growing.{Ready, Grown, grown_same, grown_on, grown_length, grown_tree, tree_one, Listed, listed-holds}
 use Rattle.notation_theorems.proofs.TypesMean.{Reached}
 

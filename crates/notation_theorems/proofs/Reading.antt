@@ -1,5 +1,5 @@
 -- Every sheet that is made of a text is read: refusals 2 to 9 never come; and it has as many places as nodes. Assumes nothing.
-use Prim.Native.Nat.{ℕ, ◌+◌, ◌<◌, ◌≤◌}
+use Prim.Native.Nat.{ℕ, ◌≤◌}
 use mathlib.Core.Path.{◌≡◌, refl, sym, ap, subst, ◌∙◌}
 use mathlib.Core.List.{List, [], ◌∷◌}
 use native.Mathlib.Omega.{arith}
@@ -16,7 +16,6 @@ use Rattle.sheet_theorems.proofs.SheetRead.{TermLimits, read-written}
 use Rattle.notation_calculus.specs.Words.{Word, words}
 use Rattle.notation_calculus.specs.Trees.{Bound, Tree, spine, fun, fix, name, apart, Atom, named, part, tuple, Atoms, noAtoms, atoms, Trees, noTrees, trees, Body, of_type, of_term, Clause, Text}
 use Rattle.notation_calculus.specs.Grammar.{text_of}
-use Rattle.notation_calculus.specs.Making.{Made}
 use Rattle.notation_calculus.specs.Make.{Placed, main_of, sheet_of, make, bytes_of}
 use Rattle.notation_theorems.specs.Circuits.{Says}
 use Rattle.notation_theorems.specs.Counted.{Spelt, Kept, BoundIn, TreeIn, AtomIn, AtomsIn, TreesIn, BodyIn, ClauseIn}

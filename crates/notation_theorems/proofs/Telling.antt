@@ -4,8 +4,8 @@ use mathlib.Core.Path.{◌≡◌, refl}
 use mathlib.Core.Bool.{Bool, true, false, not, cond}
 use native.Mathlib.Omega.{arith}
 use lib.Dec.{T}
-use Rattle.calculus.specs.Answer.{Refusal, Answer, good, refused, numbered, ◌>>=◌}
-use Rattle.sheet_theorems.proofs.Judging.{Judged, value, refusal}
+use Rattle.calculus.specs.Answer.{Refusal, Answer, numbered}
+use Rattle.sheet_theorems.proofs.Judging.{Judged}
 
 pub record RefusedOn (P : ℕ → Type 0) (why : Refusal) : Type 0 where
   pub from : 32 ≤ why.number

@@ -1,32 +1,31 @@
 -- A text all of whose parts mean something is made, or a limit is passed: 33 and 35 say that something has no meaning. Assumes nothing.
-use Prim.Native.Nat.{ℕ, zero, suc, ◌+◌, ◌<◌, ◌≤◌}
+use Prim.Native.Nat.{ℕ, zero, suc, ◌+◌, ◌<◌}
 use mathlib.Core.Path.{◌≡◌, refl, sym, ap, subst, ◌∙◌}
 use mathlib.Core.Bool.{Bool, true, false, ◌&&◌, cond}
-use mathlib.Core.List.{List, [], ◌∷◌, ◌++◌}
+use mathlib.Core.List.{List, [], ◌∷◌}
 use native.Mathlib.Omega.{arith}
 use lib.Dec.{T, leb, ltb}
 use lib.ListN.{length, take}
-use Rattle.calculus.specs.Answer.{Answer, good, refused, ◌>>=◌, need}
-use Rattle.calculus.specs.Types.{Ty, bit, prod, sharable, is_arrow, TyRec, rec01, rec02, rec03, rec04, Table, rec_at, tree}
+use Rattle.calculus.specs.Answer.{Answer, good, ◌>>=◌, need}
+use Rattle.calculus.specs.Types.{Ty, sharable, is_arrow, TyRec, rec01, rec02, rec03, rec04, Table, rec_at, tree}
 use Rattle.calculus.specs.Read.{formed}
 use Rattle.calculus.specs.Record.{All}
 use Rattle.calculus.specs.Terms.{Edition, first, second, is_second, Term, var, app, lapp, proj, con, part_at}
 use Rattle.calculus.specs.Terms as Terms
 use Rattle.sheet_theorems.specs.Laid.{Agrees}
-use Rattle.laws.proofs.Tests.{and_of, on_cond}
+use Rattle.laws.proofs.Tests.{and_of}
 use Rattle.notation_calculus.specs.Words.{Name}
 use Rattle.notation_calculus.specs.Trees.{Bound, Number, TypeTree, TypeTrees, no_types, types, Tree, spine, fun, fix, name, apart, Atom, named, part, tuple, Atoms, noAtoms, atoms, Trees, noTrees, trees, Body, of_type, of_term, Clause, Line, Text}
 use Rattle.notation_calculus.specs.Grammar.{most_nested}
-use Rattle.notation_calculus.specs.Making.{most_puts, most_entries, State, Found, Entry, Scope, lookup, bind, bind_all, with_variables, entries, is_sharable, shares, arrow_of, listed, numbers_of, cost_of, one_put, put_in, type_of, Made, node, larger, over, variable, part_type, part_of, function_of, functions_of, name_of, Halves, halves_of, rest, apart_of, half_of, pair_of, applied, tuple_of, body_term, atom_of, spine_of, term_of}
+use Rattle.notation_calculus.specs.Making.{most_puts, most_entries, State, Found, Entry, Scope, bind, bind_all, with_variables, entries, is_sharable, shares, arrow_of, listed, numbers_of, cost_of, one_put, put_in, type_of, Made, node, over, variable, part_type, part_of, function_of, functions_of, name_of, Halves, halves_of, rest, apart_of, half_of, pair_of, applied, tuple_of, body_term, atom_of, spine_of, term_of}
 use Rattle.notation_calculus.specs.Make.{Placed, start, above, lines_table, is_judged, judged_body, judged_clause, judged_from, main_name, main_of, sheet_of}
 use Rattle.notation_calculus.specs.Means.{Full, full, TypeEntry, Here, with, enter, entry, Nearest, First, in_clause, rest_entry, Is, spine-is, fun-is, fix_is, name_is, apart-is, Apart, apart-two, apart_more, AtomMeans, variable-means, part-means, tuple-means, put_means, Tuple, alone, pairs, Applied, to_none, to-more, TypeIs, TypesAre, no_types_lem, first_of, second_of, top, Means}
 use Rattle.notation_calculus.specs.Means as Means
 use Rattle.notation_theorems.specs.Limited.{Limited, BodyMeans, ClausesMean, LineMeans, AllMeans}
-use Rattle.notation_theorems.proofs.Answering.{On}
-use Rattle.notation_theorems.proofs.Growing.{Ready, Grown, grown_same, grown_on, grown_length, grown_tree, tree_one, Listed, listed-holds}
-use Rattle.notation_theorems.proofs.TypesMean.{shown, here_of, Low, LowScope, shown_grown, here_grown, lookup_says, Reached, ReachedAll, all_hold, works_all, one_put_lem, type_sound}
-use Rattle.notation_theorems.proofs.NodesMean.{LowTerm, StandsFor, Whole, Exactly, Then, shares-is, functions_stand, applied-stands}
-use Rattle.notation_theorems.proofs.TermsMean.{halves_are, node_says, Makes, MakesAtoms, tuple-stands, TermSound, lifted, makes_of, atom_stands, shown_bound, low_bound, inner, term_sound, start_ready, lines_ready, judged_clause_lem, judged_ready}
+use Rattle.notation_theorems.proofs.Growing.{Ready, Grown, grown_same, grown_on, grown_length, tree_one, Listed, listed-holds}
+use Rattle.notation_theorems.proofs.TypesMean.{shown, here_of, Low, LowScope, shown_grown, here_grown, lookup_says, Reached, all_hold, works_all, one_put_lem, type_sound}
+use Rattle.notation_theorems.proofs.NodesMean.{LowTerm, StandsFor, Whole, Exactly, shares-is, functions_stand, applied-stands}
+use Rattle.notation_theorems.proofs.TermsMean.{halves_are, node_says, Makes, MakesAtoms, tuple-stands, lifted, makes_of, atom_stands, shown_bound, low_bound, inner, term_sound, start_ready, lines_ready, judged_clause_lem, judged_ready}
 use Rattle.notation_theorems.proofs.MeansOne.{type_one, term_one}
 use Rattle.notation_theorems.proofs.TypesMade.{limited-step, limited-any, limited_by, limited-either, listed-limited, all-limited, put-limited, limited-all, type_limited}
 
@@ -98,6 +97,8 @@ part-limited E σ at p R = limited-any (part_type E (part_at p).inputs σ at) _ 
 
 module _ (X : Text) (H : Here) (Θ₀ : Table) (b : Tree) (go : List Entry → State → Answer Made) (L : (Γ : List Entry) (τ : State) (f : Full) (ρ : Ty) → Ready τ.table → Grown Θ₀ τ.table → Low (length τ.table) Γ → Is X (with H (shown τ.table Γ)) b f ρ → Limited (go Γ τ)) where
   apart-limited : (xs : List Bound) (v : Made) (Γ : List Entry) (w e : Full) (α τ : Ty) → Whole v → Grown Θ₀ v.state.table → Low (length v.state.table) Γ → tree v.state.table v.type ≡ α → Apart X (with H (shown v.state.table Γ)) xs w α b e τ → Limited (apart_of go Γ xs v)
+  apart-limited [] v Γ w e α τ _ g₀ low ev h = elim h [ ]
+  apart-limited (x ∷ []) v Γ w e α τ _ g₀ low ev h = elim h [ ]
   apart-limited (x ∷ y ∷ []) v Γ w e α τ (R, l, lowv) g₀ low ev (apart-two {e = d} is) =
       let Θ : Table = v.state.table in
       let hs : Halves = halves_of (rec_at Θ v.type) in

@@ -1,13 +1,13 @@
 -- The sheet that is made of a text is the sheet of the term that the text means. Assumes nothing.
-use Prim.Native.Nat.{ℕ, zero, suc, ◌+◌, ◌<◌, ◌≤◌}
+use Prim.Native.Nat.{ℕ, zero, suc, ◌+◌, ◌<◌}
 use mathlib.Core.Path.{◌≡◌, refl, sym, ap, subst, ◌∙◌}
-use mathlib.Core.Bool.{Bool, true, false, cond}
+use mathlib.Core.Bool.{false}
 use mathlib.Core.List.{List, [], ◌∷◌, ◌++◌}
 use native.Mathlib.Omega.{arith}
-use lib.Dec.{T, ltb}
+use lib.Dec.{ltb}
 use lib.ListN.{length, take}
-use Rattle.calculus.specs.Answer.{Answer, good, refused, ◌>>=◌, need}
-use Rattle.calculus.specs.Types.{Ty, bit, prod, TyRec, rec01, rec02, rec03, rec04, Table, rec_at, tree}
+use Rattle.calculus.specs.Answer.{Answer, good, ◌>>=◌, need}
+use Rattle.calculus.specs.Types.{Ty, prod, TyRec, rec01, rec02, rec03, rec04, Table, rec_at, tree}
 use Rattle.calculus.specs.Terms.{Term, var, proj, part_at}
 use Rattle.calculus.specs.Terms as Terms
 use Rattle.sheet_theorems.specs.Laid.{Agrees, Below, TableOk}
@@ -16,13 +16,13 @@ use Rattle.notation_calculus.specs.Words.{Name}
 use Rattle.notation_calculus.specs.Grammar.{most_nested}
 use Rattle.notation_calculus.specs.Make.{Placed, start, above, lines_table, is_judged, judged_body, judged_clause, judged_from, main_name, main_of, sheet_of}
 use Rattle.notation_calculus.specs.Trees.{Bound, Number, TypeTree, TypeTrees, no_types, types, Tree, spine, fun, fix, name, apart, Atom, named, part, tuple, Atoms, noAtoms, atoms, Trees, noTrees, trees, Body, of_type, of_term, Clause, Line, Text}
-use Rattle.notation_calculus.specs.Making.{State, Found, Entry, Scope, cost_of, lookup, bind, bind_all, with_variables, entries, room_for, numbers_of, numbers_in, Put, put_of, clause_for, one_put, FoundAll, found_all, put_in, type_of, Made, counted, node, larger, over, variable, part_of, functions_of, name_of, Halves, halves_of, rest, apart_of, pair_of, applied, tuple_of, body_term, atom_of, spine_of, term_of}
+use Rattle.notation_calculus.specs.Making.{State, Found, Entry, Scope, cost_of, bind, bind_all, with_variables, entries, room_for, numbers_of, numbers_in, Put, put_of, clause_for, one_put, FoundAll, found_all, put_in, type_of, Made, counted, node, larger, over, variable, part_of, functions_of, name_of, Halves, halves_of, rest, apart_of, pair_of, applied, tuple_of, body_term, atom_of, spine_of, term_of}
 use Rattle.notation_calculus.specs.Means.{Full, full, TypeEntry, Here, with, enter, entry, Nearest, Free, First, in_clause, rest_entry, Is, spine-is, fun-is, fix_is, name_is, apart-is, Apart, apart-two, apart_more, AtomMeans, variable-means, part-means, tuple-means, put_means, Tuple, alone, pairs, Applied, to_none, to-more, TypeIs, TypesAre, no_types_lem, first_of, second_of, top, Means}
 use Rattle.notation_calculus.specs.Means as Means
-use Rattle.notation_theorems.proofs.Answering.{On, on_step, on_any, on_test, on_either, on_tests, on_map, on_is, on_good}
+use Rattle.notation_theorems.proofs.Answering.{On, on_step, on_any, on_test, on_either, on_map, on_good}
 use Rattle.notation_theorems.proofs.Growing.{Ready, Grown, grown_same, grown_on, grown_length, grown_tree, tree_one}
-use Rattle.notation_theorems.proofs.TypesMean.{shown, here_of, Low, LowScope, shown_grown, here_grown, low-more, lookup_says, Reached, Works, ReachedAll, LowAll, trees_of, trees_length, all_hold, numbers_in_lem, Chosen, clause_chosen, bound_low, put_here, one_put_lem, Sound, works_all, type_sound}
-use Rattle.notation_theorems.proofs.NodesMean.{LowTerm, low_term_more, full_grown, StandsFor, node-stands, variable-is, variable-low, Whole, Exactly, functions_stand, part-stands, Then, applied-stands, pair_stands, name-stands}
+use Rattle.notation_theorems.proofs.TypesMean.{shown, here_of, Low, LowScope, shown_grown, here_grown, low-more, lookup_says, Reached, ReachedAll, trees_of, trees_length, all_hold, numbers_in_lem, Chosen, clause_chosen, bound_low, put_here, one_put_lem, works_all, type_sound}
+use Rattle.notation_theorems.proofs.NodesMean.{LowTerm, low_term_more, full_grown, StandsFor, node-stands, variable-is, variable-low, Whole, Exactly, functions_stand, part-stands, applied-stands, pair_stands, name-stands}
 
 -- ---- a pair taken apart
 
@@ -79,7 +79,8 @@ module _ (X : Text) (H : Here) (Θ₀ : Table) (b : Tree) (go : List Entry → S
       let Φ : Table = e.state.table in
       let gv : Grown Θ Φ = subst (λ (Ψ : Table). Grown Ψ Φ) es ge in
       let fv = full_grown Θ Φ v.term gv lowv in
-      let is' = rw (es, er, et, ea, eb) at is in
+      let at_v : Taken (y ∷ z ∷ zs) Θ Δ r.term r.type (full Φ e.term) (tree Φ e.type) = subst (λ (Ψ : Table). Taken (y ∷ z ∷ zs) Ψ Δ r.term r.type (full Φ e.term) (tree Φ e.type)) es is in
+      let is' = rw (er, et, ea, eb) at at_v in
       node-stands v.state Q x.place (proj v.term e.term) e.type (larger v.deep e.deep) (v.places ++ e.places) e.state Re gv le (low_term_more (length Θ) (length Φ) v.term (grown_length Θ Φ gv) lowv, lowe) (subst (λ (f : Full). Q (Means.proj f (full Φ e.term)) (tree Φ e.type)) (sym fv) (apart_more is'))
 
 -- ---- tuples and applications

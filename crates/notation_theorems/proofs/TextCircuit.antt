@@ -4,7 +4,7 @@ use mathlib.Core.Path.{◌≡◌, refl, sym, ap, subst, ◌∙◌}
 use mathlib.Core.List.{List, [], ◌∷◌}
 use lib.Dec.{leb}
 use lib.ListN.{length}
-use Rattle.calculus.specs.Answer.{Answer, good, refused, ◌>>=◌, need}
+use Rattle.calculus.specs.Answer.{Answer, good, ◌>>=◌, need}
 use Rattle.calculus.proofs.Answers.{good-inj}
 use Rattle.calculus.specs.Types.{Table, tree, size}
 use Rattle.calculus.specs.Read.{Sheet, read_sheet}
@@ -13,13 +13,11 @@ use Rattle.calculus.specs.Walk.{walk}
 use Rattle.calculus.specs.Net.{Net, left_of, binder, made_fun, made_app, made_pair, first_half, second_half, whole_of, made_proj, made_fix, net_of}
 use Rattle.calculus.specs.Net as Net
 use Rattle.calculus.specs.Translate as Translate
-use Rattle.notation_calculus.specs.Words.{words}
 use Rattle.notation_calculus.specs.Trees.{Text}
-use Rattle.notation_calculus.specs.Grammar.{text_of}
-use Rattle.notation_calculus.specs.Make.{Placed, sheet_of, make, bytes_of, Written, make_answer}
+use Rattle.notation_calculus.specs.Make.{Placed, make, bytes_of, Written, make_answer}
 use Rattle.notation_calculus.specs.Means.{Full, full, Means}
 use Rattle.notation_theorems.specs.Circuits.{make_full, circuit_of, Says}
-use Rattle.notation_theorems.proofs.Answering.{On, on_step, on_any, on_is, on_good}
+use Rattle.notation_theorems.proofs.Answering.{On, on_any, on_is, on_good}
 use Rattle.notation_theorems.proofs.TermsMean.{make_means}
 use Rattle.notation_theorems.proofs.MeansOne.{means_one}
 use Rattle.notation_theorems.proofs.Reading.{of_bytes, make-reads}

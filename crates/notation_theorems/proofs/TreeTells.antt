@@ -3,10 +3,10 @@
 use Prim.Native.Nat.{ℕ, zero, suc}
 use mathlib.Core.Path.{subst}
 use mathlib.Core.Bool.{Bool, true, false, not, ◌||◌, cond}
-use mathlib.Core.List.{List, [], ◌∷◌, ◌++◌}
+use mathlib.Core.List.{List, [], ◌∷◌}
 use lib.Dec.{T, eqb, eqb→eq, leb, ltb}
 use lib.ListN.{length}
-use Rattle.calculus.specs.Answer.{Refusal, Answer, good, numbered, ◌>>=◌}
+use Rattle.calculus.specs.Answer.{Answer, numbered, ◌>>=◌}
 use Rattle.calculus.specs.Record.{All}
 use Rattle.sheet_theorems.proofs.Judging.{Judged, value, refusal, Any, of_bind, of_require}
 use Rattle.notation_calculus.specs.Words.{Sign, sign_code, ends, fun, fix, lets, within, type, edition, table, arrow, linear, times, round, endRound, equals, comma, colon, dot, square, endSquare, curly, endCurly, plus, power, Token, sign, part, number, name, Word}

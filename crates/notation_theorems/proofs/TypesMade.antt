@@ -1,7 +1,7 @@
 -- A type that a tree means is worked out, or a limit is passed. Assumes nothing.
-use Prim.Native.Nat.{ℕ, zero, suc, ◌+◌, ◌<◌, ◌≤◌}
+use Prim.Native.Nat.{ℕ, zero, suc, ◌+◌, ◌<◌}
 use mathlib.Core.Path.{◌≡◌, refl, sym, ap, subst, ◌∙◌}
-use mathlib.Core.Bool.{Bool, true, false, not, ◌&&◌, cond}
+use mathlib.Core.Bool.{Bool, true, false, cond}
 use mathlib.Core.List.{List, [], ◌∷◌}
 use native.Mathlib.Omega.{arith}
 use lib.Dec.{T, leb, ltb}
@@ -12,13 +12,13 @@ use Rattle.calculus.specs.Types.{Ty, size, sharable, TyRec, rec02, Table, tree, 
 use Rattle.calculus.specs.Read.{formed, repeated}
 use Rattle.laws.proofs.Tests.{T-is, not_true, and_of}
 use Rattle.notation_calculus.specs.Words.{Name}
-use Rattle.notation_calculus.specs.Trees.{Number, Form, product, arrow, linear, TypeTree, typed, TypeAtom, one, ones, inside, typeNamed, Side, nothing, side, TypeTrees, no_types, types, Body, of_type, of_term, Clause, Text}
-use Rattle.notation_calculus.specs.Making.{most_puts, most_entries, State, Found, Entry, Scope, lookup, with_type, number_in, form_of, listed, entries, number_of, numbers_of, numbers_in, Put, put_of, meant, clause_for, one_put, FoundAll, waiting, found_all, put_in, joined, more_bits, ones_of, atom_type, body_type, type_of}
-use Rattle.notation_calculus.specs.Means.{TypeEntry, Here, with, Nearest, First, first_here, first_later, in_clause, may_join, bits_ty, TypeIs, type_is, AtomIs, one_is, ones_is, inside_is, parameter-is, put_is, SideIs, no-side, a-side, TypesAre, no_types_lem, more_types}
+use Rattle.notation_calculus.specs.Trees.{Number, Form, product, arrow, linear, TypeTree, typed, TypeAtom, one, ones, inside, typeNamed, Side, nothing, side, TypeTrees, no_types, types, Body, of_type, Clause, Text}
+use Rattle.notation_calculus.specs.Making.{most_puts, most_entries, State, Found, Scope, number_in, form_of, listed, entries, number_of, numbers_of, numbers_in, Put, put_of, meant, clause_for, one_put, FoundAll, waiting, found_all, put_in, joined, more_bits, ones_of, atom_type, body_type, type_of}
+use Rattle.notation_calculus.specs.Means.{Here, First, first_here, first_later, in_clause, may_join, TypeIs, type_is, AtomIs, ones_is, inside_is, parameter-is, put_is, SideIs, no-side, a-side, TypesAre, no_types_lem, more_types}
 use Rattle.notation_theorems.specs.Limited.{Limited}
 use Rattle.notation_theorems.proofs.Answering.{On}
 use Rattle.notation_theorems.proofs.Growing.{Ready, Grown, grown_same, grown_on, grown_length, grown_tree, tree_one, Listed, listed-holds}
-use Rattle.notation_theorems.proofs.TypesMean.{shown, here_of, Low, LowScope, here_grown, low-more, lookup_says, Reached, Works, WorksAll, ReachedAll, LowAll, trees_of, trees_length, all_hold, type_with, bound_low, numbers_in_lem, put_here, one_put_lem, works_of, works_all, BitsAt, row_more, atom_holds, side_holds, type_sound}
+use Rattle.notation_theorems.proofs.TypesMean.{here_of, Low, LowScope, here_grown, low-more, lookup_says, Reached, Works, WorksAll, ReachedAll, trees_of, trees_length, all_hold, type_with, bound_low, numbers_in_lem, put_here, one_put_lem, works_of, works_all, BitsAt, row_more, atom_holds, side_holds, type_sound}
 use Rattle.notation_theorems.proofs.MeansOne.{type_one, atom_one, side_one, types_one}
 use Rattle.notation_theorems.proofs.Sorting.{bits_share}
 
@@ -99,13 +99,13 @@ numbers-limited S at i (k ∷ ks) ns e = limited_by (leb (entries S + suc i) mos
 -- ---- clauses
 
 -- the first clause that is meant is found
-pub first_found : (under : ℕ) (all : List Clause) (k : ℕ) (sort : Bool) (n : Name) (ts ns : List ℕ) (at : ℕ) {cs : List Clause} {j : ℕ} {c : Clause} → First sort n (length ts) ns cs j c → clause_for under all cs k sort n ts ns at ≡ good (put_of under all c (k + j) ts ns)
-first_found under all k sort n ts ns at (first_here {c = c} {cs = cs} t) =
+pub first_found : (under : ℕ) (all : List Clause) (sort : Bool) (n : Name) (ts ns : List ℕ) (at k : ℕ) {cs : List Clause} {j : ℕ} {c : Clause} → First sort n (length ts) ns cs j c → clause_for under all cs k sort n ts ns at ≡ good (put_of under all c (k + j) ts ns)
+first_found under all sort n ts ns at k (first_here {c = c} {cs = cs} t) =
     let z : k ≡ k + 0 = omega arith in
     ap (λ (b : Bool). cond b (good (put_of under all c k ts ns)) (clause_for under all cs (suc k) sort n ts ns at)) (T-is (meant c sort n (length ts) ns) t) ∙ ap (λ (i : ℕ). good (put_of under all c i ts ns)) z
-first_found under all k sort n ts ns at (first_later {b = b} {c = c} {cs = cs} {i = i} t f) =
+first_found under all sort n ts ns at k (first_later {b = b} {c = c} {cs = cs} {i = i} t f) =
     let z : suc k + i ≡ k + suc i = omega arith in
-    ap (λ (x : Bool). cond x (good (put_of under all b k ts ns)) (clause_for under all cs (suc k) sort n ts ns at)) (not_true (meant b sort n (length ts) ns) t) ∙ first_found under all (suc k) sort n ts ns at f ∙ ap (λ (m : ℕ). good (put_of under all c m ts ns)) z
+    ap (λ (x : Bool). cond x (good (put_of under all b k ts ns)) (clause_for under all cs (suc k) sort n ts ns at)) (not_true (meant b sort n (length ts) ns) t) ∙ first_found under all sort n ts ns at (suc k) f ∙ ap (λ (m : ℕ). good (put_of under all c m ts ns)) z
 
 -- what is put in is limited if the body of the clause that is meant is, in its scope
 pub put-limited :
@@ -124,7 +124,7 @@ put-limited {A = A} X sort S H type go σ at n ts ks τs ns j c all limits are n
     let long : length τs ≡ length xs.types = ap (λ (l : List Ty). length l) (sym same) ∙ trees_length Θ xs.types in
     limited-step (λ (ms : List ℕ). numbers_of S.numbers ks ≡ good ms) (numbers_in S at (length xs.types) ks) (λ ms. behind xs ms) (numbers_in_lem S at (length xs.types) ks) (numbers-limited S at (length xs.types) ks ns ne) λ ms em.
     let nm : ns ≡ ms = good-inj (sym ne ∙ em) in
-    let found : clause_for (entries S) X.clauses (take S.seen X.clauses) 0 sort n xs.types ms at ≡ good (put_of (entries S) X.clauses c (0 + j) xs.types ms) = first_found (entries S) X.clauses 0 sort n xs.types ms at (subst (λ (l : List ℕ). First sort n (length xs.types) l (take S.seen X.clauses) j c) nm (subst (λ (k : ℕ). First sort n k ns (take S.seen X.clauses) j c) long first)) in
+    let found : clause_for (entries S) X.clauses (take S.seen X.clauses) 0 sort n xs.types ms at ≡ good (put_of (entries S) X.clauses c (0 + j) xs.types ms) = first_found (entries S) X.clauses sort n xs.types ms at 0 (subst (λ (l : List ℕ). First sort n (length xs.types) l (take S.seen X.clauses) j c) nm (subst (λ (k : ℕ). First sort n k ns (take S.seen X.clauses) j c) long first)) in
     let P : Scope = (put_of (entries S) X.clauses c (0 + j) xs.types ms).scope in
     let z : 0 + j ≡ j = omega arith in
     subst (λ (m : Answer Put). Limited (m >>= λ p. one_put xs.state p.cost at >>= λ τ. go p.scope τ p.body)) (sym found) (limited-step (λ (τ : State). τ.table ≡ Θ) (one_put xs.state (put_of (entries S) X.clauses c (0 + j) xs.types ms).cost at) (λ τ. go P τ c.body) (one_put_lem xs.state (put_of (entries S) X.clauses c (0 + j) xs.types ms).cost at) (limited_by (leb (xs.state.puts + (put_of (entries S) X.clauses c (0 + j) xs.types ms).cost) most_puts) at _ tt) λ τ st.

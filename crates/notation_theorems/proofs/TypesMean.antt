@@ -1,18 +1,18 @@
 -- The type that is worked out for a tree is the one that the tree means. Assumes nothing.
 use Prim.Native.Nat.{ℕ, zero, suc, ◌+◌, ◌<◌, ◌≤◌}
 use mathlib.Core.Path.{◌≡◌, refl, sym, ap, subst, ◌∙◌}
-use mathlib.Core.Bool.{Bool, true, false, not, ◌&&◌, cond}
-use mathlib.Core.List.{List, [], ◌∷◌, ◌++◌}
+use mathlib.Core.Bool.{Bool, true, false, cond}
+use mathlib.Core.List.{List, [], ◌∷◌}
 use native.Mathlib.Omega.{arith}
 use lib.Dec.{T, leb, eqb, eqb→eq, eqb_refl}
 use lib.ListN.{length, take}
-use Rattle.calculus.specs.Answer.{Answer, good, refused, ◌>>=◌}
-use Rattle.calculus.specs.Types.{Ty, bit, prod, sharable, TyRec, rec02, Table, tree}
+use Rattle.calculus.specs.Answer.{Answer, good, ◌>>=◌}
+use Rattle.calculus.specs.Types.{Ty, bit, prod, sharable, rec02, Table, tree}
 use Rattle.laws.proofs.Tests.{and_both, and_of}
 use Rattle.sheet_theorems.specs.Laid.{Agrees, Below}
 use Rattle.notation_calculus.specs.Words.{Name, same_name}
 use Rattle.notation_calculus.specs.Trees.{Bound, Number, Form, product, arrow, linear, TypeTree, typed, TypeAtom, one, ones, inside, typeNamed, Side, nothing, side, TypeTrees, no_types, types, Body, of_type, of_term, Clause, Text}
-use Rattle.notation_calculus.specs.Making.{most_puts, State, Found, Entry, Scope, lookup, form_of, listed, entries, room_for, number_of, numbers_of, numbers_in, bind_numbers, bind_types, bind, seen_by, Put, put_of, meant, clause_for, one_put, FoundAll, waiting, found_all, no_arguments, put_in, joined, more_bits, ones_of, atom_type, body_type, type_of}
+use Rattle.notation_calculus.specs.Making.{most_puts, State, Found, Entry, Scope, lookup, form_of, listed, entries, room_for, number_of, numbers_of, numbers_in, bind_numbers, bind_types, seen_by, Put, put_of, meant, clause_for, one_put, FoundAll, waiting, found_all, put_in, joined, more_bits, ones_of, atom_type, body_type, type_of}
 use Rattle.notation_calculus.specs.Means.{TypeEntry, Here, with, Nearest, near, far, Free, First, first_here, first_later, type_entries, in_clause, may_join, bits_ty, TypeIs, type_is, AtomIs, one_is, ones_is, inside_is, parameter-is, put_is, SideIs, no-side, a-side, TypesAre, no_types_lem, more_types}
 use Rattle.notation_calculus.specs.Means as Means
 use Rattle.notation_theorems.proofs.Answering.{On, on_step, on_any, on_test, on_tests, on_map, on_is}

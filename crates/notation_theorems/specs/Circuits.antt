@@ -2,7 +2,7 @@
 -- numbers. Assumes nothing.
 use Rattle.std.specs.Prelude.{ℕ, ◌+◌, ◌*◌, ◌≡◌, List, [], ◌∷◌, get_or}
 use Rattle.calculus.specs.Answer.{good, ◌>>=◌}
-use Rattle.calculus.specs.Types.{Ty, size}
+use Rattle.calculus.specs.Types.{size}
 use Rattle.calculus.specs.Net.{Net, unbound, left_of, binder, made_var, made_fun, made_app, made_pair, first_half, second_half, whole_of, made_proj, made_fix, made_con, net_of}
 use Rattle.calculus.specs.Net as Net
 use Rattle.notation_calculus.specs.Words.{words}

@@ -1,11 +1,11 @@
 -- What a text's term keeps while it is made: places and nodes go together, within the sheet's limits; P holds of the places, K of the
 -- parts, where they do in the trees. Assumes nothing.
-use Rattle.std.specs.Prelude.{ℕ, ◌+◌, ◌≤◌, ◌≡◌, List, length}
+use Rattle.std.specs.Prelude.{ℕ, ◌+◌, ◌≤◌, ◌≡◌, length}
 use Rattle.calculus.specs.Record.{All}
 use Rattle.calculus.specs.Terms.{Edition, second, Term, var, lvar, app, lfun, lapp, proj, con, nodes}
 use Rattle.calculus.specs.Terms as Terms
 use Rattle.sheet_theorems.specs.Laid.{depth}
-use Rattle.notation_calculus.specs.Trees.{Bound, TypeTree, Tree, spine, fun, fix, name, apart, Atom, named, part, tuple, Atoms, noAtoms, atoms, Trees, noTrees, trees, Body, of_type, of_term, Clause}
+use Rattle.notation_calculus.specs.Trees.{Bound, Tree, spine, fun, fix, name, apart, Atom, named, part, tuple, Atoms, noAtoms, atoms, Trees, noTrees, trees, Body, of_type, of_term, Clause}
 use Rattle.notation_calculus.specs.Making.{Made}
 
 -- 1B stands in the second edition alone, and K holds of the parts

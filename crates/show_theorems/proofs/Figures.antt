@@ -1,13 +1,13 @@
 -- Numbers in decimal as parts of names: digits, at least one, and two numbers below 2 to the 64th do not share them. Assumes nothing.
 use Prim.Native.Nat.{ℕ, zero, suc, ◌+◌, ◌*◌, ◌-◌, ◌/◌, ◌%◌, ◌^◌, ◌≤◌, ◌<◌}
 use mathlib.Core.Path.{◌≡◌, refl, sym, ap, subst, ◌∙◌}
-use mathlib.Core.Bool.{Bool, true, false, not, cond}
+use mathlib.Core.Bool.{Bool, true, false, cond}
 use mathlib.Core.List.{List, [], ◌∷◌, ◌++◌}
 use native.Mathlib.Omega.{arith}
 use lib.Dec.{T, eqb, ltb, eqb→eq, ltb→lt, eqb_refl}
 use Rattle.calculus.specs.Listing.{digits, decimal}
 use Rattle.laws.proofs.Tests.{T-is, is_false}
-use Rattle.notation_calculus.specs.Words.{same_name, digit}
+use Rattle.notation_calculus.specs.Words.{same_name}
 use Rattle.notation_theorems.proofs.TypesMean.{same→eq}
 
 -- every byte is a digit

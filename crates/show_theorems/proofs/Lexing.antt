@@ -1,5 +1,5 @@
 -- The words of a shown sheet are read from its text. Assumes nothing.
-use Prim.Native.Nat.{ℕ, zero, suc, ◌+◌, ◌-◌, ◌≤◌, ◌<◌}
+use Prim.Native.Nat.{ℕ, zero, suc, ◌+◌, ◌≤◌, ◌<◌}
 use mathlib.Core.Path.{◌≡◌, refl, sym, ap, subst, ◌∙◌}
 use mathlib.Core.Bool.{Bool, true, false, ◌&&◌, ◌||◌, cond}
 use mathlib.Core.List.{List, [], ◌∷◌, ◌++◌}
@@ -7,7 +7,6 @@ use native.Mathlib.Omega.{arith}
 use lib.Dec.{T, eqb, leb, eqb→eq, le→leb, eqb-suc-zero}
 use lib.ListN.{length, get_or, take, drop, length-append}
 use Rattle.calculus.specs.Answer.{Answer, good, ◌>>=◌}
-use Rattle.calculus.specs.Terms.{fun, fix, name}
 use Rattle.calculus.specs.Listing.{decimal, names}
 use Rattle.laws.proofs.Tests.{T-is, is_false}
 use Rattle.notation_calculus.specs.Words.{Name, ascii, Token, sign, part, number, Word, ends, Read, blank, in_name, gap, run, named, reserved, signs, word_at, words_from, words}
@@ -107,10 +106,12 @@ no_letter c d h k = is_false (eqb c d) λ t. let e = eqb→eq c d t in absurd (o
 
 type_named : (d : List ℕ) → Figures d → OneOrMore d → named (116 ∷ d) reserved ≡ Words.name (116 ∷ d)
 unfolding reserved
+type_named [] _ h = elim h [ ]
 type_named (c ∷ d) (a, b, f) some = rw (no_letter c 121 b (omega arith), no_letter c 97 b (omega arith)) refl
 
 binder-named : (d : List ℕ) → Figures d → OneOrMore d → named (120 ∷ d) reserved ≡ Words.name (120 ∷ d)
 unfolding reserved
+binder-named [] _ h = elim h [ ]
 binder-named (c ∷ d) (a, b, f) some = rw (no_letter c 111 b (omega arith)) refl
 
 second_of_lem : {A : Type 0} (x y : Bool) (a b c : A) → x ≡ false → y ≡ true → cond x a (cond y b c) ≡ b

@@ -9,7 +9,7 @@ use Rattle.calculus.specs.Answer.{Answer, good, refused, clash, a_form}
 use Rattle.calculus.proofs.Answers.{refused≢good, good-inj, on-bind, on-require, on-need}
 use Rattle.calculus.specs.Types.{Ty, sharable, is_arrow, ty_eq, TyRec, rec01, rec02, rec03, rec04, Table, rec_at, tree}
 use Rattle.calculus.specs.Terms.{Edition, Term, var, lvar, fun, app, lfun, lapp, pair, proj, fix, con, name, nodes, parts, part_at}
-use Rattle.calculus.specs.Walk.{Binder, shared, linear, Stack, Sides, sharable_arrow, linear_arrow, product, Found, found, under, use_shared, use_linear, pop, top_used, type_number, walk}
+use Rattle.calculus.specs.Walk.{Binder, shared, linear, Stack, Sides, sharable_arrow, linear_arrow, product, Found, under, use_shared, use_linear, pop, top_used, type_number, walk}
 use Rattle.sheet_theorems.proofs.Sound.{ty_eq→eq}
 use Rattle.sheet_theorems.specs.Laid.{Agrees, TableOk, Ranged}
 use Rattle.notation_calculus.specs.Making.{is_sharable, shares}

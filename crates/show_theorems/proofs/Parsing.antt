@@ -1,7 +1,7 @@
 -- The grammar reads the words of a shown sheet as its trees, or passes its limit of levels. Assumes nothing.
 use Prim.Native.Nat.{ℕ, zero, suc, ◌-◌}
 use mathlib.Core.Path.{◌≡◌, refl, sym, subst}
-use mathlib.Core.Bool.{Bool, true, false, not}
+use mathlib.Core.Bool.{Bool, true, false}
 use mathlib.Core.List.{List, [], ◌∷◌}
 use lib.Dec.{eqb, eqb_refl}
 use lib.ListN.{length}
@@ -9,11 +9,10 @@ use Rattle.calculus.specs.Answer.{Answer, good, refused, ◌>>=◌}
 use Rattle.calculus.specs.Types.{TyRec, rec01, rec02, rec03, rec04, Table, rec_at}
 use Rattle.calculus.specs.Terms.{Term, var, lvar, fun, app, lfun, lapp, pair, proj, fix, con, name}
 use Rattle.laws.proofs.Tests.{T-is}
-use Rattle.notation_calculus.specs.Words.{Sign, sign_code, ends, times, arrow, linear, round, endRound, square, curly, power, comma, colon, dot, equals, within, Token, sign, part, Word}
-use Rattle.notation_calculus.specs.Words as Words
+use Rattle.notation_calculus.specs.Words.{Sign, sign_code, ends, times, arrow, linear, round, endRound, square, curly, power, comma, colon, dot, equals, within, Token, sign, Word}
 use Rattle.notation_calculus.specs.Trees.{TypeTree, Tree, Trees, Atom, tuple, noTrees, noAtoms, trees, atoms, named, spine}
 use Rattle.notation_calculus.specs.Trees as Trees
-use Rattle.notation_calculus.specs.Grammar.{Got, got, behind, is_token, is, is_name, is_part, expect, type_at, term_at, trees_from, atoms_from, read_atom, begins_atom, bound_body, let_body}
+use Rattle.notation_calculus.specs.Grammar.{Got, got, is_token, is, is_name, is_part, expect, type_at, term_at, trees_from, atoms_from, read_atom, begins_atom, bound_body, let_body}
 use Rattle.notation_calculus.specs.Show.{left_of}
 use Rattle.show_theorems.specs.Shown.{shown_binder, type_word, rec_words, term_words, Spoken, last, more}
 use Rattle.show_theorems.specs.ShownTrees.{Within, ShownType, type_shown, ShownRec, one_shown, product_shown, arrow_shown, linear_shown, ShownTerm, var_shown, lvar_shown, fun_shown, lfun_shown, app_shown, lapp_shown, pair_shown, proj_shown, fix_shown, con_shown, name_shown}
@@ -48,9 +47,11 @@ not_head s last h = h
 not_head s (more m) h = h
 
 pub expect-said : {B : Type 0} (Q : B → Type 0) (s : Sign) (us : List Token) (ws : List Word) (f : List Word → Answer B) → Spoken (sign s ∷ us) ws → ((vs : List Word) → Spoken us vs → Within Q (f vs)) → Within Q (expect s ws >>= f)
+expect-said Q s us [] f h k = elim h [ ]
 expect-said Q s us (w ∷ ws) f (more h) k = rw (T-is (eqb (sign_code s) (sign_code s)) (eqb_refl (sign_code s))) (k ws h)
 
 pub expect_then : {B C : Type 0} (Q : C → Type 0) (s : Sign) (us : List Token) (ws : List Word) (f : List Word → Answer B) (g : B → Answer C) → Spoken (sign s ∷ us) ws → ((vs : List Word) → Spoken us vs → Within Q (f vs >>= g)) → Within Q ((expect s ws >>= f) >>= g)
+expect_then Q s us [] f g h k = elim h [ ]
 expect_then Q s us (w ∷ ws) f g (more h) k = rw (T-is (eqb (sign_code s) (sign_code s)) (eqb_refl (sign_code s))) (k ws h)
 
 -- ---- types
@@ -69,6 +70,8 @@ TypeReads t us g = ShownType t g.value × Spoken us g.rest
 
 pub read_type : (m : ℕ) (tight : Bool) (t : ℕ) (us : List Token) (ws : List Word) → Spoken (type_word t ∷ us) ws → TypeStops us → Within (TypeReads t us) (type_at m tight ws)
 read_type zero tight t us ws h s = refl
+read_type (suc m) false t us [] h s = elim h [ ]
+read_type (suc m) true t us [] h s = elim h [ ]
 read_type (suc m) true t us (w ∷ ws) (more h) s = rw (not_head square h s.square, not_head curly h s.curly, not_head times h s.times) (type_shown, h)
 read_type (suc m) false t us (w ∷ ws) (more h) s = rw (not_head square h s.square, not_head curly h s.curly, not_head times h s.times, not_head arrow h s.arrow, not_head linear h s.linear) (type_shown, h)
 
@@ -77,6 +80,7 @@ RecReads r us g = ShownRec r g.value × Spoken us g.rest
 
 pub read-rec : (m : ℕ) (r : TyRec) (us : List Token) (ws : List Word) → Spoken (rec_words r us) ws → TypeStops us → Within (RecReads r us) (type_at m false ws)
 read-rec zero r us ws h s = refl
+read-rec (suc m) rec01 us [] h s = elim h [ ]
 read-rec (suc m) rec01 us (w ∷ ws) (more h) s = rw (not_head power h s.power, not_head times h s.times, not_head arrow h s.arrow, not_head linear h s.linear) (one_shown, h)
 read-rec (suc m) (rec02 a b) us vs (more (more {ws = ws} h)) s = within_then (TypeReads b us) (RecReads (rec02 a b) us) (type_at m true ws) _ _ (read_type m true b us ws h s) λ t (x, y). rw (not_head arrow y s.arrow, not_head linear y s.linear) (product_shown x, y)
 read-rec (suc m) (rec03 a b) us vs (more (more {ws = ws} h)) s = within_then (TypeReads b us) (RecReads (rec03 a b) us) (type_at m false ws) _ _ (read_type m false b us ws h s) λ t (x, y). (arrow_shown x, y)

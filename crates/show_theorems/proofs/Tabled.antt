@@ -14,9 +14,9 @@ use Rattle.calculus.specs.Read.{known, formed, repeated, check_type}
 use Rattle.laws.proofs.Tests.{T-is, not_true, or_left, or_right}
 use Rattle.sheet_theorems.specs.Laid.{Agrees, Below, TableOk}
 use Rattle.sheet_theorems.proofs.TableRead.{passed}
-use Rattle.notation_calculus.specs.Trees.{Form, product, arrow, linear, TypeTree, typed, one, typeNamed, nothing, side, no_types, Body, Clause, Text}
+use Rattle.notation_calculus.specs.Trees.{Form, product, arrow, linear, TypeTree, typed, typeNamed, no_types, Body, Clause, Text}
 use Rattle.notation_calculus.specs.Grammar.{namesake}
-use Rattle.notation_calculus.specs.Making.{State, Found, Scope, number_in, listed, form_of, entries, meant, fit_all, put_of, Put, clause_for, one_put, most_puts, put_in, joined, atom_type, body_type, type_of}
+use Rattle.notation_calculus.specs.Making.{State, Found, Scope, number_in, listed, form_of, entries, meant, fit_all, put_of, Put, clause_for, one_put, most_puts, put_in, atom_type, body_type, type_of}
 use Rattle.notation_theorems.proofs.Growing.{number_of}
 use Rattle.show_theorems.specs.Shown.{shown_type}
 use Rattle.show_theorems.specs.ShownTrees.{Within, ShownType, type_shown, ShownRec, one_shown, product_shown, arrow_shown, linear_shown, TypeClause, ShownClauses}

@@ -1,12 +1,12 @@
 -- The words of a whole shown sheet. Assumes nothing.
-use Prim.Native.Nat.{ℕ, suc, ◌+◌, ◌-◌}
+use Prim.Native.Nat.{ℕ, suc, ◌-◌}
 use mathlib.Core.Path.{◌≡◌, refl, sym, ap, subst, ◌∙◌}
 use mathlib.Core.List.{List, [], ◌∷◌, ◌++◌, append_assoc}
 use native.Mathlib.Omega.{arith}
 use lib.ListN.{length}
 use Rattle.calculus.specs.Answer.{good}
 use Rattle.calculus.specs.Types.{TyRec, rec01, rec02, rec03, rec04, Table, rec_at}
-use Rattle.calculus.specs.Terms.{Edition, first, second, Term, fun, pair, proj, fix, name}
+use Rattle.calculus.specs.Terms.{Edition, first, second, Term, pair, proj, name}
 use Rattle.calculus.specs.Read.{Sheet}
 use Rattle.notation_calculus.specs.Words.{ascii, Token, sign, Word, words}
 use Rattle.notation_calculus.specs.Words as Words

@@ -1,0 +1,43 @@
+-- Terms meet their contracts: one proof of the cycle of calls. The measure is the levels that are left, and in a level the order of the calls.
+-- Assumes nothing.
+use Prim.Native.Nat.{ℕ, ◌+◌, ◌*◌, ◌<◌}
+use mathlib.Core.Bool.{false}
+use lib.ListN.{length}
+use Rattle.calculus.specs.Answer.{good}
+use Rattle.notation_calculus.specs.Words.{endRound}
+use Rattle.notation_calculus.specs.Grammar.{expect}
+use Rattle.words.specs.Lexed.{from}
+use Rattle.grammar.specs.Ends.{type_step, term_step}
+use Rattle.grammar.specs.Skips.{trees_end, tuple_end, atoms_end, spine_end}
+use Rattle.grammar.proofs.LoopLaws.{Loops, left_words}
+use Rattle.grammar.proofs.terms.+atom_end_bound_end_let_body_end_spine_end_term_end_tuple_end.Given as goal
+
+abbrev pub decreases-atom_end : goal.decreases-atom_end
+decreases-atom_end l = 8 * l.more + 2
+
+abbrev pub decreases-bound_end : goal.decreases-bound_end
+decreases-bound_end l = 8 * l.more + 1
+
+abbrev pub decreases-let_body_end : goal.decreases-let_body_end
+decreases-let_body_end l = 8 * l.more + 1
+
+abbrev pub decreases-spine_end : goal.decreases-spine_end
+decreases-spine_end l = 8 * l.more + 3
+
+abbrev pub decreases-term_end : goal.decreases-term_end
+decreases-term_end l = 8 * l.more
+
+abbrev pub decreases-tuple_end : goal.decreases-tuple_end
+decreases-tuple_end l = 8 * l.more + 1
+
+abbrev pub invariant-spine_end-loop-t : goal.invariant-spine_end-loop-t
+invariant-spine_end-loop-t l = Loops l.text (atoms_end (term_step l.more) (type_step l.more false)) (λ us. good us) (spine_end (term_step l.more) (type_step l.more false) (from l.text l.at)) (length (from l.text l.at)) l.t
+
+abbrev pub decreases-spine_end-loop-t : goal.decreases-spine_end-loop-t
+decreases-spine_end-loop-t l = left_words l.text l.t
+
+abbrev pub invariant-tuple_end-loop-t : goal.invariant-tuple_end-loop-t
+invariant-tuple_end-loop-t l = (n : ℕ) → length (from l.text l.at) < n → Loops l.text (trees_end (term_step l.more)) (λ us. expect endRound us) (tuple_end (term_step l.more) n (from l.text l.at)) (length (from l.text l.at)) l.t
+
+abbrev pub decreases-tuple_end-loop-t : goal.decreases-tuple_end-loop-t
+decreases-tuple_end-loop-t l = left_words l.text l.t
