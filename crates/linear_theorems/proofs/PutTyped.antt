@@ -125,10 +125,12 @@ module _ {Θ : Table} where
 -- ---- the argument put in at the one place of its variable
 
 pub none-once : {j : ℕ} {κ : Ty} {Γ Γ⁺ : Ctx} → Ins j (once κ) Γ Γ⁺ → NoLinear Γ⁺ → ⊥
+none-once {κ = κ} {Γ = Γ} ins_here x7 = elim x7 [ ]
 none-once (ins_there p) (none_many z) = none-once p z
 none-once (ins_there p) (none_away z) = none-once p z
 
 pub in_once : {j i : ℕ} {κ θ : Ty} {Γ Γ⁺ : Ctx} → Ins j (once κ) Γ Γ⁺ → InΓ Γ⁺ i θ → ⊥
+in_once {i = i} {κ = κ} {θ = θ} {Γ = Γ} ins_here x7 = elim x7 [ ]
 in_once (ins_there p) (in_here z) = none-once p z
 in_once (ins_there p) (in_many v) = in_once p v
 in_once (ins_there p) (in_away v) = in_once p v
@@ -147,6 +149,7 @@ itself (ins_there p) (is_away v) = let r = itself p v in record { place = r.plac
 
 -- a half without linear variables leaves the whole to the other
 pub split_none : {Γ Γ₁ Γ₂ : Ctx} → Split Γ Γ₁ Γ₂ → NoLinear Γ₁ → Γ₂ ≡ Γ
+split_none (split_first {κ = κ} {Γ = Γ} {Γ₁ = Γ₁} {Γ₂ = Γ₂} _) x6 = elim x6 [ ]
 split_none split_end none_end = refl
 split_none (split_many {θ = θ} z) (none_many n) = ap (λ (r : Ctx). many θ ∷ r) (split_none z n)
 split_none (split_second {κ = κ} z) (none_away n) = ap (λ (r : Ctx). once κ ∷ r) (split_none z n)
