@@ -1,4 +1,4 @@
-//! Links the archive that `rt staticlib deltawobble` wrote, where it was made for the processor that
+//! Links the archive that `rt lib` wrote in crates/deltawobble, where it was made for the processor that
 //! this program is built for; elsewhere the program calls it through the host process (host.c). Either
 //! way the program is told ARCHIVE_CALLS: the calls that the archive's own index has. BENCH_ARCHIVE names
 //! another archive of that name (a whole path), to try this program on.
@@ -11,7 +11,7 @@ const MACHINES: [(&str, u16); 2] = [("x86_64", 62), ("aarch64", 183)];
 fn main() {
     let here = std::env::var("CARGO_MANIFEST_DIR").expect("cargo names the folder");
     let archive = std::env::var("BENCH_ARCHIVE").map(PathBuf::from);
-    let ours = || Path::new(&here).join("../target/staticlib/libdeltawobble.a");
+    let ours = || Path::new(&here).join("../crates/deltawobble/out/libdeltawobble.a");
     let archive = archive.unwrap_or_else(|_| ours());
     let folder = archive.parent().expect("an archive lies in a folder");
     println!("cargo:rustc-check-cfg=cfg(linked)");
@@ -28,7 +28,7 @@ fn main() {
         println!("cargo:rustc-link-lib=static=deltawobble");
     }
     let names =
-        names(&bytes).expect("the archive has an index: rt staticlib deltawobble writes it");
+        names(&bytes).expect("the archive has an index: rt lib in crates/deltawobble writes it");
     let calls: Vec<&str> =
         names.iter().filter_map(|name| name.strip_prefix("deltawobble_")).collect();
     println!("cargo:rustc-env=ARCHIVE_CALLS={}", calls.join(" "));

@@ -1,6 +1,6 @@
 # Sourced by the scripts of this folder and of examples/callers, in the repository's root: the
 # archive of the proved translator, the processor it is for, and the compiler and the emulator for it.
-archive=${BENCH_ARCHIVE:-target/staticlib/libdeltawobble.a}
+archive=${BENCH_ARCHIVE:-crates/deltawobble/out/libdeltawobble.a}
 
 . bench/tools.sh
 asked cargo
@@ -9,7 +9,7 @@ need readelf binutils
 
 if [ ! -f "$archive" ]; then
     asked rt
-    rt staticlib deltawobble >&2
+    (cd crates/deltawobble && rt lib) >&2
 fi
 
 # native: whether the archive is for this machine. cc and emulator make and run programs for it. With BENCH_EMULATED=yes

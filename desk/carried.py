@@ -13,7 +13,7 @@ from pathlib import Path
 ROOT = Path(__file__).resolve().parents[1]
 PACKAGE = ROOT / "desk" / "package"
 MADE = ROOT / "target" / "desk"
-ARCHIVE = ROOT / "target" / "staticlib" / "libdeltawobble.a"
+ARCHIVE = ROOT / "crates" / "deltawobble" / "out" / "libdeltawobble.a"
 
 NOT_BUILT = ("the proved library has not been built here: run desk/build once (it proves the translator, some minutes; it needs the Rattle "
              "toolchain), or take a wheel from somebody who has")

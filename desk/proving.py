@@ -1,26 +1,25 @@
 #!/usr/bin/env python3
 """Proves a crate and what it stands on, and says where it is: 'crate 17 of 35, wiring, about 4 min left'.
 
-    desk/proving.py deltawobble      proves the library's crates, then writes the archive (rt staticlib)
-    desk/proving.py listing          proves and builds a program (rt check)
+    desk/proving.py deltawobble      proves the library's crates, then writes the archive (rt lib)
+    desk/proving.py listing          proves and builds a program (rt run, on the crate's own stdin)
 
-`rt staticlib` alone proves one crate after the other. `rt check` proves the crates of one level (those that need nothing of each
-other) side by side, so many at a time as RT_JOBS says, and waits for all of these before it takes the next. So the crates are named to
-it level by level, the longest first: what runs side by side then takes about the same time. Seconds by crate are those of
-desk/proved.json; a crate that was proved before and has not changed costs nothing, whoever proved it.
+rt takes the crates one after the other, each behind those that it needs, and a crate that has not changed costs nothing. It says of each
+that it has to prove with how many jobs it does so: by these lines the crate at work is known. Seconds by crate are those of
+desk/proved.json, or of target/desk/seconds.json where more was taken here: what is proved over the work of an earlier check takes less.
 """
 from __future__ import annotations
 
 import json
-import os
+import re
 import subprocess
 import sys
 import time
 from pathlib import Path
 
 ROOT = Path(__file__).resolve().parents[1]
-LOG = ROOT / "target" / "log"
 PROVED = ROOT / "desk" / "proved.json"
+TAKEN = ROOT / "target" / "desk" / "seconds.json"
 #: a line is due after so many seconds at the most
 EVERY = 10
 #: seconds of a crate that no file knows of yet
@@ -33,9 +32,10 @@ def dependencies() -> dict[str, list[str]]:
     """The crates of crates.txt, each with those that it names, the kit's own left out."""
     found: dict[str, list[str]] = {}
     for line in (ROOT / "crates.txt").read_text().splitlines():
-        name, colon, others = line.split("#")[0].partition(":")
+        # behind the name may stand what kind of crate it is
+        said, colon, others = line.split("#")[0].partition(":")
         if colon:
-            found[name.strip()] = others.split()
+            found[said.split()[0]] = others.split()
     return {name: [d for d in others if d in found] for name, others in found.items()}
 
 
@@ -52,89 +52,63 @@ def closure(name: str, crates: dict[str, list[str]]) -> list[str]:
     return list(found)
 
 
-def levels(names: list[str], crates: dict[str, list[str]]) -> dict[str, int]:
-    """A crate's level is one more than the highest among those that it names."""
-    level: dict[str, int] = {}
-    for name in names:
-        level[name] = max([level[d] + 1 for d in crates[name]], default=0)
-    return level
-
-
-def stored_seconds() -> dict[str, float]:
+def seconds_in(path: Path) -> dict[str, float]:
     try:
-        return json.loads(PROVED.read_text())["seconds"]
-    except (OSError, ValueError, KeyError):
+        read = json.loads(path.read_text())
+        return read.get("seconds", {}) if path == PROVED else read
+    except (OSError, ValueError, AttributeError):
         return {}
 
 
-def batches(names: list[str], crates: dict[str, list[str]], seconds: dict[str, float], jobs: int) -> list[list[str]]:
-    """What rt proves side by side, one batch behind the other."""
-    level = levels(names, crates)
-    ordered = sorted(names, key=lambda n: (level[n], -seconds.get(n, UNKNOWN)))
-    found: list[list[str]] = []
-    for name in ordered:
-        if found and level[found[-1][0]] == level[name] and len(found[-1]) < jobs:
-            found[-1].append(name)
-        else:
-            found.append([name])
-    return found
-
-
-def jobs_allowed() -> int:
-    """As rt has it: RT_JOBS, or the processors, at most 4."""
-    word = os.environ.get("RT_JOBS", "")
-    return int(word) if word.isdecimal() and int(word) else min(os.cpu_count() or 1, 4)
+def longest(*tables: dict[str, float]) -> dict[str, float]:
+    """By crate the most that any of these tables has."""
+    return {name: max(table[name] for table in tables if name in table) for name in dict.fromkeys(n for table in tables for n in table)}
 
 
 class Watch:
-    """What is proved, what is being proved, and how long the rest may take."""
+    """What is proved, what is being proved, and how long the rest may take, by what rt has said so far."""
 
-    def __init__(self, plan: list[list[str]], seconds: dict[str, float]):
-        self.plan, self.seconds, self.began = plan, seconds, time.time()
-        self.total = sum(len(batch) for batch in plan)
-        self.done: set[str] = set()
-        self.batch_began, self.at = time.monotonic(), 0
-        #: seconds taken, and seconds that were stored, of the batches that had to be proved
-        self.took, self.expected = 0.0, 0.0
+    def __init__(self, plan: list[str], seconds: dict[str, float]):
+        self.plan, self.seconds = plan, seconds
+        #: the crate at work, by its place in the plan, since when, and how many of rt's words have been looked at
+        self.at, self.since, self.heard = -1, time.monotonic(), 0
+        #: seconds taken, by crate
+        self.took: dict[str, float] = {}
 
     def busy(self) -> bool:
-        """Whether something is being proved: a crate that has not changed takes less than a second."""
-        return self.at < len(self.plan) and time.monotonic() - self.batch_began > 1
+        """Whether something is being proved."""
+        return 0 <= self.at < len(self.plan)
 
-    def expects(self, batch: list[str]) -> float:
-        return max(self.seconds.get(name, UNKNOWN) for name in batch)
+    def expects(self, name: str) -> float:
+        return self.seconds.get(name, UNKNOWN)
 
-    def look(self) -> None:
-        """Reads rt's logs: a batch has ended when each of its crates has its word there."""
-        while self.at < len(self.plan) and all(self.proved(name) for name in self.plan[self.at]):
-            now = time.monotonic()
-            if now - self.batch_began > 1:
-                self.took, self.expected = self.took + now - self.batch_began, self.expected + self.expects(self.plan[self.at])
-            self.done |= set(self.plan[self.at])
-            self.at, self.batch_began = self.at + 1, now
+    def look(self, said: str, ended: bool = False) -> None:
+        """Reads what rt has said: a crate has ended where the next one begins."""
+        begun = [name for name in re.findall(r"^rt: chose --jobs \d+ for (\w+)$", said, re.M) if name in self.plan]
+        for name in begun[self.heard:]:
+            self.leave(self.plan.index(name))
+        self.heard = len(begun)
+        if ended:
+            self.leave(len(self.plan))
 
-    def proved(self, name: str) -> bool:
-        try:
-            log = LOG / (name + ".out")
-            return log.stat().st_mtime >= self.began - 1 and "rt: %s proved" % name in log.read_text(errors="replace")
-        except OSError:
-            return False
+    def leave(self, to: int) -> None:
+        now = time.monotonic()
+        if self.busy():
+            self.took[self.plan[self.at]] = self.took.get(self.plan[self.at], 0) + now - self.since
+        self.at, self.since = to, now
 
     def left(self) -> float:
         """Stored seconds of what is to come, stretched as what has been proved here was."""
-        rest = [self.expects(batch) for batch in self.plan[self.at:]]
+        rest = [self.expects(name) for name in self.plan[max(self.at, 0):]]
         if not rest:
             return 0.0
-        stretch = (self.took + BEFORE) / (self.expected + BEFORE)
-        return max(rest[0] * stretch - (time.monotonic() - self.batch_began), 1) + sum(rest[1:]) * stretch
+        done = [name for name in self.took if name != self.plan[max(self.at, 0)]]
+        stretch = (sum(self.took[name] for name in done) + BEFORE) / (sum(map(self.expects, done)) + BEFORE)
+        return max(rest[0] * stretch - (time.monotonic() - self.since), 1) + sum(rest[1:]) * stretch
 
     def line(self) -> str:
-        batch = self.plan[min(self.at, len(self.plan) - 1)]
-        first = len(self.done) + 1
-        which = "crate %d of %d, %s" % (first, self.total, batch[0])
-        if len(batch) > 1:
-            which = "crates %d to %d of %d, %s" % (first, first + len(batch) - 1, self.total, ", ".join(batch))
-        return "%s, about %s left" % (which, about(self.left()))
+        at = min(max(self.at, 0), len(self.plan) - 1)
+        return "crate %d of %d, %s, about %s left" % (at + 1, len(self.plan), self.plan[at], about(self.left()))
 
 
 def about(seconds: float) -> str:
@@ -163,13 +137,18 @@ class Teller:
             print("\r\033[K", end="", file=sys.stderr, flush=True)
 
 
-def watched(words: list[str], watch: Watch, teller: Teller, said: Path) -> int:
-    """Runs rt; what it prints goes to a file, and its end is shown where it fails."""
+def watched(name: str, program: bool, watch: Watch, teller: Teller, said: Path) -> int:
+    """Runs rt in the crate's folder; what it prints goes to a file, and its end is shown where it fails."""
+    folder = ROOT / "crates" / name
+    given = folder / "stdin" if program and (folder / "stdin").exists() else Path("/dev/null")
     said.parent.mkdir(parents=True, exist_ok=True)
-    with open(said, "w") as file, subprocess.Popen(words, cwd=ROOT, stdout=file, stderr=subprocess.STDOUT) as run:
+    heard = said.with_suffix(".heard")
+    # what a program writes is nobody's; rt's own words then come on standard error
+    with open(said, "w") as file, open(given) as stdin, open(heard, "w") as out, subprocess.Popen(
+            ["rt", "run" if program else "lib"], cwd=folder, stdin=stdin, stdout=out if program else file, stderr=file if program else subprocess.STDOUT) as run:
         try:
             while True:
-                watch.look()
+                watch.look(said.read_text(errors="replace"))
                 if watch.busy():
                     teller.say(watch.line())
                 try:
@@ -180,7 +159,8 @@ def watched(words: list[str], watch: Watch, teller: Teller, said: Path) -> int:
         except KeyboardInterrupt:
             run.wait()
             raise
-    watch.look()
+    heard.unlink()
+    watch.look(said.read_text(errors="replace"), run.returncode == 0)
     if run.returncode:
         teller.close()
         print("\n".join(said.read_text(errors="replace").splitlines()[-40:]), file=sys.stderr)
@@ -189,18 +169,17 @@ def watched(words: list[str], watch: Watch, teller: Teller, said: Path) -> int:
 
 
 def main(name: str) -> int:
-    crates, seconds, jobs = dependencies(), stored_seconds(), jobs_allowed()
+    crates = dependencies()
     if name not in crates:
         print("crates.txt has no crate %s" % name, file=sys.stderr)
         return 2
     program = (ROOT / "crates" / name / "src" / "main.rt").exists()
-    below = batches(closure(name, crates)[:-1], crates, seconds, jobs)
-    watch, teller, said = Watch(below + [[name]], seconds), Teller(), ROOT / "target" / (name + ".said")
-    names = [n for batch in below for n in batch]
-    status = watched(["rt", "check", *names, *([name] if program else [])], watch, teller, said)
-    if status == 0 and not program:
-        status = watched(["rt", "staticlib", name], watch, teller, said)
+    stored = longest(seconds_in(PROVED), seconds_in(TAKEN))
+    watch, teller = Watch(closure(name, crates), stored), Teller()
+    status = watched(name, program, watch, teller, ROOT / "target" / (name + ".said"))
     teller.close()
+    TAKEN.parent.mkdir(parents=True, exist_ok=True)
+    TAKEN.write_text(json.dumps(longest(seconds_in(TAKEN), {crate: round(took) for crate, took in watch.took.items()}), indent=1) + "\n")
     return status
 
 

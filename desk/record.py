@@ -2,9 +2,8 @@
 """What was built, and what the gate has proved, as hashes that anyone can work out again.
 
     desk/record.py built LIBRARY     writes target/desk/built.json: commit, toolchain, and the hashes of sources, archive and library
-    desk/record.py gate SAID CROWD   writes desk/proved.json, where sources or toolchain are new: hashes, and the seconds by crate that
-                                     'rt ci' printed into the file SAID, where CROWD proofs shared a core. The same sources with
-                                     another archive: status 1
+    desk/record.py gate              writes desk/proved.json, where sources or toolchain are new: hashes, and the seconds by crate, the
+                                     most that desk/proving.py has seen. The same sources with another archive: status 1
 
 The archive depends on the sources and the toolchain alone, not on where it is built: that is why a hash can be compared. The shared
 library is linked by the machine's own linker, and may differ where that is another one.
@@ -13,14 +12,13 @@ from __future__ import annotations
 
 import hashlib
 import json
-import re
 import subprocess
 import sys
 from pathlib import Path
 
-from proving import PROVED, ROOT, closure, dependencies
+from proving import PROVED, ROOT, TAKEN, closure, dependencies, longest, seconds_in
 
-ARCHIVE = ROOT / "target" / "staticlib" / "libdeltawobble.a"
+ARCHIVE = ROOT / "crates" / "deltawobble" / "out" / "libdeltawobble.a"
 BUILT = ROOT / "target" / "desk" / "built.json"
 
 
@@ -68,7 +66,7 @@ def built(library: Path) -> int:
     return 0
 
 
-def gate(output: Path, crowd: int) -> int:
+def gate() -> int:
     record = dict(now(), library=sha256(ROOT / "target" / "desk" / "libdeltawobble.so")) if (
         ROOT / "target" / "desk" / "libdeltawobble.so").exists() else now()
     stored = json.loads(PROVED.read_text()) if PROVED.exists() else {}
@@ -78,20 +76,15 @@ def gate(output: Path, crowd: int) -> int:
             return 1
         print("the archive is the one that desk/proved.json names: %s" % record["archive"])
         return 0
-    record["seconds"] = seconds(output.read_text(errors="replace"), crowd) or stored.get("seconds", {})
+    record["seconds"] = longest(stored.get("seconds", {}), seconds_in(TAKEN))
     PROVED.write_text(json.dumps(record, indent=1) + "\n")
     print("desk/proved.json is new, and goes with the commit: archive %s" % record["archive"])
     return 0
 
 
-def seconds(text: str, crowd: int) -> dict[str, int]:
-    """Seconds by crate, as rt prints them, shared by those that were proved on one core."""
-    return {name: round(int(took) / crowd) for name, took in re.findall(r"^rt: (\w+) proved \((\d+) s\)", text, re.M)}
-
-
 if __name__ == "__main__":
     if len(sys.argv) == 3 and sys.argv[1] == "built":
         sys.exit(built(Path(sys.argv[2])))
-    if len(sys.argv) == 4 and sys.argv[1] == "gate":
-        sys.exit(gate(Path(sys.argv[2]), int(sys.argv[3])))
+    if sys.argv[1:] == ["gate"]:
+        sys.exit(gate())
     sys.exit(__doc__)

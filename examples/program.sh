@@ -7,25 +7,23 @@ there() {
     done
 }
 
-# on_program NAME: proves and builds target/bin/NAME of the present sources, and sets the array `run` to the words that run it.
-# The first time that takes minutes: desk/proving.py says where it is. What desk/build has proved is not proved again, nor the other way round.
+# on_program NAME: proves and builds the program crates/NAME/out/NAME of the present sources, and sets the array `run` to the words that run it.
+# What rt has proved and built already, by the gate or by rt run, is not proved again. Else that takes minutes: desk/proving.py says where it is.
 on_program() {
-    program=target/bin/$1
-    for tool in rt python3; do
-        command -v "$tool" >/dev/null || { echo "this needs $tool on the PATH" >&2; exit 2; }
-    done
-    [ -x "$program" ] || echo "proving and building $program: that takes minutes, the first time" >&2
-    python3 desk/proving.py "$1" || exit 1
-    # The program is for x86-64. It runs as rt runs it: with the toolchain's loader and C library, and on
-    # another processor under the emulator that stands beside the toolchain's compiler.
-    kit=$(readlink -f "$(command -v rt)")
-    tools=${kit%/bin/rt}/on/$(uname -m)/toolchain
-    run=("$tools/lib/ld-linux-x86-64.so.2" --library-path "$tools/lib" "$program")
+    program=crates/$1/out/$1
+    if [ ! -x "$program" ] || [ -n "$(find crates crates.txt -name out -prune -o -type f -newer "$program" -print -quit)" ]; then
+        for tool in rt python3; do
+            command -v "$tool" >/dev/null || { echo "this needs $tool on the PATH" >&2; exit 2; }
+        done
+        echo "proving and building $program: that takes minutes, the first time" >&2
+        python3 desk/proving.py "$1" || exit 1
+    fi
+    # the program is for x86-64: on another processor it runs under an emulator
+    run=("$program")
     if [ "$(uname -m)" != x86_64 ]; then
-        emulator=$tools/bin/qemu-x86_64
-        [ -x "$emulator" ] || emulator=$(command -v qemu-x86_64) ||
-            { echo "this machine is $(uname -m): the program needs qemu-x86_64 (Debian package qemu-user)" >&2; exit 2; }
-        run=("$emulator" "${run[@]}")
+        emulator=$(command -v qemu-x86_64) ||
+            { echo "this machine is $(uname -m): the program needs qemu-x86_64 (Debian packages qemu-user and libc6-amd64-cross)" >&2; exit 2; }
+        run=("$emulator" -L /usr/x86_64-linux-gnu "$program")
     fi
 }
 

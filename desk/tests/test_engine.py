@@ -119,7 +119,7 @@ class Proved(unittest.TestCase):
         self.assertIn(" %s\n" % made, Path("/proc/self/maps").read_text())
         with tempfile.TemporaryDirectory() as folder:
             again = Path(folder) / "libdeltawobble.so"
-            archive = ROOT / "target" / "staticlib" / "libdeltawobble.a"
+            archive = ROOT / "crates" / "deltawobble" / "out" / "libdeltawobble.a"
             subprocess.run(["gcc", "-shared", "-o", again, "-Wl,--whole-archive", archive, "-Wl,--no-whole-archive"], check=True)
             self.assertEqual(again.read_bytes(), Path(made).read_bytes())
 

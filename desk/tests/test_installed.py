@@ -177,7 +177,7 @@ class Versions(Folder):
         known = json.loads((engine.MADE / "built.json").read_text())
         self.assertEqual(status, 0)
         self.assertEqual([line.split(None, 1)[1] for line in out.splitlines()], [version.__version__, known["commit"], known["archive"], known["toolchain"]])
-        self.assertEqual(known["archive"], version.sha256(ROOT / "target/staticlib/libdeltawobble.a"))
+        self.assertEqual(known["archive"], version.sha256(record.ARCHIVE))
 
     def copy(self) -> Path:
         """What is built, in a place of its own, with a gate's record of it."""
@@ -188,7 +188,7 @@ class Versions(Folder):
         (place / "built.json").write_text(json.dumps(known))
         (place / "how.json").write_text('{"library": "libdeltawobble.so"}')
         shutil.copy(engine.MADE / "libdeltawobble.so", place)
-        shutil.copy(ROOT / "target/staticlib/libdeltawobble.a", place)
+        shutil.copy(record.ARCHIVE, place)
         return place
 
     @with_library
@@ -206,7 +206,7 @@ class Versions(Folder):
                 self.assertEqual(status, 1)
                 self.assertIn("the build has ", out)
                 self.assertTrue(out.endswith("this is not what the gate proved\n"))
-                shutil.copy(engine.MADE / name if name.endswith("so") else ROOT / "target/staticlib" / name, place)
+                shutil.copy(engine.MADE / name if name.endswith("so") else record.ARCHIVE, place)
             known = json.loads((place / "built.json").read_text())
             known["gate"]["archive"] = "0" * 64
             (place / "built.json").write_text(json.dumps(known))
@@ -217,31 +217,29 @@ class Versions(Folder):
             self.assertEqual(command("verify")[0], 2)
 
     def test_the_gate_s_record(self):
-        said = Path(self.path("said"))
-        said.write_text("rt: laws proved (3 s)\nrt: lean proved (unchanged since it was last proved)\n")
+        taken = Path(self.path("seconds.json"))
+        taken.write_text('{"laws": 3}')
         stored = Path(self.path("proved.json"))
-        with mock.patch.object(record, "PROVED", stored), mock.patch("builtins.print"):
-            self.assertEqual(record.gate(said, 1), 0)
+        with mock.patch.object(record, "PROVED", stored), mock.patch.object(record, "TAKEN", taken), mock.patch("builtins.print"):
+            self.assertEqual(record.gate(), 0)
             first = json.loads(stored.read_text())
             self.assertEqual(first["seconds"], {"laws": 3})
-            self.assertEqual(record.gate(said, 1), 0)
+            self.assertEqual(record.gate(), 0)
             stored.write_text(json.dumps(dict(first, archive="0" * 64)))
-            self.assertEqual(record.gate(said, 1), 1, "the same sources, another archive")
+            self.assertEqual(record.gate(), 1, "the same sources, another archive")
+            taken.write_text('{"laws": 1, "lean": 2}')
             stored.write_text(json.dumps(dict(first, sources="0" * 64)))
-            self.assertEqual(record.gate(said, 1), 0)
+            self.assertEqual(record.gate(), 0)
             self.assertEqual(json.loads(stored.read_text())["sources"], first["sources"])
-            stored.unlink()
-            self.assertEqual(record.gate(said, 3), 0)
-            self.assertEqual(json.loads(stored.read_text())["seconds"], {"laws": 1}, "three proofs shared a core")
+            self.assertEqual(json.loads(stored.read_text())["seconds"], {"laws": 3, "lean": 2}, "over kept work less is taken")
 
 
 class Proving(unittest.TestCase):
     CRATES = {"a": [], "b": [], "c": ["a"], "d": ["a"], "e": ["b"], "f": ["c", "e"]}
 
-    def test_levels_and_batches(self):
-        seconds = {"a": 1, "b": 9, "c": 2, "d": 30, "e": 20, "f": 1}
-        self.assertEqual(proving.batches(list("abcdef"), self.CRATES, seconds, 2), [["b", "a"], ["d", "e"], ["c"], ["f"]])
-        self.assertEqual(proving.batches(list("abcdef"), self.CRATES, seconds, 1), [[n] for n in "badecf"])
+    def test_the_order(self):
+        self.assertEqual(proving.closure("f", self.CRATES), ["a", "c", "b", "e", "f"])
+        self.assertEqual(proving.longest({"a": 1, "b": 4}, {"b": 3, "c": 2}), {"a": 1, "b": 4, "c": 2})
 
     def test_what_a_crate_stands_on(self):
         found = proving.closure("deltawobble", proving.dependencies())
@@ -250,16 +248,17 @@ class Proving(unittest.TestCase):
         self.assertEqual(len(found), len(set(found)))
 
     def test_the_line(self):
-        with tempfile.TemporaryDirectory() as folder, mock.patch.object(proving, "LOG", Path(folder)):
-            watch = proving.Watch([["a"], ["d", "e"]], {"a": 100, "d": 240, "e": 50})
-            self.assertEqual(watch.line(), "crate 1 of 3, a, about 6 min left")
-            (Path(folder) / "a.out").write_text("rt: a proved (50 s)\n")
-            watch.look()
-            self.assertEqual(watch.line(), "crates 2 to 3 of 3, d, e, about 4 min left")
-            for name in "de":
-                (Path(folder) / (name + ".out")).write_text("rt: %s proved (5 s)\n" % name)
-            watch.look()
-            self.assertEqual((watch.left(), watch.busy()), (0.0, False))
+        watch, said = proving.Watch(["a", "d", "e"], {"a": 100, "d": 240, "e": 50}), "rt: chose --jobs 2 for %s\n"
+        self.assertEqual((watch.line(), watch.busy()), ("crate 1 of 3, a, about 6 min left", False))
+        watch.look("")
+        watch.look(said % "a" + "fn a::f: proved\n")
+        self.assertEqual((watch.line(), watch.busy()), ("crate 1 of 3, a, about 6 min left", True))
+        watch.since -= 100
+        watch.look(said % "a" + said % "e")
+        self.assertEqual(watch.line(), "crate 3 of 3, e, about 50 s left")
+        self.assertEqual({name: round(took) for name, took in watch.took.items()}, {"a": 100})
+        watch.look(said % "a" + said % "e", ended=True)
+        self.assertEqual((watch.left(), watch.busy(), list(watch.took)), (0.0, False, ["a", "e"]))
 
     def test_minutes_and_seconds(self):
         self.assertEqual([proving.about(s) for s in (0, 12.4, 89, 91, 250)], ["1 s", "12 s", "89 s", "2 min", "4 min"])

@@ -19,7 +19,7 @@ from deltawobble.netlist import Netlist, listing
 
 from .support import ELSEWHERE, NO_LIBRARY, ROOT, examples, unshielded
 
-ARCHIVE = ROOT / "target" / "staticlib" / "libdeltawobble.a"
+ARCHIVE = ROOT / "crates" / "deltawobble" / "out" / "libdeltawobble.a"
 #: calls of threads, of forked processes and of interrupted ones
 THREADS, FORKS, INTERRUPTS = 800, 800, 400
 

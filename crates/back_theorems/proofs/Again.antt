@@ -1,9 +1,9 @@
 -- What `back` wrote, handed to `translate`: accepted, and its lean netlist has the same parts with the same drivers (document 02, L11). Assumes
 -- nothing.
 use Prim.Native.Nat.{ℕ, ◌≤◌}
-use mathlib.Core.Path.{◌≡◌, refl, sym, ap, ◌∙◌}
+use mathlib.Core.Path.{◌≡◌, refl, ap, ◌∙◌}
 use mathlib.Core.Bool.{Bool, true}
-use mathlib.Core.List.{List, ◌++◌}
+use mathlib.Core.List.{List}
 use native.Mathlib.Omega.{arith}
 use lib.Dec.{leb}
 use lib.ListN.{length, take, drop}
@@ -13,7 +13,6 @@ use Rattle.calculus.specs.Answer.{Answer, good, refused}
 use Rattle.calculus.proofs.Answers.{refused≢good, good-inj, on-bind, on-need}
 use Rattle.calculus.specs.Net.{Net, net_bytes}
 use Rattle.calculus.specs.Lean.{lean}
-use Rattle.calculus.specs.Makers.{makers_of}
 use Rattle.calculus.specs.NetRead.{read_net}
 use Rattle.calculus.specs.Translate.{full, answer, said_of, out_of, call}
 use Rattle.calculus.specs.Known.{lean_plain}
@@ -21,7 +20,7 @@ use Rattle.circuit_theorems.proofs.Bounds.{length_enough, lean_shorter}
 use Rattle.circuit_theorems.proofs.Told.{bytes_tell}
 use Rattle.foreign_calculus.specs.Foreign.{Bytes}
 use Rattle.back_calculus.specs.Returned.{returned, back_answer, back_call}
-use Rattle.back_calculus.specs.Promises.{LeanOf, TranslatesBack}
+use Rattle.back_calculus.specs.Promises.{TranslatesBack}
 use Rattle.back_theorems.proofs.Main.{came-back, same_parts, same_drivers}
 
 -- the bytes that a call of `back` wrote are the definition's sheet

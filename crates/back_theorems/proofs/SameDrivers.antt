@@ -27,6 +27,7 @@ use Rattle.back_theorems.proofs.CameBack.{gates-length, gates_in}
 -- ---- lists
 
 all_among : {A : Type 0} (P : A → Type 0) (x : A) (xs : List A) → All P xs → Among x xs → P x
+all_among {A = A} P x [] a x3 = elim x3 [ ]
 all_among P x (y ∷ xs) a here = a.0
 all_among P x (y ∷ xs) a (there h) = all_among P x xs a.1 h
 
@@ -59,6 +60,7 @@ record GateAt (D : DrivenBy → ℕ → Type 0) (gs : List Gate) (k p i : ℕ) :
 
 module _ (D : DrivenBy → ℕ → Type 0) where
   gate-at : (es : List Element) (gs : List Gate) (k p i : ℕ) → Gated D es gs → NthPart es k p i → GateAt D gs k p i
+  gate-at [] gs k p i h n = elim n [ ]
   gate-at (point x ∷ es) gs k p i h (past_point n) = gate-at es gs k p i h n
   gate-at (part r x ∷ es) [] k p i h n = absurd h
   gate-at (part r x ∷ es) (g ∷ gs) k p i h this_part = record { low = omega arith; part_is = h.0; whole = h.1; holds = h.2 }
@@ -100,17 +102,20 @@ module _ (D E : DrivenBy → ℕ → Type 0) where
 -- ---- one driver for each input
 
 nth_low : (es : List Element) (n e k p i : ℕ) → Rising es n e → NthPart es k p i → n ≤ i
+nth_low [] n e k p i r x'' = elim x'' [ ]
 nth_low (point x ∷ es) n e k p i r (past_point h) = omega (arith, r.0, nth_low es (x + 2) e k p i r.1 h)
 nth_low (part q x ∷ es) n e k p i r this_part = r.0
 nth_low (part q x ∷ es) n e (suc k) p i r (past_part h) = omega (arith, r.0, nth_low es (x + (part_at q).inputs + 1) e k p i r.1 h)
 
 point_low : (es : List Element) (n e y : ℕ) → Rising es n e → Among (point y) es → n ≤ y
+point_low [] n e y r x'' = elim x'' [ ]
 point_low (point x ∷ es) n e y r here = r.0
 point_low (point x ∷ es) n e y r (there h) = omega (arith, r.0, point_low es (x + 2) e y r.1 h)
 point_low (part q x ∷ es) n e y r (there h) = omega (arith, r.0, point_low es (x + (part_at q).inputs + 1) e y r.1 h)
 
 -- no two parts have one output
 part-once : (es : List Element) (n e k l p q i j : ℕ) → Rising es n e → NthPart es k p i → NthPart es l q j → i + (part_at p).inputs ≡ j + (part_at q).inputs → k ≡ l
+part-once [] n e k l p q i j r x4 _ u = elim x4 [ ]
 part-once (point x ∷ es) n e k l p q i j r (past_point g) (past_point h) u = part-once es (x + 2) e k l p q i j r.1 g h u
 part-once (part a x ∷ es) n e k l p q i j r this_part this_part u = refl
 part-once (part a x ∷ es) n e k (suc l) p q i j r this_part (past_part h) u = absurd (let z = nth_low es (x + (part_at a).inputs + 1) e l q j r.1 h in omega arith)
@@ -119,6 +124,7 @@ part-once (part a x ∷ es) n e (suc k) (suc l) p q i j r (past_part g) (past_pa
 
 -- .. nor a point and a part
 point_or_part : (es : List Element) (n e y k p i : ℕ) → Rising es n e → Among (point y) es → NthPart es k p i → y + 1 ≡ i + (part_at p).inputs → ⊥
+point_or_part [] n e y k p i r x4 _ u = elim x4 [ ]
 point_or_part (point x ∷ es) n e y k p i r here (past_point h) u = let z = nth_low es (x + 2) e k p i r.1 h in omega arith
 point_or_part (point x ∷ es) n e y k p i r (there g) (past_point h) u = point_or_part es (x + 2) e y k p i r.1 g h u
 point_or_part (part a x ∷ es) n e y k p i r (there g) this_part u = let z = point_low es (x + (part_at a).inputs + 1) e y r.1 g in omega arith
@@ -148,6 +154,7 @@ pin_once (t ∷ ps) (suc n) zero y e f l = absurd (omega (arith, ins_here t ps y
 pin_once (t ∷ ps) (suc n) (suc k) y e f l = ap suc (pin_once ps n k y e f (omega (arith, ins-more t ps y)))
 
 runs-has : (ws : List Wire) (o x : ℕ) → Among (record { from = o; to = x }) ws → T (has_wire ws x)
+runs-has [] o x x3 = elim x3 [ ]
 runs-has (w ∷ ws) o x here = or_left (eqb x x) (has_wire ws x) (eqb_refl x)
 runs-has (w ∷ ws) o x (there h) = or_right (eqb w.to x) (has_wire ws x) (runs-has ws o x h)
 

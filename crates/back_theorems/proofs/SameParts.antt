@@ -7,7 +7,7 @@ use native.Mathlib.Omega.{arith}
 use lib.ListN.{length}
 use borrow.Author.Tests.{eq-eqb, ne_eqb}
 use Rattle.calculus.specs.Terms.{part_at}
-use Rattle.calculus.specs.Net.{Interface, Element, part, Wire, Net}
+use Rattle.calculus.specs.Net.{Interface, Element, Wire, Net}
 use Rattle.calculus.specs.Lean.{driver}
 use Rattle.calculus.specs.Record.{All}
 use Rattle.back_calculus.specs.Back.{DrivenBy, undriven, output, Gate, part_before, gates, open_ins, points_from, parts_from, output_at, source_at, gate_wires, all_wires, inputs_from, outputs_from, back_net, point_out, pin_before, source_seen, sources_seen, gates_seen}

@@ -56,7 +56,7 @@ every F (there h) a = every F h a.1
 module _ {A : Type 0} (f : ℕ → ℕ → List A) (at : ℕ) (w : List ℕ) where
   row-in : {a : A} (c x : ℕ) → Among a (row_in f at w c x) → (y : ℕ) × (y < x + c) × Among a (f (get_or w (at + y) 0) y)
   row-in zero x h = absurd (none h)
-  row-in (suc c) x h = ⊎_elim (λ g. (x, omega arith, g)) (λ g. let r = row-in c (x + 1) g in (r.0, omega (arith, r.1), r.2)) (in_both (f (get_or w (at + x) 0) x) (row_in f at w c (x + 1)) h)
+  row-in {a = a} (suc c) x h = ⊎_elim (λ g. (x, omega arith, g)) (λ g. let r = row-in {a = a} c (x + 1) g in (r.0, omega (arith, r.1), r.2)) (in_both (f (get_or w (at + x) 0) x) (row_in f at w c (x + 1)) h)
 
   in_row : {a : A} (c x y : ℕ) → x ≤ y → y < x + c → Among a (f (get_or w (at + y) 0) y) → Among a (row_in f at w c x)
   in_row zero x y l h g = absurd (omega arith)

@@ -58,7 +58,7 @@ split_raise w (ins_there p) (split_second z) = let h = split_raise w p z in reco
 split_raise w (ins_there p) (split_away z) = let h = split_raise w p z in record { one = _; two = _; ins_one = ins_there h.ins_one; ins_two = ins_there h.ins_two; split = split_away h.split }
 
 module _ {Θ : Table} where
-  pub raise_typed : {c : ℕ} {x : Entry} {Γ Γ⁺ : Ctx} {τ : Ty} → (e : Marked) → Idle x → Ins c x Γ Γ⁺ → Typed first Θ Γ (plain e) τ → Typed first Θ Γ⁺ (plain (raise c e)) τ
+  pub raise_typed : (e : Marked) {c : ℕ} {x : Entry} {Γ Γ⁺ : Ctx} {τ : Ty} → Idle x → Ins c x Γ Γ⁺ → Typed first Θ Γ (plain e) τ → Typed first Θ Γ⁺ (plain (raise c e)) τ
   raise_typed (mvar i) w p (Var v) = Var (in_raise w p v)
   raise_typed (mlvar i) w p (LVar v) = LVar (is-raise w p v)
   raise_typed (mfun t e) w p (→I q s d) = →I q s (raise_typed e w (ins_there p) d)
@@ -110,7 +110,7 @@ split_drop (ins_there p) (split_second z) = let h = split_drop p z in record { o
 split_drop (ins_there p) (split_away z) = let h = split_drop p z in record { one = _; two = _; ins_one = ins_there h.ins_one; ins_two = ins_there h.ins_two; split = split_away h.split }
 
 module _ {Θ : Table} where
-  pub drop_typed : {j : ℕ} {Γ Γ⁺ : Ctx} {τ : Ty} → (e a : Marked) → Ins j away Γ Γ⁺ → Typed first Θ Γ⁺ (plain e) τ → Typed first Θ Γ (plain (put j a e)) τ
+  pub drop_typed : (e a : Marked) {j : ℕ} {Γ Γ⁺ : Ctx} {τ : Ty} → Ins j away Γ Γ⁺ → Typed first Θ Γ⁺ (plain e) τ → Typed first Θ Γ (plain (put j a e)) τ
   drop_typed (mvar i) a p (Var v) = Var (in_drop p v)
   drop_typed (mlvar i) a p (LVar v) = rw (other p v) (LVar (is-drop p v))
   drop_typed (mfun t e) a p (→I q s d) = →I q s (drop_typed e (raise 0 a) (ins_there p) d)
@@ -125,10 +125,12 @@ module _ {Θ : Table} where
 -- ---- the argument put in at the one place of its variable
 
 pub none-once : {j : ℕ} {κ : Ty} {Γ Γ⁺ : Ctx} → Ins j (once κ) Γ Γ⁺ → NoLinear Γ⁺ → ⊥
+none-once {κ = κ} {Γ = Γ} ins_here x7 = elim x7 [ ]
 none-once (ins_there p) (none_many z) = none-once p z
 none-once (ins_there p) (none_away z) = none-once p z
 
 pub in_once : {j i : ℕ} {κ θ : Ty} {Γ Γ⁺ : Ctx} → Ins j (once κ) Γ Γ⁺ → InΓ Γ⁺ i θ → ⊥
+in_once {i = i} {κ = κ} {θ = θ} {Γ = Γ} ins_here x7 = elim x7 [ ]
 in_once (ins_there p) (in_here z) = none-once p z
 in_once (ins_there p) (in_many v) = in_once p v
 in_once (ins_there p) (in_away v) = in_once p v
@@ -147,6 +149,7 @@ itself (ins_there p) (is_away v) = let r = itself p v in record { place = r.plac
 
 -- a half without linear variables leaves the whole to the other
 pub split_none : {Γ Γ₁ Γ₂ : Ctx} → Split Γ Γ₁ Γ₂ → NoLinear Γ₁ → Γ₂ ≡ Γ
+split_none (split_first {κ = κ} {Γ = Γ} {Γ₁ = Γ₁} {Γ₂ = Γ₂} _) x6 = elim x6 [ ]
 split_none split_end none_end = refl
 split_none (split_many {θ = θ} z) (none_many n) = ap (λ (r : Ctx). many θ ∷ r) (split_none z n)
 split_none (split_second {κ = κ} z) (none_away n) = ap (λ (r : Ctx). once κ ∷ r) (split_none z n)
@@ -199,7 +202,7 @@ with_second (split_second y) (split_away z) = let (g, p, q) = with_second y z in
 with_second (split_away y) (split_away z) = let (g, p, q) = with_second y z in (_, split_away p, split_away q)
 
 module _ {Θ : Table} where
-  pub put_typed : {j : ℕ} {κ τ : Ty} {Γ Γ₁ Γ₂ Γ⁺ : Ctx} → (e a : Marked) → Ins j (once κ) Γ₁ Γ⁺ → Split Γ Γ₁ Γ₂ → Typed first Θ Γ⁺ (plain e) τ → Typed first Θ Γ₂ (plain a) κ → Typed first Θ Γ (plain (put j a e)) τ
+  pub put_typed : (e a : Marked) {j : ℕ} {κ τ : Ty} {Γ Γ₁ Γ₂ Γ⁺ : Ctx} → Ins j (once κ) Γ₁ Γ⁺ → Split Γ Γ₁ Γ₂ → Typed first Θ Γ⁺ (plain e) τ → Typed first Θ Γ₂ (plain a) κ → Typed first Θ Γ (plain (put j a e)) τ
   put_typed (mvar i) a p y (Var v) h = absurd (in_once p v)
   put_typed (mlvar i) a p y (LVar v) h = let r = itself p v in rw r.place (rw (split_none y r.rest, r.type) at h)
   put_typed (mfun t e) a p y (→I q s d) h = →I q s (put_typed e (raise 0 a) (ins_there p) (split_many y) d (raise_typed a idle_many ins_here h))

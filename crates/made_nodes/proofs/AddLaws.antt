@@ -1,19 +1,18 @@
 -- Each way out of `add` is the definition's, and so what is made over one term and over two. Assumes nothing.
-use Prim.Native.Nat.{ℕ, suc, ◌+◌, ◌*◌, ◌<◌, ◌≤◌}
+use Prim.Native.Nat.{ℕ, suc, ◌+◌, ◌<◌, ◌≤◌}
 use mathlib.Core.Path.{◌≡◌, refl, sym, ap, subst, ◌∙◌}
-use mathlib.Core.Bool.{Bool, true, false, cond}
-use mathlib.Core.List.{List, [], ◌∷◌, ◌++◌}
+use mathlib.Core.Bool.{Bool, true, false}
+use mathlib.Core.List.{List, ◌∷◌, ◌++◌}
 use native.Mathlib.Omega.{arith}
-use lib.Dec.{leb, ltb}
+use lib.Dec.{ltb}
 use lib.ListN.{length, get_or}
-use borrow.Author.Tests.{le-leb, lt-leb, lt-ltb, le-ltb}
-use Rattle.calculus.specs.Answer.{Answer, good, refuse}
+use borrow.Author.Tests.{lt-ltb, le-ltb}
+use Rattle.calculus.specs.Answer.{good, refuse}
 use Rattle.calculus.specs.Terms.{Term}
-use Rattle.notation_calculus.specs.Making.{State, Made, counted, node, larger, over}
-use Rattle.making_memory.specs.Map.{nodes_at, types_at, type_count_at, node_count_at, making_size}
-use Rattle.made_types.specs.Held.{HoldsState}
-use Rattle.made_nodes.specs.Nodes.{NoSubterm, OneSubterm, TwoSubterms, TermIn, leaf, one, two}
-use Rattle.made_nodes.specs.Held.{TermHeld, MadeIn, SmallMade, MadeOnly}
+use Rattle.notation_calculus.specs.Making.{State, counted, node, larger}
+use Rattle.making_memory.specs.Map.{type_count_at, node_count_at, making_size}
+use Rattle.made_nodes.specs.Nodes.{TermIn, leaf, one, two}
+use Rattle.made_nodes.specs.Held.{MadeIn}
 use Rattle.made_nodes.specs.Adding.{NodeOver, no_sub, one_sub, two_subs, NodeSays, UnderSays, OverSays}
 use Rattle.made_nodes.specs.declared.Node.{Node}
 use Rattle.made_nodes.specs.declared.Sub.{Sub}

@@ -1,29 +1,29 @@
 -- The nodes of each form: the answer is that of the definition. Assumes nothing.
-use Prim.Native.Nat.{ℕ, suc, ◌+◌, ◌<◌, ◌≤◌}
+use Prim.Native.Nat.{ℕ, ◌<◌}
 use mathlib.Core.Path.{◌≡◌, refl, sym, ap, subst, ◌∙◌}
 use mathlib.Core.Bool.{Bool, true, false, ◌&&◌, cond}
-use mathlib.Core.List.{List, [], ◌∷◌, ◌++◌}
+use mathlib.Core.List.{List, []}
 use native.Mathlib.Omega.{arith}
-use lib.Dec.{eqb, leb}
+use lib.Dec.{leb}
 use lib.ListN.{length, get_or}
-use borrow.Author.Tests.{eq-eqb, ne_eqb, eqb-true}
-use Rattle.calculus.specs.Answer.{Answer, good, refused, ◌>>=◌, numbered}
-use Rattle.calculus.specs.Types.{TyRec, rec01, rec02, rec03, rec04, Table, rec_at}
+use borrow.Author.Tests.{eq-eqb, eqb-true}
+use Rattle.calculus.specs.Answer.{Answer, ◌>>=◌}
+use Rattle.calculus.specs.Types.{TyRec, rec01, rec02, rec03, rec04, rec_at}
 use Rattle.calculus.specs.Terms.{Edition, is_second, Term, var, lvar, app, lfun, lapp, proj, con, part_at}
 use Rattle.calculus.specs.Terms as Terms
 use Rattle.sheet_theorems.specs.Laid.{Below}
 use Rattle.notation_calculus.specs.Trees.{Bound}
-use Rattle.notation_calculus.specs.Making.{State, Found, shares, listed, arrow_of, Made, node, over, variable, part_type, part_of, function_of, name_of, half_of, pair_of, applied}
-use Rattle.making_memory.specs.Map.{type_count_at, second_at_lem}
+use Rattle.notation_calculus.specs.Making.{State, Found, shares, listed, arrow_of, Made, node, over, variable, part_type, function_of, half_of, applied}
+use Rattle.making_memory.specs.Map.{second_at_lem}
 use Rattle.made_types.specs.Held.{kind_in, right_in, kind_number, right_number, HoldsState}
 use Rattle.made_types.specs.Listing.{FoundIn}
 use Rattle.made_types.specs.declared.FoundType as type
 use Rattle.made_types.specs.declared.FoundType.TheVariants as found
 use Rattle.made_types.proofs.Sorts.{shares_in}
 use Rattle.made_nodes.specs.Nodes.{NoSubterm, of_var, of_lvar, of_con, OneSubterm, of_fun, of_lfun, of_fix_lem, TwoSubterms, of_app, of_lapp, of_pair, of_proj, of_name}
-use Rattle.made_nodes.specs.Held.{TermHeld, MadeIn, SmallMade, MadeOnly}
+use Rattle.made_nodes.specs.Held.{TermHeld, MadeIn}
 use Rattle.made_nodes.specs.Adding.{no_sub, NodeSays, UnderSays, OverSays}
-use Rattle.made_nodes.specs.Forms.{EditionIn, ArrowSays, ProductSays, PartTypeSays, VariableSays, PartSays, FunctionSays, FixSays, NameAppliedSays, NamingSays, ProjectionSays, PairSays, AppliedSays}
+use Rattle.made_nodes.specs.Forms.{ArrowSays, ProductSays, PartTypeSays, VariableSays, PartSays, FunctionSays, FixSays, NameAppliedSays, NamingSays, ProjectionSays, PairSays, AppliedSays}
 use Rattle.made_nodes.specs.declared.Sub.{Sub}
 use Rattle.made_nodes.specs.declared.MadeTerm as code
 use Rattle.made_nodes.specs.declared.MadeTerm.TheVariants as made

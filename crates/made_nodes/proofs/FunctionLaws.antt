@@ -5,12 +5,12 @@ use mathlib.Core.List.{List, [], ◌∷◌}
 use native.Mathlib.Omega.{arith}
 use lib.ListN.{length, get_or, drop}
 use lib.Seq.{drop-cons, drop-length}
-use Rattle.calculus.specs.Answer.{Answer, good, refused, Refusal, ◌>>=◌, numbered}
+use Rattle.calculus.specs.Answer.{Answer, refused, Refusal, ◌>>=◌, numbered}
 use Rattle.notation_calculus.specs.Trees.{Bound}
 use Rattle.notation_calculus.specs.Making.{Made, function_of, functions_of, rest}
-use Rattle.making_memory.specs.Map.{scope_at, type_count_at, node_count_at}
+use Rattle.making_memory.specs.Map.{scope_at}
 use Rattle.made_types.specs.Held.{HoldsState}
-use Rattle.made_nodes.specs.Held.{TermHeld, MadeIn, SmallMade, MadeOnly, Workable}
+use Rattle.made_nodes.specs.Held.{TermHeld, MadeIn, MadeOnly}
 use Rattle.made_nodes.specs.Forms.{NamesIn, FunctionSays, FunctionsSay}
 use Rattle.made_nodes.specs.declared.Sub.{Sub}
 use Rattle.made_nodes.specs.declared.MadeTerm as code

@@ -1,12 +1,12 @@
 -- Terms that stand in the memory stay there while nodes and types are added. Assumes nothing.
-use Prim.Native.Nat.{ℕ, ◌+◌, ◌*◌, ◌<◌, ◌≤◌}
+use Prim.Native.Nat.{ℕ, ◌+◌, ◌*◌, ◌<◌}
 use mathlib.Core.Path.{◌≡◌, refl, ◌∙◌}
 use mathlib.Core.List.{List}
 use native.Mathlib.Omega.{arith}
-use lib.ListN.{length, get_or}
+use lib.ListN.{get_or}
 use Rattle.calculus.specs.Terms.{Term}
 use Rattle.notation_calculus.specs.Making.{Made}
-use Rattle.making_memory.specs.Map.{nodes_at, types_at, type_count_at, node_count_at, making_size}
+use Rattle.making_memory.specs.Map.{nodes_at, node_count_at}
 use Rattle.made_types.specs.Held.{TypesOnly}
 use Rattle.made_nodes.specs.Nodes.{NodeIn, TermIn, leaf, one, two}
 use Rattle.made_nodes.specs.Held.{TermHeld, MadeOnly, Workable}

@@ -1,5 +1,5 @@
 -- The types that nodes have: arrows, products, and the types of parts. Assumes nothing.
-use Prim.Native.Nat.{ℕ, zero, suc, ◌+◌, ◌<◌, ◌≤◌}
+use Prim.Native.Nat.{ℕ, zero, suc, ◌<◌, ◌≤◌}
 use mathlib.Core.Path.{◌≡◌, refl, sym, ap, subst, ◌∙◌}
 use mathlib.Core.Bool.{Bool, true, false, cond}
 use mathlib.Core.List.{List}
@@ -7,14 +7,14 @@ use native.Mathlib.Omega.{arith}
 use lib.Dec.{leb}
 use lib.ListN.{length, get_or}
 use borrow.Author.Tests.{eq-eqb, ne_eqb}
-use Rattle.calculus.specs.Answer.{Answer, good, refused, ◌>>=◌, numbered}
-use Rattle.calculus.specs.Types.{TyRec, rec01, rec02, rec03, rec04, Table}
+use Rattle.calculus.specs.Answer.{Answer, ◌>>=◌}
+use Rattle.calculus.specs.Types.{TyRec, rec02, rec03, rec04}
 use Rattle.calculus.specs.Terms.{Edition, first, second, is_second}
 use Rattle.sheet_theorems.specs.Laid.{Below}
 use Rattle.notation_calculus.specs.Making.{State, Found, shares, listed, arrow_of, half_of, part_type}
-use Rattle.making_memory.specs.Map.{type_count_at, second_at_lem, making_size}
-use Rattle.made_types.specs.Held.{kind_in, HoldsTypes, HoldsState, TypesOnly}
-use Rattle.made_types.specs.Listing.{rec_of_kind, record_of_lem, Listable, FoundIn, SmallType, ListedSays}
+use Rattle.making_memory.specs.Map.{second_at_lem}
+use Rattle.made_types.specs.Held.{kind_in, HoldsState, TypesOnly}
+use Rattle.made_types.specs.Listing.{rec_of_kind, Listable, FoundIn, ListedSays}
 use Rattle.made_types.specs.declared.Record.{Record}
 use Rattle.made_types.specs.declared.FoundType as code
 use Rattle.made_types.specs.declared.FoundType.TheVariants as found

@@ -1,9 +1,9 @@
 -- What the functions that make nodes answer: in each record, whatever state and terms the memory held, the answer is that of the
 -- definition. Assumes nothing.
-use Rattle.std.specs.Prelude.{ℕ, ◌+◌, ◌*◌, ◌≤◌, ◌<◌, ◌≡◌, Bool, cond, List, [], ◌++◌, length, get_or}
+use Rattle.std.specs.Prelude.{ℕ, ◌<◌, List, [], ◌++◌, length, get_or}
 use Rattle.calculus.specs.Terms.{Term}
 use Rattle.notation_calculus.specs.Making.{State, Made, node, over}
-use Rattle.making_memory.specs.Map.{type_count_at, node_count_at}
+use Rattle.making_memory.specs.Map.{node_count_at}
 use Rattle.made_types.specs.Held.{HoldsState}
 use Rattle.made_nodes.specs.Nodes.{NoSubterm, OneSubterm, TwoSubterms, TermIn}
 use Rattle.made_nodes.specs.Held.{TermHeld, MadeIn, SmallMade, MadeOnly}

@@ -12,7 +12,7 @@ use Rattle.calculus.specs.Types.{TyRec, rec01, rec02, rec03, rec04, rec_eq, Tabl
 use Rattle.calculus.specs.Read.{repeated}
 use Rattle.sheet_theorems.specs.Laid.{Below}
 use Rattle.notation_calculus.specs.Making.{number_in}
-use Rattle.made_types.specs.Held.{kind_number, left_number, right_number, kind_in, left_in_lem, right_in, HoldsTypes}
+use Rattle.made_types.specs.Held.{kind_number, left_number, right_number, HoldsTypes}
 use Rattle.made_types.specs.Listing.{rec_of_kind, record_of_lem, same_in_lem, Searched, Listable}
 use Rattle.made_types.specs.declared.Record.{Record}
 use Rattle.made_types.proofs.Sorts.{by_form}

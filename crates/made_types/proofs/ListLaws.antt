@@ -1,27 +1,26 @@
 -- Each way out of `listed` is the definition's. Assumes nothing.
-use Prim.Native.Nat.{ℕ, ◌+◌, ◌*◌, ◌<◌, ◌≤◌}
-use mathlib.Core.Path.{◌≡◌, refl, sym, ap, subst, ◌∙◌}
-use mathlib.Core.Bool.{Bool, true, false, cond}
+use Prim.Native.Nat.{ℕ, ◌+◌, ◌<◌, ◌≤◌}
+use mathlib.Core.Path.{◌≡◌, refl, sym, ◌∙◌}
+use mathlib.Core.Bool.{true, false}
 use mathlib.Core.List.{List, [], ◌∷◌, ◌++◌}
 use native.Mathlib.Omega.{arith}
-use lib.Dec.{eqb, leb, ltb}
 use lib.ListN.{length, get_or}
 use borrow.Author.Tests.{le-leb, lt-leb, lt-ltb, le-ltb}
-use Rattle.calculus.specs.Answer.{Answer, good, refused, ◌>>=◌, numbered, refuse, need}
-use Rattle.calculus.specs.Types.{size, TyRec, rec01, rec02, rec03, rec04, Table, rec_at, ty_of, tys_from, tree}
+use Rattle.calculus.specs.Answer.{good, refuse}
+use Rattle.calculus.specs.Types.{size, TyRec, Table, ty_of, tys_from, tree}
 use Rattle.calculus.specs.Read.{formed, repeated}
 use Rattle.sheet_theorems.specs.Laid.{Below}
 use Rattle.notation_calculus.specs.Making.{State, Found, with_type, number_in, listed}
-use Rattle.notation_theorems.proofs.Answering.{On, on_good}
+use Rattle.notation_theorems.proofs.Answering.{on_good}
 use Rattle.notation_theorems.proofs.Growing.{Ready, Listed, listed-holds}
-use Rattle.making_memory.specs.Map.{types_at, type_count_at, node_count_at, put_count_at}
+use Rattle.making_memory.specs.Map.{type_count_at, node_count_at, put_count_at}
 use Rattle.made_types.specs.Held.{kind_number, left_number, right_number, bits_in_lem, HoldsTypes, HoldsState, TypesOnly}
-use Rattle.made_types.specs.Listing.{rec_of_kind, record_of_lem, formed_in, Searched, Listable, FoundIn, ListedSays}
+use Rattle.made_types.specs.Listing.{rec_of_kind, record_of_lem, formed_in, Searched, Listable, ListedSays}
 use Rattle.made_types.specs.declared.Record.{Record}
 use Rattle.made_types.specs.declared.FoundType.TheVariants as found
 use Rattle.made_types.proofs.Sorts.{by_form, ready_of, formed_in_lem}
 use Rattle.made_types.proofs.Finding.{found_old, found_new}
-use Rattle.made_types.proofs.Growth.{stored, stored_only, stored-below, stored-above, holds-stored}
+use Rattle.made_types.proofs.Growth.{stored, stored_only, stored-above, holds-stored}
 
 -- ---- the definition, way by way
 

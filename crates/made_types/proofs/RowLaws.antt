@@ -10,7 +10,6 @@ use Rattle.notation_calculus.specs.Making.{State, Found, listed, more_bits}
 use Rattle.making_memory.specs.Map.{type_count_at, making_size}
 use Rattle.made_types.specs.Held.{HoldsState, TypesOnly}
 use Rattle.made_types.specs.Listing.{Listable, FoundIn, SmallType, ListedSays, RowSays}
-use Rattle.made_types.specs.declared.Record.{Record}
 use Rattle.made_types.specs.declared.FoundType as code
 use Rattle.made_types.specs.declared.FoundType.TheVariants as found
 use Rattle.made_types.proofs.ListLaws.{types_same, types_on}

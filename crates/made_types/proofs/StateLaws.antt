@@ -1,14 +1,13 @@
 -- The state at the beginning, and a state that is gone back to. Assumes nothing.
 use Prim.Native.Nat.{ℕ, zero, suc, ◌+◌, ◌*◌, ◌≤◌, ◌<◌}
-use mathlib.Core.Path.{◌≡◌, refl, sym, ap, subst, ◌∙◌}
-use mathlib.Core.List.{List, [], ◌∷◌, ◌++◌}
+use mathlib.Core.Path.{◌≡◌, refl, ap, ◌∙◌}
+use mathlib.Core.List.{List, [], ◌∷◌}
 use native.Mathlib.Omega.{arith}
 use lib.ListN.{length, get_or, set, length-set, length-append, get_or-append}
 use lib.Seq.{get_or-set_same, get_or-set_other}
-use Rattle.calculus.specs.Types.{size, TyRec, rec01, Table, rec_at, tree}
+use Rattle.calculus.specs.Types.{size, rec01, Table, rec_at, tree}
 use Rattle.sheet_theorems.proofs.TableRead.{tree_prefix}
 use Rattle.notation_calculus.specs.Making.{State}
-use Rattle.notation_calculus.specs.Make.{start}
 use Rattle.notation_theorems.proofs.TermsMean.{start_ready}
 use Rattle.making_memory.specs.Map.{types_at, type_count_at, node_count_at, put_count_at, making_size}
 use Rattle.made_types.specs.Held.{kind_number, left_number, right_number, kind_in, left_in_lem, right_in, bits_in_lem, HoldsTypes, HoldsState}

@@ -1,5 +1,5 @@
 -- What the functions over the table of types answer. Assumes nothing.
-use Rattle.std.specs.Prelude.{ℕ, ◌+◌, ◌*◌, ◌≤◌, ◌<◌, ◌≡◌, Bool, true, false, not, ◌&&◌, cond, List, eqb, leb, length, get_or}
+use Rattle.std.specs.Prelude.{ℕ, ◌≤◌, ◌<◌, ◌≡◌, Bool, true, false, not, ◌&&◌, cond, List, eqb, leb, length, get_or}
 use Rattle.calculus.specs.Answer.{Answer, good, refused, numbered}
 use Rattle.calculus.specs.Types.{TyRec, rec02, rec03, rec04}
 use Rattle.sheet_theorems.specs.Laid.{Below}

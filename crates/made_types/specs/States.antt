@@ -4,7 +4,7 @@ use Rattle.calculus.specs.Types.{rec01, Table, rec_at}
 use Rattle.sheet_theorems.specs.Laid.{TableOk}
 use Rattle.notation_calculus.specs.Making.{State}
 use Rattle.notation_calculus.specs.Make.{start}
-use Rattle.making_memory.specs.Map.{types_at, type_count_at, node_count_at, put_count_at}
+use Rattle.making_memory.specs.Map.{type_count_at, node_count_at, put_count_at}
 use Rattle.made_types.specs.Held.{HoldsState}
 
 pub record Begun (w w' : List ℕ) : Type 0 where

@@ -11,7 +11,7 @@ use lib.Dec.{T, eqb}
 use lib.ListN.{length, get_or, length-append, length-map}
 use Rattle.calculus.specs.Terms.{part_at}
 use Rattle.calculus.specs.Net.{Element, point, part, wire_of, Net}
-use Rattle.calculus.specs.Record.{Bits, Stream, All, Among, Law, streams, Works, Joined, Possible, part_law}
+use Rattle.calculus.specs.Record.{Bits, Stream, Among, streams, Works, Joined, Possible, part_law}
 use Rattle.circuit_theorems.specs.Terminals.{has}
 use Rattle.circuit_theorems.specs.Formed.{Formed}
 use Rattle.trace_calculus.specs.Trace.{terminals, run, in_pins, out_pins, registers, given_bits, start_bits, bit_byte_lem, row, rows}

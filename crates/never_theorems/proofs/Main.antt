@@ -1,24 +1,23 @@
 -- What a search promises of a formed netlist: accepted exactly when the pin never has 1, 40 exactly at the first tick at which it can, and
 -- then a trace that shows it. Assumes nothing.
-use Prim.Native.Nat.{ℕ, zero, suc, ◌≤◌, ◌<◌}
+use Prim.Native.Nat.{ℕ, suc, ◌≤◌, ◌<◌}
 use mathlib.Core.Path.{◌≡◌, refl, sym, ap, ◌∙◌, subst}
-use mathlib.Core.Logic.{◌↔◌, ◌⊎◌, inl, inr, ⊎_elim}
-use mathlib.Core.Bool.{Bool, true, false, cond}
-use mathlib.Core.List.{List, [], ◌∷◌, ◌++◌}
+use mathlib.Core.Bool.{Bool, true, false}
+use mathlib.Core.List.{List, ◌++◌}
 use native.Mathlib.Omega.{arith}
 use native.Mathlib.Nat.{le_refl}
 use native.Mathlib.Decide.{dec_le}
-use lib.Dec.{T, leb}
+use lib.Dec.{T}
 use lib.ListN.{length, drop}
 use borrow.Author.Tests.{le-leb, lt-leb}
 use Rattle.calculus.specs.Answer.{Refusal, Answer, good, refused, ◌>>=◌, refuse}
 use Rattle.calculus.proofs.Answers.{refused≢good, good-inj, refused-inj}
 use Rattle.calculus.specs.Net.{Net}
 use Rattle.circuit_theorems.specs.Formed.{Formed}
-use Rattle.trace_calculus.specs.Promise.{Ringless, LowestOnRing}
+use Rattle.trace_calculus.specs.Promise.{LowestOnRing}
 use Rattle.never_calculus.specs.Count.{States}
-use Rattle.never_calculus.specs.Never.{Never, CanShow, FirstShown, Demonstrates}
-use Rattle.never_calculus.specs.Search.{Looked, shown, dark, examined, said_looked, start_bytes, input_bytes, put_front, out_answer}
+use Rattle.never_calculus.specs.Never.{Never, FirstShown, Demonstrates}
+use Rattle.never_calculus.specs.Search.{Looked, examined, said_looked, start_bytes, input_bytes, put_front, out_answer}
 use Rattle.never_calculus.specs.Promise.{output_pin, Asked, Written, NetPromise}
 use Rattle.never_theorems.proofs.Exact.{Explored, never, first}
 use Rattle.never_theorems.proofs.Outcome.{Examined, by_ring, by-registers, by-inputs, by-starts, by_pin, by_room, to_end, examined-ends}

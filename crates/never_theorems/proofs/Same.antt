@@ -1,6 +1,6 @@
 -- An output that compares two terminals never shows 1 exactly when they always have the same bit, and first shows 1 where they first differ.
 -- Assumes nothing.
-use Prim.Native.Nat.{ℕ, suc, ◌+◌, ◌<◌}
+use Prim.Native.Nat.{ℕ, suc, ◌<◌}
 use mathlib.Core.Path.{◌≡◌, refl, sym, ap, ap₂, ◌∙◌, subst}
 use mathlib.Core.Logic.{◌↔◌}
 use mathlib.Core.Bool.{Bool, true, false, xor}
@@ -10,7 +10,7 @@ use lib.Dec.{T}
 use Rattle.calculus.specs.Net.{Net}
 use Rattle.calculus.specs.Record.{Bits, Possible, part_law, Works, Joined}
 use Rattle.trace_theorems.proofs.Sources.{in_all}
-use Rattle.never_calculus.specs.Never.{RecordFrom, Never, CanShow, FirstShown}
+use Rattle.never_calculus.specs.Never.{Never, CanShow, FirstShown}
 use Rattle.never_calculus.specs.Same.{AlwaysAlike, DifferAt, FirstDiffer, Compares}
 
 pub xor_alike : (x y : Bool) → xor x y ≡ false → x ≡ y

@@ -4,10 +4,10 @@ use mathlib.Core.Path.{◌≡◌, refl, sym, ap, ◌∙◌}
 use mathlib.Core.List.{List, [], ◌∷◌, ◌++◌, append_assoc, append-nil}
 use native.Mathlib.Omega.{arith}
 use lib.ListN.{length, get_or, drop}
-use Rattle.calculus.specs.Types.{TyRec, rec01, rec02, rec03, rec04, Table}
-use Rattle.calculus.specs.Terms.{Edition, Term, var, lvar, fun, app, lfun, lapp, pair, proj, fix, con, name, nodes}
-use Rattle.calculus.specs.Read.{TypeKind, k01, k02, k03, k04, NodeKind, k11, k12, k13, k14, k15, k16, k17, k18, k19, k1A, k1B, Kind, unknown, type, node, kind_of, Sheet, edition_of, records_of}
-use Rattle.calculus.specs.Write.{rec_bytes, table_bytes, term_bytes, record_bytes, sheet_bytes}
+use Rattle.calculus.specs.Types.{rec01, rec02, rec03, rec04, Table}
+use Rattle.calculus.specs.Terms.{Term, var, lvar, fun, app, lfun, lapp, pair, proj, fix, con, name, nodes}
+use Rattle.calculus.specs.Read.{k01, k02, k03, k04, k11, k12, k13, k14, k15, k16, k17, k18, k19, k1A, k1B, Kind, unknown, type, node, kind_of, Sheet, edition_of, records_of}
+use Rattle.calculus.specs.Write.{table_bytes, term_bytes, record_bytes, sheet_bytes}
 use Rattle.sheet_theorems.proofs.SheetRead.{edition_written, records-written}
 
 -- ---- a term at the front of some bytes, with at most k nodes, and what stands behind it

@@ -1,7 +1,7 @@
 -- The other calls on a sheet, Verilog (document 02, L1), a run (L4) and sixteen runs at once: their refusals 1 to 16 are the sentences'. Assumes
 -- nothing.
 use Prim.Native.Nat.{ℕ, ◌*◌, ◌≤◌}
-use mathlib.Core.Path.{◌≡◌, refl, sym, ap, ◌∙◌}
+use mathlib.Core.Path.{◌≡◌, sym, ap}
 use mathlib.Core.Logic.{◌↔◌}
 use mathlib.Core.Bool.{Bool, not, ◌&&◌}
 use mathlib.Core.List.{List, [], ◌∷◌}
@@ -11,15 +11,14 @@ use lib.ListN.{length}
 use borrow.Author.Tests.{leb-false, le-leb, lt-leb}
 use Rattle.calculus.specs.Answer.{Refusal, Answer, good, refused, numbered, ◌>>=◌, need}
 use Rattle.calculus.proofs.Answers.{refused≢good, refused-inj}
-use Rattle.calculus.specs.Net.{Element, Net}
+use Rattle.calculus.specs.Net.{Net}
 use Rattle.calculus.specs.Lean.{lean}
 use Rattle.calculus.specs.Translate.{full, said_of}
-use Rattle.sheet_theorems.proofs.Judging.{Judged, value, refusal, Any, of_bind, of_require, weaker, of_refused}
+use Rattle.sheet_theorems.proofs.Judging.{Judged, value, Any, of_bind, of_require, weaker, of_refused}
 use Rattle.export_calculus.specs.Card.{need_all, no_ring, input_place}
 use Rattle.export_calculus.specs.Verilog.{module_text, exported, export, verilog_call}
 use Rattle.trace_calculus.specs.Trace.{inputs, on_ring, none_on_ring, run, in_pins, out_pins, registers, given_bits, start_bits, rows, all_bits, ran, trace, run_call}
 use Rattle.trace_calculus.specs.Lanes.{LanesEnd, went, lanes_ran, lanes_trace, outs, lanes_call}
-use Rattle.refusal_theorems.specs.RefusedBy.{NoNetlist}
 use Rattle.refusal_theorems.specs.OnSheet.{OnSheet, of_little_memory, of_no_netlist}
 use Rattle.refusal_theorems.proofs.CallExact.{full_or, no_netlist_exact, said_refused}
 

@@ -1,6 +1,6 @@
 -- The refusals 10 to 15, one sentence of document 01 ("Numbers of the refusals") and document 02 (L3, L7) after the other, over Figure 2
 -- (`Typed`) and with no walk. What is in quotes is the documents' own. Assumes nothing.
-use Rattle.std.specs.Prelude.{ℕ, zero, suc, ◌+◌, ◌<◌, ◌≤◌, ◌≡◌, Bool, true, false, [], ◌∷◌, T, length}
+use Rattle.std.specs.Prelude.{ℕ, zero, suc, ◌+◌, ◌<◌, ◌≤◌, ◌≡◌, Bool, true, false, ◌∷◌, T, length}
 use Rattle.calculus.specs.Answer.{Refusal, numbered, clash, a_form}
 use Rattle.calculus.specs.Types.{Ty, sharable, TyRec, rec02, rec03, rec04, Table, rec_at, tree}
 use Rattle.calculus.specs.Terms.{Edition, Term, var, lvar, fun, app, lfun, lapp, pair, proj, fix, con, name, nodes, parts, part_at}

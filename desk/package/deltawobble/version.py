@@ -67,7 +67,7 @@ def verify() -> Verdict:
     made = engine.how()
     called = folder / (made["library"] if "library" in made else made["host"][-1])
     verdict.held("library", sha256(called), known.get("library"), "the build")
-    archive = next((p for p in (folder / "libdeltawobble.a", folder.parent / "staticlib" / "libdeltawobble.a") if p.exists()), None)
+    archive = next((p for p in (folder / "libdeltawobble.a", folder.parents[1] / "crates" / "deltawobble" / "out" / "libdeltawobble.a") if p.exists()), None)
     if archive is None:
         verdict.good = False
         verdict.lines.append("archive: there is none beside the library")

@@ -1,11 +1,7 @@
 -- The invariant: the numbers before i are 0, and the others as they were.
-use borrow.Author.Rules.{rules}
-use Rattle.memory.proofs.Zeroed.{zeroed-none, zeroed-more}
-use native.Mathlib.Omega.{arith}
-use mathlib.Core.Path.{◌≡◌, refl, ◌∙◌, ap}
-use mathlib.Core.List.{List}
-use Prim.Native.Nat.{ℕ, ◌≤◌, ◌-◌}
-use lib.ListN.{length, set, length-set}
+use mathlib.Core.Path.{◌≡◌}
+use Prim.Native.Nat.{◌≤◌, ◌-◌}
+use lib.ListN.{length}
 use Rattle.calculus.specs.Translate.{zeroed}
 use Rattle.memory.specs.Map.{memory_size}
 use Rattle.memory.proofs.clear.Given as goal

@@ -1,0 +1,9 @@
+-- `clauses::row_at` meets its contract: number by number. Assumes nothing.
+use mathlib.Core.Path.{refl}
+use Rattle.clauses.specs.Rows.{row_in}
+use Rattle.clauses.proofs.RowLaws.{row-parts}
+use borrow.Author.Rules.{rules}
+use Rattle.clauses.proofs.rows.row_at.Goals as goal
+
+pub returns : goal.returns
+returns c = row-parts (row_in c.args.work.now c.args.k) _ _ _ _ _ _ _ _ _ c.wide.ensures c.wide-2.ensures c.wide-3.ensures c.wide-4.ensures c.wide-5.ensures refl c.wide-6.ensures c.wide-7.ensures c.wide-8.ensures

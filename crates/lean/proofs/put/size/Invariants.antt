@@ -1,0 +1,11 @@
+-- The invariant: the sum and the sizes that are still to come make the whole. Assumes nothing.
+use mathlib.Core.Path.{◌≡◌}
+use Prim.Native.Nat.{◌+◌, ◌*◌, ◌-◌, ◌≤◌}
+use Rattle.lean.specs.Rows.{sizes_in}
+use Rattle.lean.proofs.put.size.Given as goal
+
+abbrev pub invariant-loop-x : goal.invariant-loop-x
+invariant-loop-x l = (l.x ≤ l.end) × ((l.sum ≤ 6 * l.x) × (l.sum + sizes_in l.plain l.work (l.end - l.x) l.x ≡ sizes_in l.plain l.work l.end 0))
+
+abbrev pub decreases-loop-x : goal.decreases-loop-x
+decreases-loop-x l = l.end - l.x

@@ -1,0 +1,23 @@
+-- The stores are one run, and the count. Assumes nothing.
+use native.Mathlib.Omega.{arith}
+use native.Mathlib.Numerals.{add-one, add-two, add-three, add-four}
+use lib.ListN.{length-set}
+use Rattle.made_nodes.proofs.store.Goals as goal
+
+pub bounds-work-at-2 : goal.bounds-work-at-2
+bounds-work-at-2 c = simp length-set (omega arith)
+
+pub bounds-work-at-3 : goal.bounds-work-at-3
+bounds-work-at-3 c = simp length-set (omega arith)
+
+pub bounds-work-at-4 : goal.bounds-work-at-4
+bounds-work-at-4 c = simp length-set (omega arith)
+
+pub bounds-work-at-5 : goal.bounds-work-at-5
+bounds-work-at-5 c = simp length-set (omega arith)
+
+pub bounds-work-31233 : goal.bounds-work-31233
+bounds-work-31233 c = simp length-set (omega arith)
+
+pub returns : goal.returns
+returns c = rw (add-one, add-two, add-three, add-four)

@@ -1,0 +1,14 @@
+-- The kind, the part, and the two bytes behind them, are one run of stores. Assumes nothing.
+use native.Mathlib.Omega.{arith}
+use native.Mathlib.Numerals.{add-one, add-two}
+use mathlib.Core.Path.{◌∙◌}
+use lib.ListN.{length-set}
+use Rattle.netlist.proofs.put_part.Goals as goal
+
+pub shape_of-out : goal.shape_of-out
+shape_of-out c = c.put_two.auto.out ∙ simp length-set
+
+pub returns : goal.returns
+returns c =
+    let e = c.put_two.ensures in
+    (omega arith, e.1 ∙ rw (add-one, add-two))
