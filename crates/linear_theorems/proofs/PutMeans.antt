@@ -102,18 +102,18 @@ module _ (law : Law) (Θ : Table) (n : ℕ) (ρ : Seen) where
 
   -- ---- a linear binder that the term does not use
 
-  pub drop_means : {j : ℕ} {Γ Γ⁺ : Ctx} {τ : Ty} (e a : Marked) → Ins j away Γ Γ⁺ → Typed first Θ Γ⁺ (plain e) τ → (u : Val) (ε : List Val) → Like e (into j u ε) (put j a e) ε
-  drop_means {j} (mvar i) a p (Var x) u ε = along (look-other j i u ε (apart p x))
-  drop_means {j} (mlvar i) a p (LVar x) u ε = rw (other p x) (along (look-other j i u ε (other p x)))
-  drop_means {j} (mfun t e) a p (→I q s d) u ε = fun-like t e (put (suc j) (raise 0 a) e) (into j u ε) ε (λ w h. drop_means e (raise 0 a) (ins_there p) d u (w ∷ ε))
-  drop_means {j} (mapp f b) a p (→E z s d c) u ε = let h = split_drop p z in app-like f b (put j a f) (put j a b) (into j u ε) ε (drop_means f a h.ins_one d u ε) (drop_means b a h.ins_two c u ε)
-  drop_means {j} (mlfun t e) a p (⊸I q s d) u ε = lfun-like t e (put (suc j) (raise 0 a) e) (into j u ε) ε (λ w h. drop_means e (raise 0 a) (ins_there p) d u (w ∷ ε))
-  drop_means {j} (mlapp f b) a p (⊸E z s d c) u ε = let h = split_drop p z in app-like f b (put j a f) (put j a b) (into j u ε) ε (drop_means f a h.ins_one d u ε) (drop_means b a h.ins_two c u ε)
-  drop_means {j} (mpair t f b) a p (×I z q s₁ s₂ d c) u ε = let h = split_drop p z in pair-like t f b (put j a f) (put j a b) (into j u ε) ε (drop_means f a h.ins_one d u ε) (drop_means b a h.ins_two c u ε)
-  drop_means {j} (mproj f b) a p (×E z s₁ s₂ d c) u ε =
+  pub drop_means : (e a : Marked) {j : ℕ} {Γ Γ⁺ : Ctx} {τ : Ty} → Ins j away Γ Γ⁺ → Typed first Θ Γ⁺ (plain e) τ → (u : Val) (ε : List Val) → Like e (into j u ε) (put j a e) ε
+  drop_means (mvar i) a {j} p (Var x) u ε = along (look-other j i u ε (apart p x))
+  drop_means (mlvar i) a {j} p (LVar x) u ε = rw (other p x) (along (look-other j i u ε (other p x)))
+  drop_means (mfun t e) a {j} p (→I q s d) u ε = fun-like t e (put (suc j) (raise 0 a) e) (into j u ε) ε (λ w h. drop_means e (raise 0 a) (ins_there p) d u (w ∷ ε))
+  drop_means (mapp f b) a {j} p (→E z s d c) u ε = let h = split_drop p z in app-like f b (put j a f) (put j a b) (into j u ε) ε (drop_means f a h.ins_one d u ε) (drop_means b a h.ins_two c u ε)
+  drop_means (mlfun t e) a {j} p (⊸I q s d) u ε = lfun-like t e (put (suc j) (raise 0 a) e) (into j u ε) ε (λ w h. drop_means e (raise 0 a) (ins_there p) d u (w ∷ ε))
+  drop_means (mlapp f b) a {j} p (⊸E z s d c) u ε = let h = split_drop p z in app-like f b (put j a f) (put j a b) (into j u ε) ε (drop_means f a h.ins_one d u ε) (drop_means b a h.ins_two c u ε)
+  drop_means (mpair t f b) a {j} p (×I z q s₁ s₂ d c) u ε = let h = split_drop p z in pair-like t f b (put j a f) (put j a b) (into j u ε) ε (drop_means f a h.ins_one d u ε) (drop_means b a h.ins_two c u ε)
+  drop_means (mproj f b) a {j} p (×E z s₁ s₂ d c) u ε =
       let h = split_drop p z in
       proj-like f b (put j a f) (put (suc (suc j)) (raise 0 (raise 0 a)) b) (into j u ε) ε (drop_means f a h.ins_one d u ε) (λ x w g. drop_means b (raise 0 (raise 0 a)) (ins_there (ins_there h.ins_two)) c u (w ∷ x ∷ ε))
-  drop_means {j} (mfix t e) a p (Fix q s d) u ε = fix-like t e (put (suc j) (raise 0 a) e) (into j u ε) ε (λ w h. drop_means e (raise 0 a) (ins_there p) d u (w ∷ ε))
+  drop_means (mfix t e) a {j} p (Fix q s d) u ε = fix-like t e (put (suc j) (raise 0 a) e) (into j u ε) ε (λ w h. drop_means e (raise 0 a) (ins_there p) d u (w ∷ ε))
   drop_means (mcon k t m) a p (Con l q z) u ε = λ v. ((λ x. x), (λ x. x))
 
   -- ---- the argument put in: it has a value, and the body has its own with that value at the variable

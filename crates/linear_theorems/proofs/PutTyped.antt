@@ -58,7 +58,7 @@ split_raise w (ins_there p) (split_second z) = let h = split_raise w p z in reco
 split_raise w (ins_there p) (split_away z) = let h = split_raise w p z in record { one = _; two = _; ins_one = ins_there h.ins_one; ins_two = ins_there h.ins_two; split = split_away h.split }
 
 module _ {Θ : Table} where
-  pub raise_typed : {c : ℕ} {x : Entry} {Γ Γ⁺ : Ctx} {τ : Ty} → (e : Marked) → Idle x → Ins c x Γ Γ⁺ → Typed first Θ Γ (plain e) τ → Typed first Θ Γ⁺ (plain (raise c e)) τ
+  pub raise_typed : (e : Marked) {c : ℕ} {x : Entry} {Γ Γ⁺ : Ctx} {τ : Ty} → Idle x → Ins c x Γ Γ⁺ → Typed first Θ Γ (plain e) τ → Typed first Θ Γ⁺ (plain (raise c e)) τ
   raise_typed (mvar i) w p (Var v) = Var (in_raise w p v)
   raise_typed (mlvar i) w p (LVar v) = LVar (is-raise w p v)
   raise_typed (mfun t e) w p (→I q s d) = →I q s (raise_typed e w (ins_there p) d)
@@ -110,7 +110,7 @@ split_drop (ins_there p) (split_second z) = let h = split_drop p z in record { o
 split_drop (ins_there p) (split_away z) = let h = split_drop p z in record { one = _; two = _; ins_one = ins_there h.ins_one; ins_two = ins_there h.ins_two; split = split_away h.split }
 
 module _ {Θ : Table} where
-  pub drop_typed : {j : ℕ} {Γ Γ⁺ : Ctx} {τ : Ty} → (e a : Marked) → Ins j away Γ Γ⁺ → Typed first Θ Γ⁺ (plain e) τ → Typed first Θ Γ (plain (put j a e)) τ
+  pub drop_typed : (e a : Marked) {j : ℕ} {Γ Γ⁺ : Ctx} {τ : Ty} → Ins j away Γ Γ⁺ → Typed first Θ Γ⁺ (plain e) τ → Typed first Θ Γ (plain (put j a e)) τ
   drop_typed (mvar i) a p (Var v) = Var (in_drop p v)
   drop_typed (mlvar i) a p (LVar v) = rw (other p v) (LVar (is-drop p v))
   drop_typed (mfun t e) a p (→I q s d) = →I q s (drop_typed e (raise 0 a) (ins_there p) d)
@@ -202,7 +202,7 @@ with_second (split_second y) (split_away z) = let (g, p, q) = with_second y z in
 with_second (split_away y) (split_away z) = let (g, p, q) = with_second y z in (_, split_away p, split_away q)
 
 module _ {Θ : Table} where
-  pub put_typed : {j : ℕ} {κ τ : Ty} {Γ Γ₁ Γ₂ Γ⁺ : Ctx} → (e a : Marked) → Ins j (once κ) Γ₁ Γ⁺ → Split Γ Γ₁ Γ₂ → Typed first Θ Γ⁺ (plain e) τ → Typed first Θ Γ₂ (plain a) κ → Typed first Θ Γ (plain (put j a e)) τ
+  pub put_typed : (e a : Marked) {j : ℕ} {κ τ : Ty} {Γ Γ₁ Γ₂ Γ⁺ : Ctx} → Ins j (once κ) Γ₁ Γ⁺ → Split Γ Γ₁ Γ₂ → Typed first Θ Γ⁺ (plain e) τ → Typed first Θ Γ₂ (plain a) κ → Typed first Θ Γ (plain (put j a e)) τ
   put_typed (mvar i) a p y (Var v) h = absurd (in_once p v)
   put_typed (mlvar i) a p y (LVar v) h = let r = itself p v in rw r.place (rw (split_none y r.rest, r.type) at h)
   put_typed (mfun t e) a p y (→I q s d) h = →I q s (put_typed e (raise 0 a) (ins_there p) (split_many y) d (raise_typed a idle_many ins_here h))

@@ -67,7 +67,7 @@ module _ (w : Weight) where
   raise-weight c (mcon p t k) = refl
 
   module _ {Θ : Table} where
-    drop-weight : {j : ℕ} {Γ Γ⁺ : Ctx} {τ : Ty} (e a : Marked) → Ins j away Γ Γ⁺ → Typed first Θ Γ⁺ (plain e) τ → weigh (put j a e) ≡ weigh e
+    drop-weight : (e a : Marked) {j : ℕ} {Γ Γ⁺ : Ctx} {τ : Ty} → Ins j away Γ Γ⁺ → Typed first Θ Γ⁺ (plain e) τ → weigh (put j a e) ≡ weigh e
     drop-weight (mvar i) a p (Var x) = refl
     drop-weight (mlvar i) a p (LVar x) = rw (other p x)
     drop-weight (mfun t e) a p (→I q s d) = omega (arith, drop-weight e (raise 0 a) (ins_there p) d)

@@ -6,7 +6,7 @@ use mathlib.Core.Bool.{Bool, true, false}
 use mathlib.Core.List.{List}
 use lib.Dec.{eqb}
 use lib.ListN.{get_or}
-use Rattle.calculus.specs.Answer.{Answer, good, refused, Refusal, refuse}
+use Rattle.calculus.specs.Answer.{Refusal}
 use Rattle.calculus.specs.Terms.{Edition, first, second, is_second}
 use Rattle.calculus.proofs.Answers.{refused≢good, refused-inj}
 use Rattle.making_memory.specs.Map.{second_at_lem}

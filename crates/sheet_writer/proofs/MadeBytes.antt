@@ -1,26 +1,25 @@
 -- What is made of a text can be written: each number of its term is a byte, and there are no more than 2,048 nodes. Assumes nothing.
 use Prim.Native.Nat.{ℕ, suc, ◌+◌, ◌*◌, ◌≤◌, ◌<◌, max}
-use mathlib.Core.Path.{◌≡◌, refl, subst, sym}
-use mathlib.Core.List.{List, [], ◌∷◌, ◌++◌}
+use mathlib.Core.Path.{◌≡◌, refl}
+use mathlib.Core.List.{List}
 use native.Mathlib.Omega.{arith}
 use lib.ListN.{length}
 use Rattle.calculus.specs.Answer.{good}
-use Rattle.calculus.specs.Terms.{Edition, Term, var, lvar, fun, app, lfun, lapp, pair, proj, fix, con, name, nodes}
+use Rattle.calculus.specs.Terms.{Edition, Term, var, lvar, fun, app, lfun, lapp, pair, proj, fix, con, name}
 use Rattle.calculus.specs.Write.{term_bytes}
 use Rattle.calculus.specs.Record.{All}
 use Rattle.sheet_theorems.specs.Laid.{depth}
-use Rattle.notation_calculus.specs.Make.{Placed, make, sheet_of, bytes_of}
+use Rattle.notation_calculus.specs.Make.{Placed, make, bytes_of}
 use Rattle.notation_theorems.specs.Scoped.{Scoped}
 use Rattle.notation_theorems.specs.Counted.{Spelt}
 use Rattle.notation_theorems.specs.Worded.{IsPart}
 use Rattle.notation_theorems.proofs.Counting.{all_both}
 use Rattle.notation_theorems.proofs.NodesMean.{LowTerm}
-use Rattle.notation_theorems.proofs.TermsMean.{make-table, make-types}
+use Rattle.notation_theorems.proofs.TermsMean.{make-types}
 use Rattle.notation_theorems.proofs.Closed.{made-closed}
 use Rattle.notation_theorems.proofs.Reading.{of_bytes, make-reads, places_of}
 use Rattle.notation_theorems.proofs.Wording.{make-parts}
 use Rattle.sheet_theorems.proofs.SheetRead.{TermLimits, read-written}
-use Rattle.making_memory.specs.Map.{making_size}
 use Rattle.made_types.specs.Held.{HoldsTypes}
 use Rattle.made_nodes.specs.Nodes.{TermIn}
 use Rattle.sheet_writer.specs.Wrote.{SheetStands}

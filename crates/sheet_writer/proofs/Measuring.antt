@@ -1,15 +1,14 @@
 -- The measure of a term is its record's and those of its subterms. Assumes nothing.
-use Prim.Native.Nat.{ℕ, suc, ◌+◌, ◌*◌, ◌≤◌, ◌<◌}
-use mathlib.Core.Path.{◌≡◌, refl, sym, ap, subst, ◌∙◌}
-use mathlib.Core.List.{List, [], ◌∷◌, ◌++◌}
+use Prim.Native.Nat.{ℕ, ◌+◌, ◌≤◌, ◌<◌}
+use mathlib.Core.Path.{◌≡◌, ap}
+use mathlib.Core.List.{List, ◌++◌}
 use native.Mathlib.Omega.{arith}
-use lib.ListN.{length, get_or, length-append}
+use lib.ListN.{length, length-append}
 use Rattle.calculus.specs.Write.{term_bytes}
-use Rattle.made_nodes.specs.Nodes.{TermIn}
-use Rattle.sheet_writer.specs.Bytes.{node_kind_in, node_left_in, node_right_in, node_record, node_place_in, body_bytes, subterm_count}
+use Rattle.sheet_writer.specs.Bytes.{node_kind_in, node_left_in, node_right_in, node_record, body_bytes, subterm_count}
 use Rattle.sheet_writer.specs.Wrote.{TermStands, Measures}
 use Rattle.sheet_writer.specs.declared.Span.{Span}
-use Rattle.sheet_writer.proofs.Views.{view_leaf, view_one, view-two, view_first, record_length, at_most_three, body_most}
+use Rattle.sheet_writer.proofs.Views.{view_leaf, view_one, view-two, view_first, record_length, at_most_three}
 
 module _ (w : List ℕ) (k : ℕ) where
   -- what stands below

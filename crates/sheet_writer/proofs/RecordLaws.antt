@@ -1,10 +1,9 @@
 -- A node's record, by the number of its body bytes. Assumes nothing.
-use Prim.Native.Nat.{ℕ, ◌+◌, ◌≤◌}
-use mathlib.Core.Path.{◌≡◌, refl}
+use Prim.Native.Nat.{ℕ}
+use mathlib.Core.Path.{◌≡◌}
 use mathlib.Core.List.{List, [], ◌∷◌}
 use native.Mathlib.Omega.{arith}
-use lib.ListN.{length}
-use borrow.Author.Tests.{eq-eqb, ne_eqb}
+use borrow.Author.Tests.{ne_eqb}
 use Rattle.sheet_writer.specs.Bytes.{node_kind_in, node_body_in, node_left_in, body_bytes, node_record}
 use Rattle.sheet_writer.proofs.Views.{body_most}
 

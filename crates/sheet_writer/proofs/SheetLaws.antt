@@ -1,27 +1,25 @@
 -- The sheet is measured, refused or written as the definition says. Assumes nothing.
-use Prim.Native.Nat.{ℕ, ◌+◌, ◌*◌, ◌≤◌, ◌<◌}
-use mathlib.Core.Path.{◌≡◌, refl, sym, ap, subst, ◌∙◌}
+use Prim.Native.Nat.{ℕ, ◌+◌, ◌≤◌, ◌<◌}
+use mathlib.Core.Path.{◌≡◌, refl, ap, ◌∙◌}
 use mathlib.Core.Bool.{Bool, true, false, cond}
 use mathlib.Core.List.{List, [], ◌∷◌, ◌++◌, append_assoc}
 use native.Mathlib.Omega.{arith}
-use lib.Dec.{eqb, leb}
-use lib.ListN.{length, get_or, drop, length-append}
+use lib.Dec.{eqb}
+use lib.ListN.{length, get_or, length-append}
 use lib.Seq.{sets}
 use borrow.Author.Tests.{le-leb, lt-leb, eq-eqb}
 use Rattle.laws.proofs.Regions.{written-more, sets-front}
-use Rattle.calculus.specs.Answer.{Answer, good, refused, ◌>>=◌, refuse, need, numbered}
+use Rattle.calculus.specs.Answer.{good, refuse}
 use Rattle.calculus.specs.Types.{Table}
 use Rattle.calculus.specs.Terms.{Edition, first, second, is_second, opening, Term}
 use Rattle.calculus.specs.Write.{term_bytes, table_bytes, record_bytes, sheet_bytes}
-use Rattle.notation_calculus.specs.Make.{Written, said_make, out_make, places_make}
 use Rattle.making_memory.specs.Map.{second_at_lem, type_count_at}
 use Rattle.made_types.specs.Held.{HoldsTypes}
 use Rattle.made_nodes.specs.Nodes.{TermIn}
 use Rattle.made_nodes.specs.Forms.{EditionIn}
 use Rattle.sheet_writer.specs.Bytes.{opening_in, types_bytes, TypesFit}
-use Rattle.sheet_writer.specs.Wrote.{TermStands, Measures, TermFits, TermWrote, SheetStands, sheet_answer, said_wrote, LeavesAs, SheetWrote}
+use Rattle.sheet_writer.specs.Wrote.{Measures, TermFits, TermWrote, SheetStands, sheet_answer, SheetWrote}
 use Rattle.sheet_writer.specs.declared.Span.{Span}
-use Rattle.sheet_writer.specs.declared.WroteSheet as code
 use Rattle.sheet_writer.specs.declared.WroteSheet.TheVariants as wrote
 use Rattle.sheet_writer.proofs.TypeRecords.{types_are, types-low}
 

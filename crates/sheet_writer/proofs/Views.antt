@@ -1,15 +1,14 @@
 -- A term that stands in the memory, by the number of its subterms: its bytes are its record and those of its subterms. Assumes nothing.
 use Prim.Native.Nat.{ℕ, zero, suc, ◌+◌, ◌*◌, ◌≤◌, ◌<◌}
-use mathlib.Core.Path.{◌≡◌, refl, sym, ap, subst, ◌∙◌}
+use mathlib.Core.Path.{◌≡◌, refl, sym, ap, ◌∙◌}
 use mathlib.Core.Bool.{Bool, true, false, cond}
-use mathlib.Core.List.{List, [], ◌∷◌, ◌++◌, append_assoc, append-nil}
+use mathlib.Core.List.{List, [], ◌∷◌, ◌++◌, append-nil}
 use native.Mathlib.Omega.{arith}
 use lib.Dec.{eqb}
-use lib.ListN.{length, get_or, length-append}
+use lib.ListN.{length, length-append}
 use Rattle.calculus.specs.Terms.{Term}
 use Rattle.calculus.specs.Write.{term_bytes}
 use Rattle.calculus.specs.Record.{All}
-use Rattle.making_memory.specs.Map.{nodes_at}
 use Rattle.made_nodes.specs.Nodes.{NodeIn, NoSubterm, of_var, of_lvar, of_con, OneSubterm, of_fun, of_lfun, of_fix_lem, TwoSubterms, of_app, of_lapp, of_pair, of_proj, of_name, TermIn, leaf, one, two}
 use Rattle.sheet_writer.specs.Bytes.{node_kind_in, node_body_in, node_left_in, node_right_in, node_place_in, body_bytes, subterm_count, record_of_kind, node_record, RecordLow}
 

@@ -1,16 +1,14 @@
 -- A term's bytes and places are written: its record, and its subterms behind it. Assumes nothing.
-use Prim.Native.Nat.{ℕ, suc, ◌+◌, ◌*◌, ◌≤◌, ◌<◌}
-use mathlib.Core.Path.{◌≡◌, refl, sym, ap, subst, ◌∙◌}
-use mathlib.Core.List.{List, [], ◌∷◌, ◌++◌, append_assoc}
+use Prim.Native.Nat.{ℕ, ◌+◌, ◌≤◌, ◌<◌}
+use mathlib.Core.Path.{◌≡◌, sym, ap, subst, ◌∙◌}
+use mathlib.Core.List.{List, ◌∷◌, ◌++◌, append_assoc}
 use native.Mathlib.Omega.{arith}
 use native.Mathlib.Numerals.{add-one}
-use lib.ListN.{length, get_or, set, length-append, length-set}
+use lib.ListN.{length, set, length-append, length-set}
 use lib.Seq.{sets}
 use Rattle.laws.proofs.Regions.{written-more}
-use Rattle.calculus.specs.Terms.{Term}
 use Rattle.calculus.specs.Write.{term_bytes}
 use Rattle.calculus.specs.Record.{All}
-use Rattle.made_nodes.specs.Nodes.{TermIn}
 use Rattle.sheet_writer.specs.Bytes.{node_kind_in, node_left_in, node_right_in, node_record, node_place_in, subterm_count, RecordLow}
 use Rattle.sheet_writer.specs.Wrote.{TermFits, TermWrote}
 use Rattle.sheet_writer.specs.declared.Span.{Span}

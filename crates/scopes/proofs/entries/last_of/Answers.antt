@@ -1,0 +1,39 @@
+-- `scopes::last_of` meets its contract. The invariant: the entries that are left decide. The measure is how many are left. Assumes nothing.
+use Prim.Native.Nat.{ℕ, ◌-◌, ◌≤◌}
+use mathlib.Core.Path.{sym, subst, ◌∙◌}
+use native.Mathlib.Omega.{arith}
+use lib.ListN.{length}
+use Rattle.scopes.proofs.EntryLaws.{LastLeft, last_none, last_found, last_more, last-all}
+use borrow.Author.Rules.{rules}
+use Rattle.scopes.proofs.entries.last_of.Goals as goal
+
+pub long_of-long-requires : goal.long_of-long-requires
+long_of-long-requires c = c.requires.1.1
+
+pub loop-e-init : goal.loop-e-init
+loop-e-init c = last_none c.args.text.now c.args.work.now c.args.name c.args.from c.args.to c.requires.1.0
+
+pub place_of-p-requires : goal.place_of-p-requires
+place_of-p-requires c = (omega (arith, c.requires.0.most, c.loop-e.invariant.most), c.requires.0.room)
+
+pub is_name-requires : goal.is_name-requires
+is_name-requires c =
+    let l = c.loop-e in
+    (c.requires.1.1, (subst (λ (p : ℕ). p ≤ length c.args.text.now) (sym c.place_of-p.ensures) (c.requires.0.inside (l.e - 1) (omega arith) (omega (arith, l.invariant.most))), c.long_of-long.ensures))
+
+pub returns-then-is_name : goal.returns-then-is_name
+returns-then-is_name c =
+    let l = c.loop-e in
+    let p = c.place_of-p in
+    last_found c.args.text.now c.args.work.now c.args.name c.args.from c.args.to l.e l.invariant c.loop-e-test.true p.result p.ensures (sym c.is_name.ensures ∙ c.if-is_name.true)
+
+pub loop-e-preserved : goal.loop-e-preserved
+loop-e-preserved c =
+    let l = c.loop-e in
+    let p = c.place_of-p in
+    last_more c.args.text.now c.args.work.now c.args.name c.args.from c.args.to l.e l.invariant c.loop-e-test.true p.result p.ensures (sym c.is_name.ensures ∙ c.if-is_name.false)
+
+pub returns : goal.returns
+returns c =
+    let l = c.loop-e in
+    last-all c.args.text.now c.args.work.now c.args.name c.args.from c.args.to l.e l.invariant c.loop-e-test.false
