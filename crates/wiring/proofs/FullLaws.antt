@@ -10,7 +10,7 @@ use lib.Seq.{sets, length-sets}
 use Rattle.laws.proofs.Regions.{sets-drop}
 use Rattle.calculus.specs.Answer.{good}
 use Rattle.calculus.proofs.Answers.{good-inj}
-use Rattle.calculus.specs.Types.{size, tree}
+use Rattle.calculus.specs.Types.{tree}
 use Rattle.calculus.specs.Terms.{nodes, part_at}
 use Rattle.calculus.specs.Read.{Sheet, read_sheet}
 use Rattle.calculus.specs.Write.{table_bytes}
@@ -18,7 +18,6 @@ use Rattle.sheet_theorems.specs.Laid as Laid-as
 use Rattle.calculus.specs.Net.{Terminal, Interface, Element, point, part, Wire, Net, Made, make, net_of}
 use Rattle.calculus.specs.Lean.{driver}
 use Rattle.calculus.specs.Record.{All}
-use Rattle.calculus.specs.Inputs.{targets}
 use Rattle.circuit_theorems.specs.Formed.{Tiled, Formed}
 use Rattle.calculus.specs.Translate.{full}
 use Rattle.memory.specs.Map.{targets_at, elements_at, stack_at, binders_at, memory_size, region, kind_number, elements_from, wires_from, code, terminal_of, net_in}

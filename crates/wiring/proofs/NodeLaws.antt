@@ -7,7 +7,7 @@ use mathlib.Core.List.{List, ◌∷◌}
 use native.Mathlib.Omega.{arith}
 use lib.ListN.{length, length-append}
 use Rattle.calculus.specs.Types.{Ty, bit, prod, arrow, lolli, size, TyRec, rec01, rec02, rec03, rec04, Table, rec_at, tree}
-use Rattle.calculus.specs.Terms.{Edition, Term, pair, proj}
+use Rattle.calculus.specs.Terms.{Edition, Term}
 use Rattle.calculus.specs.Write.{term_bytes}
 use Rattle.sheet_theorems.specs.Laid.{Agrees, Below, Stands, Ranged}
 use Rattle.calculus.specs.Rules.{Ctx, many, once, InΓ, in_here, in_many, in_away, IsΔ, is_here, is_many, is_away, Typed, Var, LVar, →I, →E, ⊸I, ⊸E, ×I, ×E, Fix, Con, ×E'}
