@@ -1,6 +1,5 @@
 -- The definitions, run over the known refusals; and no row's text is broken. Assumes nothing.
 use mathlib.Core.Path.{◌≡◌, refl}
-use mathlib.Core.Bool.{true}
 use mathlib.Core.List.{map}
 use Rattle.calculus.specs.Read.{edition_of, records_of, read_sheet, read_records, read_types, read_term, head_at}
 use Rattle.calculus.specs.Translate.{full}

@@ -1,6 +1,6 @@
 -- What `hex` makes of texts, whole and broken. Assumes nothing.
 use mathlib.Core.Path.{◌≡◌, refl}
-use mathlib.Core.Bool.{true, false}
+use mathlib.Core.Bool.{false}
 use mathlib.Core.List.{[], ◌∷◌, map}
 use Rattle.calculus.specs.Texts.{hex, all_bytes}
 

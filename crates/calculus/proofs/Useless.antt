@@ -4,7 +4,7 @@ use mathlib.Core.Path.{◌≡◌, refl, sym, ap, ◌∙◌}
 use mathlib.Core.List.{List}
 use native.Mathlib.Omega.{arith}
 use lib.ListN.{length, replicate, get_or, length-replicate}
-use Rattle.calculus.specs.Answer.{good, refused}
+use Rattle.calculus.specs.Answer.{good}
 use Rattle.calculus.specs.Net.{net_bytes}
 use Rattle.calculus.specs.Read.{edition_of, records_of, read_sheet, read_records, read_types, read_term, head_at}
 use Rattle.calculus.specs.Lean.{root, lean}

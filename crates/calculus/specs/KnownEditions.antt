@@ -3,7 +3,7 @@
 use Rattle.std.specs.Prelude.{ℕ, cond, List, [], ◌∷◌}
 use Prim.Native.String.{String}
 use Rattle.calculus.specs.Texts.{hex, all_bytes}
-use Rattle.calculus.specs.Answer.{Answer, good, refused, Refusal, numbered, clash, a_form}
+use Rattle.calculus.specs.Answer.{Answer, good, refused, numbered, clash, a_form}
 use Rattle.calculus.specs.Net.{Net}
 use Rattle.calculus.specs.Translate.{full}
 

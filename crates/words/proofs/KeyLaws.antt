@@ -9,7 +9,7 @@ use lib.ListN.{length, get_or, take, drop, length-drop}
 use lib.Seq.{length-take-le, get_or-drop}
 use borrow.Author.Tests.{eq-eqb, ne_eqb, eqb-true, leb-true}
 use Rattle.notation_calculus.specs.Words.{Spelled, same_name}
-use Rattle.words.specs.Tables.{token_code, token_value, row_fits, RowSaid, row_of}
+use Rattle.words.specs.Tables.{token_code, token_value, RowSaid, row_of}
 use Rattle.words.specs.Keys.{key_from, key_of}
 use Rattle.words.proofs.WordLaws.{take-here}
 use Rattle.words.proofs.FoundLaws.{same-name}

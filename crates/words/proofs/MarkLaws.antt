@@ -9,10 +9,10 @@ use native.Mathlib.Decide.{ℕ_discrete, dec_lt}
 use lib.Dec.{leb}
 use lib.ListN.{length, get_or, drop}
 use Rattle.calculus.specs.Answer.{good, ◌>>=◌, need}
-use Rattle.notation_calculus.specs.Words.{number, digit, letter, gap, all_digits, value_from, named, number_word, reserved, word_at, signs}
+use Rattle.notation_calculus.specs.Words.{number, digit, letter, gap, all_digits, value_from, named, reserved, word_at, signs}
 use Rattle.words.specs.Tables.{token_code, row_of}
 use Rattle.words.specs.Classes.{ClassIs, signed, lettered}
-use Rattle.words.specs.Next.{found_at, run_at, named_at, next_of, Said, told}
+use Rattle.words.specs.Next.{found_at, run_at, next_of, Said, told}
 use Rattle.words.specs.Lexed.{Lexed}
 use Rattle.words.specs.Marks.{Untold, NoMark, Unread, Marks}
 use borrow.Author.Tests.{ne_eqb}

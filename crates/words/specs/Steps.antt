@@ -1,5 +1,5 @@
 -- Steps over what stands between words: the gap from the old offset ends where the gap from the new one does. Assumes nothing.
-use Rattle.std.specs.Prelude.{ℕ, ◌+◌, ◌≤◌, ◌<◌, ◌≡◌, ◌⊎◌, true, false, List, length, drop}
+use Rattle.std.specs.Prelude.{ℕ, ◌+◌, ◌≤◌, ◌≡◌, true, false, List, length, drop}
 use Rattle.notation_calculus.specs.Words.{gap}
 
 -- a comment at an offset goes on to r, behind its line's end

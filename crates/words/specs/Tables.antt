@@ -1,5 +1,5 @@
 -- Rows of spellings: a token's code and value, and the spelling's length. Assumes nothing.
-use Rattle.std.specs.Prelude.{ℕ, Bool, true, false, not, ◌&&◌, ◌||◌, cond, List, [], ◌∷◌, eqb, length}
+use Rattle.std.specs.Prelude.{ℕ, Bool, not, ◌&&◌, ◌||◌, cond, List, [], ◌∷◌, eqb, length}
 use Rattle.notation_calculus.specs.Words.{arrow, linear, times, fun, sign_code, Token, sign, part, number, name, Spelled, begins_with}
 use Rattle.words.specs.declared.spelling.Row.{Row}
 

@@ -1,5 +1,4 @@
 -- `binders::bit` meets its contract: the low word or the high one. Assumes nothing.
-use borrow.Author.Rules.{rules}
 use mathlib.Core.Path.{◌∙◌}
 use Rattle.binders.proofs.Bits.{bit-low, bit_high}
 use Rattle.binders.proofs.bit.Goals as goal

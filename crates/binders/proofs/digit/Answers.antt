@@ -1,5 +1,4 @@
 -- `binders::digit` meets its contract: a shift is a quotient. Assumes nothing.
-use borrow.Author.Rules.{rules}
 use Rattle.binders.proofs.Bits.{digit_at}
 use Rattle.binders.proofs.digit.Goals as goal
 

@@ -1,5 +1,4 @@
 -- `binders::slot` meets its contract. Assumes nothing.
-use borrow.Author.Rules.{rules}
 use borrow.Author.Tests.{lt-ltb, le-ltb}
 use Rattle.binders.specs.Stacks.{slot_of}
 use Rattle.binders.proofs.slot.Goals as goal

@@ -1,5 +1,4 @@
 -- `binders::with_bit` meets its contract: the low word or the high one. Assumes nothing.
-use borrow.Author.Rules.{rules}
 use Rattle.binders.proofs.Bits.{with-low, with-high}
 use Rattle.binders.proofs.with_bit.Goals as goal
 

@@ -1,5 +1,4 @@
 -- By the rule of the table of names, or past its end. Assumes nothing.
-use borrow.Author.Rules.{rules}
 use mathlib.Core.Path.{refl}
 use Rattle.parts.proofs.Rule.{name-right, name-none}
 use Rattle.parts.proofs.name_of.Goals as goal

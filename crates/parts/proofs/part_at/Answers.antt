@@ -1,6 +1,5 @@
 -- `parts::part_at` meets its contract: by the rule of the table, or past its end. Assumes nothing.
 use Rattle.parts.proofs.Rule.{named-part, named_none}
-use borrow.Author.Rules.{rules}
 use Rattle.parts.proofs.part_at.Goals as goal
 
 pub returns-then-i-lt7 : goal.returns-then-i-lt7

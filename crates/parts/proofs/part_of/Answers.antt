@@ -1,5 +1,4 @@
 -- By the rule of the table, or zero's row past its end. Assumes nothing.
-use borrow.Author.Rules.{rules}
 use Rattle.parts.proofs.Rule.{right, right-past}
 use Rattle.parts.proofs.part_of.Goals as goal
 

@@ -1,11 +1,6 @@
 -- `words::blanks_end` meets its contract. The invariant: the gap from the start ends where the gap from here does. The measure is the bytes left. Assumes nothing.
-use Prim.Native.Nat.{◌+◌, ◌-◌, ◌≤◌}
-use mathlib.Core.Path.{◌≡◌, refl, sym, ◌∙◌}
-use mathlib.Core.Bool.{false}
+use mathlib.Core.Path.{refl, sym, ◌∙◌}
 use native.Mathlib.Omega.{arith}
-use borrow.Author.Rules.{rules}
-use lib.ListN.{length, drop}
-use Rattle.notation_calculus.specs.Words.{gap}
 use Rattle.words.proofs.WordLaws.{not_no, gap-blank}
 use Rattle.words.proofs.blanks_end.Goals as goal
 

@@ -1,12 +1,9 @@
 -- `words::blanks_end` meets its contract. The invariant: the gap from the start ends where the gap from here does. The measure is the bytes left. Assumes nothing.
 use Prim.Native.Nat.{◌+◌, ◌-◌, ◌≤◌}
-use mathlib.Core.Path.{◌≡◌, refl, sym, ◌∙◌}
+use mathlib.Core.Path.{◌≡◌}
 use mathlib.Core.Bool.{false}
-use native.Mathlib.Omega.{arith}
-use borrow.Author.Rules.{rules}
 use lib.ListN.{length, drop}
 use Rattle.notation_calculus.specs.Words.{gap}
-use Rattle.words.proofs.WordLaws.{not_no, gap-blank}
 use Rattle.words.proofs.blanks_end.Given as goal
 
 abbrev pub invariant-loop-at : goal.invariant-loop-at

@@ -1,8 +1,7 @@
 -- `words::check_words` meets its contract. The invariant: the words from here on decide. The measure is the bytes left. Assumes nothing.
 use Prim.Native.Nat.{◌-◌}
-use native.Mathlib.Omega.{arith}
 use lib.ListN.{length}
-use Rattle.words.proofs.LexLaws.{Pending, pending_first, went, passed_bad, passed_good}
+use Rattle.words.proofs.LexLaws.{Pending}
 use Rattle.words.proofs.check_words.Given as goal
 
 abbrev pub invariant-loop-at : goal.invariant-loop-at

@@ -1,5 +1,5 @@
 -- `words::class` meets its contract: each byte that it names by computation. Assumes nothing.
-use Prim.Native.Nat.{ℕ, ◌<◌}
+use Prim.Native.Nat.{ℕ}
 use mathlib.Core.Path.{◌≡◌, refl, sym, subst}
 use mathlib.Core.Bool.{true, false}
 use mathlib.Core.Logic.{◌⊎◌, inl, inr}
@@ -7,7 +7,7 @@ use native.Mathlib.Omega.{arith}
 use lib.Dec.{eqb}
 use Rattle.notation_calculus.specs.Words.{blank, digit, letter, signs}
 use Rattle.words.specs.Tables.{row_of}
-use Rattle.words.specs.Classes.{SingleSign, ClassIs, gapped, signed, lettered}
+use Rattle.words.specs.Classes.{ClassIs, gapped, signed, lettered}
 use Rattle.words.proofs.ClassLaws.{no_single}
 use Rattle.words.proofs.class.Goals as goal
 

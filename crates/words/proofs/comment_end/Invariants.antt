@@ -1,13 +1,10 @@
 -- `words::comment_end` meets its contract. The invariant: the comment from the start ends where the comment from here does. The measure is
 -- the bytes left. Assumes nothing.
 use Prim.Native.Nat.{◌+◌, ◌-◌, ◌≤◌}
-use mathlib.Core.Path.{◌≡◌, refl, sym, ◌∙◌}
-use mathlib.Core.Bool.{true, false}
-use native.Mathlib.Omega.{arith}
-use borrow.Author.Rules.{rules}
+use mathlib.Core.Path.{◌≡◌}
+use mathlib.Core.Bool.{true}
 use lib.ListN.{length, drop}
 use Rattle.notation_calculus.specs.Words.{gap}
-use Rattle.words.proofs.WordLaws.{comment_ends, comment_on, gap-past}
 use Rattle.words.proofs.comment_end.Given as goal
 
 abbrev pub invariant-loop-at : goal.invariant-loop-at

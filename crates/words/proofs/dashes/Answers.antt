@@ -5,8 +5,6 @@ use mathlib.Core.Bool.{◌&&◌}
 use lib.Dec.{eqb}
 use lib.ListN.{get_or}
 use Rattle.words.proofs.WordLaws.{no_second, at_front}
-use borrow.Author.Rules.{rules}
-use native.Mathlib.Omega.{arith}
 use Rattle.words.proofs.dashes.Goals as goal
 
 pub returns-then-text-at : goal.returns-then-text-at

@@ -1,5 +1,4 @@
 -- `words::ends_line` meets its contract: above 13 no byte ends a line. Assumes nothing.
-use borrow.Author.Rules.{rules}
 use Rattle.words.proofs.ByteLaws.{late_line}
 use Rattle.words.proofs.ends_line.Goals as goal
 

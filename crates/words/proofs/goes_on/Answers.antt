@@ -1,5 +1,4 @@
 -- `words::goes_on` meets its contract: past the end nothing goes on. Assumes nothing.
-use borrow.Author.Rules.{rules}
 use Rattle.words.proofs.NameLaws.{goes-past, goes-here}
 use Rattle.words.proofs.goes_on.Goals as goal
 

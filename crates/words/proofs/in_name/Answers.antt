@@ -2,7 +2,6 @@
 use mathlib.Core.Path.{ap, ◌∙◌}
 use mathlib.Core.Bool.{Bool, ◌||◌}
 use lib.Dec.{eqb}
-use borrow.Author.Rules.{rules}
 use Rattle.words.proofs.ByteLaws.{late_name, early_name, digit-name, middle-name}
 use Rattle.words.proofs.in_name.Goals as goal
 

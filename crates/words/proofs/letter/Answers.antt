@@ -3,7 +3,6 @@ use mathlib.Core.Path.{ap, ◌∙◌}
 use mathlib.Core.Bool.{Bool, ◌||◌}
 use lib.Dec.{eqb}
 use Rattle.notation_calculus.specs.Words.{between}
-use borrow.Author.Rules.{rules}
 use Rattle.words.proofs.letter.Goals as goal
 
 pub returns : goal.returns

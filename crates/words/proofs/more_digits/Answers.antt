@@ -1,7 +1,6 @@
 -- `words::more_digits` meets its contract, by what `capped` says. Assumes nothing.
 use native.Mathlib.Omega.{arith}
 use Rattle.words.proofs.FoundLaws.{capped_small, capped_large}
-use borrow.Author.Rules.{rules}
 use Rattle.words.proofs.more_digits.Goals as goal
 
 pub returns-then-all-le255 : goal.returns-then-all-le255

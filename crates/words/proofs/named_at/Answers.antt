@@ -5,7 +5,6 @@ use Rattle.words.proofs.ByteLaws.{letter-name}
 use Rattle.words.proofs.WordLaws.{run-behind}
 use Rattle.words.proofs.FoundLaws.{run_inside, named-name, named-spelled}
 use Rattle.words.specs.Tables.{said_row}
-use borrow.Author.Rules.{rules}
 use Rattle.words.proofs.named_at.Goals as goal
 
 pub reserved_row-row-requires : goal.reserved_row-row-requires

@@ -1,12 +1,9 @@
 -- `words::next` meets its contract. The invariant: the gap from the start ends where the gap from here does. The measure is the bytes left.
 -- Assumes nothing.
-use Prim.Native.Nat.{◌+◌, ◌-◌, ◌≤◌}
 use mathlib.Core.Path.{◌≡◌, ◌∙◌}
 use mathlib.Core.Bool.{false}
 use native.Mathlib.Omega.{arith}
-use borrow.Author.Rules.{rules}
-use lib.ListN.{length, get_or, drop}
-use Rattle.notation_calculus.specs.Words.{gap}
+use lib.ListN.{get_or}
 use Rattle.words.proofs.WordLaws.{gap-blank, gap-past}
 use Rattle.words.proofs.ClassLaws.{class_stops, class_blank, class_other}
 use Rattle.words.proofs.LexLaws.{next-end, next_word, word-sign}

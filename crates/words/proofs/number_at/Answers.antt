@@ -1,8 +1,7 @@
 -- `words::number_at` meets its contract. The invariant: what is left of the run goes on with what has been read. Assumes nothing.
-use Prim.Native.Nat.{ℕ, ◌-◌}
+use Prim.Native.Nat.{ℕ}
 use mathlib.Core.Path.{sym, subst, ◌∙◌}
 use native.Mathlib.Omega.{arith}
-use borrow.Author.Rules.{rules}
 use Rattle.words.specs.Digits.{DigitsAt}
 use Rattle.words.proofs.WordLaws.{not_yes, not_no}
 use Rattle.words.proofs.FoundLaws.{digit_low, digits_bad, digits_on, number_bad, number_large, number_good}

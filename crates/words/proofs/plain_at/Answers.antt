@@ -1,5 +1,4 @@
 -- `words::plain_at` meets its contract: no reserved word begins so. Assumes nothing.
-use borrow.Author.Rules.{rules}
 use Rattle.words.proofs.ClassLaws.{plain-name}
 use Rattle.words.proofs.plain_at.Goals as goal
 

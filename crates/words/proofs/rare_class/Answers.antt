@@ -1,6 +1,5 @@
 -- `words::rare_class` meets its contract: a letter, a digit, a blank, or none of them. Assumes nothing.
 use mathlib.Core.Path.{sym, ◌∙◌}
-use borrow.Author.Rules.{rules}
 use Rattle.words.specs.Classes.{gapped, others}
 use Rattle.words.proofs.ClassLaws.{class_letter, class_digit}
 use Rattle.words.proofs.rare_class.Goals as goal

@@ -1,11 +1,7 @@
 -- `words::run_end` meets its contract. The invariant: the run from the start ends where the run from here does. The measure is the bytes
 -- left. Assumes nothing.
-use Prim.Native.Nat.{◌+◌, ◌-◌, ◌≤◌}
-use mathlib.Core.Path.{◌≡◌, refl, sym, ◌∙◌}
+use mathlib.Core.Path.{refl, sym, ◌∙◌}
 use native.Mathlib.Omega.{arith}
-use borrow.Author.Rules.{rules}
-use lib.ListN.{length, drop}
-use Rattle.notation_calculus.specs.Words.{run}
 use Rattle.words.proofs.WordLaws.{not_yes, not_no, run_on, run-stops, run_past}
 use Rattle.words.proofs.run_end.Goals as goal
 

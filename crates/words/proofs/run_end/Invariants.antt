@@ -1,12 +1,9 @@
 -- `words::run_end` meets its contract. The invariant: the run from the start ends where the run from here does. The measure is the bytes
 -- left. Assumes nothing.
 use Prim.Native.Nat.{◌+◌, ◌-◌, ◌≤◌}
-use mathlib.Core.Path.{◌≡◌, refl, sym, ◌∙◌}
-use native.Mathlib.Omega.{arith}
-use borrow.Author.Rules.{rules}
+use mathlib.Core.Path.{◌≡◌}
 use lib.ListN.{length, drop}
 use Rattle.notation_calculus.specs.Words.{run}
-use Rattle.words.proofs.WordLaws.{not_yes, not_no, run_on, run-stops, run_past}
 use Rattle.words.proofs.run_end.Given as goal
 
 abbrev pub invariant-loop-at : goal.invariant-loop-at

@@ -3,7 +3,6 @@ use Rattle.words.proofs.FoundLaws.{sign_none, sign_told}
 use Rattle.words.specs.Tables.{said_row}
 use native.Mathlib.Omega.{arith}
 use lib.ListN.{drop, length-drop}
-use borrow.Author.Rules.{rules}
 use Rattle.words.proofs.sign_at.Goals as goal
 
 pub returns-then-row-eq0 : goal.returns-then-row-eq0

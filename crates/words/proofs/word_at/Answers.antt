@@ -1,6 +1,5 @@
 -- `words::word_at` meets its contract: of good words, what stands next is the first. Assumes nothing.
 use Rattle.words.proofs.LexLaws.{stands}
-use borrow.Author.Rules.{rules}
 use Rattle.words.proofs.word_at.Goals as goal
 
 pub returns : goal.returns

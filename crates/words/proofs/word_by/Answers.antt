@@ -3,7 +3,6 @@ use mathlib.Core.Path.{◌∙◌}
 use native.Mathlib.Omega.{arith}
 use Rattle.words.proofs.LexLaws.{word_number, word-name, word-single}
 use Rattle.words.proofs.ClassLaws.{class_sign, class_number, class_plain, class_name}
-use borrow.Author.Rules.{rules}
 use Rattle.words.proofs.word_by.Goals as goal
 
 pub returns-then-class-lt64 : goal.returns-then-class-lt64

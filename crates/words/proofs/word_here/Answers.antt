@@ -3,7 +3,6 @@ use mathlib.Core.Path.{sym, subst}
 use Rattle.words.specs.Lexed.{Stands}
 use Rattle.words.proofs.LexLaws.{stands}
 use Rattle.words.proofs.ClassLaws.{single_stands}
-use borrow.Author.Rules.{rules}
 use Rattle.words.proofs.word_here.Goals as goal
 
 -- TODO the place Start is passed on

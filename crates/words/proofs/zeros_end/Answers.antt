@@ -1,11 +1,7 @@
 -- `words::zeros_end` meets its contract. The invariant: the run goes on behind the zeros, and they add nothing. The measure is the bytes left. Assumes nothing.
-use Prim.Native.Nat.{◌+◌, ◌-◌, ◌≤◌}
-use mathlib.Core.Path.{◌≡◌, refl, ap}
+use mathlib.Core.Path.{refl, ap}
 use native.Mathlib.Omega.{arith}
-use borrow.Author.Rules.{rules}
-use lib.ListN.{length, drop}
-use Rattle.notation_calculus.specs.Words.{in_name, run}
-use Rattle.words.specs.Digits.{DigitsAt}
+use Rattle.notation_calculus.specs.Words.{in_name}
 use Rattle.words.proofs.WordLaws.{run_on}
 use Rattle.words.proofs.FoundLaws.{digits-first, zero_on}
 use Rattle.words.proofs.zeros_end.Goals as goal

@@ -1,13 +1,9 @@
 -- `words::zeros_end` meets its contract. The invariant: the run goes on behind the zeros, and they add nothing. The measure is the bytes left. Assumes nothing.
 use Prim.Native.Nat.{◌+◌, ◌-◌, ◌≤◌}
-use mathlib.Core.Path.{◌≡◌, refl, ap}
-use native.Mathlib.Omega.{arith}
-use borrow.Author.Rules.{rules}
+use mathlib.Core.Path.{◌≡◌}
 use lib.ListN.{length, drop}
-use Rattle.notation_calculus.specs.Words.{in_name, run}
+use Rattle.notation_calculus.specs.Words.{run}
 use Rattle.words.specs.Digits.{DigitsAt}
-use Rattle.words.proofs.WordLaws.{run_on}
-use Rattle.words.proofs.FoundLaws.{digits-first, zero_on}
 use Rattle.words.proofs.zeros_end.Given as goal
 
 abbrev pub invariant-loop-at : goal.invariant-loop-at

@@ -2,7 +2,6 @@
 use Prim.Native.Nat.{◌+◌, ◌*◌}
 use mathlib.Core.Path.{refl}
 use native.Mathlib.Nat.{mod-lt, zero-lt-suc}
-use borrow.Author.Rules.{rules}
 use Rattle.words.proofs.keys.more_key.Goals as goal
 
 pub returns : goal.returns

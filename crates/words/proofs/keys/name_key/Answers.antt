@@ -1,12 +1,9 @@
 -- `words::name_key` meets its contract. The invariant: the number so far, with the bytes that are left, gives the name's. The measure is the
 -- bytes left. Assumes nothing.
-use Prim.Native.Nat.{◌-◌}
 use mathlib.Core.Path.{sym, ◌∙◌}
 use native.Mathlib.Omega.{arith}
-use borrow.Author.Rules.{rules}
-use lib.ListN.{length}
 use Rattle.words.proofs.WordLaws.{not_yes, not_no}
-use Rattle.words.proofs.NameKeyLaws.{Keying, keying_none, keying-more, keying-stops, keying-past}
+use Rattle.words.proofs.NameKeyLaws.{keying_none, keying-more, keying-stops, keying-past}
 use Rattle.words.proofs.keys.name_key.Goals as goal
 
 pub loop-at-init : goal.loop-at-init

@@ -1,7 +1,6 @@
 -- `words::marks::mark_at` meets its contract: a word whose first byte tells is none of the signs. Assumes nothing.
 use Rattle.words.specs.Next.{said_word}
 use Rattle.words.proofs.MarkLaws.{marks-word, marks-none}
-use borrow.Author.Rules.{rules}
 use Rattle.words.proofs.marks.mark_at.Goals as goal
 
 pub gap_end-start-requires : goal.gap_end-start-requires

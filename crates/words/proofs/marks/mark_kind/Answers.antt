@@ -2,7 +2,6 @@
 use mathlib.Core.Path.{refl}
 use Rattle.words.specs.Next.{said_word}
 use Rattle.words.proofs.MarkLaws.{marks-word, marks-none}
-use borrow.Author.Rules.{rules}
 use Rattle.words.proofs.marks.mark_kind.Goals as goal
 
 pub gap_end-start-requires : goal.gap_end-start-requires

@@ -1,7 +1,6 @@
 -- `words::marks::silent` meets its contract. Assumes nothing.
 use mathlib.Core.Path.{sym, ◌∙◌}
 use Rattle.words.proofs.MarkLaws.{either_unread, round_unread, signs_unread}
-use borrow.Author.Rules.{rules}
 use Rattle.words.proofs.marks.silent.Goals as goal
 
 pub returns-in_default : goal.returns-in_default

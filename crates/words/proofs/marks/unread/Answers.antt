@@ -1,8 +1,7 @@
 -- `words::marks::unread` meets its contract. Assumes nothing.
 use Prim.Native.Nat.{ℕ}
-use mathlib.Core.Path.{◌≡◌, sym, ◌∙◌}
+use mathlib.Core.Path.{◌≡◌}
 use native.Mathlib.Omega.{arith}
-use borrow.Author.Rules.{rules}
 use Rattle.words.proofs.marks.unread.Goals as goal
 
 pub returns-then-text-at : goal.returns-then-text-at

@@ -1,12 +1,9 @@
 -- `words::bytes_same` meets its contract. The invariant: what is left of both stretches tells whether they are the same. The measure is how many
 -- bytes are left. Assumes nothing.
-use Prim.Native.Nat.{ℕ, ◌+◌, ◌-◌, ◌≤◌}
-use mathlib.Core.Path.{◌≡◌, sym, ap, ◌∙◌}
+use Prim.Native.Nat.{◌+◌, ◌-◌}
+use mathlib.Core.Path.{sym, ◌∙◌}
 use native.Mathlib.Omega.{arith}
-use lib.ListN.{take, drop}
-use borrow.Author.Rules.{rules}
-use Rattle.notation_calculus.specs.Words.{same_name}
-use Rattle.words.proofs.NameLaws.{stretch-differ, stretch_on, Left, left-all, left_on, left-inside}
+use Rattle.words.proofs.NameLaws.{stretch-differ, stretch_on, left-all, left_on, left-inside}
 use Rattle.words.proofs.same.bytes_same.Goals as goal
 
 -- TODO the place Start is passed on

@@ -1,7 +1,6 @@
 -- `words::few_same` meets its contract: the first two bytes of both, then the others. Assumes nothing.
 use mathlib.Core.Path.{sym, ◌∙◌}
 use native.Mathlib.Omega.{arith}
-use borrow.Author.Rules.{rules}
 use Rattle.words.proofs.NameLaws.{stretch-differ, stretch_on}
 use Rattle.words.proofs.same.few_same.Goals as goal
 

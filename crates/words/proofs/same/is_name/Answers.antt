@@ -6,7 +6,6 @@ use native.Mathlib.Omega.{arith}
 use Rattle.words.proofs.WordLaws.{not_yes, not_no}
 use Rattle.words.proofs.FoundLaws.{run_inside}
 use Rattle.words.proofs.NameLaws.{goes-here, inside_both, brief-outer, brief-inner, names-differ, names-behind}
-use borrow.Author.Rules.{rules}
 use Rattle.words.proofs.same.is_name.Goals as goal
 
 pub second-o-requires : goal.second-o-requires

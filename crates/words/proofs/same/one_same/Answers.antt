@@ -1,5 +1,4 @@
 -- `words::one_same` meets its contract. Assumes nothing.
-use borrow.Author.Rules.{rules}
 use Rattle.words.proofs.NameLaws.{one_byte}
 use Rattle.words.proofs.same.one_same.Goals as goal
 

@@ -1,7 +1,6 @@
 -- `words::rest_same` meets its contract: the first four bytes of both, then the others. Assumes nothing.
 use mathlib.Core.Path.{sym, ◌∙◌}
 use native.Mathlib.Omega.{arith}
-use borrow.Author.Rules.{rules}
 use Rattle.words.proofs.NameLaws.{stretch-differ, stretch_on}
 use Rattle.words.proofs.same.rest_same.Goals as goal
 

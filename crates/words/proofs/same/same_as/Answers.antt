@@ -2,7 +2,6 @@
 use mathlib.Core.Path.{sym, ap, ◌∙◌}
 use mathlib.Core.Bool.{not}
 use native.Mathlib.Omega.{arith}
-use borrow.Author.Rules.{rules}
 use Rattle.words.proofs.WordLaws.{not_yes, not_no}
 use Rattle.words.proofs.FoundLaws.{run_inside}
 use Rattle.words.proofs.NameLaws.{names-short, names-differ, names-behind}

@@ -1,10 +1,8 @@
 -- `words::second` meets its contract. Assumes nothing.
-use Prim.Native.Nat.{ℕ}
 use mathlib.Core.Path.{sym, ap}
 use mathlib.Core.Bool.{Bool, cond}
 use native.Mathlib.Omega.{arith}
 use borrow.Author.Tests.{lt-ltb, le-ltb}
-use borrow.Author.Rules.{rules}
 use Rattle.words.proofs.same.second.Goals as goal
 
 pub returns-then-long-gt2 : goal.returns-then-long-gt2

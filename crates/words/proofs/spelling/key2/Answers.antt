@@ -1,7 +1,6 @@
 -- `words::key2` meets its contract, by its two bytes. Assumes nothing.
 use Prim.Native.Nat.{◌+◌}
 use native.Mathlib.Omega.{arith}
-use borrow.Author.Rules.{rules}
 use Rattle.words.proofs.KeyLaws.{key_two}
 use Rattle.words.proofs.spelling.key2.Goals as goal
 

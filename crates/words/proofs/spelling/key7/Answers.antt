@@ -1,7 +1,6 @@
 -- `words::key7` meets its contract: it has one byte more. Assumes nothing.
 use Prim.Native.Nat.{◌+◌}
 use native.Mathlib.Omega.{arith}
-use borrow.Author.Rules.{rules}
 use Rattle.words.proofs.KeyLaws.{key_more}
 use Rattle.words.proofs.spelling.key7.Goals as goal
 

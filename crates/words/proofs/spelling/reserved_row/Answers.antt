@@ -2,7 +2,6 @@
 use Prim.Native.Nat.{ℕ}
 use mathlib.Core.Path.{sym, ap, ◌∙◌}
 use mathlib.Core.Bool.{true}
-use borrow.Author.Rules.{rules}
 use lib.ListN.{drop}
 use Rattle.notation_calculus.specs.Words.{reserved}
 use Rattle.words.specs.Tables.{row_of}

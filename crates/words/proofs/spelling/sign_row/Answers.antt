@@ -1,6 +1,5 @@
 -- `words::sign_row` meets its contract: signs of two bytes, then those of three. Assumes nothing.
 use mathlib.Core.Path.{◌∙◌}
-use borrow.Author.Rules.{rules}
 use Rattle.words.specs.Tables.{said_row}
 use Rattle.words.proofs.ClassLaws.{sign_last, sign-two, sign-three, sign-short}
 use Rattle.words.proofs.spelling.sign_row.Goals as goal

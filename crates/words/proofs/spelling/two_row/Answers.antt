@@ -4,7 +4,6 @@ use mathlib.Core.Path.{◌≡◌, refl, sym, ◌∙◌}
 use mathlib.Core.Bool.{true}
 use mathlib.Core.List.{[], ◌∷◌}
 use native.Mathlib.Omega.{arith}
-use borrow.Author.Rules.{rules}
 use Rattle.notation_calculus.specs.Words.{reserved}
 use Rattle.words.specs.Keys.{key_from}
 use Rattle.words.proofs.KeyLaws.{row_named_lem, misses, key_row, key_none, off}

@@ -1,6 +1,5 @@
 -- `words::starts::start_of` meets its contract. Assumes nothing.
 use Rattle.words.proofs.LexLaws.{start-found}
-use borrow.Author.Rules.{rules}
 use Rattle.words.proofs.starts.start_of.Goals as goal
 
 pub gap_end-requires : goal.gap_end-requires
