@@ -1,1 +1,2 @@
+mod Quick
 pub mod Samples

@@ -1,6 +1,6 @@
 -- The texts of examples/, each with a line `table` that gives its sheet's order of types, and the bytes that stand in examples/. Assumes
 -- nothing.
-use Rattle.std.specs.Prelude.{ℕ, List, [], ◌∷◌}
+use Rattle.std.specs.Prelude.{List, [], ◌∷◌}
 use Rattle.notation_calculus.specs.Samples.{Row, makes}
 
 -- P1

@@ -1,19 +1,18 @@
 -- A level that waits: the machine asks for a type below it, and the memory holds that. Assumes nothing.
-use Prim.Native.Nat.{ℕ, zero, suc, ◌+◌, ◌*◌, ◌≤◌, ◌<◌}
+use Prim.Native.Nat.{ℕ, ◌+◌, ◌*◌, ◌≤◌, ◌<◌}
 use mathlib.Core.Path.{◌≡◌, refl, sym, ap, subst, ◌∙◌}
-use mathlib.Core.Bool.{Bool, true, false}
-use mathlib.Core.List.{List, [], ◌∷◌}
+use mathlib.Core.Bool.{Bool}
+use mathlib.Core.List.{List, ◌∷◌}
 use native.Mathlib.Omega.{arith}
 use native.Mathlib.Nat.{add-zero}
 use lib.Dec.{eqb}
 use lib.ListN.{length, get_or}
-use Rattle.calculus.specs.Answer.{Answer, good}
-use Rattle.notation_calculus.specs.Words.{Word}
+use Rattle.calculus.specs.Answer.{good}
 use Rattle.notation_calculus.specs.Trees.{Text}
 use Rattle.notation_calculus.specs.Making.{State, Scope, most_entries}
-use Rattle.notation_machine.specs.TypeMachine.{Wish, TypeLevel, Typing, ask_type}
+use Rattle.notation_machine.specs.TypeMachine.{Wish, TypeLevel, ask_type}
 use Rattle.words.specs.Lexed.{from, Lexed}
-use Rattle.making_memory.specs.Map.{types_at, scope_at, frames_at, type_count_at, node_count_at, put_count_at, levels_at, making_size}
+use Rattle.making_memory.specs.Map.{scope_at, frames_at, type_count_at, node_count_at, put_count_at, levels_at}
 use Rattle.made_types.specs.Held.{HoldsState}
 use Rattle.made_types.proofs.Keeping.{state_kept}
 use Rattle.scopes.specs.Entries.{Places}
@@ -31,7 +30,7 @@ use Rattle.type_walk.specs.declared.levels.Want.{Want}
 use Rattle.type_walk.specs.declared.levels.Here.{Here}
 use Rattle.type_walk.specs.declared.levels.Walking as code
 use Rattle.type_walk.specs.declared.levels.Walking.TheVariants as walking
-use Rattle.type_walk.specs.Holding.{WishKnown, LevelHeld, LevelsHeld, here_with, here_in, around_of, AtLevel, Wanting, Answered}
+use Rattle.type_walk.specs.Holding.{WishKnown, LevelsHeld, here_with, here_in, around_of, AtLevel, Wanting}
 use Rattle.type_walk.specs.Moves.{CanWait, Waited, Moving, Moved}
 use Rattle.type_walk.proofs.HoldLaws.{levels_on, wish_kept}
 

@@ -1,15 +1,13 @@
 -- What the numbers of a level that waits tell of its wish, so that a step goes by them. Assumes nothing.
-use Prim.Native.Nat.{ℕ, zero, suc, ◌+◌, ◌≤◌, ◌<◌}
+use Prim.Native.Nat.{ℕ, ◌+◌, ◌≤◌, ◌<◌}
 use mathlib.Core.Path.{◌≡◌, refl, sym, ap, subst, ◌∙◌}
-use mathlib.Core.Bool.{Bool, true, false}
 use mathlib.Core.List.{List, [], ◌∷◌}
 use native.Mathlib.Omega.{arith}
 use lib.ListN.{length}
-use Rattle.notation_calculus.specs.Trees.{Bound, Form, product, arrow, linear, Text}
+use Rattle.notation_calculus.specs.Trees.{Form, product, arrow, linear, Text}
 use Rattle.notation_calculus.specs.Making.{State, most_entries}
 use Rattle.notation_calculus.specs.Words.{Word}
 use Rattle.notation_machine.specs.TypeMachine.{Wish, enclosed, argument, body, other, TypeLevel, TypeHere, type_left}
-use Rattle.words.specs.Next.{run_at}
 use Rattle.words.specs.Lexed.{from, Lexed}
 use Rattle.scopes.specs.Entries.{value_at, Places}
 use Rattle.walk_levels.specs.declared.Level.{Level}
@@ -22,8 +20,7 @@ use Rattle.type_walk.specs.declared.levels.Walking as code
 use Rattle.type_walk.specs.declared.levels.Walking.TheVariants as walking
 use Rattle.type_walk.specs.Holding.{given_from, AllBelow, WishKnown, LevelHeld, here_in}
 use Rattle.type_walk.specs.Moves.{CanMove, Moving, Moved, Known, found_in_lem, Given, Both, form_by, side_after, left_with, CanStep, Stepped}
-use Rattle.type_walk.proofs.NameLaws.{given_length}
-use Rattle.type_walk.proofs.StepLaws.{Awaited, come_held, Tells, come_can, come_moved}
+use Rattle.type_walk.proofs.StepLaws.{come_held, Tells, come_can, come_moved}
 
 -- ---- a wish by its numbers
 

@@ -1,11 +1,11 @@
 -- What the memory holds of the machine stays where inner levels write: levels, and the level that the walk is at. Assumes nothing.
-use Prim.Native.Nat.{ℕ, zero, suc, ◌+◌, ◌*◌, ◌≤◌, ◌<◌}
-use mathlib.Core.Path.{◌≡◌, refl, sym, ap, subst, ◌∙◌}
+use Prim.Native.Nat.{ℕ, ◌+◌, ◌*◌, ◌≤◌, ◌<◌}
+use mathlib.Core.Path.{◌≡◌, sym, ap, subst, ◌∙◌}
 use mathlib.Core.List.{List, [], ◌∷◌}
 use native.Mathlib.Omega.{arith}
 use lib.ListN.{length, get_or}
 use Rattle.notation_calculus.specs.Trees.{Text}
-use Rattle.notation_calculus.specs.Making.{State, Scope, most_entries}
+use Rattle.notation_calculus.specs.Making.{State, Scope}
 use Rattle.notation_machine.specs.TypeMachine.{Wish, enclosed, argument, body, other, TypeLevel}
 use Rattle.making_memory.specs.Map.{scope_at, levels_at}
 use Rattle.made_types.specs.Held.{HoldsState}

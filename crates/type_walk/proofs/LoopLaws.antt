@@ -1,21 +1,20 @@
 -- The loop of the walk: it holds a state of the machine whose run leads to what `typeFrom` gives, and the steps that may be left are no more
 -- than the counter. Assumes nothing.
-use Prim.Native.Nat.{ℕ, zero, suc, ◌+◌, ◌*◌, ◌-◌, ◌≤◌, ◌<◌}
-use mathlib.Core.Path.{◌≡◌, refl, sym, ap, subst, ◌∙◌}
-use mathlib.Core.Bool.{Bool, true, false}
+use Prim.Native.Nat.{ℕ, zero, suc, ◌+◌, ◌-◌, ◌≤◌, ◌<◌}
+use mathlib.Core.Path.{◌≡◌, refl, sym, ap, subst}
+use mathlib.Core.Bool.{true, false}
 use mathlib.Core.List.{List, [], ◌∷◌}
 use native.Mathlib.Omega.{arith}
-use lib.Dec.{ltb}
 use lib.ListN.{length}
 use borrow.Author.Tests.{ltb-true, ltb-false}
-use Rattle.calculus.specs.Answer.{Answer, good, refused, ◌>>=◌, refuse, numbered, Refusal}
+use Rattle.calculus.specs.Answer.{Answer, good, refused, ◌>>=◌, refuse, Refusal}
 use Rattle.calculus.proofs.Answers.{good-inj, refused≢good}
 use Rattle.notation_calculus.specs.Words.{Word}
 use Rattle.notation_calculus.specs.Trees.{TypeTree, Text}
 use Rattle.notation_calculus.specs.Grammar.{most_nested, Got, got, type_at}
 use Rattle.notation_calculus.specs.Making.{State, Found, Scope, type_of}
 use Rattle.notation_theorems.proofs.Answering.{On, on_map}
-use Rattle.notation_machine.specs.Walked.{walked, Runs}
+use Rattle.notation_machine.specs.Walked.{walked}
 use Rattle.notation_machine.specs.TypeMachine.{TypeLevel, Typing, wanted, came, type_move}
 use Rattle.notation_machine.specs.TypeSteps.{type_steps, AllShort, Going}
 use Rattle.notation_machine.specs.TypeFrom.{type_from}
@@ -30,12 +29,12 @@ use Rattle.walks.specs.declared.TypeEnd as type
 use Rattle.walks.specs.declared.TypeEnd.TheVariants as type-end
 use Rattle.walks.specs.Walkable.{row_bodies, Walkable}
 use Rattle.walks.specs.Walked.{TypesWalked}
-use Rattle.walks.specs.Says.{TypeCame, TypeAnswers, CanType, TypeSays}
+use Rattle.walks.specs.Says.{TypeAnswers, CanType, TypeSays}
 use Rattle.walks.proofs.Kept.{types_walked_none, types_walked_then, bodies_on, rows-read, held-short, words-few}
 use Rattle.type_walk.specs.declared.levels.Come.{Come}
 use Rattle.type_walk.specs.declared.levels.Walking as code
 use Rattle.type_walk.specs.declared.levels.Walking.TheVariants as walking
-use Rattle.type_walk.specs.Holding.{LevelsHeld, Wanting, Coming, Answered}
+use Rattle.type_walk.specs.Holding.{LevelsHeld, Answered}
 use Rattle.type_walk.specs.Moves.{found_in_lem, CanStep, Stepped}
 use Rattle.type_walk.specs.Loop.{going_in, ended_as, CanTypeAt}
 use Rattle.type_walk.proofs.HoldLaws.{levels_within}

@@ -8,12 +8,12 @@ use native.Mathlib.Decide.{dec_le}
 use native.Mathlib.Numerals.{add-one}
 use lib.Dec.{T, leb, leb→le}
 use lib.ListN.{length}
-use Rattle.calculus.specs.Answer.{Answer, good, refused, ◌>>=◌, refuse, need, Refusal, numbered}
+use Rattle.calculus.specs.Answer.{Answer, good, refused, ◌>>=◌, refuse, need, Refusal}
 use Rattle.calculus.proofs.Answers.{good-inj, refused≢good}
 use Rattle.notation_calculus.specs.Words.{comma, square, endSquare, Word}
-use Rattle.notation_calculus.specs.Trees.{TypeTree, TypeTrees, no_types, types, Text}
+use Rattle.notation_calculus.specs.Trees.{TypeTree, TypeTrees, no_types, Text}
 use Rattle.notation_calculus.specs.Grammar.{most_nested, Got, got, behind, place, is, expect, list_from, types_of, arguments_at, type_at}
-use Rattle.notation_calculus.specs.Making.{State, Found, Scope, FoundAll, found_all, type_of, entries, room_for, waiting, most_entries}
+use Rattle.notation_calculus.specs.Making.{State, Found, Scope, FoundAll, found_all, type_of, entries, waiting, most_entries}
 use Rattle.notation_machine.specs.TypeFrom.{type_from, types_from}
 use Rattle.words.specs.Next.{Said}
 use Rattle.words.specs.Lexed.{from, Lexed, Stands}
@@ -35,8 +35,8 @@ use Rattle.walks.specs.declared.TypesEnd as types-code
 use Rattle.walks.specs.declared.TypesEnd.TheVariants as types_end_lem
 use Rattle.walks.specs.Walkable.{Walkable}
 use Rattle.walks.specs.Walked.{TypesWalked}
-use Rattle.walks.specs.Says.{TypeCame, TypeAnswers, CanType, TypeSays, TypesCame, TypesAnswer, TypesSay}
-use Rattle.walks.proofs.Kept.{types_walked_none, types_walked_then, types_of_entries, walkable_on, places-on}
+use Rattle.walks.specs.Says.{TypeCame, TypeAnswers, CanType, TypeSays, TypesAnswer, TypesSay}
+use Rattle.walks.proofs.Kept.{types_walked_none, types_walked_then, types_of_entries, walkable_on}
 use Rattle.type_walk.specs.Holding.{AllBelow}
 use Rattle.type_walk.specs.Many.{ListRead, CanTypeAll, AllTypesSay, types_refused}
 use Rattle.type_walk.proofs.HoldLaws.{all_below_more}

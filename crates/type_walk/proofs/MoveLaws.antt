@@ -1,21 +1,21 @@
 -- Parts of a step in one another, and what stands behind an atom: one law for each way out. Assumes nothing.
-use Prim.Native.Nat.{ℕ, zero, suc, ◌+◌, ◌*◌, ◌≤◌, ◌<◌}
+use Prim.Native.Nat.{ℕ, zero, suc, ◌+◌, ◌≤◌}
 use mathlib.Core.Path.{◌≡◌, refl, sym, ap, subst, ◌∙◌}
 use mathlib.Core.Bool.{Bool, true, false, not, ◌&&◌, cond}
 use mathlib.Core.List.{List, [], ◌∷◌}
 use native.Mathlib.Omega.{arith}
 use native.Mathlib.Numerals.{add-one}
 use lib.Dec.{eqb}
-use lib.ListN.{length, get_or, drop, length-drop}
+use lib.ListN.{length, drop, length-drop}
 use borrow.Author.Tests.{eqb-true, eqb-false}
-use Rattle.calculus.specs.Answer.{Answer, good, refused, ◌>>=◌, refuse}
-use Rattle.notation_calculus.specs.Words.{ends_line, blank, first, gap, Sign, arrow, linear, times, Word, word_at, words_from}
+use Rattle.calculus.specs.Answer.{Answer, good, refuse}
+use Rattle.notation_calculus.specs.Words.{ends_line, blank, first, gap, arrow, linear, times, Word, word_at, words_from}
 use Rattle.notation_calculus.specs.Trees.{Form, product, Text}
 use Rattle.notation_calculus.specs.Trees as Trees
-use Rattle.notation_calculus.specs.Grammar.{peek, behind, place, is}
-use Rattle.notation_calculus.specs.Making.{State, Found, Scope}
+use Rattle.notation_calculus.specs.Grammar.{peek, behind, is}
+use Rattle.notation_calculus.specs.Making.{State, Scope}
 use Rattle.notation_theorems.proofs.Answering.{On, on_any, on_either, on_good}
-use Rattle.notation_machine.specs.TypeMachine.{other, TypeLevel, Typing, came, TypeHere, ask_type, type_done, ask_side, arrow_from, side_from, behind_side}
+use Rattle.notation_machine.specs.TypeMachine.{other, TypeLevel, Typing, came, TypeHere, ask_type, type_done, ask_side, arrow_from}
 use Rattle.words.specs.Next.{Said}
 use Rattle.words.specs.Lexed.{lexed, from, Lexed, Onward, Stands}
 use Rattle.words.specs.Marks.{Marks}
@@ -29,7 +29,7 @@ use Rattle.type_walk.specs.declared.levels.Here.{Here}
 use Rattle.type_walk.specs.declared.levels.Walking as code
 use Rattle.type_walk.specs.declared.levels.Walking.TheVariants as walking
 use Rattle.type_walk.specs.Holding.{here_with, AtLevel, Answered}
-use Rattle.type_walk.specs.Moves.{CanMove, Waited, Moving, Moved, Known, found_in_lem, done_at, form_by, side_after, arrow_after, done_after, side_ask, side_done}
+use Rattle.type_walk.specs.Moves.{CanMove, Waited, Moving, Moved, Known, found_in_lem, done_at, form_by, side_after, arrow_after, done_after, side_ask}
 use Rattle.type_walk.proofs.HoldLaws.{at_on}
 use Rattle.type_walk.proofs.AskLaws.{can_wait, ask_held, places-none, waited_moved}
 

@@ -1,15 +1,15 @@
 -- A name in a type: its arguments, a parameter of the definition, a definition that is put in. One law for each way out. Assumes nothing.
-use Prim.Native.Nat.{ℕ, zero, suc, ◌+◌, ◌*◌, ◌-◌, ◌≤◌, ◌<◌}
+use Prim.Native.Nat.{ℕ, zero, suc, ◌+◌, ◌-◌, ◌≤◌, ◌<◌}
 use mathlib.Core.Path.{◌≡◌, refl, sym, ap, subst, ◌∙◌}
 use mathlib.Core.Bool.{Bool, true, false, ◌||◌, cond}
 use mathlib.Core.List.{List, [], ◌∷◌}
 use native.Mathlib.Omega.{arith}
 use lib.Dec.{T, leb, leb→le}
-use lib.ListN.{length, get_or, drop, take}
-use Rattle.calculus.specs.Answer.{Answer, good, refused, ◌>>=◌, refuse, need, numbered}
-use Rattle.notation_calculus.specs.Words.{Name, same_name, square, curly, Word, run}
-use Rattle.notation_calculus.specs.Trees.{Bound, Number, Clause, Text}
-use Rattle.notation_calculus.specs.Grammar.{Got, behind, is, numbers_at}
+use lib.ListN.{length, take}
+use Rattle.calculus.specs.Answer.{Answer, good, refused, ◌>>=◌, refuse, need}
+use Rattle.notation_calculus.specs.Words.{Name, same_name, square, curly, Word}
+use Rattle.notation_calculus.specs.Trees.{Bound, Clause, Text}
+use Rattle.notation_calculus.specs.Grammar.{behind, is, numbers_at}
 use Rattle.notation_calculus.specs.Making.{State, Entry, Scope, Put, lookup, entries, numbers_in, meant, clause_for, one_put, most_entries, waiting}
 use Rattle.notation_theorems.proofs.Answering.{On, on_step, on_any, on_either, on_good}
 use Rattle.notation_machine.specs.TypeMachine.{argument, body, TypeLevel, Typing, TypeHere, ask_type, side_from, ask_argument, type_put_in}
@@ -28,13 +28,12 @@ use Rattle.walks.specs.declared.PutEnd as put
 use Rattle.walks.specs.declared.PutEnd.TheVariants as put-end
 use Rattle.walks.specs.Walkable.{row_bodies, AllTyped, Walkable}
 use Rattle.walks.specs.Walked.{TypesWalked}
-use Rattle.walks.specs.Says.{bound_at, CanWalk, PutThere, put_from, PutCame, PutAnswers, CanPut, PutSays}
+use Rattle.walks.specs.Says.{bound_at, PutThere, put_from, PutAnswers, CanPut, PutSays}
 use Rattle.walks.proofs.Kept.{types_walked_then}
-use Rattle.type_walk.specs.declared.levels.Want.{Want}
 use Rattle.type_walk.specs.declared.levels.Here.{Here}
 use Rattle.type_walk.specs.declared.levels.Walking as code
 use Rattle.type_walk.specs.declared.levels.Walking.TheVariants as walking
-use Rattle.type_walk.specs.Holding.{given_from, AllBelow, here_with, around_of, AtLevel, Wanting, Answered}
+use Rattle.type_walk.specs.Holding.{given_from, here_with, AtLevel, Wanting, Answered}
 use Rattle.type_walk.specs.Moves.{CanMove, Waited, Moving, Moved, Known, found_in_lem, Given, Valued, Anything, NameAt, side_after, argument_ask, put_after, plain_after, named_after, CanAskBody, BodyAsked}
 use Rattle.type_walk.proofs.HoldLaws.{at_on, walked-wider}
 use Rattle.type_walk.proofs.AskLaws.{can_wait, ask_held, waited_walked, places-none, waited_moved}

@@ -1,20 +1,20 @@
 -- Bits in a row: behind a 1, behind the sign, and behind the number. One law for each way out. Assumes nothing.
 use Prim.Native.Nat.{ℕ, suc, ◌-◌, ◌≤◌}
 use mathlib.Core.Path.{◌≡◌, refl, sym, ap, subst, ◌∙◌}
-use mathlib.Core.Bool.{Bool, true, false, cond}
+use mathlib.Core.Bool.{Bool, true, cond}
 use mathlib.Core.List.{List}
 use native.Mathlib.Omega.{arith}
 use lib.ListN.{length, get_or}
 use Rattle.calculus.specs.Answer.{Answer, good, refused, ◌>>=◌, refuse}
-use Rattle.calculus.proofs.Answers.{refused≢good, good-inj, refused-inj}
+use Rattle.calculus.proofs.Answers.{refused≢good, refused-inj}
 use Rattle.notation_calculus.specs.Words.{plus, power, Token, sign, part, number, name, Word}
 use Rattle.notation_calculus.specs.Trees.{Number, Text}
 use Rattle.notation_calculus.specs.Grammar.{Got, got, peek, behind, place, is, value_of, read_number, number_at}
 use Rattle.notation_calculus.specs.Making.{State, Found, Entry, Scope, number_of, more_bits, ones_of}
 use Rattle.notation_theorems.proofs.Answering.{On, on_any, on_either, on_good}
-use Rattle.notation_machine.specs.TypeMachine.{TypeLevel, Typing, TypeHere, side_from, ones_from}
+use Rattle.notation_machine.specs.TypeMachine.{TypeLevel, Typing, TypeHere, side_from}
 use Rattle.words.specs.Next.{Said}
-use Rattle.words.specs.Lexed.{from, Lexed, Stands}
+use Rattle.words.specs.Lexed.{from, Stands}
 use Rattle.words.specs.Marks.{Marks}
 use Rattle.grammar.specs.declared.steps.End.{End}
 use Rattle.grammar.specs.Ends.{rest_of, Ends}

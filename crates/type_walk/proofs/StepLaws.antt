@@ -7,23 +7,23 @@ use native.Mathlib.Omega.{arith}
 use native.Mathlib.Decide.{dec_le}
 use native.Mathlib.Numerals.{add-one}
 use lib.Dec.{eqb}
-use lib.ListN.{length, get_or, drop, take}
-use borrow.Author.Tests.{eqb-true, eqb-false, eq-eqb, ne_eqb}
-use Rattle.calculus.specs.Answer.{Answer, good, refused, ◌>>=◌, refuse, need, numbered}
-use Rattle.calculus.specs.Types.{TyRec, rec02, rec03, rec04}
+use lib.ListN.{length, drop, take}
+use borrow.Author.Tests.{eq-eqb, ne_eqb}
+use Rattle.calculus.specs.Answer.{Answer, good, ◌>>=◌, refuse, need}
+use Rattle.calculus.specs.Types.{TyRec}
 use Rattle.calculus.proofs.Answers.{good-inj, refused≢good}
 use Rattle.sheet_theorems.specs.Laid.{Below}
-use Rattle.notation_calculus.specs.Words.{round, endRound, comma, endSquare, Token, sign, part, number, name, sign_code, Word, run}
-use Rattle.notation_calculus.specs.Trees.{Bound, Form, product, arrow, linear, Text}
-use Rattle.notation_calculus.specs.Grammar.{peek, behind, place, is, is_token}
+use Rattle.notation_calculus.specs.Words.{endRound, comma, endSquare, Token, sign, part, number, name, sign_code, Word, run}
+use Rattle.notation_calculus.specs.Trees.{product, arrow, linear, Text}
+use Rattle.notation_calculus.specs.Grammar.{peek, behind, place, is}
 use Rattle.notation_calculus.specs.Making.{State, Found, Scope, form_of, listed, most_entries}
-use Rattle.notation_machine.specs.TypeMachine.{Wish, enclosed, argument, body, other, TypeLevel, Typing, wanted, came, TypeHere, ask_type, type_done, side_from, behind_side, ones_from, in_order_lem, ask_argument, type_put_in, type_named_at, type_entered, type_left, type_move}
+use Rattle.notation_machine.specs.TypeMachine.{enclosed, argument, other, TypeLevel, Typing, wanted, came, TypeHere, ask_type, type_done, side_from, behind_side, ones_from, in_order_lem, ask_argument, type_put_in, type_named_at, type_entered, type_left, type_move}
 use Rattle.notation_machine.specs.TypeSteps.{Going}
 use Rattle.words.specs.Tables.{token_code}
 use Rattle.words.specs.Next.{Said, run_at}
 use Rattle.words.specs.Lexed.{from, Lexed, Stands}
 use Rattle.grammar.proofs.EndLaws.{sign_not, is_yes, is_no}
-use Rattle.making_memory.specs.Map.{types_at, scope_at, type_count_at, node_count_at, put_count_at, making_size}
+use Rattle.making_memory.specs.Map.{scope_at, type_count_at, node_count_at, put_count_at, making_size}
 use Rattle.made_types.specs.declared.Record.{Record}
 use Rattle.made_types.specs.declared.FoundType as found-code
 use Rattle.made_types.specs.declared.FoundType.TheVariants as found_type
@@ -34,23 +34,22 @@ use Rattle.clauses.specs.Meant.{values_in}
 use Rattle.scopes.specs.Entries.{place_in, value_at, Places, OnlyEntries, with_entry}
 use Rattle.scopes.proofs.KeepLaws.{entry_place, entry_value, entry_only}
 use Rattle.walk_levels.specs.declared.Level.{Level}
-use Rattle.walk_levels.specs.Levels.{InLevels, level_in, scope_in}
-use Rattle.walk_levels.specs.TypeLevels.{flag_number, side_number, GivenIn, HoldsWish}
+use Rattle.walk_levels.specs.Levels.{InLevels}
+use Rattle.walk_levels.specs.TypeLevels.{flag_number}
 use Rattle.walks.specs.Walkable.{row_bodies}
 use Rattle.walks.specs.Walked.{TypesWalked}
-use Rattle.walks.proofs.Kept.{types_walked_none, types_walked_then, types_of_entries, types_of_listed}
+use Rattle.walks.proofs.Kept.{types_walked_none, types_of_entries}
 use Rattle.walks.specs.Says.{bound_at}
 use Rattle.type_walk.specs.declared.levels.Want.{Want}
 use Rattle.type_walk.specs.declared.levels.Come.{Come}
 use Rattle.type_walk.specs.declared.levels.Here.{Here}
 use Rattle.type_walk.specs.declared.levels.Walking as code
 use Rattle.type_walk.specs.declared.levels.Walking.TheVariants as walking
-use Rattle.type_walk.specs.Holding.{given_from, AllBelow, LevelHeld, LevelsHeld, here_with, here_in, AtLevel, Wanting, Coming, Answered}
+use Rattle.type_walk.specs.Holding.{given_from, AllBelow, LevelHeld, LevelsHeld, here_with, here_in, AtLevel, Wanting, Coming}
 use Rattle.type_walk.specs.Moves.{CanMove, Waited, Moving, Moved, Known, found_in_lem, Given, Valued, Both, Anything, NameAt, form_by, side_after, arrow_after, done_after, ones_after, argument_ask, put_after, named_after, inside_ask, enter_at, left_with, side_done, CanStep, Stepped}
 use Rattle.type_walk.proofs.HoldLaws.{at_on, walked-wider, levels_within}
 use Rattle.type_walk.proofs.AskLaws.{can_wait, ask_held, places-none, waited_moved}
-use Rattle.type_walk.proofs.MoveLaws.{onward, answered_as, moved_by, moved_as, moved_after, refused_moved, form_number}
-use Rattle.type_walk.proofs.NameLaws.{given_length}
+use Rattle.type_walk.proofs.MoveLaws.{onward, answered_as, moved_as, moved_after, refused_moved}
 use Rattle.type_walk.proofs.TableLaws.{table_refused, table-can, table-found}
 
 -- ---- a type begins

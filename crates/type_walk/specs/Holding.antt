@@ -1,16 +1,14 @@
 -- When the memory and the numbers of the walk hold a state of the machine of types: a scope and a state for the type that is wanted, the
 -- levels above it, and the words by their offset. Assumes nothing.
-use Rattle.std.specs.Prelude.{ℕ, zero, suc, ◌+◌, ◌≤◌, ◌<◌, ◌≡◌, Bool, List, [], ◌∷◌, eqb, length}
+use Rattle.std.specs.Prelude.{ℕ, zero, suc, ◌+◌, ◌≤◌, ◌<◌, ◌≡◌, List, [], ◌∷◌, eqb, length}
 use Rattle.calculus.specs.Answer.{Answer, good, refuse}
 use Rattle.calculus.specs.Record.{All}
-use Rattle.notation_calculus.specs.Trees.{Bound, Text}
-use Rattle.notation_calculus.specs.Making.{State, Found, Scope, most_entries}
+use Rattle.notation_calculus.specs.Trees.{Text}
+use Rattle.notation_calculus.specs.Making.{State, Scope, most_entries}
 use Rattle.notation_machine.specs.TypeMachine.{Wish, enclosed, argument, body, other, TypeLevel, Typing, wanted, came, TypeHere}
-use Rattle.words.specs.Next.{run_at}
 use Rattle.words.specs.Lexed.{from, Lexed}
 use Rattle.made_types.specs.Held.{HoldsState}
 use Rattle.scopes.specs.Entries.{value_at, Places}
-use Rattle.walk_levels.specs.declared.Level.{Level}
 use Rattle.walk_levels.specs.declared.Around.{Around}
 use Rattle.walk_levels.specs.Levels.{level_in, scope_in}
 use Rattle.walk_levels.specs.TypeLevels.{flag_number, waiting_for, HoldsWish}
