@@ -1,6 +1,6 @@
 -- Bits that run what was made, set from below upwards: a term that is moved, the comparing term over any bits of its binders, the points of a
 -- function. Assumes nothing.
-use Prim.Native.Nat.{ℕ, ◌+◌, ◌*◌, ◌-◌, ◌<◌, ◌≤◌}
+use Prim.Native.Nat.{ℕ, ◌+◌, ◌*◌, ◌<◌, ◌≤◌}
 use mathlib.Core.Path.{◌≡◌, refl, sym, ap, ap₂, ◌∙◌, subst}
 use mathlib.Core.Logic.{◌↔◌}
 use mathlib.Core.Bool.{Bool, true, false, cond, not, ◌&&◌, ◌||◌, xor, true≢false}
@@ -16,7 +16,7 @@ use Rattle.calculus.specs.Terms.{Edition, first, second, Term, var}
 use Rattle.calculus.specs.Net.{inp, out, Interface, turns, Element, point, part, Wire, in_side, out_side, join, Bound, unbound, Made, left_of, binder, made_var, first_half, second_half, whole_of, make}
 use Rattle.calculus.specs.Record.{Stream, Bits, All, Same, Works, Joined, part_law}
 use Rattle.sheet_theorems.specs.Laid.{TableOk, Ranged}
-use Rattle.circuit_theorems.specs.Scope.{dirs, Suits}
+use Rattle.circuit_theorems.specs.Scope.{Suits}
 use Rattle.circuit_theorems.proofs.Lists.{all_append, all_take, all_drop, all_get_d}
 use Rattle.circuit_theorems.proofs.Bounds.{ElementBelow}
 use Rattle.circuit_theorems.proofs.Drivers.{turns-size, halves}
