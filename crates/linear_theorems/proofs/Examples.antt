@@ -129,7 +129,7 @@ pub deep-accepted : (depth (plain deep-before) ≡ 35) × (full (sheet_bytes fir
 unfolding full read_sheet read_records edition_of records_of read_types read_term head_at record_bytes sheet_bytes
 deep-accepted = (refl, refl)
 
--- with the argument put in it is 66 deep and can't be read: of `harmless-34` the 34 is the most that can be said
+-- with the argument put in it is 66 deep and can't be read: of `harmless_34` the 34 is the most that can be said
 pub deep-breaks : (depth (plain deep-after) ≡ 66) × (Readable (sheet_bytes first types (plain deep-after)) → ⊥)
 unfolding deep
 deep-breaks = (refl, (λ x. let h = (limits deep (net_of (make types (plain deep-before) [] 0)) deep-accepted.1).readable.0 x in omega arith))

@@ -128,7 +128,7 @@ module _ (E : Edition) (s : List ℕ) (Θ : Table) (at n more : ℕ) where
   head_value (type k) = refuse 4 at
   head_value (node k) = good k
 
-  -- `headAt` with its kind
+  -- `head_at` with its kind
   abbrev head_of : Kind → Answer NodeKind
   head_of q = do
     _ ← need (ltb at (length s)) 3 at

@@ -14,7 +14,7 @@ use Rattle.refusal_theorems.specs.Unreadable.{Unreadable}
 
 -- ---- 2 to 16, which every call on a sheet has in common
 
--- the bytes s are those of the sheet σ, and no sentence of 2 to 9 refuses them. (No two sheets have the same bytes: theorem `one-sheet`)
+-- the bytes s are those of the sheet σ, and no sentence of 2 to 9 refuses them. (No two sheets have the same bytes: theorem `one_sheet`)
 pub record WrittenAs (s : List ℕ) (σ : Sheet) : Type 0 where
   pub bytes : s ≡ sheet_bytes σ.edition σ.table σ.term
   pub readable : (why : Refusal) → ¬ Unreadable s why

@@ -67,7 +67,7 @@ module _ (s : List ℕ) (σ : Sheet) (m : Net) (reads : read_sheet s ≡ good σ
       let t : typed-as.0 ≡ arrows_to (taken_types τ) (shown_type τ) = sym d.type ∙ e ∙ sym (arrows-taken τ) in
       record { scoped = typed_scoped typed-as.1; type = d.type ∙ t; dirs = d.dirs ∙ ap (turns false) t }
 
-  -- the type that `rootOf` names is the one that the walk finds
+  -- the type that `root_of` names is the one that the walk finds
   pub root-walked : (r : Found) → walk σ.edition σ.table σ.term 0 [] ≡ good r → root_of σ ≡ tree σ.table r.type
   unfolding root_of
   root-walked r h = (term_driven typed-as.1 [] env_end 0).type ∙ sym (exact_type s σ r typed-as.0 reads h typed-as.1)

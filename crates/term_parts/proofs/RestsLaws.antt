@@ -11,7 +11,7 @@ use Rattle.notation_calculus.specs.Words.{Word}
 use Rattle.notation_calculus.specs.Trees.{Bound}
 use Rattle.notation_calculus.specs.Grammar.{behind}
 use Rattle.notation_machine.specs.Lists.{head_at}
-use Rattle.notation_calculus.specs.Making.{State, Entry, Scope, with_variables, most_entries, Made, counted, node, halves_of, rest}
+use Rattle.notation_calculus.specs.Making.{State, Entry, Scope, with_variables, most_entries, Made, node, halves_of, rest}
 use Rattle.notation_machine.specs.TermMachine.{Taken, Apart, apart_from}
 use Rattle.words.specs.Lexed.{from}
 use Rattle.made_types.specs.Held.{HoldsState}

@@ -146,8 +146,8 @@ module _ (k : ℕ) where
       mem_set k w (o - 1) (word_at w y) (omega arith)
       ∙ ap (set W (bits_at + (o - 1))) (sym (mem_bit k w y r.source) ∙ ap (λ (n : ℕ). get_or W (bits_at + n) 0) (sym (mem_low k w (o - 1) (omega arith))))
 
-  turn_one : (w : List ℕ) (o : ℕ) → Register w o → lane_mem k (turn_at w o) ≡ turn_at (lane_mem k w) o
-  turn_one w o r =
+  turn_one_lem : (w : List ℕ) (o : ℕ) → Register w o → lane_mem k (turn_at w o) ≡ turn_at (lane_mem k w) o
+  turn_one_lem w o r =
       let lo = r.low in
       mem_set k w o (word_at w (o - 1)) lo ∙ ap (set (lane_mem k w) (bits_at + o)) (sym (mem_bit k w (o - 1) (omega arith)))
 
@@ -167,7 +167,7 @@ module _ (k : ℕ) where
       step j w l i =
           let f = q.few in
           let r = register_at_lem i q j l in
-          (within_then i (turn_within w j r), turn_one w (get_or w (registers_at + j) 0) r ∙ ap (turn_at (lane_mem k w)) (sym (mem_low k w (registers_at + j) (omega arith))))
+          (within_then i (turn_within w j r), turn_one_lem w (get_or w (registers_at + j) 0) r ∙ ap (turn_at (lane_mem k w)) (sym (mem_low k w (registers_at + j) (omega arith))))
 
   -- ---- pins
 

@@ -3,7 +3,7 @@ use Prim.Native.Nat.{ℕ, ◌+◌, ◌≤◌, ◌<◌}
 use mathlib.Core.Path.{◌≡◌, refl}
 use mathlib.Core.Logic.{◌⊎◌, inl, inr}
 use mathlib.Core.Bool.{Bool, true, false}
-use mathlib.Core.List.{List, ◌∷◌}
+use mathlib.Core.List.{List, ◌∷◌, []}
 use native.Mathlib.Omega.{arith}
 use lib.Dec.{leb, leb→le}
 use lib.ListN.{length}
@@ -97,6 +97,7 @@ CardPlace s room why = CallPlace s room why ⊎ ProfilePlace why
 
 -- each element's output is below the end
 output-below : (es : List Element) (n e : ℕ) (x : Element) → Rising es n e → Among x es → output_place x < e
+output-below [] n e x r x4 = elim x4 [ ]
 output-below (point i ∷ es) n e x r here = omega (arith, rising-end es (i + 2) e r.1)
 output-below (part p i ∷ es) n e x r here = omega (arith, rising-end es (i + (part_at p).inputs + 1) e r.1)
 output-below (point i ∷ es) n e x r (there h) = output-below es (i + 2) e x r.1 h

@@ -1,0 +1,35 @@
+-- The invariant: what waits from half `left` on is joined. The measure is `left`. Assumes nothing.
+use borrow.Author.Rules.{rules}
+use Rattle.term_parts.proofs.JoinLaws.{joining-none, joining-workable, joining-done, joining-more, joining-ends, taken_made, taken_place, one_projection, projection_one}
+use Rattle.notation_machine.specs.TermMachine.{projections}
+use mathlib.Core.Path.{refl, ◌∙◌}
+use Prim.Native.Nat.{◌-◌}
+use native.Mathlib.Omega.{arith}
+use Rattle.term_parts.proofs.joined.projections.Goals as goal
+
+pub loop-left-init : goal.loop-left-init
+loop-left-init c = joining-none taken_made taken_place projections one_projection (λ m. refl) (λ x xs m. refl) c.args.work.now c.args.from c.args.count c.args.e c.requires
+
+pub overflow_add-from : goal.overflow_add-from
+overflow_add-from c = let a = c.requires.few in let b = c.loop-left.invariant.within in search rules
+
+pub half_at-h-requires : goal.half_at-h-requires
+half_at-h-requires c = ((joining-workable taken_made taken_place projections one_projection (λ m. refl) (λ x xs m. refl) c.args.work.now c.args.from c.args.count c.args.e c.requires c.loop-left.work c.loop-left.f c.loop-left.left c.loop-left.invariant).room, omega (arith, c.requires.few, c.loop-left.invariant.within, c.loop-left-test.true))
+
+pub projection-made-requires : goal.projection-made-requires
+projection-made-requires c = (joining-workable taken_made taken_place projections one_projection (λ m. refl) (λ x xs m. refl) c.args.work.now c.args.from c.args.count c.args.e c.requires c.loop-left.work c.loop-left.f c.loop-left.left c.loop-left.invariant, c.loop-left.invariant.small)
+
+pub shape_of-work-in_default : goal.shape_of-work-in_default
+shape_of-work-in_default c = c.projection-made.auto.work ∙ c.loop-left.invariant.only.same
+
+pub returns-in_default : goal.returns-in_default
+returns-in_default c = joining-ends taken_made taken_place projections one_projection (λ m. refl) (λ x xs m. refl) c.args.work.now c.args.from c.args.count c.args.e c.requires c.loop-left.work c.loop-left.f c.loop-left.left c.loop-left.invariant (c.loop-left.left - 1) (omega (arith, c.loop-left-test.true)) c.half_at-h.result c.half_at-h.ensures _ _ (projection_one c.loop-left.work c.half_at-h.result.place _ c.loop-left.f _ _ c.projection-made.ensures) _ _ c.in_default.is
+
+pub loop-left-preserved : goal.loop-left-preserved
+loop-left-preserved c = joining-more taken_made taken_place projections one_projection (λ m. refl) (λ x xs m. refl) c.args.work.now c.args.from c.args.count c.args.e c.requires c.loop-left.work c.loop-left.f c.loop-left.left c.loop-left.invariant (c.loop-left.left - 1) (omega (arith, c.loop-left-test.true)) c.half_at-h.result c.half_at-h.ensures _ _ (projection_one c.loop-left.work c.half_at-h.result.place _ c.loop-left.f _ _ c.projection-made.ensures) _ c.in-At.is
+
+pub shape_of-work : goal.shape_of-work
+shape_of-work c = c.loop-left.invariant.only.same
+
+pub returns : goal.returns
+returns c = joining-done taken_made taken_place projections one_projection (λ m. refl) (λ x xs m. refl) c.args.work.now c.args.from c.args.count c.args.e c.requires c.loop-left.work c.loop-left.f c.loop-left.left c.loop-left.invariant (λ q. omega (arith, c.loop-left-test.false))
