@@ -18,7 +18,6 @@ use Rattle.laws.proofs.Tests.{by_eqb}
 use Rattle.circuit_theorems.proofs.Lists.{all_map}
 use Rattle.circuit_theorems.proofs.Terminals.{out_high}
 use Rattle.back_calculus.specs.Back.{DrivenBy, undriven, output, part_before, sources, undrivens, gates_from, open_ins}
-use Rattle.back_theorems.proofs.Typing.{few}
 use Rattle.back.specs.Gates.{net_here, AcceptedNet, input_total}
 use Rattle.back.proofs.GateLaws.{here-is}
 

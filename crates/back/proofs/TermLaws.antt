@@ -75,7 +75,8 @@ pub functions-bytes : (t k : ℕ) (e : Term) → term_bytes (functions t k e) �
 functions-bytes t zero e = refl
 functions-bytes t (suc k) e =
     let z : t + suc k ≡ suc (t + k) = omega arith in
-    rw z (ap (λ (l : List ℕ). 0x13 ∷ suc (t + k) ∷ l) (functions-bytes t k e) ∙ ap (λ (l : List ℕ). l ++ term_bytes e) (sym (falls (t + k) k)))
+    ap (λ (x : ℕ). 0x13 ∷ x ∷ term_bytes (functions t k e)) z ∙ ap (λ (l : List ℕ). 0x13 ∷ suc (t + k) ∷ l) (functions-bytes t k e) ∙ ap (λ (l : List ℕ). l ++ term_bytes e) (sym (falls (t + k) k))
+    ∙ ap (λ (x : ℕ). rows_up_to (function_row x) (suc k) ++ term_bytes e) (sym z)
 
 same_rows : (f : ℕ → List ℕ) (x : List ℕ) → ((j : ℕ) → f j ≡ x) → (q : ℕ) → x ++ rows_up_to f q ≡ rows_up_to f (suc q)
 same_rows f x h zero = append-nil x ∙ sym (h 0)

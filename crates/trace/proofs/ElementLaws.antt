@@ -39,7 +39,7 @@ made-within (part p i ∷ es) x h = elim (dec_le 1 (ins (part_side (part_at p).i
   | no l ↦ (let r = made-within es x (omega arith) in (r.0, there r.1, r.2, r.3))
 ]
 
-pub within-made : {es : List Element} (a : Element) (x : ℕ) → Among a es → start a ≤ x → x < last a → 1 ≤ made_at_lem es x
+pub within-made : (a : Element) {es : List Element} (x : ℕ) → Among a es → start a ≤ x → x < last a → 1 ≤ made_at_lem es x
 within-made (point i) x (here {xs = es}) l h = by_eqb (λ b. 1 ≤ cond b 1 0 + made_at_lem es x) i x (λ e. omega arith) (λ d. absurd (d (omega arith)))
 within-made (part p i) x (here {xs = es}) l h = omega (arith, ins_of (part_at p).inputs i x l h)
 within-made a x (there {y = c} {xs = es} g) l h = omega (arith, made-append (c ∷ []) es x, within-made a x g l h)

@@ -83,6 +83,7 @@ lean-parts m h = subst (λ (l : List ℕ). length l ≤ 1024) (sym (keep-parts m
 -- ---- a kept point whose input is no pin has a wire to itself
 
 in_left : {A : Type 0} {v : A} (xs ys : List A) → Among v xs → Among v (xs ++ ys)
+in_left {A = A} {v = v} [] ys x' = elim x' [ ]
 in_left (x ∷ xs) ys here = here
 in_left (x ∷ xs) ys (there h) = there (in_left xs ys h)
 
@@ -91,6 +92,7 @@ in_right [] ys h = h
 in_right (x ∷ xs) ys h = there (in_right xs ys h)
 
 self_wire : (m : Net) (i : ℕ) (es : List Element) → Among (point i) es → T (kept m (point i)) → is_pin m.pins i ≡ false → Among (wire_of (i + 1) i) (lean_wires m es)
+self_wire m i [] x3 k p = elim x3 [ ]
 self_wire m i (point j ∷ es) here k p = in_left (to_element m (point i)) (lean_wires m es) (by (kept m (point i)) (is_pin m.pins i) (T-is (kept m (point i)) k) p)
   where
     by : (a b : Bool) → a ≡ true → b ≡ false → Among (wire_of (i + 1) i) (cond (a && not b) (wire_of (i + 1) i ∷ []) [])
@@ -113,7 +115,7 @@ module _ (m : Net) (free : (x : ℕ) → OnRing (lean m) x → ⊥) where
 
 -- ---- so many gates, and so many registers
 
-part_hole : {es : List Element} (p i : ℕ) → Among (part p i) es → T (has (part_ends es) (i + (part_at p).inputs))
+part_hole : (p i : ℕ) {es : List Element} → Among (part p i) es → T (has (part_ends es) (i + (part_at p).inputs))
 part_hole p i (here {xs = es}) = or_left (eqb (i + (part_at p).inputs) (i + (part_at p).inputs)) (has (part_ends es) (i + (part_at p).inputs)) (eqb_refl (i + (part_at p).inputs))
 part_hole p i (there {y = point j} {xs = es} h) = part_hole p i h
 part_hole p i (there {y = part q j} {xs = es} h) = or_right (eqb (j + (part_at q).inputs) (i + (part_at p).inputs)) (has (part_ends es) (i + (part_at p).inputs)) (part_hole p i h)

@@ -86,7 +86,7 @@ inputs-within (point i ∷ es) x t =
 inputs-within (part p i ∷ es) x t =
     ⊎_elim (λ v. let r = has_up (part_at p).inputs i x v in (part p i, in_here, r.0, r.1)) (λ v. let r = inputs-within es x v in (r.0, in-there r.1, r.2, r.3)) (has-append (up_from (part_at p).inputs i) (inputs es) x t)
 
-within-inputs : {es : List Element} (a : Element) (x : ℕ) → Among a es → owners.start a ≤ x → x < owners.last a → T (has (inputs es) x)
+within-inputs : (a : Element) {es : List Element} (x : ℕ) → Among a es → owners.start a ≤ x → x < owners.last a → T (has (inputs es) x)
 within-inputs (point i) x (in_here {xs = es}) l h = let e : i ≡ x = omega arith in or_left (eqb i x) (has (inputs es) x) (subst (λ (z : ℕ). T (eqb i z)) e (eqb_refl i))
 within-inputs (part p i) x (in_here {xs = es}) l h = has_left (up_from (part_at p).inputs i) (inputs es) x (up_has (part_at p).inputs i x l h)
 within-inputs a x (in-there {y = point j} {xs = es} g) l h = or_right (eqb j x) (has (inputs es) x) (within-inputs a x g l h)

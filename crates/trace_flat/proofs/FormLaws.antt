@@ -26,19 +26,19 @@ form_low a b c h k l = xor_lt 16 (bit_and a (bit_xor b 65535)) c (and_lt 16 a (b
 
 -- ---- bit by bit
 
-bit_and : (x y : Bool) → xor (x && not y) x ≡ x && y
+bit_and_lem : (x y : Bool) → xor (x && not y) x ≡ x && y
 unfolding xor
-bit_and true true = refl
-bit_and true false = refl
-bit_and false true = refl
-bit_and false false = refl
+bit_and_lem true true = refl
+bit_and_lem true false = refl
+bit_and_lem false true = refl
+bit_and_lem false false = refl
 
-bit_or : (x y : Bool) → xor (x && not y) y ≡ x || y
+bit_or_lem : (x y : Bool) → xor (x && not y) y ≡ x || y
 unfolding xor
-bit_or true true = refl
-bit_or true false = refl
-bit_or false true = refl
-bit_or false false = refl
+bit_or_lem true true = refl
+bit_or_lem true false = refl
+bit_or_lem false true = refl
+bit_or_lem false false = refl
 
 -- b is 0 where the second place is the one that is always 0
 bit-plain : (k a c : ℕ) → k < 16 → bit_at k (form_word a 0 c) ≡ xor (bit_at k a) (bit_at k c)
@@ -52,10 +52,10 @@ bit-plain k a c h = xor_bit k (bit_and a 65535) c ∙ ap (λ (t : Bool). xor t (
     by false e = refl
 
 pub form_and : (a b : ℕ) → a < 65536 → b < 65536 → form_word a b a ≡ bit_and a b
-form_and a b h l = number_only (form_word a b a) (bit_and a b) (form_low a b a h l h) (and_lt 16 a b h l) (λ k q. same_bit k (form_word a b a) (bit_and a b) (form_bit k a b a q ∙ bit_and (bit_at k a) (bit_at k b) ∙ sym (and_bit k a b)))
+form_and a b h l = number_only (form_word a b a) (bit_and a b) (form_low a b a h l h) (and_lt 16 a b h l) (λ k q. same_bit k (form_word a b a) (bit_and a b) (form_bit k a b a q ∙ bit_and_lem (bit_at k a) (bit_at k b) ∙ sym (and_bit k a b)))
 
 pub form_or : (a b : ℕ) → a < 65536 → b < 65536 → form_word a b b ≡ bit_or a b
-form_or a b h l = number_only (form_word a b b) (bit_or a b) (form_low a b b h l l) (or_lt 16 a b h l) (λ k q. same_bit k (form_word a b b) (bit_or a b) (form_bit k a b b q ∙ bit_or (bit_at k a) (bit_at k b) ∙ sym (or_bit k a b)))
+form_or a b h l = number_only (form_word a b b) (bit_or a b) (form_low a b b h l l) (or_lt 16 a b h l) (λ k q. same_bit k (form_word a b b) (bit_or a b) (form_bit k a b b q ∙ bit_or_lem (bit_at k a) (bit_at k b) ∙ sym (or_bit k a b)))
 
 pub form_xor : (a b : ℕ) → a < 65536 → b < 65536 → form_word a 0 b ≡ bit_xor a b
 form_xor a b h l = number_only (form_word a 0 b) (bit_xor a b) (form_low a 0 b h (omega arith) l) (xor_lt 16 a b h l) (λ k q. same_bit k (form_word a 0 b) (bit_xor a b) (bit-plain k a b q ∙ sym (xor_bit k a b)))

@@ -76,8 +76,8 @@ module _ (u : List ℕ) (n r end : ℕ) (c : ℕ → ℕ) (places : Places u n r
   shown-low w v s x l q = subst (λ (k : ℕ). k < 65536) (s.same x l q) (s.fits (c x))
 
   -- .. and over the flat layout
-  flat_step : (w v : List ℕ) (j : ℕ) → Lists u n r c v → FlatShows u r end c w v → j < n → flat_step j v ≡ set v (gates_at + j) (due w j)
-  flat_step w v j l s h =
+  flat_step_lem : (w v : List ℕ) (j : ℕ) → Lists u n r c v → FlatShows u r end c w v → j < n → flat_step j v ≡ set v (gates_at + j) (due w j)
+  flat_step_lem w v j l s h =
       let o = gate_at u j in
       let e = get_or u o 0 in
       let x = get_or u (first_in u o) 0 in
@@ -109,9 +109,9 @@ module _ (u : List ℕ) (n r end : ℕ) (c : ℕ → ℕ) (places : Places u n r
       let low = (reads.order.looks j h).low in
       record {
         same = λ x lx sx. elim (ℕ_discrete x o) [
-          | yes q ↦ ap (λ (k : List ℕ). get_or k (c x) 0) (flat_step w v j l s h) ∙ ap (λ (k : ℕ). get_or (set v (gates_at + j) g) (c k) 0) q ∙ ap (λ (k : ℕ). get_or (set v (gates_at + j) g) k 0) (places.gate j h)
+          | yes q ↦ ap (λ (k : List ℕ). get_or k (c x) 0) (flat_step_lem w v j l s h) ∙ ap (λ (k : ℕ). get_or (set v (gates_at + j) g) (c k) 0) q ∙ ap (λ (k : ℕ). get_or (set v (gates_at + j) g) k 0) (places.gate j h)
               ∙ get_or-set_same v (gates_at + j) g 0 (omega arith) ∙ sym (ap (λ (k : List ℕ). word_at k x) (word-step w j i h) ∙ ap (word_at (set w (bits_at + o) g)) q ∙ entry-same w o g (omega arith) low)
-          | no d ↦ ap (λ (k : List ℕ). get_or k (c x) 0) (flat_step w v j l s h) ∙ set_other v (gates_at + j) (c x) g (λ q. d (places.gate_only x j lx h q)) ∙ s.same x lx sx
+          | no d ↦ ap (λ (k : List ℕ). get_or k (c x) 0) (flat_step_lem w v j l s h) ∙ set_other v (gates_at + j) (c x) g (λ q. d (places.gate_only x j lx h q)) ∙ s.same x lx sx
               ∙ sym (ap (λ (k : List ℕ). word_at k x) (word-step w j i h) ∙ entry_other w o x g d)
         ];
         fits = λ k. flat-low v j s.fits k l.size h;

@@ -1,0 +1,69 @@
+-- Step by step. Assumes nothing.
+use native.Mathlib.Omega.{arith}
+use Rattle.lean.proofs.TableLaws.{within_then}
+use Rattle.trace_steps.proofs.TickLaws.{ordered_within, registers-within, pins_within}
+use Rattle.trace_flat.proofs.LayLaws.{registers-laid, pins_laid, laid-is}
+use Rattle.trace_flat.proofs.layout.lay.Goals as goal
+
+pub place_registers-requires : goal.place_registers-requires
+place_registers-requires c =
+    let l = c.requires in
+    (registers-within c.place.ensures.within l.registers, l.few_registers)
+
+pub place_gates-requires : goal.place_gates-requires
+place_gates-requires c =
+    let l = c.requires in
+    (ordered_within (within_then c.place.ensures.within c.place_registers.ensures.within) l.order, l.few_gates)
+
+pub lay_gates-requires : goal.lay_gates-requires
+lay_gates-requires c =
+    let l = c.requires in
+    (ordered_within (within_then (within_then c.place.ensures.within c.place_registers.ensures.within) c.place_gates.ensures.within) l.order, l.few_gates)
+
+pub lay_registers-requires : goal.lay_registers-requires
+lay_registers-requires c =
+    let l = c.requires in
+    (registers-laid c.lay_gates.ensures.between (registers-within (within_then (within_then c.place.ensures.within c.place_registers.ensures.within) c.place_gates.ensures.within) l.registers), l.few_registers)
+
+pub lay_pins-requires : goal.lay_pins-requires
+lay_pins-requires c =
+    let l = c.requires in
+    pins_laid c.lay_gates.ensures.between c.lay_registers.ensures.between (pins_within (within_then (within_then c.place.ensures.within c.place_registers.ensures.within) c.place_gates.ensures.within) l.pins)
+
+pub begin-requires : goal.begin-requires
+begin-requires c =
+    let l = c.requires in
+    let z = l.size in
+    let a = (within_then (within_then c.place.ensures.within c.place_registers.ensures.within) c.place_gates.ensures.within).size in
+    let b = c.lay_gates.ensures.between.size in
+    let d = c.lay_registers.ensures.between.size in
+    let e = c.lay_pins.ensures.between.size in
+    (omega arith, l.few_terminals)
+
+pub darken-requires : goal.darken-requires
+darken-requires c =
+    let l = c.requires in
+    let z = l.size in
+    let a = (within_then (within_then c.place.ensures.within c.place_registers.ensures.within) c.place_gates.ensures.within).size in
+    let b = c.lay_gates.ensures.between.size in
+    let d = c.lay_registers.ensures.between.size in
+    let e = c.lay_pins.ensures.between.size in
+    let f = c.begin.ensures.within.size in
+    (omega arith, l.few_gates)
+
+pub set_constants-requires : goal.set_constants-requires
+set_constants-requires c =
+    let l = c.requires in
+    let z = l.size in
+    let a = (within_then (within_then c.place.ensures.within c.place_registers.ensures.within) c.place_gates.ensures.within).size in
+    let b = c.lay_gates.ensures.between.size in
+    let d = c.lay_registers.ensures.between.size in
+    let e = c.lay_pins.ensures.between.size in
+    let f = c.begin.ensures.within.size in
+    let g = c.darken.ensures.between.size in
+    omega arith
+
+pub returns : goal.returns
+returns c =
+    let a = c.args in
+    laid-is a.work.now a.end a.settled a.regs a.pins c.requires _ _ _ _ _ _ _ _ _ c.place.ensures c.place_registers.ensures c.place_gates.ensures c.lay_gates.ensures c.lay_registers.ensures c.lay_pins.ensures c.begin.ensures c.darken.ensures c.set_constants.ensures
