@@ -194,8 +194,8 @@ module _ (w : Wished) (s lengths out results work : List ℕ) (room : length len
   abbrev r : CallsMade
   r = one_by_one w s lengths out work
 
-  of_row : batch_call w s lengths out results work ≡ of_row results r
-  of_row = fitting w s lengths out results work room (eq-eqb (sum lengths) (length s) adds)
+  is_of_row : batch_call w s lengths out results work ≡ of_row results r
+  is_of_row = fitting w s lengths out results work room (eq-eqb (sum lengths) (length s) adds)
 
   words : length (map packed r.said) ≡ length lengths
   words = length-map r.said packed ∙ (row-calls w s lengths out work).count
@@ -218,7 +218,7 @@ module _ (w : Wished) (s lengths out results work : List ℕ) (room : length len
 
   -- the call equals calls made one by one: result by result, byte by byte
   pub batch_calls : AsCalls w s lengths out results work (batch_call w s lengths out results work)
-  batch_calls = subst (AsCalls w s lengths out results work) (sym of_row) as_row
+  batch_calls = subst (AsCalls w s lengths out results work) (sym is_of_row) as_row
 
   -- demand 3 holds for each accepted sheet alone
   pub batch_circuits : EachCircuit w s lengths out work batch_calls.used (batch_call w s lengths out results work)
