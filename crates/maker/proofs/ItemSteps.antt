@@ -12,12 +12,12 @@ use Rattle.calculus.specs.Answer.{Answer, good, refused, refuse, ◌>>=◌, need
 use Rattle.calculus.proofs.Answers.{refused≢good, good-inj, on-bind}
 use Rattle.notation_calculus.specs.Words.{ends, table, type, Word}
 use Rattle.notation_calculus.specs.Trees.{TypeTree, Clause, Line, Text}
-use Rattle.notation_calculus.specs.Grammar.{most_nested, most_clauses, Got, got, behind, is, list_from, type_at, Items, may_follow_all, with_clause, with_lines, lines_of, clause_at, type_body, term_body, items_from}
+use Rattle.notation_calculus.specs.Grammar.{most_nested, most_clauses, Got, got, behind, is, Items, may_follow_all, with_clause, with_lines, lines_of, clause_at, type_body, term_body, items_from}
 use Rattle.notation_calculus.specs.Making.{State, Found, Scope, type_of}
 use Rattle.notation_calculus.specs.Make.{lines_table, above}
-use Rattle.notation_theorems.proofs.Answering.{On, on_any, on_good}
+use Rattle.notation_theorems.proofs.Answering.{on_any, on_good}
 use Rattle.words.specs.Next.{Said}
-use Rattle.words.specs.Lexed.{from, Lexed, Onward, Stands}
+use Rattle.words.specs.Lexed.{from, Onward, Stands}
 use Rattle.grammar.specs.declared.steps.End.{End}
 use Rattle.grammar.specs.Ends.{rest_of, type_step, term_step, Ends}
 use Rattle.grammar.specs.Skips.{list_end, clause_end, item_end}

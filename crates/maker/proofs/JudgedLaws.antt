@@ -1,5 +1,5 @@
 -- Which clauses are judged, by their rows; and a body that is made: what there was is the beginning of what there is. Assumes nothing.
-use Prim.Native.Nat.{ℕ, ◌+◌, ◌≤◌, ◌<◌}
+use Prim.Native.Nat.{ℕ, ◌+◌, ◌≤◌}
 use mathlib.Core.Path.{◌≡◌, refl, sym, ap, ◌∙◌, subst}
 use mathlib.Core.Bool.{Bool, true, false, not, ◌&&◌}
 use mathlib.Core.List.{List}
@@ -7,14 +7,14 @@ use native.Mathlib.Omega.{arith}
 use native.Mathlib.Decide.{dec_le}
 use borrow.Author.Tests.{eq-eqb, ne_eqb}
 use lib.Dec.{eqb}
-use lib.ListN.{length, get_or}
+use lib.ListN.{length}
 use Rattle.calculus.specs.Answer.{Answer, good, refused, refuse, ◌>>=◌}
 use Rattle.calculus.specs.Types.{Table}
 use Rattle.calculus.proofs.Answers.{refused≢good, good-inj}
 use Rattle.notation_calculus.specs.Words.{Name, same_name, Word}
 use Rattle.notation_calculus.specs.Trees.{TypeTree, Tree, Body, of_type, of_term, Clause, Text}
 use Rattle.notation_calculus.specs.Grammar.{most_nested, Got, got, type_at, term_at, is_type, same_sort, namesake}
-use Rattle.notation_calculus.specs.Making.{State, Found, Scope, parameters, type_of, Made, term_of}
+use Rattle.notation_calculus.specs.Making.{State, Found, Scope, type_of, Made, term_of}
 use Rattle.notation_calculus.specs.Make.{above, main_name, is_judged, judged_body}
 use Rattle.notation_calculus.specs.Means.{TypeIs, Is}
 use Rattle.notation_theorems.proofs.Answering.{on_good}
@@ -23,8 +23,7 @@ use Rattle.notation_theorems.proofs.TypesMean.{here_of, LowScope, Reached, type_
 use Rattle.notation_theorems.proofs.NodesMean.{StandsFor}
 use Rattle.notation_theorems.proofs.TermsMean.{term_sound}
 use Rattle.words.specs.Next.{run_at}
-use Rattle.words.specs.Lexed.{from, Lexed}
-use Rattle.making_memory.specs.Map.{node_count_at}
+use Rattle.words.specs.Lexed.{from}
 use Rattle.made_types.specs.Held.{HoldsTypes, HoldsState}
 use Rattle.made_types.specs.States.{Beginning}
 use Rattle.made_types.proofs.Choices.{both_first, both_later}
@@ -32,20 +31,20 @@ use Rattle.made_types.proofs.Sorts.{ready_of}
 use Rattle.made_nodes.specs.declared.Sub.{Sub}
 use Rattle.made_nodes.specs.Held.{TermHeld}
 use Rattle.clauses.specs.declared.rows.Row.{Row}
-use Rattle.clauses.specs.Rows.{body_at, RowOf}
+use Rattle.clauses.specs.Rows.{RowOf}
 use Rattle.walks.specs.declared.TypeEnd as type
 use Rattle.walks.specs.declared.TypeEnd.TheVariants as type-end
 use Rattle.walks.specs.declared.TermEnd as term
 use Rattle.walks.specs.declared.TermEnd.TheVariants as term-end
-use Rattle.walks.specs.Walked.{TypesWalked, TermsWalked}
+use Rattle.walks.specs.Walked.{TermsWalked}
 use Rattle.walks.specs.Says.{TypeSays, TermAnswers, CanTerm, TermSays}
 use Rattle.walks.proofs.Kept.{terms_of_types}
 use Rattle.maker.specs.declared.Stage as code
 use Rattle.maker.specs.declared.Stage.TheVariants as stage
-use Rattle.maker.specs.Stages.{FarKept, TextStands, KnowsAbove}
-use Rattle.maker.specs.Judged.{row_judged, BodyRead, CanTry, TryMade, TryAnswers, TrySays}
+use Rattle.maker.specs.Stages.{FarKept, KnowsAbove}
+use Rattle.maker.specs.Judged.{row_judged, BodyRead, CanTry, TryAnswers, TrySays}
 use Rattle.maker.proofs.StageLaws.{far_types, far_terms, stands_of, knows_on_types, knows_on_terms}
-use Rattle.maker.proofs.LineLaws.{bind_good, bind_refused, own_type, TypedBy, own_typed}
+use Rattle.maker.proofs.LineLaws.{bind_good, bind_refused, TypedBy, own_typed}
 
 true≢false : {C : Type 0} → ◌≡◌ {A = Bool} true false → C
 true≢false e = let z : ◌≡◌ {A = ℕ} 0 1 = cc in absurd (omega arith)

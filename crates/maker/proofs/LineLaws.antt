@@ -1,38 +1,35 @@
 -- The types of a line one by one, and the items of a text: a line, a definition, the end. Assumes nothing.
-use Prim.Native.Nat.{ℕ, zero, suc, ◌+◌, ◌-◌, ◌*◌, ◌≤◌, ◌<◌}
+use Prim.Native.Nat.{ℕ, zero, suc, ◌+◌, ◌*◌, ◌≤◌, ◌<◌}
 use mathlib.Core.Path.{◌≡◌, refl, sym, ap, ◌∙◌, subst}
 use mathlib.Core.Bool.{Bool, true, false, cond}
-use mathlib.Core.List.{List, [], ◌∷◌, ◌++◌, append_assoc}
+use mathlib.Core.List.{List, [], ◌∷◌}
 use native.Mathlib.Omega.{arith}
-use lib.ListN.{length, length-append}
+use lib.ListN.{length}
 use lib.Seq.{sets}
-use Rattle.calculus.specs.Answer.{Answer, good, refused, refuse, numbered, ◌>>=◌}
-use Rattle.calculus.proofs.Answers.{refused≢good, good-inj}
-use Rattle.notation_calculus.specs.Words.{comma, ends, table, type, Word}
-use Rattle.notation_calculus.specs.Trees.{TypeTree, Clause, Line, Text}
-use Rattle.notation_calculus.specs.Grammar.{most_nested, Got, got, behind, is, list_from, type_at, Items, with_clause, with_lines, lines_of, items_from}
+use Rattle.calculus.specs.Answer.{Answer, good, refused, refuse, ◌>>=◌}
+use Rattle.notation_calculus.specs.Words.{comma, Word}
+use Rattle.notation_calculus.specs.Trees.{TypeTree, Text}
+use Rattle.notation_calculus.specs.Grammar.{most_nested, Got, got, behind, is, list_from, type_at, lines_of}
 use Rattle.notation_calculus.specs.Making.{State, Found, Scope, type_of}
 use Rattle.notation_calculus.specs.Make.{above, lines_table}
-use Rattle.notation_theorems.proofs.Answering.{On, on_is, on_good, on_step, on_any}
+use Rattle.notation_theorems.proofs.Answering.{On, on_is, on_good}
 use Rattle.notation_machine.specs.TypeFrom.{type_from}
 use Rattle.notation_machine.proofs.Behind.{type_left_lem}
 use Rattle.words.specs.Next.{Said}
-use Rattle.words.specs.Lexed.{from, Lexed, Onward, Stands}
+use Rattle.words.specs.Lexed.{from, Lexed, Stands}
 use Rattle.grammar.proofs.EndLaws.{is_yes, is_no}
 use Rattle.making_memory.specs.Map.{frames_at}
 use Rattle.made_types.specs.Held.{HoldsState}
 use Rattle.walks.specs.declared.TypeEnd as type
 use Rattle.walks.specs.declared.TypeEnd.TheVariants as type-end
-use Rattle.walks.specs.Walkable.{Walkable}
-use Rattle.walks.specs.Walked.{TypesWalked}
-use Rattle.walks.specs.Says.{CanWalk, Offset, TypeAnswers, CanType, TypeSays}
+use Rattle.walks.specs.Says.{Offset, TypeAnswers, CanType, TypeSays}
 use Rattle.maker.specs.declared.lines.Typed as typed
 use Rattle.maker.specs.declared.lines.Typed.TheVariants as typed-is
 use Rattle.maker.specs.declared.lines.Went as went
 use Rattle.maker.specs.declared.lines.Went.TheVariants as went-is
 use Rattle.maker.specs.Stages.{FarKept, TextStands, KnowsAbove}
 use Rattle.maker.specs.Lines.{types_line, LineThere, CanTypeOne, LineOn, LineDone, TypedAs, TypedSays, CanTypes, LineTypes, CanLine, LineSays}
-use Rattle.maker.proofs.StageLaws.{far_none, far_types, far_then, stands_of, knows_on_types, framed, framed_far, framed-knows}
+use Rattle.maker.proofs.StageLaws.{far_none, far_types, far_then, stands_of, knows_on_types, framed_far, framed-knows}
 
 pub bind_good : {A B : Type 0} (m : Answer A) (f : A → Answer B) (a : A) → m ≡ good a → (m >>= f) ≡ f a
 bind_good m f a e = ap (λ (q : Answer _). q >>= f) e

@@ -10,9 +10,9 @@ use lib.ListN.{length, get_or}
 use Rattle.calculus.specs.Answer.{Answer, good, refused, refuse, ◌>>=◌, need}
 use Rattle.calculus.specs.Terms.{is_second}
 use Rattle.calculus.specs.Translate.{work_of}
-use Rattle.notation_calculus.specs.Words.{edition, Word, words}
+use Rattle.notation_calculus.specs.Words.{Word, words}
 use Rattle.notation_calculus.specs.Trees.{Line, Text}
-use Rattle.notation_calculus.specs.Grammar.{place, is, text_of}
+use Rattle.notation_calculus.specs.Grammar.{text_of}
 use Rattle.notation_calculus.specs.Making.{Made}
 use Rattle.notation_calculus.specs.Make.{main_of, Placed, sheet_of, make, bytes_of, Written, make_answer, said_make, out_make, places_make, make_call}
 use Rattle.words.specs.Lexed.{lexed, from, Lexed, Passed}

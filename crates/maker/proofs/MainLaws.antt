@@ -1,23 +1,21 @@
 -- `main` put in and made; behind the judging of the definitions; behind the lines. Assumes nothing.
-use Prim.Native.Nat.{ℕ, ◌≤◌, ◌<◌}
-use mathlib.Core.Path.{◌≡◌, refl, sym, ap, ◌∙◌, subst}
+use Prim.Native.Nat.{ℕ}
+use mathlib.Core.Path.{◌≡◌, refl, sym, ◌∙◌, subst}
 use mathlib.Core.Bool.{false}
 use mathlib.Core.List.{List, []}
 use native.Mathlib.Omega.{arith}
-use lib.ListN.{length, get_or}
+use lib.ListN.{length}
 use Rattle.calculus.specs.Answer.{Answer, good, refused, refuse, ◌>>=◌}
 use Rattle.notation_calculus.specs.Trees.{TypeTree, no_types, Body, Text}
 use Rattle.notation_calculus.specs.Grammar.{most_nested}
 use Rattle.notation_calculus.specs.Making.{State, Found, Scope, put_in, type_of, Made, body_term, term_of}
 use Rattle.notation_calculus.specs.Make.{above, main_name, start, lines_table, judged_from, main_of}
-use Rattle.making_memory.specs.Map.{clause_count_at, second_at_lem, making_size}
+use Rattle.making_memory.specs.Map.{clause_count_at, second_at_lem}
 use Rattle.made_types.specs.Held.{HoldsState}
 use Rattle.made_types.specs.States.{Begun}
-use Rattle.clauses.specs.Texts.{HoldsClauses}
 use Rattle.scopes.proofs.KeepLaws.{rows-kept}
 use Rattle.walks.specs.declared.TermEnd as term
 use Rattle.walks.specs.declared.TermEnd.TheVariants as term-end
-use Rattle.walks.specs.Walked.{TypesWalked, TermsWalked}
 use Rattle.walks.specs.Says.{TermAnswers, CanTerm, TermSays}
 use Rattle.walks.proofs.Kept.{clauses_on, clauses_on_terms}
 use Rattle.putting.specs.declared.BodyEnd as body

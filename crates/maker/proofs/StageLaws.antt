@@ -6,19 +6,17 @@ use native.Mathlib.Omega.{arith}
 use lib.ListN.{length, get_or}
 use lib.Seq.{sets, length-sets}
 use Rattle.laws.proofs.Regions.{sets_outside, sets-before, sets-at}
-use Rattle.calculus.specs.Answer.{Answer, good, refused, refuse, numbered, ◌>>=◌}
+use Rattle.calculus.specs.Answer.{Answer, good, refused, refuse}
 use Rattle.notation_calculus.specs.Trees.{Text}
-use Rattle.notation_calculus.specs.Making.{State, Scope}
+use Rattle.notation_calculus.specs.Making.{State}
 use Rattle.notation_calculus.specs.Make.{above}
-use Rattle.making_memory.specs.Map.{types_at, clauses_at, frames_at, type_count_at, node_count_at, put_count_at, clause_count_at, second_at_lem, making_size}
+use Rattle.making_memory.specs.Map.{frames_at, type_count_at, node_count_at, put_count_at, clause_count_at, second_at_lem, making_size}
 use Rattle.made_types.specs.Held.{HoldsState}
 use Rattle.made_types.proofs.Keeping.{state_kept}
-use Rattle.clauses.specs.Texts.{HoldsClauses}
 use Rattle.scopes.specs.declared.frames.Frame.{Frame}
-use Rattle.scopes.specs.Frames.{frame_in, HoldsParameters, HoldsScope}
+use Rattle.scopes.specs.Frames.{frame_in, HoldsParameters}
 use Rattle.scopes.proofs.EntryLaws.{frame_parts}
 use Rattle.scopes.proofs.KeepLaws.{rows-kept}
-use Rattle.walks.specs.Walkable.{Walkable}
 use Rattle.walks.specs.Walked.{TypesWalked, TermsWalked}
 use Rattle.walks.proofs.Kept.{terms_of_types, frame_on_terms, walkable_on_terms}
 use Rattle.maker.specs.declared.Stage as code

@@ -6,14 +6,13 @@ use mathlib.Core.List.{List, [], ◌∷◌}
 use native.Mathlib.Omega.{arith}
 use native.Mathlib.Numerals.{add-one}
 use lib.Dec.{leb}
-use lib.ListN.{length, get_or, drop, set, length-set, drop_of_length-le}
+use lib.ListN.{length, get_or, drop, length-set, drop_of_length-le}
 use lib.Seq.{sets, drop-cons, get_or-set_same, get_or-set_other}
 use Rattle.calculus.specs.Answer.{Answer, good, refused, refuse, ◌>>=◌, need}
-use Rattle.notation_calculus.specs.Trees.{Body, Clause, Text}
+use Rattle.notation_calculus.specs.Trees.{Clause, Text}
 use Rattle.notation_calculus.specs.Making.{State, cost_of, most_puts, one_put}
 use Rattle.notation_calculus.specs.Make.{is_judged, judged_body, judged_clause, judged_from}
-use Rattle.words.specs.Lexed.{Lexed}
-use Rattle.making_memory.specs.Map.{clauses_at, frames_at, type_count_at, node_count_at, put_count_at, clause_count_at, second_at_lem, making_size}
+use Rattle.making_memory.specs.Map.{frames_at, type_count_at, node_count_at, put_count_at, clause_count_at, second_at_lem, making_size}
 use Rattle.made_types.specs.Held.{HoldsState}
 use Rattle.made_types.specs.States.{Forgot}
 use Rattle.made_types.proofs.Keeping.{types-kept}
@@ -27,7 +26,7 @@ use Rattle.maker.specs.declared.Stage as code
 use Rattle.maker.specs.declared.Stage.TheVariants as stage
 use Rattle.maker.specs.Stages.{FarKept, TextStands, KnowsAbove, StageAnswers}
 use Rattle.maker.specs.Judged.{row_judged, BodyRead, CanTry, TryMade, TryAnswers, TrySays, TriedAs, TriedSays, HasClause, JudgeSays, SomeText, JudgedSay}
-use Rattle.maker.proofs.StageLaws.{far_none, far_then, framed, framed_far, framed-knows, stage_passed, stage_refused, passed-with, refused_as}
+use Rattle.maker.proofs.StageLaws.{far_none, far_then, framed_far, framed-knows, stage_passed, stage_refused, passed-with, refused_as}
 use Rattle.maker.proofs.LineLaws.{bind_good, bind_refused}
 use Rattle.maker.proofs.JudgedLaws.{judged_is}
 

@@ -1,17 +1,16 @@
 -- What judging the definitions finds, answers and leaves. Assumes nothing.
-use Rattle.std.specs.Prelude.{ℕ, ◌≤◌, ◌<◌, ◌≡◌, Bool, true, false, not, ◌&&◌, List, eqb, length}
+use Rattle.std.specs.Prelude.{ℕ, ◌≤◌, ◌<◌, ◌≡◌, Bool, not, ◌&&◌, List, eqb, length}
 use Rattle.calculus.specs.Answer.{Answer, good, refused, refuse}
 use Rattle.notation_calculus.specs.Words.{same_name}
-use Rattle.notation_calculus.specs.Trees.{Body, Clause, Text}
+use Rattle.notation_calculus.specs.Trees.{Body, Text}
 use Rattle.notation_calculus.specs.Making.{State}
 use Rattle.notation_calculus.specs.Make.{main_name, judged_body, judged_clause, judged_from}
 use Rattle.words.specs.Next.{run_at}
 use Rattle.words.specs.Lexed.{from, Lexed}
-use Rattle.made_types.specs.Held.{HoldsState}
 use Rattle.made_types.specs.States.{Beginning}
 use Rattle.clauses.specs.declared.rows.Row.{Row}
-use Rattle.clauses.specs.Rows.{body_at, clause_of, row_in}
-use Rattle.notation_calculus.specs.Grammar.{Got, got}
+use Rattle.clauses.specs.Rows.{body_at, clause_of}
+use Rattle.notation_calculus.specs.Grammar.{got}
 use Rattle.maker.specs.declared.Stage as code
 use Rattle.maker.specs.declared.Stage.TheVariants as stage
 use Rattle.maker.specs.Stages.{FarKept, TextStands, KnowsAbove, StageAnswers}

@@ -1,7 +1,7 @@
 -- Atoms: one law for each way through the functions of `atoms`. Assumes nothing.
-use Prim.Native.Nat.{ℕ, zero, suc, ◌+◌, ◌*◌, ◌-◌, ◌≤◌, ◌<◌}
+use Prim.Native.Nat.{ℕ, zero, suc, ◌+◌, ◌-◌, ◌≤◌, ◌<◌}
 use mathlib.Core.Path.{◌≡◌, refl, sym, ap, subst, ◌∙◌}
-use mathlib.Core.Bool.{Bool, true, false, ◌||◌, cond}
+use mathlib.Core.Bool.{Bool, true, false}
 use mathlib.Core.List.{List, [], ◌∷◌}
 use native.Mathlib.Omega.{arith}
 use borrow.Author.Tests.{eq-eqb, ne_eqb}
@@ -12,34 +12,30 @@ use Rattle.calculus.specs.Record.{All}
 use Rattle.calculus.specs.Types.{size, TyRec, rec02, rec03, ty_of, tys_from}
 use Rattle.calculus.specs.Read.{formed, repeated}
 use Rattle.calculus.specs.Terms.{Edition, first, second, is_second, Term, con, part_at}
-use Rattle.notation_calculus.specs.Words.{Name, Sign, sign_code, round, square, curly, Token, sign, part, number, name, Word}
+use Rattle.notation_calculus.specs.Words.{Name, round, square, curly, Token, sign, part, number, name, Word}
 use Rattle.notation_calculus.specs.Trees.{Bound, Clause, Text}
-use Rattle.notation_calculus.specs.Grammar.{Got, peek, behind, place, is_token, is, numbers_at, begins_atom}
-use Rattle.notation_calculus.specs.Making.{State, Found, Scope, lookup, listed, entries, numbers_in, Put, meant, clause_for, one_put, FoundAll, Made, node, variable, part_type, part_of, most_entries}
+use Rattle.notation_calculus.specs.Grammar.{Got, peek, behind, place, numbers_at, begins_atom}
+use Rattle.notation_calculus.specs.Making.{State, Found, Scope, listed, entries, numbers_in, Put, meant, clause_for, one_put, FoundAll, Made, node, variable, part_type, part_of, most_entries}
 use Rattle.notation_theorems.proofs.Answering.{On, on_step, on_any, on_either, on_map}
 use Rattle.notation_machine.specs.Bodies.{words_for}
 use Rattle.notation_machine.specs.TypeFrom.{types_from}
-use Rattle.notation_machine.specs.TermMachine.{Function, none, some, Spine, TermWish, element, of_definition, TermLevel, Terming, TermHere, ask_term, behind_atom, term_put_in, term_named_at, atom_entered, application_from}
+use Rattle.notation_machine.specs.TermMachine.{some, Spine, element, of_definition, TermLevel, Terming, TermHere, ask_term, behind_atom, term_put_in, term_named_at, atom_entered}
 use Rattle.words.specs.Tables.{token_code, token_value}
 use Rattle.words.specs.Next.{run_at, Said}
 use Rattle.words.specs.Lexed.{from, Lexed}
 use Rattle.words.specs.declared.Word as code-word
 use Rattle.words.specs.Marks.{Marks}
 use Rattle.grammar.proofs.EndLaws.{sign_not, token_is, is_yes, mark-stands, mark_no}
-use Rattle.making_memory.specs.Map.{type_count_at, node_count_at, second_at_lem}
-use Rattle.made_types.specs.Held.{HoldsState}
-use Rattle.made_nodes.specs.Held.{TermHeld, MadeIn, SmallMade, MadeOnly, Workable}
+use Rattle.making_memory.specs.Map.{type_count_at, second_at_lem}
+use Rattle.made_nodes.specs.Held.{SmallMade, MadeOnly, Workable}
 use Rattle.made_nodes.proofs.Terms.{workable_on}
 use Rattle.made_nodes.specs.Forms.{EditionIn, VariableSays, PartSays}
-use Rattle.made_nodes.specs.declared.Sub.{Sub}
 use Rattle.made_nodes.specs.declared.MadeTerm as code
 use Rattle.made_nodes.specs.declared.MadeTerm.TheVariants as made
 use Rattle.clauses.specs.Meant.{values_in}
 use Rattle.clauses.specs.Rows.{flag_of}
 use Rattle.walk_levels.specs.declared.Level.{Level}
-use Rattle.walks.specs.Walkable.{row_bodies, Walkable}
-use Rattle.walks.specs.Walked.{TypesWalked}
-use Rattle.walks.specs.Says.{bound_at, PutThere, put_from, PutCame, PutAnswers, PutSays, TypesCame, TypesAnswer, TypesSay}
+use Rattle.walks.specs.Says.{bound_at, PutThere, put_from, PutAnswers, PutSays, TypesAnswer, TypesSay}
 use Rattle.walks.specs.declared.PutAt.{PutAt}
 use Rattle.walks.specs.declared.PutEnd as put
 use Rattle.walks.specs.declared.PutEnd.TheVariants as put-end
@@ -52,13 +48,13 @@ use Rattle.term_walk.specs.declared.Step as step
 use Rattle.term_walk.specs.declared.Step.TheVariants as step_is
 use Rattle.term_parts.specs.declared.variables.Look as looked
 use Rattle.term_parts.specs.declared.variables.Look.TheVariants as look
-use Rattle.term_parts.specs.Parts.{Looked, here, nowhere, look_for, LookSays}
+use Rattle.term_parts.specs.Parts.{LookSays}
 use Rattle.term_walk.specs.Looks.{words_at, ReadableFrom, Looks}
-use Rattle.term_walk.specs.Holding.{LevelWrites, LeftHeld, WishHeld, ScopeHeld, HereHeld, TermCame}
+use Rattle.term_walk.specs.Holding.{LevelWrites, LeftHeld, HereHeld}
 use Rattle.term_walk.specs.Steps.{done_step, part_level, CanAskTerm, Asks, CanEnter, CanAtom, CanApplyMade, StepAnswers, term_here_with, bodies_in, AtomEntry, AtomSays, TypesWait, clause_entry, put_entry, plain_entry, named_entry, atom_entry, MadeNodes, MadeSays, ApplicationSays}
 use Rattle.term_parts.proofs.LookFor.{looked_here, looked_nowhere, looked_typed}
 use Rattle.term_walk.proofs.LookLaws.{words-lexed}
-use Rattle.term_walk.proofs.HoldLaws.{stepped_none, stepped_then, stepped_types, stepped_made, stepped_pushed, left_stays, here_stays, here-now, levels_within}
+use Rattle.term_walk.proofs.HoldLaws.{stepped_none, stepped_then, stepped_types, stepped_made, left_stays, here_stays, here-now, levels_within}
 use Rattle.term_walk.proofs.StepLaws.{done_says, stepped_asks, asked}
 
 -- ---- refusals pass

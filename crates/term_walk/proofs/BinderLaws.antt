@@ -1,7 +1,7 @@
 -- Functions, fixed points and names for terms, when they are entered: one law for each way. Assumes nothing.
-use Prim.Native.Nat.{ℕ, zero, suc, ◌+◌, ◌*◌, ◌-◌, ◌≤◌, ◌<◌}
+use Prim.Native.Nat.{ℕ, zero, suc, ◌+◌, ◌-◌, ◌≤◌, ◌<◌}
 use mathlib.Core.Path.{◌≡◌, refl, sym, ap, subst, ◌∙◌}
-use mathlib.Core.Bool.{Bool, true, false, cond}
+use mathlib.Core.Bool.{Bool, true, false}
 use mathlib.Core.List.{List, [], ◌∷◌}
 use native.Mathlib.Omega.{arith}
 use borrow.Author.Tests.{leb-true}
@@ -10,25 +10,22 @@ use lib.ListN.{length, get_or}
 use Rattle.calculus.specs.Answer.{Answer, good, refused, numbered, refuse, need, ◌>>=◌}
 use Rattle.notation_calculus.specs.Words.{round, endRound, equals, Word}
 use Rattle.notation_calculus.specs.Trees.{Bound, Text}
-use Rattle.notation_calculus.specs.Grammar.{most_nested, Got, got, behind, place, is, expect, name_at, list_from, names_from}
+use Rattle.notation_calculus.specs.Grammar.{Got, behind, place, expect, name_at, list_from, names_from}
 use Rattle.notation_calculus.specs.Making.{State, Found, Scope, bind, bind_all, with_variables, entries, most_entries}
 use Rattle.notation_calculus.specs.Making as Making
 use Rattle.notation_machine.specs.Lists.{head_at}
 use Rattle.notation_machine.specs.TypeFrom.{type_from}
-use Rattle.notation_machine.specs.TermMachine.{TermWish, of_function, of_fix, value_of_name, value_of_names, TermLevel, Terming, TermHere, ask_term, names_typed, fix_from, let_from}
-use Rattle.words.specs.Next.{run_at, said_word}
-use Rattle.words.specs.Lexed.{from, Lexed, Stands}
+use Rattle.notation_machine.specs.TermMachine.{TermWish, of_function, of_fix, value_of_name, value_of_names, TermLevel, Terming, TermHere, ask_term}
+use Rattle.words.specs.Next.{said_word}
+use Rattle.words.specs.Lexed.{from, Stands}
 use Rattle.words.specs.declared.Word as code-word
 use Rattle.grammar.specs.Ends.{Ends}
 use Rattle.grammar.specs.declared.steps.End.{End}
 use Rattle.grammar.proofs.EndLaws.{is_yes, is_no}
-use Rattle.making_memory.specs.Map.{type_count_at, making_size}
-use Rattle.made_types.specs.Held.{HoldsState}
-use Rattle.scopes.specs.Entries.{OnlyEntries}
-use Rattle.scopes.specs.Frames.{frame_in, HoldsScope}
+use Rattle.making_memory.specs.Map.{type_count_at}
 use Rattle.walk_levels.specs.declared.Level.{Level}
 use Rattle.walks.specs.Walkable.{AllTyped, Walkable}
-use Rattle.walks.specs.Says.{bound_at, TypeCame, TypeAnswers}
+use Rattle.walks.specs.Says.{bound_at, TypeAnswers}
 use Rattle.walks.specs.declared.TypeEnd as type
 use Rattle.walks.specs.declared.TypeEnd.TheVariants as type-end
 use Rattle.term_walk.specs.declared.Walk.{Walk}
@@ -36,11 +33,11 @@ use Rattle.term_walk.specs.declared.Step as step
 use Rattle.term_walk.specs.declared.Step.TheVariants as step_is
 use Rattle.term_parts.specs.declared.names.NameEnd.{NameEnd}
 use Rattle.term_parts.specs.declared.names.NamesEnd.{NamesEnd}
-use Rattle.term_parts.specs.Names.{names_by, spaced, spaced_names, listed_names, NamesStand, NameSays, NamesSay, SpacedSay, ListedSay}
+use Rattle.term_parts.specs.Names.{names_by, spaced, spaced_names, listed_names, NamesStand, NameSays, SpacedSay, ListedSay}
 use Rattle.term_parts.specs.Parts.{NameBound, NamesBound}
 use Rattle.term_walk.specs.Looks.{words_at, ReadableFrom, Looks}
-use Rattle.term_walk.specs.Holding.{LevelWrites, entries_of, halves_for, WishHeld, ScopeHeld, HereHeld}
-use Rattle.term_walk.specs.Steps.{CanAskTerm, Asks, StepAnswers, term_here_with, bodies_in, LevelEntry, CanEnter, EnterSays, CanBound, CanNames, NameStands, closed_by, BehindType, bound_entry, typed_entry, names_typed_entry, fix_bound_entry, fix_typed_entry, fix_entry, value_entry, values_entry, names_entry, let_entry}
+use Rattle.term_walk.specs.Holding.{LevelWrites, entries_of, halves_for, WishHeld, HereHeld}
+use Rattle.term_walk.specs.Steps.{CanAskTerm, Asks, StepAnswers, term_here_with, bodies_in, LevelEntry, CanEnter, EnterSays, CanBound, CanNames, NameStands, closed_by, BehindType, typed_entry, names_typed_entry, fix_typed_entry, fix_entry, value_entry, values_entry, names_entry, let_entry}
 use Rattle.term_parts.proofs.Stay.{entries_state}
 use Rattle.term_walk.proofs.LookLaws.{words-lexed}
 use Rattle.term_walk.proofs.HoldLaws.{stepped_none, stepped_then, stepped_types, stepped_entries, here_stays}

@@ -1,13 +1,13 @@
 -- What is held stays held: one law for all that one level writes. Assumes nothing.
-use Prim.Native.Nat.{ℕ, zero, suc, ◌+◌, ◌*◌, ◌-◌, ◌≤◌, ◌<◌}
+use Prim.Native.Nat.{ℕ, suc, ◌+◌, ◌*◌, ◌≤◌, ◌<◌}
 use mathlib.Core.Path.{◌≡◌, refl, sym, ap, subst, ◌∙◌}
 use mathlib.Core.List.{List, [], ◌∷◌}
 use native.Mathlib.Omega.{arith}
 use lib.ListN.{length, get_or}
-use Rattle.notation_calculus.specs.Trees.{Bound, Text}
+use Rattle.notation_calculus.specs.Trees.{Text}
 use Rattle.notation_calculus.specs.Making.{State, Scope, Made, most_entries}
 use Rattle.notation_machine.specs.TermMachine.{Function, none, some, Spine, TermWish, of_function, of_fix, value_of_name, value_of_names, under_name, under_names, element, of_definition, TermLevel}
-use Rattle.making_memory.specs.Map.{types_at, scope_at, halves_at, clauses_at, frames_at, type_count_at, node_count_at, put_count_at, levels_at, making_size}
+use Rattle.making_memory.specs.Map.{scope_at, frames_at, type_count_at, node_count_at, put_count_at, levels_at, making_size}
 use Rattle.made_types.specs.Held.{HoldsState}
 use Rattle.made_types.proofs.Keeping.{state_kept}
 use Rattle.made_nodes.specs.Held.{TermHeld, MadeOnly}
@@ -18,16 +18,16 @@ use Rattle.scopes.specs.declared.frames.Frame.{Frame}
 use Rattle.walk_levels.specs.declared.Level.{Level}
 use Rattle.walk_levels.specs.declared.Around.{Around}
 use Rattle.walk_levels.specs.Levels.{scopes_at, level_in, scope_in, pushed}
-use Rattle.walk_levels.proofs.Pushing.{pushed_level, pushed_scope, pushed-below}
+use Rattle.walk_levels.proofs.Pushing.{pushed-below}
 use Rattle.walks.specs.Walkable.{Walkable}
 use Rattle.walks.specs.Walked.{TypesWalked, TermsWalked}
 use Rattle.walks.proofs.Kept.{terms_walked_none, terms_walked_then, terms_of_types, terms_of_made, types_of_entries, types_of_pushed, clauses_on_terms, frame_on_terms, walkable_on_terms, term_on_terms, scope-same}
 use Rattle.term_walk.specs.declared.Walk.{Walk}
 use Rattle.term_walk.specs.declared.Left.{Left}
-use Rattle.term_parts.specs.Halves.{HalvesIn, PartsOnly}
+use Rattle.term_parts.specs.Halves.{PartsOnly}
 use Rattle.term_parts.proofs.Stay.{halves-stay}
 use Rattle.term_walk.specs.Holding.{LevelWrites, FunctionHeld, LeftHeld, sub_in, left_by, entries_of, halves_for, WishHeld, ScopeHeld, TermLevelHeld, TermLevelsHeld, HereHeld}
-use Rattle.term_walk.specs.Steps.{around_walk, HereNow}
+use Rattle.term_walk.specs.Steps.{HereNow}
 
 -- ---- what a level writes
 

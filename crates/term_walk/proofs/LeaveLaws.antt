@@ -1,12 +1,12 @@
 -- What a level does with the term that it waited for: one law for each way. Assumes nothing.
-use Prim.Native.Nat.{ℕ, zero, suc, ◌+◌, ◌*◌, ◌-◌, ◌≤◌, ◌<◌}
+use Prim.Native.Nat.{ℕ, suc, ◌+◌, ◌-◌, ◌≤◌, ◌<◌}
 use mathlib.Core.Path.{◌≡◌, refl, sym, ap, subst, ◌∙◌}
 use mathlib.Core.Bool.{Bool, true, false, cond}
 use mathlib.Core.List.{List, [], ◌∷◌}
 use native.Mathlib.Omega.{arith}
 use lib.Dec.{leb}
 use borrow.Author.Tests.{le-leb}
-use lib.ListN.{length, get_or}
+use lib.ListN.{length}
 use Rattle.calculus.specs.Answer.{Answer, good, refused, numbered, need, ◌>>=◌}
 use Rattle.calculus.specs.Types.{rec_at}
 use Rattle.calculus.specs.Terms.{var}
@@ -14,13 +14,12 @@ use Rattle.calculus.specs.Terms as Terms
 use Rattle.notation_theorems.proofs.Answering.{On, on_any, on_map}
 use Rattle.notation_calculus.specs.Words.{comma, Word}
 use Rattle.notation_calculus.specs.Trees.{Bound, Text}
-use Rattle.notation_calculus.specs.Grammar.{behind, place, is}
+use Rattle.notation_calculus.specs.Grammar.{behind, place}
 use Rattle.notation_machine.specs.Lists.{head_at}
-use Rattle.notation_calculus.specs.Making.{State, Entry, Scope, bind, halves_of, rest, with_variables, entries, most_entries, Made, node, functions_of, name_of}
-use Rattle.notation_machine.specs.TermMachine.{Spine, Element, Taken, TermWish, of_function, of_fix, value_of_name, value_of_names, under_name, under_names, element, of_definition, TermLevel, Terming, TermHere, ask_term, term_done, Apart, apart_from, pairs_of, projections, behind_atom, under_lists, term_left}
+use Rattle.notation_calculus.specs.Making.{Entry, Scope, bind, halves_of, rest, with_variables, entries, most_entries, Made, node, functions_of, name_of}
+use Rattle.notation_machine.specs.TermMachine.{Spine, Element, Taken, TermWish, of_function, of_fix, value_of_name, value_of_names, under_name, under_names, element, of_definition, TermLevel, Terming, ask_term, term_done, Apart, apart_from, pairs_of, projections, behind_atom, under_lists, term_left}
 use Rattle.words.specs.Lexed.{from, Lexed}
 use Rattle.words.specs.declared.Word as code-word
-use Rattle.making_memory.specs.Map.{type_count_at, node_count_at}
 use Rattle.made_types.specs.Held.{HoldsState}
 use Rattle.made_nodes.specs.Held.{TermHeld, MadeIn, SmallMade, MadeOnly, Workable}
 use Rattle.made_nodes.specs.Forms.{FunctionsSay, FixSays, NamingSays}
@@ -37,12 +36,12 @@ use Rattle.term_walk.specs.declared.Step.TheVariants as step_is
 use Rattle.term_parts.specs.declared.halves.Half.{Half}
 use Rattle.term_parts.specs.declared.apart.ApartEnd as parted
 use Rattle.term_parts.specs.declared.apart.ApartEnd.TheVariants as apart-end
-use Rattle.term_parts.specs.Names.{listed_names, NamesStand}
-use Rattle.term_parts.specs.Halves.{HalvesIn, ElementsIn, TakenIn, InHalves, with_half, CanJoin, PairsSay, ProjectionsSay}
+use Rattle.term_parts.specs.Names.{listed_names}
+use Rattle.term_parts.specs.Halves.{InHalves, with_half, CanJoin, PairsSay, ProjectionsSay}
 use Rattle.term_parts.specs.Parts.{NameBound, CanApart, ApartHeld, ApartAnswers, ApartSays}
-use Rattle.term_walk.specs.Looks.{words_at, ReadableFrom, Looks}
-use Rattle.term_walk.specs.Holding.{LevelWrites, LeftHeld, sub_in, left_by, entries_of, halves_for, WishHeld, ScopeHeld, HereHeld, TermCame}
-use Rattle.term_walk.specs.Steps.{done_step, part_level, CanAskTerm, Below, Asks, StepAnswers, term_here_with, bodies_in, CanEnter, CanApply, CanApplyMade, BehindSays, MadeNodes, MadeSays, CanBody, BodySays, under_lists_body, CanLeave, LeaveSays}
+use Rattle.term_walk.specs.Looks.{words_at, Looks}
+use Rattle.term_walk.specs.Holding.{LevelWrites, LeftHeld, sub_in, left_by, entries_of, halves_for, WishHeld, HereHeld, TermCame}
+use Rattle.term_walk.specs.Steps.{done_step, part_level, CanAskTerm, Below, Asks, StepAnswers, term_here_with, bodies_in, CanEnter, CanApply, CanApplyMade, BehindSays, MadeSays, CanBody, BodySays, under_lists_body, CanLeave, LeaveSays}
 use Rattle.term_parts.proofs.Stay.{entries_state, half_long, half_state, parts_of_half, halves-put, can_join}
 use Rattle.term_walk.proofs.LookLaws.{words-lexed}
 use Rattle.term_walk.proofs.HoldLaws.{stepped_none, stepped_then, stepped_made, stepped_parts, stepped_entries, stepped_less, term_stays, left_stays, here_stays, here-now}

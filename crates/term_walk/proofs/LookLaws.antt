@@ -1,6 +1,6 @@
 -- The word at an offset, by the cases of `look`. Assumes nothing.
 use Prim.Native.Nat.{ℕ, suc, ◌+◌, ◌-◌, ◌≤◌, ◌<◌}
-use mathlib.Core.Path.{◌≡◌, refl, sym, ap, subst, ◌∙◌}
+use mathlib.Core.Path.{◌≡◌, refl, sym, ap, ◌∙◌}
 use mathlib.Core.Bool.{Bool, true, false, not, ◌&&◌, cond}
 use mathlib.Core.List.{List, [], ◌∷◌}
 use native.Mathlib.Omega.{arith}
@@ -12,12 +12,12 @@ use Rattle.notation_calculus.specs.Words.{ends, sign, name, blank, ends_line, fi
 use Rattle.notation_calculus.specs.Words as Words
 use Rattle.notation_calculus.specs.Grammar.{peek, behind, place, begins_atom}
 use Rattle.words.specs.Tables.{token_code, token_value}
-use Rattle.words.specs.Next.{run_at, said_word}
+use Rattle.words.specs.Next.{said_word}
 use Rattle.words.specs.Lexed.{lexed, valued, from, Lexed, Stands}
 use Rattle.words.specs.declared.Word.{Word}
 use Rattle.grammar.proofs.HeadLaws.{begins-none}
 use Rattle.clauses.specs.Rows.{HeadAt}
-use Rattle.term_walk.specs.Looks.{words_at, ReadableFrom, HeadsHeld, Looks, AtomWord}
+use Rattle.term_walk.specs.Looks.{words_at, HeadsHeld, Looks, AtomWord}
 
 -- ---- the place of a word is an offset of the text
 

@@ -1,34 +1,29 @@
 -- One step from each kind of state, and the run of the loop. Assumes nothing.
-use Prim.Native.Nat.{ℕ, zero, suc, ◌+◌, ◌*◌, ◌-◌, ◌≤◌, ◌<◌}
+use Prim.Native.Nat.{ℕ, zero, suc, ◌+◌, ◌-◌, ◌≤◌, ◌<◌}
 use mathlib.Core.Path.{◌≡◌, refl, sym, ap, subst, ◌∙◌}
-use mathlib.Core.Bool.{Bool, true, false, cond, false≢true}
+use mathlib.Core.Bool.{true, false, false≢true}
 use mathlib.Core.List.{List, [], ◌∷◌}
 use native.Mathlib.Omega.{arith}
 use borrow.Author.Tests.{eq-eqb, ne_eqb, eqb-true}
 use lib.Dec.{eqb}
-use lib.ListN.{length, get_or}
+use lib.ListN.{length}
 use Rattle.calculus.specs.Answer.{Answer, good, refused, numbered, ◌>>=◌}
 use Rattle.calculus.proofs.Answers.{refused≢good, refused-inj, good-inj}
-use Rattle.notation_calculus.specs.Words.{Sign, sign_code, fun, fix, lets, Token, Word}
-use Rattle.notation_calculus.specs.Trees.{Bound, Tree, Text}
+use Rattle.notation_calculus.specs.Words.{Sign, sign_code, fun, fix, lets, Word}
+use Rattle.notation_calculus.specs.Trees.{Tree, Text}
 use Rattle.notation_calculus.specs.Grammar.{most_nested, Got, peek, behind, place, is, term_at}
-use Rattle.notation_calculus.specs.Making.{State, Scope, Made, most_entries, most_puts, term_of}
-use Rattle.notation_theorems.proofs.Answering.{On, on_good}
-use Rattle.notation_machine.specs.Walked.{walked, Runs}
-use Rattle.notation_machine.specs.Bodies.{AllRead}
-use Rattle.notation_machine.specs.TypeSteps.{AllShort}
-use Rattle.notation_machine.specs.TermMachine.{Function, none, Spine, TermWish, TermLevel, Terming, wanted_term, came_term, applying, TermHere, atom_entered, function_from, fix_from, let_from, term_entered, term_left, term_move}
+use Rattle.notation_calculus.specs.Making.{State, Scope, Made, most_entries, term_of}
+use Rattle.notation_theorems.proofs.Answering.{on_good}
+use Rattle.notation_machine.specs.Walked.{Runs}
+use Rattle.notation_machine.specs.TermMachine.{none, TermLevel, Terming, wanted_term, came_term, applying, TermHere, atom_entered, let_from, term_entered, term_left, term_move}
 use Rattle.notation_machine.specs.TermSteps.{term_steps, TermGoing}
 use Rattle.notation_machine.proofs.Running.{runs_on, runs_refused, runs-stay}
 use Rattle.notation_machine.proofs.Terms.{machine_terms}
 use Rattle.notation_machine.proofs.TermFalls.{term_start_lem, term_falls}
-use Rattle.words.specs.Tables.{token_code}
-use Rattle.words.specs.Lexed.{from, Lexed}
+use Rattle.words.specs.Lexed.{from}
 use Rattle.words.specs.declared.Word as code-word
 use Rattle.grammar.proofs.EndLaws.{token_is}
 use Rattle.making_memory.specs.Map.{making_size}
-use Rattle.made_types.specs.Held.{HoldsState}
-use Rattle.made_nodes.specs.Held.{TermHeld}
 use Rattle.made_nodes.specs.declared.Sub.{Sub}
 use Rattle.scopes.specs.Frames.{frame_in}
 use Rattle.walk_levels.specs.declared.Level.{Level}
@@ -37,7 +32,6 @@ use Rattle.walk_levels.specs.Levels.{level_in, scope_in}
 use Rattle.walks.specs.Walkable.{Walkable}
 use Rattle.walks.specs.Walked.{TermsWalked}
 use Rattle.walks.specs.Says.{CanTerm, TermAnswers, TermSays}
-use Rattle.walks.specs.declared.TermEnd as term
 use Rattle.walks.specs.declared.TermEnd.TheVariants as term-end
 use Rattle.walks.proofs.Kept.{terms_walked_none, terms_walked_then, bodies_on_terms, rows-read, held-short, words-few}
 use Rattle.term_walk.specs.declared.Walk.{Walk}
@@ -45,10 +39,10 @@ use Rattle.term_walk.specs.declared.Left.{Left}
 use Rattle.term_walk.specs.declared.Step as step
 use Rattle.term_walk.specs.declared.Step.TheVariants as step_is
 use Rattle.term_walk.specs.Looks.{words_at, ReadableFrom, Looks}
-use Rattle.term_walk.specs.Holding.{LevelWrites, LeftHeld, entries_of, halves_for, WishHeld, ScopeHeld, TermLevelHeld, TermLevelsHeld, HereHeld, TermCame, CameHere, AtWords, HoldsTerming}
+use Rattle.term_walk.specs.Holding.{LevelWrites, LeftHeld, entries_of, halves_for, HereHeld, TermCame, CameHere, HoldsTerming}
 use Rattle.term_walk.specs.Steps.{StepAnswers, term_here_with, bodies_in, LevelEntry, CanEnter, EnterSays, function_entry, fix_entry, let_entry, atom_entry, AtomSays, CanNames, CanLeave, LeaveSays, CanApplication, ApplicationSays, CanMoveTerm, StepSays, Finished}
 use Rattle.term_walk.proofs.LookLaws.{words-lexed}
-use Rattle.term_walk.proofs.HoldLaws.{stepped_none, levels_within}
+use Rattle.term_walk.proofs.HoldLaws.{levels_within}
 
 -- ---- a word that was looked at
 

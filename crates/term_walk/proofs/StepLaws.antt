@@ -1,17 +1,17 @@
 -- The next state: a level that is done, an application that goes on, a term that is wanted below. Assumes nothing.
-use Prim.Native.Nat.{ℕ, zero, suc, ◌+◌, ◌*◌, ◌-◌, ◌≤◌, ◌<◌}
-use mathlib.Core.Path.{◌≡◌, refl, sym, ap, subst, ◌∙◌}
-use mathlib.Core.List.{List, [], ◌∷◌}
+use Prim.Native.Nat.{ℕ, suc, ◌+◌, ◌-◌, ◌≤◌, ◌<◌}
+use mathlib.Core.Path.{◌≡◌, refl, sym, ap, subst}
+use mathlib.Core.List.{List, ◌∷◌}
 use native.Mathlib.Omega.{arith}
 use lib.ListN.{length, get_or}
-use Rattle.calculus.specs.Answer.{Answer, good, refused, numbered, ◌>>=◌}
+use Rattle.calculus.specs.Answer.{Answer, good, refused, ◌>>=◌}
 use Rattle.calculus.specs.Types.{rec_at}
-use Rattle.notation_calculus.specs.Trees.{Bound, Text}
-use Rattle.notation_calculus.specs.Making.{State, Scope, Made, most_entries, applied}
-use Rattle.notation_machine.specs.TermMachine.{Function, none, some, Spine, TermWish, TermLevel, Terming, TermHere, ask_term, term_done, applied_to, behind_atom, applying}
+use Rattle.notation_calculus.specs.Trees.{Text}
+use Rattle.notation_calculus.specs.Making.{State, Scope, Made, applied}
+use Rattle.notation_machine.specs.TermMachine.{Function, none, some, Spine, TermWish, TermLevel, ask_term, term_done, applied_to, behind_atom, applying}
 use Rattle.making_memory.specs.Map.{node_count_at, making_size}
 use Rattle.made_types.specs.Held.{HoldsState}
-use Rattle.made_nodes.specs.Held.{TermHeld, MadeIn, MadeOnly, Workable}
+use Rattle.made_nodes.specs.Held.{MadeIn, MadeOnly, Workable}
 use Rattle.made_nodes.specs.Forms.{AppliedSays}
 use Rattle.made_nodes.specs.declared.Sub.{Sub}
 use Rattle.made_nodes.specs.declared.MadeTerm as code
@@ -25,9 +25,9 @@ use Rattle.term_walk.specs.declared.Left.{Left}
 use Rattle.term_walk.specs.declared.Step as step
 use Rattle.term_walk.specs.declared.Step.TheVariants as step_is
 use Rattle.term_walk.specs.Looks.{words_at, ReadableFrom}
-use Rattle.term_walk.specs.Holding.{LevelWrites, FunctionHeld, LeftHeld, entries_of, halves_for, WishHeld, ScopeHeld, TermLevelHeld, TermLevelsHeld, HereHeld, TermCame, HoldsTerming}
-use Rattle.term_walk.specs.Steps.{nothing_sub, wants_step, done_step, applies_step, around_walk, CanAskTerm, Below, Asks, CanEnter, StepAnswers, term_here_with, BehindSays, HereNow, MadeNodes, MadeSays}
-use Rattle.term_walk.proofs.HoldLaws.{stepped_none, stepped_made, stepped_pushed, wish_stays, scope-stays, levels-stay, here-now, pushed_state, pushed_scope-held, levels_within}
+use Rattle.term_walk.specs.Holding.{LevelWrites, FunctionHeld, LeftHeld, entries_of, halves_for, WishHeld, ScopeHeld, TermLevelHeld, TermLevelsHeld, HereHeld, TermCame}
+use Rattle.term_walk.specs.Steps.{nothing_sub, done_step, applies_step, around_walk, CanAskTerm, Below, Asks, CanEnter, StepAnswers, term_here_with, BehindSays, HereNow, MadeNodes, MadeSays}
+use Rattle.term_walk.proofs.HoldLaws.{stepped_none, stepped_made, stepped_pushed, wish_stays, levels-stay, here-now, pushed_state, pushed_scope-held, levels_within}
 
 -- ---- by the code
 

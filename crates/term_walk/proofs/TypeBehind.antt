@@ -1,21 +1,18 @@
 -- A type at an offset of the walk, where words may have ended. Assumes nothing.
-use Prim.Native.Nat.{ℕ, ◌≤◌, ◌<◌}
-use mathlib.Core.Path.{◌≡◌, refl, sym, ap, subst, ◌∙◌}
-use mathlib.Core.Bool.{false}
+use Prim.Native.Nat.{ℕ, ◌<◌}
+use mathlib.Core.Path.{◌≡◌, refl, sym, subst}
 use mathlib.Core.List.{List, []}
 use lib.ListN.{length}
-use Rattle.calculus.specs.Answer.{Answer, refuse, ◌>>=◌}
+use Rattle.calculus.specs.Answer.{refuse}
 use Rattle.notation_calculus.specs.Words.{Word}
 use Rattle.notation_calculus.specs.Trees.{Text}
-use Rattle.notation_calculus.specs.Grammar.{Got}
-use Rattle.notation_calculus.specs.Making.{State, Scope, Found}
+use Rattle.notation_calculus.specs.Making.{State, Scope}
 use Rattle.notation_machine.specs.TypeFrom.{type_from}
 use Rattle.words.specs.Lexed.{Lexed}
 use Rattle.walks.specs.Says.{TypeAnswers, TypeSays}
 use Rattle.walks.specs.declared.TypeEnd as type
 use Rattle.walks.specs.declared.TypeEnd.TheVariants as type-end
 use Rattle.walks.proofs.Kept.{types_walked_none}
-use Rattle.term_walk.specs.Looks.{words_at}
 use Rattle.term_walk.specs.Steps.{BehindType}
 use Rattle.term_walk.proofs.LookLaws.{words-past, words-lexed}
 

@@ -1,11 +1,11 @@
 -- When the working memory and the numbers of the walk hold a state of the machine of terms. Assumes nothing.
 use Rattle.std.specs.Prelude.{ℕ, suc, ◌+◌, ◌*◌, ◌≤◌, ◌<◌, ◌≡◌, List, [], ◌∷◌, length, get_or}
 use Rattle.notation_calculus.specs.Words.{Word}
-use Rattle.notation_calculus.specs.Trees.{Bound, Text}
+use Rattle.notation_calculus.specs.Trees.{Text}
 use Rattle.notation_calculus.specs.Grammar.{behind}
 use Rattle.notation_calculus.specs.Making.{State, Scope, Made}
 use Rattle.notation_machine.specs.Lists.{head_at}
-use Rattle.notation_machine.specs.TermMachine.{Function, none, some, Spine, Element, Taken, TermWish, of_function, of_fix, value_of_name, value_of_names, under_name, under_names, element, of_definition, TermLevel, Terming, wanted_term, came_term, applying}
+use Rattle.notation_machine.specs.TermMachine.{Function, none, some, Spine, TermWish, of_function, of_fix, value_of_name, value_of_names, under_name, under_names, element, of_definition, TermLevel, Terming, wanted_term, came_term, applying}
 use Rattle.words.specs.Next.{name_in}
 use Rattle.words.specs.Lexed.{from, Lexed}
 use Rattle.making_memory.specs.Map.{halves_at, type_count_at}
@@ -14,7 +14,6 @@ use Rattle.made_nodes.specs.Forms.{NamesIn}
 use Rattle.made_nodes.specs.declared.Sub.{Sub}
 use Rattle.scopes.specs.Frames.{frame_in}
 use Rattle.walk_levels.specs.declared.Level.{Level}
-use Rattle.walk_levels.specs.declared.Around.{Around}
 use Rattle.walk_levels.specs.Levels.{level_in, scope_in}
 use Rattle.walks.specs.Walkable.{Walkable}
 use Rattle.walks.specs.Walked.{TermsWalked}

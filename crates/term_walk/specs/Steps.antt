@@ -3,9 +3,9 @@ use Rattle.std.specs.Prelude.{ℕ, suc, ◌+◌, ◌-◌, ◌≤◌, ◌<◌, �
 use Rattle.calculus.specs.Answer.{Answer, good, refused, numbered, ◌>>=◌}
 use Rattle.notation_calculus.specs.Words.{endRound, equals, Word}
 use Rattle.notation_calculus.specs.Trees.{Text}
-use Rattle.notation_calculus.specs.Grammar.{most_nested, Got, peek, behind, place, expect, list_from, nameless}
+use Rattle.notation_calculus.specs.Grammar.{most_nested, peek, behind, place, expect, list_from, nameless}
 use Rattle.calculus.specs.Record.{All}
-use Rattle.notation_calculus.specs.Making.{State, Scope, Found, Made, lookup, bind, bind_all, with_variables, room_for, node, variable, most_entries}
+use Rattle.notation_calculus.specs.Making.{State, Scope, Made, lookup, bind, bind_all, with_variables, room_for, node, variable, most_entries}
 use Rattle.words.specs.Next.{run_at, name_in}
 use Rattle.words.specs.Lexed.{from, Lexed}
 use Rattle.grammar.specs.Skips.{expect_code}
@@ -16,7 +16,7 @@ use Rattle.notation_machine.specs.TermMachine.{Spine, TermWish, TermLevel, Termi
 use Rattle.notation_machine.specs.TermSteps.{TermGoing}
 use Rattle.making_memory.specs.Map.{type_count_at, making_size}
 use Rattle.made_types.specs.Held.{HoldsState}
-use Rattle.made_nodes.specs.Held.{TermHeld, MadeIn, SmallMade, Workable}
+use Rattle.made_nodes.specs.Held.{MadeIn, Workable}
 use Rattle.made_nodes.specs.declared.Sub.{Sub}
 use Rattle.made_nodes.specs.declared.MadeTerm as code
 use Rattle.made_nodes.specs.declared.MadeTerm.TheVariants as made

@@ -1,0 +1,12 @@
+-- The invariant: the lines that are left make of the state what all lines make of the first one. The measure is the words that are left.
+-- Assumes nothing.
+use lib.ListN.{length}
+use Rattle.words.specs.Lexed.{from}
+use Rattle.maker.proofs.ItemSteps.{ItemsGoing}
+use Rattle.maker.proofs.lines.lines.Given as goal
+
+abbrev pub invariant-loop-next : goal.invariant-loop-next
+invariant-loop-next l = ItemsGoing l.text l.initial.work l.start l.above l.work l.at l.seen
+
+abbrev pub decreases-loop-next : goal.decreases-loop-next
+decreases-loop-next l = length (from l.text l.at)

@@ -1,0 +1,9 @@
+-- The form says which wish waits; the projections are made over the body. Assumes nothing.
+use Rattle.term_walk.proofs.LeaveLaws.{join_as, names_facts, names-done, projections_as}
+use Rattle.term_walk.proofs.leaving.leave_names.Goals as goal
+
+pub projections-made-requires : goal.projections-made-requires
+projections-made-requires c = join_as _ _ _ _ _ c.wide.ensures (names_facts c.args.text.now c.args.work.now c.args.h c.args.l c.args.x c.requires.0 c.requires.1)
+
+pub returns : goal.returns
+returns c = names-done c.args.text.now c.args.work.now c.args.h c.args.l c.args.x c.requires.0 _ _ _ c.done.ensures c.requires.1 (projections_as _ _ _ _ _ _ _ c.wide.ensures c.projections-made.ensures)
