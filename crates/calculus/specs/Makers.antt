@@ -54,7 +54,7 @@ abbrev pub element_node_bytes : List Element → List ℕ → List ℕ
 element_node_bytes [] ks = []
 element_node_bytes (e ∷ es) ks = node_bytes e (maker ks) ++ element_node_bytes es (drop 1 ks)
 
--- a netlist's bytes with nodes; without them they are `netBytes`
+-- a netlist's bytes with nodes; without them they are `net_bytes`
 unfoldable pub net_node_bytes : Net → List ℕ → List ℕ
 net_node_bytes m ks = element_node_bytes m.elements ks ++ (wire_bytes m.wires ++ pin_bytes m.pins)
 

@@ -226,7 +226,7 @@ abbrev pub two : ℕ → List ℕ
 two n = n % 256 ∷ n / 256 ∷ []
 
 -- a record's bytes, as they are written. NetRead's `item_at` tells the record that bytes begin with; that it tells the one written is a
--- theorem, `item-here`, and of a whole netlist `read_back` (circuit_theorems)
+-- theorem, `item_here`, and of a whole netlist `read_back` (circuit_theorems)
 abbrev pub item_bytes : Item → List ℕ
 item_bytes (element (point i)) = 0x21 ∷ two i
 item_bytes (element (part p i)) = 0x22 ∷ p ∷ two i

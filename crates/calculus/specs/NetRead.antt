@@ -1,4 +1,4 @@
--- The reader of netlist bytes: `netBytes` the other way round (document 01, "The full netlist": output bytes). It looks at one record after
+-- The reader of netlist bytes: `net_bytes` the other way round (document 01, "The full netlist": output bytes). It looks at one record after
 -- the other; if their order and numbering are those of a netlist is not its question. Assumes nothing.
 use Rattle.std.specs.Prelude.{ℕ, zero, suc, ◌+◌, ◌*◌, ◌<◌, cond, List, [], ◌∷◌, map, leb, ltb, eqb, length}
 use Rattle.calculus.specs.Answer.{Answer, good, refuse, ◌>>=◌}

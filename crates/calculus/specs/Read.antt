@@ -192,7 +192,7 @@ node_of_kind k1B x y next n go = do
   e ← go a.next a.count
   got (name a.term e.term) e.next e.count
 
--- the term at an offset, with n nodes before it. At depth 65 `headAt` refuses by itself (3, 4 or 8), and the last line is never reached
+-- the term at an offset, with n nodes before it. At depth 65 `head_at` refuses by itself (3, 4 or 8), and the last line is never reached
 unfoldable pub read_term : Edition → ℕ → List ℕ → ℕ → ℕ → ℕ → Answer Got
 read_term E zero s types at n = do
   k ← head_at E zero s types at n

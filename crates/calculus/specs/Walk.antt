@@ -73,7 +73,7 @@ use_linear (linear t false ∷ st) zero n = found t (linear t true ∷ st)
 use_linear (linear t true ∷ st) zero n = refuse 13 n
 use_linear (b ∷ st) (suc i) n = under b (use_linear st i n)
 
--- ---- leaving a binder's scope: it is there (theorem `walk-keeps`), so the clauses for the empty stack are never reached
+-- ---- leaving a binder's scope: it is there (theorem `walk_keeps`), so the clauses for the empty stack are never reached
 
 abbrev pub pop : Stack → Stack
 pop [] = []

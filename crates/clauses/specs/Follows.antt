@@ -1,4 +1,4 @@
--- A clause after those of the table, by rows: Grammar's `mayFollow` as the code reads it. Assumes nothing.
+-- A clause after those of the table, by rows: Grammar's `may_follow` as the code reads it. Assumes nothing.
 use Rattle.std.specs.Prelude.{ℕ, zero, suc, ◌+◌, ◌*◌, ◌≤◌, ◌<◌, ◌≡◌, Bool, true, not, ◌&&◌, ◌||◌, cond, List, eqb, ltb, length, get_or, set}
 use Rattle.std.proofs.lemmas.List.Edits.{sets}
 use Rattle.notation_calculus.specs.Words.{same_name}

@@ -26,7 +26,7 @@ line_item ws items = do
   ts ← list_from (λ us. type_at most_nested false us) (length ws) (behind ws)
   got (with_lines items ts.value) ts.rest
 
--- one round of `itemsFrom`
+-- one round of `items_from`
 unfoldable pub item_of : List Word → Items → Answer (Got Items)
 item_of ws items = cond (is table ws) (line_item ws items) (cond (is type ws) (clause_item true (behind ws) items) (clause_item false ws items))
 

@@ -15,7 +15,7 @@ card_answer card memory w s room = do
     _ ← need (leb (length bytes) room) 17 (length bytes)
     good bytes
 
--- without the check it is `call` (theorem `card-unasked`), and with it where the profile passes (`card-passes`)
+-- without the check it is `call` (theorem `card_unasked`), and with it where the profile passes (`card_passes`)
 unfoldable pub card_call : Bool → Wish → List ℕ → List ℕ → List ℕ → Call
 card_call card w s out work =
     let a = card_answer card (length work) w s (length out) in

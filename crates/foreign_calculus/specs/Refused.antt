@@ -8,7 +8,7 @@ use Rattle.calculus.specs.Record.{All}
 use Rattle.calculus.specs.NetRead.{Known, Fits, item_size}
 use Rattle.foreign_calculus.specs.Foreign.{Numbered, Reading, begin, first_of, past_of, with_item}
 
--- ---- what the records before a place come to (theorem `in-order-read`); not needed to say what is refused
+-- ---- what the records before a place come to (theorem `in_order_read`); not needed to say what is refused
 
 -- a pin names a terminal that is made
 abbrev pub PinStands : List Element → Terminal → Type 0

@@ -31,7 +31,7 @@ use Rattle.maker.specs.Lines.{types_line, LineThere, CanLine, LineMade, LineAs, 
 use Rattle.maker.proofs.StageLaws.{far_none, far_then, stage_passed, stage_refused}
 use Rattle.maker.proofs.LineLaws.{bind_good}
 
--- ---- one round of `itemsFrom`, taken apart
+-- ---- one round of `items_from`, taken apart
 
 true≢false : {C : Type 0} → ◌≡◌ {A = Bool} true false → C
 true≢false e = let z : ◌≡◌ {A = ℕ} 0 1 = cc in absurd (omega arith)

@@ -1,5 +1,5 @@
 -- What a text says: its definitions, with their terms and types as trees; a place is the offset of a word. Assumes nothing.
--- A tree has a level for each call of `termAt` or `type_at` (Grammar) that reads it, parentheses too, so that one number bounds both
+-- A tree has a level for each call of `term_at` or `type_at` (Grammar) that reads it, parentheses too, so that one number bounds both
 -- reading and putting in; but a list of `fun`, and each list in a list, is the tree of one more `let`, which has a level of its own where it is put in. The place that a tree begins with is that of its first word.
 use Rattle.std.specs.Prelude.{ℕ, Bool, List}
 use Rattle.calculus.specs.Terms.{Edition}

@@ -178,7 +178,7 @@ closed-passed (w ∷ ws) e =
     in-lists false true e = refl
     in-lists false false e = rw e refl
 
--- what `listsAt` reads is what the machine reads and passes over
+-- what `lists_at` reads is what the machine reads and passes over
 pub lists_read : (m : ℕ) (ws : List Word) → On (ListsMet ws) (lists_at m ws)
 lists_read zero ws = tt
 lists_read (suc m) ws =

@@ -1,4 +1,4 @@
--- The machine of terms does what `termOf` does to the tree that the grammar reads from the same words. Assumes nothing.
+-- The machine of terms does what `term_of` does to the tree that the grammar reads from the same words. Assumes nothing.
 use Prim.Native.Nat.{ℕ, zero, suc, ◌+◌, ◌≤◌}
 use mathlib.Core.Path.{◌≡◌, refl, sym, ap, subst, ◌∙◌}
 use mathlib.Core.Bool.{Bool, true, false, ◌||◌, cond}
@@ -33,7 +33,7 @@ module _ (X : Text) (bodies : List (List Word)) (reads : AllRead bodies X.clause
   abbrev move : Terming → Answer Terming
   move s = term_move X bodies s
 
-  -- the machine started at these words does what `termOf` does to the tree, and stands behind it
+  -- the machine started at these words does what `term_of` does to the tree, and stands behind it
   abbrev pub TermGoes : ℕ → List Word → Got Tree → Type 0
   TermGoes more ws g = (S : Scope) (σ : State) (K : List TermLevel) → Follows move (good (wanted_term more S σ ws K)) (term_of X more S σ g.value) (λ m. good (came_term more m g.rest K))
 
@@ -483,8 +483,8 @@ module _ (X : Text) (bodies : List (List Word)) (reads : AllRead bodies X.clause
   pub term_goes : (more m : ℕ) → m ≤ most_nested → (ws : List Word) → On (TermGoes more ws) (term_at m ws)
   term_goes more = goes-here more (all-lower more)
 
--- where the grammar reads a tree from the words, the machine started at them does what `termOf` does to the tree: it gets to the term that
--- `termOf` makes, before the words behind the tree, or refuses as `termOf` does
+-- where the grammar reads a tree from the words, the machine started at them does what `term_of` does to the tree: it gets to the term that
+-- `term_of` makes, before the words behind the tree, or refuses as `term_of` does
 pub machine_terms :
     (X : Text) (bodies : List (List Word)) → AllRead bodies X.clauses
     → (m more : ℕ) (ws : List Word) (g : Got Tree) → m ≤ most_nested → term_at m ws ≡ good g

@@ -55,7 +55,7 @@ items_read (suc rounds) items ws = by (is ends ws) (is table ws) (is type ws) re
     Q : Got Items → Type 0
     Q = ReadItems (suc rounds) items ws
 
-    -- the equation of `bodiesFrom` at these words
+    -- the equation of `bodies_from` at these words
     at_words : (a b c : Bool) → is ends ws ≡ a → is table ws ≡ b → is type ws ≡ c → bodies_from (suc rounds) ws ≡ cond a (good []) (cond b (list_from (λ us. type_at most_nested false us) (length ws) (behind ws) >>= λ ts. bodies_from rounds ts.rest) (cond c (body_from (behind ws)) (body_from ws) >>= λ us. cond c (clause_at type_body (behind ws)) (clause_at term_body ws) >>= λ d. bodies_from rounds d.rest >>= λ bodies. good (us ∷ bodies)))
     at_words a b c e f g = rw (e, f, g)
 

@@ -1,4 +1,4 @@
--- Types that a term wants: where the grammar reads them within some levels, they are those that `typeFrom` gives. Assumes nothing.
+-- Types that a term wants: where the grammar reads them within some levels, they are those that `type_from` gives. Assumes nothing.
 use Prim.Native.Nat.{ℕ, ◌≤◌}
 use mathlib.Core.Path.{◌≡◌, sym, ap, ◌∙◌}
 use mathlib.Core.Bool.{false}
@@ -18,7 +18,7 @@ use Rattle.notation_machine.proofs.Behind.{type_levels, arguments_levels}
 use Rattle.notation_machine.proofs.Types.{machine-types}
 
 module _ (X : Text) (more : ℕ) where
-  -- a tree that was read tells what `typeFrom` gives
+  -- a tree that was read tells what `type_from` gives
   abbrev pub TypeRead : List Word → Got TypeTree → Type 0
   TypeRead ws t = (S : Scope) (σ : State) → type_from X more S σ ws ≡ (type_of X more S σ t.value >>= λ x. got x t.rest)
 
@@ -33,7 +33,7 @@ module _ (X : Text) (more : ℕ) where
   unfolding types_from
   types-read m h ws = on_map (λ (ts : Got TypeTrees). arguments_at (λ us. type_at most_nested false us) ws ≡ good ts) (TypesRead ws) (arguments_at (λ us. type_at m false us) ws) (arguments_levels m most_nested h ws) λ ts e S at σ. ap (λ (q : Answer (Got TypeTrees)). q >>= λ ts. found_all (λ R τ t. type_of X more R τ t) S at 0 σ ts.value >>= λ xs. got xs ts.rest) e
 
--- the machine of types, started at words that begin with a type, gives `typeFrom`
+-- the machine of types, started at words that begin with a type, gives `type_from`
 pub machine_type_from :
     (X : Text) (bodies : List (List Word)) → AllRead bodies X.clauses
     → (m more : ℕ) (ws : List Word) (g : Got TypeTree) → m ≤ most_nested → type_at m false ws ≡ good g

@@ -1,5 +1,5 @@
 -- A list of names and lists in parentheses, as the code passes over it: word by word, without trees. Assumes nothing.
--- `lists-read` (proofs/Lists) says that for words that the grammar reads these are the lists that `listsAt` reads.
+-- `lists_read` (proofs/Lists) says that for words that the grammar reads these are the lists that `lists_at` reads.
 use Rattle.std.specs.Prelude.{ℕ, zero, suc, Bool, ◌||◌, cond, List, [], ◌∷◌}
 use Rattle.calculus.specs.Answer.{Answer}
 use Rattle.notation_calculus.specs.Words.{ends, round, endRound, comma, Word}

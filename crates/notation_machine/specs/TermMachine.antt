@@ -1,5 +1,5 @@
 -- The machine that makes a term as the code reads it: word by word, with a level for each term that is not yet done. It knows no trees;
--- `machine-terms` (proofs/Terms) says that it does what `termOf` does to the tree of these words. Assumes nothing.
+-- `machine_terms` (proofs/Terms) says that it does what `term_of` does to the tree of these words. Assumes nothing.
 use Rattle.std.specs.Prelude.{ℕ, zero, suc, ◌+◌, false, ◌||◌, cond, List, [], ◌∷◌, length, take}
 use Rattle.calculus.specs.Answer.{Answer, good, ◌>>=◌, refuse, need}
 use Rattle.calculus.specs.Types.{rec_at}

@@ -1,5 +1,5 @@
 -- How many steps the machine of terms may still take: each word is passed once, each level is left once, and each definition that is put in
--- costs at least one of `mostPuts` and has at most `most` words. Assumes nothing.
+-- costs at least one of `most_puts` and has at most `most` words. Assumes nothing.
 use Rattle.std.specs.Prelude.{ℕ, ◌+◌, ◌*◌, ◌-◌, List, [], ◌∷◌, length}
 use Rattle.notation_calculus.specs.Making.{most_puts}
 use Rattle.notation_machine.specs.Lists.{list_count}

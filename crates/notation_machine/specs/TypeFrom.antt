@@ -1,5 +1,5 @@
 -- The type at some words, and the type arguments of a name, as the walk of terms wants them. The machine of types gives the first, word by
--- word (`machine-type-from`, proofs/TypeFrom). Assumes nothing.
+-- word (`machine_type_from`, proofs/TypeFrom). Assumes nothing.
 use Rattle.std.specs.Prelude.{ℕ, false, List}
 use Rattle.calculus.specs.Answer.{Answer, ◌>>=◌}
 use Rattle.notation_calculus.specs.Words.{Word}

@@ -51,8 +51,8 @@ net_of_lem s σ m e f =
 
 -- ---- the theorems
 
--- the netlist that `translate` writes of the sheet is the circuit of every term that the text means (there is one: `make-means`, and no
--- other: `means-one`)
+-- the netlist that `translate` writes of the sheet is the circuit of every term that the text means (there is one: `make_means`, and no
+-- other: `means_one`)
 pub text_circuit : (text : List ℕ) (p : Placed) (m : Net) (X : Text) (e : Full) → make text ≡ good p → Translate.full (bytes_of p.sheet) ≡ good m → Says text X → Means X e → m ≡ circuit_of e
 text_circuit text p m X e made written says means =
     of_bytes (λ (q : Placed). Translate.full (bytes_of q.sheet) ≡ good m → m ≡ circuit_of e) text p made (λ Y said is w.

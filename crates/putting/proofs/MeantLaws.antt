@@ -1,4 +1,4 @@
--- The clause that a name means: the code finds the row that Making's `clauseFor` finds, and the machine's `wordsFor` has the words of its
+-- The clause that a name means: the code finds the row that Making's `clause_for` finds, and the machine's `words_for` has the words of its
 -- body. Assumes nothing.
 use Prim.Native.Nat.{ℕ, zero, suc, ◌+◌, ◌≤◌, ◌<◌}
 use mathlib.Core.Path.{◌≡◌, refl, sym, ap, ◌∙◌, subst}

@@ -1,4 +1,4 @@
--- Laws of `recIn`: the record of a type by its number. Assumes nothing.
+-- Laws of `rec_in`: the record of a type by its number. Assumes nothing.
 use mathlib.Core.Path.{◌≡◌, refl, ap, sym, ◌∙◌}
 use mathlib.Core.Bool.{cond}
 use mathlib.Core.List.{List, [], ◌∷◌, map}

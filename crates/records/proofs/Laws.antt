@@ -1,4 +1,4 @@
--- Laws of `recordAt` for callers: where a record ends, and the record of a term that stands at an offset. Assumes nothing.
+-- Laws of `record_at` for callers: where a record ends, and the record of a term that stands at an offset. Assumes nothing.
 use mathlib.Core.Path.{◌≡◌, refl, ap, sym, ◌∙◌}
 use mathlib.Core.List.{List, ◌∷◌}
 use mathlib.Core.Bool.{Bool, true, false, cond}

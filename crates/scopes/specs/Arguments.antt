@@ -1,4 +1,4 @@
--- Numbers given as arguments: Making's `number_of` and `numbersIn` over entries of the memory. Assumes nothing.
+-- Numbers given as arguments: Making's `number_of` and `numbers_in` over entries of the memory. Assumes nothing.
 use Rattle.std.specs.Prelude.{ℕ, ◌+◌, ◌-◌, ◌≤◌, ◌≡◌, List}
 use Rattle.calculus.specs.Answer.{good, refuse}
 use Rattle.notation_calculus.specs.Words.{Word}

@@ -1,4 +1,4 @@
--- Arguments that wait get the names of a clause's parameters: Making's `bindTypes` and `bindNumbers` in the memory. Assumes nothing.
+-- Arguments that wait get the names of a clause's parameters: Making's `bind_types` and `bind_numbers` in the memory. Assumes nothing.
 use Rattle.std.specs.Prelude.{ℕ, ◌+◌, ◌≤◌, ◌<◌, ◌≡◌, List, length}
 use Rattle.notation_calculus.specs.Trees.{Bound}
 use Rattle.notation_calculus.specs.Grammar.{name_at}

@@ -1,4 +1,4 @@
--- What a definition that is put in costs, and the count of that: Making's `costOf` and `onePut` over the memory. Assumes nothing.
+-- What a definition that is put in costs, and the count of that: Making's `cost_of` and `one_put` over the memory. Assumes nothing.
 use Rattle.std.specs.Prelude.{ℕ, ◌+◌, ◌-◌, ◌/◌, ◌≡◌, Bool, true, false, List, leb, get_or, set}
 use Rattle.notation_calculus.specs.Grammar.{place}
 use Rattle.notation_calculus.specs.Making.{most_puts}

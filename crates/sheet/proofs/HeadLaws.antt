@@ -1,4 +1,4 @@
--- What `headAt` says, by the record that stands at an offset. Assumes nothing.
+-- What `head_at` says, by the record that stands at an offset. Assumes nothing.
 use Prim.Native.Nat.{ℕ, zero, suc, ◌+◌, ◌-◌, ◌≤◌, ◌<◌}
 use mathlib.Core.Path.{◌≡◌, refl, sym, ap, ap₂, ◌∙◌}
 use mathlib.Core.Bool.{Bool, true, false, not, ◌||◌, cond}

@@ -1,4 +1,4 @@
--- What `readRecords` and `readSheet` say, by the facts that a reader finds one after the other. Assumes nothing.
+-- What `read_records` and `read_sheet` say, by the facts that a reader finds one after the other. Assumes nothing.
 use Prim.Native.Nat.{ℕ, ◌+◌, ◌-◌, ◌≤◌, ◌<◌}
 use mathlib.Core.Path.{◌≡◌, refl, sym, ap, ◌∙◌}
 use mathlib.Core.Bool.{Bool, true, false, cond, false≢true}

@@ -1,4 +1,4 @@
--- What `readTerm` says of a term's end, by what the head of its record opens. Assumes nothing.
+-- What `read_term` says of a term's end, by what the head of its record opens. Assumes nothing.
 use Prim.Native.Nat.{ℕ, zero, suc, ◌+◌, ◌-◌, ◌≤◌, ◌<◌}
 use mathlib.Core.Path.{◌≡◌, refl, sym, ap, subst, ◌∙◌}
 use mathlib.Core.Bool.{◌||◌}

@@ -34,7 +34,7 @@ use Rattle.sheet.specs.Said.{all_types, no_types, types_of, types_end, due_of, t
 use Rattle.sheet.proofs.KindLaws.{TypeHere, type_cut, record_kind, record_past}
 use Rattle.sheet.proofs.TableLaws.{table_more, table-count, sizes-more}
 
--- ---- one record of `readTypes`
+-- ---- one record of `read_types`
 
 module _ (s : List ℕ) (Θ : Table) (at : ℕ) where
   pub types-none : (more : ℕ) → kind_of (byte s at) ≡ unknown → read_types more s Θ at ≡ good (Θ, at)

@@ -45,7 +45,7 @@ pub record Before (s : List ℕ) (count : ℕ) (sizes : List ℕ) : Type 0 where
   pub ok : TableOk (table_in s count)
   pub sizes_are : sizes ≡ sizes_of (table_in s count)
 
--- count (8), then the tests of `checkType`; the size of the type
+-- count (8), then the tests of `check_type`; the size of the type
 unfoldable pub size_of : Table → TyRec → ℕ → Answer ℕ
 size_of Θ q at = do
   _ ← need (ltb (length Θ) 256) 8 at

@@ -67,7 +67,7 @@ fn finished(n: Walk, more: usize) -> bool
     false
 }
 
-// More steps than any walk takes: `term-start`, for a text of 65,535 bytes.
+// More steps than any walk takes: `term_start_lem`, for a text of 65,535 bytes.
 const STEPS: u64 = 6442549247;
 
 // The term at an offset, with so many levels, in a scope. The counter of steps only shows that the loop ends.

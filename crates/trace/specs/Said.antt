@@ -75,7 +75,7 @@ pub record Freed (u : List ℕ) (end settled pins ticks : ℕ) (bits starts out�
 abbrev pub lanes_lent : List ℕ → List ℕ → ℕ → ℕ → Bool
 lanes_lent bits state reads regs = eqb (length bits) reads && eqb (length state) regs
 
--- `lanesRan`, once there is no ring: 20, then 17
+-- `lanes_ran`, once there is no ring: 20, then 17
 unfoldable pub lanes_free : Net → ℕ → List ℕ → List ℕ → ℕ → Answer LanesEnd
 lanes_free m n bits state room = do
   _ ← need (lanes_lent bits state (n * length (in_pins m.pins)) (length (registers m.elements))) 20 0

@@ -12,7 +12,7 @@ use Rattle.memory.specs.Map.{memory_size, region, terminal_of}
 use Rattle.lean.specs.Layout.{left_out, kinds_from}
 use Rattle.trace_steps.specs.Map.{pins_at, register_entry, one_entry, point_entry}
 
--- the entry of terminal x: a pin has itself, another input the output that its wire comes from, an output its element's kind, from `kindsFrom` on
+-- the entry of terminal x: a pin has itself, another input the output that its wire comes from, an output its element's kind, from `kinds_from` on
 pub data TableEntry (m : Net) (x : ℕ) : ℕ → Type 0 where
   of_pin : T (is_pin m.pins x) → is_out m.elements x ≡ false → TableEntry m x x
   of_wire : (y : ℕ) → source m x ≡ from y → is_out m.elements x ≡ false → T (is_out m.elements y) → TableEntry m x y

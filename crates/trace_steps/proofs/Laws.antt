@@ -94,7 +94,7 @@ all_no a b e = rw e
 pub both-fed : (w : List ℕ) (o x : ℕ) (a b : Bool) → x ≡ first_in w o → a ≡ input_bit w x → b ≡ input_bit w (o - 1) → a && b ≡ ready_in w o
 both-fed w o x a b e f g = rw (f, g, e)
 
--- a gate's number, chosen kind after kind; the kinds stand from `kindsFrom` on
+-- a gate's number, chosen kind after kind; the kinds stand from `kinds_from` on
 kind_is : (e c : ℕ) → kinds_from ≤ e → eqb e (kinds_from + c) ≡ eqb (e - kinds_from) c
 kind_is e c l = elim (ℕ_discrete e (kinds_from + c)) [
   | yes q ↦ eq-eqb e (kinds_from + c) q ∙ sym (eq-eqb (e - kinds_from) c (omega arith))

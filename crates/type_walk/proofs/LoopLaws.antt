@@ -1,4 +1,4 @@
--- The loop of the walk: it holds a state of the machine whose run leads to what `typeFrom` gives, and the steps that may be left are no more
+-- The loop of the walk: it holds a state of the machine whose run leads to what `type_from` gives, and the steps that may be left are no more
 -- than the counter. Assumes nothing.
 use Prim.Native.Nat.{ℕ, zero, suc, ◌+◌, ◌-◌, ◌≤◌, ◌<◌}
 use mathlib.Core.Path.{◌≡◌, refl, sym, ap, subst}

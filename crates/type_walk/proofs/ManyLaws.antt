@@ -1,4 +1,4 @@
--- Type arguments one by one: those that wait, and those that are left, are all that `foundAll` finds. Assumes nothing.
+-- Type arguments one by one: those that wait, and those that are left, are all that `found_all` finds. Assumes nothing.
 use Prim.Native.Nat.{ℕ, zero, suc, ◌+◌, ◌*◌, ◌≤◌, ◌<◌}
 use mathlib.Core.Path.{◌≡◌, refl, sym, ap, subst, ◌∙◌}
 use mathlib.Core.Bool.{Bool, true, false, cond}

@@ -1,5 +1,5 @@
 // The walk over types: the type at an offset, worked out word by word, with a level in the working memory for each type that is not yet
-// done. One round of the loop is one step of the machine of types (`typeMove`).
+// done. One round of the loop is one step of the machine of types (`type_move`).
 #![tactic(auto)]
 
 pub mod levels;
@@ -17,7 +17,7 @@ use crate::levels::{Walking, Want};
 use grammar::steps::{COMMA, SQUARE};
 use walks::{TypeEnd, TypesEnd};
 
-// More steps than any walk takes: `type-start`, for a text of 65,535 bytes.
+// More steps than any walk takes: `type_start`, for a text of 65,535 bytes.
 const STEPS: u64 = 4295032831;
 
 // A level waits, or a type is wanted.
@@ -42,7 +42,7 @@ fn ended(s: Walking) -> TypeEnd
 }
 
 // The type at an offset where the grammar has read one. The counter only shows that the loop ends: it begins at more steps than the machine can
-// take, and `type-falls` says that it never reaches 0 too early. A measure read off the levels would have to be worked out from the memory.
+// take, and `type_falls` says that it never reaches 0 too early. A measure read off the levels would have to be worked out from the memory.
 fn type_at(
     text: &[u8],
     work: &mut [u16],

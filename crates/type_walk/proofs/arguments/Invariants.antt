@@ -1,4 +1,4 @@
--- `type_walk::arguments` meets its contract. The types that wait are the first of those that `foundAll` finds, and the words from the offset on are those of the others; the measure is the room that is left. Assumes nothing.
+-- `type_walk::arguments` meets its contract. The types that wait are the first of those that `found_all` finds, and the words from the offset on are those of the others; the measure is the room that is left. Assumes nothing.
 use Prim.Native.Nat.{◌-◌}
 use Rattle.type_walk.specs.Many.{CanTypeAll}
 use Rattle.type_walk.proofs.ManyLaws.{Keeps}

@@ -1,4 +1,4 @@
--- `type_walk::type_at` meets its contract. The loop holds a state of the machine whose run leads to what `typeFrom` gives, and the counter is no less than the steps that the machine may still take; so it is the measure, and never too small. Assumes nothing.
+-- `type_walk::type_at` meets its contract. The loop holds a state of the machine whose run leads to what `type_from` gives, and the counter is no less than the steps that the machine may still take; so it is the measure, and never too small. Assumes nothing.
 use Rattle.notation_calculus.specs.Trees.{Text}
 use Rattle.notation_calculus.specs.Making.{State, Scope}
 use Rattle.words.specs.Lexed.{from}

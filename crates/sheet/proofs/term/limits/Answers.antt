@@ -1,4 +1,4 @@
--- `sheet::limits` meets its contract: its tests come in the order of `limitsOf`. Assumes nothing.
+-- `sheet::limits` meets its contract: its tests come in the order of `limits_of_lem`. Assumes nothing.
 use mathlib.Core.Path.{sym, ◌∙◌}
 use borrow.Author.Tests.{not-true, not-false}
 use Rattle.sheet.proofs.HeadLaws.{limit_known, limit-count, limit-depth, limit-type, limit-none}

@@ -1,4 +1,4 @@
--- The definition is put in by `putFrom`, and its body is wanted below. Assumes nothing.
+-- The definition is put in by `put_from`, and its body is wanted below. Assumes nothing.
 use Rattle.term_walk.proofs.AtomLaws.{enter-room, put_end_small, clause_refused, clause_put}
 use Rattle.term_walk.proofs.StepLaws.{can_ask}
 use native.Mathlib.Omega.{arith}

@@ -1,4 +1,4 @@
--- The type arguments are those of `typesFrom`; then the definition is put in. Assumes nothing.
+-- The type arguments are those of `types_from`; then the definition is put in. Assumes nothing.
 use Rattle.term_walk.proofs.AtomLaws.{enter-room, put_can, put_refused, put-behind}
 use Rattle.term_walk.proofs.atoms.put_term.Goals as goal
 

@@ -1,4 +1,4 @@
--- If there is room the names are bound as `bindAll` binds them, and the body is wanted. Assumes nothing.
+-- If there is room the names are bound as `bind_all` binds them, and the body is wanted. Assumes nothing.
 use Rattle.term_walk.proofs.BinderLaws.{room_refused, room_there, function_asks, room-sum}
 use Rattle.term_walk.proofs.AtomLaws.{enter-room}
 use Rattle.term_walk.proofs.StepLaws.{can_ask}

@@ -1,4 +1,4 @@
--- The type is that of `typeFrom` behind the colon. Assumes nothing.
+-- The type is that of `type_from` behind the colon. Assumes nothing.
 use Rattle.term_walk.proofs.BinderLaws.{fix_tail, typed_can, typed_refused, typed_bound}
 use Rattle.term_walk.proofs.AtomLaws.{enter-room}
 use Rattle.term_walk.proofs.binders.fix_type.Goals as goal

@@ -1,4 +1,4 @@
--- The names are those of `namesFrom`, or of a list. Assumes nothing.
+-- The names are those of `names_from`, or of a list. Assumes nothing.
 use Rattle.term_walk.proofs.PairLaws.{opened, function_pair, function_plain}
 use Rattle.term_walk.proofs.BinderLaws.{function_refused, function_named}
 use native.Mathlib.Omega.{arith}

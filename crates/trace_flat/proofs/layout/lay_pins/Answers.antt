@@ -224,9 +224,12 @@ loop-k-preserved c =
     let b = l.invariant.1.few_out in
     let y = get_or l.work (19072 + c.at-code.result / 2) 0 in (
       omega arith,
-      (elim c.if-code-eq0.branch [ then-code-eq0 v ↦ subst (λ (x : List ℕ). Pinning u (l.k + 1) x c.if-code-eq0.i c.if-code-eq0.o) (sym v.work-is) (subst (λ (x : ℕ). Pinning u (l.k + 1) (set l.work (ins_at + l.i) y) x c.if-code-eq0.o) (sym v.i-is)
-          (subst (λ (x : ℕ). Pinning u (l.k + 1) (set l.work (ins_at + l.i) y) (l.i + 1) x) (sym v.o-is) (pinning_in u l.work n l.k l.i l.o c.at-code.result y c.requires h l.invariant.1 c.at-code.ensures refl v.if-code-eq0.true))) | else-code-eq0 v ↦ subst (λ (x : List ℕ). Pinning u (l.k + 1) x c.if-code-eq0.i c.if-code-eq0.o) (sym v.work-is) (subst (λ (x : ℕ). Pinning u (l.k + 1) (set l.work (outs_at + l.o) y) x c.if-code-eq0.o) (sym v.i-is)
-          (subst (λ (x : ℕ). Pinning u (l.k + 1) (set l.work (outs_at + l.o) y) l.i x) (sym v.o-is) (pinning_out u l.work n l.k l.i l.o c.at-code.result y c.requires h l.invariant.1 c.at-code.ensures refl v.if-code-eq0.false))) ]),
+      (elim c.if-code-eq0.branch [
+        | then-code-eq0 v ↦ subst (λ (x : List ℕ). Pinning u (l.k + 1) x c.if-code-eq0.i c.if-code-eq0.o) (sym v.work-is) (subst (λ (x : ℕ). Pinning u (l.k + 1) (set l.work (ins_at + l.i) y) x c.if-code-eq0.o) (sym v.i-is)
+            (subst (λ (x : ℕ). Pinning u (l.k + 1) (set l.work (ins_at + l.i) y) (l.i + 1) x) (sym v.o-is) (pinning_in u l.work n l.k l.i l.o c.at-code.result y c.requires h l.invariant.1 c.at-code.ensures refl v.if-code-eq0.true)))
+        | else-code-eq0 v ↦ subst (λ (x : List ℕ). Pinning u (l.k + 1) x c.if-code-eq0.i c.if-code-eq0.o) (sym v.work-is) (subst (λ (x : ℕ). Pinning u (l.k + 1) (set l.work (outs_at + l.o) y) x c.if-code-eq0.o) (sym v.i-is)
+            (subst (λ (x : ℕ). Pinning u (l.k + 1) (set l.work (outs_at + l.o) y) l.i x) (sym v.o-is) (pinning_out u l.work n l.k l.i l.o c.at-code.result y c.requires h l.invariant.1 c.at-code.ensures refl v.if-code-eq0.false)))
+      ]),
     )
 
 pub shape_of-work : goal.shape_of-work

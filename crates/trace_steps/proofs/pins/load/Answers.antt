@@ -68,11 +68,14 @@ loop-k-preserved c =
     let low = load_low bits u l.work c.args.from l.at l.k c.args.pins a.result c.requires.0 h l.invariant.1 a.ensures in
     let h₁ : l.k < 128 = omega arith in (
       omega arith,
-      (elim c.if-code-eq0.branch [ then-code-eq0 v ↦ subst (λ (x : List ℕ). Loading bits u c.args.from (l.k + 1) x c.if-code-eq0.at) (sym (v.work-is ∙ v.put.ensures))
-          (subst (λ (y : ℕ). Loading bits u c.args.from (l.k + 1) (set l.work (bits_at + a.result / 2) (get_or bits l.at 0)) y) (sym v.at-is)
-          (load_yes bits u l.work c.args.from l.at l.k a.result h₁ l.invariant.1 a.ensures v.if-code-eq0.true low)) | else-code-eq0 v ↦ subst (λ (x : List ℕ). Loading bits u c.args.from (l.k + 1) x c.if-code-eq0.at) (sym v.work-is)
-          (subst (λ (y : ℕ). Loading bits u c.args.from (l.k + 1) l.work y) (sym v.at-is)
-          (load_no bits u l.work c.args.from l.at l.k a.result h₁ l.invariant.1 a.ensures v.if-code-eq0.false)) ]),
+      (elim c.if-code-eq0.branch [
+        | then-code-eq0 v ↦ subst (λ (x : List ℕ). Loading bits u c.args.from (l.k + 1) x c.if-code-eq0.at) (sym (v.work-is ∙ v.put.ensures))
+            (subst (λ (y : ℕ). Loading bits u c.args.from (l.k + 1) (set l.work (bits_at + a.result / 2) (get_or bits l.at 0)) y) (sym v.at-is)
+            (load_yes bits u l.work c.args.from l.at l.k a.result h₁ l.invariant.1 a.ensures v.if-code-eq0.true low))
+        | else-code-eq0 v ↦ subst (λ (x : List ℕ). Loading bits u c.args.from (l.k + 1) x c.if-code-eq0.at) (sym v.work-is)
+            (subst (λ (y : ℕ). Loading bits u c.args.from (l.k + 1) l.work y) (sym v.at-is)
+            (load_no bits u l.work c.args.from l.at l.k a.result h₁ l.invariant.1 a.ensures v.if-code-eq0.false))
+      ]),
     )
 
 pub shape_of-work : goal.shape_of-work

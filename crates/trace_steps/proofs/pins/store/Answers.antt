@@ -65,11 +65,14 @@ loop-k-preserved c =
     let w = c.args.work.now in
     let u = c.args.out.now in (
       omega arith,
-      (elim c.if-code-ne0.branch [ then-code-ne0 v ↦ subst (λ (x : List ℕ). Storing lane_zero w u c.args.from (l.k + 1) x c.if-code-ne0.at) (sym v.out-is)
-          (subst (λ (y : ℕ). Storing lane_zero w u c.args.from (l.k + 1) (set l.out l.at v.bit_of.result) y) (sym v.at-is)
-          (store_yes lane_zero w u l.out c.args.from l.at l.k a.result v.bit_of.result l.invariant.1 a.ensures v.if-code-ne0.true v.bit_of.ensures)) | else-code-ne0 v ↦ subst (λ (x : List ℕ). Storing lane_zero w u c.args.from (l.k + 1) x c.if-code-ne0.at) (sym v.out-is)
-          (subst (λ (y : ℕ). Storing lane_zero w u c.args.from (l.k + 1) l.out y) (sym v.at-is)
-          (store_no lane_zero w u l.out c.args.from l.at l.k a.result l.invariant.1 a.ensures v.if-code-ne0.false)) ]),
+      (elim c.if-code-ne0.branch [
+        | then-code-ne0 v ↦ subst (λ (x : List ℕ). Storing lane_zero w u c.args.from (l.k + 1) x c.if-code-ne0.at) (sym v.out-is)
+            (subst (λ (y : ℕ). Storing lane_zero w u c.args.from (l.k + 1) (set l.out l.at v.bit_of.result) y) (sym v.at-is)
+            (store_yes lane_zero w u l.out c.args.from l.at l.k a.result v.bit_of.result l.invariant.1 a.ensures v.if-code-ne0.true v.bit_of.ensures))
+        | else-code-ne0 v ↦ subst (λ (x : List ℕ). Storing lane_zero w u c.args.from (l.k + 1) x c.if-code-ne0.at) (sym v.out-is)
+            (subst (λ (y : ℕ). Storing lane_zero w u c.args.from (l.k + 1) l.out y) (sym v.at-is)
+            (store_no lane_zero w u l.out c.args.from l.at l.k a.result l.invariant.1 a.ensures v.if-code-ne0.false))
+      ]),
     )
 
 pub shape_of-out : goal.shape_of-out
