@@ -1,0 +1,7 @@
+-- `deltawobble::deltawobble_back` meets its contract: the call's answer, packed. Assumes nothing.
+use Rattle.deltawobble.proofs.BoundaryLaws.{answer_packs}
+use Rattle.deltawobble.proofs.deltawobble_back.Goals as goal
+
+pub returns : goal.returns
+returns c =
+    rw c.word.ensures (answer_packs c.back-answer.result _ _ _ c.back-answer.ensures)
