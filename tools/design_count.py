@@ -1,9 +1,9 @@
 #!/usr/bin/env python3
 """The places that docs/DESIGN-PASS.md speaks of: tools/design_count.py [--at COMMIT] [POINT..]
 
-Reads crates/*/src/*.rt of this checkout, or of a commit, and prints for each point one line for each place,
-`point  file:line  what stands there`, and at the end how many places each point has. It goes by text and proves
-nothing: a place that it prints may well be right as it is, and docs/DESIGN-PASS.md says so.
+Reads crates/*/src/*.rt of this checkout, or of a commit. It prints one line for each place, with the point, the
+file and line, and what was found; the last line counts the places of each point. It searches the text and proves
+nothing. A place in the list may be right as it is.
 
 1a  an enum that has the shape of Option or Result: two variants, or a variant Refused, Unknown, Misfit or Broken
 1b  a struct with a flag or a number that says whether its other fields mean anything
